@@ -1,0 +1,53 @@
+//! The program `ffv1`: its arguments, its files, what it prints and its exit status. All else is `ffv1_engine`.
+#![tactic(auto)]
+
+use ffv1_engine::{Fault, Order, trial, words};
+use ffv1_wire::{FromRead, ToWrite};
+use std::alloc::Global;
+use std::process::ExitCode;
+use std::rt::Files;
+use std::{env, fs, io};
+
+/// Codes and decodes the mono picture of a file, and prints what it found.
+fn run_trial(rt: &(impl Files + Print), alloc: Global, input: &str) -> Result<(), Fault> {
+    let Ok(file) = fs::open(rt, input) else {
+        return Err(Fault::Read);
+    };
+    let mut reader = FromRead::new(file);
+    let mut writer = ToWrite::new(io::writer(rt));
+    trial(alloc, &mut reader, &mut writer)
+}
+
+/// Does what the command line asks for.
+fn run(rt: &(impl Files + Print), alloc: Global, order: Order<'_>) -> Result<(), Fault> {
+    match order {
+        Order::Trial { input } => run_trial(rt, alloc, input),
+    }
+}
+
+/// Reads the command line and does what it asks for: status 0 for success, 1 for a fault, which is one line on standard error, and 2
+/// for a command line that is refused.
+fn command(rt: &HostRuntime, alloc: Global) -> io::Result<ExitCode> {
+    let arguments: Vec<String> = env::args(rt)?.collect(alloc)?;
+    let texts: Vec<&str> = arguments.iter().map(|a| a.as_str()).collect(alloc)?;
+    match words(alloc, texts.as_slice()) {
+        Err(error) => {
+            eprint!(rt; "{error}")?;
+            Ok(ExitCode::from(2))
+        }
+        Ok(order) => match run(rt, alloc, order) {
+            Ok(()) => Ok(ExitCode::SUCCESS),
+            Err(fault) => {
+                eprintln!(rt; "ffv1: {fault}")?;
+                Ok(ExitCode::from(1))
+            }
+        },
+    }
+}
+
+fn main(rt: HostRuntime) -> ExitCode {
+    match command(&rt, rt.alloc()) {
+        Ok(code) => code,
+        Err(_) => ExitCode::from(1),
+    }
+}

@@ -1,0 +1,5 @@
+mod Hexadecimal
+mod PlaneRows
+mod PlaneCount
+mod Refusals
+mod Compared

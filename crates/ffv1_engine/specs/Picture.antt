@@ -1,0 +1,64 @@
+-- The first picture of a text, where it is mono.
+use Rattle.std.specs.Prelude.{◌≡◌, ℕ, ◌*◌, ◌≤◌, Bool, true, false, if◌then◌else◌, List, length, Option, Some, None, Result, Ok, Err, ⊤}
+use Rattle.ffv1_wire.specs.Failures.{one_more}
+use Rattle.ffv1_y4m.specs.Header.{header_of}
+use Rattle.ffv1_y4m.specs.Pictures.{frame_begun, plane_read}
+use Rattle.ffv1_y4m.specs.declared.head.VideoHead.{VideoHead}
+use Rattle.ffv1_y4m.specs.declared.fault.Fault.{Fault as Y4mFault}
+use Rattle.ffv1_engine.specs.declared.fault.Fault.{Fault}
+use Rattle.ffv1_engine.specs.declared.fault.Fault.TheVariants as fault
+use Rattle.ffv1_engine.specs.Faults.{of_y4m}
+
+-- a mono picture: its sizes, and its samples row by row
+pub record Mono : Type 0 where
+  pub width : ℕ
+  pub height : ℕ
+  pub samples : List ℕ
+
+-- sizes of 1 to 8192, and as many samples as their product
+pub record IsMono (m : Mono) : Type 0 where
+  pub some_wide : 1 ≤ m.width
+  pub wide : m.width ≤ 8192
+  pub some_high : 1 ≤ m.height
+  pub high : m.height ≤ 8192
+  pub whole : length m.samples ≡ m.width * m.height
+
+-- the first fault of one reading after the other
+abbrev pub and_then : {X Y : Type 0} → Result X Y4mFault → (X → Result Y Fault) → Result Y Fault
+and_then (Ok x) next = next x
+and_then (Err f) next = Err (of_y4m f)
+
+-- the samples behind the line that begins a picture, if there is one
+abbrev pub samples_of : VideoHead → Bool × List ℕ → Result (Mono × List ℕ) Fault
+samples_of head begun =
+    if begun.0
+    then and_then (plane_read (head.width * head.height) begun.1) (λ read. Ok (record { width = head.width; height = head.height; samples = read.0 }, read.1))
+    else Err fault.NoFrames
+
+-- the first picture behind a header, which is judged whole before it
+abbrev pub picture_behind : VideoHead × List ℕ → Result (Mono × List ℕ) Fault
+picture_behind header =
+    if header.0.chroma_planes then Err fault.Unsupported
+    else and_then (frame_begun header.1) (samples_of header.0)
+
+-- the first picture of a text
+unfoldable pub mono_of : List ℕ → Result (Mono × List ℕ) Fault
+mono_of text = and_then (header_of text) picture_behind
+
+-- where the text is known, it reads as this picture, with this left
+abbrev pub ReadsMono : Option (List ℕ) → Option (List ℕ) → Mono → Type 0
+ReadsMono None new m = ⊤
+ReadsMono (Some text) None m = ⊥
+ReadsMono (Some text) (Some rest) m = mono_of text ≡ Ok (m, rest)
+
+-- where the text is known, it reads as this fault
+abbrev pub FaultsMono : Option (List ℕ) → Fault → Type 0
+FaultsMono None f = ⊤
+FaultsMono (Some text) f = mono_of text ≡ Err f
+
+-- why a picture was not read: a read failed, which was counted; or memory was refused; or the text has this fault
+abbrev pub RefusesMono : Option (List ℕ) → ℕ → ℕ → Fault → Type 0
+RefusesMono old failures after fault.Read = after ≡ one_more failures
+RefusesMono old failures after fault.OutOfMemory = after ≡ failures
+RefusesMono old failures after fault.Write = ⊥
+RefusesMono old failures after f = (after ≡ failures) × FaultsMono old f

@@ -1,0 +1,49 @@
+//! A mono picture is coded and decoded.
+
+ghost use Rattle.std.specs.Prelude.{◌≡◌, ◌*◌, ◌≤◌, ◌<◌, ℕ, length, replicate, IfOk, IfErr, OnOk};
+ghost use Rattle.ffv1_engine.specs.declared.fault.Fault.TheVariants as fault;
+ghost use Rattle.ffv1_engine.specs.Trial.{TrialDone, TrialRefused};
+
+use crate::fault::Fault;
+use crate::picture::read_mono;
+use crate::plane::{code_plane, decodes_to};
+use crate::report::report;
+use ffv1_wire::{ByteIn, ByteOut, write_all};
+use std::alloc::Allocator;
+
+/// Codes the first picture of a YUV4MPEG2 text as the content of one slice, decodes the code, and writes four lines:
+///
+/// ```text
+/// samples {n}
+/// decisions {n}
+/// code {upper-case hexadecimal}
+/// same {yes or no}
+/// ```
+///
+/// The picture has to be mono: `Unsupported` otherwise, once its header was judged. Behind the picture nothing is
+/// read. The faults are those of the text, the first one from the left (`Header`, `Tag`, `Unsupported`, `FrameLine`,
+/// `FrameTruncated`), `NoFrames` where there is no picture, `Read` where a read failed, `OutOfMemory`, each with nothing
+/// written; and `Write` where a write failed, a beginning of the lines then written.
+pub fn trial<R: ByteIn, W: ByteOut, A: Allocator + Copy>(
+    alloc: A,
+    input: &mut R,
+    output: &mut W,
+) -> Result<(), Fault>
+    ensures ok { OnOk result (TrialDone (R.remaining input.old) (R.remaining input.new) (W.contents output.old) (W.contents output.new)) }
+    ensures err { IfErr result (λ f. TrialRefused (R.remaining input.old) (R.failures input.old) (R.failures input.new) (W.contents output.old) (W.contents output.new) (W.failures output.old) (W.failures output.new) f) }
+{
+    let mono = read_mono(alloc, input)?;
+    let coded = code_plane(alloc, mono.width, mono.height, &mono.samples)?;
+    let same = decodes_to(alloc, &coded.code, mono.width, mono.height, &mono.samples)?;
+    let text = report(
+        alloc,
+        mono.samples.len() as u64,
+        coded.decisions,
+        &coded.code,
+        same,
+    )?;
+    if write_all(output, &text).is_err() {
+        return Err(Fault::Write);
+    }
+    Ok(())
+}

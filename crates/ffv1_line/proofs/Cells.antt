@@ -1,0 +1,156 @@
+-- One row of a cell more.
+use Rattle.std.proofs.Common.{◌≡◌, refl, ℕ, ◌+◌, ◌*◌, ◌<◌, replicate, List, [], ◌∷◌, ◌++◌, length, get_or, arith, ap, sym, ◌∙◌, subst, suc, length-append}
+use Rattle.std.proofs.lemmas.List.{get_or_append_left, get_or-append-add, get_or-replicate, length-replicate}
+use Rattle.std.proofs.Math.Nat.{mul-le-mul_left}
+use Rattle.ffv1_range.specs.Table.{Table}
+use Rattle.ffv1_range.specs.Reading.{Reading}
+use Rattle.ffv1_range.proofs.Steps.{follows_none}
+use Rattle.ffv1_plane.specs.Quantisation.{Set}
+use Rattle.ffv1_line.specs.Cell.{Cell, seen, Shows, Above, Agrees, cell_of}
+use Rattle.ffv1_line.specs.Decoded.{Lined, Told, CellRead}
+use Rattle.ffv1_line.proofs.Joined.{rows_next}
+use Rattle.std.proofs.Common.{take, drop, zero, add-one}
+use Rattle.std.proofs.lemmas.List.{get_or-take, get_or-drop}
+use Rattle.ffv1_range.specs.Writing.{Writing}
+use Rattle.ffv1_range.specs.Puts.{Puts}
+use Rattle.ffv1_range.proofs.Steps.{puts_none}
+use Rattle.ffv1_line.specs.Row.{row_steps, cell_steps, chosen_row, chosen_rows}
+use Rattle.ffv1_line.specs.Encoded.{Written}
+use Rattle.ffv1_line.proofs.Joined.{puts_next}
+
+-- the rolling lines are the rows above, whatever the cell that begins with these samples
+pub record Rolls (width : ℕ) (samples two one : List ℕ) (n : ℕ) : Type 0 where
+  pub long : length samples ≡ n * width
+  pub two_long : length two ≡ width
+  pub one_long : length one ≡ width
+  pub above : (c : Cell) → c.width ≡ width → Agrees c samples n → Above c n two one
+
+seen_over : (c : Cell) (x : ℕ) → seen c (suc (suc x)) 0 ≡ 0
+unfolding seen
+seen_over c x = refl
+
+seen_above : (c : Cell) (x : ℕ) → seen c (suc (suc x)) 1 ≡ 0
+unfolding seen
+seen_above c x = refl
+
+seen_inside : (c : Cell) (x y : ℕ) → x < c.width → seen c (suc (suc x)) (suc (suc y)) ≡ c.at x y
+unfolding seen
+seen_inside c x y h = ap (λ k. c.at k y) (omega arith)
+
+pub rolls_first : (width : ℕ) → Rolls width [] (replicate width 0) (replicate width 0) 0
+rolls_first width = record {
+  long = omega arith;
+  two_long = length-replicate {A = ℕ} width 0;
+  one_long = length-replicate {A = ℕ} width 0;
+  above = λ c same agrees. record {
+    wide = length-replicate {A = ℕ} width 0 ∙ sym same;
+    second = record { each = λ x h. get_or-replicate {A = ℕ} width x 0 0 (omega arith) ∙ sym (seen_over c x) };
+    first = record { each = λ x h. get_or-replicate {A = ℕ} width x 0 0 (omega arith) ∙ sym (seen_above c x) };
+  };
+}
+
+in_rows : (w x y n : ℕ) → x < w → y < n → y * w + x < n * w
+in_rows w x y n h k =
+    let more = mul-le-mul_left {m = suc y} {n = n} w k in
+    omega arith
+
+agrees_before : (c : Cell) (samples cur : List ℕ) (n : ℕ) → length samples ≡ n * c.width → Agrees c (samples ++ cur) (n + 1) → Agrees c samples n
+agrees_before c samples cur n long agrees = record {
+  each = λ x y h k.
+      let inside : y * c.width + x < length samples = rw long (in_rows c.width x y n h k) in
+      sym (get_or_append_left samples cur 0 (y * c.width + x) inside) ∙ agrees.each x y h (omega arith);
+}
+
+agrees_row : (c : Cell) (samples cur : List ℕ) (n : ℕ) → length samples ≡ n * c.width → Agrees c (samples ++ cur) (n + 1) → Shows c (suc (suc n)) cur c.width
+agrees_row c samples cur n long agrees = record {
+  each = λ x h.
+      sym (get_or-append-add samples cur x 0) ∙ ap (λ k. get_or (samples ++ cur) (k + x) 0) long ∙ agrees.each x n h (omega arith) ∙ sym (seen_inside c x n h);
+}
+
+pub rolls_next : (width : ℕ) (samples two one cur : List ℕ) (n : ℕ) → length cur ≡ width → Rolls width samples two one n → Rolls width (samples ++ cur) one cur (n + 1)
+rolls_next width samples two one cur n wide rolls = record {
+  long = length-append samples cur ∙ omega (arith, rolls.long);
+  two_long = rolls.one_long;
+  one_long = wide;
+  above = λ c same agrees.
+      let long : length samples ≡ n * c.width = rw same rolls.long in
+      let above = rolls.above c same (agrees_before c samples cur n long agrees) in
+      let more : suc n ≡ n + 1 = omega arith in
+      subst (λ k. Above c k one cur) more (record {
+        wide = wide ∙ sym same;
+        second = above.first;
+        first = agrees_row c samples cur n long agrees;
+      });
+}
+
+pub told_none : (t : Table) (set : Set) (bits : ℕ) (r : Reading) (states : List ℕ) (width : ℕ) → Told t set bits r states r states width [] 0
+told_none t set bits r states width = record {
+  residuals = [];
+  count = refl;
+  rows = λ c same agrees. record { suits = tt; follows = follows_none t r states };
+}
+
+pub told_next : (t : Table) (set : Set) (bits : ℕ) (a b d : Reading) (states between after : List ℕ) (width : ℕ) (samples two one cur : List ℕ) (n : ℕ) →
+    length cur ≡ width → Rolls width samples two one n → Told t set bits a states b between width samples n → Lined t set bits b between d after two one cur (length cur) →
+    Told t set bits a states d after width (samples ++ cur) (n + 1)
+told_next t set bits a b d states between after width samples two one cur n wide rolls told lined = record {
+  residuals = told.residuals ++ (lined.residuals ∷ []);
+  count = length-append told.residuals (lined.residuals ∷ []) ∙ ap (λ k. k + 1) told.count;
+  rows = λ c same agrees.
+      let long : length samples ≡ n * c.width = rw same rolls.long in
+      let before = agrees_before c samples cur n long agrees in
+      let row = agrees_row c samples cur n long agrees in
+      let all : c.width ≡ length cur = same ∙ sym wide in
+      let coded = lined.coded c n (rolls.above c same before) (subst (λ k. Shows c (suc (suc n)) cur k) all row) in
+      rows_next t set bits a b d states between after c told.residuals lined.residuals (told.rows c same before) (lined.count ∙ sym all) (rw (told.count) coded);
+}
+
+pub told_all : (t : Table) (set : Set) (bits : ℕ) (a b : Reading) (states after : List ℕ) (width n : ℕ) (samples : List ℕ) → Told t set bits a states b after width samples n →
+    CellRead t set bits a states b after width n samples
+told_all t set bits a b states after width n samples told = record {
+  residuals = told.residuals;
+  count = told.count;
+  rows = told.rows (cell_of width samples) refl (record { each = λ x y h k. refl });
+}
+
+pub shows_over : (width : ℕ) (samples : List ℕ) (y : ℕ) → y < 2 → Shows (cell_of width samples) y (replicate width 0) width
+shows_over width samples zero h = record { each = λ x k. get_or-replicate {A = ℕ} width x 0 0 k ∙ sym (seen_over (cell_of width samples) x) }
+shows_over width samples (suc zero) h = record { each = λ x k. get_or-replicate {A = ℕ} width x 0 0 k ∙ sym (seen_above (cell_of width samples) x) }
+shows_over width samples (suc (suc y)) h = absurd (omega arith)
+
+pub shows_inside : (width : ℕ) (samples : List ℕ) (k : ℕ) → Shows (cell_of width samples) (suc (suc k)) (take width (drop (k * width) samples)) width
+shows_inside width samples k = record {
+  each = λ x h. get_or-take width (drop (k * width) samples) x 0 h ∙ get_or-drop (k * width) samples x 0 ∙ sym (seen_inside (cell_of width samples) x k h);
+}
+
+chosen_none : (set : Set) (bits : ℕ) (c : Cell) → chosen_rows set bits c 0 ≡ []
+unfolding chosen_rows
+chosen_none set bits c = refl
+
+length-rows : (set : Set) (bits : ℕ) (c : Cell) (n : ℕ) → length (chosen_rows set bits c n) ≡ n
+unfolding chosen_rows
+length-rows set bits c zero = refl
+length-rows set bits c (suc n) =
+    let rest = length-rows set bits c n in
+    length-append (chosen_rows set bits c n) (chosen_row set bits c n c.width ∷ []) ∙ (omega arith)
+
+chosen_next : (set : Set) (bits : ℕ) (c : Cell) (n : ℕ) → chosen_rows set bits c (n + 1) ≡ chosen_rows set bits c n ++ (chosen_row set bits c n c.width ∷ [])
+unfolding chosen_rows
+chosen_next set bits c n = rw add-one refl
+
+pub cell_none : (t : Table) (set : Set) (bits : ℕ) (w : Writing) (states : List ℕ) (c : Cell) → Puts t w states w states (cell_steps set c 0 (chosen_rows set bits c 0))
+cell_none t set bits w states c = rw (chosen_none set bits c) (puts_none t w states)
+
+pub cell_next : (t : Table) (set : Set) (bits : ℕ) (a b d : Writing) (states between after : List ℕ) (c : Cell) (n : ℕ) (two one cur : List ℕ) → length cur ≡ c.width → length one ≡ c.width →
+    Shows c n two c.width → Shows c (n + 1) one c.width → Shows c (n + 2) cur c.width →
+    Puts t a states b between (cell_steps set c 0 (chosen_rows set bits c n)) → Written t set bits b between d after two one cur (length cur) →
+    Puts t a states d after (cell_steps set c 0 (chosen_rows set bits c (n + 1)))
+cell_next t set bits a b d states between after c n two one cur wide_cur wide_one shows_two shows_one shows_cur puts written =
+    let one_more : n + 1 ≡ suc n = omega arith in
+    let two_more : n + 2 ≡ suc (suc n) = omega arith in
+    let first : Shows c (suc n) one c.width = subst (λ k. Shows c k one c.width) one_more shows_one in
+    let row : Shows c (suc (suc n)) cur (length cur) = subst (λ k. Shows c (suc (suc n)) cur k) (sym wide_cur) (subst (λ k. Shows c k cur c.width) two_more shows_cur) in
+    let next = written.puts c n (record { wide = wide_one; second = shows_two; first = first }) row in
+    let next = subst (λ k. Puts t b between d after (row_steps set c n 0 (chosen_row set bits c n k))) wide_cur next in
+    let next = subst (λ k. Puts t b between d after (row_steps set c k 0 (chosen_row set bits c n c.width))) (sym (length-rows set bits c n)) next in
+    rw (chosen_next set bits c n) (puts_next t set a b d states between after c (chosen_rows set bits c n) (chosen_row set bits c n c.width) puts next)

@@ -1,0 +1,5 @@
+pub mod Cells
+pub mod Joined
+pub mod Rows
+pub mod Suits
+pub mod Lengths

@@ -1,0 +1,223 @@
+-- One place of a row more.
+use Rattle.std.proofs.Common.{◌≡◌, ◌≢◌, refl, ℕ, ◌+◌, ◌-◌, ◌<◌, min, List, [], ◌∷◌, ◌++◌, length, get_or, slice_set, arith, ap, sym, ◌∙◌, subst, zero, suc, length-append, add-one, get_or-set_same, get_or-set_other, append_assoc, append-nil, ℤ}
+use Rattle.ffv1_range.specs.Table.{Table}
+use Rattle.ffv1_range.specs.Reading.{Reading}
+use Rattle.ffv1_range.specs.Follows.{Follows}
+use Rattle.ffv1_range.proofs.Steps.{follows_append, follows_none}
+use Rattle.ffv1_plane.specs.declared.prediction.Around.{Around}
+use Rattle.ffv1_plane.specs.Quantisation.{Set}
+use Rattle.ffv1_line.specs.Cell.{Cell, seen, around, Shows, Above}
+use Rattle.ffv1_range.specs.Writing.{Writing}
+use Rattle.ffv1_range.specs.Puts.{Puts}
+use Rattle.ffv1_range.proofs.Steps.{puts_append, puts_none}
+use Rattle.ffv1_plane.specs.Prediction.{predicted}
+use Rattle.ffv1_plane.specs.Context.{flip_of}
+use Rattle.ffv1_plane.specs.Residual.{chosen_of}
+use Rattle.ffv1_line.specs.Row.{chosen_at, chosen_row}
+use Rattle.ffv1_line.specs.Encoded.{Written}
+use Rattle.ffv1_line.specs.Row.{SuitsAt, AreSuiting, sample_steps, refused_steps, row_steps}
+use Rattle.ffv1_line.specs.Decoded.{Sampled, Lined, Refused, SameFrom}
+
+-- what the scalars along a row are, at place x
+pub record Left (c : Cell) (y x ll l tl t : ℕ) : Type 0 where
+  pub ll_is : ll ≡ seen c x (suc (suc y))
+  pub l_is : l ≡ seen c (suc x) (suc (suc y))
+  pub tl_is : tl ≡ seen c (suc x) (suc y)
+  pub t_is : t ≡ seen c (suc (suc x)) (suc y)
+
+-- the same, whatever the cell
+pub record Stands (two one cur : List ℕ) (x ll l tl t : ℕ) : Type 0 where
+  pub each : (c : Cell) (y : ℕ) → Above c y two one → Shows c (suc (suc y)) cur x → Left c y x ll l tl t
+
+-- right of the cell stands its rightmost sample
+seen_clamped : (c : Cell) (x y : ℕ) → seen c (suc (suc (min x (c.width - 1)))) y ≡ seen c (suc (suc x)) y
+unfolding seen
+seen_clamped c x zero = refl
+seen_clamped c x (suc zero) = refl
+seen_clamped c x (suc (suc y)) = ap (λ k. c.at k y) (omega arith)
+
+-- left of the cell stands the sample above
+seen_border : (c : Cell) (y : ℕ) → seen c 1 (suc y) ≡ seen c 2 y
+unfolding seen
+seen_border c y = refl
+
+seen_far : (c : Cell) (y : ℕ) → seen c 0 y ≡ 0
+unfolding seen
+seen_far c y = refl
+
+shows_before : (c : Cell) (y : ℕ) (row : List ℕ) (x s : ℕ) → Shows c y (slice_set row x s) (suc x) → Shows c y row x
+shows_before c y row x s shows = record {
+  each = λ k h. let other : k ≢ x = omega arith in sym (get_or-set_other row x k s 0 other) ∙ shows.each k (omega arith);
+}
+
+shows_at : (c : Cell) (y : ℕ) (row : List ℕ) (x s : ℕ) → x < length row → Shows c y (slice_set row x s) (suc x) → s ≡ seen c (suc (suc x)) y
+shows_at c y row x s inside shows = sym (get_or-set_same row x s 0 inside) ∙ shows.each x (omega arith)
+
+pub stands_first : (two one cur : List ℕ) → 0 < length one → length two ≡ length one → Stands two one cur 0 0 (get_or one 0 0) (get_or two 0 0) (get_or one 0 0)
+stands_first two one cur some same = record {
+  each = λ c y above shows.
+      let some : 0 < c.width = omega (arith, above.wide) in
+      record {
+        ll_is = sym (seen_far c (suc (suc y)));
+        l_is = above.first.each 0 some ∙ sym (seen_border c (suc y));
+        tl_is = above.second.each 0 some ∙ sym (seen_border c y);
+        t_is = above.first.each 0 some;
+      };
+}
+
+top_right : (c : Cell) (y : ℕ) (two one : List ℕ) (x k : ℕ) → k ≡ min (x + 1) (length one - 1) → 0 < length one → Above c y two one →
+    get_or one k 0 ≡ seen c (suc (suc (suc x))) (suc y)
+top_right c y two one x k is some above =
+    let at : k ≡ min (suc x) (c.width - 1) = omega (arith, above.wide) in
+    ap (λ i. get_or one i 0) at ∙ above.first.each (min (suc x) (c.width - 1)) (omega (arith, above.wide)) ∙ seen_clamped c (suc x) (suc y)
+
+pub stands_next : (two one cur : List ℕ) (x k ll l tl t s : ℕ) → k ≡ min (x + 1) (length one - 1) → x < length cur → length one ≡ length cur →
+    Stands two one cur x ll l tl t → Stands two one (slice_set cur x s) (x + 1) l s t (get_or one k 0)
+stands_next two one cur x k ll l tl t s is inside same stands =
+    let more : suc x ≡ x + 1 = omega arith in
+    subst (λ n. Stands two one (slice_set cur x s) n l s t (get_or one k 0)) more (record {
+      each = λ c y above shows.
+          let left = stands.each c y above (shows_before c (suc (suc y)) cur x s shows) in
+          record {
+            ll_is = left.l_is;
+            l_is = shows_at c (suc (suc y)) cur x s inside shows;
+            tl_is = left.t_is;
+            t_is = top_right c y two one x k is (omega arith) above;
+          };
+    })
+
+abbrev pub scalars : ℕ → ℕ → ℕ → ℕ → ℕ → ℕ → Around
+scalars l t tl tr ll tt = record { l = l; t = t; tl = tl; tr = tr; ll = ll; tt = tt }
+
+-- the scalars are the neighbours
+around_is : (c : Cell) (y x : ℕ) (two one : List ℕ) (k ll l tl t : ℕ) → k ≡ min (x + 1) (length one - 1) → x < length one → Above c y two one → Left c y x ll l tl t →
+    scalars l t tl (get_or one k 0) ll (get_or two x 0) ≡ around c x y
+around_is c y x two one k ll l tl t is inside above left =
+    let right = top_right c y two one x k is (omega arith) above in
+    let second = above.second.each x (omega (arith, above.wide)) in
+    rw (right, second, left.ll_is, left.l_is, left.tl_is, left.t_is) refl
+
+pub row_steps-append : (set : Set) (c : Cell) (y x n : ℕ) (qs : List ℤ) (q : ℤ) → n ≡ x + length qs →
+    row_steps set c y x (qs ++ (q ∷ [])) ≡ row_steps set c y x qs ++ sample_steps set (around c n y) q
+row_steps-append set c y x n [] q is =
+    let same : n ≡ x = omega arith in
+    rw same (append-nil (sample_steps set (around c x y) q))
+row_steps-append set c y x n (p ∷ qs) q is =
+    let rest = row_steps-append set c y (suc x) n qs q (omega arith) in
+    ap (λ l. sample_steps set (around c x y) p ++ l) rest ∙ sym (append_assoc (sample_steps set (around c x y) p) (row_steps set c y (suc x) qs) (sample_steps set (around c n y) q))
+
+pub suiting-append : (set : Set) (bits : ℕ) (c : Cell) (y x n : ℕ) (qs : List ℤ) (q : ℤ) → n ≡ x + length qs → AreSuiting set bits c y x qs →
+    SuitsAt set bits (around c n y) (seen c (suc (suc n)) (suc (suc y))) q → AreSuiting set bits c y x (qs ++ (q ∷ []))
+suiting-append set bits c y x n [] q is are one =
+    let same : n ≡ x = omega arith in
+    (rw same at one, tt)
+suiting-append set bits c y x n (p ∷ qs) q is are one = (are.0, suiting-append set bits c y (suc x) n qs q (omega arith) are.1 one)
+
+pub lined_none : (t : Table) (set : Set) (bits : ℕ) (r : Reading) (states two one cur : List ℕ) → Lined t set bits r states r states two one cur 0
+lined_none t set bits r states two one cur = record {
+  residuals = [];
+  count = refl;
+  coded = λ c y above shows. record { suits = tt; follows = follows_none t r states };
+}
+
+pub lined_next : (t : Table) (set : Set) (bits : ℕ) (old : Reading) (states : List ℕ) (mid : Reading) (between : List ℕ) (new : Reading) (after two one cur : List ℕ) (x k ll l tl top s : ℕ) →
+    k ≡ min (x + 1) (length one - 1) → x < length cur → length one ≡ length cur → Stands two one cur x ll l tl top → Lined t set bits old states mid between two one cur x →
+    Sampled t set bits mid between new after (record { l = l; t = top; tl = tl; tr = get_or one k 0; ll = ll; tt = get_or two x 0 }) s →
+    Lined t set bits old states new after two one (slice_set cur x s) (x + 1)
+lined_next t set bits old states mid between new after two one cur x k ll l tl top s is inside same stands lined sampled = record {
+  residuals = lined.residuals ++ (sampled.residual ∷ []);
+  count = length-append lined.residuals (sampled.residual ∷ []) ∙ ap (λ n. n + 1) lined.count;
+  coded = λ c y above shows.
+      let shows : Shows c (suc (suc y)) (slice_set cur x s) (suc x) = rw add-one at shows in
+      let before = shows_before c (suc (suc y)) cur x s shows in
+      let coded = lined.coded c y above before in
+      let neighbours = around_is c y x two one k ll l tl top is (omega arith) above (stands.each c y above before) in
+      let suits : SuitsAt set bits (around c x y) s sampled.residual = subst (λ a. SuitsAt set bits a s sampled.residual) neighbours sampled.suits in
+      let suits : SuitsAt set bits (around c x y) (seen c (suc (suc x)) (suc (suc y))) sampled.residual =
+      subst (λ v. SuitsAt set bits (around c x y) v sampled.residual) (shows_at c (suc (suc y)) cur x s inside shows) suits in
+      let follows : Follows t mid between new after (sample_steps set (around c x y) sampled.residual) =
+      subst (λ a. Follows t mid between new after (sample_steps set a sampled.residual)) neighbours sampled.follows in
+      record {
+        suits = suiting-append set bits c y 0 x lined.residuals sampled.residual (omega (arith, lined.count)) coded.suits suits;
+        follows = rw (row_steps-append set c y 0 x lined.residuals sampled.residual (omega (arith, lined.count))) (follows_append _ _ _ _ _ _ _ _ _ coded.follows follows);
+      };
+}
+
+pub lined_refused : (t : Table) (set : Set) (bits : ℕ) (old : Reading) (states : List ℕ) (mid : Reading) (between : List ℕ) (new : Reading) (after two one cur : List ℕ) (x k ll l tl top : ℕ) →
+    k ≡ min (x + 1) (length one - 1) → x < length cur → length one ≡ length cur → Stands two one cur x ll l tl top → Lined t set bits old states mid between two one cur x →
+    Follows t mid between new after (refused_steps set (record { l = l; t = top; tl = tl; tr = get_or one k 0; ll = ll; tt = get_or two x 0 })) →
+    Refused t set bits old states new after two one cur x
+lined_refused t set bits old states mid between new after two one cur x k ll l tl top is inside same stands lined refused = record {
+  residuals = lined.residuals;
+  count = lined.count;
+  suits = λ c y above shows. (lined.coded c y above shows).suits;
+  follows = λ c y above shows.
+      let neighbours = around_is c y x two one k ll l tl top is (omega arith) above (stands.each c y above shows) in
+      follows_append _ _ _ _ _ _ _ _ _ (lined.coded c y above shows).follows (subst (λ a. Follows t mid between new after (refused_steps set a)) neighbours refused);
+}
+
+pub length-chosen : (set : Set) (bits : ℕ) (c : Cell) (y n : ℕ) → length (chosen_row set bits c y n) ≡ n
+unfolding chosen_row
+length-chosen set bits c y zero = refl
+length-chosen set bits c y (suc n) =
+    let rest = length-chosen set bits c y n in
+    length-append (chosen_row set bits c y n) (chosen_at set bits c y n ∷ []) ∙ (omega arith)
+
+pub chosen-none : (set : Set) (bits : ℕ) (c : Cell) (y : ℕ) → chosen_row set bits c y 0 ≡ []
+unfolding chosen_row
+chosen-none set bits c y = refl
+
+pub chosen-more : (set : Set) (bits : ℕ) (c : Cell) (y n : ℕ) → chosen_row set bits c y (n + 1) ≡ chosen_row set bits c y n ++ (chosen_at set bits c y n ∷ [])
+unfolding chosen_row
+chosen-more set bits c y n = rw add-one refl
+
+pub written_none : (t : Table) (set : Set) (bits : ℕ) (w : Writing) (states two one cur : List ℕ) → Written t set bits w states w states two one cur 0
+written_none t set bits w states two one cur = record {
+  puts = λ c y above shows. rw (chosen-none set bits c y) (puts_none t w states);
+}
+
+-- along a row that stands
+stands-shows : (c : Cell) (y : ℕ) (row : List ℕ) (x : ℕ) → Shows c y row (x + 1) → Shows c y row x
+stands-shows c y row x shows = record { each = λ k h. shows.each k (omega arith) }
+
+pub stands_along : (two one cur : List ℕ) (x k ll l tl t : ℕ) → k ≡ min (x + 1) (length one - 1) → x < length cur → length one ≡ length cur →
+    Stands two one cur x ll l tl t → Stands two one cur (x + 1) l (get_or cur x 0) t (get_or one k 0)
+stands_along two one cur x k ll l tl t is inside same stands =
+    let more : suc x ≡ x + 1 = omega arith in
+    subst (λ n. Stands two one cur n l (get_or cur x 0) t (get_or one k 0)) more (record {
+      each = λ c y above shows.
+          let left = stands.each c y above (record { each = λ i h. shows.each i (omega arith) }) in
+          record {
+            ll_is = left.l_is;
+            l_is = shows.each x (omega arith);
+            tl_is = left.t_is;
+            t_is = top_right c y two one x k is (omega arith) above;
+          };
+    })
+
+pub written_next : (t : Table) (set : Set) (bits : ℕ) (old : Writing) (states : List ℕ) (mid : Writing) (between : List ℕ) (new : Writing) (after two one cur : List ℕ) (x k ll l tl top : ℕ) →
+    k ≡ min (x + 1) (length one - 1) → x < length cur → length one ≡ length cur → Stands two one cur x ll l tl top → Written t set bits old states mid between two one cur x →
+    Puts t mid between new after (sample_steps set (scalars l top tl (get_or one k 0) ll (get_or two x 0))
+    (chosen_of bits (predicted (scalars l top tl (get_or one k 0) ll (get_or two x 0))) (flip_of set (scalars l top tl (get_or one k 0) ll (get_or two x 0))) (get_or cur x 0))) →
+    Written t set bits old states new after two one cur (x + 1)
+written_next t set bits old states mid between new after two one cur x k ll l tl top is inside same stands written puts = record {
+  puts = λ c y above shows.
+      let before = stands-shows c (suc (suc y)) cur x shows in
+      let left = stands.each c y above before in
+      let neighbours = around_is c y x two one k ll l tl top is (omega arith) above left in
+      let sample : get_or cur x 0 ≡ seen c (suc (suc x)) (suc (suc y)) = shows.each x (omega arith) in
+      let puts : Puts t mid between new after (sample_steps set (around c x y) (chosen_of bits (predicted (around c x y)) (flip_of set (around c x y)) (get_or cur x 0))) =
+      subst (λ a. Puts t mid between new after (sample_steps set a (chosen_of bits (predicted a) (flip_of set a) (get_or cur x 0)))) neighbours puts in
+      let puts = rw sample at puts in
+      rw (chosen-more set bits c y x, row_steps-append set c y 0 x (chosen_row set bits c y x) (chosen_at set bits c y x) (omega (arith, length-chosen set bits c y x)))
+      (puts_append _ _ _ _ _ _ _ _ _ (written.puts c y above before) puts);
+}
+
+-- a write at a place leaves those behind it
+pub same_from_start : (cur : List ℕ) → SameFrom 0 cur cur
+same_from_start cur = record { each = λ k h. refl }
+
+pub same_from_next : (x s : ℕ) (old cur : List ℕ) → SameFrom x old cur → SameFrom (x + 1) old (slice_set cur x s)
+same_from_next x s old cur same = record {
+  each = λ k h. let other : k ≢ x = omega arith in get_or-set_other cur x k s 0 other ∙ same.each k (omega arith);
+}

@@ -1,0 +1,47 @@
+-- What is seen at a place of a cell.
+use Rattle.std.specs.Prelude.{ℕ, ◌≡◌, ◌+◌, ◌-◌, ◌*◌, ◌<◌, min, List, length, slice_index}
+use Rattle.std.proofs.Common.{zero, suc}
+use Rattle.ffv1_plane.specs.declared.prediction.Around.{Around}
+
+-- the samples of one cell of a plane, by the column and the row from its corner
+pub record Cell : Type 0 where
+  pub width : ℕ
+  pub at : ℕ → ℕ → ℕ
+
+-- RFC 9043, 3.1 and 3.2; columns are counted from two to the left of the cell, rows from two above it
+unfoldable pub seen : Cell → ℕ → ℕ → ℕ
+seen c zero y = 0
+seen c (suc zero) zero = 0
+seen c (suc zero) (suc y) = seen c 2 y
+seen c (suc (suc x)) zero = 0
+seen c (suc (suc x)) (suc zero) = 0
+seen c (suc (suc x)) (suc (suc y)) = c.at (min x (c.width - 1)) y
+
+-- the neighbours of a place of the cell
+abbrev pub around : Cell → ℕ → ℕ → Around
+around c x y = record {
+  l = seen c (suc x) (suc (suc y));
+  t = seen c (suc (suc x)) (suc y);
+  tl = seen c (suc x) (suc y);
+  tr = seen c (suc (suc (suc x))) (suc y);
+  ll = seen c x (suc (suc y));
+  tt = seen c (suc (suc x)) y;
+}
+
+-- the first n samples of a row are those that are seen
+pub record Shows (c : Cell) (y : ℕ) (row : List ℕ) (n : ℕ) : Type 0 where
+  pub each : (x : ℕ) → x < n → slice_index row x ≡ seen c (suc (suc x)) y
+
+-- two and one are the rows two and one above row y
+pub record Above (c : Cell) (y : ℕ) (two one : List ℕ) : Type 0 where
+  pub wide : length one ≡ c.width
+  pub second : Shows c y two c.width
+  pub first : Shows c (suc y) one c.width
+
+-- the first n rows of a cell are these samples, row by row
+pub record Agrees (c : Cell) (samples : List ℕ) (n : ℕ) : Type 0 where
+  pub each : (x y : ℕ) → x < c.width → y < n → slice_index samples (y * c.width + x) ≡ c.at x y
+
+-- the cell of some samples, row by row
+abbrev pub cell_of : ℕ → List ℕ → Cell
+cell_of width samples = record { width = width; at = λ x y. slice_index samples (y * width + x) }

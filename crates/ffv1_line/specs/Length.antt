@@ -1,0 +1,34 @@
+-- How many decisions residuals take.
+use Rattle.std.specs.Prelude.{ℕ, ◌+◌, ◌-◌, ◌*◌, ◌^◌, ◌<◌, List, [], ◌∷◌, length, ℤ, unsigned_abs}
+use Rattle.std.specs.Int.{w32, leading_zeros}
+
+-- how many binary digits a number below 2 ^ 32 has: none for 0
+abbrev pub binary_digits : ℕ → ℕ
+binary_digits n = 32 - leading_zeros w32 n
+
+-- the decisions of a residual of n binary digits: 2 n + 1 (RFC 9043, 3.8.1.2)
+unfoldable pub decisions_of : ℤ → ℕ
+decisions_of q = 2 * binary_digits (unsigned_abs q) + 1
+
+-- those of a row, and of the rows of a cell
+abbrev pub row_decisions : List ℤ → ℕ
+row_decisions [] = 0
+row_decisions (q ∷ qs) = decisions_of q + row_decisions qs
+
+abbrev pub cell_decisions : List (List ℤ) → ℕ
+cell_decisions [] = 0
+cell_decisions (qs ∷ rows) = row_decisions qs + cell_decisions rows
+
+-- each residual has a symbol
+abbrev pub AreSmall : List ℤ → Type 0
+AreSmall [] = Unit {0}
+AreSmall (q ∷ qs) = (unsigned_abs q < 2 ^ 31) × AreSmall qs
+
+abbrev pub AreSmallRows : List (List ℤ) → Type 0
+AreSmallRows [] = Unit {0}
+AreSmallRows (qs ∷ rows) = AreSmall qs × AreSmallRows rows
+
+-- how many residuals there are
+abbrev pub residuals_in : List (List ℤ) → ℕ
+residuals_in [] = 0
+residuals_in (qs ∷ rows) = length qs + residuals_in rows

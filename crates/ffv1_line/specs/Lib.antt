@@ -1,0 +1,5 @@
+pub mod Cell
+pub mod Row
+pub mod Decoded
+pub mod Encoded
+pub mod Length

@@ -1,0 +1,30 @@
+use Rattle.std.proofs.Common.{◌≡◌, refl, ◌∙◌, sym, ℕ, List, [], ◌∷◌, map, length, get_or, arith, Bor}
+use Rattle.std.proofs.lemmas.Bool.{both_ways}
+use Rattle.ffv1_plane.proofs.quantisation.QuantSet.from_runs.Goals as goal
+
+-- five slices, listed
+five : (xs : List (Bor (List ℕ))) (d : Bor (List ℕ)) → length xs ≡ 5 →
+    map (λ r. r.now) xs ≡ (get_or xs 0 d).now ∷ (get_or xs 1 d).now ∷ (get_or xs 2 d).now ∷ (get_or xs 3 d).now ∷ (get_or xs 4 d).now ∷ []
+five [] d h = absurd (omega arith)
+five (a ∷ []) d h = absurd (omega arith)
+five (a ∷ b ∷ []) d h = absurd (omega arith)
+five (a ∷ b ∷ c ∷ []) d h = absurd (omega arith)
+five (a ∷ b ∷ c ∷ e ∷ []) d h = absurd (omega arith)
+five (a ∷ b ∷ c ∷ e ∷ f ∷ []) d h = refl
+five (a ∷ b ∷ c ∷ e ∷ f ∷ g ∷ more) d h = absurd (omega arith)
+
+pub returns-clause-runs : goal.returns-clause-runs
+returns-clause-runs g c =
+    let listed = five c.args.runs.now (record { ref_ptr = (0, 0); now = [] }) c.told-runs in
+    let set = c.in_ok-scales.ensures.ok.set in
+    (λ h. cc, λ no. absurd (both_ways _ no (rw listed set.filled)))
+
+pub returns-clause-contexts : goal.returns-clause-contexts
+returns-clause-contexts g c =
+    let listed = five c.args.runs.now (record { ref_ptr = (0, 0); now = [] }) c.told-runs in
+    let set = c.in_ok-scales.ensures.ok.set in
+    let few = set.few in
+    (λ h. cc, λ more. let many = rw listed at more.1 in absurd (omega arith))
+
+pub returns-clause-ok : goal.returns-clause-ok
+returns-clause-ok g c = c.in_ok-set.ensures ∙ sym (five c.args.runs.now (record { ref_ptr = (0, 0); now = [] }) c.told-runs)

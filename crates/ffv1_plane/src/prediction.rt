@@ -1,0 +1,32 @@
+//! The samples around a place, and the prediction from them.
+
+ghost use Rattle.std.specs.Prelude.{◌≡◌};
+ghost use Rattle.ffv1_plane.specs.Prediction.{predicted};
+
+/// The samples around a place, as RFC 9043, 3.1 and 3.2 names them: left, top, top left, top right, two to the left and
+/// two above.
+#[derive(Clone, Copy, Debug, PartialEq, Eq)]
+pub struct Around {
+    /// To the left.
+    pub l: u16,
+    /// Above.
+    pub t: u16,
+    /// Above, to the left.
+    pub tl: u16,
+    /// Above, to the right.
+    pub tr: u16,
+    /// Two to the left (`L` of the standard).
+    pub ll: u16,
+    /// Two above (`T` of the standard).
+    pub tt: u16,
+}
+
+/// The prediction of a place: the median of `l`, `t` and `l + t - tl` (RFC 9043, 3.3), from 0 to 65535.
+#[inline(always)]
+pub fn predict(around: &Around) -> i32
+    ensures { result ≡ predicted around.now }
+{
+    let least = around.l.min(around.t);
+    let most = around.l.max(around.t);
+    (most - (around.tl.max(least).min(most) - least)) as i32
+}

@@ -1,0 +1,252 @@
+//! Quantisation table sets, and the contexts of places by them.
+
+ghost use Rattle.std.specs.Prelude.{◌≡◌, ℕ, ◌+◌, ◌*◌, ◌<◌, ◌≤◌, ◌↔◌, IfOk, IsErrOf, IsOkUnless, IsTrue, IsFalse, length, map, slice_index_or, [], ◌∷◌};
+ghost use Rattle.ffv1_plane.specs.declared.prediction.Around.{Around};
+ghost use Rattle.ffv1_plane.specs.Quantisation.{Set, IsSet, are_filled, contexts_of, small_set, large_set};
+ghost use Rattle.ffv1_plane.specs.Context.{size_of, flip_of};
+ghost use Rattle.ffv1_plane.specs.Raised.{AreRaised, table_of};
+
+use crate::faults::Fault;
+use crate::prediction::Around;
+use crate::table::{Table, fills, scale_after};
+use std::alloc::{AllocError, Allocator, Global};
+use std::marker::Model;
+
+/// A quantisation table set (RFC 9043, 3.4): five tables of 256 entries, one for each difference that makes a context. In a
+/// contract a set is the runs of its five tables, so two sets with the same runs are equal.
+#[derive(Drop)]
+pub struct QuantSet<A: Allocator = Global> {
+    first: Table<A>,
+    second: Table<A>,
+    third: Table<A>,
+    fourth: Table<A>,
+    fifth: Table<A>,
+    half: u32,
+}
+
+impl<A: Allocator> Model for QuantSet<A> {
+    ghost use Rattle.std.specs.Prelude.{[], ◌∷◌};
+    ghost use Rattle.ffv1_plane.specs.Quantisation.{Set};
+    ghost use Rattle.ffv1_plane.specs.Raised.{AreRaised};
+
+    ghost Value = { Set };
+
+    ghost view = { λ s. s.first.runs ∷ s.second.runs ∷ s.third.runs ∷ s.fourth.runs ∷ s.fifth.runs ∷ [] };
+
+    ghost invariant = { λ s. AreRaised s.first s.second s.third s.fourth s.fifth s.half };
+}
+
+/// The runs of a table of eleven levels.
+const ELEVEN: [u8; 6] = [1, 1, 3, 7, 11, 105];
+
+/// The runs of a table of five levels.
+const FIVE: [u8; 3] = [3, 11, 114];
+
+/// The runs of a table of one level.
+const ONE: [u8; 1] = [128];
+
+/// The scales of a set's tables but the first, whose scale is 1, and the sum of the tables' greatest entries.
+#[derive(Clone, Copy)]
+struct Scales {
+    second: u16,
+    third: u16,
+    fourth: u16,
+    fifth: u16,
+    half: u32,
+}
+
+/// The scales of five tables by their runs, or why the runs make no set.
+fn scales_of(
+    first: &[u8],
+    second: &[u8],
+    third: &[u8],
+    fourth: &[u8],
+    fifth: &[u8],
+) -> Result<Scales, Fault>
+    ensures runs { let set = first.now ∷ second.now ∷ third.now ∷ fourth.now ∷ fifth.now ∷ [] in
+        IsErrOf result Fault.Runs ↔ IsFalse (are_filled set) }
+    ensures contexts { let set = first.now ∷ second.now ∷ third.now ∷ fourth.now ∷ fifth.now ∷ [] in
+        IsErrOf result Fault.Contexts ↔ (IsTrue (are_filled set) × (32768 < contexts_of set)) }
+    ensures memory { IsErrOf result Fault.OutOfMemory → ⊥ }
+    ensures ok { IfOk result (λ s. AreRaised (table_of first.now 1) (table_of second.now s.second)
+        (table_of third.now s.third) (table_of fourth.now s.fourth) (table_of fifth.now s.fifth) s.half) }
+{
+    if !(fills(first) && fills(second) && fills(third) && fills(fourth) && fills(fifth)) {
+        return Err(Fault::Runs);
+    }
+    let second_scale = scale_after(1, first);
+    let third_scale = scale_after(second_scale, second);
+    let fourth_scale = scale_after(third_scale, third);
+    let fifth_scale = scale_after(fourth_scale, fourth);
+    let scale = scale_after(fifth_scale, fifth);
+    if scale > 65536 {
+        return Err(Fault::Contexts);
+    }
+    Ok(Scales {
+        second: second_scale as u16,
+        third: third_scale as u16,
+        fourth: fourth_scale as u16,
+        fifth: fifth_scale as u16,
+        half: ((scale - 1) / 2) as u32,
+    })
+}
+
+/// The set of five tables by their runs and scales.
+fn build<A: Allocator + Copy>(
+    alloc: A,
+    first: &[u8],
+    second: &[u8],
+    third: &[u8],
+    fourth: &[u8],
+    fifth: &[u8],
+    scales: Scales,
+) -> Result<QuantSet<A>, AllocError>
+    requires { AreRaised (table_of first.now 1) (table_of second.now scales.second)
+        (table_of third.now scales.third) (table_of fourth.now scales.fourth)
+        (table_of fifth.now scales.fifth) scales.half }
+    ensures { IfOk result (λ s. s ≡ first.now ∷ second.now ∷ third.now ∷ fourth.now ∷ fifth.now ∷ []) }
+{
+    let first = Table::new(alloc, first, 1)?;
+    let second = Table::new(alloc, second, scales.second)?;
+    let third = Table::new(alloc, third, scales.third)?;
+    let fourth = Table::new(alloc, fourth, scales.fourth)?;
+    let fifth = Table::new(alloc, fifth, scales.fifth)?;
+    Ok(QuantSet {
+        first,
+        second,
+        third,
+        fourth,
+        fifth,
+        half: scales.half,
+    })
+}
+
+impl<A: Allocator + Copy> QuantSet<A> {
+    /// The set of five tables by their runs (RFC 9043, 4.1): run `v` of a table, from 0, gives `scale * v` to its next entries
+    /// until 128 are filled.
+    ///
+    /// Refuses with `Fault::Runs` where a table has no run, a run of 0, or runs that do not fill 128 entries exactly; else
+    /// with `Fault::Contexts` where the set has more than 32768 contexts; else with `Fault::OutOfMemory` where a growth is
+    /// refused.
+    pub fn from_runs(alloc: A, runs: &[&[u8]; 5]) -> Result<QuantSet<A>, Fault>
+        ensures runs { IsErrOf result Fault.Runs ↔ IsFalse (are_filled (map (λ r. r.now) runs.now)) }
+        ensures contexts { let set = map (λ r. r.now) runs.now in
+            IsErrOf result Fault.Contexts ↔ (IsTrue (are_filled set) × (32768 < contexts_of set)) }
+        ensures memory { IsErrOf result Fault.OutOfMemory → IsSet (map (λ r. r.now) runs.now) }
+        ensures ok { IfOk result (λ s. s ≡ map (λ r. r.now) runs.now) }
+        ensures set { IfOk result (λ s. IsSet s) }
+    {
+        let [first, second, third, fourth, fifth] = *runs;
+        let scales = scales_of(first, second, third, fourth, fifth)?;
+        let set = build(alloc, first, second, third, fourth, fifth, scales)?;
+        Ok(set)
+    }
+
+    /// The set of the runs 1 1 3 7 11 105 three times and 128 twice, of 666 contexts: the samples two to the left and two
+    /// above count for nothing. Refuses with `Fault::OutOfMemory` alone, where a growth is refused.
+    pub fn small(alloc: A) -> Result<QuantSet<A>, Fault>
+        ensures ok { IfOk result (λ s. s ≡ small_set) }
+        ensures contexts { IfOk result (λ s. contexts_of s ≡ 666) }
+        ensures refused { IsOkUnless result Fault.OutOfMemory }
+    {
+        let eleven = ELEVEN.as_slice();
+        let one = ONE.as_slice();
+        QuantSet::from_runs(alloc, &[eleven, eleven, eleven, one, one])
+    }
+
+    /// The set of the runs 1 1 3 7 11 105 three times and 3 11 114 twice, of 16638 contexts. Refuses with
+    /// `Fault::OutOfMemory` alone, where a growth is refused.
+    pub fn large(alloc: A) -> Result<QuantSet<A>, Fault>
+        ensures ok { IfOk result (λ s. s ≡ large_set) }
+        ensures contexts { IfOk result (λ s. contexts_of s ≡ 16638) }
+        ensures refused { IsOkUnless result Fault.OutOfMemory }
+    {
+        let eleven = ELEVEN.as_slice();
+        let five = FIVE.as_slice();
+        QuantSet::from_runs(alloc, &[eleven, eleven, eleven, five, five])
+    }
+}
+
+impl<A: Allocator> QuantSet<A> {
+    /// The number of contexts, from 1 to 32768 (RFC 9043, 4.1): half of the scale behind the five tables, rounded up.
+    pub fn contexts(&self) -> u32
+        ensures value { result ≡ contexts_of self.now }
+        ensures some { 0 < result }
+        ensures few { result ≤ 32768 }
+    {
+        self.half + 1
+    }
+
+    /// The runs of a table, from 0 to 4.
+    pub fn runs(&self, table: usize) -> &[u8]
+        requires { table < 5 }
+        ensures { result.now ≡ slice_index_or self.now table [] }
+    {
+        match table {
+            0 => self.first.runs(),
+            1 => self.second.runs(),
+            2 => self.third.runs(),
+            3 => self.fourth.runs(),
+            _ => self.fifth.runs(),
+        }
+    }
+
+    /// A law of each set: it is five filled tables with at most 32768 contexts, and the number of each place's context is
+    /// below the number of contexts.
+    pub fn bounded(&self)
+        ensures set { IsSet self.now }
+        ensures below { (a : Around) → size_of self.now a < contexts_of self.now }
+    {
+        let _half = self.half;
+    }
+}
+
+/// The context of a place (RFC 9043, 3.5): its number, which is the size of the sum of the five look-ups, each by the low
+/// eight bits of a difference, and whether the sum is negative, so that the sign of the sample difference is flipped. The
+/// number is below `set.contexts()`.
+#[inline(always)]
+pub fn context<A: Allocator>(set: &QuantSet<A>, around: &Around) -> (u32, bool)
+    ensures size { result.0 ≡ size_of set.now around.now }
+    ensures flip { result.1 ≡ flip_of set.now around.now }
+    ensures below { result.0 < contexts_of set.now }
+{
+    let early = set.second.raised(around.tl, around.t)
+        + set.third.raised(around.t, around.tr)
+        + set.fifth.raised(around.tt, around.t);
+    let sum = set.first.raised(around.l, around.tl)
+        + (set.fourth.raised(around.ll, around.l) + early);
+    if sum < set.half {
+        (set.half - sum, true)
+    } else {
+        (sum - set.half, false)
+    }
+}
+
+/// Two sets are equal where their tables have the same runs, and so the same entries.
+impl<A: Allocator> PartialEq for QuantSet<A> {
+    ghost use Rattle.std.specs.Prelude.{◌≡◌, ◌↔◌, IsTrue, nat_eq};
+    ghost use lib.Pointwise.{pointwise};
+    ghost use Rattle.std.specs.Cmp.{partial_equiv_from_equiv};
+    ghost use Rattle.std.proofs.lemmas.Cmp.{lists_equiv, nat_list_eq_equiv};
+
+    ghost eq = { pointwise (pointwise nat_eq) };
+
+    ghost laws = { partial_equiv_from_equiv (lists_equiv nat_list_eq_equiv) };
+
+    fn eq(&self, other: &QuantSet<A>) -> bool
+        ensures value { result ≡ pointwise (pointwise nat_eq) self.now other.now }
+        ensures same { IsTrue result ↔ (self.now ≡ other.now) }
+    {
+        self.first.runs() == other.first.runs()
+            && self.second.runs() == other.second.runs()
+            && self.third.runs() == other.third.runs()
+            && self.fourth.runs() == other.fourth.runs()
+            && self.fifth.runs() == other.fifth.runs()
+    }
+}
+
+impl<A: Allocator> Eq for QuantSet<A> {
+    ghost use Rattle.std.proofs.lemmas.Cmp.{lists_equiv, nat_list_eq_equiv};
+
+    ghost laws = { lists_equiv nat_list_eq_equiv };
+}

@@ -1,0 +1,126 @@
+-- Steps one after another.
+use Rattle.std.proofs.Common.{◌≡◌, refl, ℕ, ◌+◌, List, [], ◌∷◌, ◌++◌, min, ap, sym, subst, ◌∙◌, add-one, true}
+use Rattle.ffv1_range.specs.Interval.{Decision, narrowed, start, interval_of}
+use Rattle.ffv1_range.specs.Codes.{AreStates}
+use Rattle.ffv1_range.specs.Table.{Table}
+use Rattle.ffv1_range.specs.Reading.{Reading, At}
+use Rattle.ffv1_range.specs.Symbols.{Step, raising, stepped, moved_by, decided}
+use Rattle.ffv1_range.specs.Counts.{Counts, Counted}
+use Rattle.ffv1_range.specs.Follows.{Follows, Reads}
+use Rattle.ffv1_range.specs.Writing.{Writing}
+use Rattle.ffv1_range.specs.Puts.{Puts, Writes}
+use Rattle.ffv1_range.proofs.Nested.{narrowed-append}
+use Rattle.ffv1_range.proofs.Counting.{counted_none, counted_append}
+
+pub moved_by-append : (t : Table) (states : List ℕ) (xs ys : List Step) → moved_by t states (xs ++ ys) ≡ moved_by t (moved_by t states xs) ys
+moved_by-append t states [] ys = refl
+moved_by-append t states (x ∷ xs) ys = moved_by-append t (stepped t states x) xs ys
+
+pub decided-append : (t : Table) (states : List ℕ) (xs ys : List Step) → decided t states (xs ++ ys) ≡ decided t states xs ++ decided t (moved_by t states xs) ys
+decided-append t states [] ys = refl
+decided-append t states (x ∷ xs) ys =
+    let rest = decided-append t (stepped t states x) xs ys in cc
+
+pub AreStates-append : (xs ys : List Decision) → AreStates xs → AreStates ys → AreStates (xs ++ ys)
+AreStates-append [] ys p q = q
+AreStates-append (x ∷ xs) ys p q = (p.0, AreStates-append xs ys p.1 q)
+
+pub follows_none : (t : Table) (r : Reading) (states : List ℕ) → Follows t r states r states []
+follows_none t r states = record { bytes = refl; at = λ i h. h; counts = counted_none r.counts; moves = refl; named = tt }
+
+pub follows_append : (t : Table) (a b c : Reading) (ss ts us : List ℕ) (xs ys : List Step) →
+    Follows t a ss b ts xs → Follows t b ts c us ys → Follows t a ss c us (xs ++ ys)
+follows_append t a b c ss ts us xs ys first second = record {
+  bytes = second.bytes ∙ first.bytes;
+  at = λ i h.
+      rw (decided-append t ss xs ys, narrowed-append i, ← first.moves) (second.at (narrowed i (decided t ss xs)) (first.at i h));
+  counts = counted_append a.counts b.counts c.counts xs ys first.counts second.counts;
+  moves = second.moves ∙ ap (λ s. moved_by t s ys) first.moves ∙ sym (moved_by-append t ss xs ys);
+  named = rw (decided-append t ss xs ys, ← first.moves) (AreStates-append (decided t ss xs) (decided t ts ys) first.named second.named);
+}
+
+pub reads_none : (t : Table) (r : Reading) (states : List ℕ) → Reads t r states r states []
+reads_none t r states = record { bytes = refl; at = λ i h. h; counts = refl; moves = refl; named = tt }
+
+pub reads_append : (t : Table) (a b c : Reading) (ss ts us : List ℕ) (xs ys : List Step) →
+    Reads t a ss b ts xs → Reads t b ts c us ys → Reads t a ss c us (xs ++ ys)
+reads_append t a b c ss ts us xs ys first second = record {
+  bytes = second.bytes ∙ first.bytes;
+  at = λ i h.
+      rw (decided-append t ss xs ys, narrowed-append i, ← first.moves) (second.at (narrowed i (decided t ss xs)) (first.at i h));
+  counts = second.counts ∙ first.counts;
+  moves = second.moves ∙ ap (λ s. moved_by t s ys) first.moves ∙ sym (moved_by-append t ss xs ys);
+  named = rw (decided-append t ss xs ys, ← first.moves) (AreStates-append (decided t ss xs) (decided t ts ys) first.named second.named);
+}
+
+-- the decoder with other counts
+abbrev pub counting : Reading → Counts → Reading
+counting r counts = record { bytes = r.bytes; width = r.width; gap = r.gap; renormalisations = r.renormalisations; counts = counts }
+
+-- steps that are counted when they have been read
+pub reads_counted : (t : Table) (a b c : Reading) (ss ts : List ℕ) (xs : List Step) →
+    Reads t a ss b ts xs → c ≡ counting b c.counts → Counted b.counts xs c.counts → Follows t a ss c ts xs
+reads_counted t a b c ss ts xs reads same counts = record {
+  bytes = ap (λ (r : Reading). r.bytes) same ∙ reads.bytes;
+  at = λ i h.
+      let now = reads.at i h in
+      subst (λ r. At r (narrowed i (decided t ss xs))) (sym same) (record { inside = now.inside; width = now.width; gap = now.gap; renormalisations = now.renormalisations });
+  counts = subst (λ (k : Counts). Counted k xs c.counts) reads.counts counts;
+  moves = reads.moves;
+  named = reads.named;
+}
+
+pub raising-add-one : (k : ℕ) → raising (k + 1) ≡ raising k ++ (record { slot = 1 + min k 9; bit = true } ∷ [])
+unfolding raising
+raising-add-one k = rw add-one refl
+
+pub raising-zero : raising 0 ≡ []
+unfolding raising
+raising-zero = refl
+
+pub puts_none : (t : Table) (w : Writing) (states : List ℕ) → Puts t w states w states []
+puts_none t w states = record { interval = refl; counts = counted_none w.counts; failed = refl; moves = refl; named = tt }
+
+pub puts_append : (t : Table) (a b c : Writing) (ss ts us : List ℕ) (xs ys : List Step) →
+    Puts t a ss b ts xs → Puts t b ts c us ys → Puts t a ss c us (xs ++ ys)
+puts_append t a b c ss ts us xs ys first second = record {
+  interval = rw (decided-append t ss xs ys, narrowed-append a.interval, ← first.moves, ← first.interval) second.interval;
+  counts = counted_append a.counts b.counts c.counts xs ys first.counts second.counts;
+  failed = second.failed ∙ first.failed;
+  moves = second.moves ∙ ap (λ s. moved_by t s ys) first.moves ∙ sym (moved_by-append t ss xs ys);
+  named = rw (decided-append t ss xs ys, ← first.moves) (AreStates-append (decided t ss xs) (decided t ts ys) first.named second.named);
+}
+
+pub writes_none : (t : Table) (w : Writing) (states : List ℕ) → Writes t w states w states []
+writes_none t w states = record { interval = refl; counts = refl; failed = refl; moves = refl; named = tt }
+
+pub writes_append : (t : Table) (a b c : Writing) (ss ts us : List ℕ) (xs ys : List Step) →
+    Writes t a ss b ts xs → Writes t b ts c us ys → Writes t a ss c us (xs ++ ys)
+writes_append t a b c ss ts us xs ys first second = record {
+  interval = rw (decided-append t ss xs ys, narrowed-append a.interval, ← first.moves, ← first.interval) second.interval;
+  counts = second.counts ∙ first.counts;
+  failed = second.failed ∙ first.failed;
+  moves = second.moves ∙ ap (λ s. moved_by t s ys) first.moves ∙ sym (moved_by-append t ss xs ys);
+  named = rw (decided-append t ss xs ys, ← first.moves) (AreStates-append (decided t ss xs) (decided t ts ys) first.named second.named);
+}
+
+-- steps that are counted when they have been written
+pub writes_counted : (t : Table) (a b c : Writing) (ss ts : List ℕ) (xs : List Step) →
+    Writes t a ss b ts xs → c ≡ record { interval = b.interval; counts = c.counts; failed = b.failed } → Counted b.counts xs c.counts → Puts t a ss c ts xs
+writes_counted t a b c ss ts xs writes same counts = record {
+  interval = ap (λ (w : Writing). w.interval) same ∙ writes.interval;
+  counts = subst (λ (k : Counts). Counted k xs c.counts) writes.counts counts;
+  failed = ap (λ (w : Writing). w.failed) same ∙ writes.failed;
+  moves = writes.moves;
+  named = writes.named;
+}
+
+-- where the decoder stands behind what it had read before
+pub read_on : (t : Table) (old : Reading) (states : List ℕ) (new : Reading) (after : List ℕ) (steps : List Step) (past : List Decision) →
+    At old (interval_of past) → Follows t old states new after steps → At new (interval_of (past ++ decided t states steps))
+read_on t old states new after steps past h f = rw (narrowed-append start past (decided t states steps)) (f.at (interval_of past) h)
+
+pub written_on : (t : Table) (old : Writing) (states : List ℕ) (new : Writing) (after : List ℕ) (steps : List Step) (past : List Decision) →
+    old.interval ≡ interval_of past → Puts t old states new after steps → new.interval ≡ interval_of (past ++ decided t states steps)
+written_on t old states new after steps past e p =
+    p.interval ∙ ap (λ i. narrowed i (decided t states steps)) e ∙ sym (narrowed-append start past (decided t states steps))

@@ -1,0 +1,9 @@
+use Rattle.std.proofs.Common.{arith}
+use Rattle.ffv1_range.proofs.Counting.{counted_by}
+use Rattle.ffv1_range.proofs.encoder.RangeEncoder.count.Goals as goal
+
+pub returns-clause-counts : goal.returns-clause-counts
+returns-clause-counts g c = λ steps ones all.
+    rw (← c.self.view_is)
+    (counted_by (record { ones = c.self.inside.ones; zeros = c.self.inside.zeros }) _ steps c.args.ones c.args.zeros
+    (omega arith) (omega arith) (omega arith) (omega arith) ones all)

@@ -1,0 +1,17 @@
+use Rattle.ffv1_range.proofs.HistoryLemmas.{kept_is, fresh_has, decided_is, moved_has, others_have}
+use Rattle.ffv1_range.proofs.laws.kept_states.Goals as goal
+
+pub returns-clause-all : goal.returns-clause-all
+returns-clause-all c = kept_is
+
+pub returns-clause-fresh : goal.returns-clause-fresh
+returns-clause-fresh c = fresh_has
+
+pub returns-clause-decided : goal.returns-clause-decided
+returns-clause-decided c = decided_is
+
+pub returns-clause-moved : goal.returns-clause-moved
+returns-clause-moved c = moved_has
+
+pub returns-clause-others : goal.returns-clause-others
+returns-clause-others c = others_have

@@ -1,0 +1,14 @@
+use Rattle.ffv1_range.proofs.Steps.{follows_none, follows_append, puts_none, puts_append}
+use Rattle.ffv1_range.proofs.laws.one_after_another.Goals as goal
+
+pub returns-clause-follows_none : goal.returns-clause-follows_none
+returns-clause-follows_none c = follows_none
+
+pub returns-clause-follows_append : goal.returns-clause-follows_append
+returns-clause-follows_append c = follows_append
+
+pub returns-clause-puts_none : goal.returns-clause-puts_none
+returns-clause-puts_none c = puts_none
+
+pub returns-clause-puts_append : goal.returns-clause-puts_append
+returns-clause-puts_append c = puts_append

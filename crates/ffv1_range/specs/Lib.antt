@@ -1,0 +1,13 @@
+pub mod Interval
+pub mod Codes
+pub mod Table
+pub mod Deltas
+pub mod Symbols
+pub mod History
+pub mod Weight
+pub mod Counts
+pub mod Reading
+pub mod Writing
+pub mod Follows
+pub mod Puts
+pub mod Standard

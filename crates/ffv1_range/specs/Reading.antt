@@ -1,0 +1,43 @@
+-- Where a decoder stands.
+use Rattle.std.specs.Prelude.{◌≡◌, ℕ, ◌+◌, ◌^◌, ◌≤◌, ◌<◌, min, List}
+use Rattle.ffv1_range.specs.Interval.{Interval}
+use Rattle.ffv1_range.specs.Codes.{value, Inside}
+use Rattle.ffv1_range.specs.Counts.{Counts}
+
+-- what a decoder holds: the bytes, the width of its interval, how far the upper end of the interval lies
+-- above the number of the bytes, how often it renormalised, and what it decided
+pub record Reading : Type 0 where
+  pub bytes : List ℕ
+  pub width : ℕ
+  pub gap : ℕ
+  pub renormalisations : ℕ
+  pub counts : Counts
+
+-- the decoder stands at this interval (RFC 9043, 3.8.1.1)
+pub record At (r : Reading) (i : Interval) : Type 0 where
+  pub inside : Inside r.bytes i
+  pub width : r.width ≡ i.width
+  pub gap : value r.bytes i.count + r.gap ≡ i.low + i.width
+  pub renormalisations : r.renormalisations + 2 ≡ min i.count (2 ^ 64 + 1)
+
+-- a decoder without its bytes
+pub record Pause : Type 0 where
+  pub width : ℕ
+  pub gap : ℕ
+  pub renormalisations : ℕ
+  pub counts : Counts
+
+-- what is left of a decoder that lets its bytes go
+abbrev pub paused : Reading → Pause
+paused r = record { width = r.width; gap = r.gap; renormalisations = r.renormalisations; counts = r.counts }
+
+-- a decoder that goes on with bytes
+abbrev pub resumed : Pause → List ℕ → Reading
+resumed p bytes = record { bytes = bytes; width = p.width; gap = p.gap; renormalisations = p.renormalisations; counts = p.counts }
+
+-- what holds of each decoder
+pub record IsReading (width gap : ℕ) : Type 0 where
+  pub least : 256 ≤ width
+  pub most : width ≤ 65280
+  pub some : 0 < gap
+  pub within : gap ≤ width

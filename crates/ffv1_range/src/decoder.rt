@@ -1,0 +1,221 @@
+//! Decisions are read.
+
+ghost use Rattle.std.specs.Prelude.{◌≡◌, ℕ, ◌+◌, ◌-◌, ◌*◌, ◌^◌, ◌≤◌, ◌<◌, ◌↔◌, IfOk, IfErr, IsErr, slice_index, slice_set, List, [], ◌∷◌, true};
+ghost use Rattle.ffv1_range.specs.Interval.{Interval, narrow, renormalised, start};
+ghost use Rattle.ffv1_range.specs.Codes.{value};
+ghost use Rattle.ffv1_range.specs.Table.{moved, Holds};
+ghost use Rattle.ffv1_range.specs.Reading.{At, paused};
+ghost use Rattle.ffv1_range.specs.Follows.{Follows};
+ghost use Rattle.ffv1_range.specs.Counts.{uncounted, counted, saturated, total};
+
+use crate::fault::Fault;
+use crate::parked::Parked;
+use crate::table::StateTable;
+use crate::tally::Tally;
+use std::marker::Model;
+
+/// A decoder of the decisions that some bytes code (RFC 9043, 3.8.1.1). Bytes behind the end are read as 0. It takes no memory.
+///
+/// It is seen as a `Reading`: its bytes, the width of its interval, how far the interval's upper end lies above the number of
+/// the bytes, how often it renormalised, and its counts. `At` says which interval that is.
+#[derive(Drop)]
+pub struct RangeDecoder<'a> {
+    pub(crate) bytes: &'a [u8],
+    pub(crate) width: u32,
+    pub(crate) gap: u32,
+    pub(crate) renormalisations: u64,
+    pub(crate) ones: u64,
+    pub(crate) zeros: u64,
+}
+
+impl<'a> Model for RangeDecoder<'a> {
+    ghost use Rattle.ffv1_range.specs.Reading.{Reading, IsReading};
+
+    ghost Value = { Reading };
+
+    ghost view = { λ r. record { bytes = r.bytes.now; width = r.width; gap = r.gap; renormalisations = r.renormalisations; counts = record { ones = r.ones; zeros = r.zeros } } };
+
+    ghost invariant = { λ r. IsReading r.width r.gap };
+}
+
+impl<'a> RangeDecoder<'a> {
+    /// Begins at the bytes. Answers `BadStart` exactly where their first two, big end first and with zeros behind the end, are
+    /// 65280 or more: such bytes code no decisions, not even none.
+    pub fn new(bytes: &'a [u8]) -> Result<RangeDecoder<'a>, Fault>
+        ensures refused { IsErr result ↔ (65280 ≤ value bytes.now 2) }
+        ensures fault { IfErr result (λ f. f ≡ Fault.BadStart) }
+        ensures bytes { IfOk result (λ r. r.bytes ≡ bytes.now) }
+        ensures at { IfOk result (λ r. At r start) }
+        ensures counts { IfOk result (λ r. r.counts ≡ uncounted) }
+    {
+        let first = if bytes.is_empty() { 0 } else { bytes[0] };
+        let second = if bytes.len() < 2 { 0 } else { bytes[1] };
+        let number = u32::from(first) * 256 + u32::from(second);
+        if number >= 65280 {
+            return Err(Fault::BadStart);
+        }
+        Ok(RangeDecoder {
+            bytes,
+            width: 65280,
+            gap: 65280 - number,
+            renormalisations: 0,
+            ones: 0,
+            zeros: 0,
+        })
+    }
+
+    /// How many decisions were read, at most 2^64 - 1.
+    pub fn taken(&self) -> u64
+        ensures { result ≡ total self.now.counts }
+    {
+        self.ones.saturating_add(self.zeros)
+    }
+
+    /// How many ones, zeros and renormalisations there were, each at most 2^64 - 1.
+    pub fn tally(&self) -> Tally
+        ensures ones { result.ones ≡ self.now.counts.ones }
+        ensures zeros { result.zeros ≡ self.now.counts.zeros }
+        ensures renormalisations { result.renormalisations ≡ self.now.renormalisations }
+    {
+        let renormalisations = self.renormalisations;
+        Tally {
+            ones: self.ones,
+            zeros: self.zeros,
+            renormalisations,
+        }
+    }
+
+    /// Lets the bytes go. It takes no memory, and is a copy of five numbers.
+    #[inline(always)]
+    pub fn park(self) -> Parked
+        ensures { result ≡ paused self.entry }
+    {
+        let (ones, zeros) = (self.ones, self.zeros);
+        Parked {
+            width: self.width,
+            gap: self.gap,
+            renormalisations: self.renormalisations,
+            ones,
+            zeros,
+        }
+    }
+
+    /// A second decoder at the same place of the same bytes. A hot loop runs on such a copy of its own, and puts it back at
+    /// its end.
+    #[inline(always)]
+    pub fn copied(&self) -> RangeDecoder<'a>
+        ensures { result ≡ self.now }
+    {
+        RangeDecoder {
+            bytes: self.bytes,
+            width: self.width,
+            gap: self.gap,
+            renormalisations: self.renormalisations,
+            ones: self.ones,
+            zeros: self.zeros,
+        }
+    }
+
+    /// The next decision, by a state that the table holds. The state moves by the decision.
+    #[inline(always)]
+    pub fn get(&mut self, table: &StateTable, state: &mut u8) -> bool
+        requires { Holds table.now state.old }
+        ensures bytes { self.new.bytes ≡ self.old.bytes }
+        ensures at { (i : Interval) → At self.old i → At self.new (narrow i state.old result) }
+        ensures follows { (states : List ℕ) (slot : ℕ) → slice_index states slot ≡ state.old →
+            Follows table.now self.old states self.new (slice_set states slot state.new) (record { slot = slot; bit = result } ∷ []) }
+        ensures counts { self.new.counts ≡ counted self.old.counts result }
+        ensures moves { state.new ≡ moved table.now state.old result }
+        ensures held { Holds table.now state.new }
+    {
+        if self.decide(table, state) {
+            self.ones = self.ones.saturating_add(1);
+            return true;
+        }
+        self.zeros = self.zeros.saturating_add(1);
+        false
+    }
+
+    /// The next decision, uncounted, by two arms: for a decision that steers what comes next.
+    #[inline(always)]
+    pub(crate) fn decide(&mut self, table: &StateTable, state: &mut u8) -> bool
+        requires { Holds table.now state.old }
+        ensures bytes { self.new.bytes ≡ self.old.bytes }
+        ensures at { (i : Interval) → At self.old i → At self.new (narrow i state.old result) }
+        ensures counts { self.new.counts ≡ self.old.counts }
+        ensures moves { state.new ≡ moved table.now state.old result }
+        ensures held { Holds table.now state.new }
+    {
+        let (width, gap) = (self.width, self.gap);
+        let before = *state;
+        let part = width * u32::from(before) / 256;
+        if gap <= part {
+            *state = table.after_one(before);
+            self.go_on(part, gap);
+            return true;
+        }
+        *state = table.after_zero(before);
+        self.go_on(width - part, gap - part);
+        false
+    }
+
+    /// The next decision, uncounted, by one choice of numbers: for a decision that is data, which no branch predicts well.
+    #[inline(always)]
+    pub(crate) fn choose(&mut self, table: &StateTable, state: &mut u8) -> bool
+        requires { Holds table.now state.old }
+        ensures bytes { self.new.bytes ≡ self.old.bytes }
+        ensures at { (i : Interval) → At self.old i → At self.new (narrow i state.old result) }
+        ensures counts { self.new.counts ≡ self.old.counts }
+        ensures moves { state.new ≡ moved table.now state.old result }
+        ensures held { Holds table.now state.new }
+    {
+        let before = *state;
+        let either = table.after_either(before);
+        let part = self.width * u32::from(before) / 256;
+        let bit = self.gap <= part;
+        let (after, width, gap) = if bit {
+            ((either % 256) as u8, part, self.gap)
+        } else {
+            ((either / 256) as u8, self.width - part, self.gap - part)
+        };
+        *state = after;
+        self.go_on(width, gap);
+        bit
+    }
+
+    /// Goes on with a part of the interval; takes a byte where it is narrower than 256.
+    #[inline(always)]
+    fn go_on(&mut self, width: u32, gap: u32)
+        requires most { width ≤ 65280 }
+        requires some { 0 < gap }
+        requires within { gap ≤ width }
+        ensures bytes { self.new.bytes ≡ self.old.bytes }
+        ensures at { (i : Interval) → At (record self.old { width = width; gap = gap }) i → At self.new (renormalised i) }
+        ensures counts { self.new.counts ≡ self.old.counts }
+    {
+        if width >= 256 {
+            self.width = width;
+            self.gap = gap;
+            return;
+        }
+        let next = self.next_byte();
+        self.width = width * 256;
+        self.gap = gap * 256 - next;
+    }
+
+    /// The byte that comes next, or 0 behind the end.
+    #[inline(always)]
+    fn next_byte(&mut self) -> u32
+        ensures byte { result ≡ slice_index self.old.bytes (self.old.renormalisations + 2) }
+        ensures below { result < 256 }
+        ensures moves { self.new ≡ record self.old { renormalisations = saturated (self.old.renormalisations + 1) } }
+    {
+        let at = self.renormalisations as usize;
+        if at < self.bytes.len().saturating_sub(2) {
+            self.renormalisations += 1;
+            return u32::from(self.bytes[at + 2]);
+        }
+        self.renormalisations = self.renormalisations.saturating_add(1);
+        0
+    }
+}

@@ -1,0 +1,244 @@
+//! Decisions are written.
+
+ghost use Rattle.std.specs.Prelude.{◌≡◌, ℕ, ◌+◌, ◌-◌, ◌*◌, ◌/◌, ◌^◌, ◌≤◌, ◌<◌, ◌++◌, List, length, replicate, slice_index, slice_set, [], ◌∷◌, IsTrue, IfOk, IfErr, IsErr, OnOk, false};
+ghost use Rattle.ffv1_range.specs.Interval.{Decision, narrow, part, renormalised, interval_of};
+ghost use Rattle.ffv1_range.specs.Codes.{value, sentinel_of, full_of, rounded_of, AreBytes, AreStates, Codes};
+ghost use Rattle.ffv1_range.specs.Table.{Table, moved, Holds};
+ghost use Rattle.ffv1_range.specs.Writing.{unwritten, interval_from, IsWriting, IsChosen};
+ghost use Rattle.ffv1_range.specs.Counts.{counted, total};
+ghost use Rattle.ffv1_range.specs.Symbols.{Step};
+ghost use Rattle.ffv1_range.specs.History.{AreBelow, decisions_after};
+ghost use Rattle.ffv1_range.specs.Puts.{Puts};
+
+use crate::fault::Fault;
+use crate::table::StateTable;
+use crate::tally::Tally;
+use std::alloc::{AllocError, Allocator, Global};
+use std::marker::Model;
+
+/// An encoder of decisions (RFC 9043, 3.8.1.1). Its bytes grow in the memory of its allocator.
+///
+/// It is seen as a `Writing`: the interval of the decisions that were put, over numbers without a limit, its counts, and
+/// whether it has failed. After a growth was refused it has failed for good: every later put and either ending answer
+/// `OutOfMemory`, and nothing of its bytes is handed out.
+#[derive(Drop)]
+pub struct RangeEncoder<A: Allocator = Global> {
+    bytes: Vec<u8, A>,
+    low: u32,
+    width: u32,
+    pub(crate) ones: u64,
+    pub(crate) zeros: u64,
+    pub(crate) failed: bool,
+}
+
+impl<A: Allocator> Model for RangeEncoder<A> {
+    ghost use Rattle.ffv1_range.specs.Writing.{Writing, IsWriting, interval_from};
+
+    ghost Value = { Writing };
+
+    ghost view = { λ w. record { interval = interval_from w.bytes.items w.low w.width; counts = record { ones = w.ones; zeros = w.zeros }; failed = w.failed } };
+
+    ghost invariant = { λ w. IsWriting w.bytes.items w.low w.width };
+}
+
+impl<A: Allocator> RangeEncoder<A> {
+    /// Nothing was put yet. It takes no memory before the first byte.
+    pub fn new(alloc: A) -> RangeEncoder<A>
+        ensures { result ≡ unwritten }
+    {
+        RangeEncoder {
+            bytes: Vec::new(alloc),
+            low: 0,
+            width: 65280,
+            ones: 0,
+            zeros: 0,
+            failed: false,
+        }
+    }
+
+    /// One decision more, by a state that the table holds. The state moves by the decision, also where the answer is
+    /// `OutOfMemory`: then a growth was refused, now or before, and the encoder has failed for good.
+    #[inline(always)]
+    pub fn put(&mut self, table: &StateTable, state: &mut u8, bit: bool) -> Result<(), Fault>
+        requires { Holds table.now state.old }
+        ensures ok { OnOk result (self.new ≡ record { interval = narrow self.old.interval state.old bit; counts = counted self.old.counts bit; failed = false }) }
+        ensures puts { OnOk result ((states : List ℕ) (slot : ℕ) → slice_index states slot ≡ state.old →
+            Puts table.now self.old states self.new (slice_set states slot state.new) (record { slot = slot; bit = bit } ∷ [])) }
+        ensures moves { state.new ≡ moved table.now state.old bit }
+        ensures held { Holds table.now state.new }
+        ensures err { IfErr result (λ f. (f ≡ Fault.OutOfMemory) × IsTrue self.new.failed) }
+        ensures stays { IsTrue self.old.failed → IsErr result }
+    {
+        let before = *state;
+        *state = if bit {
+            table.after_one(before)
+        } else {
+            table.after_zero(before)
+        };
+        if self.failed {
+            return Err(Fault::OutOfMemory);
+        }
+        self.step(before, bit)?;
+        if bit {
+            self.ones = self.ones.saturating_add(1);
+        } else {
+            self.zeros = self.zeros.saturating_add(1);
+        }
+        Ok(())
+    }
+
+    /// How many decisions were put, at most 2^64 - 1.
+    pub fn decisions(&self) -> u64
+        ensures { result ≡ total self.now.counts }
+    {
+        self.ones.saturating_add(self.zeros)
+    }
+
+    /// How many renormalisations there were.
+    pub fn renormalisations(&self) -> u64
+        ensures { result + 2 ≡ self.now.interval.count }
+    {
+        self.bytes.len() as u64
+    }
+
+    /// The bytes, by the sentinel ending: after one more decision 0 by the state 129, the least multiple of 256 that is at
+    /// least the interval's low end, without its last byte. They are as many as one and all renormalisations, that of the
+    /// last decision included. Answers `OutOfMemory` where a growth was refused, now or before; then no byte is handed out.
+    pub fn finish_sentinel(mut self) -> Result<Vec<u8, A>, Fault>
+        ensures ok { IfOk result (λ bytes. bytes.items ≡ sentinel_of self.interval) }
+        ensures long { IfOk result (λ bytes. length bytes.items + 1 ≡ (narrow self.interval 129 false).count) }
+        ensures codes { IfOk result (λ bytes. (ds : List Decision) → AreStates ds → self.interval ≡ interval_of ds → Codes bytes.items ds) }
+        ensures fresh { IfOk result (λ bytes. (t : Table) (slots : ℕ) (after : List ℕ) (steps : List Step) → AreBelow steps slots → Puts t unwritten (replicate slots 128) self after steps →
+            bytes.items ≡ sentinel_of (interval_of (decisions_after t [] steps))) }
+        ensures err { IfErr result (λ f. f ≡ Fault.OutOfMemory) }
+        ensures stays { IsTrue self.failed → IsErr result }
+    {
+        if self.failed {
+            return Err(Fault::OutOfMemory);
+        }
+        self.step(129, false)?;
+        let top = (self.low + 255) / 256;
+        let mut bytes = self.bytes;
+        emit(&mut bytes, top)?;
+        Ok(bytes)
+    }
+
+    /// The bytes, by the full ending: all bytes of the interval's low end, two more than the renormalisations. They code the
+    /// decisions whatever follows them. Answers `OutOfMemory` where a growth was refused, now or before; then no byte is
+    /// handed out.
+    pub fn finish_full(self) -> Result<Vec<u8, A>, Fault>
+        ensures ok { IfOk result (λ bytes. bytes.items ≡ full_of self.interval) }
+        ensures long { IfOk result (λ bytes. length bytes.items ≡ self.interval.count) }
+        ensures codes { IfOk result (λ bytes. (ds : List Decision) (behind : List ℕ) → AreStates ds → self.interval ≡ interval_of ds → Codes (bytes.items ++ behind) ds) }
+        ensures fresh { IfOk result (λ bytes. (t : Table) (slots : ℕ) (after : List ℕ) (steps : List Step) → AreBelow steps slots → Puts t unwritten (replicate slots 128) self after steps →
+            bytes.items ≡ full_of (interval_of (decisions_after t [] steps))) }
+        ensures err { IfErr result (λ f. f ≡ Fault.OutOfMemory) }
+        ensures stays { IsTrue self.failed → IsErr result }
+    {
+        if self.failed {
+            return Err(Fault::OutOfMemory);
+        }
+        let low = self.low;
+        let mut bytes = self.bytes;
+        emit(&mut bytes, low / 256)?;
+        emit(&mut bytes, low % 256)?;
+        Ok(bytes)
+    }
+
+    /// How many ones, zeros and renormalisations there were.
+    pub fn tally(&self) -> Tally
+        ensures ones { result.ones ≡ self.now.counts.ones }
+        ensures zeros { result.zeros ≡ self.now.counts.zeros }
+        ensures renormalisations { result.renormalisations + 2 ≡ self.now.interval.count }
+    {
+        Tally {
+            ones: self.ones,
+            zeros: self.zeros,
+            renormalisations: self.renormalisations(),
+        }
+    }
+
+    /// Narrows the interval by a decision, uncounted, and gives out a byte where it is narrower than 256.
+    #[inline(always)]
+    pub(crate) fn step(&mut self, state: u8, bit: bool) -> Result<(), Fault>
+        requires { 0 < state }
+        ensures ok { OnOk result (self.new ≡ record self.old { interval = narrow self.old.interval state bit }) }
+        ensures err { IfErr result (λ f. (f ≡ Fault.OutOfMemory) × IsTrue self.new.failed) }
+    {
+        let (low, width) = part_of(&self.bytes, self.low, self.width, state, bit);
+        if width >= 256 {
+            self.low = low;
+            self.width = width;
+            return Ok(());
+        }
+        match emit(&mut self.bytes, low / 256) {
+            Ok(()) => {
+                self.low = low % 256 * 256;
+                self.width = width * 256;
+                Ok(())
+            }
+            Err(_) => {
+                self.bytes.clear();
+                self.low = 0;
+                self.width = 65280;
+                self.failed = true;
+                Err(Fault::OutOfMemory)
+            }
+        }
+    }
+}
+
+/// The part of a decision.
+#[inline(always)]
+fn part_of(bytes: &[u8], low: u32, width: u32, state: u8, bit: bool) -> (u32, u32)
+    requires writing { IsWriting bytes.now low width }
+    requires positive { 0 < state }
+    ensures interval { interval_from bytes.now result.0 result.1 ≡ part (interval_from bytes.now low width) state bit }
+    ensures chosen { IsChosen bytes.now result.0 result.1 }
+{
+    let upper = width * u32::from(state) / 256;
+    let lower = width - upper;
+    if bit {
+        return (low + lower, upper);
+    }
+    (low, lower)
+}
+
+/// One place more of a number with its bytes big end first. A top of 256 or more carries into the bytes before.
+#[inline(always)]
+fn emit<A: Allocator>(bytes: &mut Vec<u8, A>, top: u32) -> Result<(), AllocError>
+    requires bytes_fit { AreBytes bytes.old.items }
+    requires below { top < 512 }
+    requires room { 256 * value bytes.old.items (length bytes.old.items) + top < 256 * 256 ^ length bytes.old.items }
+    ensures value { OnOk result (value bytes.new.items (length bytes.new.items) ≡ 256 * value bytes.old.items (length bytes.old.items) + top) }
+    ensures long { OnOk result (length bytes.new.items ≡ length bytes.old.items + 1) }
+    ensures bytes_fit { OnOk result (AreBytes bytes.new.items) }
+{
+    if top < 256 {
+        bytes.push(top as u8)?;
+        return Ok(());
+    }
+    carry(bytes);
+    bytes.push((top - 256) as u8)?;
+    Ok(())
+}
+
+/// Adds one to the number that the bytes are.
+#[inline(never)]
+#[cold]
+fn carry(bytes: &mut [u8])
+    requires room { value bytes.old (length bytes.old) + 1 < 256 ^ length bytes.old }
+    requires bytes_fit { AreBytes bytes.old }
+    ensures carried { value bytes.new (length bytes.new) ≡ value bytes.old (length bytes.old) + 1 }
+    ensures bytes_fit { AreBytes bytes.new }
+{
+    let mut at = bytes.len();
+    while at > 0 {
+        at -= 1;
+        if bytes[at] < 255 {
+            bytes[at] += 1;
+            return;
+        }
+        bytes[at] = 0;
+    }
+}

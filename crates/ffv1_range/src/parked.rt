@@ -1,0 +1,45 @@
+//! Decoders without their bytes.
+
+ghost use Rattle.std.specs.Prelude.{◌≡◌};
+ghost use Rattle.ffv1_range.specs.Reading.{resumed};
+
+use crate::decoder::RangeDecoder;
+use std::marker::Model;
+
+/// A decoder that has let its bytes go. It is seen as a `Pause`.
+#[derive(Drop)]
+pub struct Parked {
+    pub(crate) width: u32,
+    pub(crate) gap: u32,
+    pub(crate) renormalisations: u64,
+    pub(crate) ones: u64,
+    pub(crate) zeros: u64,
+}
+
+impl Model for Parked {
+    ghost use Rattle.ffv1_range.specs.Reading.{Pause, IsReading};
+
+    ghost Value = { Pause };
+
+    ghost view = { λ p. record { width = p.width; gap = p.gap; renormalisations = p.renormalisations; counts = record { ones = p.ones; zeros = p.zeros } } };
+
+    ghost invariant = { λ p. IsReading p.width p.gap };
+}
+
+impl Parked {
+    /// Goes on with bytes. On the bytes that it had, the decoder is as if it had never been parked; on others it is some
+    /// decoder of theirs.
+    #[inline(always)]
+    pub fn wake<'a>(self, bytes: &'a [u8]) -> RangeDecoder<'a>
+        ensures { result ≡ resumed self bytes.now }
+    {
+        RangeDecoder {
+            bytes,
+            width: self.width,
+            gap: self.gap,
+            renormalisations: self.renormalisations,
+            ones: self.ones,
+            zeros: self.zeros,
+        }
+    }
+}

@@ -1,0 +1,7 @@
+//! Values from outside the program: worked by hand and by another implementation over numbers without a limit.
+
+mod coder;
+mod definition;
+mod parking;
+mod symbols;
+mod tables;

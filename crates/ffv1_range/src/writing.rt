@@ -1,0 +1,197 @@
+//! Symbols are written: numbers by their decisions (RFC 9043, 3.8.1.2).
+
+ghost use Rattle.std.specs.Prelude.{◌≡◌, ℕ, ◌+◌, ◌*◌, ◌^◌, ◌≤◌, ◌<◌, List, [], ◌∷◌, OnOk, IfOk, IfErr, IsTrue, IsErr, length, unsigned_abs};
+ghost use Rattle.ffv1_range.specs.Symbols.{Step, AreHeld, AllHeld, shifted, exponent_steps, mantissa_steps, signed_steps, unsigned_steps};
+ghost use Rattle.ffv1_range.specs.Counts.{ones_in, Counted};
+ghost use Rattle.ffv1_range.specs.Puts.{Puts, Writes};
+
+use crate::encoder::RangeEncoder;
+use crate::fault::Fault;
+use crate::symbols::ones_below;
+use crate::table::StateTable;
+use std::alloc::Allocator;
+
+/// A decision at a slot.
+#[inline(always)]
+fn put_slot<A: Allocator>(
+    encoder: &mut RangeEncoder<A>,
+    table: &StateTable,
+    states: &mut [u8],
+    slot: usize,
+    bit: bool,
+) -> Result<(), Fault>
+    requires held { AreHeld table.now states.old }
+    requires slot { slot < 32 }
+    ensures writes { OnOk result (Writes table.now encoder.old states.old encoder.new states.new (record { slot = slot; bit = bit } ∷ [])) }
+    ensures held { AreHeld table.now states.new }
+    ensures err { IfErr result (λ f. (f ≡ Fault.OutOfMemory) × IsTrue encoder.new.failed) }
+{
+    let before = states[slot];
+    states[slot] = if bit {
+        table.after_one(before)
+    } else {
+        table.after_zero(before)
+    };
+    encoder.step(before, bit)?;
+    Ok(())
+}
+
+/// An exponent.
+#[inline(always)]
+fn put_exponent<A: Allocator>(
+    encoder: &mut RangeEncoder<A>,
+    table: &StateTable,
+    states: &mut [u8],
+    exponent: u32,
+) -> Result<(), Fault>
+    requires { AreHeld table.now states.old }
+    ensures writes { OnOk result (Writes table.now encoder.old states.old encoder.new states.new (exponent_steps exponent)) }
+    ensures held { AreHeld table.now states.new }
+    ensures err { IfErr result (λ f. (f ≡ Fault.OutOfMemory) × IsTrue encoder.new.failed) }
+{
+    let few = exponent.min(9);
+    for k in 0..few {
+        put_slot(encoder, table, states, 1 + k as usize, true)?;
+    }
+    'more: for _k in few..exponent {
+        put_slot(encoder, table, states, 10, true)?;
+    }
+    put_slot(encoder, table, states, 1 + few as usize, false)?;
+    Ok(())
+}
+
+/// The lowest bits of a number, from the highest of them down.
+#[inline(always)]
+fn put_mantissa<A: Allocator>(
+    encoder: &mut RangeEncoder<A>,
+    table: &StateTable,
+    states: &mut [u8],
+    exponent: u32,
+    number: u32,
+) -> Result<(), Fault>
+    requires held { AreHeld table.now states.old }
+    requires small { exponent < 32 }
+    ensures writes { OnOk result (Writes table.now encoder.old states.old encoder.new states.new (mantissa_steps exponent 0 number)) }
+    ensures held { AreHeld table.now states.new }
+    ensures err { IfErr result (λ f. (f ≡ Fault.OutOfMemory) × IsTrue encoder.new.failed) }
+{
+    let few = exponent.min(9);
+    'high: for place in (few..exponent).rev() {
+        put_slot(encoder, table, states, 31, (number >> place) % 2 == 1)?;
+    }
+    for place in (0..few).rev() {
+        put_slot(
+            encoder,
+            table,
+            states,
+            22 + place as usize,
+            (number >> place) % 2 == 1,
+        )?;
+    }
+    Ok(())
+}
+
+impl<A: Allocator> RangeEncoder<A> {
+    /// The symbol of a signed number of a size below 2^31, by 32 states that the table holds. The states move by the
+    /// decisions. Answers `OutOfMemory` where a growth was refused, now or before: the encoder has failed for good, and the
+    /// states are still held by the table.
+    #[inline(always)]
+    pub fn put_signed(
+        &mut self,
+        table: &StateTable,
+        states: &mut [u8],
+        value: i32,
+    ) -> Result<(), Fault>
+        requires held { AreHeld table.now states.old }
+        requires size { unsigned_abs value < 2 ^ 31 }
+        ensures ok { OnOk result (Puts table.now self.old states.old self.new states.new (signed_steps value)) }
+        ensures held { AreHeld table.now states.new }
+        ensures err { IfErr result (λ f. (f ≡ Fault.OutOfMemory) × IsTrue self.new.failed) }
+        ensures stays { IsTrue self.old.failed → IsErr result }
+    {
+        if self.failed {
+            return Err(Fault::OutOfMemory);
+        }
+        let number = value.unsigned_abs();
+        if number == 0 {
+            put_slot(self, table, states, 0, true)?;
+            self.count(1, 0);
+            return Ok(());
+        }
+        put_slot(self, table, states, 0, false)?;
+        let exponent = 31 - number.leading_zeros();
+        put_exponent(self, table, states, exponent)?;
+        put_mantissa(self, table, states, exponent, number)?;
+        let slot = 11 + exponent.min(10) as usize;
+        put_slot(self, table, states, slot, value < 0)?;
+        let ones = exponent + ones_below(number) + u32::from(value < 0);
+        self.count(ones, 2 * exponent + 3 - ones);
+        Ok(())
+    }
+
+    /// The symbol of a number without a sign, below 2^31, by 32 states that the table holds. All else is as with `put_signed`.
+    #[inline(always)]
+    pub fn put_unsigned(
+        &mut self,
+        table: &StateTable,
+        states: &mut [u8],
+        number: u32,
+    ) -> Result<(), Fault>
+        requires held { AreHeld table.now states.old }
+        requires size { number < 2 ^ 31 }
+        ensures ok { OnOk result (Puts table.now self.old states.old self.new states.new (unsigned_steps number)) }
+        ensures held { AreHeld table.now states.new }
+        ensures err { IfErr result (λ f. (f ≡ Fault.OutOfMemory) × IsTrue self.new.failed) }
+        ensures stays { IsTrue self.old.failed → IsErr result }
+    {
+        if self.failed {
+            return Err(Fault::OutOfMemory);
+        }
+        if number == 0 {
+            put_slot(self, table, states, 0, true)?;
+            self.count(1, 0);
+            return Ok(());
+        }
+        put_slot(self, table, states, 0, false)?;
+        let exponent = 31 - number.leading_zeros();
+        put_exponent(self, table, states, exponent)?;
+        put_mantissa(self, table, states, exponent, number)?;
+        let ones = exponent + ones_below(number);
+        self.count(ones, 2 * exponent + 2 - ones);
+        Ok(())
+    }
+
+    /// The symbol of a signed number, by row `row` of many states, 32 a row. All else is as with `put_signed`.
+    #[inline(always)]
+    pub fn put_signed_in_row(
+        &mut self,
+        table: &StateTable,
+        states: &mut [u8],
+        row: usize,
+        value: i32,
+    ) -> Result<(), Fault>
+        requires rows { row * 32 + 32 ≤ length states.old }
+        requires held { AllHeld table.now states.old }
+        requires size { unsigned_abs value < 2 ^ 31 }
+        ensures ok { OnOk result (Puts table.now self.old states.old self.new states.new (shifted (row * 32) (signed_steps value))) }
+        ensures held { AllHeld table.now states.new }
+        ensures err { IfErr result (λ f. (f ≡ Fault.OutOfMemory) × IsTrue self.new.failed) }
+        ensures stays { IsTrue self.old.failed → IsErr result }
+    {
+        let base = row * 32;
+        match self.put_signed(table, &mut states[base..base + 32], value) {
+            Ok(()) => Ok(()),
+            Err(refused) => Err(refused),
+        }
+    }
+
+    /// Counts the decisions of a symbol.
+    #[inline(always)]
+    fn count(&mut self, ones: u32, zeros: u32)
+        ensures counts { (steps : List Step) → ones ≡ ones_in steps → ones + zeros ≡ length steps → Counted self.old.counts steps self.new.counts }
+        ensures rest { self.new ≡ record self.old { counts = self.new.counts } }
+    {
+        self.ones = self.ones.saturating_add(u64::from(ones));
+        self.zeros = self.zeros.saturating_add(u64::from(zeros));
+    }
+}

@@ -1,0 +1,7 @@
+//! Tests that cross crates.
+
+mod coder;
+mod lines;
+mod orders;
+mod refusals;
+mod trials;

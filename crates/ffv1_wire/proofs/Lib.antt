@@ -1,0 +1,4 @@
+pub mod Bytes
+pub mod LentLines
+pub mod Runs
+pub mod Results

@@ -1,0 +1,6 @@
+pub mod Failures
+pub mod Lines
+pub mod Reads
+pub mod Runs
+pub mod Wrappers
+pub mod Writes

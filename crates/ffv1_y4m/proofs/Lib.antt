@@ -1,0 +1,6 @@
+mod Numbers
+mod Words
+mod Lines
+mod Textual
+mod Frames
+mod Sizes

@@ -1,0 +1,193 @@
+-- The header line of YUV4MPEG2, as MJPEG Tools write it (yuv4mpeg(5)): which head a text begins with, or the first
+-- fault from the left.
+use Rattle.std.specs.Prelude.{◌≡◌, ℕ, ◌+◌, ◌<◌, ◌^◌, ◌==◌, ◌&&◌, ◌||◌, Bool, true, false, if◌then◌else◌, nat_eq, nat_lt, nat_le, List, [], ◌∷◌, length, take, drop, codes, decimal, Option, Some, None, Result, Ok, Err}
+use Rattle.std.specs.Borrow.{Bor}
+use Rattle.std.specs.List.{position}
+use lib.Pointwise.{pointwise}
+use Rattle.std.specs.Option.{option_and_then}
+use Rattle.std.specs.Str.Parse.{digits_value}
+use Rattle.ffv1_y4m.specs.declared.head.VideoHead.{VideoHead}
+use Rattle.ffv1_y4m.specs.declared.tags.Chroma.{Chroma}
+use Rattle.ffv1_y4m.specs.declared.tags.Tags.{Tags}
+use Rattle.ffv1_y4m.specs.declared.fault.Fault.{Fault}
+use Rattle.ffv1_y4m.specs.declared.fault.Fault.TheVariants as fault
+
+-- what stands before and behind the first such byte, where there is one
+abbrev pub IsSplitOnce : ℕ → List ℕ → Option (Bor (List ℕ) × Bor (List ℕ)) → Type 0
+IsSplitOnce byte text None = position (λ c. c == byte) text ≡ None
+IsSplitOnce byte text (Some p) =
+    (at : ℕ) × (position (λ c. c == byte) text ≡ Some at) × (p.0.now ≡ take at text) × (p.1.now ≡ drop (at + 1) text) × (at < length text)
+
+-- the text is this name
+abbrev pub is_text : List ℕ → List ℕ → Bool
+is_text text name = pointwise nat_eq text name
+
+-- the number below 2 ^ 32 whose one decimal spelling the text is
+unfoldable pub number_of : List ℕ → Option ℕ
+number_of text =
+    if nat_lt (digits_value 10 text) (2 ^ 32) && pointwise nat_eq text (decimal (digits_value 10 text))
+    then Some (digits_value 10 text) else None
+
+-- a number within these bounds
+abbrev pub within : ℕ → ℕ → ℕ → Option ℕ
+within least most n = if nat_le least n && nat_le n most then Some n else None
+
+-- a width or a height, from 1 to 8192
+unfoldable pub size_of : List ℕ → Option ℕ
+size_of value = option_and_then (within 1 8192) (number_of value)
+
+-- a number of at most so much
+unfoldable pub capped_of : ℕ → List ℕ → Option ℕ
+capped_of most text = option_and_then (within 0 most) (number_of text)
+
+-- two numbers, both zero or neither
+abbrev pub pair_of : ℕ → ℕ → Option (ℕ × ℕ)
+pair_of n d = if n == 0 then (if d == 0 then Some (n, d) else None) else (if d == 0 then None else Some (n, d))
+
+-- two numbers of at most so much, in two texts; both zero or neither
+abbrev pub both_of : Option ℕ → Option ℕ → Option (ℕ × ℕ)
+both_of None second = None
+both_of (Some n) None = None
+both_of (Some n) (Some d) = pair_of n d
+
+-- the texts before and behind a colon
+abbrev pub parted_of : ℕ → List ℕ → Option ℕ → Option (ℕ × ℕ)
+parted_of most value None = None
+parted_of most value (Some colon) = both_of (capped_of most (take colon value)) (capped_of most (drop (colon + 1) value))
+
+-- two numbers of at most so much, joined by a colon; both zero or neither
+abbrev pub ratio_of : ℕ → List ℕ → Option (ℕ × ℕ)
+ratio_of most value = parted_of most value (position (λ c. c == 58) value)
+
+-- chroma planes of these sizes
+abbrev pub chroma_planes : ℕ → ℕ → Chroma
+chroma_planes log2_h log2_v = record { planes = true; log2_h = log2_h; log2_v = log2_v; extra = false }
+
+-- the chroma of the names for no chroma, and for a plane of transparency
+abbrev pub other_chroma_of : List ℕ → Option Chroma
+other_chroma_of value =
+    if is_text value (codes "444alpha") then Some (record { planes = true; log2_h = 0; log2_v = 0; extra = true })
+    else if is_text value (codes "mono") then Some (record { planes = false; log2_h = 0; log2_v = 0; extra = false })
+    else None
+
+-- the chroma of a name
+unfoldable pub chroma_of : List ℕ → Option Chroma
+chroma_of value =
+    if is_text value (codes "420jpeg") || (is_text value (codes "420mpeg2") || is_text value (codes "420paldv")) then Some (chroma_planes 1 1)
+    else if is_text value (codes "422") then Some (chroma_planes 1 0)
+    else if is_text value (codes "444") then Some (chroma_planes 0 0)
+    else if is_text value (codes "411") then Some (chroma_planes 2 0)
+    else other_chroma_of value
+
+-- the structure of a picture: progressive, top first, bottom first, unknown; mixed is not supported
+unfoldable pub structure_of : List ℕ → Result ℕ Fault
+structure_of value =
+    if is_text value (codes "p") then Ok 3
+    else if is_text value (codes "t") then Ok 1
+    else if is_text value (codes "b") then Ok 2
+    else if is_text value (codes "?") then Ok 0
+    else if is_text value (codes "m") then Err fault.Unsupported
+    else Err fault.Tag
+
+-- nothing said yet
+abbrev pub no_tags : Tags
+no_tags = record { width = None; height = None; rate = None; structure = None; aspect = None; chroma = None }
+
+infixl 10 ◌>>=◌
+abbrev pub ◌>>=◌ : {X Y : Type 0} → Result X Fault → (X → Result Y Fault) → Result Y Fault
+(Ok x) >>= next = next x
+(Err f) >>= next = Err f
+
+-- a value for the first time, where it is one; the second time comes first
+abbrev pub first_value : {X Y : Type 0} → Option X → Option Y → Fault → Result Y Fault
+first_value (Some old) new refusal = Err fault.Tag
+first_value None None refusal = Err refusal
+first_value None (Some x) refusal = Ok x
+
+-- the same of a value that names its own fault
+abbrev pub first_answer : {X Y : Type 0} → Option X → Result Y Fault → Result Y Fault
+first_answer (Some old) new = Err fault.Tag
+first_answer None new = new
+
+-- the tags with one more, by its letter: W H F I A C X
+unfoldable pub tagged : Tags → ℕ → List ℕ → Result Tags Fault
+tagged t letter value =
+    if letter == 87 then (first_value t.width (size_of value) fault.Tag >>= λ n. Ok (record t { width = Some n }))
+    else if letter == 72 then (first_value t.height (size_of value) fault.Tag >>= λ n. Ok (record t { height = Some n }))
+    else if letter == 70 then (first_value t.rate (ratio_of 4294967295 value) fault.Tag >>= λ r. Ok (record t { rate = Some r }))
+    else if letter == 73 then (first_answer t.structure (structure_of value) >>= λ s. Ok (record t { structure = Some s }))
+    else if letter == 65 then (first_value t.aspect (ratio_of 65535 value) fault.Tag >>= λ r. Ok (record t { aspect = Some r }))
+    else if letter == 67 then (first_value t.chroma (chroma_of value) fault.Unsupported >>= λ c. Ok (record t { chroma = Some c }))
+    else if letter == 88 then Ok t
+    else Err fault.Tag
+
+-- one word of the line: a letter and its value
+abbrev pub judged : Tags → List ℕ → Result Tags Fault
+judged t [] = Err fault.Tag
+judged t (letter ∷ value) = tagged t letter value
+
+-- the words of a line, between single spaces
+abbrev pub onto_first : ℕ → List (List ℕ) → List (List ℕ)
+onto_first c [] = (c ∷ []) ∷ []
+onto_first c (word ∷ words) = (c ∷ word) ∷ words
+
+abbrev pub words_of : List ℕ → List (List ℕ)
+words_of [] = [] ∷ []
+words_of (c ∷ cs) = if c == 32 then [] ∷ words_of cs else onto_first c (words_of cs)
+
+-- all words, from left to right
+abbrev pub all_judged : Tags → List (List ℕ) → Result Tags Fault
+all_judged t [] = Ok t
+all_judged t (word ∷ words) = judged t word >>= λ u. all_judged u words
+
+-- a value, or what stands in its place
+abbrev pub or_else : {X : Type 0} → Option X → X → X
+or_else (Some x) d = x
+or_else None d = d
+
+-- the head that the tags give, once there are both sizes; without them no rate, an unknown structure and aspect, and 4:2:0
+abbrev pub head_from : ℕ → ℕ → ℕ × ℕ → ℕ → ℕ × ℕ → Chroma → VideoHead
+head_from width height rate structure aspect chroma = record {
+  width = width;
+  height = height;
+  rate = rate.0;
+  scale = rate.1;
+  structure = structure;
+  sar_num = aspect.0;
+  sar_den = aspect.1;
+  chroma_planes = chroma.planes;
+  log2_h = chroma.log2_h;
+  log2_v = chroma.log2_v;
+  extra_plane = chroma.extra;
+}
+
+-- a size that has to be there
+abbrev pub present : Option ℕ → Result ℕ Fault
+present None = Err fault.Tag
+present (Some n) = Ok n
+
+unfoldable pub head_of_tags : Tags → Result VideoHead Fault
+head_of_tags t = do
+  width ← present t.width
+  height ← present t.height
+  Ok (head_from width height (or_else t.rate (0, 0)) (or_else t.structure 0) (or_else t.aspect (0, 0)) (or_else t.chroma (chroma_planes 1 1)))
+
+-- the head of a header line, given without its line feed
+unfoldable pub head_of_line : List ℕ → Result VideoHead Fault
+head_of_line line =
+    if is_text line (codes "YUV4MPEG2") then Err fault.Tag
+    else if is_text (take 10 line) (codes "YUV4MPEG2 ") then (all_judged no_tags (words_of (drop 10 line)) >>= head_of_tags)
+    else Err fault.Header
+
+-- where the line feed of a header line stands: among the first 1025 bytes
+abbrev pub line_end : List ℕ → Option ℕ
+line_end text = position (λ c. c == 10) (take 1025 text)
+
+-- the head and what stands behind its line, or the first fault
+abbrev pub ended_at : List ℕ → Option ℕ → Result (VideoHead × List ℕ) Fault
+ended_at text None = Err fault.Header
+ended_at text (Some end) = head_of_line (take end text) >>= λ head. Ok (head, drop (end + 1) text)
+
+-- a text's header: its line of at most 1024 bytes and the line feed
+abbrev pub header_of : List ℕ → Result (VideoHead × List ℕ) Fault
+header_of text = ended_at text (line_end text)

@@ -1,0 +1,4 @@
+pub mod VideoHead
+pub mod Header
+pub mod Pictures
+pub mod Reads
