@@ -1,5 +1,5 @@
 -- Bytes in hexadecimal, one by one.
-use Rattle.std.proofs.Common.{◌≡◌, ℕ, ◌+◌, ◌*◌, ◌<◌, ◌/◌, ◌%◌, List, [], ◌∷◌, ◌++◌, take, set, length, get_or, refl, sym, ◌∙◌, ap, append_assoc, add-one, arith}
+use Rattle.std.proofs.Common.{◌≡◌, ℕ, ◌+◌, ◌*◌, ◌<◌, ◌/◌, ◌%◌, List, [], ◌∷◌, ◌++◌, take, set, length, get_or, refl, ◌∙◌, ap, append_assoc, add-one, arith}
 use Rattle.std.proofs.Math.Seq.{take-suc, lt-length-set}
 use Rattle.std.proofs.lemmas.Grind.{take-set_at}
 use Rattle.ffv1_engine.specs.Report.{hexadecimal, digit_of}

@@ -1,10 +1,9 @@
 -- How many decisions a plane takes.
-use Rattle.std.proofs.Common.{◌≡◌, ℕ, ◌+◌, ◌-◌, ◌*◌, ◌^◌, ◌<◌, ◌≤◌, List, length, min, refl, sym, ◌∙◌, ap, arith}
+use Rattle.std.proofs.Common.{◌≡◌, ℕ, ◌+◌, ◌*◌, ◌^◌, ◌≤◌, List, length, refl, ◌∙◌, arith}
 use Rattle.ffv1_range.specs.Counts.{Counts, Counted, uncounted, saturated, total}
-use Rattle.ffv1_range.specs.Symbols.{Step}
 use Rattle.ffv1_plane.specs.Quantisation.{Set}
 use Rattle.ffv1_line.specs.Cell.{cell_of}
-use Rattle.ffv1_line.specs.Length.{cell_decisions, residuals_in}
+use Rattle.ffv1_line.specs.Length.{cell_decisions}
 use Rattle.ffv1_line.proofs.Lengths.{cell_length, cell_most, chosen_rows_small, chosen_rows_many}
 use Rattle.ffv1_engine.specs.Plane.{plane_residuals, plane_steps}
 

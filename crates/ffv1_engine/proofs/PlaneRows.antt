@@ -1,5 +1,5 @@
 -- The rows of a plane, one by one.
-use Rattle.std.proofs.Common.{◌≡◌, ℕ, ◌+◌, ◌-◌, ◌*◌, ◌<◌, ◌≤◌, List, take, drop, length, refl, sym, ◌∙◌, ap, arith, suc, length-take, length-drop}
+use Rattle.std.proofs.Common.{◌≡◌, ℕ, ◌+◌, ◌-◌, ◌*◌, ◌<◌, List, take, drop, length, ◌∙◌, arith, suc, length-take, length-drop}
 use Rattle.std.proofs.Math.Nat.{mul-le-mul_left}
 use Rattle.ffv1_line.specs.Cell.{Shows, cell_of}
 use Rattle.ffv1_line.proofs.Cells.{shows_inside}

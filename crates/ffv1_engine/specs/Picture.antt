@@ -1,5 +1,5 @@
 -- The first picture of a text, where it is mono.
-use Rattle.std.specs.Prelude.{◌≡◌, ℕ, ◌*◌, ◌≤◌, Bool, true, false, if◌then◌else◌, List, length, Option, Some, None, Result, Ok, Err, ⊤}
+use Rattle.std.specs.Prelude.{◌≡◌, ℕ, ◌*◌, ◌≤◌, Bool, if◌then◌else◌, List, length, Option, Some, None, Result, Ok, Err, ⊤}
 use Rattle.ffv1_wire.specs.Failures.{one_more}
 use Rattle.ffv1_y4m.specs.Header.{header_of}
 use Rattle.ffv1_y4m.specs.Pictures.{frame_begun, plane_read}

@@ -1,7 +1,7 @@
 //! A range encoder whose growth is refused.
 
 ghost use Rattle.std.specs.Prelude.{replicate};
-ghost use Rattle.ffv1_range.specs.Table.{AreHeld};
+ghost use Rattle.ffv1_range.specs.Symbols.{AreHeld};
 
 use crate::Scarce;
 use ffv1_range::{Fault, RangeEncoder, StateTable};

@@ -1,4 +1,4 @@
-use Rattle.std.proofs.Common.{rules, arith, ◌∙◌, ◌≡◌, sym, Option, Some, None, List, ℕ, Bor, option_map, IfSome}
+use Rattle.std.proofs.Common.{◌∙◌, ◌≡◌, sym, Option, Some, None, List, ℕ, Bor, option_map, IfSome}
 use Rattle.clap.proofs.WalkLemmas.{first_value-rows}
 use Rattle.clap.specs.Words.{found_of}
 use Rattle.ffv1_engine.proofs.command_line.path.Goals as goal

@@ -1,5 +1,5 @@
-use Rattle.std.proofs.Common.{rules, arith, ◌∙◌, ◌≡◌, sym, ap, ap₂, refl, subst, option_map, map, Option, Some, None, List, ℕ, true}
-use Rattle.clap.specs.Words.{App, Row, Text, app_of, is_simple, subcommand_of, subcommand_rows_of, rows_of, found_of}
+use Rattle.std.proofs.Common.{◌∙◌, ◌≡◌, sym, ap, ap₂, refl, subst, option_map, map, Option, Some, None, List, true}
+use Rattle.clap.specs.Words.{Row, Text, is_simple, subcommand_of, rows_of, found_of}
 use Rattle.clap.proofs.OnLiterals.{clap_on_literals}
 use Rattle.ffv1_engine.specs.CommandLine.{line_app, Names}
 use Rattle.ffv1_engine.proofs.command_line.words.Goals as goal

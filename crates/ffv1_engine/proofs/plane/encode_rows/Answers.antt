@@ -1,4 +1,4 @@
-use Rattle.std.proofs.Common.{◌≡◌, ◌+◌, ◌-◌, ◌*◌, ◌∙◌, sym, ap, subst, suc, length, replicate, List, ℕ, arith}
+use Rattle.std.proofs.Common.{◌≡◌, ◌+◌, ◌∙◌, subst, suc, length, ℕ, arith}
 use Rattle.std.proofs.lemmas.List.{length-replicate}
 use Rattle.ffv1_line.specs.Cell.{Shows, cell_of}
 use Rattle.ffv1_line.proofs.Cells.{shows_over, cell_none, cell_next}
