@@ -1,6 +1,8 @@
 //! The program `ffv1`: its arguments, its files, what it prints and its exit status. All else is `ffv1_engine`.
 #![tactic(auto)]
 
+ghost use Rattle.std.specs.Prelude.{◌≡◌, IsOk, IsErr};
+
 use ffv1_engine::{Fault, Order, trial, words};
 use ffv1_wire::{FromRead, ToWrite};
 use std::alloc::Global;
@@ -25,6 +27,17 @@ fn run(rt: &(impl Files + Print), alloc: Global, order: Order<'_>) -> Result<(),
     }
 }
 
+/// The exit status of an order: 0 where it was done, 1 for a fault.
+fn status_of(done: Result<(), Fault>) -> u8
+    ensures ok { IsOk done → result ≡ 0 }
+    ensures err { IsErr done → result ≡ 1 }
+{
+    match done {
+        Ok(()) => 0,
+        Err(_) => 1,
+    }
+}
+
 /// Reads the command line and does what it asks for: status 0 for success, 1 for a fault, which is one line on standard error, and 2
 /// for a command line that is refused.
 fn command(rt: &HostRuntime, alloc: Global) -> io::Result<ExitCode> {
@@ -35,13 +48,13 @@ fn command(rt: &HostRuntime, alloc: Global) -> io::Result<ExitCode> {
             eprint!(rt; "{error}")?;
             Ok(ExitCode::from(2))
         }
-        Ok(order) => match run(rt, alloc, order) {
-            Ok(()) => Ok(ExitCode::SUCCESS),
-            Err(fault) => {
+        Ok(order) => {
+            let done = run(rt, alloc, order);
+            if let Err(fault) = done {
                 eprintln!(rt; "ffv1: {fault}")?;
-                Ok(ExitCode::from(1))
             }
-        },
+            Ok(ExitCode::from(status_of(done)))
+        }
     }
 }
 
