@@ -39,14 +39,18 @@ fn status_of(done: Result<(), Fault>) -> u8
 }
 
 /// Reads the command line and does what it asks for: status 0 for success, 1 for a fault, which is one line on standard error, and 2
-/// for a command line that is refused.
+/// for a command line that is refused, for which clap says why on standard error. A line that asks for help gets it, with status 0.
 fn command(rt: &HostRuntime, alloc: Global) -> io::Result<ExitCode> {
     let arguments: Vec<String> = env::args(rt)?.collect(alloc)?;
     let texts: Vec<&str> = arguments.iter().map(|a| a.as_str()).collect(alloc)?;
     match words(alloc, texts.as_slice()) {
         Err(error) => {
-            eprint!(rt; "{error}")?;
-            Ok(ExitCode::from(2))
+            error.print(rt)?;
+            Ok(if error.use_stderr() {
+                ExitCode::from(2)
+            } else {
+                ExitCode::SUCCESS
+            })
         }
         Ok(order) => {
             let done = run(rt, alloc, order);
