@@ -7,6 +7,7 @@ ghost use Rattle.ffv1_plane.specs.Quantisation.{contexts_of};
 ghost use Rattle.ffv1_line.specs.Row.{refused_steps};
 ghost use Rattle.ffv1_line.specs.Decoded.{Sampled, Lined, Refused, SameFrom};
 
+use crate::neighbours::right_above;
 use ffv1_plane::{Around, QuantSet, context, predict, sample_from};
 use ffv1_range::{RangeDecoder, StateTable};
 use std::alloc::Allocator;
@@ -74,7 +75,7 @@ fn decode_row<B: Allocator>(
     let mut t = one[0];
     let last = cur.len() - 1;
     for x in 0..cur.len() {
-        let tr = one[(x + 1).min(last)];
+        let tr = right_above(one, x, last, t);
         let around = Around {
             l,
             t,

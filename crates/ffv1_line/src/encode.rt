@@ -1,6 +1,6 @@
 //! A row is encoded.
 
-ghost use Rattle.std.specs.Prelude.{◌≡◌, ℕ, ◌+◌, ◌*◌, ◌^◌, ◌≤◌, ◌<◌, ◌⊎◌, OnOk, IfErr, IsTrue, IsErr, length};
+ghost use Rattle.std.specs.Prelude.{◌≡◌, ℕ, ◌+◌, ◌*◌, ◌^◌, ◌≤◌, ◌<◌, ◌⊎◌, OnOk, IfErr, IsTrue, IsErr, length, false};
 ghost use Rattle.ffv1_range.specs.Symbols.{AllHeld};
 ghost use Rattle.ffv1_range.specs.Puts.{Puts};
 ghost use Rattle.ffv1_range.specs.declared.fault.Fault.TheVariants as fault;
@@ -11,6 +11,7 @@ ghost use Rattle.ffv1_plane.specs.Residual.{chosen_of};
 ghost use Rattle.ffv1_line.specs.Row.{sample_steps};
 ghost use Rattle.ffv1_line.specs.Encoded.{Written};
 
+use crate::neighbours::right_above;
 use ffv1_plane::{Around, QuantSet, context, predict, residual_of};
 use ffv1_range::{Fault, RangeEncoder, StateTable};
 use std::alloc::Allocator;
@@ -26,13 +27,13 @@ fn encode_sample<A: Allocator, B: Allocator>(
     sample: u16,
     bits: u8,
 ) -> Result<(), Fault>
+    requires sound { encoder.old.failed ≡ false }
     requires bits { (bits ≡ 8) ⊎ (bits ≡ 9) }
     requires rows { length states.old ≡ contexts_of set.now * 32 }
     requires held { AllHeld table.now states.old }
     ensures ok { OnOk result (Puts table.now encoder.old states.old encoder.new states.new (sample_steps set.now around.now (chosen_of bits (predicted around.now) (flip_of set.now around.now) sample))) }
     ensures held { AllHeld table.now states.new }
     ensures err { IfErr result (λ f. (f ≡ fault.OutOfMemory) × IsTrue encoder.new.failed) }
-    ensures stays { IsTrue encoder.old.failed → IsErr result }
 {
     let (size, flip) = context(set, around);
     let residual = residual_of(predict(around), flip, sample, bits);
@@ -73,13 +74,16 @@ pub fn encode_line<A: Allocator, B: Allocator>(
     ensures err { IfErr result (λ f. (f ≡ fault.OutOfMemory) × IsTrue encoder.new.failed) }
     ensures stays { IsTrue encoder.old.failed → IsErr result }
 {
+    if encoder.has_failed() {
+        return Err(Fault::OutOfMemory);
+    }
     let mut ll = 0u16;
     let mut l = one[0];
     let mut tl = two[0];
     let mut t = one[0];
     let last = cur.len() - 1;
     for x in 0..cur.len() {
-        let tr = one[(x + 1).min(last)];
+        let tr = right_above(one, x, last, t);
         let sample = cur[x];
         let around = Around {
             l,

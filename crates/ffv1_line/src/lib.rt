@@ -4,8 +4,12 @@
 pub mod decode;
 pub mod encode;
 pub mod laws;
+mod neighbours;
 pub mod states;
 
 pub use decode::{TooLong, decode_line};
 pub use encode::encode_line;
 pub use states::reset;
+
+#[cfg(test)]
+mod tests;

@@ -26,7 +26,8 @@ pub fn fold(d: i32, bits: u8) -> i32
     ensures size { unsigned_abs result ≤ 2 ^ (bits - 1) }
 {
     if bits == 8 {
-        return lowest(d.wrapping_add(128), 8) as i32 - 128;
+        let byte = lowest(d, 8) as u8;
+        return i32::from(byte.cast_signed());
     }
     lowest(d.wrapping_add(256), 9) as i32 - 256
 }

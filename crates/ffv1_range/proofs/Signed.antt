@@ -60,12 +60,10 @@ pub magnitude_writes : (t : Table) (a b c d : Writing) (ss ts us vs : List ℕ) 
 magnitude_writes t a b c d ss ts us vs n first second third =
     writes_append t a c d ss us vs _ _ (writes_append t a b c ss ts us _ _ first second) third
 
-pub sized_writes : (t : Table) (a b c d e : Writing) (ss ts us vs ws : List ℕ) (n : ℕ) (negative : Bool) →
-    Writes t a ss b ts (record { slot = 0; bit = false } ∷ []) → Writes t b ts c us (exponent_steps (exponent n)) →
-    Writes t c us d vs (mantissa_steps (exponent n) 0 n) → Writes t d vs e ws (record { slot = 11 + min (exponent n) 10; bit = negative } ∷ []) →
+pub number_writes : (t : Table) (a d e : Writing) (ss vs ws : List ℕ) (n : ℕ) (negative : Bool) →
+    Writes t a ss d vs (magnitude_steps n) → Writes t d vs e ws (record { slot = 11 + min (exponent n) 10; bit = negative } ∷ []) →
     Writes t a ss e ws (sized_steps n negative)
-sized_writes t a b c d e ss ts us vs ws n negative first second third last =
-    writes_append t a d e ss vs ws _ _ (magnitude_writes t a b c d ss ts us vs n first second third) last
+number_writes t a d e ss vs ws n negative first last = writes_append t a d e ss vs ws _ _ first last
 
 pub unsigned_is : (n : ℕ) → 0 < n → unsigned_steps n ≡ magnitude_steps n
 unsigned_is zero h = absurd (omega arith)

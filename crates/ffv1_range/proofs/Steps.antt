@@ -104,13 +104,13 @@ writes_append t a b c ss ts us xs ys first second = record {
   named = rw (decided-append t ss xs ys, ← first.moves) (AreStates-append (decided t ss xs) (decided t ts ys) first.named second.named);
 }
 
--- steps that are counted when they have been written
-pub writes_counted : (t : Table) (a b c : Writing) (ss ts : List ℕ) (xs : List Step) →
-    Writes t a ss b ts xs → c ≡ record { interval = b.interval; counts = c.counts; failed = b.failed } → Counted b.counts xs c.counts → Puts t a ss c ts xs
-writes_counted t a b c ss ts xs writes same counts = record {
-  interval = ap (λ (w : Writing). w.interval) same ∙ writes.interval;
-  counts = subst (λ (k : Counts). Counted k xs c.counts) writes.counts counts;
-  failed = ap (λ (w : Writing). w.failed) same ∙ writes.failed;
+-- steps that are counted when they have been written, by a copy of the encoder's interval
+pub writes_counted : (t : Table) (a b c d : Writing) (ss ts : List ℕ) (xs : List Step) →
+    Writes t a ss b ts xs → a.interval ≡ c.interval → d.interval ≡ b.interval → d.failed ≡ c.failed → Counted c.counts xs d.counts → Puts t c ss d ts xs
+writes_counted t a b c d ss ts xs writes before after failed counts = record {
+  interval = after ∙ writes.interval ∙ ap (λ i. narrowed i (decided t ss xs)) before;
+  counts = counts;
+  failed = failed;
   moves = writes.moves;
   named = writes.named;
 }

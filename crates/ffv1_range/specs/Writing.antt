@@ -18,6 +18,10 @@ unwritten = record { interval = start; counts = uncounted; failed = false }
 abbrev pub interval_from : List ℕ → ℕ → ℕ → Interval
 interval_from bytes low width = record { low = 65536 * value bytes (length bytes) + low; width = width; count = length bytes + 2 }
 
+-- an encoder of this interval, before its counts
+abbrev pub standing : List ℕ → ℕ → ℕ → Writing
+standing bytes low width = record { interval = interval_from bytes low width; counts = uncounted; failed = false }
+
 -- what holds of each encoder: a carry that is still in low does not leave the first byte
 pub record IsWriting (bytes : List ℕ) (low width : ℕ) : Type 0 where
   pub bytes_fit : AreBytes bytes

@@ -23,9 +23,9 @@ use std::marker::Model;
 /// `OutOfMemory`, and nothing of its bytes is handed out.
 #[derive(Drop)]
 pub struct RangeEncoder<A: Allocator = Global> {
-    bytes: Vec<u8, A>,
-    low: u32,
-    width: u32,
+    pub(crate) bytes: Vec<u8, A>,
+    pub(crate) low: u32,
+    pub(crate) width: u32,
     pub(crate) ones: u64,
     pub(crate) zeros: u64,
     pub(crate) failed: bool,
@@ -85,6 +85,15 @@ impl<A: Allocator> RangeEncoder<A> {
             self.zeros = self.zeros.saturating_add(1);
         }
         Ok(())
+    }
+
+    /// Whether a growth was refused: then every put and either ending is refused.
+    #[inline(always)]
+    pub fn has_failed(&self) -> bool
+        ensures { result ≡ self.now.failed }
+    {
+        let RangeEncoder { failed, .. } = self;
+        *failed
     }
 
     /// How many decisions were put, at most 2^64 - 1.
@@ -165,25 +174,62 @@ impl<A: Allocator> RangeEncoder<A> {
         ensures ok { OnOk result (self.new ≡ record self.old { interval = narrow self.old.interval state bit }) }
         ensures err { IfErr result (λ f. (f ≡ Fault.OutOfMemory) × IsTrue self.new.failed) }
     {
-        let (low, width) = part_of(&self.bytes, self.low, self.width, state, bit);
-        if width >= 256 {
-            self.low = low;
-            self.width = width;
-            return Ok(());
-        }
-        match emit(&mut self.bytes, low / 256) {
-            Ok(()) => {
-                self.low = low % 256 * 256;
-                self.width = width * 256;
-                Ok(())
-            }
+        let mut span = Span {
+            low: self.low,
+            width: self.width,
+        };
+        let done = narrow_by(&mut self.bytes, &mut span, state, bit);
+        self.low = span.low;
+        self.width = span.width;
+        match done {
+            Ok(()) => Ok(()),
             Err(_) => {
-                self.bytes.clear();
-                self.low = 0;
-                self.width = 65280;
                 self.failed = true;
                 Err(Fault::OutOfMemory)
             }
+        }
+    }
+}
+
+/// What an encoder's interval has beside its bytes: its low end, two places below them, and its width. A symbol is written
+/// with a copy of it.
+#[derive(Drop)]
+pub(crate) struct Span {
+    pub(crate) low: u32,
+    pub(crate) width: u32,
+}
+
+/// Narrows the interval by a decision, and gives out a byte where it is narrower than 256. Where a growth is refused, nothing
+/// is left of the bytes.
+#[inline(always)]
+pub(crate) fn narrow_by<A: Allocator>(
+    bytes: &mut Vec<u8, A>,
+    span: &mut Span,
+    state: u8,
+    bit: bool,
+) -> Result<(), AllocError>
+    requires writing { IsWriting bytes.old.items span.old.low span.old.width }
+    requires positive { 0 < state }
+    ensures ok { OnOk result (interval_from bytes.new.items span.new.low span.new.width ≡ narrow (interval_from bytes.old.items span.old.low span.old.width) state bit) }
+    ensures writing { IsWriting bytes.new.items span.new.low span.new.width }
+{
+    let (low, width) = part_of(bytes, span.low, span.width, state, bit);
+    if width >= 256 {
+        span.low = low;
+        span.width = width;
+        return Ok(());
+    }
+    match emit(bytes, low / 256) {
+        Ok(()) => {
+            span.low = low % 256 * 256;
+            span.width = width * 256;
+            Ok(())
+        }
+        Err(refused) => {
+            bytes.clear();
+            span.low = 0;
+            span.width = 65280;
+            Err(refused)
         }
     }
 }

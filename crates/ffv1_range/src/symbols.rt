@@ -1,6 +1,6 @@
 //! Symbols are read: numbers by their decisions (RFC 9043, 3.8.1.2).
 
-ghost use Rattle.std.specs.Prelude.{◌≡◌, ℕ, ◌+◌, ◌*◌, ◌^◌, ◌≤◌, ◌<◌, List, [], ◌∷◌, IfOk, IfErr, OnErr, length, unsigned_abs};
+ghost use Rattle.std.specs.Prelude.{◌≡◌, ℕ, ◌+◌, ◌*◌, ◌^◌, ◌≤◌, ◌<◌, List, [], ◌∷◌, IfOk, IfErr, OnErr, length, min, unsigned_abs};
 ghost use Rattle.ffv1_range.specs.Symbols.{Step, AreHeld, AllHeld, shifted, exponent, exponent_steps, mantissa_steps, raising, signed_steps, unsigned_steps, too_long};
 ghost use Rattle.ffv1_range.specs.Counts.{ones_in, Counted};
 ghost use Rattle.ffv1_range.specs.Follows.{Follows, Reads};
@@ -71,9 +71,32 @@ fn get_exponent(
     Err(TooLong)
 }
 
-/// The number of an exponent, whose highest bit is not coded.
+/// The number of an exponent below 10, whose highest bit is not coded: each of its bits has a slot of its own.
 #[inline(always)]
-fn get_mantissa(
+fn get_near(
+    decoder: &mut RangeDecoder<'_>,
+    table: &StateTable,
+    states: &mut [u8],
+    exponent: u32,
+) -> u32
+    requires held { AreHeld table.now states.old }
+    requires small { exponent < 10 }
+    ensures reads { Reads table.now decoder.old states.old decoder.new states.new (mantissa_steps exponent 0 result) }
+    ensures least { 2 ^ exponent ≤ result }
+    ensures most { result < 2 * 2 ^ exponent }
+    ensures fits { result < 2 ^ 31 }
+    ensures held { AreHeld table.now states.new }
+{
+    let mut number = 1;
+    for place in (0..exponent).rev() {
+        number = number * 2 + u32::from(choose_slot(decoder, table, states, 22 + place as usize));
+    }
+    number
+}
+
+/// The number of any exponent, whose highest bit is not coded.
+#[inline(always)]
+fn get_far(
     decoder: &mut RangeDecoder<'_>,
     table: &StateTable,
     states: &mut [u8],
@@ -96,6 +119,39 @@ fn get_mantissa(
         number = number * 2 + u32::from(choose_slot(decoder, table, states, 22 + place as usize));
     }
     number
+}
+
+/// The number of an exponent, whose highest bit is not coded. Nearly all exponents are below 10, so these have a loop alone.
+#[inline(always)]
+fn get_mantissa(
+    decoder: &mut RangeDecoder<'_>,
+    table: &StateTable,
+    states: &mut [u8],
+    exponent: u32,
+) -> u32
+    requires held { AreHeld table.now states.old }
+    requires small { exponent < 31 }
+    ensures reads { Reads table.now decoder.old states.old decoder.new states.new (mantissa_steps exponent 0 result) }
+    ensures least { 2 ^ exponent ≤ result }
+    ensures most { result < 2 * 2 ^ exponent }
+    ensures fits { result < 2 ^ 31 }
+    ensures held { AreHeld table.now states.new }
+{
+    if exponent < 10 {
+        return get_near(decoder, table, states, exponent);
+    }
+    get_far(decoder, table, states, exponent)
+}
+
+/// The slot of the sign.
+#[inline(always)]
+pub(crate) fn sign_slot(exponent: u32) -> usize
+    ensures { result ≡ 11 + min exponent 10 }
+{
+    if exponent < 10 {
+        return 11 + exponent as usize;
+    }
+    21
 }
 
 /// How many bits of a number are 1, but for its highest.
@@ -131,11 +187,12 @@ impl RangeDecoder<'_> {
         };
         let number = get_mantissa(self, table, states, exponent);
         let ones = ones_below(number);
-        if choose_slot(self, table, states, 11 + exponent.min(10) as usize) {
-            self.count(exponent + ones + 1, exponent + 2 - ones);
+        let negative = choose_slot(self, table, states, sign_slot(exponent));
+        let ones = exponent + ones + u32::from(negative);
+        self.count(ones, 2 * exponent + 3 - ones);
+        if negative {
             return Ok(-(number as i32));
         }
-        self.count(exponent + ones, exponent + 3 - ones);
         Ok(number as i32)
     }
 

@@ -1,30 +1,33 @@
 //! Symbols are written: numbers by their decisions (RFC 9043, 3.8.1.2).
 
-ghost use Rattle.std.specs.Prelude.{◌≡◌, ℕ, ◌+◌, ◌*◌, ◌^◌, ◌≤◌, ◌<◌, List, [], ◌∷◌, OnOk, IfOk, IfErr, IsTrue, IsErr, length, unsigned_abs};
-ghost use Rattle.ffv1_range.specs.Symbols.{Step, AreHeld, AllHeld, shifted, exponent_steps, mantissa_steps, signed_steps, unsigned_steps};
+ghost use Rattle.std.specs.Prelude.{◌≡◌, ℕ, ◌+◌, ◌*◌, ◌^◌, ◌≤◌, ◌<◌, List, [], ◌∷◌, OnOk, IfOk, IfErr, IsTrue, IsErr, length, unsigned_abs, false};
+ghost use Rattle.ffv1_range.specs.Symbols.{Step, AreHeld, AllHeld, shifted, exponent_steps, mantissa_steps, magnitude_steps, signed_steps, unsigned_steps};
 ghost use Rattle.ffv1_range.specs.Counts.{ones_in, Counted};
 ghost use Rattle.ffv1_range.specs.Puts.{Puts, Writes};
+ghost use Rattle.ffv1_range.specs.Writing.{IsWriting, standing};
 
-use crate::encoder::RangeEncoder;
+use crate::encoder::{RangeEncoder, Span, narrow_by};
 use crate::fault::Fault;
-use crate::symbols::ones_below;
+use crate::symbols::{ones_below, sign_slot};
 use crate::table::StateTable;
-use std::alloc::Allocator;
+use std::alloc::{AllocError, Allocator};
 
 /// A decision at a slot.
 #[inline(always)]
 fn put_slot<A: Allocator>(
-    encoder: &mut RangeEncoder<A>,
+    bytes: &mut Vec<u8, A>,
+    span: &mut Span,
     table: &StateTable,
     states: &mut [u8],
     slot: usize,
     bit: bool,
-) -> Result<(), Fault>
+) -> Result<(), AllocError>
+    requires writing { IsWriting bytes.old.items span.old.low span.old.width }
     requires held { AreHeld table.now states.old }
     requires slot { slot < 32 }
-    ensures writes { OnOk result (Writes table.now encoder.old states.old encoder.new states.new (record { slot = slot; bit = bit } ∷ [])) }
+    ensures writes { OnOk result (Writes table.now (standing bytes.old.items span.old.low span.old.width) states.old (standing bytes.new.items span.new.low span.new.width) states.new (record { slot = slot; bit = bit } ∷ [])) }
+    ensures writing { IsWriting bytes.new.items span.new.low span.new.width }
     ensures held { AreHeld table.now states.new }
-    ensures err { IfErr result (λ f. (f ≡ Fault.OutOfMemory) × IsTrue encoder.new.failed) }
 {
     let before = states[slot];
     states[slot] = if bit {
@@ -32,62 +35,140 @@ fn put_slot<A: Allocator>(
     } else {
         table.after_zero(before)
     };
-    encoder.step(before, bit)?;
+    narrow_by(bytes, span, before, bit)?;
     Ok(())
 }
 
 /// An exponent.
 #[inline(always)]
 fn put_exponent<A: Allocator>(
-    encoder: &mut RangeEncoder<A>,
+    bytes: &mut Vec<u8, A>,
+    span: &mut Span,
     table: &StateTable,
     states: &mut [u8],
     exponent: u32,
-) -> Result<(), Fault>
-    requires { AreHeld table.now states.old }
-    ensures writes { OnOk result (Writes table.now encoder.old states.old encoder.new states.new (exponent_steps exponent)) }
+) -> Result<(), AllocError>
+    requires writing { IsWriting bytes.old.items span.old.low span.old.width }
+    requires held { AreHeld table.now states.old }
+    ensures writes { OnOk result (Writes table.now (standing bytes.old.items span.old.low span.old.width) states.old (standing bytes.new.items span.new.low span.new.width) states.new (exponent_steps exponent)) }
+    ensures writing { IsWriting bytes.new.items span.new.low span.new.width }
     ensures held { AreHeld table.now states.new }
-    ensures err { IfErr result (λ f. (f ≡ Fault.OutOfMemory) × IsTrue encoder.new.failed) }
 {
     let few = exponent.min(9);
     for k in 0..few {
-        put_slot(encoder, table, states, 1 + k as usize, true)?;
+        put_slot(bytes, span, table, states, 1 + k as usize, true)?;
     }
     'more: for _k in few..exponent {
-        put_slot(encoder, table, states, 10, true)?;
+        put_slot(bytes, span, table, states, 10, true)?;
     }
-    put_slot(encoder, table, states, 1 + few as usize, false)?;
+    put_slot(bytes, span, table, states, 1 + few as usize, false)?;
     Ok(())
 }
 
 /// The lowest bits of a number, from the highest of them down.
 #[inline(always)]
 fn put_mantissa<A: Allocator>(
-    encoder: &mut RangeEncoder<A>,
+    bytes: &mut Vec<u8, A>,
+    span: &mut Span,
     table: &StateTable,
     states: &mut [u8],
     exponent: u32,
     number: u32,
-) -> Result<(), Fault>
+) -> Result<(), AllocError>
+    requires writing { IsWriting bytes.old.items span.old.low span.old.width }
     requires held { AreHeld table.now states.old }
     requires small { exponent < 32 }
-    ensures writes { OnOk result (Writes table.now encoder.old states.old encoder.new states.new (mantissa_steps exponent 0 number)) }
+    ensures writes { OnOk result (Writes table.now (standing bytes.old.items span.old.low span.old.width) states.old (standing bytes.new.items span.new.low span.new.width) states.new (mantissa_steps exponent 0 number)) }
+    ensures writing { IsWriting bytes.new.items span.new.low span.new.width }
     ensures held { AreHeld table.now states.new }
-    ensures err { IfErr result (λ f. (f ≡ Fault.OutOfMemory) × IsTrue encoder.new.failed) }
 {
     let few = exponent.min(9);
     'high: for place in (few..exponent).rev() {
-        put_slot(encoder, table, states, 31, (number >> place) % 2 == 1)?;
+        put_slot(bytes, span, table, states, 31, (number >> place) % 2 == 1)?;
     }
     for place in (0..few).rev() {
         put_slot(
-            encoder,
+            bytes,
+            span,
             table,
             states,
             22 + place as usize,
             (number >> place) % 2 == 1,
         )?;
     }
+    Ok(())
+}
+
+/// A number that is not 0, without its sign.
+#[inline(always)]
+fn put_magnitude<A: Allocator>(
+    bytes: &mut Vec<u8, A>,
+    span: &mut Span,
+    table: &StateTable,
+    states: &mut [u8],
+    number: u32,
+) -> Result<(), AllocError>
+    requires writing { IsWriting bytes.old.items span.old.low span.old.width }
+    requires held { AreHeld table.now states.old }
+    requires positive { 0 < number }
+    ensures writes { OnOk result (Writes table.now (standing bytes.old.items span.old.low span.old.width) states.old (standing bytes.new.items span.new.low span.new.width) states.new (magnitude_steps number)) }
+    ensures writing { IsWriting bytes.new.items span.new.low span.new.width }
+    ensures held { AreHeld table.now states.new }
+{
+    put_slot(bytes, span, table, states, 0, false)?;
+    let exponent = 31 - number.leading_zeros();
+    put_exponent(bytes, span, table, states, exponent)?;
+    put_mantissa(bytes, span, table, states, exponent, number)?;
+    Ok(())
+}
+
+/// A number without a sign.
+#[inline(always)]
+fn put_natural<A: Allocator>(
+    bytes: &mut Vec<u8, A>,
+    span: &mut Span,
+    table: &StateTable,
+    states: &mut [u8],
+    number: u32,
+) -> Result<(), AllocError>
+    requires writing { IsWriting bytes.old.items span.old.low span.old.width }
+    requires held { AreHeld table.now states.old }
+    ensures writes { OnOk result (Writes table.now (standing bytes.old.items span.old.low span.old.width) states.old (standing bytes.new.items span.new.low span.new.width) states.new (unsigned_steps number)) }
+    ensures writing { IsWriting bytes.new.items span.new.low span.new.width }
+    ensures held { AreHeld table.now states.new }
+{
+    if number == 0 {
+        put_slot(bytes, span, table, states, 0, true)?;
+        return Ok(());
+    }
+    put_magnitude(bytes, span, table, states, number)?;
+    Ok(())
+}
+
+/// A signed number.
+#[inline(always)]
+fn put_number<A: Allocator>(
+    bytes: &mut Vec<u8, A>,
+    span: &mut Span,
+    table: &StateTable,
+    states: &mut [u8],
+    value: i32,
+) -> Result<(), AllocError>
+    requires writing { IsWriting bytes.old.items span.old.low span.old.width }
+    requires held { AreHeld table.now states.old }
+    requires size { unsigned_abs value < 2 ^ 31 }
+    ensures writes { OnOk result (Writes table.now (standing bytes.old.items span.old.low span.old.width) states.old (standing bytes.new.items span.new.low span.new.width) states.new (signed_steps value)) }
+    ensures writing { IsWriting bytes.new.items span.new.low span.new.width }
+    ensures held { AreHeld table.now states.new }
+{
+    let number = value.unsigned_abs();
+    if number == 0 {
+        put_slot(bytes, span, table, states, 0, true)?;
+        return Ok(());
+    }
+    put_magnitude(bytes, span, table, states, number)?;
+    let slot = sign_slot(31 - number.leading_zeros());
+    put_slot(bytes, span, table, states, slot, value < 0)?;
     Ok(())
 }
 
@@ -112,18 +193,42 @@ impl<A: Allocator> RangeEncoder<A> {
         if self.failed {
             return Err(Fault::OutOfMemory);
         }
+        self.write_signed(table, states, value)?;
+        Ok(())
+    }
+
+    /// The same by an encoder that has not failed.
+    #[inline(always)]
+    fn write_signed(
+        &mut self,
+        table: &StateTable,
+        states: &mut [u8],
+        value: i32,
+    ) -> Result<(), Fault>
+        requires sound { self.old.failed ≡ false }
+        requires held { AreHeld table.now states.old }
+        requires size { unsigned_abs value < 2 ^ 31 }
+        ensures ok { OnOk result (Puts table.now self.old states.old self.new states.new (signed_steps value)) }
+        ensures held { AreHeld table.now states.new }
+        ensures err { IfErr result (λ f. (f ≡ Fault.OutOfMemory) × IsTrue self.new.failed) }
+    {
+        let mut span = Span {
+            low: self.low,
+            width: self.width,
+        };
+        let done = put_number(&mut self.bytes, &mut span, table, states, value);
+        self.low = span.low;
+        self.width = span.width;
+        let Ok(()) = done else {
+            self.failed = true;
+            return Err(Fault::OutOfMemory);
+        };
         let number = value.unsigned_abs();
         if number == 0 {
-            put_slot(self, table, states, 0, true)?;
             self.count(1, 0);
             return Ok(());
         }
-        put_slot(self, table, states, 0, false)?;
         let exponent = 31 - number.leading_zeros();
-        put_exponent(self, table, states, exponent)?;
-        put_mantissa(self, table, states, exponent, number)?;
-        let slot = 11 + exponent.min(10) as usize;
-        put_slot(self, table, states, slot, value < 0)?;
         let ones = exponent + ones_below(number) + u32::from(value < 0);
         self.count(ones, 2 * exponent + 3 - ones);
         Ok(())
@@ -147,21 +252,29 @@ impl<A: Allocator> RangeEncoder<A> {
         if self.failed {
             return Err(Fault::OutOfMemory);
         }
+        let mut span = Span {
+            low: self.low,
+            width: self.width,
+        };
+        let done = put_natural(&mut self.bytes, &mut span, table, states, number);
+        self.low = span.low;
+        self.width = span.width;
+        let Ok(()) = done else {
+            self.failed = true;
+            return Err(Fault::OutOfMemory);
+        };
         if number == 0 {
-            put_slot(self, table, states, 0, true)?;
             self.count(1, 0);
             return Ok(());
         }
-        put_slot(self, table, states, 0, false)?;
         let exponent = 31 - number.leading_zeros();
-        put_exponent(self, table, states, exponent)?;
-        put_mantissa(self, table, states, exponent, number)?;
         let ones = exponent + ones_below(number);
         self.count(ones, 2 * exponent + 2 - ones);
         Ok(())
     }
 
-    /// The symbol of a signed number, by row `row` of many states, 32 a row. All else is as with `put_signed`.
+    /// The symbol of a signed number, by row `row` of many states, 32 a row, by an encoder that has not failed. All else is as
+    /// with `put_signed`.
     #[inline(always)]
     pub fn put_signed_in_row(
         &mut self,
@@ -170,6 +283,7 @@ impl<A: Allocator> RangeEncoder<A> {
         row: usize,
         value: i32,
     ) -> Result<(), Fault>
+        requires sound { self.old.failed ≡ false }
         requires rows { row * 32 + 32 ≤ length states.old }
         requires held { AllHeld table.now states.old }
         requires size { unsigned_abs value < 2 ^ 31 }
@@ -179,7 +293,7 @@ impl<A: Allocator> RangeEncoder<A> {
         ensures stays { IsTrue self.old.failed → IsErr result }
     {
         let base = row * 32;
-        match self.put_signed(table, &mut states[base..base + 32], value) {
+        match self.write_signed(table, &mut states[base..base + 32], value) {
             Ok(()) => Ok(()),
             Err(refused) => Err(refused),
         }

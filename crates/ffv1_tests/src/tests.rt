@@ -1,7 +1,6 @@
 //! Tests that cross crates.
 
 mod coder;
-mod lines;
 mod orders;
 mod refusals;
 mod trials;

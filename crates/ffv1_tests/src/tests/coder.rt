@@ -21,6 +21,7 @@ fn write_one<A: Allocator>(
         0 => encoder.put(table, &mut states[0], true),
         1 => encoder.put_signed(table, &mut states, -300),
         2 => encoder.put_unsigned(table, &mut states, 300),
+        _ if encoder.has_failed() => Err(Fault::OutOfMemory),
         _ => encoder.put_signed_in_row(table, &mut states, 0, 300),
     }
 }

@@ -1,31 +1,29 @@
-use Rattle.std.proofs.Common.{◌≡◌, ◌+◌, ◌-◌, refl, true, false, rules, min, length, arith}
+use Rattle.std.proofs.Common.{◌≡◌, ◌+◌, ◌-◌, ◌∙◌, ap, sym, refl, min, length, slice_index, arith}
 use Rattle.ffv1_line.proofs.Rows.{stands_first, stands_along, written_none, written_next}
 use Rattle.ffv1_line.proofs.encode.encode_line.Goals as goal
-
-false-true : false ≡ true → ⊥
-false-true e = search rules
-
-pub returns-clause-stays : goal.returns-clause-stays
-returns-clause-stays g c = λ h.
-    let first = (c.loop-x.invariant.stays h).0 in
-    absurd (omega arith)
 
 pub loop-x-init : goal.loop-x-init
 loop-x-init g c = record {
   held = c.requires.held;
   rows = c.requires.rows;
+  top = λ inside. refl;
   stands = stands_first _ _ _ (omega arith) (omega arith);
-  stays = λ h. (refl, h);
+  sound = sym c.has_failed.ensures ∙ c.if-has_failed.false;
   written = written_none _ _ _ _ _ _ _ _;
 }
 
 pub loop-x-preserved : goal.loop-x-preserved
 loop-x-preserved g c =
-    let right : c.min.result ≡ min (c.loop-x.x + 1) (length c.args.one.now - 1) = omega (arith, c.min.ensures) in
+    let x = c.loop-x.x in
+    let one = c.args.one.now in
+    let right : min (x + 1) (length c.args.cur.now - 1) ≡ min (x + 1) (length one - 1) = omega arith in
+    let is : c.right_above-tr.result ≡ slice_index one (min (x + 1) (length c.args.cur.now - 1)) = c.right_above-tr.ensures in
     record {
       held = c.in_ok-encode_sample.ensures.held;
       rows = omega arith;
-      stands = stands_along _ _ _ _ c.min.result _ _ _ _ right (omega arith) (omega arith) c.loop-x.invariant.stands;
-      stays = λ h. absurd (false-true (c.in_ok-encode_sample.ensures.stays (c.loop-x.invariant.stays h).1));
-      written = written_next _ _ _ _ _ _ _ _ _ _ _ _ c.loop-x.x c.min.result _ _ _ _ right (omega arith) (omega arith) c.loop-x.invariant.stands c.loop-x.invariant.written c.in_ok-encode_sample.ensures.ok;
+      top = λ inside. let next : min (x + 1) (length c.args.cur.now - 1) ≡ x + 1 = omega arith in is ∙ ap (λ k. slice_index one k) next;
+      stands = rw is (stands_along _ _ _ _ (min (x + 1) (length c.args.cur.now - 1)) _ _ _ _ right (omega arith) (omega arith) c.loop-x.invariant.stands);
+      sound = c.in_ok-encode_sample.ensures.ok.failed ∙ c.loop-x.invariant.sound;
+      written = written_next _ _ _ _ _ _ _ _ _ _ _ _ x (min (x + 1) (length c.args.cur.now - 1)) _ _ _ _ right (omega arith) (omega arith) c.loop-x.invariant.stands
+          c.loop-x.invariant.written (rw is at c.in_ok-encode_sample.ensures.ok);
     }

@@ -1,4 +1,4 @@
-use Rattle.std.proofs.Common.{◌≡◌, ◌*◌, IsTrue, length}
+use Rattle.std.proofs.Common.{◌≡◌, ◌*◌, false, length, slice_index, ◌<◌}
 use Rattle.ffv1_range.specs.Symbols.{AllHeld}
 use Rattle.ffv1_plane.specs.Quantisation.{contexts_of}
 use Rattle.ffv1_line.specs.Encoded.{Written}
@@ -9,7 +9,8 @@ abbrev pub invariant-loop-x : goal.invariant-loop-x
 invariant-loop-x g l = record {
   held : AllHeld l.table l.states;
   rows : length l.states ≡ contexts_of l.set * 32;
+  top : l.x < length l.one → l.t ≡ slice_index l.one l.x;
   stands : Stands l.two l.one l.cur l.x l.ll l.l l.tl l.t;
-  stays : IsTrue l.fn.encoder.failed → (l.x ≡ 0) × IsTrue l.encoder.failed;
+  sound : l.encoder.failed ≡ false;
   written : Written l.table l.set l.bits l.fn.encoder l.fn.states l.encoder l.states l.two l.one l.cur l.x;
 }

@@ -1,15 +1,16 @@
-use Rattle.std.proofs.Common.{◌≡◌, ◌+◌, ◌≤◌, min, arith}
+use Rattle.std.proofs.Common.{◌≡◌, ◌+◌, min, arith}
 use Rattle.ffv1_range.proofs.Steps.{writes_append, writes_none, raising-add-one, raising-zero}
 use Rattle.ffv1_range.proofs.writing.put_exponent.Goals as goal
 
 pub loop-k-init : goal.loop-k-init
-loop-k-init g c = record { held = c.requires; writes = rw raising-zero (writes_none _ _ _) }
+loop-k-init g c = record { held = c.requires.held; writing = c.requires.writing; writes = rw raising-zero (writes_none _ _ _) }
 
 pub loop-k-preserved : goal.loop-k-preserved
 loop-k-preserved g c =
     let slot : 1 + c.loop-k.k ≡ 1 + min c.loop-k.k 9 = omega (arith, c.min-few.ensures, c.loop-k-test.true) in
     record {
       held = c.put_slot.ensures.held;
+      writing = c.put_slot.ensures.writing;
       writes = rw raising-add-one (writes_append _ _ _ _ _ _ _ _ _ c.loop-k.invariant.writes (rw slot at c.in_ok-put_slot.ensures.writes));
     }
 
@@ -18,6 +19,7 @@ more-preserved g c =
     let slot : 10 ≡ 1 + min c.more._k 9 = omega (arith, c.min-few.ensures, c.more.auto._k, c.more-test.true) in
     record {
       held = c.put_slot-in-more.ensures.held;
+      writing = c.put_slot-in-more.ensures.writing;
       writes = rw raising-add-one (writes_append _ _ _ _ _ _ _ _ _ c.more.invariant.writes (rw slot at c.in_ok-put_slot-2.ensures.writes));
     }
 

@@ -1,15 +1,18 @@
 use Rattle.ffv1_range.specs.Symbols.{AreHeld, raising}
 use Rattle.ffv1_range.specs.Puts.{Writes}
+use Rattle.ffv1_range.specs.Writing.{IsWriting, standing}
 use Rattle.ffv1_range.proofs.writing.put_exponent.Given as goal
 
 abbrev pub invariant-loop-k : goal.invariant-loop-k
 invariant-loop-k g l = record {
   held : AreHeld l.table l.states;
-  writes : Writes l.table l.fn.encoder l.fn.states l.encoder l.states (raising l.k);
+  writing : IsWriting l.bytes.items l.span.low l.span.width;
+  writes : Writes l.table (standing l.fn.bytes.items l.fn.span.low l.fn.span.width) l.fn.states (standing l.bytes.items l.span.low l.span.width) l.states (raising l.k);
 }
 
 abbrev pub invariant-more : goal.invariant-more
 invariant-more g l = record {
   held : AreHeld l.table l.states;
-  writes : Writes l.table l.fn.encoder l.fn.states l.encoder l.states (raising l._k);
+  writing : IsWriting l.bytes.items l.span.low l.span.width;
+  writes : Writes l.table (standing l.fn.bytes.items l.fn.span.low l.fn.span.width) l.fn.states (standing l.bytes.items l.span.low l.span.width) l.states (raising l._k);
 }

@@ -10,6 +10,7 @@ high-preserved g c =
     let more = longer c.args.exponent c.high.place positive c.high.invariant.below in
     record {
       held = c.put_slot.ensures.held;
+      writing = c.put_slot.ensures.writing;
       below = omega arith;
       above = omega arith;
       writes = rw (more, mantissa_next) (writes_append _ _ _ _ _ _ _ _ _ c.high.invariant.writes (rw slot at c.in_ok-put_slot.ensures.writes));
@@ -20,6 +21,7 @@ loop-place-init g c =
     let all : c.high.place ≡ c.min-few.result = omega (arith, c.high-test.false, c.high.invariant.above) in
     record {
       held = c.high.invariant.held;
+      writing = c.high.invariant.writing;
       below = rw all at c.high.invariant.below;
       writes = rw all at c.high.invariant.writes;
     }
@@ -31,6 +33,7 @@ loop-place-preserved g c =
     let more = longer c.args.exponent c.loop-place.place positive c.loop-place.invariant.below in
     record {
       held = c.put_slot-in-loop-place.ensures.held;
+      writing = c.put_slot-in-loop-place.ensures.writing;
       below = omega arith;
       writes = rw (more, mantissa_next) (writes_append _ _ _ _ _ _ _ _ _ c.loop-place.invariant.writes (rw slot at c.in_ok-put_slot-2.ensures.writes));
     }

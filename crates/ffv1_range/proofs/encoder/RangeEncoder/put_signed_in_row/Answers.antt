@@ -17,9 +17,9 @@ returns-in-Ok-clause-ok g c =
 pub returns-in-Ok-clause-held : goal.returns-in-Ok-clause-held
 returns-in-Ok-clause-held g c =
     let wide : c.args.row * 32 + 32 - c.args.row * 32 ≡ 32 = omega arith in
-    rw wide (all_held_part c.args.table.now c.args.states.now c.put_signed.new.states (c.args.row * 32) 32 c.requires.rows c.requires.held c.put_signed.ensures.held)
+    rw wide (all_held_part c.args.table.now c.args.states.now c.write_signed.new.states (c.args.row * 32) 32 c.requires.rows c.requires.held c.write_signed.ensures.held)
 
 pub returns-in-Err-clause-held : goal.returns-in-Err-clause-held
 returns-in-Err-clause-held g c =
     let wide : c.args.row * 32 + 32 - c.args.row * 32 ≡ 32 = omega arith in
-    rw wide (all_held_part c.args.table.now c.args.states.now c.put_signed.new.states (c.args.row * 32) 32 c.requires.rows c.requires.held c.put_signed.ensures.held)
+    rw wide (all_held_part c.args.table.now c.args.states.now c.write_signed.new.states (c.args.row * 32) 32 c.requires.rows c.requires.held c.write_signed.ensures.held)

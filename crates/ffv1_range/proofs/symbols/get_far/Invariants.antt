@@ -1,7 +1,7 @@
 use Rattle.std.proofs.Common.{◌-◌, ◌^◌, ◌*◌, ◌<◌, ◌≤◌}
 use Rattle.ffv1_range.specs.Symbols.{AreHeld, mantissa_steps}
 use Rattle.ffv1_range.specs.Follows.{Reads}
-use Rattle.ffv1_range.proofs.symbols.get_mantissa.Given as goal
+use Rattle.ffv1_range.proofs.symbols.get_far.Given as goal
 
 abbrev pub invariant-loop-place : goal.invariant-loop-place
 invariant-loop-place l = record {

@@ -1,9 +1,9 @@
-use Rattle.std.proofs.Common.{◌≡◌, ◌+◌, ◌-◌, ◌<◌, ◌≤◌, ◌∙◌, min, arith}
+use Rattle.std.proofs.Common.{◌≡◌, ◌+◌, ◌-◌, ◌<◌, ◌∙◌, min, arith}
 use Rattle.std.proofs.Math.Nat.{pow-succ'}
 use Rattle.ffv1_range.proofs.Steps.{reads_append}
 use Rattle.ffv1_range.proofs.Signed.{number_fits}
 use Rattle.ffv1_range.proofs.Mantissa.{next_fits, longer, mantissa_bit, bit_is, one_if_most}
-use Rattle.ffv1_range.proofs.symbols.get_mantissa.Goals as goal
+use Rattle.ffv1_range.proofs.symbols.get_far.Goals as goal
 
 pub overflow_mul-number : goal.overflow_mul-number
 overflow_mul-number c =

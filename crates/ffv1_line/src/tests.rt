@@ -1,0 +1,364 @@
+//! Rows in both directions, beside values computed outside the program from the standard's text.
+
+ghost use Rattle.std.specs.Prelude.{◌≡◌, ◌*◌, ◌^◌, ◌<◌, ◌⊎◌, IsTrue, length, replicate, unsigned_abs};
+ghost use Rattle.ffv1_plane.specs.Quantisation.{contexts_of};
+ghost use Rattle.ffv1_range.specs.Symbols.{AreHeld, AllHeld};
+
+use crate::{TooLong, decode_line, encode_line};
+use ffv1_plane::QuantSet;
+use ffv1_range::{RangeDecoder, RangeEncoder, StateTable};
+use std::test::Fail;
+
+/// Whether the rows two and one above have the length of a row, of at least one sample.
+fn are_rows(two: &[u16], one: &[u16], row: &[u16]) -> bool
+    ensures some { IsTrue result → 0 < length row.now }
+    ensures two { IsTrue result → length two.now ≡ length row.now }
+    ensures one { IsTrue result → length one.now ≡ length row.now }
+{
+    !row.is_empty() && (two.len() == row.len() && one.len() == row.len())
+}
+
+/// Codes rows, one below the other, with these states.
+fn encode_rows(
+    encoder: &mut RangeEncoder,
+    table: &StateTable,
+    set: &QuantSet,
+    states: &mut [u8],
+    zeros: &[u16],
+    rows: &[&[u16]],
+    bits: u8,
+) -> Result<(), Fail>
+    requires bits { (bits ≡ 8) ⊎ (bits ≡ 9) }
+    requires rows { length states.old ≡ contexts_of set.now * 32 }
+    requires held { AllHeld table.now states.old }
+{
+    let mut two = zeros;
+    let mut one = zeros;
+    'rows: for row in rows {
+        if are_rows(two, one, row) {
+            encode_line(encoder, table, set, states, two, one, row, bits)?;
+        }
+        two = one;
+        one = row;
+    }
+    Ok(())
+}
+
+/// The encoder of rows, with fresh states.
+fn encoder_of(
+    rt: &HostRuntime,
+    table: &StateTable,
+    set: &QuantSet,
+    zeros: &[u16],
+    rows: &[&[u16]],
+    bits: u8,
+) -> Result<RangeEncoder, Fail>
+    requires bits { (bits ≡ 8) ⊎ (bits ≡ 9) }
+    requires fresh { AreHeld table.now (replicate 32 128) }
+{
+    let mut states = vec![in rt.alloc(); 128u8; set.contexts() as usize * 32]?;
+    let mut encoder = RangeEncoder::new(rt.alloc());
+    encode_rows(
+        &mut encoder,
+        table,
+        set,
+        states.as_mut_slice(),
+        zeros,
+        rows,
+        bits,
+    )?;
+    Ok(encoder)
+}
+
+/// Decodes a row.
+fn decode_row(
+    decoder: &mut RangeDecoder<'_>,
+    table: &StateTable,
+    set: &QuantSet,
+    states: &mut [u8],
+    two: &[u16],
+    one: &[u16],
+    row: &mut [u16],
+    bits: u8,
+) -> Result<(), TooLong>
+    requires bits { (bits ≡ 8) ⊎ (bits ≡ 9) }
+    requires rows { length states.old ≡ contexts_of set.now * 32 }
+    requires held { AllHeld table.now states.old }
+    ensures held { AllHeld table.now states.new }
+    ensures long { length states.new ≡ length states.old }
+{
+    if are_rows(two, one, row) {
+        decode_line(decoder, table, set, states, two, one, row, bits)?;
+    }
+    Ok(())
+}
+
+/// Decodes a row below rows of zeros, and tells how many decisions it took.
+fn decode_first(
+    rt: &HostRuntime,
+    table: &StateTable,
+    set: &QuantSet,
+    bytes: &[u8],
+    zeros: &[u16],
+    row: &mut [u16],
+    bits: u8,
+) -> Result<(Result<(), TooLong>, u64), Fail>
+    requires bits { (bits ≡ 8) ⊎ (bits ≡ 9) }
+    requires fresh { AreHeld table.now (replicate 32 128) }
+{
+    let mut states = vec![in rt.alloc(); 128u8; set.contexts() as usize * 32]?;
+    let mut decoder = RangeDecoder::new(bytes)?;
+    let done = decode_row(
+        &mut decoder,
+        table,
+        set,
+        states.as_mut_slice(),
+        zeros,
+        zeros,
+        row,
+        bits,
+    );
+    Ok((done, decoder.taken()))
+}
+
+/// Decodes two rows, and tells how many decisions they took.
+fn decode_two(
+    rt: &HostRuntime,
+    table: &StateTable,
+    set: &QuantSet,
+    bytes: &[u8],
+    zeros: &[u16],
+    first: &mut [u16],
+    second: &mut [u16],
+) -> Result<u64, Fail>
+    requires fresh { AreHeld table.now (replicate 32 128) }
+{
+    let mut states = vec![in rt.alloc(); 128u8; set.contexts() as usize * 32]?;
+    let mut decoder = RangeDecoder::new(bytes)?;
+    decode_row(
+        &mut decoder,
+        table,
+        set,
+        states.as_mut_slice(),
+        zeros,
+        zeros,
+        first,
+        8,
+    )?;
+    decode_row(
+        &mut decoder,
+        table,
+        set,
+        states.as_mut_slice(),
+        zeros,
+        first,
+        second,
+        8,
+    )?;
+    Ok(decoder.taken())
+}
+
+#[test]
+fn decodes_rows(rt: HostRuntime) -> Result<(), Fail> {
+    let table = StateTable::standard();
+    let set = QuantSet::small(rt.alloc())?;
+    let mut first = [0u16; 2];
+    let mut second = [0u16; 2];
+    let taken = decode_two(
+        &rt,
+        &table,
+        &set,
+        b"\x71\xC6\xE5\x2D\x49",
+        &[0; 2],
+        &mut first,
+        &mut second,
+    )?;
+    assert_eq!(rt; first, [10, 20]);
+    assert_eq!(rt; second, [30, 40]);
+    assert_eq!(rt; taken, 38);
+    Ok(())
+}
+
+#[test]
+fn encodes_a_row(rt: HostRuntime) -> Result<(), Fail> {
+    let table = StateTable::standard();
+    let set = QuantSet::small(rt.alloc())?;
+    let encoder = encoder_of(&rt, &table, &set, &[0], &[&[128]], 8)?;
+    assert_eq!(rt; encoder.decisions(), 17);
+    assert!(rt; encoder.finish_sentinel()?.as_slice() == b"\x7E\x81\x80".as_slice());
+    Ok(())
+}
+
+#[test]
+fn shares_states(rt: HostRuntime) -> Result<(), Fail> {
+    let table = StateTable::standard();
+    let set = QuantSet::small(rt.alloc())?;
+    let encoder = encoder_of(&rt, &table, &set, &[0], &[&[0], &[0]], 8)?;
+    assert!(rt; encoder.finish_full()?.as_slice() == b"\xBC\x43".as_slice());
+    Ok(())
+}
+
+#[test]
+fn keeps_states_of_classes_apart(rt: HostRuntime) -> Result<(), Fail> {
+    let table = StateTable::standard();
+    let set = QuantSet::small(rt.alloc())?;
+    let mut encoder = encoder_of(&rt, &table, &set, &[0], &[&[0]], 8)?;
+    let mut others = vec![in rt.alloc(); 128u8; set.contexts() as usize * 32]?;
+    encode_rows(
+        &mut encoder,
+        &table,
+        &set,
+        others.as_mut_slice(),
+        &[0],
+        &[&[0]],
+        8,
+    )?;
+    assert!(rt; encoder.finish_full()?.as_slice() == b"\xBF\x40".as_slice());
+    Ok(())
+}
+
+#[test]
+fn folds_a_flipped_difference_of_128(rt: HostRuntime) -> Result<(), Fail> {
+    let table = StateTable::standard();
+    let set = QuantSet::small(rt.alloc())?;
+    let encoder = encoder_of(&rt, &table, &set, &[0], &[&[0], &[5], &[133]], 8)?;
+    assert_eq!(rt; encoder.decisions(), 25);
+    assert!(rt; encoder.finish_sentinel()?.as_slice() == b"\xAF\x71\x8D\x7A".as_slice());
+    Ok(())
+}
+
+/// The bytes of one number, by fresh states.
+fn number(rt: &HostRuntime, table: &StateTable, value: i32) -> Result<Vec<u8>, Fail>
+    requires fresh { AreHeld table.now (replicate 32 128) }
+    requires size { unsigned_abs value < 2 ^ 31 }
+{
+    let mut states = [128; 32];
+    let mut encoder = RangeEncoder::new(rt.alloc());
+    encoder.put_signed(table, &mut states, value)?;
+    Ok(encoder.finish_sentinel()?)
+}
+
+#[test]
+fn takes_a_residual_of_31_bits(rt: HostRuntime) -> Result<(), Fail> {
+    let table = StateTable::standard();
+    let set = QuantSet::small(rt.alloc())?;
+    let bytes = number(&rt, &table, -2147483647)?;
+    let mut row = [7u16];
+    let (done, taken) = decode_first(&rt, &table, &set, bytes.as_slice(), &[0], &mut row, 8)?;
+    assert!(rt; done == Ok(()));
+    assert_eq!(rt; row, [1]);
+    assert_eq!(rt; taken, 63);
+    Ok(())
+}
+
+/// One decision at a slot.
+fn put_at(
+    encoder: &mut RangeEncoder,
+    table: &StateTable,
+    states: &mut [u8],
+    slot: usize,
+    bit: bool,
+) -> Result<(), Fail>
+    requires held { AreHeld table.now states.old }
+    requires slot { slot < 32 }
+    ensures { AreHeld table.now states.new }
+{
+    encoder.put(table, &mut states[slot], bit)?;
+    Ok(())
+}
+
+/// Two residuals 0, and then a symbol whose exponent has 31 ones.
+fn refused_at_two(rt: &HostRuntime, table: &StateTable) -> Result<Vec<u8>, Fail>
+    requires { AreHeld table.now (replicate 32 128) }
+{
+    let mut states = [128; 32];
+    let mut encoder = RangeEncoder::new(rt.alloc());
+    put_at(&mut encoder, table, &mut states, 0, true)?;
+    put_at(&mut encoder, table, &mut states, 0, true)?;
+    put_at(&mut encoder, table, &mut states, 0, false)?;
+    for k in 0..31usize {
+        put_at(&mut encoder, table, &mut states, 1 + k.min(9), true)?;
+    }
+    Ok(encoder.finish_full()?)
+}
+
+#[test]
+fn refuses_a_long_exponent(rt: HostRuntime) -> Result<(), Fail> {
+    let table = StateTable::standard();
+    let set = QuantSet::small(rt.alloc())?;
+    let bytes = refused_at_two(&rt, &table)?;
+    let mut row = [7u16; 3];
+    let (done, taken) = decode_first(&rt, &table, &set, bytes.as_slice(), &[0; 3], &mut row, 8)?;
+    assert!(rt; done == Err(TooLong { x: 2 }));
+    assert_eq!(rt; row, [0, 0, 7]);
+    assert_eq!(rt; taken, 34);
+    Ok(())
+}
+
+/// Samples below 2^bits, so many.
+fn samples(rt: &HostRuntime, width: usize, bits: u8) -> Result<Vec<u16>, Fail> {
+    let mut row = vec![in rt.alloc(); 0u16; width]?;
+    let most = if bits == 8 { 256 } else { 512 };
+    let mut number = 9043u32;
+    for sample in row.iter_mut() {
+        number = number.wrapping_mul(1664525).wrapping_add(1013904223);
+        *sample = (number / 65536 % most) as u16;
+    }
+    Ok(row)
+}
+
+/// Whether a row of so many samples comes back.
+fn comes_back(
+    rt: &HostRuntime,
+    table: &StateTable,
+    set: &QuantSet,
+    width: usize,
+    bits: u8,
+) -> Result<bool, Fail>
+    requires bits { (bits ≡ 8) ⊎ (bits ≡ 9) }
+    requires fresh { AreHeld table.now (replicate 32 128) }
+{
+    let zeros = vec![in rt.alloc(); 0u16; width]?;
+    let row = samples(rt, width, bits)?;
+    let encoder = encoder_of(rt, table, set, &zeros, &[row.as_slice()], bits)?;
+    let bytes = encoder.finish_sentinel()?;
+    let mut other = vec![in rt.alloc(); 7u16; width]?;
+    let (done, _) = decode_first(
+        rt,
+        table,
+        set,
+        bytes.as_slice(),
+        &zeros,
+        other.as_mut_slice(),
+        bits,
+    )?;
+    Ok(done == Ok(()) && other.as_slice() == row.as_slice())
+}
+
+/// Whether rows of 1, 2, 3 and 8192 samples come back, of 8 and of 9 bits.
+fn all_come_back(rt: &HostRuntime, table: &StateTable, set: &QuantSet) -> Result<bool, Fail>
+    requires fresh { AreHeld table.now (replicate 32 128) }
+{
+    for width in [1usize, 2, 3, 8192] {
+        if !comes_back(rt, table, set, width, 8)? || !comes_back(rt, table, set, width, 9)? {
+            return Ok(false);
+        }
+    }
+    Ok(true)
+}
+
+#[test]
+fn rows_come_back(rt: HostRuntime) -> Result<(), Fail> {
+    let table = StateTable::standard();
+    let set = QuantSet::small(rt.alloc())?;
+    assert!(rt; all_come_back(&rt, &table, &set)?);
+    Ok(())
+}
+
+#[test]
+fn rows_of_the_large_set_come_back(rt: HostRuntime) -> Result<(), Fail> {
+    let table = StateTable::standard();
+    let set = QuantSet::large(rt.alloc())?;
+    assert!(rt; all_come_back(&rt, &table, &set)?);
+    Ok(())
+}
