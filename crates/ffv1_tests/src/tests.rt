@@ -2,5 +2,6 @@
 
 mod coder;
 mod orders;
+mod record;
 mod refusals;
 mod trials;

@@ -1,0 +1,7 @@
+use Rattle.std.proofs.Common.{◌-◌, []}
+use Rattle.ffv1_record.specs.Reading.{sets_onto}
+use Rattle.ffv1_record.proofs.Leading.{Leads}
+use Rattle.ffv1_record.proofs.read.read_sets.Given as goal
+
+abbrev pub invariant-loop-index : goal.invariant-loop-index
+invariant-loop-index g l = Leads (sets_onto (l.count - l._index) l.sets) (sets_onto l.count []) l.fn.reader l.reader

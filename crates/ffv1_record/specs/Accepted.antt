@@ -1,0 +1,82 @@
+-- Which configurations are accepted (RFC 9043, 4.2 and 4.3, and this project's profile), and why one is refused.
+use Rattle.std.specs.Prelude.{◌≡◌, ◌⊎◌, ℕ, ◌*◌, ◌/◌, ◌%◌, ◌^◌, ◌<◌, nat_le, Bool, ◌&&◌, ◌||◌, not, ◌==◌, IsTrue, List, [], ◌∷◌, length}
+use Rattle.ffv1_range.specs.Table.{Table, IsTable}
+use Rattle.ffv1_range.specs.Standard.{standard}
+use Rattle.ffv1_range.specs.Deltas.{IsTableOf}
+use Rattle.ffv1_record.specs.Sets.{AreSets}
+use Rattle.ffv1_record.specs.declared.config.Coder.{Coder}
+use Rattle.ffv1_record.specs.declared.config.Coder.TheVariants as coder
+use Rattle.ffv1_record.specs.declared.fault.RecordFault.{RecordFault}
+use Rattle.ffv1_record.specs.declared.fault.RecordFault.TheVariants as fault
+use Rattle.ffv1_record.specs.Configuration.{Configuration, is_rct}
+
+-- width and height are from 1 to 8192
+abbrev pub is_sized : Configuration → Bool
+is_sized c = (nat_le 1 c.width && nat_le c.width 8192) && (nat_le 1 c.height && nat_le c.height 8192)
+
+-- RFC 9043, 4.2.5 to 4.2.9: RCT has chroma planes; chroma of another size than the picture's is of YCbCr alone, and at most a quarter as wide or high
+abbrev pub is_subsampled : Configuration → Bool
+is_subsampled c =
+    (nat_le c.log2_h 2 && nat_le c.log2_v 2) && ((c.chroma_planes || not (is_rct c.colour)) && ((c.chroma_planes && not (is_rct c.colour)) || (c.log2_h == 0 && c.log2_v == 0)))
+
+-- RFC 9043, 4.2.10: an extra plane comes with chroma planes alone
+abbrev pub is_transparent : Configuration → Bool
+is_transparent c = c.chroma_planes || not c.extra_plane
+
+-- RFC 9043, 4.2.13: there are 1 to 8 sets
+abbrev pub are_counted : Configuration → Bool
+are_counted c = nat_le 1 (length c.sets) && nat_le (length c.sets) 8
+
+-- RFC 9043, 4.2.3 and 4.2.4: the state transition table of a coder
+abbrev pub IsTableFor : Coder → Table → Type 0
+IsTableFor coder.One t = t ≡ standard
+IsTableFor (coder.Two deltas) t = IsTableOf deltas t
+
+-- RFC 9043, 4.2.11 and 4.2.12: columns and rows are from 1 to 32, and each has a sample
+abbrev pub is_divided : Configuration → Bool
+is_divided c = (nat_le 1 c.columns && (nat_le c.columns 32 && nat_le c.columns c.width)) && (nat_le 1 c.rows && (nat_le c.rows 32 && nat_le c.rows c.height))
+
+-- RFC 9043, 4.7.4 and 4.8.3: where part k of a size begins that is divided into count parts
+abbrev pub edge : ℕ → ℕ → ℕ → ℕ
+edge k size count = k * size / count
+
+-- each inner edge is a multiple of the chroma factor
+abbrev pub AreMultiples : ℕ → ℕ → ℕ → Type 0
+AreMultiples size count log2 = (k : ℕ) → 0 < k → k < count → edge k size count % 2 ^ log2 ≡ 0
+
+-- what a configuration must meet, by the fault where it does not
+abbrev pub Passes : RecordFault → Configuration → Type 0
+Passes fault.Size c = IsTrue (is_sized c)
+Passes fault.Subsampling c = IsTrue (is_subsampled c)
+Passes fault.ExtraPlane c = IsTrue (is_transparent c)
+Passes fault.Sets c = IsTrue (are_counted c)
+Passes fault.StateTable c = (t : Table) × IsTableFor c.coder t
+Passes fault.Grid c = IsTrue (is_divided c)
+Passes fault.ChromaEdge c = AreMultiples c.width c.columns c.log2_h × AreMultiples c.height c.rows c.log2_v
+Passes other c = Unit {0}
+
+-- the faults in the order in which they are looked for
+abbrev pub checks : List RecordFault
+checks =
+    fault.Size ∷ fault.Subsampling ∷ fault.ExtraPlane ∷ fault.Sets ∷ fault.StateTable ∷ fault.Grid ∷ fault.ChromaEdge ∷ []
+
+abbrev pub PassesAll : List RecordFault → Configuration → Type 0
+PassesAll [] c = Unit {0}
+PassesAll (f ∷ fs) c = Passes f c × PassesAll fs c
+
+-- of these faults this is the first that stands
+abbrev pub IsFirst : List RecordFault → Configuration → RecordFault → Type 0
+IsFirst [] c found = ⊥
+IsFirst (f ∷ fs) c found = ((Passes f c → ⊥) × (found ≡ f)) ⊎ (Passes f c × IsFirst fs c found)
+
+-- a configuration that was checked, and its state transition table
+pub record Accepted : Type 0 where
+  pub configuration : Configuration
+  pub table : Table
+
+-- what holds of each configuration that was checked
+pub record IsAccepted (c : Configuration) (t : Table) : Type 0 where
+  pub passes : PassesAll checks c
+  pub table : IsTableFor c.coder t
+  pub closed : IsTable t.floor t.one
+  pub sets : AreSets c.sets

@@ -1,0 +1,12 @@
+pub mod Faults
+pub mod Configuration
+pub mod Sets
+pub mod Writable
+pub mod Accepted
+pub mod Held
+pub mod Parity
+pub mod Record
+pub mod Reader
+pub mod Reading
+pub mod Given
+pub mod Written

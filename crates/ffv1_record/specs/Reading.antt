@@ -1,0 +1,164 @@
+-- The parameters of a record, read in their order (RFC 9043, 4.2), each check made where its symbol has been read.
+use Rattle.std.specs.Prelude.{◌≡◌, ◌≢◌, ◌⊎◌, ℕ, ◌+◌, ◌-◌, ◌≤◌, ◌<◌, ◌==◌, nat_le, ◌||◌, not, Bool, true, List, [], ◌∷◌, ◌++◌, length, ℤ, Ok, Err}
+use Rattle.std.proofs.Common.{zero, suc}
+use Rattle.ffv1_range.specs.Codes.{value}
+use Rattle.ffv1_plane.specs.Quantisation.{Set, contexts_of}
+use Rattle.ffv1_record.specs.declared.fault.RecordFault.{RecordFault}
+use Rattle.ffv1_record.specs.declared.fault.RecordFault.TheVariants as fault
+use Rattle.ffv1_record.specs.declared.config.Coder.{Coder}
+use Rattle.ffv1_record.specs.declared.config.Coder.TheVariants as coder
+use Rattle.ffv1_record.specs.declared.config.Colour.{Colour}
+use Rattle.ffv1_record.specs.declared.config.Colour.TheVariants as colour
+use Rattle.ffv1_record.specs.declared.planes.Planes.{Planes}
+use Rattle.ffv1_record.specs.Parity.{remainder_of}
+use Rattle.ffv1_record.specs.Configuration.{Configuration}
+use Rattle.ffv1_record.specs.Accepted.{IsFirst, checks}
+use Rattle.ffv1_record.specs.Record.{body_of}
+use Rattle.ffv1_record.specs.Reader.{Reader, Spot, ◌>>=◌, done, require, next_table, number, signed_number, truth, number_within, makes_table}
+
+-- so many deltas, behind some
+unfoldable pub deltas_onto : ℕ → List ℤ → Reader (List ℤ)
+deltas_onto zero ds = done ds
+deltas_onto (suc k) ds = do
+  d ← signed_number
+  deltas_onto k (ds ++ (d ∷ []))
+
+-- the deltas of coder_type 2, judged behind the last
+abbrev pub coder_of : ℕ → Reader Coder
+coder_of (suc zero) = done coder.One
+coder_of kind = do
+  ds ← deltas_onto 255 []
+  _ ← makes_table ds
+  done (coder.Two ds)
+
+abbrev pub opening : Reader Coder
+opening = do
+  _ ← number_within 0 3 3 fault.Version
+  _ ← number_within 0 4 4 fault.MicroVersion
+  kind ← number_within 0 1 2 fault.Coder
+  coder_of kind
+
+abbrev pub colour_of : ℕ → Colour
+colour_of zero = colour.YCbCr
+colour_of (suc n) = colour.Rct
+
+-- bits_per_raw_sample
+abbrev pub depth : Reader ℕ
+depth = do
+  n ← number 0
+  _ ← require ((n == 0) || (n == 8)) fault.Depth
+  done n
+
+abbrev pub planes : Reader Planes
+planes = do
+  kind ← number_within 0 0 1 fault.ColourSpace
+  _ ← depth
+  chroma ← truth
+  log2_h ← number 0
+  log2_v ← number 0
+  extra ← truth
+  _ ← require (chroma || not extra) fault.ExtraPlane
+  done (record { colour = colour_of kind; chroma_planes = chroma; extra_plane = extra; log2_h = log2_h; log2_v = log2_v })
+
+-- a count, coded less 1
+abbrev pub count_of : Reader ℕ
+count_of = do
+  n ← number 0
+  done (n + 1)
+
+-- the runs of a table behind some, with so many entries left to fill; each run fills at least one, so that many steps suffice
+unfoldable pub runs_onto : ℕ → ℕ → ℕ → List ℕ → Reader (List ℕ)
+runs_onto base steps zero runs = done runs
+runs_onto base zero (suc left) runs = done runs
+runs_onto base (suc steps) (suc left) runs = do
+  n ← number_within base 0 left fault.Runs
+  runs_onto base steps (left - n) (runs ++ ((n + 1) ∷ []))
+
+-- a table with states of its own
+abbrev pub table : Reader (List ℕ)
+table = do
+  base ← next_table
+  runs_onto base 128 128 []
+
+-- a set, and its contexts behind its last run
+abbrev pub set : Reader Set
+set = do
+  first ← table
+  second ← table
+  third ← table
+  fourth ← table
+  fifth ← table
+  _ ← require (nat_le (contexts_of (first ∷ second ∷ third ∷ fourth ∷ fifth ∷ [])) 32768) fault.Contexts
+  done (first ∷ second ∷ third ∷ fourth ∷ fifth ∷ [])
+
+-- so many sets, behind some
+unfoldable pub sets_onto : ℕ → List Set → Reader (List Set)
+sets_onto zero ss = done ss
+sets_onto (suc k) ss = do
+  s ← set
+  sets_onto k (ss ++ (s ∷ []))
+
+-- states_coded of so many sets
+unfoldable pub uncoded : ℕ → Reader Bool
+uncoded zero = done true
+uncoded (suc k) = do
+  b ← truth
+  _ ← require (not b) fault.CodedStates
+  uncoded k
+
+abbrev pub tables : Reader (List Set)
+tables = do
+  count ← number_within 0 1 8 fault.Sets
+  ss ← sets_onto count []
+  _ ← uncoded count
+  done ss
+
+-- a truth value that is coded as a number
+abbrev pub flag : RecordFault → Reader Bool
+flag f = do
+  n ← number_within 0 0 1 f
+  done (n == 1)
+
+-- all parameters, of pictures of a size
+abbrev pub parameters : ℕ → ℕ → Reader Configuration
+parameters width height = do
+  coder ← opening
+  p ← planes
+  columns ← count_of
+  rows ← count_of
+  ss ← tables
+  ec ← flag fault.Ec
+  intra ← flag fault.Intra
+  done (record {
+    width = width;
+    height = height;
+    coder = coder;
+    colour = p.colour;
+    chroma_planes = p.chroma_planes;
+    extra_plane = p.extra_plane;
+    log2_h = p.log2_h;
+    log2_v = p.log2_v;
+    columns = columns;
+    rows = rows;
+    sets = ss;
+    ec = ec;
+    intra = intra;
+  })
+
+-- where the reading of a record begins
+abbrev pub beginning : Spot
+beginning = record { past = []; fresh = 32 }
+
+-- what is read of a record of at least 5 bytes and remainder 0
+abbrev pub IsMet : List ℕ → ℕ → ℕ → RecordFault → Type 0
+IsMet bytes width height f =
+    ((65280 ≤ value (body_of bytes) 2) × (f ≡ fault.BadStart))
+    ⊎ parameters width height (body_of bytes) beginning (Err f)
+    ⊎ ((c : Configuration) × (t : Spot) × parameters width height (body_of bytes) beginning (Ok (c, t)) × IsFirst checks c f)
+
+-- the bytes are no record of a configuration of this size, and this is the first fault
+abbrev pub IsRefused : List ℕ → ℕ → ℕ → RecordFault → Type 0
+IsRefused bytes width height f =
+    ((length bytes < 5) × (f ≡ fault.Short))
+    ⊎ ((5 ≤ length bytes) × (remainder_of bytes ≢ 0) × (f ≡ fault.Parity))
+    ⊎ ((5 ≤ length bytes) × (remainder_of bytes ≡ 0) × IsMet bytes width height f)

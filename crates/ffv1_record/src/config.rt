@@ -1,0 +1,182 @@
+//! Configurations, and which are accepted.
+
+ghost use Rattle.std.specs.Prelude.{◌≡◌, ℕ, ◌+◌, ◌*◌, ◌/◌, ◌^◌, ◌<◌, ◌≤◌, ◌↔◌, IsTrue, IfOk, IfErr, length};
+ghost use Rattle.ffv1_range.specs.Table.{Table, IsTable};
+ghost use Rattle.ffv1_record.specs.Configuration.{configuration_of};
+ghost use Rattle.ffv1_record.specs.Sets.{AreSets};
+ghost use Rattle.ffv1_record.specs.Accepted.{is_sized, is_subsampled, is_transparent, are_counted, is_divided, IsTableFor, AreMultiples, IsFirst, Passes, checks, IsAccepted};
+
+use crate::checked::Checked;
+use crate::fault::RecordFault;
+use crate::sets::Sets;
+use ffv1_range::StateTable;
+use std::alloc::{Allocator, Global};
+
+/// Which state transition table there is (RFC 9043, 4.2.3 and 4.2.4).
+#[derive(Clone, Copy, Debug, PartialEq, Eq)]
+pub enum Coder {
+    /// The standard's.
+    One,
+    /// The standard's changed by deltas, that of state 1 first.
+    Two([i32; 255]),
+}
+
+/// How colours are coded (RFC 9043, 4.2.5).
+#[derive(Clone, Copy, Debug, PartialEq, Eq)]
+pub enum Colour {
+    /// One plane after the other.
+    YCbCr,
+    /// Red, green and blue by the reversible transform, line by line.
+    Rct,
+}
+
+/// What a stream is coded by: the parameters of RFC 9043, 4.2, for pictures of 8 bits a sample, each a key frame, and the
+/// size of the pictures.
+#[derive(Drop)]
+pub struct Config<A: Allocator = Global> {
+    /// The width of the pictures in samples, 1 to 8192.
+    pub width: u32,
+    /// Their height, 1 to 8192.
+    pub height: u32,
+    /// The state transition table.
+    pub coder: Coder,
+    /// How colours are coded.
+    pub colour: Colour,
+    /// Whether there are chroma planes. RCT has them.
+    pub chroma_planes: bool,
+    /// Whether there is a plane of transparency. It comes with chroma planes alone.
+    pub extra_plane: bool,
+    /// The binary logarithm of how much narrower chroma is, 0 to 2; 0 with RCT and without chroma planes.
+    pub log2_h: u32,
+    /// The same of how much lower it is.
+    pub log2_v: u32,
+    /// How many slices stand beside one another, 1 to 32, at most the width.
+    pub columns: u32,
+    /// How many stand below one another, 1 to 32, at most the height.
+    pub rows: u32,
+    /// The quantisation table sets, 1 to 8.
+    pub sets: Sets<A>,
+    /// Whether each slice has a parity.
+    pub ec: bool,
+    /// Whether the stream says that all its frames are key frames.
+    pub intra: bool,
+}
+
+impl Coder {
+    /// The state transition table. Refuses with `StateTable` where the deltas make none.
+    fn table(&self) -> Result<StateTable, RecordFault>
+        ensures ok { IfOk result (λ t. IsTableFor self.now t) }
+        ensures closed { IfOk result (λ t. IsTable t.floor t.one) }
+        ensures refused { IfErr result (λ f. (f ≡ RecordFault.StateTable) × ((t : Table) → IsTableFor self.now t → ⊥)) }
+    {
+        match self {
+            Coder::One => Ok(StateTable::standard()),
+            Coder::Two(deltas) => match StateTable::with_deltas(deltas) {
+                Ok(table) => Ok(table),
+                Err(_) => Err(RecordFault::StateTable),
+            },
+        }
+    }
+}
+
+/// Whether each inner edge of a size that is divided into some parts is a multiple of the chroma factor.
+fn are_multiples(size: u32, count: u32, log2: u32) -> bool
+    requires size { size ≤ 8192 }
+    requires count { count ≤ 32 }
+    requires log2 { log2 ≤ 2 }
+    ensures { IsTrue result ↔ AreMultiples size count log2 }
+{
+    for k in 1..count {
+        if k * size / count % (1 << log2) != 0 {
+            return false;
+        }
+    }
+    true
+}
+
+impl<A: Allocator> Config<A> {
+    /// Whether width and height are from 1 to 8192.
+    fn is_sized(&self) -> bool
+        ensures { result ≡ is_sized (configuration_of self.now) }
+    {
+        (1 <= self.width && self.width <= 8192) && (1 <= self.height && self.height <= 8192)
+    }
+
+    /// Whether chroma planes and their factors suit one another and the colour.
+    fn is_subsampled(&self) -> bool
+        ensures { result ≡ is_subsampled (configuration_of self.now) }
+    {
+        let plain = match self.colour {
+            Colour::YCbCr => true,
+            Colour::Rct => false,
+        };
+        (self.log2_h <= 2 && self.log2_v <= 2)
+            && ((self.chroma_planes || plain)
+                && ((self.chroma_planes && plain) || (self.log2_h == 0 && self.log2_v == 0)))
+    }
+
+    /// Whether an extra plane comes with chroma planes.
+    fn is_transparent(&self) -> bool
+        ensures { result ≡ is_transparent (configuration_of self.now) }
+    {
+        self.chroma_planes || !self.extra_plane
+    }
+
+    /// Whether there are 1 to 8 sets.
+    fn are_counted(&self) -> bool
+        ensures value { result ≡ are_counted (configuration_of self.now) }
+        ensures sets { AreSets self.now.sets }
+    {
+        1 <= self.sets.len() && self.sets.len() <= 8
+    }
+
+    /// Whether columns and rows are from 1 to 32, and each has a sample.
+    fn is_divided(&self) -> bool
+        ensures { result ≡ is_divided (configuration_of self.now) }
+    {
+        (1 <= self.columns && (self.columns <= 32 && self.columns <= self.width))
+            && (1 <= self.rows && (self.rows <= 32 && self.rows <= self.height))
+    }
+
+    /// Whether each inner edge is a multiple of its chroma factor.
+    fn is_aligned(&self) -> bool
+        requires sized { IsTrue (is_sized (configuration_of self.now)) }
+        requires subsampled { IsTrue (is_subsampled (configuration_of self.now)) }
+        requires divided { IsTrue (is_divided (configuration_of self.now)) }
+        ensures { IsTrue result ↔ Passes RecordFault.ChromaEdge (configuration_of self.now) }
+    {
+        are_multiples(self.width, self.columns, self.log2_h)
+            && are_multiples(self.height, self.rows, self.log2_v)
+    }
+
+    /// The configuration, checked. Refuses with the first of these that stands: `Size`, `Subsampling`, `ExtraPlane`, `Sets`,
+    /// `StateTable`, `Grid`, `ChromaEdge`; else accepts. It takes no memory.
+    pub fn check(self) -> Result<Checked<A>, RecordFault>
+        ensures ok { IfOk result (λ c. c.configuration ≡ configuration_of self) }
+        ensures accepted { IfOk result (λ c. IsAccepted c.configuration c.table) }
+        ensures refused { IfErr result (λ f. IsFirst checks (configuration_of self) f) }
+    {
+        if !self.is_sized() {
+            return Err(RecordFault::Size);
+        }
+        if !self.is_subsampled() {
+            return Err(RecordFault::Subsampling);
+        }
+        if !self.is_transparent() {
+            return Err(RecordFault::ExtraPlane);
+        }
+        if !self.are_counted() {
+            return Err(RecordFault::Sets);
+        }
+        let Ok(table) = self.coder.table() else {
+            return Err(RecordFault::StateTable);
+        };
+        if !self.is_divided() {
+            return Err(RecordFault::Grid);
+        }
+        if !self.is_aligned() {
+            return Err(RecordFault::ChromaEdge);
+        }
+        Ok(Checked::new(self, table))
+    }
+}

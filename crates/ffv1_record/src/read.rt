@@ -1,0 +1,289 @@
+//! A configuration record is read.
+
+ghost use Rattle.std.specs.Prelude.{◌≡◌, ◌⊎◌, ℕ, ◌+◌, ◌*◌, ◌≤◌, ◌<◌, ◌++◌, [], ◌∷◌, ◌||◌, not, length, take, IsTrue, IfOk, IfErr, MatchResult, Result, Ok, Err};
+ghost use Rattle.ffv1_record.specs.declared.fault.RecordFault.TheVariants as fault;
+ghost use Rattle.ffv1_record.specs.Configuration.{Configuration, configuration_of};
+ghost use Rattle.ffv1_record.specs.Accepted.{IsAccepted};
+ghost use Rattle.ffv1_record.specs.Record.{IsRecord};
+ghost use Rattle.ffv1_record.specs.Writable.{IsWritable};
+ghost use Rattle.ffv1_record.specs.Reader.{truth};
+ghost use Rattle.ffv1_record.specs.Reading.{deltas_onto, opening, depth, colour_of, planes, count_of, table, set, sets_onto, uncoded, tables, flag, parameters, IsRefused};
+ghost use Rattle.ffv1_record.specs.Given.{Gives};
+ghost use Rattle.ffv1_range.specs.Table.{Table};
+ghost use Rattle.ffv1_plane.specs.Quantisation.{is_filled, are_filled, contexts_of};
+
+use crate::checked::Checked;
+use crate::config::{Coder, Colour, Config};
+use crate::fault::RecordFault;
+use crate::laws::guarded;
+use crate::planes::Planes;
+use crate::reader::RecordReader;
+use crate::remainder::parity;
+use crate::sets::Sets;
+use ffv1_plane::QuantSet;
+use ffv1_range::StateTable;
+use std::alloc::{Allocator, Global};
+
+/// The 255 deltas of coder_type 2.
+fn read_deltas(reader: &mut RecordReader<'_>) -> Result<[i32; 255], RecordFault>
+    ensures { Gives (λ ds. ds) (deltas_onto 255 []) reader.old reader.new result }
+{
+    let mut deltas = [0i32; 255];
+    for k in 0..255usize {
+        deltas[k] = reader.signed_number()?;
+    }
+    Ok(deltas)
+}
+
+/// Version, micro_version, coder_type and deltas.
+fn read_opening(reader: &mut RecordReader<'_>) -> Result<Coder, RecordFault>
+    ensures { Gives (λ c. c) opening reader.old reader.new result }
+{
+    reader.number_within(3, 3, RecordFault::Version)?;
+    reader.number_within(4, 4, RecordFault::MicroVersion)?;
+    let kind = reader.number_within(1, 2, RecordFault::Coder)?;
+    if kind == 1 {
+        return Ok(Coder::One);
+    }
+    let deltas = read_deltas(reader)?;
+    let Ok(_table) = StateTable::with_deltas(&deltas) else {
+        return Err(RecordFault::StateTable);
+    };
+    Ok(Coder::Two(deltas))
+}
+
+/// The bits of a sample: 8, or 0 for the same.
+fn read_depth(reader: &mut RecordReader<'_>) -> Result<u32, RecordFault>
+    ensures { Gives (λ n. n) depth reader.old reader.new result }
+{
+    let bits = reader.number()?;
+    if bits == 0 {
+        return Ok(bits);
+    }
+    if bits == 8 {
+        return Ok(bits);
+    }
+    Err(RecordFault::Depth)
+}
+
+/// The colour of a colorspace_type.
+fn colour_of(kind: u32) -> Colour
+    ensures { result ≡ colour_of kind }
+{
+    if kind == 0 {
+        return Colour::YCbCr;
+    }
+    Colour::Rct
+}
+
+/// Whether an extra plane comes with chroma planes.
+fn suits(chroma_planes: bool, extra_plane: bool) -> bool
+    ensures { result ≡ (chroma_planes || not extra_plane) }
+{
+    chroma_planes || !extra_plane
+}
+
+/// Colour, bits and chroma.
+fn read_planes(reader: &mut RecordReader<'_>) -> Result<Planes, RecordFault>
+    ensures { Gives (λ p. p) planes reader.old reader.new result }
+{
+    let kind = reader.number_within(0, 1, RecordFault::ColourSpace)?;
+    let colour = colour_of(kind);
+    read_depth(reader)?;
+    let chroma_planes = reader.truth();
+    let log2_h = reader.number()?;
+    let log2_v = reader.number()?;
+    let extra_plane = reader.truth();
+    if !suits(chroma_planes, extra_plane) {
+        return Err(RecordFault::ExtraPlane);
+    }
+    Ok(Planes {
+        colour,
+        chroma_planes,
+        extra_plane,
+        log2_h,
+        log2_v,
+    })
+}
+
+/// A count that is coded less 1.
+fn read_count(reader: &mut RecordReader<'_>) -> Result<u32, RecordFault>
+    ensures { Gives (λ n. n) count_of reader.old reader.new result }
+{
+    let less = reader.number()?;
+    Ok(less + 1)
+}
+
+/// The runs of a quantisation table.
+fn read_table<A: Allocator>(
+    alloc: A,
+    reader: &mut RecordReader<'_>,
+) -> Result<Vec<u8, A>, RecordFault>
+    ensures gives { Gives (λ v. v.items) table reader.old reader.new result }
+    ensures filled { IfOk result (λ v. IsTrue (is_filled v.items)) }
+{
+    let mut states = [128u8; 32];
+    let mut runs = Vec::new(alloc);
+    let mut left = 128u32;
+    while left > 0 {
+        let less = reader.run(&mut states, left - 1)?;
+        runs.push((less + 1) as u8)?;
+        left -= less + 1;
+    }
+    Ok(runs)
+}
+
+/// The set of five tables by their runs.
+fn set_of<A: Allocator + Copy>(
+    alloc: A,
+    first: &[u8],
+    second: &[u8],
+    third: &[u8],
+    fourth: &[u8],
+    fifth: &[u8],
+) -> Result<QuantSet<A>, RecordFault>
+    requires { IsTrue (are_filled (first.now ∷ second.now ∷ third.now ∷ fourth.now ∷ fifth.now ∷ [])) }
+    ensures ok { IfOk result (λ s. s ≡ first.now ∷ second.now ∷ third.now ∷ fourth.now ∷ fifth.now ∷ []) }
+    ensures few { IfOk result (λ s. contexts_of s ≤ 32768) }
+    ensures err { IfErr result (λ f. (f ≡ fault.OutOfMemory) ⊎ ((f ≡ fault.Contexts) × (32768 < contexts_of (first.now ∷ second.now ∷ third.now ∷ fourth.now ∷ fifth.now ∷ [])))) }
+{
+    match QuantSet::from_runs(alloc, &[first, second, third, fourth, fifth]) {
+        Ok(set) => Ok(set),
+        Err(ffv1_plane::Fault::Contexts) => Err(RecordFault::Contexts),
+        Err(_) => Err(RecordFault::OutOfMemory),
+    }
+}
+
+/// A quantisation table set.
+fn read_set<A: Allocator + Copy>(
+    alloc: A,
+    reader: &mut RecordReader<'_>,
+) -> Result<QuantSet<A>, RecordFault>
+    ensures { Gives (λ s. s) set reader.old reader.new result }
+{
+    let first = read_table(alloc, reader)?;
+    let second = read_table(alloc, reader)?;
+    let third = read_table(alloc, reader)?;
+    let fourth = read_table(alloc, reader)?;
+    let fifth = read_table(alloc, reader)?;
+    let set = set_of(alloc, &first, &second, &third, &fourth, &fifth)?;
+    Ok(set)
+}
+
+/// So many sets.
+fn read_sets<A: Allocator + Copy>(
+    alloc: A,
+    reader: &mut RecordReader<'_>,
+    count: u32,
+) -> Result<Sets<A>, RecordFault>
+    ensures { Gives (λ s. s) (sets_onto count []) reader.old reader.new result }
+{
+    let mut sets = Sets::new(alloc);
+    for _index in 0..count {
+        let set = read_set(alloc, reader)?;
+        sets.push(set)?;
+    }
+    Ok(sets)
+}
+
+/// That no set's initial states are coded.
+fn read_uncoded(reader: &mut RecordReader<'_>, count: u32) -> Result<bool, RecordFault>
+    ensures { Gives (λ b. b) (uncoded count) reader.old reader.new result }
+{
+    for _index in 0..count {
+        if reader.truth() {
+            return Err(RecordFault::CodedStates);
+        }
+    }
+    Ok(true)
+}
+
+/// The quantisation table sets.
+fn read_tables<A: Allocator + Copy>(
+    alloc: A,
+    reader: &mut RecordReader<'_>,
+) -> Result<Sets<A>, RecordFault>
+    ensures { Gives (λ s. s) tables reader.old reader.new result }
+{
+    let count = reader.number_within(1, 8, RecordFault::Sets)?;
+    let sets = read_sets(alloc, reader, count)?;
+    read_uncoded(reader, count)?;
+    Ok(sets)
+}
+
+/// A truth value that is coded as a number.
+fn read_flag(reader: &mut RecordReader<'_>, fault: RecordFault) -> Result<bool, RecordFault>
+    ensures { Gives (λ b. b) (flag fault) reader.old reader.new result }
+{
+    let number = reader.number_within(0, 1, fault)?;
+    Ok(number == 1)
+}
+
+/// All parameters.
+fn read_parameters<A: Allocator + Copy>(
+    alloc: A,
+    reader: &mut RecordReader<'_>,
+    width: u32,
+    height: u32,
+) -> Result<Config<A>, RecordFault>
+    ensures { Gives configuration_of (parameters width height) reader.old reader.new result }
+{
+    let coder = read_opening(reader)?;
+    let planes = read_planes(reader)?;
+    let columns = read_count(reader)?;
+    let rows = read_count(reader)?;
+    let sets = read_tables(alloc, reader)?;
+    let ec = read_flag(reader, RecordFault::Ec)?;
+    let intra = read_flag(reader, RecordFault::Intra)?;
+    Ok(Config {
+        width,
+        height,
+        coder,
+        colour: planes.colour,
+        chroma_planes: planes.chroma_planes,
+        extra_plane: planes.extra_plane,
+        log2_h: planes.log2_h,
+        log2_v: planes.log2_v,
+        columns,
+        rows,
+        sets,
+        ec,
+        intra,
+    })
+}
+
+/// The configuration of a record (RFC 9043, 4.3), for pictures of a size that the container tells.
+///
+/// Refuses with `Short` where there are fewer than 5 bytes; else with `Parity` where their remainder is not 0; else with
+/// `BadStart`; else with the first in the order of the bytes of `SymbolTooLong`, `Version` to `ExtraPlane`, `StateTable`,
+/// `Runs`, `Contexts` and `Sets`, each judged where its symbol has been read, the deltas behind their last; else with the
+/// first that `Config::check` finds. `OutOfMemory` where a growth was refused before another fault was met. Bytes between the
+/// parameters and the parity are ignored, and 0 bits of a sample mean 8.
+pub fn read_record<A: Allocator + Copy>(
+    alloc: A,
+    bytes: &[u8],
+    width: u32,
+    height: u32,
+) -> Result<Checked<A>, RecordFault>
+    ensures found { IfOk result (λ c. IsRecord bytes.now c.configuration) }
+    ensures width { IfOk result (λ c. c.configuration.width ≡ width) }
+    ensures height { IfOk result (λ c. c.configuration.height ≡ height) }
+    ensures accepted { IfOk result (λ c. IsAccepted c.configuration c.table) }
+    ensures only { (c : Configuration) (t : Table) → c.width ≡ width → c.height ≡ height → IsAccepted c t → IsWritable c.coder → IsRecord bytes.now c →
+        MatchResult result (λ r. r.configuration ≡ c) (λ f. f ≡ fault.OutOfMemory) }
+    ensures exact { IfErr result (λ f. (f ≡ fault.OutOfMemory) ⊎ IsRefused bytes.now width height f) }
+{
+    if bytes.len() < 5 {
+        return Err(RecordFault::Short);
+    }
+    guarded();
+    if parity(bytes) != 0 {
+        return Err(RecordFault::Parity);
+    }
+    let mut reader = RecordReader::new(&bytes[..bytes.len() - 4])?;
+    let config = read_parameters(alloc, &mut reader, width, height)?;
+    match config.check() {
+        Ok(checked) => Ok(checked),
+        Err(fault) => Err(fault),
+    }
+}
