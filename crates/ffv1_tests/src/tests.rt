@@ -1,5 +1,6 @@
 //! Tests that cross crates.
 
+mod avi;
 mod coder;
 mod orders;
 mod record;

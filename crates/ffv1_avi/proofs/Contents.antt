@@ -1,0 +1,199 @@
+-- The bytes of a chunk, with their padding.
+use Rattle.std.proofs.Common.{◌≡◌, ℕ, suc, zero, ◌+◌, ◌-◌, ◌≤◌, ◌<◌, ◌%◌, if◌then◌else◌, ◌⊎◌, nat_lt, nat_le, true, false, [], ◌∷◌, Option, Some, None, Result, Ok, Err, List, ◌++◌, length, take, drop, codes, ap, ◌∙◌, sym, arith, refl, inl, inr, zero-add, length-take, length-drop, length-append}
+use Rattle.std.proofs.lemmas.Bool.{cases_lt, lt-ltb, le-ltb, le-leb, lt-leb}
+use Rattle.std.proofs.lemmas.Grind.{common_steps}
+use Rattle.std.proofs.lemmas.List.{drop-append-le, take-append-le}
+use Rattle.std.proofs.Math.Seq.{drop-append_seam, take-add, take-append_seam}
+use Rattle.byteorder.specs.Endian.{little_number}
+use Rattle.byteorder.specs.Numbers.{little_from-append, little_from-take}
+use Rattle.ffv1_avi.specs.declared.fault.AviFault.{AviFault}
+use Rattle.ffv1_avi.specs.declared.fault.AviFault.TheVariants as fault
+use Rattle.ffv1_avi.specs.Reads.{AppendsSome, Reading, content, given, padded, passed, read_on, taken, ◌>>=◌}
+use Rattle.ffv1_avi.specs.Streams.{Format, format_in, format_of, rates_in, rates_of}
+use Rattle.ffv1_wire.specs.Reads.{Fills}
+use Rattle.ffv1_avi.specs.Walk.{is_name}
+
+-- bytes that are there are taken, and passed
+pub taken_long : (n : ℕ) (text : List ℕ) → n ≤ length text → taken n text ≡ Ok (take n text, drop n text)
+taken_long n text h = rw (le-ltb _ _ h) refl
+
+pub taken_short : (n : ℕ) (text : List ℕ) → length text < n → taken n text ≡ Err fault.Truncated
+taken_short n text h = rw (lt-ltb _ _ h) refl
+
+pub passed_long : (n : ℕ) (text : List ℕ) → n ≤ length text → passed n text ≡ Ok (tt, drop n text)
+passed_long n text h = rw (le-ltb _ _ h) refl
+
+pub passed_short : (n : ℕ) (text : List ℕ) → length text < n → passed n text ≡ Err fault.Truncated
+passed_short n text h = rw (lt-ltb _ _ h) refl
+
+pub drop_more : (m n : ℕ) (text : List ℕ) → drop n (drop m text) ≡ drop (m + n) text
+drop_more zero n text = rw (zero-add n) refl
+drop_more (suc m) n [] = grind (arith, common_steps)
+drop_more (suc m) n (x ∷ xs) = let e : suc m + n ≡ suc (m + n) = omega arith in rw e (drop_more m n xs)
+
+pub content_long : (size : ℕ) (text : List ℕ) → padded size ≤ length text → content size text ≡ Ok (take size text, drop (padded size) text)
+content_long size text h =
+    let here : nat_lt (length text) size ≡ false = le-ltb _ _ (omega (arith, h)) in
+    let behind : nat_lt (length (drop size text)) (size % 2) ≡ false = le-ltb _ _ (omega (arith, h, length-drop size text)) in
+    rw (here, behind, drop_more size (size % 2) text) refl
+
+pub content_short : (size : ℕ) (text : List ℕ) → length text < padded size → content size text ≡ Err fault.Truncated
+content_short size text h = elim (cases_lt (length text) size) [ inl here ↦ rw (lt-ltb _ _ here) refl | inr long ↦ behind long ]
+  where
+    behind : size ≤ length text → content size text ≡ Err fault.Truncated
+    behind long =
+        let here : nat_lt (length text) size ≡ false = le-ltb _ _ long in
+        let end : nat_lt (length (drop size text)) (size % 2) ≡ true = lt-ltb _ _ (omega (arith, h, length-drop size text)) in
+        rw (here, end) refl
+
+-- a number among the first bytes
+pub number_front : (n k : ℕ) (xs ys : List ℕ) → k + n ≤ length xs → little_number n (drop k (xs ++ ys)) ≡ little_number n (drop k xs)
+number_front n k xs ys h =
+    let part : drop k (xs ++ ys) ≡ drop k xs ++ ys = drop-append-le k xs ys (omega (arith, h)) in
+    rw part (little_from-append n (drop k xs) ys (omega (arith, h, length-drop k xs)))
+
+-- what the first 56 bytes of a header say
+abbrev pub rates_front : List ℕ → Option (ℕ × ℕ)
+rates_front head =
+    if is_name (take 4 head) (codes "vids") then Some (little_number 4 (drop 24 head), little_number 4 (drop 20 head)) else None
+
+rates_of_front : (head more : List ℕ) → length head ≡ 56 → rates_of (head ++ more) ≡ rates_front head
+rates_of_front head more long =
+    let room : nat_le 56 (length (head ++ more)) ≡ true = le-leb _ _ (omega (arith, long, length-append head more)) in
+    let name : take 4 (head ++ more) ≡ take 4 head = take-append-le 4 head more (omega (arith, long)) in
+    let rate = number_front 4 24 head more (omega (arith, long)) in
+    let scale = number_front 4 20 head more (omega (arith, long)) in
+    rw (room, name, rate, scale) refl
+
+-- the first bytes and the others
+parted : (n size : ℕ) (text : List ℕ) → n ≤ size → take size text ≡ take n text ++ take (size - n) (drop n text)
+parted n size text h = let e : size ≡ n + (size - n) = omega (arith, h) in ap (λ k. take k text) e ∙ take-add n (size - n) text
+
+pub rates_long : (size : ℕ) → 56 ≤ size → (text : List ℕ) → rates_in size text ≡ (taken 56 >>= λ head. (passed (padded size - 56) >>= λ _. given (rates_front head))) text
+unfolding rates_in
+rates_long size enough text = elim (cases_lt (length text) (padded size)) [ inl few ↦ short few (elim (cases_lt (length text) 56) [ inl none ↦ inl none | inr some ↦ inr some ]) | inr all ↦ long all ]
+  where
+    short : length text < padded size → (length text < 56) ⊎ (56 ≤ length text) → rates_in size text ≡ (taken 56 >>= λ head. (passed (padded size - 56) >>= λ _. given (rates_front head))) text
+    short few (inl none) = ap (λ z. read_on z (λ bytes. given (rates_of bytes))) (content_short size text few) ∙ rw (lt-ltb _ _ none) refl
+    short few (inr some) =
+        let here : nat_lt (length text) 56 ≡ false = le-ltb _ _ some in
+        let behind : nat_lt (length (drop 56 text)) (padded size - 56) ≡ true = lt-ltb _ _ (omega (arith, few, length-drop 56 text)) in
+        ap (λ z. read_on z (λ bytes. given (rates_of bytes))) (content_short size text few) ∙ rw (here, behind) refl
+
+    long : padded size ≤ length text → rates_in size text ≡ (taken 56 >>= λ head. (passed (padded size - 56) >>= λ _. given (rates_front head))) text
+    long all =
+        let here : nat_lt (length text) 56 ≡ false = le-ltb _ _ (omega (arith, all, enough)) in
+        let behind : nat_lt (length (drop 56 text)) (padded size - 56) ≡ false = le-ltb _ _ (omega (arith, all, length-drop 56 text)) in
+        let far : drop (padded size - 56) (drop 56 text) ≡ drop (padded size) text = drop_more 56 (padded size - 56) text ∙ ap (λ k. drop k text) (omega (arith, enough)) in
+        let head : length (take 56 text) ≡ 56 = length-take 56 text ∙ (omega (arith, all, enough)) in
+        let says : rates_of (take size text) ≡ rates_front (take 56 text) = ap rates_of (parted 56 size text enough) ∙ rates_of_front (take 56 text) (take (size - 56) (drop 56 text)) head in
+        ap (λ z. read_on z (λ bytes. given (rates_of bytes))) (content_long size text all) ∙ rw (here, behind, far, says) refl
+
+pub rates_short : (size : ℕ) → size < 56 → (text : List ℕ) → rates_in size text ≡ (passed (padded size) >>= λ _. given None) text
+unfolding rates_in
+rates_short size few text = elim (cases_lt (length text) (padded size)) [ inl less ↦ short less | inr all ↦ long all ]
+  where
+    short : length text < padded size → rates_in size text ≡ (passed (padded size) >>= λ _. given None) text
+    short less = ap (λ z. read_on z (λ bytes. given (rates_of bytes))) (content_short size text less) ∙ rw (lt-ltb _ _ less) refl
+
+    long : padded size ≤ length text → rates_in size text ≡ (passed (padded size) >>= λ _. given None) text
+    long all =
+        let room : nat_le 56 (length (take size text)) ≡ false = lt-leb _ _ (omega (arith, few, length-take size text)) in
+        ap (λ z. read_on z (λ bytes. given (rates_of bytes))) (content_long size text all) ∙ rw (le-ltb _ _ all, room) refl
+
+-- what the first 40 bytes of a format say, with the record behind them
+abbrev pub format_front : List ℕ → List ℕ → Option Format
+format_front head config =
+    if is_name (take 4 (drop 16 head)) (codes "FFV1") then Some (record { width = little_number 4 (drop 4 head); height = little_number 4 (drop 8 head); config_record = config }) else None
+
+format_of_front : (head more : List ℕ) → length head ≡ 40 → format_of (head ++ more) ≡ format_front head more
+format_of_front head more long =
+    let room : nat_le 40 (length (head ++ more)) ≡ true = le-leb _ _ (omega (arith, long, length-append head more)) in
+    let front : drop 16 (head ++ more) ≡ drop 16 head ++ more = drop-append-le 16 head more (omega (arith, long)) in
+    let name : take 4 (drop 16 head ++ more) ≡ take 4 (drop 16 head) = take-append-le 4 (drop 16 head) more (omega (arith, long, length-drop 16 head)) in
+    let width = number_front 4 4 head more (omega (arith, long)) in
+    let height = number_front 4 8 head more (omega (arith, long)) in
+    let behind : drop 40 (head ++ more) ≡ more = ap (λ k. drop k (head ++ more)) (sym long) ∙ drop-append_seam head more in
+    rw (room, front, name, width, height, behind) refl
+
+abbrev pub format_rest : ℕ → List ℕ → Reading (Option Format)
+format_rest size head = taken (size - 40) >>= λ config. (passed (size % 2) >>= λ _. given (format_front head config))
+
+pub format_long : (size : ℕ) → 40 ≤ size → (text : List ℕ) → format_in size text ≡ (taken 40 >>= format_rest size) text
+unfolding format_in
+format_long size enough text = elim (cases_lt (length text) 40) [ inl none ↦ nothing none | inr some ↦ elim (cases_lt (length text) size) [ inl few ↦ short some few | inr all ↦ elim (cases_lt (length text) (padded size)) [ inl most ↦ unpadded all most | inr whole ↦ long whole ] ] ]
+  where
+    judge : Result (List ℕ × List ℕ) AviFault → Result (Option Format × List ℕ) AviFault
+    judge z = read_on z (λ bytes. given (format_of bytes))
+
+    nothing : length text < 40 → judge (content size text) ≡ (taken 40 >>= format_rest size) text
+    nothing none = ap judge (content_short size text (omega (arith, none, enough))) ∙ rw (lt-ltb _ _ none) refl
+
+    short : 40 ≤ length text → length text < size → judge (content size text) ≡ (taken 40 >>= format_rest size) text
+    short some few =
+        let behind : nat_lt (length (drop 40 text)) (size - 40) ≡ true = lt-ltb _ _ (omega (arith, few, some, length-drop 40 text)) in
+        ap judge (content_short size text (omega (arith, few))) ∙ rw (le-ltb _ _ some, behind) refl
+
+    unpadded : size ≤ length text → length text < padded size → judge (content size text) ≡ (taken 40 >>= format_rest size) text
+    unpadded all most =
+        let some : nat_lt (length text) 40 ≡ false = le-ltb _ _ (omega (arith, all, enough)) in
+        let behind : nat_lt (length (drop 40 text)) (size - 40) ≡ false = le-ltb _ _ (omega (arith, all, length-drop 40 text)) in
+        let end : nat_lt (length (drop (size - 40) (drop 40 text))) (size % 2) ≡ true = lt-ltb _ _ (omega (arith, all, most, enough, length-drop 40 text, length-drop (size - 40) (drop 40 text))) in
+        ap judge (content_short size text most) ∙ rw (some, behind, end) refl
+
+    long : padded size ≤ length text → judge (content size text) ≡ (taken 40 >>= format_rest size) text
+    long whole =
+        let some : nat_lt (length text) 40 ≡ false = le-ltb _ _ (omega (arith, whole, enough)) in
+        let behind : nat_lt (length (drop 40 text)) (size - 40) ≡ false = le-ltb _ _ (omega (arith, whole, length-drop 40 text)) in
+        let end : nat_lt (length (drop (size - 40) (drop 40 text))) (size % 2) ≡ false = le-ltb _ _ (omega (arith, whole, enough, length-drop 40 text, length-drop (size - 40) (drop 40 text))) in
+        let far : drop (size % 2) (drop (size - 40) (drop 40 text)) ≡ drop (padded size) text = ap (drop (size % 2)) (drop_more 40 (size - 40) text) ∙ drop_more (40 + (size - 40)) (size % 2) text ∙ ap (λ k. drop k text) (omega (arith, enough)) in
+        let head : length (take 40 text) ≡ 40 = length-take 40 text ∙ (omega (arith, whole, enough)) in
+        let says : format_of (take size text) ≡ format_front (take 40 text) (take (size - 40) (drop 40 text)) = ap format_of (parted 40 size text enough) ∙ format_of_front (take 40 text) (take (size - 40) (drop 40 text)) head in
+        ap judge (content_long size text whole) ∙ rw (some, behind, end, far, says) refl
+
+pub format_short : (size : ℕ) → size < 40 → (text : List ℕ) → format_in size text ≡ (passed (padded size) >>= λ _. given None) text
+unfolding format_in
+format_short size few text = elim (cases_lt (length text) (padded size)) [ inl less ↦ short less | inr all ↦ long all ]
+  where
+    short : length text < padded size → format_in size text ≡ (passed (padded size) >>= λ _. given None) text
+    short less = ap (λ z. read_on z (λ bytes. given (format_of bytes))) (content_short size text less) ∙ rw (lt-ltb _ _ less) refl
+
+    long : padded size ≤ length text → format_in size text ≡ (passed (padded size) >>= λ _. given None) text
+    long all =
+        let room : nat_le 40 (length (take size text)) ≡ false = lt-leb _ _ (omega (arith, few, length-take size text)) in
+        ap (λ z. read_on z (λ bytes. given (format_of bytes))) (content_long size text all) ∙ rw (le-ltb _ _ all, room) refl
+
+-- a number at the front of some bytes
+pub number_taken : (m : ℕ) (xs : List ℕ) → 4 ≤ m → little_number 4 (take m xs) ≡ little_number 4 xs
+number_taken m xs h = little_from-take 0 4 m xs h
+
+-- the bytes that were read behind others, where they are fewer than were wanted
+pub appends_some : (old new : Option (List ℕ)) (items buf : List ℕ) (done n m : ℕ) → take done buf ≡ items → done + n ≤ length buf → Fills old new n (drop done buf) → n ≤ m → AppendsSome old m items (take (done + n) buf)
+appends_some None new items buf done n m kept bound read most = tt
+appends_some (Some text) None items buf done n m kept bound read most = absurd read.0
+appends_some (Some text) (Some rest) items buf done n m kept bound read most =
+    let size : length (take n (drop done buf)) ≡ n = length-take n (drop done buf) ∙ (omega (arith, bound, length-drop done buf)) in
+    let front : take n text ≡ take n (drop done buf) = ap (take n) read.0 ∙ cut (take n (drop done buf)) rest n size in
+    (n, most, take-add done n buf ∙ (rw (kept, front) refl))
+  where
+    cut : (xs ys : List ℕ) (k : ℕ) → length xs ≡ k → take k (xs ++ ys) ≡ xs
+    cut xs ys k size = rw (← size) (take-append_seam xs ys)
+
+-- a format that is not FFV1
+pub format_wrong : (size : ℕ) (head : List ℕ) → 40 ≤ size → is_name (take 4 (drop 16 head)) (codes "FFV1") ≡ false → (text : List ℕ) → format_rest size head text ≡ (passed (padded size - 40) >>= λ _. given None) text
+format_wrong size head enough wrong text = rw wrong (elim (cases_lt (length text) (size - 40)) [ inl few ↦ short few | inr some ↦ elim (cases_lt (length text) (padded size - 40)) [ inl most ↦ unpadded some most | inr all ↦ long all ] ])
+  where
+    short : length text < size - 40 → (taken (size - 40) >>= λ config. (passed (size % 2) >>= λ _. given {X = Option Format} None)) text ≡ (passed (padded size - 40) >>= λ _. given None) text
+    short few = rw (lt-ltb _ _ few, lt-ltb (length text) (padded size - 40) (omega (arith, few, enough))) refl
+
+    unpadded : size - 40 ≤ length text → length text < padded size - 40 → (taken (size - 40) >>= λ config. (passed (size % 2) >>= λ _. given {X = Option Format} None)) text ≡ (passed (padded size - 40) >>= λ _. given None) text
+    unpadded some most =
+        let end : nat_lt (length (drop (size - 40) text)) (size % 2) ≡ true = lt-ltb _ _ (omega (arith, some, most, enough, length-drop (size - 40) text)) in
+        rw (le-ltb _ _ some, end, lt-ltb _ _ most) refl
+
+    long : padded size - 40 ≤ length text → (taken (size - 40) >>= λ config. (passed (size % 2) >>= λ _. given {X = Option Format} None)) text ≡ (passed (padded size - 40) >>= λ _. given None) text
+    long all =
+        let here : nat_lt (length text) (size - 40) ≡ false = le-ltb _ _ (omega (arith, all, enough)) in
+        let end : nat_lt (length (drop (size - 40) text)) (size % 2) ≡ false = le-ltb _ _ (omega (arith, all, enough, length-drop (size - 40) text)) in
+        let far : drop (size % 2) (drop (size - 40) text) ≡ drop (padded size - 40) text = drop_more (size - 40) (size % 2) text ∙ ap (λ k. drop k text) (omega (arith, enough)) in
+        rw (here, end, far, le-ltb _ _ all) refl

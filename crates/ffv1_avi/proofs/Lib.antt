@@ -1,0 +1,17 @@
+mod Writing
+mod Sizes
+mod Reading
+mod Contents
+mod Fills
+mod Walking
+pub mod Chunking
+pub mod Passing
+pub mod Fields
+pub mod StreamLaws
+pub mod HeaderLaws
+pub mod TopLaws
+pub mod PartLaws
+pub mod OpenLaws
+pub mod FrameLaws
+pub mod FileLaws
+pub mod WrittenLaws

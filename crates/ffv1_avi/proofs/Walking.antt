@@ -1,0 +1,122 @@
+-- A walk, chunk by chunk.
+use Rattle.std.proofs.Common.{◌≡◌, ℕ, suc, zero, ◌+◌, ◌-◌, ◌≤◌, ◌&&◌, nat_lt, ◌==◌, Bool, true, false, Option, Some, None, Result, Ok, Err, List, length, take, drop, codes, ap, ◌∙◌, arith, refl}
+use Rattle.std.proofs.lemmas.Bool.{ltb-false}
+use Rattle.byteorder.specs.Endian.{little_number}
+use Rattle.ffv1_avi.specs.declared.chunk.Entry.{Entry}
+use Rattle.ffv1_avi.specs.declared.fault.AviFault.{AviFault}
+use Rattle.ffv1_avi.specs.Reads.{Read, Reading, Refused, padded, read_on, ◌>>=◌}
+use Rattle.ffv1_avi.specs.Walk.{Visit, entry_judged, entry_read, is_name, resumed, visited, walk, walk_up_to}
+use Rattle.ffv1_avi.proofs.Reading.{Goes, goes_read, goes_refused, goes_same}
+
+-- readings in a row
+pub read_on_twice : {X Y Z : Type 0} (z : Result (X × List ℕ) AviFault) (f : X → Reading Y) (k : Y → Reading Z) → read_on (read_on z f) k ≡ read_on z (λ x. f x >>= k)
+read_on_twice (Ok p) f k = refl
+read_on_twice (Err e) f k = refl
+
+pub some_is : {X : Type 0} (x y : X) → Some x ≡ Some y → x ≡ y
+some_is x y e = cc
+
+pub ok_is : {X : Type 0} (p q : X × List ℕ) → ◌≡◌ {A = Result (X × List ℕ) AviFault} (Ok p) (Ok q) → p ≡ q
+ok_is p q e = cc
+
+-- what the list has left behind a chunk is less
+judged_less : (left size : ℕ) (name text : List ℕ) (e : Entry) (rest : List ℕ) (a b : Bool) → nat_lt left (8 + padded size) ≡ a → (is_name name (codes "LIST") && nat_lt size 4) ≡ b → entry_judged left name size text ≡ Ok (Some e, rest) → e.left + 8 ≤ left
+judged_less left size name text e rest true b p q h = absurd (cc (rw p at h))
+judged_less left size name text e rest false true p q h = absurd (cc (rw (p, q) at h))
+judged_less left size name text e rest false false p q h =
+    let made : Entry = record { name = name; size = size; left = left - (8 + padded size) } in
+    let found : Ok (Some made, text) ≡ Ok (Some e, rest) = rw (p, q) at h in
+    let same : Some made ≡ Some e = ap (λ (z : Option Entry × List ℕ). z.0) (ok_is (Some made, text) (Some e, rest) found) in
+    let behind : made.left ≡ e.left = ap (λ (z : Entry). z.left) (some_is made e same) in
+    let room : 8 + padded size ≤ left = ltb-false _ _ p in
+    omega (arith, behind, room)
+
+entry_less : (left : ℕ) (text : List ℕ) (e : Entry) (rest : List ℕ) → entry_read left text ≡ Ok (Some e, rest) → e.left + 8 ≤ left
+unfolding entry_read
+entry_less left text e rest h = on_left (left == 0) (nat_lt left 8) (nat_lt (length text) 8) refl refl refl h
+  where
+    on_left : (a b c : Bool) → (left == 0) ≡ a → nat_lt left 8 ≡ b → nat_lt (length text) 8 ≡ c → entry_read left text ≡ Ok (Some e, rest) → e.left + 8 ≤ left
+    on_left true b c p q r h =
+        let none : Ok (None, text) ≡ Ok (Some e, rest) = rw p at h in
+        let same : None ≡ Some e = ap (λ (z : Option Entry × List ℕ). z.0) (ok_is (None, text) (Some e, rest) none) in
+        absurd (cc)
+    on_left false true c p q r h = absurd (cc (rw (p, q) at h))
+    on_left false false true p q r h = absurd (cc (rw (p, q, r) at h))
+    on_left false false false p q r h = judged_less left (little_number 4 (drop 4 (take 8 text))) (take 4 (take 8 text)) (drop 8 text) e rest _ _ refl refl (rw (p, q, r) at h)
+
+-- more chunks than there can be make no difference
+walk_enough : {S Y : Type 0} (visit : Visit S Y) (f g left : ℕ) (s : S) (text : List ℕ) → left ≤ f → left ≤ g → walk_up_to visit f left s text ≡ walk_up_to visit g left s text
+unfolding walk_up_to entry_read
+walk_enough visit zero zero left s text h k = refl
+walk_enough {S = S} {Y = Y} visit zero (suc g) left s text h k =
+    let none : left ≡ 0 = omega (arith, h) in
+    rw none refl
+walk_enough {S = S} {Y = Y} visit (suc f) zero left s text h k =
+    let none : left ≡ 0 = omega (arith, k) in
+    rw none refl
+walk_enough {S = S} {Y = Y} visit (suc f) (suc g) left s text h k = on_entry (λ l t rest. walk_enough visit f g l t rest) (entry_read left text) refl
+  where
+    Same : Type 0
+    Same = (l : ℕ) (t : S) (rest : List ℕ) → l ≤ f → l ≤ g → walk_up_to visit f l t rest ≡ walk_up_to visit g l t rest
+
+    on_visit : Same → (e : Entry) → e.left ≤ f → e.left ≤ g → (z : Result ((S × Option Y) × List ℕ) AviFault) →
+        read_on z (λ p. resumed (walk_up_to visit f e.left) p.0 p.1) ≡ read_on z (λ p. resumed (walk_up_to visit g e.left) p.0 p.1)
+    on_visit same e less more (Err x) = refl
+    on_visit same e less more (Ok ((t, Some y), rest)) = refl
+    on_visit same e less more (Ok ((t, None), rest)) = same e.left t rest less more
+
+    on_entry : Same → (z : Result (Option Entry × List ℕ) AviFault) → entry_read left text ≡ z → read_on z (visited visit (walk_up_to visit f) s) ≡ read_on z (visited visit (walk_up_to visit g) s)
+    on_entry same (Err x) is = refl
+    on_entry same (Ok (None, rest)) is = refl
+    on_entry same (Ok (Some e, rest)) is =
+        let less = entry_less left text e rest is in
+        on_visit same e (omega (arith, less, h)) (omega (arith, less, k)) (visit s e rest)
+
+-- a walk is its first chunk, and the walk behind it
+pub walk_step : {S Y : Type 0} (visit : Visit S Y) (left : ℕ) (s : S) (text : List ℕ) → walk visit left s text ≡ (entry_read left >>= visited visit (walk visit) s) text
+unfolding walk_up_to entry_read
+walk_step visit zero s text = refl
+walk_step {S = S} {Y = Y} visit (suc n) s text = on_entry (entry_read (suc n) text) refl
+  where
+    on_visit : (e : Entry) → e.left ≤ n → (z : Result ((S × Option Y) × List ℕ) AviFault) →
+        read_on z (λ p. resumed (walk_up_to visit n e.left) p.0 p.1) ≡ read_on z (λ p. resumed (walk visit e.left) p.0 p.1)
+    on_visit e less (Err x) = refl
+    on_visit e less (Ok ((t, Some y), rest)) = refl
+    on_visit e less (Ok ((t, None), rest)) = walk_enough visit n e.left e.left t rest less (omega arith)
+
+    on_entry : (z : Result (Option Entry × List ℕ) AviFault) → entry_read (suc n) text ≡ z → read_on z (visited visit (walk_up_to visit n) s) ≡ read_on z (visited visit (walk visit) s)
+    on_entry (Err x) is = refl
+    on_entry (Ok (None, rest)) is = refl
+    on_entry (Ok (Some e, rest)) is =
+        let less = entry_less (suc n) text e rest is in
+        on_visit e (omega (arith, less)) (visit s e rest)
+
+-- what is read behind a walk's first header
+abbrev pub behind_entry : {S X Y : Type 0} → Visit S Y → S → (S × Option Y → Reading X) → Option Entry → Reading X
+behind_entry visit s k e = visited visit (walk visit) s e >>= k
+
+pub walk_then : {S X Y : Type 0} (visit : Visit S Y) (left : ℕ) (s : S) (k : S × Option Y → Reading X) (text : List ℕ) → (walk visit left s >>= k) text ≡ (entry_read left >>= behind_entry visit s k) text
+walk_then visit left s k text = ap (λ z. read_on z k) (walk_step visit left s text) ∙ read_on_twice (entry_read left text) (visited visit (walk visit) s) k
+
+-- what is read behind a walk's first chunk
+abbrev pub behind_chunk : {S X Y : Type 0} → Visit S Y → ℕ → (S × Option Y → Reading X) → S × Option Y → Reading X
+behind_chunk visit left k p = resumed (walk visit left) p.0 p.1 >>= k
+
+-- a call reads a header
+pub goes_entry : {S X Y : Type 0} {whole : Reading X} {old now : Option (List ℕ)} {before after : ℕ} (visit : Visit S Y) (left : ℕ) (s : S) (k : S × Option Y → Reading X) (new : Option (List ℕ)) (last : ℕ) (e : Entry) →
+    Goes whole old before (walk visit left s >>= k) now after → (last ≡ after) × Read (entry_read left) now new (Some e) → Goes whole old before (visit s e >>= behind_chunk visit e.left k) new last
+goes_entry visit left s k new last e h read =
+    let first = goes_read (entry_read left) (behind_entry visit s k) new last (Some e) (goes_same _ (entry_read left >>= behind_entry visit s k) (walk_then visit left s k) h) read in
+    goes_same _ (visit s e >>= behind_chunk visit e.left k) (λ text. read_on_twice (visit s e text) (λ p. resumed (walk visit e.left) p.0 p.1) k) first
+
+-- or finds the list's end
+pub goes_end : {S X Y : Type 0} {whole : Reading X} {old now : Option (List ℕ)} {before after : ℕ} (visit : Visit S Y) (left : ℕ) (s : S) (k : S × Option Y → Reading X) (new : Option (List ℕ)) (last : ℕ) →
+    Goes whole old before (walk visit left s >>= k) now after → (last ≡ after) × Read (entry_read left) now new None → Goes whole old before (k (s, None)) new last
+goes_end visit left s k new last h read =
+    goes_read (entry_read left) (behind_entry visit s k) new last None (goes_same _ (entry_read left >>= behind_entry visit s k) (walk_then visit left s k) h) read
+
+-- or is refused
+pub goes_no_entry : {S X Y : Type 0} {whole : Reading X} {old now : Option (List ℕ)} {before after : ℕ} (visit : Visit S Y) (left : ℕ) (s : S) (k : S × Option Y → Reading X) (last : ℕ) (f : AviFault) →
+    Goes whole old before (walk visit left s >>= k) now after → Refused (entry_read left) now after last f → Refused whole old before last f
+goes_no_entry visit left s k last f h why =
+    goes_refused (entry_read left) (behind_entry visit s k) last f (goes_same _ (entry_read left >>= behind_entry visit s k) (walk_then visit left s k) h) why

@@ -1,0 +1,142 @@
+-- A file as lists of chunks, apart from how it is walked.
+use Rattle.std.specs.Prelude.{◌≡◌, ℕ, ◌+◌, ◌≤◌, ◌<◌, ◌%◌, ◌^◌, ◌&&◌, ◌==◌, Bool, true, false, if◌then◌else◌, List, [], ◌∷◌, ◌++◌, length, take, codes, flat_map, map, Option, Some, None}
+use Rattle.byteorder.specs.Endian.{little_number}
+use Rattle.ffv1_avi.specs.Head.{Head}
+use Rattle.ffv1_avi.specs.Reads.{padded}
+use Rattle.ffv1_avi.specs.Walk.{is_name}
+use Rattle.ffv1_avi.specs.Streams.{limit, rates_of, format_of}
+use Rattle.ffv1_avi.specs.Written.{most, riff_size}
+
+-- a chunk: its name, its size as it is spelled, its bytes and its padding
+pub record Chunk : Type 0 where
+  pub name : List ℕ
+  pub size : List ℕ
+  pub bytes : List ℕ
+  pub padding : List ℕ
+
+-- a name and a size of four bytes each, as many bytes as the size says, and one more where they are odd; a list has
+-- room for a name of its own
+pub record IsChunk (c : Chunk) : Type 0 where
+  pub named : length c.name ≡ 4
+  pub sized : length c.size ≡ 4
+  pub counted : little_number 4 c.size ≡ length c.bytes
+  pub padded : length c.padding ≡ length c.bytes % 2
+  pub listed : is_name c.name (codes "LIST") ≡ true → 4 ≤ length c.bytes
+
+abbrev pub AreChunks : List Chunk → Type 0
+AreChunks [] = Unit {0}
+AreChunks (c ∷ cs) = IsChunk c × AreChunks cs
+
+abbrev pub chunk_text : Chunk → List ℕ
+chunk_text c = c.name ++ c.size ++ c.bytes ++ c.padding
+
+abbrev pub chunks_text : List Chunk → List ℕ
+chunks_text cs = flat_map chunk_text cs
+
+-- whether a chunk has this name
+abbrev pub is_named : List ℕ → Chunk → Bool
+is_named name c = is_name c.name name
+
+-- whether a chunk is a list of this own name
+abbrev pub is_list : List ℕ → Chunk → Bool
+is_list own c = is_named (codes "LIST") c && is_name (take 4 c.bytes) own
+
+-- the chunks that pass a test
+abbrev pub those : (Chunk → Bool) → List Chunk → List Chunk
+those test [] = []
+those test (c ∷ cs) = if test c then c ∷ those test cs else those test cs
+
+-- the first chunk that passes a test
+abbrev pub first_of : List Chunk → Option Chunk
+first_of [] = None
+first_of (c ∷ cs) = Some c
+
+-- a chunk of RIFF: a list hdrl, by its chunks, or another one
+pub data Part : Type 0 where
+  Header : List ℕ → List Chunk → List ℕ → Part
+  Other : Chunk → Part
+
+-- the chunk that it is
+abbrev pub part_chunk : Part → Chunk
+part_chunk (Header size cs padding) = record { name = codes "LIST"; size = size; bytes = codes "hdrl" ++ chunks_text cs; padding = padding }
+part_chunk (Other c) = c
+
+-- the chunks in it, of a header
+abbrev pub header_chunks : Part → List Chunk
+header_chunks (Header size cs padding) = cs
+header_chunks (Other c) = []
+
+-- what may stand in RIFF before movi
+abbrev pub IsPart : Part → Type 0
+IsPart (Header size cs padding) = IsChunk (part_chunk (Header size cs padding)) × AreChunks cs
+IsPart (Other c) = IsChunk c × (is_list (codes "hdrl") c ≡ false) × (is_list (codes "movi") c ≡ false)
+
+abbrev pub AreParts : List Part → Type 0
+AreParts [] = Unit {0}
+AreParts (p ∷ ps) = IsPart p × AreParts ps
+
+-- the streams of a file, in order
+abbrev pub streams : List Part → List Chunk
+streams parts = those (is_list (codes "strl")) (flat_map header_chunks parts)
+
+-- what the first header and the first format of a stream say is this head
+pub record Says (fields : List Chunk) (head : Head) : Type 0 where
+  pub header : Chunk
+  pub format : Chunk
+  pub first_header : first_of (those (is_named (codes "strh")) fields) ≡ Some header
+  pub first_format : first_of (those (is_named (codes "strf")) fields) ≡ Some format
+  pub short : length format.bytes ≤ limit
+  pub video : rates_of header.bytes ≡ Some (head.rate, head.scale)
+  pub ffv1 : format_of format.bytes ≡ Some (record { width = head.width; height = head.height; config_record = head.config_record })
+  pub both : (head.rate == 0) ≡ (head.scale == 0)
+
+-- a stream's list has this head
+pub record IsStream (stream : Chunk) (head : Head) : Type 0 where
+  pub fields : List Chunk
+  pub bytes : stream.bytes ≡ codes "strl" ++ chunks_text fields
+  pub each : AreChunks fields
+  pub says : Says fields head
+
+-- frames that have bytes, and not too many
+abbrev pub AreSized : List (List ℕ) → Type 0
+AreSized [] = Unit {0}
+AreSized (f ∷ fs) = (0 < length f) × (length f ≤ limit) × AreSized fs
+
+-- the frames are the chunks 00dc of movi, which has no lists
+pub record AreFrames (chunks : List Chunk) (frames : List (List ℕ)) : Type 0 where
+  pub each : AreChunks chunks
+  pub no_list : those (is_named (codes "LIST")) chunks ≡ []
+  pub those_of : map (λ (c : Chunk). c.bytes) (those (is_named (codes "00dc")) chunks) ≡ frames
+  pub sized : AreSized frames
+
+-- a file with this head and these frames: RIFF with its parts and then the first movi, which fits in it; behind the
+-- chunks of movi may stand whatever does
+pub record AviFile (file : List ℕ) (head : Head) (frames : List (List ℕ)) : Type 0 where
+  pub riff_size : List ℕ
+  pub parts : List Part
+  pub movi_size : List ℕ
+  pub chunks : List Chunk
+  pub rest : List ℕ
+  pub stream : Chunk
+  pub others : List Chunk
+  pub bytes : file ≡ (codes "RIFF" ++ riff_size ++ codes "AVI ") ++ (flat_map (λ p. chunk_text (part_chunk p)) parts ++ ((codes "LIST" ++ movi_size ++ codes "movi") ++ (chunks_text chunks ++ rest)))
+  pub riff_sized : length riff_size ≡ 4
+  pub movi_sized : length movi_size ≡ 4
+  pub counted : little_number 4 movi_size ≡ 4 + length (chunks_text chunks)
+  pub fits : 4 + length (flat_map (λ p. chunk_text (part_chunk p)) parts) + (8 + padded (little_number 4 movi_size)) ≤ little_number 4 riff_size
+  pub each : AreParts parts
+  pub first : streams parts ≡ stream ∷ others
+  pub says : IsStream stream head
+  pub framed : AreFrames chunks frames
+
+-- what is written so that it can be read: numbers of 32 bits, rate and scale both zero or neither, frames and a format that are
+-- not too long, and a size of RIFF that is not too great
+pub record IsWritable (head : Head) (frames : List (List ℕ)) : Type 0 where
+  pub width : head.width < 2 ^ 32
+  pub height : head.height < 2 ^ 32
+  pub rate : head.rate < 2 ^ 32
+  pub scale : head.scale < 2 ^ 32
+  pub both : (head.rate == 0) ≡ (head.scale == 0)
+  pub short : 40 + length head.config_record ≤ limit
+  pub sized : AreSized frames
+  pub small : riff_size head frames ≤ most

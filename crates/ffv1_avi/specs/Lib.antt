@@ -1,0 +1,10 @@
+pub mod Head
+pub mod Reads
+pub mod Walk
+pub mod Streams
+pub mod Files
+pub mod Written
+pub mod Chunks
+pub mod Views
+pub mod Writes
+pub mod Readers

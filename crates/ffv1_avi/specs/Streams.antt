@@ -1,0 +1,84 @@
+-- The first stream of a file: what its header and its format say.
+use Rattle.std.specs.Prelude.{ℕ, ◌==◌, ◌&&◌, if◌then◌else◌, nat_lt, nat_le, List, length, take, drop, codes, Option, Some, None}
+use Rattle.byteorder.specs.Endian.{little_number}
+use Rattle.ffv1_avi.specs.declared.fault.AviFault.TheVariants as fault
+use Rattle.ffv1_avi.specs.Head.{Head}
+use Rattle.ffv1_avi.specs.Reads.{Reading, given, refused, passed, padded, content, ◌>>=◌}
+use Rattle.ffv1_avi.specs.Walk.{is_name, Visit, walk}
+
+-- the most bytes of a frame, and of a format
+abbrev pub limit : ℕ
+limit = 67108864
+
+-- the rate and the scale of a stream's header, where it is one of video
+abbrev pub rates_of : List ℕ → Option (ℕ × ℕ)
+rates_of bytes =
+    if nat_le 56 (length bytes) && is_name (take 4 bytes) (codes "vids")
+    then Some (little_number 4 (drop 24 bytes), little_number 4 (drop 20 bytes))
+    else None
+
+-- a format: the sizes, and the configuration record
+pub record Format : Type 0 where
+  pub width : ℕ
+  pub height : ℕ
+  pub config_record : List ℕ
+
+-- a stream's format, where it is FFV1
+abbrev pub format_of : List ℕ → Option Format
+format_of bytes =
+    if nat_le 40 (length bytes) && is_name (take 4 (drop 16 bytes)) (codes "FFV1")
+    then Some (record { width = little_number 4 (drop 4 bytes); height = little_number 4 (drop 8 bytes); config_record = drop 40 bytes })
+    else None
+
+-- what is known of a stream so far: whether a header came, and a format, and what they say
+pub record Known : Type 0 where
+  pub rates : Option (Option (ℕ × ℕ))
+  pub format : Option (Option Format)
+
+abbrev pub nothing_known : Known
+nothing_known = record { rates = None; format = None }
+
+-- the head of a video, whose rate and scale are both zero or neither
+abbrev pub head_judged : ℕ × ℕ → Format → Reading Head
+head_judged rates format =
+    if rates.0 == 0
+    then (if rates.1 == 0 then given (record { width = format.width; height = format.height; rate = rates.0; scale = rates.1; config_record = format.config_record }) else refused fault.NotAvi)
+    else (if rates.1 == 0 then refused fault.NotAvi else given (record { width = format.width; height = format.height; rate = rates.0; scale = rates.1; config_record = format.config_record }))
+
+-- a stream is judged at its end
+abbrev pub stream_judged : Option (Option (ℕ × ℕ)) → Option (Option Format) → Reading Head
+stream_judged (Some (Some rates)) (Some (Some format)) = head_judged rates format
+stream_judged rates format = refused fault.NoFfv1
+
+-- a chunk that says nothing here
+abbrev pub skipped : {S Y : Type 0} → S → ℕ → Reading (S × Option Y)
+skipped s size = passed (padded size) >>= λ _. given (s, None)
+
+-- what a header of such a size says
+unfoldable pub rates_in : ℕ → Reading (Option (ℕ × ℕ))
+rates_in size = content size >>= λ bytes. given (rates_of bytes)
+
+-- what a format of such a size says
+unfoldable pub format_in : ℕ → Reading (Option Format)
+format_in size = content size >>= λ bytes. given (format_of bytes)
+
+-- the first header of the stream counts
+abbrev pub rates_read : Known → ℕ → Option (Option (ℕ × ℕ)) → Reading (Known × Option ⊥)
+rates_read k size None = rates_in size >>= λ r. given (record { rates = Some r; format = k.format }, None)
+rates_read k size (Some old) = skipped k size
+
+-- the first format of the stream counts; one that is too long is not read
+abbrev pub format_read : Known → ℕ → Option (Option Format) → Reading (Known × Option ⊥)
+format_read k size None = if nat_lt limit size then refused fault.ChunkTooLong else (format_in size >>= λ f. given (record { rates = k.rates; format = Some f }, None))
+format_read k size (Some old) = skipped k size
+
+-- a chunk of a stream's list
+unfoldable pub visit_field : Visit Known ⊥
+visit_field k e =
+    if is_name e.name (codes "strh") then rates_read k e.size k.rates
+    else if is_name e.name (codes "strf") then format_read k e.size k.format
+    else skipped k e.size
+
+-- the head of a stream's list with so many bytes behind its own name
+unfoldable pub stream_read : ℕ → Reading Head
+stream_read room = walk visit_field room nothing_known >>= λ k. stream_judged k.0.rates k.0.format

@@ -1,0 +1,170 @@
+//! The first stream of a file, by the chunks of its list.
+
+ghost use Rattle.std.specs.Prelude.{◌≡◌, ◌+◌, ◌*◌, ◌<◌, ◌≤◌, ℕ, List, Option, None, Some, length};
+ghost use Rattle.ffv1_avi.specs.Reads.{Answers};
+ghost use Rattle.ffv1_avi.specs.Streams.{format_in, format_read, rates_in, rates_read, stream_judged, stream_read, visit_field};
+ghost use Rattle.ffv1_avi.specs.Views.{came_with, format_with, head_with, known_next, known_with};
+
+use crate::chunk::{Entry, fill, is_name, next_entry, padded, pass, take};
+use crate::fault::AviFault;
+use byteorder::{ByteOrder, LittleEndian};
+use ffv1_wire::ByteIn;
+use std::alloc::Allocator;
+
+/// The most bytes of a frame, and of a format.
+pub(crate) const LIMIT: u32 = 67_108_864;
+
+/// What a head says beside its record.
+#[derive(Clone, Copy)]
+pub(crate) struct Sizes {
+    pub(crate) width: u32,
+    pub(crate) height: u32,
+    pub(crate) rate: u32,
+    pub(crate) scale: u32,
+}
+
+/// What is known of a stream so far: whether its header came, and what rate and scale it says; whether its format came,
+/// and what width and height that says.
+#[derive(Clone, Copy)]
+pub(crate) struct Fields {
+    rates: Option<Option<(u32, u32)>>,
+    format: Option<Option<(u32, u32)>>,
+}
+
+/// The rate and the scale of a stream's header of such a size, where it is one of video.
+fn read_rates<R: ByteIn>(input: &mut R, size: u32) -> Result<Option<(u32, u32)>, AviFault>
+    ensures { Answers (λ (r : Option (ℕ × ℕ)). r) (rates_in size) (R.remaining input.old) (R.remaining input.new) (R.failures input.old) (R.failures input.new) result }
+{
+    if size < 56 {
+        pass(input, padded(size))?;
+        return Ok(None);
+    }
+    let mut head = [0u8; 56];
+    take(input, &mut head)?;
+    pass(input, padded(size) - 56)?;
+    if !is_name(&head[..4], b"vids") {
+        return Ok(None);
+    }
+    let rate = LittleEndian::read_u32(&head[24..]);
+    let scale = LittleEndian::read_u32(&head[20..]);
+    Ok(Some((rate, scale)))
+}
+
+/// The width and the height of a stream's format of such a size, and its record in place of what the vector has, where it is FFV1.
+fn read_format<R: ByteIn, A: Allocator>(
+    input: &mut R,
+    size: u32,
+    config: &mut Vec<u8, A>,
+) -> Result<Option<(u32, u32)>, AviFault>
+    ensures { Answers (λ (f : Option (ℕ × ℕ)). format_with f config.new.items) (format_in size) (R.remaining input.old) (R.remaining input.new) (R.failures input.old) (R.failures input.new) result }
+{
+    if size < 40 {
+        pass(input, padded(size))?;
+        return Ok(None);
+    }
+    let mut head = [0u8; 40];
+    take(input, &mut head)?;
+    if !is_name(&head[16..20], b"FFV1") {
+        pass(input, padded(size) - 40)?;
+        return Ok(None);
+    }
+    fill(input, size as usize - 40, config)?;
+    pass(input, u64::from(size % 2))?;
+    let width = LittleEndian::read_u32(&head[4..]);
+    let height = LittleEndian::read_u32(&head[8..]);
+    Ok(Some((width, height)))
+}
+
+/// A header of a stream: the first one counts.
+fn visit_rates<R: ByteIn>(input: &mut R, fields: Fields, size: u32) -> Result<Fields, AviFault>
+    ensures { (bytes : List ℕ) → Answers (λ (k : Fields). known_next k bytes) (rates_read (known_with fields bytes) size fields.rates) (R.remaining input.old) (R.remaining input.new) (R.failures input.old) (R.failures input.new) result }
+{
+    let mut fields = fields;
+    if fields.rates.is_some() {
+        pass(input, padded(size))?;
+        return Ok(fields);
+    }
+    fields.rates = Some(read_rates(input, size)?);
+    Ok(fields)
+}
+
+/// A format of a stream: the first one counts, and is not read where it is too long.
+fn visit_format<R: ByteIn, A: Allocator>(
+    input: &mut R,
+    fields: Fields,
+    size: u32,
+    config: &mut Vec<u8, A>,
+) -> Result<Fields, AviFault>
+    ensures { Answers (λ (k : Fields). known_next k config.new.items) (format_read (known_with fields config.old.items) size (came_with fields.format config.old.items)) (R.remaining input.old) (R.remaining input.new) (R.failures input.old) (R.failures input.new) result }
+{
+    let mut fields = fields;
+    if fields.format.is_some() {
+        pass(input, padded(size))?;
+        return Ok(fields);
+    }
+    if size > LIMIT {
+        return Err(AviFault::ChunkTooLong);
+    }
+    fields.format = Some(read_format(input, size, config)?);
+    Ok(fields)
+}
+
+/// A chunk of a stream's list.
+#[tactic(auto, unfolding(crate::specs::Streams::visit_field))]
+fn visit_field<R: ByteIn, A: Allocator>(
+    input: &mut R,
+    fields: Fields,
+    entry: Entry,
+    config: &mut Vec<u8, A>,
+) -> Result<Fields, AviFault>
+    ensures { Answers (λ (k : Fields). known_next k config.new.items) (visit_field (known_with fields config.old.items) entry) (R.remaining input.old) (R.remaining input.new) (R.failures input.old) (R.failures input.new) result }
+{
+    if is_name(&entry.name, b"strh") {
+        return visit_rates(input, fields, entry.size);
+    }
+    if is_name(&entry.name, b"strf") {
+        return visit_format(input, fields, entry.size, config);
+    }
+    pass(input, padded(entry.size))?;
+    Ok(fields)
+}
+
+/// What a stream says, at its end.
+fn judged(fields: Fields) -> Result<Sizes, AviFault>
+    ensures { (bytes : List ℕ) (text : Option (List ℕ)) (failures : ℕ) → Answers (λ (s : Sizes). head_with s bytes) (stream_judged fields.rates (came_with fields.format bytes)) text text failures failures result }
+{
+    let (Some(Some((rate, scale))), Some(Some((width, height)))) = (fields.rates, fields.format)
+    else {
+        return Err(AviFault::NoFfv1);
+    };
+    if (rate == 0) != (scale == 0) {
+        return Err(AviFault::NotAvi);
+    }
+    Ok(Sizes {
+        width,
+        height,
+        rate,
+        scale,
+    })
+}
+
+/// A stream's list with so many bytes left behind its own name; its record in place of what the vector has.
+#[tactic(auto, unfolding(crate::specs::Streams::stream_read))]
+pub(crate) fn read_stream<R: ByteIn, A: Allocator>(
+    input: &mut R,
+    room: u32,
+    config: &mut Vec<u8, A>,
+) -> Result<Sizes, AviFault>
+    ensures { Answers (λ (s : Sizes). head_with s config.new.items) (stream_read room) (R.remaining input.old) (R.remaining input.new) (R.failures input.old) (R.failures input.new) result }
+{
+    let mut fields = Fields {
+        rates: None,
+        format: None,
+    };
+    let mut left = room;
+    while let Some(entry) = next_entry(input, left)? {
+        fields = visit_field(input, fields, entry, config)?;
+        left = entry.left;
+    }
+    judged(fields)
+}

@@ -1,0 +1,134 @@
+//! Reads that fail, and writers with little room.
+
+ghost use Rattle.std.specs.Prelude.{Some};
+
+use super::example::EXAMPLE;
+use crate::{AviFault, AviHead, AviReader, write_avi};
+use ffv1_wire::{FromRead, ToWrite};
+use std::alloc::{Allocator, Global};
+use std::io;
+use std::io::{Error, ErrorKind, Read, Write};
+use std::test::Fail;
+
+/// A reader that fails once, after so many calls, and gives at most 40 bytes each time.
+#[derive(Drop)]
+struct FailingReader<'a> {
+    rest: &'a [u8],
+    before: usize,
+}
+
+impl Read for FailingReader<'_> {
+    ghost remaining = { λ s. Some s.rest.now };
+
+    fn read(&mut self, buf: &mut [u8]) -> io::Result<usize> {
+        let before = self.before;
+        self.before = before.wrapping_sub(1);
+        if before == 0 {
+            return Err(Error::from(ErrorKind::Other));
+        }
+        let most = buf.len().min(40);
+        self.rest.read(&mut buf[..most])
+    }
+}
+
+/// A writer that takes so many bytes, and then none.
+#[derive(Drop)]
+struct ShortWriter<A: Allocator = Global> {
+    held: Vec<u8, A>,
+    room: usize,
+}
+
+impl<A: Allocator> Write for ShortWriter<A> {
+    ghost contents = { λ s. Some s.held.items };
+
+    fn write(&mut self, buf: &[u8]) -> io::Result<usize> {
+        let n = buf.len().min(self.room);
+        self.held.extend_from_slice(&buf[..n])?;
+        self.room -= n;
+        Ok(n)
+    }
+
+    fn flush(&mut self) -> io::Result<()> {
+        Ok(())
+    }
+}
+
+/// Reads the file's one frame, and whatever comes next twice.
+fn read_all<A: Allocator + Copy>(
+    alloc: A,
+    before: usize,
+) -> Result<
+    (
+        Result<bool, AviFault>,
+        Result<bool, AviFault>,
+        Result<bool, AviFault>,
+    ),
+    AviFault,
+> {
+    let mut input = FromRead::new(FailingReader {
+        rest: &EXAMPLE,
+        before,
+    });
+    let mut reader = AviReader::open(alloc, &mut input)?;
+    let mut frame = Vec::new(alloc);
+    let first = reader.next_frame(&mut input, &mut frame);
+    let second = reader.next_frame(&mut input, &mut frame);
+    let third = reader.next_frame(&mut input, &mut frame);
+    Ok((first, second, third))
+}
+
+#[test]
+fn failing_reads(rt: HostRuntime) {
+    let mut opens = 0u32;
+    let mut frames = 0u32;
+    for before in 0..40usize {
+        match read_all(rt.alloc(), before) {
+            Err(fault) => {
+                assert!(rt; fault == AviFault::Read);
+                opens = opens.saturating_add(1);
+            }
+            Ok(answers) => {
+                let (first, second, third) = answers;
+                if first == Ok(true) {
+                    assert!(rt; second == Ok(false) && third == Ok(false));
+                } else {
+                    assert!(rt; first == Err(AviFault::Read) && second == first && third == first);
+                    frames = frames.saturating_add(1);
+                }
+            }
+        }
+    }
+    assert_eq!(rt; frames, 3);
+    assert!(rt; 8 < opens && opens < 36);
+}
+
+#[test]
+fn short_writes(rt: HostRuntime) -> Result<(), Fail> {
+    let head = AviHead {
+        width: 352,
+        height: 288,
+        rate: 25,
+        scale: 1,
+        config_record: EXAMPLE[212..272].to_vec(rt.alloc())?,
+    };
+    let mut frames = Vec::new(rt.alloc());
+    frames.push(b"\xFE\x7B\x00\x00\x02".to_vec(rt.alloc())?)?;
+    for room in 0..299usize {
+        let mut out = ToWrite::new(ShortWriter {
+            held: Vec::new(rt.alloc()),
+            room,
+        });
+        let answer = write_avi(&mut out, &head, frames.as_slice());
+        assert_eq!(rt; out.failures() == 0, room == 298);
+        assert!(rt;
+            answer
+                == if room == 298 {
+                    Ok(())
+                } else {
+                    Err(AviFault::Write)
+                }
+        );
+        assert_eq!(rt; out.into_inner().held.as_slice(), &EXAMPLE[..room]);
+    }
+    Ok(())
+}

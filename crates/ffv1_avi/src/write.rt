@@ -1,0 +1,249 @@
+//! A file is written.
+
+ghost use Rattle.std.specs.Prelude.{◌≡◌, ◌+◌, ◌*◌, ◌<◌, ◌≤◌, ◌^◌, ◌++◌, ℕ, List, length, map, sum, flat_map, Option, None, Some, if◌then◌else◌, nat_le, nat_lt};
+ghost use Rattle.ffv1_avi.specs.Head.{head_of};
+ghost use Rattle.ffv1_avi.specs.Reads.{padded};
+ghost use Rattle.ffv1_avi.specs.Written.{avih, file_of, format_size, frame_chunk, frames_of, front, head_text, microseconds, movi, movi_size, opening, sizes_of, spelled, stream, strf};
+ghost use Rattle.ffv1_avi.specs.Writes.{Writes, WritesFile};
+
+use crate::fault::AviFault;
+use crate::field::{Field, put, put_fields, put_padding};
+use crate::head::AviHead;
+use ffv1_wire::ByteOut;
+use std::alloc::Allocator;
+
+/// The greatest size of RIFF.
+const MOST: u64 = 2_147_483_647;
+
+/// A size with its padding.
+fn padded(size: usize) -> u64
+    requires { size < 2 ^ 32 }
+    ensures { result ≡ padded size }
+{
+    size as u64 + (size % 2) as u64
+}
+
+/// The size of movi, where that of RIFF, which has so many bytes beside it, is not too great.
+fn movi_size<A: Allocator>(frames: &[Vec<u8, A>], others: u64) -> Option<u32>
+    requires { others < 2 ^ 33 }
+    ensures { result ≡ (if nat_le (others + movi_size (frames_of frames.now)) 2147483647 then Some (movi_size (frames_of frames.now)) else None) }
+{
+    let mut size = 4u64;
+    for frame in frames {
+        if frame.len() as u64 > MOST {
+            return None;
+        }
+        size += 8 + padded(frame.len());
+        if others + size > MOST {
+            return None;
+        }
+    }
+    if others + size > MOST {
+        None
+    } else {
+        Some(size as u32)
+    }
+}
+
+/// Microseconds a frame, at most 4294967295; 0 where there is no rate.
+fn microseconds(rate: u32, scale: u32) -> u32
+    ensures { result ≡ microseconds rate scale }
+{
+    if rate == 0 {
+        return 0;
+    }
+    (1_000_000 * u64::from(scale) / u64::from(rate)).min(u64::from(u32::MAX)) as u32
+}
+
+/// RIFF of such a size, and its list hdrl, where the format has such a size with its padding.
+fn put_opening<W: ByteOut>(out: &mut W, size: u32, format: u32) -> Result<(), AviFault>
+    requires { format ≤ 2 ^ 31 }
+    ensures { Writes (W.contents out.old) (W.contents out.new) (W.failures out.old) (W.failures out.new) (spelled (opening size format)) result }
+{
+    let fields = [
+        Field::Name(*b"RIFF"),
+        Field::Number(size),
+        Field::Name(*b"AVI "),
+        Field::Name(*b"LIST"),
+        Field::Number(152 + format),
+        Field::Name(*b"hdrl"),
+    ];
+    put_fields(out, &fields)
+}
+
+/// The main header, for so many frames.
+fn put_main_header<W: ByteOut, A: Allocator>(
+    out: &mut W,
+    head: &AviHead<A>,
+    count: u32,
+) -> Result<(), AviFault>
+    ensures { Writes (W.contents out.old) (W.contents out.new) (W.failures out.old) (W.failures out.new) (spelled (avih (head_of head.now) count)) result }
+{
+    let fields = [
+        Field::Name(*b"avih"),
+        Field::Number(56),
+        Field::Number(microseconds(head.rate, head.scale)),
+        Field::Number(0),
+        Field::Number(0),
+        Field::Number(0),
+        Field::Number(count),
+        Field::Number(0),
+        Field::Number(1),
+        Field::Number(0),
+        Field::Number(head.width),
+        Field::Number(head.height),
+        Field::Number(0),
+        Field::Number(0),
+        Field::Number(0),
+        Field::Number(0),
+    ];
+    put_fields(out, &fields)
+}
+
+/// The list strl, where the format has such a size with its padding, and the stream's header, for so many frames.
+fn put_stream<W: ByteOut, A: Allocator>(
+    out: &mut W,
+    head: &AviHead<A>,
+    format: u32,
+    count: u32,
+) -> Result<(), AviFault>
+    requires width { head.now.width ≤ 8192 }
+    requires height { head.now.height ≤ 8192 }
+    requires format { format ≤ 2 ^ 31 }
+    ensures { Writes (W.contents out.old) (W.contents out.new) (W.failures out.old) (W.failures out.new) (spelled (stream (head_of head.now) format count)) result }
+{
+    let fields = [
+        Field::Name(*b"LIST"),
+        Field::Number(76 + format),
+        Field::Name(*b"strl"),
+        Field::Name(*b"strh"),
+        Field::Number(56),
+        Field::Name(*b"vids"),
+        Field::Name(*b"FFV1"),
+        Field::Number(0),
+        Field::Pair(0, 0),
+        Field::Number(0),
+        Field::Number(head.scale),
+        Field::Number(head.rate),
+        Field::Number(0),
+        Field::Number(count),
+        Field::Number(0),
+        Field::Number(0),
+        Field::Number(0),
+        Field::Pair(0, 0),
+        Field::Pair(head.width as u16, head.height as u16),
+    ];
+    put_fields(out, &fields)
+}
+
+/// The format, of such a size, up to its record.
+fn put_format<W: ByteOut, A: Allocator>(
+    out: &mut W,
+    head: &AviHead<A>,
+    size: u32,
+) -> Result<(), AviFault>
+    requires { size ≡ 40 + length head.now.config_record.items }
+    ensures { Writes (W.contents out.old) (W.contents out.new) (W.failures out.old) (W.failures out.new) (spelled (strf (head_of head.now))) result }
+{
+    let fields = [
+        Field::Name(*b"strf"),
+        Field::Number(size),
+        Field::Number(40),
+        Field::Number(head.width),
+        Field::Number(head.height),
+        Field::Pair(1, 24),
+        Field::Name(*b"FFV1"),
+        Field::Number(0),
+        Field::Number(0),
+        Field::Number(0),
+        Field::Number(0),
+        Field::Number(0),
+    ];
+    put_fields(out, &fields)
+}
+
+/// A frame's chunk.
+fn put_frame<W: ByteOut>(out: &mut W, frame: &[u8]) -> Result<(), AviFault>
+    requires { length frame.now < 2 ^ 32 }
+    ensures { Writes (W.contents out.old) (W.contents out.new) (W.failures out.old) (W.failures out.new) (frame_chunk frame.now) result }
+{
+    let fields = [Field::Name(*b"00dc"), Field::Number(frame.len() as u32)];
+    put_fields(out, &fields)?;
+    put(out, frame)?;
+    put_padding(out, frame.len())
+}
+
+/// The list movi of such a size, and the frames.
+fn put_movi<W: ByteOut, A: Allocator>(
+    out: &mut W,
+    frames: &[Vec<u8, A>],
+    size: u32,
+) -> Result<(), AviFault>
+    requires { movi_size (frames_of frames.now) ≤ 2147483647 }
+    ensures { Writes (W.contents out.old) (W.contents out.new) (W.failures out.old) (W.failures out.new) (spelled (movi size) ++ flat_map frame_chunk (frames_of frames.now)) result }
+{
+    let fields = [
+        Field::Name(*b"LIST"),
+        Field::Number(size),
+        Field::Name(*b"movi"),
+    ];
+    put_fields(out, &fields)?;
+    for frame in frames {
+        put_frame(out, frame)?;
+    }
+    Ok(())
+}
+
+/// The file's parts before movi, where the format has such a size, and RIFF such a one.
+fn put_head<W: ByteOut, A: Allocator>(
+    out: &mut W,
+    head: &AviHead<A>,
+    size: u32,
+    count: u32,
+) -> Result<(), AviFault>
+    requires width { head.now.width ≤ 8192 }
+    requires height { head.now.height ≤ 8192 }
+    requires short { 40 + length head.now.config_record.items ≤ 2147483647 }
+    ensures { Writes (W.contents out.old) (W.contents out.new) (W.failures out.old) (W.failures out.new) (head_text (head_of head.now) count size) result }
+{
+    let len = 40 + head.config_record.len();
+    let format = padded(len) as u32;
+    put_opening(out, size, format)?;
+    put_main_header(out, head, count)?;
+    put_stream(out, head, format, count)?;
+    put_format(out, head, len as u32)?;
+    put(out, &head.config_record)?;
+    put_padding(out, len)
+}
+
+/// The sizes of movi and of RIFF, where that is at most 2147483647.
+fn sizes<A: Allocator>(head: &AviHead<A>, frames: &[Vec<u8, A>]) -> Option<(u32, u32)>
+    ensures { result ≡ sizes_of (head_of head.now) (frames_of frames.now) }
+{
+    if head.config_record.len() as u64 > MOST {
+        return None;
+    }
+    let others = 172 + padded(40 + head.config_record.len());
+    let movi = movi_size(frames, others)?;
+    Some((movi, others as u32 + movi))
+}
+
+/// Writes a file of the head and the frames.
+///
+/// Sizes are at most 8192. `TooLarge`, before any byte, where the size of RIFF would pass 2147483647; `Write` where a write
+/// failed: a beginning of the file has then been written. It takes no memory.
+pub fn write_avi<W: ByteOut, A: Allocator>(
+    out: &mut W,
+    head: &AviHead<A>,
+    frames: &[Vec<u8, A>],
+) -> Result<(), AviFault>
+    requires width { head.now.width ≤ 8192 }
+    requires height { head.now.height ≤ 8192 }
+    ensures { WritesFile (W.contents out.old) (W.contents out.new) (W.failures out.old) (W.failures out.new) (head_of head.now) (frames_of frames.now) result }
+{
+    let Some((movi, riff)) = sizes(head, frames) else {
+        return Err(AviFault::TooLarge);
+    };
+    put_head(out, head, riff, frames.len() as u32)?;
+    put_movi(out, frames, movi)
+}
