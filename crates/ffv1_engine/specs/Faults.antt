@@ -22,8 +22,10 @@ of_plane plane_fault.Contexts = fault.Contexts
 abbrev pub of_y4m : Y4mFault → Fault
 of_y4m y4m_fault.OutOfMemory = fault.OutOfMemory
 of_y4m y4m_fault.Read = fault.Read
+of_y4m y4m_fault.Write = fault.Write
 of_y4m y4m_fault.Header = fault.Header
 of_y4m y4m_fault.Tag = fault.Tag
 of_y4m y4m_fault.Unsupported = fault.Unsupported
 of_y4m y4m_fault.FrameLine = fault.FrameLine
 of_y4m y4m_fault.FrameTruncated = fault.FrameTruncated
+of_y4m y4m_fault.FormatChanged = fault.FormatChanged

@@ -1,8 +1,8 @@
 -- The first picture of a text, where it is mono.
-use Rattle.std.specs.Prelude.{◌≡◌, ℕ, ◌*◌, ◌≤◌, Bool, if◌then◌else◌, List, length, Option, Some, None, Result, Ok, Err, ⊤}
+use Rattle.std.specs.Prelude.{◌≡◌, ℕ, ◌*◌, ◌≤◌, Bool, if◌then◌else◌, List, [], ◌∷◌, length, Option, Some, None, Result, Ok, Err, ⊤}
 use Rattle.ffv1_wire.specs.Failures.{one_more}
 use Rattle.ffv1_y4m.specs.Header.{header_of}
-use Rattle.ffv1_y4m.specs.Pictures.{frame_begun, plane_read}
+use Rattle.ffv1_y4m.specs.Pictures.{picture_read}
 use Rattle.ffv1_y4m.specs.declared.head.VideoHead.{VideoHead}
 use Rattle.ffv1_y4m.specs.declared.fault.Fault.{Fault as Y4mFault}
 use Rattle.ffv1_engine.specs.declared.fault.Fault.{Fault}
@@ -28,18 +28,17 @@ abbrev pub and_then : {X Y : Type 0} → Result X Y4mFault → (X → Result Y F
 and_then (Ok x) next = next x
 and_then (Err f) next = Err (of_y4m f)
 
--- the samples behind the line that begins a picture, if there is one
-abbrev pub samples_of : VideoHead → Bool × List ℕ → Result (Mono × List ℕ) Fault
-samples_of head begun =
-    if begun.0
-    then and_then (plane_read (head.width * head.height) begun.1) (λ read. Ok (record { width = head.width; height = head.height; samples = read.0 }, read.1))
-    else Err fault.NoFrames
+-- the one plane of a picture, if there is one
+abbrev pub mono_in : VideoHead → Option (List (List ℕ)) → List ℕ → Result (Mono × List ℕ) Fault
+mono_in head None rest = Err fault.NoFrames
+mono_in head (Some []) rest = Err fault.NoFrames
+mono_in head (Some (samples ∷ more)) rest = Ok (record { width = head.width; height = head.height; samples = samples }, rest)
 
 -- the first picture behind a header, which is judged whole before it
 abbrev pub picture_behind : VideoHead × List ℕ → Result (Mono × List ℕ) Fault
 picture_behind header =
     if header.0.chroma_planes then Err fault.Unsupported
-    else and_then (frame_begun header.1) (samples_of header.0)
+    else and_then (picture_read header.0 header.1) (λ read. mono_in header.0 read.0 read.1)
 
 -- the first picture of a text
 unfoldable pub mono_of : List ℕ → Result (Mono × List ℕ) Fault

@@ -52,6 +52,9 @@ pub enum Fault {
     /// The input has no picture.
     #[error("70 NoFrames")]
     NoFrames,
+    /// A later image has another size than the first.
+    #[error("71 FormatChanged")]
+    FormatChanged,
 }
 
 impl From<ffv1_range::Fault> for Fault {
@@ -86,11 +89,13 @@ impl From<ffv1_y4m::Fault> for Fault {
         match e {
             ffv1_y4m::Fault::OutOfMemory => Fault::OutOfMemory,
             ffv1_y4m::Fault::Read => Fault::Read,
+            ffv1_y4m::Fault::Write => Fault::Write,
             ffv1_y4m::Fault::Header => Fault::Header,
             ffv1_y4m::Fault::Tag => Fault::Tag,
             ffv1_y4m::Fault::Unsupported => Fault::Unsupported,
             ffv1_y4m::Fault::FrameLine => Fault::FrameLine,
             ffv1_y4m::Fault::FrameTruncated => Fault::FrameTruncated,
+            ffv1_y4m::Fault::FormatChanged => Fault::FormatChanged,
         }
     }
 }

@@ -5,7 +5,7 @@ ghost use Rattle.ffv1_engine.specs.Picture.{IsMono, ReadsMono, RefusesMono, mono
 
 use crate::fault::Fault;
 use ffv1_wire::ByteIn;
-use ffv1_y4m::{read_frame_line, read_header, read_plane};
+use ffv1_y4m::Y4mReader;
 use std::alloc::{Allocator, Global};
 
 /// A mono picture: its samples row by row.
@@ -18,28 +18,30 @@ pub(crate) struct Mono<A: Allocator = Global> {
 
 /// Reads the first picture of a text, which is mono; what stands behind it is not read.
 #[tactic(auto, unfolding(crate::specs::Picture::mono_of))]
-pub(crate) fn read_mono<R: ByteIn, A: Allocator>(alloc: A, input: &mut R) -> Result<Mono<A>, Fault>
+pub(crate) fn read_mono<R: ByteIn, A: Allocator + Copy>(
+    alloc: A,
+    input: &mut R,
+) -> Result<Mono<A>, Fault>
     ensures ok { IfOk result (λ m. ReadsMono (R.remaining input.old) (R.remaining input.new) (record { width = m.width; height = m.height; samples = m.samples.items })) }
     ensures mono { IfOk result (λ m. IsMono (record { width = m.width; height = m.height; samples = m.samples.items })) }
     ensures kept { OnOk result (R.failures input.new ≡ R.failures input.old) }
     ensures err { IfErr result (λ f. RefusesMono (R.remaining input.old) (R.failures input.old) (R.failures input.new) f) }
 {
-    let head = read_header(None, input)?;
+    let mut reader = Y4mReader::open(alloc, None, input)?;
+    let head = *reader.head();
     if head.chroma_planes {
         return Err(Fault::Unsupported);
     }
-    if !read_frame_line(input)? {
+    let mut planes = Vec::new(alloc);
+    if !reader.next(input, &mut planes)? {
         return Err(Fault::NoFrames);
     }
-    let mut samples = Vec::new(alloc);
-    read_plane(
-        input,
-        &mut samples,
-        head.width as usize * head.height as usize,
-    )?;
-    Ok(Mono {
-        width: head.width,
-        height: head.height,
-        samples,
-    })
+    match planes.pop() {
+        Some(samples) => Ok(Mono {
+            width: head.width,
+            height: head.height,
+            samples,
+        }),
+        None => Err(Fault::NoFrames),
+    }
 }

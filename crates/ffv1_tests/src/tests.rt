@@ -6,3 +6,4 @@ mod orders;
 mod record;
 mod refusals;
 mod trials;
+mod y4m;

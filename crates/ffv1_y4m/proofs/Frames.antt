@@ -10,7 +10,7 @@ use Rattle.ffv1_y4m.specs.Pictures.{begun_with, frame_begun, frame_line}
 use Rattle.ffv1_y4m.specs.Reads.{Answers}
 
 -- a text of at least so many bytes
-begun_whole : (line xs rest text : List ℕ) → text ≡ xs ++ rest → length xs ≡ length line → 0 < length xs →
+pub begun_whole : (line xs rest text : List ℕ) → text ≡ xs ++ rest → length xs ≡ length line → 0 < length xs →
     begun_with line text ≡ cond (pointwise nat_eq xs line) (Ok (true, rest)) (Err fault.FrameLine)
 begun_whole line xs rest [] e long some =
     let none : length (xs ++ rest) ≡ 0 = sym (ap length e) in

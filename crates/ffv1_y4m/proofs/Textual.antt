@@ -5,12 +5,14 @@ use Rattle.ffv1_y4m.specs.declared.fault.Fault.TheVariants as fault
 use Rattle.ffv1_y4m.specs.declared.head.VideoHead.{VideoHead}
 use Rattle.ffv1_y4m.specs.declared.tags.Tags.{Tags}
 use Rattle.ffv1_y4m.specs.Header.{◌>>=◌, first_value, first_answer, structure_of, tagged, judged, words_of, all_judged, no_tags, present, head_of_tags, head_of_line, header_of, size_of, ratio_of, chroma_of}
+use Rattle.ffv1_y4m.specs.State.{is_memory, NoWant}
 use Rattle.ffv1_y4m.specs.Reads.{Answers, ReadsLine, Refused, Faults}
 
 -- a fault of the text
 abbrev pub IsTextual : Fault → Type 0
 IsTextual fault.OutOfMemory = ⊥
 IsTextual fault.Read = ⊥
+IsTextual fault.Write = ⊥
 IsTextual f = Unit {0}
 
 abbrev pub HasTextual : {X : Type 0} → Result X Fault → Type 0
@@ -91,18 +93,45 @@ refused_by text before after fault.Tag textual same reads = (same, reads)
 refused_by text before after fault.Unsupported textual same reads = (same, reads)
 refused_by text before after fault.FrameLine textual same reads = (same, reads)
 refused_by text before after fault.FrameTruncated textual same reads = (same, reads)
+refused_by text before after fault.Write textual same reads = absurd textual
+refused_by text before after fault.FormatChanged textual same reads = (same, reads)
 
 -- a header line that was read is the text's
-header_is : (text rest line : List ℕ) (n : ℕ) (r : Result VideoHead Fault) → ReadsLine (Some text) (Some rest) line (Some n) → r ≡ head_of_line (take n line) → header_of text ≡ (r >>= λ head. Ok (head, rest))
+header_is : (text rest line : List ℕ) (n : ℕ) (r : Result VideoHead Fault) → ReadsLine 1025 (Some text) (Some rest) line (Some n) → r ≡ head_of_line (take n line) → header_of text ≡ (r >>= λ head. Ok (head, rest))
 header_is text rest line n r read is =
     rw (read.0, is, read.1, read.2) refl
 
 -- a line that was read answers for the text
-pub line_answers : (old new : Option (List ℕ)) (before after : ℕ) (line : List ℕ) (n : ℕ) (r : Result VideoHead Fault) →
-    ReadsLine old new line (Some n) → after ≡ before → Textual r → r ≡ head_of_line (take n line) → Answers (λ (h : VideoHead). h) header_of old new before after r
-line_answers None new before after line n (Ok h) read same textual is = (same, tt)
-line_answers None new before after line n (Err f) read same textual is = refused_by None before after f textual.fault same tt
-line_answers (Some text) None before after line n r read same textual is = absurd read
-line_answers (Some text) (Some rest) before after line n (Ok h) read same textual is = (same, header_is text rest line n (Ok h) read is)
-line_answers (Some text) (Some rest) before after line n (Err f) read same textual is =
-    refused_by (Some text) before after f textual.fault same (header_is text rest line n (Err f) read is)
+pub line_answers : (old new : Option (List ℕ)) (before after most : ℕ) (line : List ℕ) (n : ℕ) (r : Result VideoHead Fault) →
+    most ≡ 1025 → ReadsLine most old new line (Some n) → after ≡ before → Textual r → r ≡ head_of_line (take n line) → Answers (λ (h : VideoHead). h) header_of old new before after r
+line_answers None new before after most line n (Ok h) long read same textual is = (same, tt)
+line_answers None new before after most line n (Err f) long read same textual is = refused_by None before after f textual.fault same tt
+line_answers (Some text) None before after most line n r long read same textual is = absurd read
+line_answers (Some text) (Some rest) before after most line n (Ok h) long read same textual is = (same, header_is text rest line n (Ok h) (rw long at read) is)
+line_answers (Some text) (Some rest) before after most line n (Err f) long read same textual is =
+    refused_by (Some text) before after f textual.fault same (header_is text rest line n (Err f) (rw long at read) is)
+
+-- without such a line there is no header
+pub line_none : (old new : Option (List ℕ)) (before after most : ℕ) (line : List ℕ) →
+    most ≡ 1025 → ReadsLine most old new line None → after ≡ before → Answers (λ (h : VideoHead). h) header_of old new before after (Err fault.Header)
+line_none None new before after most line long read same = (same, tt)
+line_none (Some text) None before after most line long read same = absurd read
+line_none (Some text) (Some rest) before after most line long read same =
+    let none = rw long at read in
+    (same, rw none refl)
+
+not_memory : (f : Fault) → IsTextual f → is_memory f ≡ false
+not_memory fault.OutOfMemory h = absurd h
+not_memory fault.Read h = refl
+not_memory fault.Write h = refl
+not_memory fault.Header h = refl
+not_memory fault.Tag h = refl
+not_memory fault.Unsupported h = refl
+not_memory fault.FrameLine h = refl
+not_memory fault.FrameTruncated h = refl
+not_memory fault.FormatChanged h = refl
+
+-- a fault of the text is no want of memory
+pub no_want : (r : Result VideoHead Fault) → Textual r → NoWant r
+no_want (Ok h) t = tt
+no_want (Err f) t = not_memory f t.fault

@@ -179,9 +179,9 @@ head_of_line line =
     else if is_text (take 10 line) (codes "YUV4MPEG2 ") then (all_judged no_tags (words_of (drop 10 line)) >>= head_of_tags)
     else Err fault.Header
 
--- where the line feed of a header line stands: among the first 1025 bytes
-abbrev pub line_end : List ℕ → Option ℕ
-line_end text = position (λ c. c == 10) (take 1025 text)
+-- where the line feed of a line stands, if it is among the first so many bytes
+abbrev pub line_end : ℕ → List ℕ → Option ℕ
+line_end most text = position (λ c. c == 10) (take most text)
 
 -- the head and what stands behind its line, or the first fault
 abbrev pub ended_at : List ℕ → Option ℕ → Result (VideoHead × List ℕ) Fault
@@ -190,4 +190,4 @@ ended_at text (Some end) = head_of_line (take end text) >>= λ head. Ok (head, d
 
 -- a text's header: its line of at most 1024 bytes and the line feed
 abbrev pub header_of : List ℕ → Result (VideoHead × List ℕ) Fault
-header_of text = ended_at text (line_end text)
+header_of text = ended_at text (line_end 1025 text)

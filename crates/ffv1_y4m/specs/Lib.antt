@@ -1,4 +1,13 @@
 pub mod VideoHead
 pub mod Header
+pub mod Sequence
 pub mod Pictures
+pub mod Ppm
+pub mod State
+pub mod Sink
 pub mod Reads
+pub mod Canonical
+pub mod Writes
+pub mod HeaderLine
+pub mod Text
+pub mod Images

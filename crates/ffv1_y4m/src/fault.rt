@@ -1,4 +1,4 @@
-//! Why pictures could not be read.
+//! Why pictures could not be read or written.
 
 ghost use Rattle.std.specs.Prelude.{◌≡◌};
 ghost use Rattle.ffv1_y4m.specs.declared.fault.Fault.TheVariants as fault;
@@ -7,7 +7,7 @@ use ffv1_wire::Failed;
 use std::alloc::{AllocError, AllocFailed};
 use thiserror::Error;
 
-/// Why pictures could not be read, by the number and name of the fault.
+/// Why pictures could not be read or written, by the number and name of the fault.
 #[derive(Clone, Copy, Debug, PartialEq, Eq, Error)]
 pub enum Fault {
     /// Memory was refused.
@@ -16,7 +16,11 @@ pub enum Fault {
     /// A read failed.
     #[error("56 Read")]
     Read,
-    /// The first line is no header: it begins otherwise, is longer than 1024 bytes, or has no end.
+    /// A write failed.
+    #[error("57 Write")]
+    Write,
+    /// The first line is no header of YUV4MPEG2: it begins otherwise, is longer than 1024 bytes, or has no end; or
+    /// the first lines are no header of PPM.
     #[error("60 Header")]
     Header,
     /// A tag of the header is empty, unknown, there for the second time or has no value of its kind, or a size is missing.
@@ -28,9 +32,12 @@ pub enum Fault {
     /// The line that begins a picture is not `FRAME`.
     #[error("63 FrameLine")]
     FrameLine,
-    /// The input ends inside a picture.
+    /// The input ends inside the line that begins a picture, or inside samples.
     #[error("64 FrameTruncated")]
     FrameTruncated,
+    /// A later image has another size than the first.
+    #[error("71 FormatChanged")]
+    FormatChanged,
 }
 
 impl From<Failed> for Fault {

@@ -1,12 +1,14 @@
 //! Headers and pictures are read.
 
-ghost use Rattle.std.specs.Prelude.{◌≡◌, ◌+◌, ◌++◌, ℕ, Bool, List, ◌∷◌, [], Option, take, drop, length, IfOk, OnOk, OnErr, option_to_list, MatchOption, None, Some};
+ghost use Rattle.std.specs.Prelude.{◌≡◌, ◌+◌, ◌++◌, ℕ, Bool, List, ◌∷◌, [], Option, take, drop, length, IfOk, OnOk, OnErr, option_to_list, MatchOption, None, Some, ◌≤◌};
 ghost use Rattle.std.specs.Io.KnownBytes.{Keeps, Consumes, IsAtEnd, prepend_known};
 ghost use Rattle.ffv1_wire.specs.Failures.{Counted};
 ghost use Rattle.ffv1_wire.specs.Reads.{GivesByte};
 ghost use Rattle.ffv1_y4m.specs.Header.{head_of_line, header_of};
 ghost use Rattle.ffv1_y4m.specs.declared.head.VideoHead.{VideoHead};
-ghost use Rattle.ffv1_y4m.specs.VideoHead.{IsSized};
+ghost use Rattle.ffv1_y4m.specs.State.{NoWant};
+ghost use Rattle.std.specs.Vec.{vec_capacity};
+ghost use Rattle.ffv1_y4m.specs.VideoHead.{IsHead, IsSized};
 ghost use Rattle.ffv1_y4m.specs.Pictures.{frame_begun, plane_read};
 ghost use Rattle.ffv1_y4m.specs.Reads.{Answers, known_text, ReadsLine};
 
@@ -24,7 +26,7 @@ const LINE: usize = 1025;
 #[tactic(auto, unfolding(crate::specs::Header::head_of_line))]
 fn head_of_line(line: &[u8]) -> Result<VideoHead, Fault>
     ensures value { result ≡ head_of_line line.now }
-    ensures sized { IfOk result (λ h. IsSized h) }
+    ensures head { IfOk result (λ h. IsHead h) }
 {
     if is_text(line, b"YUV4MPEG2") {
         return Err(Fault::Tag);
@@ -48,18 +50,18 @@ fn next_byte<R: ByteIn>(first: &mut Option<u8>, input: &mut R) -> Result<Option<
     read_byte(input)
 }
 
-/// The header line, without its line feed, into the front of `line`, and how long it is; or None where no line of at
-/// most 1024 bytes ends.
-fn read_line<R: ByteIn>(
+/// A line, without its line feed, into the front of `line`, and how long it is; or None where no line feed is among
+/// as many bytes as `line` has room for.
+pub(crate) fn read_line<R: ByteIn>(
     first: Option<u8>,
     input: &mut R,
-    line: &mut [u8; LINE],
+    line: &mut [u8],
 ) -> Result<Option<usize>, Failed>
-    ensures ok { IfOk result (λ end. ReadsLine (known_text first (R.remaining input.old)) (R.remaining input.new) line.new end) }
+    ensures ok { IfOk result (λ end. ReadsLine (length line.new) (known_text first (R.remaining input.old)) (R.remaining input.new) line.new end) }
     ensures counted { Counted (R.failures input.old) (R.failures input.new) result }
 {
     let mut first = first;
-    for len in 0..LINE {
+    for len in 0..line.len() {
         match next_byte(&mut first, input)? {
             Some(b'\n') => return Ok(Some(len)),
             Some(byte) => line[len] = byte,
@@ -79,6 +81,8 @@ fn read_line<R: ByteIn>(
 pub fn read_header<R: ByteIn>(first: Option<u8>, input: &mut R) -> Result<VideoHead, Fault>
     ensures answer { Answers (λ (h : VideoHead). h) header_of (known_text first (R.remaining input.old)) (R.remaining input.new) (R.failures input.old) (R.failures input.new) result }
     ensures sized { IfOk result (λ h. IsSized h) }
+    ensures head { IfOk result (λ h. IsHead h) }
+    ensures memory { NoWant result }
 {
     let mut line = [0u8; LINE];
     match read_line(first, input, &mut line)? {
@@ -95,7 +99,8 @@ const FRAME: [u8; 6] = *b"FRAME\n";
 /// `FrameLine` where a byte differs from the line `FRAME` and its line feed, `FrameTruncated` where the input ends
 /// inside it, `Read` where a read failed.
 pub fn read_frame_line<R: ByteIn>(input: &mut R) -> Result<bool, Fault>
-    ensures { Answers (λ (b : Bool). b) frame_begun (R.remaining input.old) (R.remaining input.new) (R.failures input.old) (R.failures input.new) result }
+    ensures memory { NoWant result }
+    ensures answer { Answers (λ (b : Bool). b) frame_begun (R.remaining input.old) (R.remaining input.new) (R.failures input.old) (R.failures input.new) result }
 {
     let mut line = [0u8; 6];
     let len = read_full(input, &mut line)?;
@@ -123,6 +128,7 @@ pub fn read_plane<R: ByteIn, A: Allocator>(
 ) -> Result<(), Fault>
     ensures answer { Answers (λ (_ : Unit {0}). plane.new.items) (plane_read size) (R.remaining input.old) (R.remaining input.new) (R.failures input.old) (R.failures input.new) result }
     ensures long { OnOk result (length plane.new.items ≡ size) }
+    ensures room { size ≤ vec_capacity plane.old → NoWant result }
 {
     plane.resize(size, 0)?;
     let len = read_full(input, plane.as_mut_slice())?;

@@ -36,7 +36,7 @@ fn each_request_of_a_trial(rt: HostRuntime) {
             }
         }
     }
-    assert_eq!(rt; refused, 16 + 24);
+    assert_eq!(rt; refused, 17 + 24);
 }
 
 #[test]

@@ -1,0 +1,119 @@
+-- Tags that are judged one by one, and what they say together.
+use Rattle.std.proofs.Common.{◌≡◌, ℕ, ◌==◌, ◌||◌, Bool, true, false, Option, Some, None, List, [], ◌∷◌, Ok, refl, ap, ◌∙◌, sym, subst}
+use Rattle.std.proofs.lemmas.Bool.{eqb-true, false≢true}
+use Rattle.ffv1_y4m.specs.declared.tags.Tags.{Tags}
+use Rattle.ffv1_y4m.specs.Header.{tagged, judged, all_judged}
+use Rattle.ffv1_y4m.specs.HeaderLine.{is_letter, AreTags, values_of, SaysSize, SaysRatio, SaysStructure, SaysChroma}
+use Rattle.ffv1_y4m.proofs.Taken.{is_some}
+use Rattle.ffv1_y4m.proofs.CanonicalLine.{judged_width, judged_height, judged_rate, judged_structure, judged_aspect, judged_chroma}
+
+-- what tags of one letter make of a value: at most one says it, where none did before
+abbrev pub Moves : {X : Type 0} → (List ℕ → X → Type 0) → Option X → List (List ℕ) → Option X → Type 0
+Moves says old [] new = new ≡ old
+Moves {X = X} says None (value ∷ []) new = (x : X) × says value x × (new ≡ Some x)
+Moves says None (value ∷ second ∷ more) new = ⊥
+Moves says (Some y) (value ∷ more) new = ⊥
+
+pub record Moved (t : Tags) (tags : List (List ℕ)) (u : Tags) : Type 0 where
+  pub width : Moves SaysSize t.width (values_of 87 tags) u.width
+  pub height : Moves SaysSize t.height (values_of 72 tags) u.height
+  pub rate : Moves (SaysRatio 4294967295) t.rate (values_of 70 tags) u.rate
+  pub structure : Moves SaysStructure t.structure (values_of 73 tags) u.structure
+  pub aspect : Moves (SaysRatio 65535) t.aspect (values_of 65 tags) u.aspect
+  pub chroma : Moves SaysChroma t.chroma (values_of 67 tags) u.chroma
+
+record One {X : Type 0} (says : List ℕ → X → Type 0) (old : Option X) (value : List ℕ) (more : List (List ℕ)) (new : Option X) : Type 0 where
+  x : X
+  none : old ≡ None
+  said : says value x
+  next : Moves says (Some x) more new
+
+moves_one : {X : Type 0} (says : List ℕ → X → Type 0) (old : Option X) (value : List ℕ) (more : List (List ℕ)) (new : Option X) → Moves says old (value ∷ more) new → One says old value more new
+moves_one says None value [] new h = record { x = h.0; none = refl; said = h.1; next = h.2 }
+moves_one says None value (second ∷ more) new h = absurd h
+moves_one says (Some y) value more new h = absurd h
+
+pub one_moves : {X : Type 0} (says : List ℕ → X → Type 0) (old : Option X) (x : X) (value : List ℕ) (more : List (List ℕ)) (new : Option X) → old ≡ None → says value x → Moves says (Some x) more new → Moves says old (value ∷ more) new
+one_moves says None x value [] new none said next = (x, said, next)
+one_moves says None x value (second ∷ more) new none said next = next
+one_moves says (Some y) x value more new none said next = absurd (false≢true (sym (ap is_some none)))
+
+-- the letters
+letter_by : (a b c d e f g : Bool) → a || (b || (c || (d || (e || (f || g))))) ≡ true → (P : Type 0) → (a ≡ true → P) → (b ≡ true → P) → (c ≡ true → P) → (d ≡ true → P) → (e ≡ true → P) → (f ≡ true → P) → (g ≡ true → P) → P
+letter_by true b c d e f g h P wa wb wc wd we wf wg = wa refl
+letter_by false true c d e f g h P wa wb wc wd we wf wg = wb refl
+letter_by false false true d e f g h P wa wb wc wd we wf wg = wc refl
+letter_by false false false true e f g h P wa wb wc wd we wf wg = wd refl
+letter_by false false false false true f g h P wa wb wc wd we wf wg = we refl
+letter_by false false false false false true g h P wa wb wc wd we wf wg = wf refl
+letter_by false false false false false false true h P wa wb wc wd we wf wg = wg refl
+letter_by false false false false false false false h P wa wb wc wd we wf wg = absurd (false≢true h)
+
+-- a property of a tag, by its letter
+pub by_letter : (Q : ℕ → Type 0) (c : ℕ) → is_letter c ≡ true → Q 87 → Q 72 → Q 70 → Q 73 → Q 65 → Q 67 → Q 88 → Q c
+by_letter Q c known w h f i a k x =
+    letter_by (c == 87) (c == 72) (c == 70) (c == 73) (c == 65) (c == 67) (c == 88) known (Q c)
+    (λ e. subst Q (sym (eqb-true c 87 e)) w) (λ e. subst Q (sym (eqb-true c 72 e)) h) (λ e. subst Q (sym (eqb-true c 70 e)) f) (λ e. subst Q (sym (eqb-true c 73 e)) i)
+    (λ e. subst Q (sym (eqb-true c 65 e)) a) (λ e. subst Q (sym (eqb-true c 67 e)) k) (λ e. subst Q (sym (eqb-true c 88 e)) x)
+
+-- one tag
+record Step (t : Tags) (letter : ℕ) (value : List ℕ) (tags : List (List ℕ)) (u : Tags) : Type 0 where
+  next : Tags
+  judging : judged t (letter ∷ value) ≡ Ok next
+  moved : Moved next tags u
+
+step_width : (t : Tags) (value : List ℕ) (tags : List (List ℕ)) (u : Tags) → Moved t ((87 ∷ value) ∷ tags) u → Step t 87 value tags u
+step_width t value tags u m =
+    let o = moves_one SaysSize t.width value (values_of 87 tags) u.width m.width in
+    record { next = record t { width = Some o.x }; judging = judged_width t o.x value o.none o.said; moved = record { width = o.next; height = m.height; rate = m.rate; structure = m.structure; aspect = m.aspect; chroma = m.chroma } }
+
+step_height : (t : Tags) (value : List ℕ) (tags : List (List ℕ)) (u : Tags) → Moved t ((72 ∷ value) ∷ tags) u → Step t 72 value tags u
+step_height t value tags u m =
+    let o = moves_one SaysSize t.height value (values_of 72 tags) u.height m.height in
+    record { next = record t { height = Some o.x }; judging = judged_height t o.x value o.none o.said; moved = record { width = m.width; height = o.next; rate = m.rate; structure = m.structure; aspect = m.aspect; chroma = m.chroma } }
+
+step_rate : (t : Tags) (value : List ℕ) (tags : List (List ℕ)) (u : Tags) → Moved t ((70 ∷ value) ∷ tags) u → Step t 70 value tags u
+step_rate t value tags u m =
+    let o = moves_one (SaysRatio 4294967295) t.rate value (values_of 70 tags) u.rate m.rate in
+    record { next = record t { rate = Some o.x }; judging = judged_rate t o.x value o.none o.said; moved = record { width = m.width; height = m.height; rate = o.next; structure = m.structure; aspect = m.aspect; chroma = m.chroma } }
+
+step_structure : (t : Tags) (value : List ℕ) (tags : List (List ℕ)) (u : Tags) → Moved t ((73 ∷ value) ∷ tags) u → Step t 73 value tags u
+step_structure t value tags u m =
+    let o = moves_one SaysStructure t.structure value (values_of 73 tags) u.structure m.structure in
+    record { next = record t { structure = Some o.x }; judging = judged_structure t o.x value o.none o.said; moved = record { width = m.width; height = m.height; rate = m.rate; structure = o.next; aspect = m.aspect; chroma = m.chroma } }
+
+step_aspect : (t : Tags) (value : List ℕ) (tags : List (List ℕ)) (u : Tags) → Moved t ((65 ∷ value) ∷ tags) u → Step t 65 value tags u
+step_aspect t value tags u m =
+    let o = moves_one (SaysRatio 65535) t.aspect value (values_of 65 tags) u.aspect m.aspect in
+    record { next = record t { aspect = Some o.x }; judging = judged_aspect t o.x value o.none o.said; moved = record { width = m.width; height = m.height; rate = m.rate; structure = m.structure; aspect = o.next; chroma = m.chroma } }
+
+step_chroma : (t : Tags) (value : List ℕ) (tags : List (List ℕ)) (u : Tags) → Moved t ((67 ∷ value) ∷ tags) u → Step t 67 value tags u
+step_chroma t value tags u m =
+    let o = moves_one SaysChroma t.chroma value (values_of 67 tags) u.chroma m.chroma in
+    record { next = record t { chroma = Some o.x }; judging = judged_chroma t o.x value o.none o.said; moved = record { width = m.width; height = m.height; rate = m.rate; structure = m.structure; aspect = m.aspect; chroma = o.next } }
+
+step_comment : (t : Tags) (value : List ℕ) (tags : List (List ℕ)) (u : Tags) → Moved t ((88 ∷ value) ∷ tags) u → Step t 88 value tags u
+unfolding tagged
+step_comment t value tags u m = record { next = t; judging = refl; moved = record { width = m.width; height = m.height; rate = m.rate; structure = m.structure; aspect = m.aspect; chroma = m.chroma } }
+
+step : (t : Tags) (letter : ℕ) (value : List ℕ) (tags : List (List ℕ)) (u : Tags) → is_letter letter ≡ true → Moved t ((letter ∷ value) ∷ tags) u → Step t letter value tags u
+step t letter value tags u known =
+    by_letter (λ c. Moved t ((c ∷ value) ∷ tags) u → Step t c value tags u) letter known
+    (step_width t value tags u) (step_height t value tags u) (step_rate t value tags u) (step_structure t value tags u) (step_aspect t value tags u) (step_chroma t value tags u) (step_comment t value tags u)
+
+same_tags : (t u : Tags) → u.width ≡ t.width → u.height ≡ t.height → u.rate ≡ t.rate → u.structure ≡ t.structure → u.aspect ≡ t.aspect → u.chroma ≡ t.chroma → t ≡ u
+same_tags t u a b c d e f =
+    let one : t ≡ record t { width = u.width } = ap (λ z. record t { width = z }) (sym a) in
+    let two : record t { width = u.width } ≡ record t { width = u.width; height = u.height } = ap (λ z. record t { width = u.width; height = z }) (sym b) in
+    let three : record t { width = u.width; height = u.height } ≡ record t { width = u.width; height = u.height; rate = u.rate } = ap (λ z. record t { width = u.width; height = u.height; rate = z }) (sym c) in
+    let four : record t { width = u.width; height = u.height; rate = u.rate } ≡ record t { width = u.width; height = u.height; rate = u.rate; structure = u.structure } = ap (λ z. record t { width = u.width; height = u.height; rate = u.rate; structure = z }) (sym d) in
+    let five : record t { width = u.width; height = u.height; rate = u.rate; structure = u.structure } ≡ record t { width = u.width; height = u.height; rate = u.rate; structure = u.structure; aspect = u.aspect } = ap (λ z. record t { width = u.width; height = u.height; rate = u.rate; structure = u.structure; aspect = z }) (sym e) in
+    let six : record t { width = u.width; height = u.height; rate = u.rate; structure = u.structure; aspect = u.aspect } ≡ u = ap (λ z. record t { width = u.width; height = u.height; rate = u.rate; structure = u.structure; aspect = u.aspect; chroma = z }) (sym f) in
+    one ∙ (two ∙ (three ∙ (four ∙ (five ∙ six))))
+
+pub all_found : (tags : List (List ℕ)) (t u : Tags) → AreTags tags → Moved t tags u → all_judged t tags ≡ Ok u
+all_found [] t u are m = ap Ok (same_tags t u m.width m.height m.rate m.structure m.aspect m.chroma)
+all_found ([] ∷ tags) t u are m = absurd are
+all_found ((letter ∷ value) ∷ tags) t u are m =
+    let s = step t letter value tags u are.0 m in
+    rw s.judging (all_found tags s.next u are.2 s.moved)

@@ -1,0 +1,45 @@
+-- Vectors with room for planes.
+use Rattle.std.proofs.Common.{◌≡◌, ℕ, ◌+◌, ◌<◌, ◌≤◌, List, [], ◌∷◌, length, take, drop, get_or, map, sym, subst, arith, add-one, drop-cons}
+use Rattle.std.proofs.Math.ListN.{set}
+use Rattle.std.proofs.lemmas.List.{drop-set-lt}
+use Rattle.std.specs.declared.vec.Vec.{Vec}
+use Rattle.std.specs.Vec.{vec_capacity}
+use Rattle.ffv1_y4m.specs.State.{HasRoom, samples_of}
+
+pub room_long : {A : Type 0} (sizes : List ℕ) (planes : List (Vec ℕ A)) → HasRoom sizes planes → length sizes ≤ length planes
+room_long [] planes h = omega arith
+room_long (size ∷ sizes) [] h = absurd h
+room_long (size ∷ sizes) (plane ∷ planes) h = omega (arith, room_long sizes planes h.1)
+
+pub room_taken : {A : Type 0} (sizes : List ℕ) (planes : List (Vec ℕ A)) → HasRoom sizes planes → HasRoom sizes (take (length sizes) planes)
+room_taken [] planes h = tt
+room_taken (size ∷ sizes) [] h = absurd h
+room_taken (size ∷ sizes) (plane ∷ planes) h = (h.0, room_taken sizes planes h.1)
+
+parted : {A : Type 0} (sizes : List ℕ) (planes : List (Vec ℕ A)) (i : ℕ) (d : Vec ℕ A) → i < length sizes → i < length planes → HasRoom (drop i sizes) (drop i planes) →
+    HasRoom (get_or sizes i 0 ∷ drop (i + 1) sizes) (get_or planes i d ∷ drop (i + 1) planes)
+parted {A = A} sizes planes i d inside within h =
+    let one : drop i sizes ≡ get_or sizes i 0 ∷ drop (i + 1) sizes = rw add-one (drop-cons sizes i 0 inside) in
+    let two : drop i planes ≡ get_or planes i d ∷ drop (i + 1) planes = rw add-one (drop-cons planes i d within) in
+    let P : List ℕ → Type 0 = λ z. HasRoom z (drop i planes) in
+    let Q : List (Vec ℕ A) → Type 0 = λ z. HasRoom (get_or sizes i 0 ∷ drop (i + 1) sizes) z in
+    subst Q two (subst P one h)
+
+pub room_at : {A : Type 0} (sizes : List ℕ) (planes : List (Vec ℕ A)) (i : ℕ) (d : Vec ℕ A) → i < length sizes → i < length planes → HasRoom (drop i sizes) (drop i planes) → get_or sizes i 0 ≤ vec_capacity (get_or planes i d)
+room_at sizes planes i d inside within h =
+    let both = parted sizes planes i d inside within h in
+    both.0
+
+pub room_next : {A : Type 0} (sizes : List ℕ) (planes : List (Vec ℕ A)) (i : ℕ) (d p : Vec ℕ A) → i < length sizes → i < length planes → HasRoom (drop i sizes) (drop i planes) → HasRoom (drop (i + 1) sizes) (drop (i + 1) (set planes i p))
+room_next {A = A} sizes planes i d p inside within h =
+    let both = parted sizes planes i d inside within h in
+    let P : List (Vec ℕ A) → Type 0 = λ z. HasRoom (drop (i + 1) sizes) z in
+    subst P (sym (drop-set-lt (i + 1) planes i p (omega arith))) both.1
+
+room_own : {A : Type 0} (planes : List (Vec ℕ A)) → HasRoom (map (λ plane. length plane) (samples_of planes)) planes
+room_own [] = tt
+room_own (plane ∷ planes) = (omega (arith, plane.ok.0, plane.ok.1), room_own planes)
+
+-- vectors that hold planes have room for them
+pub room_left : {A : Type 0} (sizes : List ℕ) (planes : List (Vec ℕ A)) → map (λ plane. length plane) (samples_of planes) ≡ sizes → HasRoom sizes planes
+room_left sizes planes e = subst (λ z. HasRoom z planes) e (room_own planes)

@@ -1,0 +1,6 @@
+use Rattle.ffv1_y4m.specs.VideoHead.{plane_sizes}
+use Rattle.ffv1_y4m.proofs.Rooms.{room_left}
+use Rattle.ffv1_y4m.proofs.laws.rooms.Goals as goal
+
+pub returns : goal.returns
+returns g c = record { left = λ h planes fits. room_left (plane_sizes h) planes fits }

@@ -1,0 +1,7 @@
+use Rattle.ffv1_y4m.proofs.y4m_reader.Y4mReader.next.Goals as goal
+
+pub returns-in_default-answer-clause-answer : goal.returns-in_default-answer-clause-answer
+returns-in_default-answer-clause-answer g c = rw (← c.self.view_is, c.in_default.is) c.read_picture-answer.ensures.answer
+
+pub returns-in-Err-clause-answer : goal.returns-in-Err-clause-answer
+returns-in-Err-clause-answer g c = rw (← c.self.view_is, c.in_default.is) c.in-Err.ensures.answer

@@ -1,0 +1,70 @@
+-- What a header line says: tags behind `YUV4MPEG2`, each a letter and a value behind one space, in any order.
+use Rattle.std.specs.Prelude.{◌≡◌, ℕ, ◌==◌, ◌||◌, Bool, true, false, if◌then◌else◌, List, [], ◌∷◌, ◌++◌, codes, flat_map, Some, Ok}
+use Rattle.ffv1_y4m.specs.Header.{size_of, ratio_of, structure_of, chroma_of, chroma_planes}
+use Rattle.ffv1_y4m.specs.declared.head.VideoHead.{VideoHead}
+use Rattle.ffv1_y4m.specs.declared.tags.Chroma.{Chroma}
+
+-- no byte is this one
+abbrev pub Without : ℕ → List ℕ → Type 0
+Without byte [] = Unit {0}
+Without byte (c ∷ cs) = ((c == byte) ≡ false) × Without byte cs
+
+-- the letters of tags: W H F I A C X
+abbrev pub is_letter : ℕ → Bool
+is_letter c = c == 87 || (c == 72 || (c == 70 || (c == 73 || (c == 65 || (c == 67 || c == 88)))))
+
+-- tags, without spaces
+abbrev pub AreTags : List (List ℕ) → Type 0
+AreTags [] = Unit {0}
+AreTags ([] ∷ tags) = ⊥
+AreTags ((letter ∷ value) ∷ tags) = (is_letter letter ≡ true) × Without 32 (letter ∷ value) × AreTags tags
+
+-- the tags behind one space each
+abbrev pub spaced : List (List ℕ) → List ℕ
+spaced tags = flat_map (λ tag. 32 ∷ tag) tags
+
+-- the values of the tags of this letter
+abbrev pub values_of : ℕ → List (List ℕ) → List (List ℕ)
+values_of letter [] = []
+values_of letter ([] ∷ tags) = values_of letter tags
+values_of letter ((c ∷ value) ∷ tags) = if c == letter then value ∷ values_of letter tags else values_of letter tags
+
+-- there is one value, and it says x
+abbrev pub Once : {X : Type 0} → (List ℕ → X → Type 0) → List (List ℕ) → X → Type 0
+Once says [] x = ⊥
+Once says (value ∷ []) x = says value x
+Once says (value ∷ second ∷ more) x = ⊥
+
+-- there is one value, and it says x; or none, and x is what stands in its place
+abbrev pub AtMostOnce : {X : Type 0} → (List ℕ → X → Type 0) → X → List (List ℕ) → X → Type 0
+AtMostOnce says default [] x = x ≡ default
+AtMostOnce says default (value ∷ []) x = says value x
+AtMostOnce says default (value ∷ second ∷ more) x = ⊥
+
+abbrev pub SaysSize : List ℕ → ℕ → Type 0
+SaysSize value n = size_of value ≡ Some n
+
+abbrev pub SaysRatio : ℕ → List ℕ → ℕ × ℕ → Type 0
+SaysRatio most value r = ratio_of most value ≡ Some r
+
+abbrev pub SaysStructure : List ℕ → ℕ → Type 0
+SaysStructure value s = structure_of value ≡ Ok s
+
+abbrev pub SaysChroma : List ℕ → Chroma → Type 0
+SaysChroma value c = chroma_of value ≡ Some c
+
+-- the chroma of a head
+abbrev pub chroma_in : VideoHead → Chroma
+chroma_in h = record { planes = h.chroma_planes; log2_h = h.log2_h; log2_v = h.log2_v; extra = h.extra_plane }
+
+-- a line says this head: W and H once, F, I, A and C at most once, X any number of times
+pub record IsHeaderLine (line : List ℕ) (h : VideoHead) : Type 0 where
+  pub tags : List (List ℕ)
+  pub are : AreTags tags
+  pub spelled : line ≡ codes "YUV4MPEG2" ++ spaced tags
+  pub width : Once SaysSize (values_of 87 tags) h.width
+  pub height : Once SaysSize (values_of 72 tags) h.height
+  pub rate : AtMostOnce (SaysRatio 4294967295) (0, 0) (values_of 70 tags) (h.rate, h.scale)
+  pub structure : AtMostOnce SaysStructure 0 (values_of 73 tags) h.structure
+  pub aspect : AtMostOnce (SaysRatio 65535) (0, 0) (values_of 65 tags) (h.sar_num, h.sar_den)
+  pub chroma : AtMostOnce SaysChroma (chroma_planes 1 1) (values_of 67 tags) (chroma_in h)

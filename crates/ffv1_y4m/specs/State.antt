@@ -1,0 +1,61 @@
+-- What a reader of pictures knows, and what a call of `next` answers and leaves.
+use Rattle.std.specs.Prelude.{◌≡◌, ℕ, Bool, true, false, List, map, Option, Some, None, Result, Ok, Err, [], ◌∷◌, ◌≤◌}
+use Rattle.std.specs.declared.vec.Vec.{Vec}
+use Rattle.std.specs.Vec.{vec_capacity}
+use Rattle.ffv1_y4m.specs.declared.head.VideoHead.{VideoHead}
+use Rattle.ffv1_y4m.specs.declared.fault.Fault.{Fault}
+use Rattle.ffv1_y4m.specs.declared.fault.Fault.TheVariants as fault
+use Rattle.ffv1_y4m.specs.Reads.{Answers}
+use Rattle.ffv1_y4m.specs.Sequence.{Reading}
+use Rattle.ffv1_y4m.specs.VideoHead.{IsSized, colour_head}
+
+-- a reader of YUV4MPEG2: the head that it read, and the fault that it met
+pub record Y4mReading : Type 0 where
+  pub head : VideoHead
+  pub failed : Option Fault
+
+-- a reader of PPM: the head that it read, whether the samples of an image come next, and the fault that it met
+pub record PpmReading : Type 0 where
+  pub head : VideoHead
+  pub begun : Bool
+  pub failed : Option Fault
+
+-- the samples of planes
+abbrev pub samples_of : {A : Type 0} → List (Vec ℕ A) → List (List ℕ)
+samples_of planes = map (λ plane. plane.items) planes
+
+-- the picture that a call of `next` gave: these planes, or none
+abbrev pub shown : {A : Type 0} → List (Vec ℕ A) → Bool → Option (List (List ℕ))
+shown planes false = None
+shown planes true = Some (samples_of planes)
+
+-- a call on a reader that may have met a fault: that fault again, of no byte; else what the text reads as
+abbrev pub NextAnswers : {X Y : Type 0} → Option Fault → (Y → X) → Reading X → Option (List ℕ) → Option (List ℕ) → ℕ → ℕ → Result Y Fault → Type 0
+NextAnswers (Some f) view reading old new before after r = (r ≡ Err f) × (new ≡ old) × (after ≡ before)
+NextAnswers None view reading old new before after r = Answers view reading old new before after r
+
+-- the fault that a reader has met behind a call
+abbrev pub failing : {Y : Type 0} → Option Fault → Result Y Fault → Option Fault
+failing (Some f) r = Some f
+failing None (Ok y) = None
+failing None (Err f) = Some f
+
+-- the head of a reader of PPM
+pub record IsColour (h : VideoHead) : Type 0 where
+  pub sized : IsSized h
+  pub colour : h ≡ colour_head h.width h.height
+
+-- vectors with room for planes of these sizes
+abbrev pub HasRoom : {A : Type 0} → List ℕ → List (Vec ℕ A) → Type 0
+HasRoom [] planes = Unit {0}
+HasRoom (size ∷ sizes) [] = ⊥
+HasRoom (size ∷ sizes) (plane ∷ planes) = (size ≤ vec_capacity plane) × HasRoom sizes planes
+
+abbrev pub is_memory : Fault → Bool
+is_memory fault.OutOfMemory = true
+is_memory f = false
+
+-- no memory was refused
+abbrev pub NoWant : {X : Type 0} → Result X Fault → Type 0
+NoWant (Ok x) = Unit {0}
+NoWant (Err f) = is_memory f ≡ false

@@ -1,0 +1,125 @@
+//! The planes of a picture are read.
+
+ghost use Rattle.std.specs.Prelude.{◌≡◌, ◌<◌, ℕ, ◌≤◌, ◌^◌, ◌*◌, Bool, List, length, map, get_or, OnOk, IfOk, true, OnErr, take};
+ghost use Rattle.ffv1_y4m.specs.Pictures.{planes_read, picture_read};
+ghost use Rattle.ffv1_y4m.specs.Reads.{Answers};
+ghost use Rattle.ffv1_y4m.specs.State.{HasRoom, NoWant, samples_of, shown};
+ghost use Rattle.ffv1_y4m.specs.VideoHead.{Fits, is_chroma, IsSized, IsReduced, plane_sizes, reduced};
+
+use crate::fault::Fault;
+use crate::head::VideoHead;
+use crate::reading::{read_frame_line, read_plane};
+use ffv1_wire::ByteIn;
+use std::alloc::{AllocError, Allocator};
+
+/// A size over a power of two, rounded up.
+fn reduced(log2: u8, size: u32) -> u32
+    requires factor { log2 ≤ 2 }
+    requires size { size ≤ 8192 }
+    ensures value { result ≡ reduced log2 size }
+    ensures small { result ≤ 8192 }
+{
+    match log2 {
+        0 => size,
+        1 => size.div_ceil(2),
+        _ => size.div_ceil(4),
+    }
+}
+
+/// How many planes a picture has.
+pub fn plane_count(head: &VideoHead) -> usize
+    ensures { result ≡ length (plane_sizes head.now) }
+{
+    match (head.chroma_planes, head.extra_plane) {
+        (false, _) => 1,
+        (true, false) => 3,
+        (true, true) => 4,
+    }
+}
+
+/// How many samples a plane of a picture has: Y, Cb, Cr, transparency.
+pub fn plane_size(head: &VideoHead, plane: usize) -> usize
+    requires plane { plane < length (plane_sizes head.now) }
+    requires sized { IsSized head.now }
+    requires factors { IsReduced head.now }
+    ensures { result ≡ get_or (plane_sizes head.now) plane 0 }
+{
+    match plane {
+        1 | 2 => {
+            let width = reduced(head.log2_h, head.width);
+            let height = reduced(head.log2_v, head.height);
+            width as usize * height as usize
+        }
+        _ => head.width as usize * head.height as usize,
+    }
+}
+
+/// Whether YUV4MPEG2 has a name for the chroma: 4:2:0, 4:2:2, 4:4:4 with transparency or without, 4:1:1, or none.
+pub fn has_chroma_name(head: &VideoHead) -> bool
+    ensures { result ≡ is_chroma head.now.chroma_planes head.now.log2_h head.now.log2_v head.now.extra_plane }
+{
+    match (head.chroma_planes, head.extra_plane) {
+        (true, true) => head.log2_h == 0 && head.log2_v == 0,
+        (true, false) => head.log2_h <= 2 && head.log2_v == 0
+            || head.log2_h == 1 && head.log2_v == 1,
+        (false, true) => false,
+        (false, false) => head.log2_h == 0 && head.log2_v == 0,
+    }
+}
+
+/// As many vectors as there are planes.
+pub(crate) fn lend_planes<A: Allocator + Copy>(
+    alloc: A,
+    planes: &mut Vec<Vec<u8, A>, A>,
+    count: usize,
+) -> Result<(), AllocError>
+    ensures many { OnOk result (length planes.new.items ≡ count) }
+    ensures room { count ≤ length planes.old.items → OnErr result ⊥ }
+    ensures kept { count ≤ length planes.old.items → planes.new.items ≡ take count planes.old.items }
+{
+    planes.truncate(count);
+    while planes.len() < count {
+        planes.push(Vec::new(alloc))?;
+    }
+    Ok(())
+}
+
+/// Reads the planes of a picture in place of what the vectors had.
+fn read_planes<R: ByteIn, A: Allocator>(
+    head: &VideoHead,
+    input: &mut R,
+    planes: &mut Vec<Vec<u8, A>, A>,
+) -> Result<(), Fault>
+    requires many { length planes.old.items ≡ length (plane_sizes head.now) }
+    requires sized { IsSized head.now }
+    requires factors { IsReduced head.now }
+    ensures answer { Answers (λ (_ : Unit {0}). samples_of planes.new.items) (planes_read (plane_sizes head.now)) (R.remaining input.old) (R.remaining input.new) (R.failures input.old) (R.failures input.new) result }
+    ensures fits { OnOk result (Fits head.now (samples_of planes.new.items)) }
+    ensures room { HasRoom (plane_sizes head.now) planes.old.items → NoWant result }
+{
+    for plane in 0..planes.len() {
+        read_plane(input, &mut planes[plane], plane_size(head, plane))?;
+    }
+    Ok(())
+}
+
+/// Reads the next picture, in place of what the planes were; false where the input has ended.
+pub(crate) fn read_picture<R: ByteIn, A: Allocator + Copy>(
+    alloc: A,
+    head: &VideoHead,
+    input: &mut R,
+    planes: &mut Vec<Vec<u8, A>, A>,
+) -> Result<bool, Fault>
+    requires sized { IsSized head.now }
+    requires factors { IsReduced head.now }
+    ensures answer { Answers (shown planes.new.items) (picture_read head.now) (R.remaining input.old) (R.remaining input.new) (R.failures input.old) (R.failures input.new) result }
+    ensures fits { IfOk result (λ more. more ≡ true → Fits head.now (samples_of planes.new.items)) }
+    ensures room { HasRoom (plane_sizes head.now) planes.old.items → NoWant result }
+{
+    if !read_frame_line(input)? {
+        return Ok(false);
+    }
+    lend_planes(alloc, planes, plane_count(head))?;
+    read_planes(head, input, planes)?;
+    Ok(true)
+}

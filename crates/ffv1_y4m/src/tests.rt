@@ -1,0 +1,5 @@
+//! Texts as other programs write them, and worked values.
+
+mod headers;
+mod images;
+mod pictures;

@@ -1,0 +1,127 @@
+//! Pictures of YUV4MPEG2, read and written.
+
+use crate::{Fault, Y4mReader, Y4mWriter};
+use ffv1_wire::{FromRead, ToWrite};
+use std::alloc::Global;
+use std::test::Fail;
+
+/// The canonical text of a text of one picture or more.
+fn written_back(alloc: Global, text: &[u8]) -> Result<Vec<u8>, Fault> {
+    let mut input = FromRead::new(text);
+    let mut reader = Y4mReader::open(alloc, None, &mut input)?;
+    let mut writer = Y4mWriter::new(*reader.head());
+    let mut planes = Vec::new(alloc);
+    let mut output = ToWrite::new(Vec::new(alloc));
+    for _ in 0..text.len() {
+        if !reader.next(&mut input, &mut planes)? {
+            break;
+        }
+        writer.picture(&mut output, &planes)?;
+    }
+    Ok(output.into_inner())
+}
+
+/// Whether a text is written as another.
+fn becomes(alloc: Global, text: &[u8], canonical: &[u8]) -> bool {
+    match written_back(alloc, text) {
+        Ok(out) => out.as_slice() == canonical,
+        Err(_) => false,
+    }
+}
+
+#[test]
+fn canonical_texts(rt: HostRuntime) -> Result<(), Fail> {
+    let rows: [(&[u8], &[u8], usize); 6] = [
+        (
+            b"YUV4MPEG2 W2 H2 F25:1 C420mpeg2 Xa\nFRAME\nabcdef",
+            b"YUV4MPEG2 W2 H2 F25:1 I? A0:0 C420jpeg\nFRAME\nabcdef",
+            51,
+        ),
+        (
+            b"YUV4MPEG2 W1 H1 C444alpha\nFRAME\n\x00\x00\x00\x00",
+            b"YUV4MPEG2 W1 H1 F0:0 I? A0:0 C444alpha\nFRAME\n\x00\x00\x00\x00",
+            49,
+        ),
+        (
+            b"YUV4MPEG2 W3 H1 Ip C422\nFRAME\nabcdefgFRAME\nhijklmn",
+            b"YUV4MPEG2 W3 H1 F0:0 Ip A0:0 C422\nFRAME\nabcdefgFRAME\nhijklmn",
+            60,
+        ),
+        (
+            b"YUV4MPEG2 C411 H3 W5 It A4:3\nFRAME\nabcdefghijklmnopqrstuvwxyz0",
+            b"YUV4MPEG2 W5 H3 F0:0 It A4:3 C411\nFRAME\nabcdefghijklmnopqrstuvwxyz0",
+            67,
+        ),
+        (
+            b"YUV4MPEG2 W1 H1 Cmono Ib\nFRAME\n\xFF",
+            b"YUV4MPEG2 W1 H1 F0:0 Ib A0:0 Cmono\nFRAME\n\xFF",
+            42,
+        ),
+        (
+            b"YUV4MPEG2 W3 H5\nFRAME\nabcdefghijklmno012345678901",
+            b"YUV4MPEG2 W3 H5 F0:0 I? A0:0 C420jpeg\nFRAME\nabcdefghijklmno012345678901",
+            71,
+        ),
+    ];
+    for (text, canonical, len) in rows {
+        assert!(rt; canonical.len() == len);
+        assert!(rt; becomes(rt.alloc(), text, canonical));
+    }
+    Ok(())
+}
+
+/// The fault of the last call on a text, and whether the call after it answers so too.
+fn last_fault(alloc: Global, text: &[u8]) -> Result<Option<Fault>, Fault> {
+    let mut input = FromRead::new(text);
+    let mut reader = Y4mReader::open(alloc, None, &mut input)?;
+    let mut planes = Vec::new(alloc);
+    for _ in 0..text.len() {
+        match reader.next(&mut input, &mut planes) {
+            Ok(true) => (),
+            Ok(false) => return Ok(None),
+            Err(fault) => {
+                return match reader.next(&mut input, &mut planes) {
+                    Err(again) if again == fault => Ok(Some(fault)),
+                    _ => Ok(None),
+                };
+            }
+        }
+    }
+    Ok(None)
+}
+
+#[test]
+fn ends_of_texts(rt: HostRuntime) -> Result<(), Fail> {
+    let text = b"YUV4MPEG2 W2 H1 C444\nFRAME\nabcdefFRAME\nghijkl";
+    for end in 0..46usize {
+        let answer = last_fault(rt.alloc(), &text[..end]);
+        let expected = match end {
+            0..=20 => Err(Fault::Header),
+            21 | 33 | 45 => Ok(None),
+            _ => Ok(Some(Fault::FrameTruncated)),
+        };
+        assert!(rt; answer == expected);
+    }
+    Ok(())
+}
+
+#[test]
+fn frame_lines(rt: HostRuntime) -> Result<(), Fail> {
+    let rows: [(&[u8], Option<Fault>); 5] = [
+        (
+            b"YUV4MPEG2 W1 H1 Cmono\nFRAME Ip\na",
+            Some(Fault::FrameLine),
+        ),
+        (b"YUV4MPEG2 W1 H1 Cmono\nFRAMEa", Some(Fault::FrameLine)),
+        (b"YUV4MPEG2 W1 H1 Cmono\nG", Some(Fault::FrameLine)),
+        (
+            b"YUV4MPEG2 W1 H1 Cmono\nFRAME\naFRAMX",
+            Some(Fault::FrameLine),
+        ),
+        (b"YUV4MPEG2 W1 H1 Cmono\nFRAME\na", None),
+    ];
+    for (text, fault) in rows {
+        assert!(rt; last_fault(rt.alloc(), text) == Ok(fault));
+    }
+    Ok(())
+}

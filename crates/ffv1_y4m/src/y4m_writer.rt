@@ -1,0 +1,89 @@
+//! The writer of YUV4MPEG2.
+
+ghost use Rattle.std.specs.Prelude.{◌≡◌, ℕ, Bool, false};
+ghost use Rattle.ffv1_y4m.specs.Canonical.{next_text};
+ghost use Rattle.ffv1_y4m.specs.State.{samples_of};
+ghost use Rattle.ffv1_y4m.specs.Writes.{Y4mWriting, NextWrites, Writes, written_by};
+
+use crate::fault::Fault;
+use crate::head::VideoHead;
+use crate::writing::{write_header, write_picture};
+use ffv1_wire::ByteOut;
+use std::alloc::Allocator;
+use std::marker::Model;
+
+/// A writer of YUV4MPEG2. It is seen as its head, whether the header is written, and whether a write has failed.
+///
+/// It holds no output, and is handed the same one each time. It takes no memory.
+#[derive(Drop)]
+pub struct Y4mWriter {
+    head: VideoHead,
+    begun: bool,
+    failed: bool,
+}
+
+impl Model for Y4mWriter {
+    ghost use Rattle.ffv1_y4m.specs.Writes.{Y4mWriting};
+
+    ghost Value = { Y4mWriting };
+
+    ghost view = { λ w. record { head = w.head; begun = w.begun; failed = w.failed } };
+}
+
+impl Y4mWriter {
+    /// A writer of pictures with this head, of which nothing is written yet.
+    ///
+    /// What it writes is read back where the head is as a reader gives it: sizes of 1 to 8192, a rate and an aspect of
+    /// which both numbers are 0 or neither, a structure of at most 3, and chroma planes that have a name.
+    pub fn new(head: VideoHead) -> Y4mWriter
+        ensures { result ≡ record { head = head; begun = false; failed = false } }
+    {
+        Y4mWriter {
+            head,
+            begun: false,
+            failed: false,
+        }
+    }
+
+    /// Writes the next picture of these planes, and before the first one the header:
+    /// `YUV4MPEG2 W{width} H{height} F{rate}:{scale} I{structure} A{sar_num}:{sar_den} C{chroma}`.
+    ///
+    /// `Write` where a write failed: a beginning of the text of this call is then written, and not all of it. Each call
+    /// behind it answers `Write` again and writes nothing.
+    pub fn picture<W: ByteOut, A: Allocator>(
+        &mut self,
+        output: &mut W,
+        planes: &[Vec<u8, A>],
+    ) -> Result<(), Fault>
+        ensures answer { NextWrites self.old.failed (next_text self.old.head self.old.begun (samples_of planes.now)) (W.contents output.old) (W.contents output.new) (W.failures output.old) (W.failures output.new) result }
+        ensures after { self.new ≡ written_by self.old result }
+    {
+        if self.failed {
+            return Err(Fault::Write);
+        }
+        let answer = write_next(&self.head, self.begun, output, planes);
+        match answer {
+            Ok(()) => self.begun = true,
+            Err(_) => self.failed = true,
+        }
+        answer
+    }
+}
+
+/// Writes a picture, and before the first one the header.
+fn write_next<W: ByteOut, A: Allocator>(
+    head: &VideoHead,
+    begun: bool,
+    output: &mut W,
+    planes: &[Vec<u8, A>],
+) -> Result<(), Fault>
+    ensures { Writes (next_text head.now begun (samples_of planes.now)) (W.contents output.old) (W.contents output.new) (W.failures output.old) (W.failures output.new) result }
+{
+    if begun {
+        write_picture(output, planes)?;
+        return Ok(());
+    }
+    write_header(output, head)?;
+    write_picture(output, planes)?;
+    Ok(())
+}
