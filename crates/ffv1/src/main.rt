@@ -39,13 +39,13 @@ fn status_of(done: Result<(), Fault>) -> u8
 }
 
 /// Reads the command line and does what it asks for: status 0 for success, 1 for a fault, which is one line on standard error, and 2
-/// for a command line that is refused, for which clap says why on standard error. A line that asks for help gets it, with status 0.
+/// for a command line that is refused. All of clap's text goes to standard error, that of help too, which ends with status 0.
 fn command(rt: &HostRuntime, alloc: Global) -> io::Result<ExitCode> {
     let arguments: Vec<String> = env::args(rt)?.collect(alloc)?;
     let texts: Vec<&str> = arguments.iter().map(|a| a.as_str()).collect(alloc)?;
     match words(alloc, texts.as_slice()) {
         Err(error) => {
-            error.print(rt)?;
+            eprint!(rt; "{error}")?;
             Ok(if error.use_stderr() {
                 ExitCode::from(2)
             } else {
