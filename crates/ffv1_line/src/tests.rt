@@ -5,8 +5,9 @@ ghost use Rattle.ffv1_plane.specs.Quantisation.{contexts_of};
 ghost use Rattle.ffv1_range.specs.Symbols.{AreHeld, AllHeld};
 
 use crate::{TooLong, decode_line, encode_line};
-use ffv1_plane::QuantSet;
+use ffv1_plane::{Around, QuantSet, context, predict, residual_of};
 use ffv1_range::{RangeDecoder, RangeEncoder, StateTable};
+use std::process::Abort;
 use std::test::Fail;
 
 /// Whether the rows two and one above have the length of a row, of at least one sample.
@@ -176,6 +177,51 @@ fn decodes_rows(rt: HostRuntime) -> Result<(), Fail> {
     assert_eq!(rt; first, [10, 20]);
     assert_eq!(rt; second, [30, 40]);
     assert_eq!(rt; taken, 38);
+    Ok(())
+}
+
+/// Among such neighbours a sample has this context and residual.
+fn finds(rt: &impl Abort, set: &QuantSet, around: &Around, sample: u16, size: u32, residual: i32) {
+    let (found, flip) = context(set, around);
+    assert_eq!(rt; found, size);
+    assert_eq!(rt; residual_of(predict(around), flip, sample, 8), residual);
+}
+
+#[test]
+fn finds_contexts_and_residuals(rt: HostRuntime) -> Result<(), Fail> {
+    let set = QuantSet::small(rt.alloc())?;
+    let first = Around {
+        l: 0,
+        t: 0,
+        tl: 0,
+        tr: 0,
+        ll: 0,
+        tt: 0,
+    };
+    finds(&rt, &set, &first, 10, 0, 10);
+    finds(&rt, &set, &Around { l: 10, ..first }, 20, 3, 10);
+    finds(
+        &rt,
+        &set,
+        &Around {
+            l: 10,
+            t: 10,
+            tr: 20,
+            ..first
+        },
+        30,
+        393,
+        -20,
+    );
+    let last = Around {
+        l: 30,
+        t: 20,
+        tl: 10,
+        tr: 20,
+        ll: 10,
+        tt: 0,
+    };
+    finds(&rt, &set, &last, 40, 29, -10);
     Ok(())
 }
 
