@@ -1,4 +1,5 @@
-//! The program `ffv1`: its arguments, its files, what it prints and its exit status. All else is `ffv1_engine`.
+//! The program `ffv1`: its arguments, its files, what it prints and its exit status. All else is
+//! `ffv1_engine`.
 #![tactic(auto)]
 
 ghost use Rattle.std.specs.Prelude.{◌≡◌, IsOk, IsErr};
@@ -38,12 +39,11 @@ fn status_of(done: Result<(), Fault>) -> u8
     }
 }
 
-/// Reads the command line and does what it asks for: status 0 for success, 1 for a fault, which is one line on standard error, and 2
-/// for a command line that is refused. All of clap's text goes to standard error, that of help too, which ends with status 0.
-fn command(rt: &HostRuntime, alloc: Global) -> io::Result<ExitCode> {
-    let arguments: Vec<String> = env::args(rt)?.collect(alloc)?;
-    let texts: Vec<&str> = arguments.iter().map(|a| a.as_str()).collect(alloc)?;
-    match words(alloc, texts.as_slice()) {
+/// Does what the words of the command line ask for: status 0 for success, 1 for a fault, which is
+/// one line on standard error, and 2 for a line that is refused. All of clap's text goes to
+/// standard error, that of help too, which ends with status 0.
+fn command(rt: &HostRuntime, alloc: Global, texts: &[&str]) -> io::Result<ExitCode> {
+    match words(alloc, texts) {
         Err(error) => {
             eprint!(rt; "{error}")?;
             Ok(if error.use_stderr() {
@@ -62,8 +62,23 @@ fn command(rt: &HostRuntime, alloc: Global) -> io::Result<ExitCode> {
     }
 }
 
+/// Reads the command line and does what it asks for. A word that is not UTF-8 is refused with
+/// status 2 and one line.
+fn line(rt: &HostRuntime, alloc: Global) -> io::Result<ExitCode> {
+    let arguments: Vec<String> = match env::args(rt) {
+        Ok(arguments) => arguments.collect(alloc)?,
+        Err(error) if error.kind() == io::ErrorKind::InvalidData => {
+            eprintln!(rt; "ffv1: an argument is not UTF-8")?;
+            return Ok(ExitCode::from(2));
+        }
+        Err(error) => return Err(error),
+    };
+    let texts: Vec<&str> = arguments.iter().map(|a| a.as_str()).collect(alloc)?;
+    command(rt, alloc, texts.as_slice())
+}
+
 fn main(rt: HostRuntime) -> ExitCode {
-    match command(&rt, rt.alloc()) {
+    match line(&rt, rt.alloc()) {
         Ok(code) => code,
         Err(_) => ExitCode::from(1),
     }

@@ -5,7 +5,7 @@ use Rattle.std.proofs.lemmas.List.{take-append-drop}
 use Rattle.std.proofs.Math.Seq.{drop-append_seam, take-append_seam}
 use Rattle.byteorder.specs.Endian.{little_number}
 use Rattle.ffv1_avi.specs.declared.chunk.Entry.{Entry}
-use Rattle.ffv1_avi.specs.declared.fault.AviFault.{AviFault}
+use Rattle.ffv1_avi.specs.Reads.{Stop}
 use Rattle.ffv1_avi.specs.Chunks.{AreChunks, Chunk, IsChunk, chunk_text, chunks_text}
 use Rattle.ffv1_avi.specs.Reads.{padded, read_on}
 use Rattle.ffv1_avi.specs.Walk.{Visit, entry_judged, entry_read, is_name, resumed, visited, walk, walk_up_to}
@@ -177,7 +177,7 @@ walk_up_to_sound {S = S} {Y = Y} visit T sound (suc most) left s text z enough h
     P : (S × Option Y) × List ℕ → Type 0
     P z = WalkedTo visit T left s text z
 
-    on_visit : Again → (e : Entry) (middle : List ℕ) → IsEntry left text e middle → (v : Result ((S × Option Y) × List ℕ) AviFault) → visit s e middle ≡ v → read_on v (λ p. resumed (walk_up_to visit most e.left) p.0 p.1) ≡ Ok z → P z
+    on_visit : Again → (e : Entry) (middle : List ℕ) → IsEntry left text e middle → (v : Result ((S × Option Y) × List ℕ) Stop) → visit s e middle ≡ v → read_on v (λ p. resumed (walk_up_to visit most e.left) p.0 p.1) ≡ Ok z → P z
     on_visit again e middle entry (Err f) is k = absurd (cc)
     on_visit again e middle entry (Ok ((t, Some y), rest)) is k = subst P (ok_is ((t, Some y), rest) z k) (walked_stop visit T left s text e middle t y rest entry is)
     on_visit again e middle entry (Ok ((u, None), more)) is k =
@@ -185,7 +185,7 @@ walk_up_to_sound {S = S} {Y = Y} visit T sound (suc most) left s text z enough h
         let passed = sound s e middle u more entry.listed is in
         walked_more visit T left s u text middle more e z.0.0 z.0.1 z.1 entry passed (again e.left u more z less k)
 
-    on_entry : Again → (v : Result (Option Entry × List ℕ) AviFault) → entry_read left text ≡ v → read_on v (visited visit (walk_up_to visit most) s) ≡ Ok z → P z
+    on_entry : Again → (v : Result (Option Entry × List ℕ) Stop) → entry_read left text ≡ v → read_on v (visited visit (walk_up_to visit most) s) ≡ Ok z → P z
     on_entry again (Err f) is k = absurd (cc)
     on_entry again (Ok (None, rest)) is k =
         let end = entry_none left text rest is in

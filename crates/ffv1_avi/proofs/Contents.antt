@@ -1,15 +1,13 @@
 -- The bytes of a chunk, with their padding.
-use Rattle.std.proofs.Common.{◌≡◌, ℕ, suc, zero, ◌+◌, ◌-◌, ◌≤◌, ◌<◌, ◌%◌, if◌then◌else◌, ◌⊎◌, nat_lt, nat_le, true, false, [], ◌∷◌, Option, Some, None, Result, Ok, Err, List, ◌++◌, length, take, drop, codes, ap, ◌∙◌, sym, arith, refl, inl, inr, zero-add, length-take, length-drop, length-append}
+use Rattle.std.proofs.Common.{◌≡◌, ℕ, suc, zero, ◌+◌, ◌-◌, ◌≤◌, ◌<◌, ◌%◌, if◌then◌else◌, ◌⊎◌, nat_lt, nat_le, Bool, true, false, [], ◌∷◌, Option, Some, None, Result, Ok, Err, List, ◌++◌, length, take, drop, codes, ap, ◌∙◌, sym, arith, refl, inl, inr, zero-add, length-take, length-drop, length-append}
 use Rattle.std.proofs.lemmas.Bool.{cases_lt, lt-ltb, le-ltb, le-leb, lt-leb}
 use Rattle.std.proofs.lemmas.Grind.{common_steps}
 use Rattle.std.proofs.lemmas.List.{drop-append-le, take-append-le}
 use Rattle.std.proofs.Math.Seq.{drop-append_seam, take-add, take-append_seam}
 use Rattle.byteorder.specs.Endian.{little_number}
 use Rattle.byteorder.specs.Numbers.{little_from-append, little_from-take}
-use Rattle.ffv1_avi.specs.declared.fault.AviFault.{AviFault}
-use Rattle.ffv1_avi.specs.declared.fault.AviFault.TheVariants as fault
-use Rattle.ffv1_avi.specs.Reads.{AppendsSome, Reading, content, given, padded, passed, read_on, taken, ◌>>=◌}
-use Rattle.ffv1_avi.specs.Streams.{Format, format_in, format_of, rates_in, rates_of}
+use Rattle.ffv1_avi.specs.Reads.{AppendsSome, Kept, Looked, Reading, Short, Stop, Want, content, given, padded, passed, read_on, taken, wanted, ◌>>=◌}
+use Rattle.ffv1_avi.specs.Streams.{Format, format_behind, format_by, format_in, format_rest, format_of, rates_in, rates_of}
 use Rattle.ffv1_wire.specs.Reads.{Fills}
 use Rattle.ffv1_avi.specs.Walk.{is_name}
 
@@ -17,13 +15,13 @@ use Rattle.ffv1_avi.specs.Walk.{is_name}
 pub taken_long : (n : ℕ) (text : List ℕ) → n ≤ length text → taken n text ≡ Ok (take n text, drop n text)
 taken_long n text h = rw (le-ltb _ _ h) refl
 
-pub taken_short : (n : ℕ) (text : List ℕ) → length text < n → taken n text ≡ Err fault.Truncated
+pub taken_short : (n : ℕ) (text : List ℕ) → length text < n → taken n text ≡ Err (Short Looked)
 taken_short n text h = rw (lt-ltb _ _ h) refl
 
 pub passed_long : (n : ℕ) (text : List ℕ) → n ≤ length text → passed n text ≡ Ok (tt, drop n text)
 passed_long n text h = rw (le-ltb _ _ h) refl
 
-pub passed_short : (n : ℕ) (text : List ℕ) → length text < n → passed n text ≡ Err fault.Truncated
+pub passed_short : (n : ℕ) (text : List ℕ) → length text < n → passed n text ≡ Err (Short Looked)
 passed_short n text h = rw (lt-ltb _ _ h) refl
 
 pub drop_more : (m n : ℕ) (text : List ℕ) → drop n (drop m text) ≡ drop (m + n) text
@@ -31,16 +29,16 @@ drop_more zero n text = rw (zero-add n) refl
 drop_more (suc m) n [] = grind (arith, common_steps)
 drop_more (suc m) n (x ∷ xs) = let e : suc m + n ≡ suc (m + n) = omega arith in rw e (drop_more m n xs)
 
-pub content_long : (size : ℕ) (text : List ℕ) → padded size ≤ length text → content size text ≡ Ok (take size text, drop (padded size) text)
+pub content_long : (size : ℕ) (text : List ℕ) → padded size ≤ length text → content Looked size text ≡ Ok (take size text, drop (padded size) text)
 content_long size text h =
     let here : nat_lt (length text) size ≡ false = le-ltb _ _ (omega (arith, h)) in
     let behind : nat_lt (length (drop size text)) (size % 2) ≡ false = le-ltb _ _ (omega (arith, h, length-drop size text)) in
     rw (here, behind, drop_more size (size % 2) text) refl
 
-pub content_short : (size : ℕ) (text : List ℕ) → length text < padded size → content size text ≡ Err fault.Truncated
+pub content_short : (size : ℕ) (text : List ℕ) → length text < padded size → content Looked size text ≡ Err (Short Looked)
 content_short size text h = elim (cases_lt (length text) size) [ inl here ↦ rw (lt-ltb _ _ here) refl | inr long ↦ behind long ]
   where
-    behind : size ≤ length text → content size text ≡ Err fault.Truncated
+    behind : size ≤ length text → content Looked size text ≡ Err (Short Looked)
     behind long =
         let here : nat_lt (length text) size ≡ false = le-ltb _ _ long in
         let end : nat_lt (length (drop size text)) (size % 2) ≡ true = lt-ltb _ _ (omega (arith, h, length-drop size text)) in
@@ -116,32 +114,35 @@ format_of_front head more long =
     let behind : drop 40 (head ++ more) ≡ more = ap (λ k. drop k (head ++ more)) (sym long) ∙ drop-append_seam head more in
     rw (room, front, name, width, height, behind) refl
 
-abbrev pub format_rest : ℕ → List ℕ → Reading (Option Format)
-format_rest size head = taken (size - 40) >>= λ config. (passed (size % 2) >>= λ _. given (format_front head config))
+-- a format, by its bytes as a whole
+abbrev pub format_whole : ℕ → Reading (Option Format)
+format_whole size = content Looked size >>= λ bytes. given (format_of bytes)
 
-pub format_long : (size : ℕ) → 40 ≤ size → (text : List ℕ) → format_in size text ≡ (taken 40 >>= format_rest size) text
-unfolding format_in
-format_long size enough text = elim (cases_lt (length text) 40) [ inl none ↦ nothing none | inr some ↦ elim (cases_lt (length text) size) [ inl few ↦ short some few | inr all ↦ elim (cases_lt (length text) (padded size)) [ inl most ↦ unpadded all most | inr whole ↦ long whole ] ] ]
+abbrev whole_rest : ℕ → List ℕ → Reading (Option Format)
+whole_rest size head = taken (size - 40) >>= λ config. (passed (size % 2) >>= λ _. given (format_front head config))
+
+whole_long : (size : ℕ) → 40 ≤ size → (text : List ℕ) → format_whole size text ≡ (taken 40 >>= whole_rest size) text
+whole_long size enough text = elim (cases_lt (length text) 40) [ inl none ↦ nothing none | inr some ↦ elim (cases_lt (length text) size) [ inl few ↦ short some few | inr all ↦ elim (cases_lt (length text) (padded size)) [ inl most ↦ unpadded all most | inr whole ↦ long whole ] ] ]
   where
-    judge : Result (List ℕ × List ℕ) AviFault → Result (Option Format × List ℕ) AviFault
+    judge : Result (List ℕ × List ℕ) Stop → Result (Option Format × List ℕ) Stop
     judge z = read_on z (λ bytes. given (format_of bytes))
 
-    nothing : length text < 40 → judge (content size text) ≡ (taken 40 >>= format_rest size) text
+    nothing : length text < 40 → judge (content Looked size text) ≡ (taken 40 >>= whole_rest size) text
     nothing none = ap judge (content_short size text (omega (arith, none, enough))) ∙ rw (lt-ltb _ _ none) refl
 
-    short : 40 ≤ length text → length text < size → judge (content size text) ≡ (taken 40 >>= format_rest size) text
+    short : 40 ≤ length text → length text < size → judge (content Looked size text) ≡ (taken 40 >>= whole_rest size) text
     short some few =
         let behind : nat_lt (length (drop 40 text)) (size - 40) ≡ true = lt-ltb _ _ (omega (arith, few, some, length-drop 40 text)) in
         ap judge (content_short size text (omega (arith, few))) ∙ rw (le-ltb _ _ some, behind) refl
 
-    unpadded : size ≤ length text → length text < padded size → judge (content size text) ≡ (taken 40 >>= format_rest size) text
+    unpadded : size ≤ length text → length text < padded size → judge (content Looked size text) ≡ (taken 40 >>= whole_rest size) text
     unpadded all most =
         let some : nat_lt (length text) 40 ≡ false = le-ltb _ _ (omega (arith, all, enough)) in
         let behind : nat_lt (length (drop 40 text)) (size - 40) ≡ false = le-ltb _ _ (omega (arith, all, length-drop 40 text)) in
         let end : nat_lt (length (drop (size - 40) (drop 40 text))) (size % 2) ≡ true = lt-ltb _ _ (omega (arith, all, most, enough, length-drop 40 text, length-drop (size - 40) (drop 40 text))) in
         ap judge (content_short size text most) ∙ rw (some, behind, end) refl
 
-    long : padded size ≤ length text → judge (content size text) ≡ (taken 40 >>= format_rest size) text
+    long : padded size ≤ length text → judge (content Looked size text) ≡ (taken 40 >>= whole_rest size) text
     long whole =
         let some : nat_lt (length text) 40 ≡ false = le-ltb _ _ (omega (arith, whole, enough)) in
         let behind : nat_lt (length (drop 40 text)) (size - 40) ≡ false = le-ltb _ _ (omega (arith, whole, length-drop 40 text)) in
@@ -151,14 +152,13 @@ format_long size enough text = elim (cases_lt (length text) 40) [ inl none ↦ n
         let says : format_of (take size text) ≡ format_front (take 40 text) (take (size - 40) (drop 40 text)) = ap format_of (parted 40 size text enough) ∙ format_of_front (take 40 text) (take (size - 40) (drop 40 text)) head in
         ap judge (content_long size text whole) ∙ rw (some, behind, end, far, says) refl
 
-pub format_short : (size : ℕ) → size < 40 → (text : List ℕ) → format_in size text ≡ (passed (padded size) >>= λ _. given None) text
-unfolding format_in
-format_short size few text = elim (cases_lt (length text) (padded size)) [ inl less ↦ short less | inr all ↦ long all ]
+whole_short : (size : ℕ) → size < 40 → (text : List ℕ) → format_whole size text ≡ (passed (padded size) >>= λ _. given None) text
+whole_short size few text = elim (cases_lt (length text) (padded size)) [ inl less ↦ short less | inr all ↦ long all ]
   where
-    short : length text < padded size → format_in size text ≡ (passed (padded size) >>= λ _. given None) text
+    short : length text < padded size → format_whole size text ≡ (passed (padded size) >>= λ _. given None) text
     short less = ap (λ z. read_on z (λ bytes. given (format_of bytes))) (content_short size text less) ∙ rw (lt-ltb _ _ less) refl
 
-    long : padded size ≤ length text → format_in size text ≡ (passed (padded size) >>= λ _. given None) text
+    long : padded size ≤ length text → format_whole size text ≡ (passed (padded size) >>= λ _. given None) text
     long all =
         let room : nat_le 40 (length (take size text)) ≡ false = lt-leb _ _ (omega (arith, few, length-take size text)) in
         ap (λ z. read_on z (λ bytes. given (format_of bytes))) (content_long size text all) ∙ rw (le-ltb _ _ all, room) refl
@@ -180,8 +180,8 @@ appends_some (Some text) (Some rest) items buf done n m kept bound read most =
     cut xs ys k size = rw (← size) (take-append_seam xs ys)
 
 -- a format that is not FFV1
-pub format_wrong : (size : ℕ) (head : List ℕ) → 40 ≤ size → is_name (take 4 (drop 16 head)) (codes "FFV1") ≡ false → (text : List ℕ) → format_rest size head text ≡ (passed (padded size - 40) >>= λ _. given None) text
-format_wrong size head enough wrong text = rw wrong (elim (cases_lt (length text) (size - 40)) [ inl few ↦ short few | inr some ↦ elim (cases_lt (length text) (padded size - 40)) [ inl most ↦ unpadded some most | inr all ↦ long all ] ])
+whole_wrong : (size : ℕ) (head : List ℕ) → 40 ≤ size → is_name (take 4 (drop 16 head)) (codes "FFV1") ≡ false → (text : List ℕ) → whole_rest size head text ≡ (passed (padded size - 40) >>= λ _. given None) text
+whole_wrong size head enough wrong text = rw wrong (elim (cases_lt (length text) (size - 40)) [ inl few ↦ short few | inr some ↦ elim (cases_lt (length text) (padded size - 40)) [ inl most ↦ unpadded some most | inr all ↦ long all ] ])
   where
     short : length text < size - 40 → (taken (size - 40) >>= λ config. (passed (size % 2) >>= λ _. given {X = Option Format} None)) text ≡ (passed (padded size - 40) >>= λ _. given None) text
     short few = rw (lt-ltb _ _ few, lt-ltb (length text) (padded size - 40) (omega (arith, few, enough))) refl
@@ -197,3 +197,60 @@ format_wrong size head enough wrong text = rw wrong (elim (cases_lt (length text
         let end : nat_lt (length (drop (size - 40) text)) (size % 2) ≡ false = le-ltb _ _ (omega (arith, all, enough, length-drop (size - 40) text)) in
         let far : drop (size % 2) (drop (size - 40) text) ≡ drop (padded size - 40) text = drop_more (size - 40) (size % 2) text ∙ ap (λ k. drop k text) (omega (arith, enough)) in
         rw (here, end, far, le-ltb _ _ all) refl
+
+-- whether its record is kept or not, a format reads alike, and as its bytes as a whole
+format_alike : (v w : Want) (size : ℕ) (text : List ℕ) (z : Option Format × List ℕ) → format_by v size text ≡ Ok z → format_by w size text ≡ Ok z
+format_alike v w size text z h = on_tests (nat_lt size 40) (nat_lt (length text) 40) (is_name (take 4 (drop 16 (take 40 text))) (codes "FFV1")) (nat_lt (length (drop 40 text)) (size - 40)) refl refl refl refl h
+  where
+    on_tests : (a b c d : Bool) → nat_lt size 40 ≡ a → nat_lt (length text) 40 ≡ b → is_name (take 4 (drop 16 (take 40 text))) (codes "FFV1") ≡ c → nat_lt (length (drop 40 text)) (size - 40) ≡ d → format_by v size text ≡ Ok z → format_by w size text ≡ Ok z
+    on_tests true b c d p q r s h = rw p (rw p at h)
+    on_tests false true c d p q r s h = absurd (cc (rw (p, q) at h))
+    on_tests false false false d p q r s h = rw (p, q, r) (rw (p, q, r) at h)
+    on_tests false false true true p q r s h = absurd (cc (rw (p, q, r, s) at h))
+    on_tests false false true false p q r s h = rw (p, q, r, s) (rw (p, q, r, s) at h)
+
+rest_wrong : (w : Want) (size : ℕ) (front : List ℕ) → is_name (take 4 (drop 16 front)) (codes "FFV1") ≡ false → (text : List ℕ) → format_rest w size front text ≡ (passed (padded size - 40) >>= λ _. given None) text
+rest_wrong w size front is text = rw is refl
+
+rest_right : (size : ℕ) (front : List ℕ) → is_name (take 4 (drop 16 front)) (codes "FFV1") ≡ true → (text : List ℕ) → format_rest Looked size front text ≡ whole_rest size front text
+rest_right size front is text = rw is refl
+
+rest_same : (size : ℕ) (front : List ℕ) → 40 ≤ size → (text : List ℕ) → format_rest Looked size front text ≡ whole_rest size front text
+rest_same size front enough text = on_name (is_name (take 4 (drop 16 front)) (codes "FFV1")) refl
+  where
+    on_name : (b : Bool) → is_name (take 4 (drop 16 front)) (codes "FFV1") ≡ b → format_rest Looked size front text ≡ whole_rest size front text
+    on_name true is = rest_right size front is text
+    on_name false is = rest_wrong Looked size front is text ∙ sym (whole_wrong size front enough is text)
+
+by_same : (size : ℕ) (text : List ℕ) → format_by Looked size text ≡ format_whole size text
+by_same size text = elim (cases_lt size 40) [ inl few ↦ rw (lt-ltb _ _ few) (sym (whole_short size few text)) | inr enough ↦ rw (le-ltb _ _ enough) (on_front enough (taken 40 text) ∙ sym (whole_long size enough text)) ]
+  where
+    on_front : 40 ≤ size → (z : Result (List ℕ × List ℕ) Stop) → read_on z (format_rest Looked size) ≡ read_on z (whole_rest size)
+    on_front enough (Ok p) = rest_same size p.0 enough p.1
+    on_front enough (Err why) = refl
+
+pub format_sound : (size : ℕ) (text : List ℕ) (z : Option Format × List ℕ) → format_in size text ≡ Ok z → format_whole size text ≡ Ok z
+unfolding format_in
+format_sound size text z h = sym (by_same size text) ∙ format_alike Kept Looked size text z h
+
+pub format_complete : (size : ℕ) (text : List ℕ) (z : Option Format × List ℕ) → format_whole size text ≡ Ok z → format_in size text ≡ Ok z
+unfolding format_in
+format_complete size text z h = format_alike Looked Kept size text z (by_same size text ∙ h)
+
+-- a format by its size, and by its name
+pub format_short : (size : ℕ) → size < 40 → (text : List ℕ) → format_in size text ≡ (passed (padded size) >>= λ _. given None) text
+unfolding format_in
+format_short size few text = rw (lt-ltb _ _ few) refl
+
+pub format_long : (size : ℕ) → 40 ≤ size → (text : List ℕ) → format_in size text ≡ (taken 40 >>= format_rest Kept size) text
+unfolding format_in
+format_long size enough text = rw (le-ltb _ _ enough) refl
+
+abbrev pub record_rest : ℕ → List ℕ → Reading (Option Format)
+record_rest size front = wanted Kept (size - 40) >>= λ config. (passed (size % 2) >>= λ _. given (format_behind front config))
+
+pub format_right : (size : ℕ) (front : List ℕ) → is_name (take 4 (drop 16 front)) (codes "FFV1") ≡ true → (text : List ℕ) → format_rest Kept size front text ≡ record_rest size front text
+format_right size front is text = rw is refl
+
+pub format_wrong : (size : ℕ) (front : List ℕ) → is_name (take 4 (drop 16 front)) (codes "FFV1") ≡ false → (text : List ℕ) → format_rest Kept size front text ≡ (passed (padded size - 40) >>= λ _. given None) text
+format_wrong size front is text = rw is refl

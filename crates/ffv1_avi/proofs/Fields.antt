@@ -2,10 +2,11 @@
 use Rattle.std.proofs.Common.{◌≡◌, ℕ, ◌≤◌, nat_lt, Bool, true, false, Option, Some, None, Ok, List, ◌++◌, length, codes, ap, ◌∙◌, sym, subst, refl}
 use Rattle.std.proofs.lemmas.Bool.{le-ltb, ltb-false}
 use Rattle.ffv1_avi.specs.declared.chunk.Entry.{Entry}
-use Rattle.ffv1_avi.specs.Reads.{content, given, padded, passed, read_on}
+use Rattle.ffv1_avi.specs.Reads.{Looked, Reading, content, given, padded, passed, read_on}
 use Rattle.ffv1_avi.specs.Streams.{Format, Known, format_in, format_of, format_read, limit, rates_in, rates_of, rates_read, skipped, visit_field}
 use Rattle.ffv1_avi.specs.Walk.{is_name}
 use Rattle.ffv1_avi.proofs.Chunking.{Complete, IsPassed, Sound, Taking}
+use Rattle.ffv1_avi.proofs.Contents.{format_complete, format_sound, format_whole}
 use Rattle.ffv1_avi.proofs.Passing.{content_complete, content_sound, read_on_ok, skip_complete, skip_sound}
 use Rattle.ffv1_avi.proofs.Walking.{ok_is, read_on_twice}
 
@@ -40,7 +41,7 @@ skipped_passed {S = S} {Y = Y} T s e text t rest takes h =
     subst P (ok_is ((s, None), first.0.1) ((t, None), rest) first.2) here
 
 pub field_sound : Sound visit_field TakesField
-unfolding visit_field rates_in format_in
+unfolding visit_field rates_in
 field_sound k e text t rest listed h = on_names (is_name e.name (codes "strh")) (is_name e.name (codes "strf")) refl refl h
   where
     Z : Type 0
@@ -52,8 +53,8 @@ field_sound k e text t rest listed h = on_names (is_name e.name (codes "strh")) 
     on_rates : (r : Option (Option (ℕ × ℕ))) (b : Bool) → k.rates ≡ r → rates_read k e.size r text ≡ Ok ((t, None), rest) → IsPassed (T true b) k e t text rest
     on_rates None b is h =
         let next : List ℕ → Known = λ bytes. record { rates = Some (rates_of bytes); format = k.format } in
-        let first = read_on_ok (content e.size text) (λ bytes. given (next bytes, None)) ((t, None), rest) (sym (read_on_twice (content e.size text) (λ bytes. given (rates_of bytes)) (λ r. given (record { rates = Some r; format = k.format }, None))) ∙ h) in
-        let c = content_sound e.size text first.0 first.1 in
+        let first = read_on_ok (content Looked e.size text) (λ bytes. given (next bytes, None)) ((t, None), rest) (sym (read_on_twice (content Looked e.size text) (λ bytes. given (rates_of bytes)) (λ r. given (record { rates = Some r; format = k.format }, None))) ∙ h) in
+        let c = content_sound Looked e.size text first.0 first.1 in
         let here : IsPassed (T true b) k e (next first.0.0) text first.0.1 = record { bytes = first.0.0; padding = c.padding; text_is = c.text_is; long = c.long; padded_by = c.odd; takes = rw is refl } in
         let P : Z → Type 0 = λ z. IsPassed (T true b) k e z.0.0 text z.1 in
         subst P (ok_is ((next first.0.0, None), first.0.1) ((t, None), rest) first.2) here
@@ -66,8 +67,11 @@ field_sound k e text t rest listed h = on_names (is_name e.name (codes "strh")) 
         on_limit true o h = absurd (cc (rw o at h))
         on_limit false o h =
             let next : List ℕ → Known = λ bytes. record { rates = k.rates; format = Some (format_of bytes) } in
-            let first = read_on_ok (content e.size text) (λ bytes. given (next bytes, None)) ((t, None), rest) (sym (read_on_twice (content e.size text) (λ bytes. given (format_of bytes)) (λ f. given (record { rates = k.rates; format = Some f }, None))) ∙ rw o at h) in
-            let c = content_sound e.size text first.0 first.1 in
+            let said : Option Format → Reading (Known × Option ⊥) = λ f. given (record { rates = k.rates; format = Some f }, None) in
+            let got = read_on_ok (format_in e.size text) said ((t, None), rest) (rw o at h) in
+            let whole : read_on (format_whole e.size text) said ≡ Ok ((t, None), rest) = ap (λ z. read_on z said) (format_sound e.size text got.0 got.1) ∙ got.2 in
+            let first = read_on_ok (content Looked e.size text) (λ bytes. given (next bytes, None)) ((t, None), rest) (sym (read_on_twice (content Looked e.size text) (λ bytes. given (format_of bytes)) said) ∙ whole) in
+            let c = content_sound Looked e.size text first.0 first.1 in
             let small : e.size ≤ limit = ltb-false _ _ o in
             let short : IsShort k.format first.0.0 = rw (is, c.long) small in
             let here : IsPassed (T false true) k e (next first.0.0) text first.0.1 = record { bytes = first.0.0; padding = c.padding; text_is = c.text_is; long = c.long; padded_by = c.odd; takes = (short, rw is refl) } in
@@ -84,7 +88,7 @@ field_sound k e text t rest listed h = on_names (is_name e.name (codes "strh")) 
     on_names false false p q h = named false false p q (skipped_passed {Y = ⊥} (T false false) k e text t rest (λ bytes. refl) (rw (p, q) at h))
 
 pub field_complete : Complete visit_field TakesField
-unfolding visit_field rates_in format_in
+unfolding visit_field rates_in
 field_complete k e bytes padding t rest listed long odd takes = on_names (is_name e.name (codes "strh")) (is_name e.name (codes "strf")) refl refl takes
   where
     text : List ℕ
@@ -94,13 +98,14 @@ field_complete k e bytes padding t rest listed long odd takes = on_names (is_nam
     skip = ap (λ z. read_on z (λ _. given (k, None))) (skip_complete e.size bytes padding rest long odd)
 
     on_rates : (r : Option (Option (ℕ × ℕ))) → t ≡ rates_next k bytes r → rates_read k e.size r text ≡ Ok ((t, None), rest)
-    on_rates None is = rw is (ap (λ z. read_on (read_on z (λ bytes. given (rates_of bytes))) (λ r. given (record { rates = Some r; format = k.format }, None))) (content_complete e.size bytes padding rest long odd))
+    on_rates None is = rw is (ap (λ z. read_on (read_on z (λ bytes. given (rates_of bytes))) (λ r. given (record { rates = Some r; format = k.format }, None))) (content_complete Looked e.size bytes padding rest long odd))
     on_rates (Some old) is = rw is skip
 
     on_format : (f : Option (Option Format)) → IsShort f bytes → t ≡ format_next k bytes f → format_read k e.size f text ≡ Ok ((t, None), rest)
     on_format None short is =
         let small : nat_lt limit e.size ≡ false = le-ltb _ _ (rw (← long) short) in
-        rw (is, small) (ap (λ z. read_on (read_on z (λ bytes. given (format_of bytes))) (λ f. given (record { rates = k.rates; format = Some f }, None))) (content_complete e.size bytes padding rest long odd))
+        let whole : format_whole e.size text ≡ Ok (format_of bytes, rest) = ap (λ z. read_on z (λ bytes. given (format_of bytes))) (content_complete Looked e.size bytes padding rest long odd) in
+        rw (is, small) (ap (λ z. read_on z (λ f. given (record { rates = k.rates; format = Some f }, None))) (format_complete e.size text (format_of bytes, rest) whole))
     on_format (Some old) short is = rw is skip
 
     on_names : (a b : Bool) → is_name e.name (codes "strh") ≡ a → is_name e.name (codes "strf") ≡ b → TakesField k e.name bytes t → visit_field k e text ≡ Ok ((t, None), rest)

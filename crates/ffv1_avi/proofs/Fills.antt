@@ -1,65 +1,132 @@
--- Bytes that are read piece by piece.
-use Rattle.std.proofs.Common.{◌≡◌, ℕ, ◌+◌, ◌≤◌, ◌<◌, nat_lt, Bool, true, false, Option, Some, None, Result, Ok, Err, List, ◌++◌, length, take, drop, ap, ◌∙◌, sym, append_assoc, arith, refl, length-append}
-use Rattle.std.proofs.lemmas.Bool.{lt-ltb, le-ltb, ltb-true}
-use Rattle.std.proofs.lemmas.List.{take-append-drop}
-use Rattle.std.proofs.Math.Seq.{drop-append_seam, take-append-add, take-append_seam}
-use Rattle.std.specs.Io.KnownBytes.{Consumes}
+-- What the loops over a reader of bytes have read, as readings: bytes that are looked at, passed, or kept piece by piece.
+use Rattle.std.proofs.Common.{◌≡◌, ℕ, ◌+◌, ◌≤◌, ◌<◌, nat_lt, Bool, true, false, Option, Some, None, Ok, Err, List, [], ◌++◌, inl, inr, length, take, drop, ap, ◌∙◌, sym, subst, append-nil, arith, refl, length-append, length-take}
+use Rattle.std.proofs.lemmas.Bool.{lt-ltb, ltb-true}
+use Rattle.std.proofs.lemmas.List.{take-append-drop, take_all}
+use Rattle.std.proofs.Math.Seq.{take-append-add}
+use Rattle.std.specs.Io.KnownBytes.{Consumes, IsAtEnd}
+use Rattle.ffv1_wire.proofs.Bytes.{consumes_then}
+use Rattle.ffv1_wire.specs.Reads.{Fills, FillsBeginning, Skips, SkipsBeginning}
 use Rattle.ffv1_avi.specs.declared.fault.AviFault.{AviFault}
 use Rattle.ffv1_avi.specs.declared.fault.AviFault.TheVariants as fault
-use Rattle.ffv1_avi.specs.Reads.{AppendsSome, Begins, Faults, Read, Refused, appended, taken}
+use Rattle.ffv1_avi.specs.Reads.{AppendsSome, Begins, Faults, Kept, Lacks, Looked, Met, Read, Refused, Short, Stop, Want, Wants, appended, passed, read_on, taken, wanted}
+use Rattle.ffv1_avi.proofs.Passing.{passed_complete, wanted_complete}
+use Rattle.ffv1_avi.proofs.Reading.{consumes_none}
+use Rattle.ffv1_avi.proofs.Walking.{ok_is}
+
+-- too few bytes
+pub wanted_short : (w : Want) (n : ℕ) (bytes : List ℕ) → length bytes < n → wanted w n bytes ≡ Err (Short w)
+wanted_short w n bytes few = rw (lt-ltb _ _ few) refl
+
+pub passed_short : (n : ℕ) (bytes : List ℕ) → length bytes < n → passed n bytes ≡ Err (Short Looked)
+passed_short n bytes few = rw (lt-ltb _ _ few) refl
+
+pub appended_short : (items : List ℕ) (n : ℕ) (bytes : List ℕ) → length bytes < n → appended items n bytes ≡ Err (Short Kept)
+appended_short items n bytes few = rw (lt-ltb _ _ few) refl
+
+-- a buffer was filled
+pub filled : (old new : Option (List ℕ)) (n : ℕ) (buf : List ℕ) → n ≡ length buf → Fills old new n buf → Read (taken (length buf)) old new buf
+filled old new n buf all h =
+    let P : List ℕ → Type 0 = λ z. Consumes old new z in
+    record { bytes = buf; consumed = subst P (take_all n buf (omega (arith, all))) h.0; is = λ rest. wanted_complete Looked (length buf) buf rest refl }
+
+-- or the bytes ended before
+pub filled_short : (old new : Option (List ℕ)) (n : ℕ) (buf : List ℕ) → n < length buf → Fills old new n buf → Wants (taken (length buf)) old new × IsAtEnd new
+filled_short old new n buf few h =
+    let short : length (take n buf) < length buf = omega (arith, few, length-take n buf) in
+    ((Looked, record { bytes = take n buf; consumed = h.0; is = wanted_short Looked (length buf) (take n buf) short }), h.1 few)
+
+-- or a read failed
+pub filled_not : (old new : Option (List ℕ)) (buf : List ℕ) → FillsBeginning old new buf → Wants (taken (length buf)) old new
+filled_not old new buf h =
+    let short : length (take h.0 buf) < length buf = omega (arith, h.1, length-take h.0 buf) in
+    (Looked, record { bytes = take h.0 buf; consumed = h.2; is = wanted_short Looked (length buf) (take h.0 buf) short })
+
+-- the same of bytes that are passed
+pub skipped_all : (old new : Option (List ℕ)) (n count : ℕ) → n ≡ count → Skips old new n count → Read (passed count) old new tt
+skipped_all old new n count all h =
+    record { bytes = h.1.0; consumed = h.1.2; is = λ rest. passed_complete count h.1.0 rest (h.1.1 ∙ all) }
+
+pub skipped_short : (old new : Option (List ℕ)) (n count : ℕ) → n < count → Skips old new n count → Wants (passed count) old new × IsAtEnd new
+skipped_short old new n count few h =
+    let short : length h.1.0 < count = omega (arith, few, h.1.1) in
+    ((Looked, record { bytes = h.1.0; consumed = h.1.2; is = passed_short count h.1.0 short }), h.2 few)
+
+pub skipped_not : (old new : Option (List ℕ)) (count : ℕ) → SkipsBeginning old new count → Wants (passed count) old new
+skipped_not old new count h =
+    let short : length h.2.0 < count = omega (arith, h.1, h.2.1) in
+    (Looked, record { bytes = h.2.0; consumed = h.2.2; is = passed_short count h.2.0 short })
+
+-- nothing of what is to be kept was read
+pub append_none : (now : Option (List ℕ)) (items : List ℕ) (more : ℕ) → 0 < more → Lacks (appended items more) now now Kept
+append_none now items more some = record { bytes = []; consumed = consumes_none now; is = appended_short items more [] some }
+
+-- bytes that were read behind others
+pub append_all : (old new : Option (List ℕ)) (items buf : List ℕ) (more n : ℕ) → length buf ≡ more → n ≡ more → Fills old new n buf → Read (appended items more) old new (items ++ buf)
+append_all old new items buf more n long all h =
+    let P : List ℕ → Type 0 = λ z. Consumes old new z in
+    record { bytes = buf; consumed = subst P (take_all n buf (omega (arith, all, long))) h.0; is = λ rest. ap (λ z. read_on z (λ x r. Ok (items ++ x, r))) (wanted_complete Kept more buf rest long) }
+
+pub append_short : (old new : Option (List ℕ)) (items buf : List ℕ) (more n : ℕ) → length buf ≡ more → n < more → Fills old new n buf → Wants (appended items more) old new × IsAtEnd new
+append_short old new items buf more n long few h =
+    let short : length (take n buf) < more = omega (arith, few, length-take n buf) in
+    ((Kept, record { bytes = take n buf; consumed = h.0; is = appended_short items more (take n buf) short }), h.1 (omega (arith, few, long)))
+
+pub append_not : (old new : Option (List ℕ)) (items buf : List ℕ) (more : ℕ) → length buf ≡ more → FillsBeginning old new buf → Wants (appended items more) old new
+append_not old new items buf more long h =
+    let short : length (take h.0 buf) < more = omega (arith, h.1, long, length-take h.0 buf) in
+    (Kept, record { bytes = take h.0 buf; consumed = h.2; is = appended_short items more (take h.0 buf) short })
 
 -- all were read
-pub fill_done : (old now : Option (List ℕ)) (items : List ℕ) (size : ℕ) → length items ≡ size → Consumes old now items → Read (taken size) old now items
-fill_done None now items size long h = tt
-fill_done (Some text) None items size long h = absurd h
-fill_done (Some text) (Some left) items size long h =
-    let room : nat_lt (length (items ++ left)) (length items) ≡ false = le-ltb _ _ (omega (arith, length-append items left)) in
-    rw (h, ← long, room, take-append_seam items left, drop-append_seam items left) refl
+pub fill_done : (old now : Option (List ℕ)) (items : List ℕ) (size : ℕ) → length items ≡ size → Consumes old now items → Read (wanted Kept size) old now items
+fill_done old now items size long h = record { bytes = items; consumed = h; is = λ rest. wanted_complete Kept size items rest long }
 
 -- what a piece reads as
-cases_of : (items left rest : List ℕ) (more : ℕ) (x : List ℕ) (b : Bool) → nat_lt (length left) more ≡ b → appended items more left ≡ Ok (x, rest) → (b ≡ false) × (x ≡ items ++ take more left) × (rest ≡ drop more left)
-cases_of items left rest more x true test e = absurd (cc (rw test at e))
-cases_of items left rest more x false test e =
-    let read : Ok (items ++ take more left, drop more left) ≡ Ok (x, rest) = rw test at e in
-    let same = ok_parts (items ++ take more left, drop more left) (x, rest) read in
-    (refl, sym same.0, sym same.1)
-  where
-    ok_parts : (p q : List ℕ × List ℕ) → ◌≡◌ {A = Result (List ℕ × List ℕ) AviFault} (Ok p) (Ok q) → (p.0 ≡ q.0) × (p.1 ≡ q.1)
-    ok_parts p q e = let is : p ≡ q = cc in (ap (λ (z : List ℕ × List ℕ). z.0) is, ap (λ (z : List ℕ × List ℕ). z.1) is)
+abbrev Piece : Type 0
+Piece = List ℕ × List ℕ
+
+piece_of : (items left rest : List ℕ) (more : ℕ) (x : List ℕ) (b : Bool) → nat_lt (length left) more ≡ b → appended items more left ≡ Ok (x, rest) → (x ≡ items ++ take more left) × (rest ≡ drop more left)
+piece_of items left rest more x true test e = absurd (cc (rw test at e))
+piece_of items left rest more x false test e =
+    let same = ok_is (items ++ take more left, drop more left) (x, rest) (rw test at e) in
+    (sym (ap (λ (z : Piece). z.0) same), sym (ap (λ (z : Piece). z.1) same))
 
 -- a piece more was read
 pub fill_more : (old now new : Option (List ℕ)) (items x : List ℕ) (more : ℕ) → Consumes old now items → Read (appended items more) now new x → Consumes old new x
-fill_more None now new items x more h read = tt
-fill_more (Some text) None new items x more h read = absurd h
-fill_more (Some text) (Some left) None items x more h read = absurd read
-fill_more (Some text) (Some left) (Some rest) items x more h read =
-    let p = cases_of items left rest more x (nat_lt (length left) more) refl read in
-    rw (h, p.1, p.2, append_assoc items (take more left) (drop more left), take-append-drop more left) refl
+fill_more old now new items x more h read =
+    let left = read.bytes ++ [] in
+    let p = piece_of items left [] more x (nat_lt (length left) more) refl (read.is []) in
+    let whole : take more left ≡ read.bytes = sym (append-nil (take more left)) ∙ ap (λ z. take more left ++ z) p.1 ∙ take-append-drop more left ∙ append-nil read.bytes in
+    let P : List ℕ → Type 0 = λ z. Consumes old new z in
+    subst P (sym (p.0 ∙ ap (λ z. items ++ z) whole)) (consumes_then old now new items read.bytes h read.consumed)
 
--- a piece was cut short
-cut_of : (items left : List ℕ) (more : ℕ) (f : AviFault) (b : Bool) → nat_lt (length left) more ≡ b → appended items more left ≡ Err f → (b ≡ true) × (f ≡ fault.Truncated)
-cut_of items left more f true test e = (refl, cc (rw test at e))
-cut_of items left more f false test e = absurd (cc (rw test at e))
+-- a piece is no fault, and wants what is kept
+lack_of : (items bytes : List ℕ) (more : ℕ) (why : Stop) (b : Bool) → nat_lt (length bytes) more ≡ b → appended items more bytes ≡ Err why → (length bytes < more) × (why ≡ Short Kept)
+lack_of items bytes more why true test e = (ltb-true _ _ test, cc (rw test at e))
+lack_of items bytes more why false test e = absurd (cc (rw test at e))
 
-fill_cut : (old now : Option (List ℕ)) (items : List ℕ) (more size : ℕ) (f : AviFault) → length items + more ≤ size → Consumes old now items → Faults (appended items more) now f → Faults (taken size) old f
-fill_cut None now items more size f room h no_more = tt
-fill_cut (Some text) None items more size f room h no_more = absurd h
-fill_cut (Some text) (Some left) items more size f room h no_more =
-    let p = cut_of items left more f (nat_lt (length left) more) refl no_more in
-    let few : length left < more = ltb-true _ _ p.0 in
-    let short : nat_lt (length (items ++ left)) size ≡ true = lt-ltb _ _ (omega (arith, few, room, length-append items left)) in
-    rw (h, short, p.1) refl
+not_met : (f : AviFault) (rest : List ℕ) → Met f rest ≡ Short Kept → ⊥
+not_met f rest e = absurd (cc)
 
-pub fill_refused : (old now : Option (List ℕ)) (items : List ℕ) (more size l m n : ℕ) (f : AviFault) → length items + more ≤ size → m ≡ l → Consumes old now items → Refused (appended items more) now m n f → Refused (taken size) old l n f
-fill_refused old now items more size l m n fault.Read room same h why = rw (← same) why
-fill_refused old now items more size l m n fault.OutOfMemory room same h why = why ∙ same
-fill_refused old now items more size l m n fault.NotAvi room same h why = (why.0 ∙ same, fill_cut old now items more size fault.NotAvi room h why.1)
-fill_refused old now items more size l m n fault.NoFfv1 room same h why = (why.0 ∙ same, fill_cut old now items more size fault.NoFfv1 room h why.1)
-fill_refused old now items more size l m n fault.Truncated room same h why = (why.0 ∙ same, fill_cut old now items more size fault.Truncated room h why.1)
-fill_refused old now items more size l m n fault.ChunkTooLong room same h why = (why.0 ∙ same, fill_cut old now items more size fault.ChunkTooLong room h why.1)
-fill_refused old now items more size l m n fault.EmptyFrame room same h why = (why.0 ∙ same, fill_cut old now items more size fault.EmptyFrame room h why.1)
-fill_refused old now items more size l m n fault.TooLarge room same h why = (why.0 ∙ same, fill_cut old now items more size fault.TooLarge room h why.1)
-fill_refused old now items more size l m n fault.Write room same h why = (why.0 ∙ same, fill_cut old now items more size fault.Write room h why.1)
+no_fault : {now new : Option (List ℕ)} (items : List ℕ) (more : ℕ) (f : AviFault) → Faults (appended items more) now new f → ⊥
+no_fault items more f why = let p = lack_of items (why.bytes ++ []) more (Met f []) (nat_lt (length (why.bytes ++ [])) more) refl (why.is []) in not_met f [] p.1
+
+fill_lacks : (old now new : Option (List ℕ)) (items : List ℕ) (more size : ℕ) (w : Want) → length items + more ≤ size → Consumes old now items → Lacks (appended items more) now new w → Lacks (wanted Kept size) old new Kept
+fill_lacks old now new items more size w room h why =
+    let p = lack_of items why.bytes more (Short w) (nat_lt (length why.bytes) more) refl why.is in
+    let short : length (items ++ why.bytes) < size = omega (arith, room, p.0, length-append items why.bytes) in
+    record { bytes = items ++ why.bytes; consumed = consumes_then old now new items why.bytes h why.consumed; is = wanted_short Kept size (items ++ why.bytes) short }
+
+pub fill_refused : (old now new : Option (List ℕ)) (items : List ℕ) (more size l m n : ℕ) (f : AviFault) → length items + more ≤ size → m ≡ l → Consumes old now items → Refused (appended items more) now new m n f → Refused (wanted Kept size) old new l n f
+fill_refused old now new items more size l m n fault.Read room same h why = (rw (← same) why.0, (Kept, fill_lacks old now new items more size why.1.0 room h why.1.1))
+fill_refused old now new items more size l m n fault.OutOfMemory room same h why = (why.0 ∙ same, fill_lacks old now new items more size Kept room h why.1)
+fill_refused old now new items more size l m n fault.Truncated room same h (counted, inl ((w, lacks), ended)) = (counted ∙ same, inl ((Kept, fill_lacks old now new items more size w room h lacks), ended))
+fill_refused old now new items more size l m n fault.Truncated room same h (counted, inr why) = absurd (no_fault items more fault.Truncated why)
+fill_refused old now new items more size l m n fault.NotAvi room same h why = absurd (no_fault items more fault.NotAvi why.1)
+fill_refused old now new items more size l m n fault.NoFfv1 room same h why = absurd (no_fault items more fault.NoFfv1 why.1)
+fill_refused old now new items more size l m n fault.ChunkTooLong room same h why = absurd (no_fault items more fault.ChunkTooLong why.1)
+fill_refused old now new items more size l m n fault.EmptyFrame room same h why = absurd (no_fault items more fault.EmptyFrame why.1)
+fill_refused old now new items more size l m n fault.TooLarge room same h why = absurd why
+fill_refused old now new items more size l m n fault.Write room same h why = absurd why
 
 -- what is there then is a beginning
 pub fill_begins : (old now : Option (List ℕ)) (items x : List ℕ) (more size : ℕ) → length items + more ≤ size → Consumes old now items → AppendsSome now more items x → Begins old size x

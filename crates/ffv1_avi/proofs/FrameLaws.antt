@@ -4,10 +4,9 @@ use Rattle.std.proofs.lemmas.Bool.{eqb-false, ltb-false, le-ltb, ne_eqb}
 use Rattle.std.proofs.lemmas.Grind.{flat_map-append}
 use Rattle.byteorder.specs.Endian.{little_number}
 use Rattle.ffv1_avi.specs.declared.chunk.Entry.{Entry}
-use Rattle.ffv1_avi.specs.declared.fault.AviFault.{AviFault}
 use Rattle.ffv1_avi.specs.Chunks.{AreChunks, AreFrames, AreSized, Chunk, IsChunk, chunk_text, chunks_text, is_named, those}
 use Rattle.ffv1_avi.specs.Files.{found_read, frame_found, frame_read, frames_read, frames_up_to, more_frames, visit_movi}
-use Rattle.ffv1_avi.specs.Reads.{content, given, padded, passed, read_on}
+use Rattle.ffv1_avi.specs.Reads.{Kept, Stop, content, given, padded, passed, read_on}
 use Rattle.ffv1_avi.specs.Streams.{limit}
 use Rattle.ffv1_avi.specs.Walk.{entry_read, is_name, resumed, visited, walk, walk_up_to}
 use Rattle.ffv1_avi.proofs.Chunking.{Complete, Ended, IsPassed, Run, Sound, Taking, entry_complete, walk_complete, walk_sound}
@@ -117,8 +116,8 @@ frame_read_sound left text w h =
         let e = end.0 in
         let entry = end.2 in
         let is = movi_stop tt e end.1 tt y more end.3 in
-        let third = read_on_ok (content y.0 more) (λ bytes. given (Some (bytes, y.1))) w k in
-        let c = content_sound y.0 more third.0 third.1 in
+        let third = read_on_ok (content Kept y.0 more) (λ bytes. given (Some (bytes, y.1))) w k in
+        let c = content_sound Kept y.0 more third.0 third.1 in
         let bytes = third.0.0 in
         let size : length bytes ≡ e.size = c.long ∙ is.size in
         let odd : length c.padding ≡ length bytes % 2 = c.odd ∙ ap (λ n. n % 2) (sym c.long) in
@@ -160,7 +159,7 @@ frames_enough (suc f) (suc g) left text h k = on_frame (λ l more. frames_enough
     Same : Type 0
     Same = (l : ℕ) (more : List ℕ) → l ≤ f → l ≤ g → frames_up_to f l more ≡ frames_up_to g l more
 
-    on_frame : Same → (z : Result (Option (List ℕ × ℕ) × List ℕ) AviFault) → frame_read left text ≡ z → read_on z (more_frames (frames_up_to f)) ≡ read_on z (more_frames (frames_up_to g))
+    on_frame : Same → (z : Result (Option (List ℕ × ℕ) × List ℕ) Stop) → frame_read left text ≡ z → read_on z (more_frames (frames_up_to f)) ≡ read_on z (more_frames (frames_up_to g))
     on_frame same (Err e) is = refl
     on_frame same (Ok (None, rest)) is = refl
     on_frame same (Ok (Some p, rest)) is =
@@ -173,7 +172,7 @@ unfolding frames_up_to
 frames_step zero text = ap (λ z. read_on z (more_frames frames_read)) (sym (frame_end text))
 frames_step (suc n) text = on_frame (frame_read (suc n) text) refl
   where
-    on_frame : (z : Result (Option (List ℕ × ℕ) × List ℕ) AviFault) → frame_read (suc n) text ≡ z → read_on z (more_frames (frames_up_to n)) ≡ read_on z (more_frames frames_read)
+    on_frame : (z : Result (Option (List ℕ × ℕ) × List ℕ) Stop) → frame_read (suc n) text ≡ z → read_on z (more_frames (frames_up_to n)) ≡ read_on z (more_frames frames_read)
     on_frame (Err e) is = refl
     on_frame (Ok (None, rest)) is = refl
     on_frame (Ok (Some p, rest)) is =
@@ -227,7 +226,7 @@ frames_up_to_sound (suc most) left text w enough h = on_frame (λ l more v. fram
     Again : Type 0
     Again = (l : ℕ) (more : List ℕ) (v : List (List ℕ) × List ℕ) → l ≤ most → frames_up_to most l more ≡ Ok v → ReadFrames l more v.0 v.1
 
-    on_frame : Again → (z : Result (Option (List ℕ × ℕ) × List ℕ) AviFault) → frame_read left text ≡ z → read_on z (more_frames (frames_up_to most)) ≡ Ok w → P w
+    on_frame : Again → (z : Result (Option (List ℕ × ℕ) × List ℕ) Stop) → frame_read left text ≡ z → read_on z (more_frames (frames_up_to most)) ≡ Ok w → P w
     on_frame again (Err e) is k = absurd (cc)
     on_frame again (Ok (None, rest)) is k =
         let end = frame_read_sound left text (None, rest) is in
@@ -258,7 +257,7 @@ pub frames_sound : (left : ℕ) (text : List ℕ) (w : List (List ℕ) × List �
 frames_sound left text w h = frames_up_to_sound left left text w (omega arith) h
 
 -- a chunk that is no frame is passed
-frame_passed : (c : Chunk) (more : ℕ) (rest : List ℕ) → IsChunk c → is_named (codes "LIST") c ≡ false → is_named (codes "00dc") c ≡ false → frame_read (length (chunk_text c) + more) (chunk_text c ++ rest) ≡ frame_read more rest
+pub frame_passed : (c : Chunk) (more : ℕ) (rest : List ℕ) → IsChunk c → is_named (codes "LIST") c ≡ false → is_named (codes "00dc") c ≡ false → frame_read (length (chunk_text c) + more) (chunk_text c ++ rest) ≡ frame_read more rest
 unfolding frame_found
 frame_passed c more rest is list named =
     let one : chunks_text (c ∷ []) ≡ chunk_text c = append-nil (chunk_text c) in
@@ -282,7 +281,7 @@ frame_there c more rest is list named short some =
     let fits : nat_lt limit size ≡ false = le-ltb _ _ (rw is.counted short) in
     let not_none : (size == 0) ≡ false = ne_eqb _ _ (λ z. omega (arith, some, is.counted, z)) in
     let stop : visit_movi tt e ((c.bytes ++ c.padding) ++ rest) ≡ Ok ((tt, Some (size, e.left)), (c.bytes ++ c.padding) ++ rest) = rw (list, named, fits, not_none) refl in
-    let read : content size ((c.bytes ++ c.padding) ++ rest) ≡ Ok (c.bytes, rest) = content_complete size c.bytes c.padding rest counted (rw is.counted is.padded) in
+    let read : content Kept size ((c.bytes ++ c.padding) ++ rest) ≡ Ok (c.bytes, rest) = content_complete Kept size c.bytes c.padding rest counted (rw is.counted is.padded) in
     ap (λ z. read_on (read_on z (λ p. given p.1)) found_read) (walk_step visit_movi left tt (chunk_text c ++ rest))
     ∙ ap (λ z. read_on (read_on (read_on z (visited visit_movi (walk visit_movi) tt)) (λ p. given p.1)) found_read) entry
     ∙ ap (λ z. read_on (read_on (read_on z (λ p. resumed (walk visit_movi e.left) p.0 p.1)) (λ p. given p.1)) found_read) stop

@@ -15,3 +15,6 @@ pub mod OpenLaws
 pub mod FrameLaws
 pub mod FileLaws
 pub mod WrittenLaws
+pub mod BeginningLaws
+pub mod RefusalLaws
+pub mod KnownLaws

@@ -2,26 +2,28 @@
 use Rattle.std.proofs.Common.{◌≡◌, ℕ, ◌%◌, ◌≤◌, nat_lt, Bool, true, false, Result, Ok, Err, List, ◌++◌, length, take, drop, ap, ◌∙◌, sym, subst, arith, refl, append_assoc, length-append, length-take, length-drop}
 use Rattle.std.proofs.lemmas.Bool.{le-ltb, ltb-false}
 use Rattle.std.proofs.lemmas.List.{take-append-drop}
-use Rattle.ffv1_avi.specs.declared.fault.AviFault.{AviFault}
-use Rattle.ffv1_avi.specs.Reads.{Reading, content, given, padded, passed, read_on, taken, ◌>>=◌}
+use Rattle.ffv1_avi.specs.Reads.{Looked, Reading, Stop, Want, content, given, padded, passed, read_on, taken, wanted, ◌>>=◌}
 use Rattle.ffv1_avi.proofs.Chunking.{cut_back, cut_front}
 use Rattle.ffv1_avi.proofs.Walking.{ok_is}
 
 -- what readings in a row answer
-pub read_on_ok : {X Y : Type 0} (z : Result (X × List ℕ) AviFault) (k : X → Reading Y) (w : Y × List ℕ) → read_on z k ≡ Ok w → (p : X × List ℕ) × (z ≡ Ok p) × (k p.0 p.1 ≡ Ok w)
+pub read_on_ok : {X Y : Type 0} (z : Result (X × List ℕ) Stop) (k : X → Reading Y) (w : Y × List ℕ) → read_on z k ≡ Ok w → (p : X × List ℕ) × (z ≡ Ok p) × (k p.0 p.1 ≡ Ok w)
 read_on_ok (Ok p) k w h = (p, refl, h)
 read_on_ok (Err f) k w h = absurd (cc)
 
 -- so many bytes were taken
-pub taken_sound : (n : ℕ) (text : List ℕ) (p : List ℕ × List ℕ) → taken n text ≡ Ok p → (text ≡ p.0 ++ p.1) × (length p.0 ≡ n)
-taken_sound n text p h = on_test (nat_lt (length text) n) refl h
+pub wanted_sound : (w : Want) (n : ℕ) (text : List ℕ) (p : List ℕ × List ℕ) → wanted w n text ≡ Ok p → (text ≡ p.0 ++ p.1) × (length p.0 ≡ n)
+wanted_sound w n text p h = on_test (nat_lt (length text) n) refl h
   where
-    on_test : (b : Bool) → nat_lt (length text) n ≡ b → taken n text ≡ Ok p → (text ≡ p.0 ++ p.1) × (length p.0 ≡ n)
+    on_test : (b : Bool) → nat_lt (length text) n ≡ b → wanted w n text ≡ Ok p → (text ≡ p.0 ++ p.1) × (length p.0 ≡ n)
     on_test true t h = absurd (cc (rw t at h))
     on_test false t h =
         let P : List ℕ × List ℕ → Type 0 = λ z. (text ≡ z.0 ++ z.1) × (length z.0 ≡ n) in
         let enough : n ≤ length text = ltb-false _ _ t in
         subst P (ok_is (take n text, drop n text) p (rw t at h)) (sym (take-append-drop n text), length-take n text ∙ (omega (arith, enough)))
+
+pub taken_sound : (n : ℕ) (text : List ℕ) (p : List ℕ × List ℕ) → taken n text ≡ Ok p → (text ≡ p.0 ++ p.1) × (length p.0 ≡ n)
+taken_sound n text p h = wanted_sound Looked n text p h
 
 -- so many bytes were passed
 pub passed_sound : (n : ℕ) (text : List ℕ) (p : Unit {0} × List ℕ) → passed n text ≡ Ok p → (gone : List ℕ) × (text ≡ gone ++ p.1) × (length gone ≡ n)
@@ -41,10 +43,10 @@ pub record IsContent (size : ℕ) (text bytes rest : List ℕ) : Type 0 where
   pub long : length bytes ≡ size
   pub odd : length padding ≡ size % 2
 
-pub content_sound : (size : ℕ) (text : List ℕ) (p : List ℕ × List ℕ) → content size text ≡ Ok p → IsContent size text p.0 p.1
-content_sound size text p h =
-    let first = read_on_ok (taken size text) (λ bytes. (passed (size % 2) >>= λ _. given bytes)) p h in
-    let front = taken_sound size text first.0 first.1 in
+pub content_sound : (w : Want) (size : ℕ) (text : List ℕ) (p : List ℕ × List ℕ) → content w size text ≡ Ok p → IsContent size text p.0 p.1
+content_sound w size text p h =
+    let first = read_on_ok (wanted w size text) (λ bytes. (passed (size % 2) >>= λ _. given bytes)) p h in
+    let front = wanted_sound w size text first.0 first.1 in
     let second = read_on_ok (passed (size % 2) first.0.1) (λ _. given first.0.0) p first.2 in
     let behind = passed_sound (size % 2) first.0.1 second.0 second.1 in
     let P : List ℕ × List ℕ → Type 0 = λ z. IsContent size text z.0 z.1 in
@@ -62,21 +64,24 @@ skip_sound size text p h =
     (take size all, record { padding = drop size all; text_is = whole; long = long; odd = odd })
 
 -- bytes that are there are taken and passed
-pub taken_complete : (n : ℕ) (bytes rest : List ℕ) → length bytes ≡ n → taken n (bytes ++ rest) ≡ Ok (bytes, rest)
-taken_complete n bytes rest long =
+pub wanted_complete : (w : Want) (n : ℕ) (bytes rest : List ℕ) → length bytes ≡ n → wanted w n (bytes ++ rest) ≡ Ok (bytes, rest)
+wanted_complete w n bytes rest long =
     let there : nat_lt (length (bytes ++ rest)) n ≡ false = le-ltb _ _ (omega (arith, long, length-append bytes rest)) in
     rw (there, cut_front n bytes rest long, cut_back n bytes rest long) refl
+
+pub taken_complete : (n : ℕ) (bytes rest : List ℕ) → length bytes ≡ n → taken n (bytes ++ rest) ≡ Ok (bytes, rest)
+taken_complete n bytes rest long = wanted_complete Looked n bytes rest long
 
 pub passed_complete : (n : ℕ) (bytes rest : List ℕ) → length bytes ≡ n → passed n (bytes ++ rest) ≡ Ok (tt, rest)
 passed_complete n bytes rest long =
     let there : nat_lt (length (bytes ++ rest)) n ≡ false = le-ltb _ _ (omega (arith, long, length-append bytes rest)) in
     rw (there, cut_back n bytes rest long) refl
 
-pub content_complete : (size : ℕ) (bytes padding rest : List ℕ) → length bytes ≡ size → length padding ≡ size % 2 → content size ((bytes ++ padding) ++ rest) ≡ Ok (bytes, rest)
-content_complete size bytes padding rest long odd =
+pub content_complete : (w : Want) (size : ℕ) (bytes padding rest : List ℕ) → length bytes ≡ size → length padding ≡ size % 2 → content w size ((bytes ++ padding) ++ rest) ≡ Ok (bytes, rest)
+content_complete w size bytes padding rest long odd =
     let whole : (bytes ++ padding) ++ rest ≡ bytes ++ (padding ++ rest) = append_assoc bytes padding rest in
-    ap (content size) whole
-    ∙ ap (λ z. read_on z (λ bytes. (passed (size % 2) >>= λ _. given bytes))) (taken_complete size bytes (padding ++ rest) long)
+    ap (content w size) whole
+    ∙ ap (λ z. read_on z (λ bytes. (passed (size % 2) >>= λ _. given bytes))) (wanted_complete w size bytes (padding ++ rest) long)
     ∙ ap (λ z. read_on z (λ _. given bytes)) (passed_complete (size % 2) padding rest odd)
 
 pub skip_complete : (size : ℕ) (bytes padding rest : List ℕ) → length bytes ≡ size → length padding ≡ size % 2 → passed (padded size) ((bytes ++ padding) ++ rest) ≡ Ok (tt, rest)

@@ -2,7 +2,7 @@
 use Rattle.std.proofs.Common.{◌≡◌, ℕ, ◌-◌, ◌≤◌, Bool, true, false, Option, Some, None, Result, Ok, List, ◌++◌, length, take, drop, codes, ap, ◌∙◌, sym, subst, arith, refl, append_assoc, length-append, length-drop}
 use Rattle.std.specs.Cmp.Lexicographic.{same_text}
 use Rattle.ffv1_avi.specs.declared.chunk.Entry.{Entry}
-use Rattle.ffv1_avi.specs.declared.fault.AviFault.{AviFault}
+use Rattle.ffv1_avi.specs.Reads.{Stop}
 use Rattle.ffv1_avi.specs.Chunks.{AreChunks, Chunk, chunks_text}
 use Rattle.ffv1_avi.specs.Files.{header_read, list_skipped, list_visited, movi_reached, visit_top}
 use Rattle.ffv1_avi.specs.Head.{Head}
@@ -118,7 +118,7 @@ pub top_stop : (s : Option Head) (e : Entry) (text : List ℕ) (t : Option Head)
 unfolding visit_top
 top_stop s e text t y rest h = on_list (is_name e.name (codes "LIST")) refl h
   where
-    never : (u : Option Head) (more : List ℕ) → ◌≡◌ {A = Result Z AviFault} (Ok ((u, None), more)) (Ok ((t, Some y), rest)) → ⊥
+    never : (u : Option Head) (more : List ℕ) → ◌≡◌ {A = Result Z Stop} (Ok ((u, None), more)) (Ok ((t, Some y), rest)) → ⊥
     never u more k = no_some y (sym (ap (λ (z : Z). z.0.1) (ok_is ((u, None), more) ((t, Some y), rest) k)))
 
     on_movi : (o : Option Head) (own more : List ℕ) → s ≡ o → is_name e.name (codes "LIST") ≡ true → text ≡ own ++ more → is_name own (codes "movi") ≡ true → movi_reached o e.size more ≡ Ok ((t, Some y), rest) → IsMovi s e text y rest

@@ -4,19 +4,19 @@ use Rattle.std.proofs.lemmas.Bool.{ltb-false}
 use Rattle.byteorder.specs.Endian.{little_number}
 use Rattle.ffv1_avi.specs.declared.chunk.Entry.{Entry}
 use Rattle.ffv1_avi.specs.declared.fault.AviFault.{AviFault}
-use Rattle.ffv1_avi.specs.Reads.{Read, Reading, Refused, padded, read_on, ◌>>=◌}
+use Rattle.ffv1_avi.specs.Reads.{Stop, Read, Reading, Refused, padded, read_on, ◌>>=◌}
 use Rattle.ffv1_avi.specs.Walk.{Visit, entry_judged, entry_read, is_name, resumed, visited, walk, walk_up_to}
 use Rattle.ffv1_avi.proofs.Reading.{Goes, goes_read, goes_refused, goes_same}
 
 -- readings in a row
-pub read_on_twice : {X Y Z : Type 0} (z : Result (X × List ℕ) AviFault) (f : X → Reading Y) (k : Y → Reading Z) → read_on (read_on z f) k ≡ read_on z (λ x. f x >>= k)
+pub read_on_twice : {X Y Z : Type 0} (z : Result (X × List ℕ) Stop) (f : X → Reading Y) (k : Y → Reading Z) → read_on (read_on z f) k ≡ read_on z (λ x. f x >>= k)
 read_on_twice (Ok p) f k = refl
 read_on_twice (Err e) f k = refl
 
 pub some_is : {X : Type 0} (x y : X) → Some x ≡ Some y → x ≡ y
 some_is x y e = cc
 
-pub ok_is : {X : Type 0} (p q : X × List ℕ) → ◌≡◌ {A = Result (X × List ℕ) AviFault} (Ok p) (Ok q) → p ≡ q
+pub ok_is : {X : Type 0} (p q : X × List ℕ) → ◌≡◌ {A = Result (X × List ℕ) Stop} (Ok p) (Ok q) → p ≡ q
 ok_is p q e = cc
 
 -- what the list has left behind a chunk is less
@@ -59,13 +59,13 @@ walk_enough {S = S} {Y = Y} visit (suc f) (suc g) left s text h k = on_entry (λ
     Same : Type 0
     Same = (l : ℕ) (t : S) (rest : List ℕ) → l ≤ f → l ≤ g → walk_up_to visit f l t rest ≡ walk_up_to visit g l t rest
 
-    on_visit : Same → (e : Entry) → e.left ≤ f → e.left ≤ g → (z : Result ((S × Option Y) × List ℕ) AviFault) →
+    on_visit : Same → (e : Entry) → e.left ≤ f → e.left ≤ g → (z : Result ((S × Option Y) × List ℕ) Stop) →
         read_on z (λ p. resumed (walk_up_to visit f e.left) p.0 p.1) ≡ read_on z (λ p. resumed (walk_up_to visit g e.left) p.0 p.1)
     on_visit same e less more (Err x) = refl
     on_visit same e less more (Ok ((t, Some y), rest)) = refl
     on_visit same e less more (Ok ((t, None), rest)) = same e.left t rest less more
 
-    on_entry : Same → (z : Result (Option Entry × List ℕ) AviFault) → entry_read left text ≡ z → read_on z (visited visit (walk_up_to visit f) s) ≡ read_on z (visited visit (walk_up_to visit g) s)
+    on_entry : Same → (z : Result (Option Entry × List ℕ) Stop) → entry_read left text ≡ z → read_on z (visited visit (walk_up_to visit f) s) ≡ read_on z (visited visit (walk_up_to visit g) s)
     on_entry same (Err x) is = refl
     on_entry same (Ok (None, rest)) is = refl
     on_entry same (Ok (Some e, rest)) is =
@@ -78,13 +78,13 @@ unfolding walk_up_to entry_read
 walk_step visit zero s text = refl
 walk_step {S = S} {Y = Y} visit (suc n) s text = on_entry (entry_read (suc n) text) refl
   where
-    on_visit : (e : Entry) → e.left ≤ n → (z : Result ((S × Option Y) × List ℕ) AviFault) →
+    on_visit : (e : Entry) → e.left ≤ n → (z : Result ((S × Option Y) × List ℕ) Stop) →
         read_on z (λ p. resumed (walk_up_to visit n e.left) p.0 p.1) ≡ read_on z (λ p. resumed (walk visit e.left) p.0 p.1)
     on_visit e less (Err x) = refl
     on_visit e less (Ok ((t, Some y), rest)) = refl
     on_visit e less (Ok ((t, None), rest)) = walk_enough visit n e.left e.left t rest less (omega arith)
 
-    on_entry : (z : Result (Option Entry × List ℕ) AviFault) → entry_read (suc n) text ≡ z → read_on z (visited visit (walk_up_to visit n) s) ≡ read_on z (visited visit (walk visit) s)
+    on_entry : (z : Result (Option Entry × List ℕ) Stop) → entry_read (suc n) text ≡ z → read_on z (visited visit (walk_up_to visit n) s) ≡ read_on z (visited visit (walk visit) s)
     on_entry (Err x) is = refl
     on_entry (Ok (None, rest)) is = refl
     on_entry (Ok (Some e, rest)) is =
@@ -116,7 +116,7 @@ goes_end visit left s k new last h read =
     goes_read (entry_read left) (behind_entry visit s k) new last None (goes_same _ (entry_read left >>= behind_entry visit s k) (walk_then visit left s k) h) read
 
 -- or is refused
-pub goes_no_entry : {S X Y : Type 0} {whole : Reading X} {old now : Option (List ℕ)} {before after : ℕ} (visit : Visit S Y) (left : ℕ) (s : S) (k : S × Option Y → Reading X) (last : ℕ) (f : AviFault) →
-    Goes whole old before (walk visit left s >>= k) now after → Refused (entry_read left) now after last f → Refused whole old before last f
-goes_no_entry visit left s k last f h why =
-    goes_refused (entry_read left) (behind_entry visit s k) last f (goes_same _ (entry_read left >>= behind_entry visit s k) (walk_then visit left s k) h) why
+pub goes_no_entry : {S X Y : Type 0} {whole : Reading X} {old now : Option (List ℕ)} {before after : ℕ} (visit : Visit S Y) (left : ℕ) (s : S) (k : S × Option Y → Reading X) (new : Option (List ℕ)) (last : ℕ) (f : AviFault) →
+    Goes whole old before (walk visit left s >>= k) now after → Refused (entry_read left) now new after last f → Refused whole old new before last f
+goes_no_entry visit left s k new last f h why =
+    goes_refused (entry_read left) (behind_entry visit s k) new last f (goes_same _ (entry_read left >>= behind_entry visit s k) (walk_then visit left s k) h) why

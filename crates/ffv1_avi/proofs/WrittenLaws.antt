@@ -6,7 +6,7 @@ use Rattle.std.proofs.lemmas.List.Sums.{sum_by-cons}
 use Rattle.byteorder.specs.Endian.{little_number}
 use Rattle.byteorder.specs.Numbers.{little_number-reads_back}
 use Rattle.ffv1_avi.specs.Chunks.{AreFrames, AreSized, AviFile, Chunk, IsChunk, IsPart, IsStream, IsWritable, Part, Says, chunk_text, chunks_text, part_chunk}
-use Rattle.ffv1_avi.specs.declared.fault.AviFault.{AviFault}
+use Rattle.ffv1_avi.specs.Reads.{Stop}
 use Rattle.ffv1_avi.specs.Head.{Head}
 use Rattle.ffv1_avi.specs.Reads.{padded}
 use Rattle.ffv1_avi.specs.Streams.{limit}
@@ -162,6 +162,6 @@ written_file head frames is =
     record { riff_size = number (riff_size head frames); parts = header_of head count ∷ []; movi_size = number size; chunks = map frame_of frames; rest = []; stream = stream_of head count; others = []; bytes = whole; riff_sized = refl; movi_sized = refl; counted = counted; fits = fits; each = (header_is head count is.short, tt); first = refl; says = written_stream head frames count is; framed = frames_are frames is.sized }
 
 -- of which nothing is left
-pub written_rest : (head : Head) (frames : List (List ℕ)) (is : IsWritable head frames) → ◌≡◌ {A = Result ((Head × List (List ℕ)) × List ℕ) AviFault} (Ok ((head, frames), (written_file head frames is).rest)) (Ok ((head, frames), []))
+pub written_rest : (head : Head) (frames : List (List ℕ)) (is : IsWritable head frames) → ◌≡◌ {A = Result ((Head × List (List ℕ)) × List ℕ) Stop} (Ok ((head, frames), (written_file head frames is).rest)) (Ok ((head, frames), []))
 unfolding written_file
 written_rest head frames is = refl

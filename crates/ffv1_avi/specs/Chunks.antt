@@ -1,5 +1,7 @@
 -- A file as lists of chunks, apart from how it is walked.
-use Rattle.std.specs.Prelude.{◌≡◌, ℕ, ◌+◌, ◌≤◌, ◌<◌, ◌%◌, ◌^◌, ◌&&◌, ◌==◌, Bool, true, false, if◌then◌else◌, List, [], ◌∷◌, ◌++◌, length, take, codes, flat_map, map, Option, Some, None}
+use Rattle.std.specs.Prelude.{◌≡◌, ℕ, ◌+◌, ◌≤◌, ◌<◌, ◌%◌, ◌^◌, ◌&&◌, ◌==◌, Bool, true, false}
+use Rattle.std.specs.Prelude.{if◌then◌else◌, List, [], ◌∷◌, ◌++◌, length, take, codes, flat_map}
+use Rattle.std.specs.Prelude.{map, Option, Some, None}
 use Rattle.byteorder.specs.Endian.{little_number}
 use Rattle.ffv1_avi.specs.Head.{Head}
 use Rattle.ffv1_avi.specs.Reads.{padded}
@@ -14,8 +16,8 @@ pub record Chunk : Type 0 where
   pub bytes : List ℕ
   pub padding : List ℕ
 
--- a name and a size of four bytes each, as many bytes as the size says, and one more where they are odd; a list has
--- room for a name of its own
+-- a name and a size of four bytes each, as many bytes as the size says, and one more where they are
+-- odd; a list has room for a name of its own
 pub record IsChunk (c : Chunk) : Type 0 where
   pub named : length c.name ≡ 4
   pub sized : length c.size ≡ 4
@@ -58,7 +60,13 @@ pub data Part : Type 0 where
 
 -- the chunk that it is
 abbrev pub part_chunk : Part → Chunk
-part_chunk (Header size cs padding) = record { name = codes "LIST"; size = size; bytes = codes "hdrl" ++ chunks_text cs; padding = padding }
+part_chunk (Header size cs padding) =
+    record {
+      name = codes "LIST";
+      size = size;
+      bytes = codes "hdrl" ++ chunks_text cs;
+      padding = padding;
+    }
 part_chunk (Other c) = c
 
 -- the chunks in it, of a header
@@ -69,7 +77,8 @@ header_chunks (Other c) = []
 -- what may stand in RIFF before movi
 abbrev pub IsPart : Part → Type 0
 IsPart (Header size cs padding) = IsChunk (part_chunk (Header size cs padding)) × AreChunks cs
-IsPart (Other c) = IsChunk c × (is_list (codes "hdrl") c ≡ false) × (is_list (codes "movi") c ≡ false)
+IsPart (Other c) =
+    IsChunk c × (is_list (codes "hdrl") c ≡ false) × (is_list (codes "movi") c ≡ false)
 
 abbrev pub AreParts : List Part → Type 0
 AreParts [] = Unit {0}
@@ -87,7 +96,12 @@ pub record Says (fields : List Chunk) (head : Head) : Type 0 where
   pub first_format : first_of (those (is_named (codes "strf")) fields) ≡ Some format
   pub short : length format.bytes ≤ limit
   pub video : rates_of header.bytes ≡ Some (head.rate, head.scale)
-  pub ffv1 : format_of format.bytes ≡ Some (record { width = head.width; height = head.height; config_record = head.config_record })
+  pub ffv1 : format_of format.bytes
+      ≡ Some (record {
+        width = head.width;
+        height = head.height;
+        config_record = head.config_record;
+      })
   pub both : (head.rate == 0) ≡ (head.scale == 0)
 
 -- a stream's list has this head
@@ -109,8 +123,8 @@ pub record AreFrames (chunks : List Chunk) (frames : List (List ℕ)) : Type 0 w
   pub those_of : map (λ (c : Chunk). c.bytes) (those (is_named (codes "00dc")) chunks) ≡ frames
   pub sized : AreSized frames
 
--- a file with this head and these frames: RIFF with its parts and then the first movi, which fits in it; behind the
--- chunks of movi may stand whatever does
+-- a file with this head and these frames: RIFF with its parts and then the first movi, which fits
+-- in it; behind the chunks of movi may stand whatever does
 pub record AviFile (file : List ℕ) (head : Head) (frames : List (List ℕ)) : Type 0 where
   pub riff_size : List ℕ
   pub parts : List Part
@@ -119,18 +133,44 @@ pub record AviFile (file : List ℕ) (head : Head) (frames : List (List ℕ)) : 
   pub rest : List ℕ
   pub stream : Chunk
   pub others : List Chunk
-  pub bytes : file ≡ (codes "RIFF" ++ riff_size ++ codes "AVI ") ++ (flat_map (λ p. chunk_text (part_chunk p)) parts ++ ((codes "LIST" ++ movi_size ++ codes "movi") ++ (chunks_text chunks ++ rest)))
+  pub bytes : file ≡ (codes "RIFF" ++ riff_size ++ codes "AVI ")
+      ++ (flat_map (λ p. chunk_text (part_chunk p)) parts
+      ++ ((codes "LIST" ++ movi_size ++ codes "movi") ++ (chunks_text chunks ++ rest)))
   pub riff_sized : length riff_size ≡ 4
   pub movi_sized : length movi_size ≡ 4
   pub counted : little_number 4 movi_size ≡ 4 + length (chunks_text chunks)
-  pub fits : 4 + length (flat_map (λ p. chunk_text (part_chunk p)) parts) + (8 + padded (little_number 4 movi_size)) ≤ little_number 4 riff_size
+  pub fits : 4 + length
+      (flat_map (λ p. chunk_text (part_chunk p)) parts) + (8 + padded
+      (little_number 4 movi_size)) ≤ little_number 4 riff_size
   pub each : AreParts parts
   pub first : streams parts ≡ stream ∷ others
   pub says : IsStream stream head
   pub framed : AreFrames chunks frames
 
--- what is written so that it can be read: numbers of 32 bits, rate and scale both zero or neither, frames and a format that are
--- not too long, and a size of RIFF that is not too great
+-- a file whose first movi begins behind these parts of RIFF, in which it fits
+pub record MoviBegins (file : List ℕ) (parts : List Part) (rest : List ℕ) : Type 0 where
+  pub riff_size : List ℕ
+  pub movi_size : List ℕ
+  pub bytes : file ≡ (codes "RIFF" ++ riff_size ++ codes "AVI ")
+      ++ (flat_map (λ p. chunk_text (part_chunk p)) parts
+      ++ ((codes "LIST" ++ movi_size ++ codes "movi") ++ rest))
+  pub riff_sized : length riff_size ≡ 4
+  pub movi_sized : length movi_size ≡ 4
+  pub movi_named : 4 ≤ little_number 4 movi_size
+  pub fits : 4 + length
+      (flat_map (λ p. chunk_text (part_chunk p)) parts) + (8 + padded
+      (little_number 4 movi_size)) ≤ little_number 4 riff_size
+  pub each : AreParts parts
+
+-- a header in a list with so many bytes left, whose chunk passes that list
+pub record Passes (left : ℕ) (name size : List ℕ) : Type 0 where
+  pub named : length name ≡ 4
+  pub sized : length size ≡ 4
+  pub header : 8 ≤ left
+  pub passes : left < 8 + padded (little_number 4 size)
+
+-- what is written so that it can be read: numbers of 32 bits, rate and scale both zero or neither,
+-- frames and a format that are not too long, and a size of RIFF that is not too great
 pub record IsWritable (head : Head) (frames : List (List ℕ)) : Type 0 where
   pub width : head.width < 2 ^ 32
   pub height : head.height < 2 ^ 32

@@ -1,9 +1,11 @@
 -- A file is read: its head up to the first movi, and the frames in that, one after the other.
-use Rattle.std.specs.Prelude.{ℕ, suc, zero, ◌-◌, ◌%◌, ◌==◌, ◌&&◌, Bool, if◌then◌else◌, nat_lt, nat_le, List, [], ◌∷◌, take, drop, codes, Option, Some, None}
+use Rattle.std.specs.Prelude.{ℕ, suc, zero, ◌-◌, ◌%◌, ◌==◌, ◌&&◌, Bool, if◌then◌else◌, nat_lt}
+use Rattle.std.specs.Prelude.{nat_le, List, [], ◌∷◌, take, drop, codes, Option, Some, None}
 use Rattle.byteorder.specs.Endian.{little_number}
 use Rattle.ffv1_avi.specs.declared.fault.AviFault.TheVariants as fault
 use Rattle.ffv1_avi.specs.Head.{Head}
-use Rattle.ffv1_avi.specs.Reads.{Reading, given, refused, taken, passed, padded, content, ◌>>=◌}
+use Rattle.ffv1_avi.specs.Reads.{Kept, Reading, given, refused, taken, passed, padded, content}
+use Rattle.ffv1_avi.specs.Reads.{◌>>=◌}
 use Rattle.ffv1_avi.specs.Walk.{is_name, Visit, walk}
 use Rattle.ffv1_avi.specs.Streams.{limit, skipped, stream_read}
 
@@ -13,14 +15,16 @@ list_skipped s size = passed (padded size - 4) >>= λ _. given (s, None)
 
 -- the first stream counts
 abbrev pub first_stream : Option Head → ℕ → Reading (Option Head × Option ⊥)
-first_stream None size = stream_read (size - 4) >>= λ head. (passed (size % 2) >>= λ _. given (Some head, None))
+first_stream None size =
+    stream_read (size - 4) >>= λ head. (passed (size % 2) >>= λ _. given (Some head, None))
 first_stream (Some head) size = list_skipped (Some head) size
 
 -- a chunk of the list hdrl, with the head of the first stream so far
 unfoldable pub visit_header : Visit (Option Head) ⊥
 visit_header s e =
     if is_name e.name (codes "LIST")
-    then (taken 4 >>= λ own. if is_name own (codes "strl") then first_stream s e.size else list_skipped s e.size)
+    then (taken 4 >>= λ own. if is_name own
+    (codes "strl") then first_stream s e.size else list_skipped s e.size)
     else skipped s e.size
 
 -- the list hdrl, of which its own name has been read, with its padding
@@ -56,7 +60,9 @@ top_read room = walk visit_top room None >>= λ p. opened p.1
 
 -- the first twelve bytes of a file
 abbrev pub begins : List ℕ → Bool
-begins bytes = (is_name (take 4 bytes) (codes "RIFF") && is_name (drop 8 bytes) (codes "AVI ")) && nat_le 4 (little_number 4 (drop 4 bytes))
+begins bytes =
+    (is_name (take 4 bytes) (codes "RIFF") && is_name (drop 8 bytes) (codes "AVI ")) && nat_le 4
+    (little_number 4 (drop 4 bytes))
 
 -- a file up to the first movi: the head, and how many bytes of chunks movi has
 unfoldable pub open_read : Reading (Head × ℕ)
@@ -77,21 +83,23 @@ visit_movi s e =
     else if is_name e.name (codes "00dc") then frame_judged e.size e.left
     else skipped s e.size
 
--- the next frame's size, and what movi has left behind it, where it has so many bytes left; none at its end
+-- the next frame's size, and what movi has left behind it, where it has so many bytes left; none at
+-- its end
 unfoldable pub frame_found : ℕ → Reading (Option (ℕ × ℕ))
 frame_found left = walk visit_movi left tt >>= λ p. given p.1
 
 -- a frame that was found
 abbrev pub found_read : Option (ℕ × ℕ) → Reading (Option (List ℕ × ℕ))
 found_read None = given None
-found_read (Some p) = content p.0 >>= λ bytes. given (Some (bytes, p.1))
+found_read (Some p) = content Kept p.0 >>= λ bytes. given (Some (bytes, p.1))
 
 -- the next frame, and what movi has left behind it
 abbrev pub frame_read : ℕ → Reading (Option (List ℕ × ℕ))
 frame_read left = frame_found left >>= found_read
 
 -- at most so many frames, one after the other, to the end of movi
-abbrev pub more_frames : (ℕ → Reading (List (List ℕ))) → Option (List ℕ × ℕ) → Reading (List (List ℕ))
+abbrev pub more_frames : (ℕ → Reading (List (List ℕ))) → Option (List ℕ × ℕ) →
+    Reading (List (List ℕ))
 more_frames on None = given []
 more_frames on (Some p) = on p.1 >>= λ frames. given (p.0 ∷ frames)
 

@@ -10,4 +10,10 @@ pub record Head : Type 0 where
   pub config_record : List ℕ
 
 abbrev pub head_of : {A : Type 0} → AviHead A → Head
-head_of h = record { width = h.width; height = h.height; rate = h.rate; scale = h.scale; config_record = h.config_record.items }
+head_of h = record {
+  width = h.width;
+  height = h.height;
+  rate = h.rate;
+  scale = h.scale;
+  config_record = h.config_record.items;
+}

@@ -1,5 +1,6 @@
 -- Where a reader stands.
-use Rattle.std.specs.Prelude.{◌≡◌, ℕ, ◌≤◌, Bool, true, false, List, [], take, Option, Some, None, Result, Ok, Err, ⊤, ◌⊎◌}
+use Rattle.std.specs.Prelude.{◌≡◌, ℕ, ◌≤◌, Bool, true, false, List, [], take, Option, Some, None}
+use Rattle.std.specs.Prelude.{Result, Ok, Err, ⊤, ◌⊎◌}
 use Rattle.ffv1_avi.specs.declared.fault.AviFault.{AviFault}
 use Rattle.ffv1_avi.specs.Files.{frame_found}
 use Rattle.ffv1_avi.specs.Head.{Head}
@@ -23,12 +24,14 @@ abbrev pub next_with : List ℕ → Option ℕ → Option (List ℕ × ℕ)
 next_with bytes None = None
 next_with bytes (Some left) = Some (bytes, left)
 
--- what is left where no frame was read to its end: a beginning of the one that was found, or nothing
+-- what is left where no frame was read to its end: a beginning of the one that was found, or
+-- nothing
 abbrev pub Leaves : ℕ → Option (List ℕ) → List ℕ → Type 0
 Leaves left None bytes = ⊤
 Leaves left (Some text) bytes =
     (bytes ≡ [])
-    ⊎ ((size after : ℕ) × (rest : List ℕ) × (frame_found left text ≡ Ok (Some (size, after), rest)) × (k : ℕ) × (k ≤ size) × (bytes ≡ take k rest))
+    ⊎ ((size after : ℕ) × (rest : List ℕ) × (frame_found left text ≡ Ok (Some (size, after), rest))
+    × (k : ℕ) × (k ≤ size) × (bytes ≡ take k rest))
 
 -- what a call that answers so has read: a frame, with what movi has left behind it; none at the end
 abbrev pub next_of : Bool → List ℕ → ℕ → Option (List ℕ × ℕ)

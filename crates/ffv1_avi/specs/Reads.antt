@@ -1,72 +1,119 @@
--- Readings: what bytes read as, a value and what is left or the first fault; and what a call on a reader of bytes
--- answers by one.
-use Rattle.std.specs.Prelude.{◌≡◌, ℕ, ◌+◌, ◌%◌, ◌≤◌, ◌++◌, if◌then◌else◌, nat_lt, List, length, take, drop, Option, Some, None, Result, Ok, Err, ⊤}
+-- Readings: what bytes read as, a value and what is left, or why not; and what a call on a reader
+-- of bytes answers by one.
+use Rattle.std.specs.Prelude.{◌≡◌, ℕ, ◌+◌, ◌%◌, ◌≤◌, ◌++◌, ◌⊎◌, if◌then◌else◌, nat_lt, List, length}
+use Rattle.std.specs.Prelude.{take, drop, Option, Some, None, Result, Ok, Err, ⊤}
+use Rattle.std.specs.Io.KnownBytes.{Consumes, IsAtEnd}
 use Rattle.ffv1_wire.specs.Failures.{one_more}
 use Rattle.ffv1_avi.specs.declared.fault.AviFault.{AviFault}
 use Rattle.ffv1_avi.specs.declared.fault.AviFault.TheVariants as fault
 
--- what bytes read as: a value and what is left, or a fault
+-- what bytes are wanted for: to look at them or to pass them; or to keep them, for which memory is
+-- taken
+pub data Want : Type 0 where
+  Looked : Want
+  Kept : Want
+
+-- why bytes read as no value: they end where more are wanted; or they have this fault, and those
+-- behind it are left
+pub data Stop : Type 0 where
+  Short : Want → Stop
+  Met : AviFault → List ℕ → Stop
+
+-- what bytes read as: a value and what is left, or why not
 abbrev pub Reading : Type 0 → Type 0
-Reading X = List ℕ → Result (X × List ℕ) AviFault
+Reading X = List ℕ → Result (X × List ℕ) Stop
 
 -- this value, and nothing is read
 abbrev pub given : {X : Type 0} → X → Reading X
 given x = λ text. Ok (x, text)
 
--- this fault
+-- this fault, and nothing is read
 abbrev pub refused : {X : Type 0} → AviFault → Reading X
-refused f = λ text. Err f
+refused f = λ text. Err (Met f text)
 
 -- what is left is read on
-abbrev pub read_on : {X Y : Type 0} → Result (X × List ℕ) AviFault → (X → Reading Y) → Result (Y × List ℕ) AviFault
+abbrev pub read_on : {X Y : Type 0} → Result (X × List ℕ) Stop → (X → Reading Y) →
+    Result (Y × List ℕ) Stop
 read_on (Ok p) next = next p.0 p.1
-read_on (Err f) next = Err f
+read_on (Err why) next = Err why
 
 infixl 10 ◌>>=◌
 abbrev pub ◌>>=◌ : {X Y : Type 0} → Reading X → (X → Reading Y) → Reading Y
 reading >>= next = λ text. read_on (reading text) next
 
 -- so many bytes
+abbrev pub wanted : Want → ℕ → Reading (List ℕ)
+wanted w n = λ text. if nat_lt (length text) n then Err (Short w) else Ok (take n text, drop n text)
+
+-- so many bytes, to look at
 abbrev pub taken : ℕ → Reading (List ℕ)
-taken n = λ text. if nat_lt (length text) n then Err fault.Truncated else Ok (take n text, drop n text)
+taken n = wanted Looked n
 
 -- so many bytes, whatever they are
 abbrev pub passed : ℕ → Reading (Unit {0})
-passed n = λ text. if nat_lt (length text) n then Err fault.Truncated else Ok (tt, drop n text)
+passed n = λ text. if nat_lt (length text) n then Err (Short Looked) else Ok (tt, drop n text)
 
 -- a size with its padding
 abbrev pub padded : ℕ → ℕ
 padded size = size + size % 2
 
 -- so many bytes, and behind them their padding
-abbrev pub content : ℕ → Reading (List ℕ)
-content size = taken size >>= λ bytes. (passed (size % 2) >>= λ _. given bytes)
+abbrev pub content : Want → ℕ → Reading (List ℕ)
+content w size = wanted w size >>= λ bytes. (passed (size % 2) >>= λ _. given bytes)
 
--- where the bytes are known, they read as this value, with those left
-abbrev pub Read : {X : Type 0} → Reading X → Option (List ℕ) → Option (List ℕ) → X → Type 0
-Read reading None new x = ⊤
-Read reading (Some text) None x = ⊥
-Read reading (Some text) (Some rest) x = reading text ≡ Ok (x, rest)
+-- bytes were read, and whatever stands behind them, they read as this value
+pub record Read {X : Type 0} (reading : Reading X) (old new : Option (List ℕ))
+    (x : X) : Type 0 where
+  pub bytes : List ℕ
+  pub consumed : Consumes old new bytes
+  pub is : (rest : List ℕ) → reading (bytes ++ rest) ≡ Ok (x, rest)
 
--- where the bytes are known, they read as this fault
-abbrev pub Faults : {X : Type 0} → Reading X → Option (List ℕ) → AviFault → Type 0
-Faults reading None f = ⊤
-Faults reading (Some text) f = reading text ≡ Err f
+-- bytes were read, and whatever stands behind them, they have this fault
+pub record Faults {X : Type 0} (reading : Reading X) (old new : Option (List ℕ))
+    (f : AviFault) : Type 0 where
+  pub bytes : List ℕ
+  pub consumed : Consumes old new bytes
+  pub is : (rest : List ℕ) → reading (bytes ++ rest) ≡ Err (Met f rest)
 
--- why a call was refused: a read failed, which was counted; or memory was refused; or what was read has this fault
-abbrev pub Refused : {X : Type 0} → Reading X → Option (List ℕ) → ℕ → ℕ → AviFault → Type 0
-Refused reading old failures after fault.Read = after ≡ one_more failures
-Refused reading old failures after fault.OutOfMemory = after ≡ failures
-Refused reading old failures after f = (after ≡ failures) × Faults reading old f
+-- bytes were read, and more are wanted
+pub record Lacks {X : Type 0} (reading : Reading X) (old new : Option (List ℕ))
+    (w : Want) : Type 0 where
+  pub bytes : List ℕ
+  pub consumed : Consumes old new bytes
+  pub is : reading bytes ≡ Err (Short w)
+
+-- bytes were read, and more are wanted, to be kept or not
+abbrev pub Wants : {X : Type 0} → Reading X → Option (List ℕ) → Option (List ℕ) → Type 0
+Wants reading old new = (w : Want) × Lacks reading old new w
+
+-- bytes that end where more are wanted
+abbrev pub EndsEarly : {X : Type 0} → Reading X → List ℕ → Type 0
+EndsEarly reading bytes = (w : Want) × (reading bytes ≡ Err (Short w))
+
+-- why a call was refused, with what is left behind the bytes that it has read. A read failed, which
+-- was counted, where more bytes were wanted; memory was refused where more were wanted to be kept;
+-- the bytes ended where more were wanted; or those that were read have the fault
+abbrev pub Refused : {X : Type 0} → Reading X → Option (List ℕ) → Option (List ℕ) → ℕ → ℕ →
+    AviFault → Type 0
+Refused reading old new before after fault.Read = (after ≡ one_more before) × Wants reading old new
+Refused reading old new before after fault.OutOfMemory =
+    (after ≡ before) × Lacks reading old new Kept
+Refused reading old new before after fault.Truncated =
+    (after ≡ before)
+    × ((Wants reading old new × IsAtEnd new) ⊎ Faults reading old new fault.Truncated)
+Refused reading old new before after fault.TooLarge = ⊥
+Refused reading old new before after fault.Write = ⊥
+Refused reading old new before after f = (after ≡ before) × Faults reading old new f
 
 -- the answer of a call
-abbrev pub Answers : {X Y : Type 0} → (Y → X) → Reading X → Option (List ℕ) → Option (List ℕ) → ℕ → ℕ → Result Y AviFault → Type 0
-Answers view reading old new failures after (Ok y) = (after ≡ failures) × Read reading old new (view y)
-Answers view reading old new failures after (Err f) = Refused reading old failures after f
+abbrev pub Answers : {X Y : Type 0} → (Y → X) → Reading X → Option (List ℕ) → Option (List ℕ) → ℕ →
+    ℕ → Result Y AviFault → Type 0
+Answers view reading old new before after (Ok y) = (after ≡ before) × Read reading old new (view y)
+Answers view reading old new before after (Err f) = Refused reading old new before after f
 
 -- so many bytes behind others
 abbrev pub appended : List ℕ → ℕ → Reading (List ℕ)
-appended bytes n = taken n >>= λ more. given (bytes ++ more)
+appended bytes n = wanted Kept n >>= λ more. given (bytes ++ more)
 
 -- bytes grew by a beginning of the next so many, where those are known
 abbrev pub AppendsSome : Option (List ℕ) → ℕ → List ℕ → List ℕ → Type 0

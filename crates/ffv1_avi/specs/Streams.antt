@@ -1,12 +1,16 @@
--- The first stream of a file: what its header and its format say.
-use Rattle.std.specs.Prelude.{ℕ, ◌==◌, ◌&&◌, if◌then◌else◌, nat_lt, nat_le, List, length, take, drop, codes, Option, Some, None}
+-- The first stream of a file: what its header (AVISTREAMHEADER of Microsoft's AVI RIFF File
+-- Reference) and its format (BITMAPINFOHEADER, with the configuration record behind it as RFC 9043,
+-- 4.3.3 has it) say.
+use Rattle.std.specs.Prelude.{ℕ, ◌-◌, ◌%◌, ◌==◌, ◌&&◌, if◌then◌else◌, nat_lt, nat_le, List, length}
+use Rattle.std.specs.Prelude.{take, drop, codes, Option, Some, None}
 use Rattle.byteorder.specs.Endian.{little_number}
 use Rattle.ffv1_avi.specs.declared.fault.AviFault.TheVariants as fault
 use Rattle.ffv1_avi.specs.Head.{Head}
-use Rattle.ffv1_avi.specs.Reads.{Reading, given, refused, passed, padded, content, ◌>>=◌}
+use Rattle.ffv1_avi.specs.Reads.{Looked, Kept, Reading, Want, given, refused, taken, wanted, passed}
+use Rattle.ffv1_avi.specs.Reads.{padded, content, ◌>>=◌}
 use Rattle.ffv1_avi.specs.Walk.{is_name, Visit, walk}
 
--- the most bytes of a frame, and of a format
+-- the most bytes of a frame, and of a format, that are read: 64 MiB
 abbrev pub limit : ℕ
 limit = 67108864
 
@@ -27,7 +31,11 @@ pub record Format : Type 0 where
 abbrev pub format_of : List ℕ → Option Format
 format_of bytes =
     if nat_le 40 (length bytes) && is_name (take 4 (drop 16 bytes)) (codes "FFV1")
-    then Some (record { width = little_number 4 (drop 4 bytes); height = little_number 4 (drop 8 bytes); config_record = drop 40 bytes })
+    then Some (record {
+      width = little_number 4 (drop 4 bytes);
+      height = little_number 4 (drop 8 bytes);
+      config_record = drop 40 bytes;
+    })
     else None
 
 -- what is known of a stream so far: whether a header came, and a format, and what they say
@@ -42,8 +50,22 @@ nothing_known = record { rates = None; format = None }
 abbrev pub head_judged : ℕ × ℕ → Format → Reading Head
 head_judged rates format =
     if rates.0 == 0
-    then (if rates.1 == 0 then given (record { width = format.width; height = format.height; rate = rates.0; scale = rates.1; config_record = format.config_record }) else refused fault.NotAvi)
-    else (if rates.1 == 0 then refused fault.NotAvi else given (record { width = format.width; height = format.height; rate = rates.0; scale = rates.1; config_record = format.config_record }))
+    then (if rates.1 == 0 then given
+    (record {
+      width = format.width;
+      height = format.height;
+      rate = rates.0;
+      scale = rates.1;
+      config_record = format.config_record;
+    }) else refused fault.NotAvi)
+    else (if rates.1 == 0 then refused fault.NotAvi else given
+    (record {
+      width = format.width;
+      height = format.height;
+      rate = rates.0;
+      scale = rates.1;
+      config_record = format.config_record;
+    }))
 
 -- a stream is judged at its end
 abbrev pub stream_judged : Option (Option (ℕ × ℕ)) → Option (Option Format) → Reading Head
@@ -56,20 +78,46 @@ skipped s size = passed (padded size) >>= λ _. given (s, None)
 
 -- what a header of such a size says
 unfoldable pub rates_in : ℕ → Reading (Option (ℕ × ℕ))
-rates_in size = content size >>= λ bytes. given (rates_of bytes)
+rates_in size = content Looked size >>= λ bytes. given (rates_of bytes)
+
+-- what a format says whose first 40 bytes are these, and behind them the record, where it is FFV1
+abbrev pub format_behind : List ℕ → List ℕ → Option Format
+format_behind front config =
+    Some (record {
+      width = little_number 4 (drop 4 front);
+      height = little_number 4 (drop 8 front);
+      config_record = config;
+    })
+
+-- the rest of a format of such a size, behind its first 40 bytes: the record is kept where it is
+-- FFV1
+abbrev pub format_rest : Want → ℕ → List ℕ → Reading (Option Format)
+format_rest w size front =
+    if is_name (take 4 (drop 16 front)) (codes "FFV1")
+    then (wanted w (size - 40) >>= λ config.
+    (passed (size % 2) >>= λ _. given (format_behind front config)))
+    else (passed (padded size - 40) >>= λ _. given None)
+
+abbrev pub format_by : Want → ℕ → Reading (Option Format)
+format_by w size =
+    if nat_lt size 40 then (passed (padded size) >>= λ _. given None)
+    else (taken 40 >>= format_rest w size)
 
 -- what a format of such a size says
 unfoldable pub format_in : ℕ → Reading (Option Format)
-format_in size = content size >>= λ bytes. given (format_of bytes)
+format_in size = format_by Kept size
 
 -- the first header of the stream counts
 abbrev pub rates_read : Known → ℕ → Option (Option (ℕ × ℕ)) → Reading (Known × Option ⊥)
-rates_read k size None = rates_in size >>= λ r. given (record { rates = Some r; format = k.format }, None)
+rates_read k size None =
+    rates_in size >>= λ r. given (record { rates = Some r; format = k.format }, None)
 rates_read k size (Some old) = skipped k size
 
 -- the first format of the stream counts; one that is too long is not read
 abbrev pub format_read : Known → ℕ → Option (Option Format) → Reading (Known × Option ⊥)
-format_read k size None = if nat_lt limit size then refused fault.ChunkTooLong else (format_in size >>= λ f. given (record { rates = k.rates; format = Some f }, None))
+format_read k size None =
+    if nat_lt limit size then refused fault.ChunkTooLong else
+    (format_in size >>= λ f. given (record { rates = k.rates; format = Some f }, None))
 format_read k size (Some old) = skipped k size
 
 -- a chunk of a stream's list

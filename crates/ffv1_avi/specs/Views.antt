@@ -9,7 +9,14 @@ use Rattle.ffv1_avi.specs.Streams.{Format, Known}
 
 -- a head, of its sizes and its record
 abbrev pub head_with : Sizes → List ℕ → Head
-head_with s bytes = record { width = s.width; height = s.height; rate = s.rate; scale = s.scale; config_record = bytes }
+head_with s bytes =
+    record {
+      width = s.width;
+      height = s.height;
+      rate = s.rate;
+      scale = s.scale;
+      config_record = bytes;
+    }
 
 -- a head that may have come
 abbrev pub found_with : Option Sizes → List ℕ → Option Head

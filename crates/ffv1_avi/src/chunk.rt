@@ -1,9 +1,11 @@
 //! Chunks, header by header.
 
-ghost use Rattle.std.specs.Prelude.{◌≡◌, ◌+◌, ◌<◌, ◌≤◌, IfOk, IfSome, OnErr, OnOk, Option, codes, drop, length, take, true};
+ghost use Rattle.std.specs.Prelude.{◌≡◌, ◌+◌, ◌<◌, ◌≤◌, IfOk, IfSome, OnErr, OnOk, Option, codes};
+ghost use Rattle.std.specs.Prelude.{drop, length, take, true};
 ghost use Rattle.ffv1_wire.specs.Failures.{Counted};
-ghost use Rattle.ffv1_wire.specs.Reads.{Fills};
-ghost use Rattle.ffv1_avi.specs.Reads.{Answers, AppendsSome, Begins, appended, padded, taken, passed};
+ghost use Rattle.ffv1_wire.specs.Reads.{Fills, FillsBeginning};
+ghost use Rattle.ffv1_avi.specs.Reads.{Answers, AppendsSome, Begins, Kept, appended, padded, taken};
+ghost use Rattle.ffv1_avi.specs.Reads.{passed, wanted};
 ghost use Rattle.ffv1_avi.specs.Walk.{entry_read, is_name};
 ghost use Rattle.ffv1_avi.specs.declared.chunk.Entry.{Entry};
 
@@ -36,7 +38,8 @@ pub(crate) fn padded(size: u32) -> u64
 
 /// Fills `buf`. `Truncated` where the input ends before.
 pub(crate) fn take<R: ByteIn>(input: &mut R, buf: &mut [u8]) -> Result<(), AviFault>
-    ensures { Answers (λ (_ : Unit {0}). buf.new) (taken (length buf.old)) (R.remaining input.old) (R.remaining input.new) (R.failures input.old) (R.failures input.new) result }
+    ensures { Answers (λ (_ : Unit {0}). buf.new) (taken (length buf.old)) (R.remaining input.old)
+        (R.remaining input.new) (R.failures input.old) (R.failures input.new) result }
 {
     match read_full(input, buf) {
         Ok(len) => if len < buf.len() {
@@ -50,7 +53,8 @@ pub(crate) fn take<R: ByteIn>(input: &mut R, buf: &mut [u8]) -> Result<(), AviFa
 
 /// Passes so many bytes. `Truncated` where the input ends before.
 pub(crate) fn pass<R: ByteIn>(input: &mut R, count: u64) -> Result<(), AviFault>
-    ensures { Answers (λ (_ : Unit {0}). tt) (passed count) (R.remaining input.old) (R.remaining input.new) (R.failures input.old) (R.failures input.new) result }
+    ensures { Answers (λ (_ : Unit {0}). tt) (passed count) (R.remaining input.old)
+        (R.remaining input.new) (R.failures input.old) (R.failures input.new) result }
 {
     match skip(input, count) {
         Ok(len) => if len < count {
@@ -64,11 +68,12 @@ pub(crate) fn pass<R: ByteIn>(input: &mut R, count: u64) -> Result<(), AviFault>
 
 /// The header of the next chunk of a list that has so many bytes left, or None at its end.
 ///
-/// `Truncated` where the chunk does not fit in the list, or the input ends before; then `NotAvi` where it is a list
-/// without room for its own name.
+/// `Truncated` where the chunk does not fit in the list, or the input ends before; then `NotAvi`
+/// where it is a list without room for its own name.
 #[tactic(auto, unfolding(crate::specs::Walk::entry_read))]
 pub(crate) fn next_entry<R: ByteIn>(input: &mut R, left: u32) -> Result<Option<Entry>, AviFault>
-    ensures answer { Answers (λ (e : Option Entry). e) (entry_read left) (R.remaining input.old) (R.remaining input.new) (R.failures input.old) (R.failures input.new) result }
+    ensures answer { Answers (λ (e : Option Entry). e) (entry_read left) (R.remaining input.old)
+        (R.remaining input.new) (R.failures input.old) (R.failures input.new) result }
     ensures less { IfOk result (λ o. IfSome o (λ e. e.left + 8 ≤ left)) }
     ensures listed { IfOk result (λ o. IfSome o (λ e. is_name e.name (codes "LIST") ≡ true → 4 ≤ e.size)) }
 {
@@ -100,25 +105,32 @@ pub(crate) fn next_entry<R: ByteIn>(input: &mut R, left: u32) -> Result<Option<E
 /// The most bytes that room is made for beyond as many as were read.
 const ROOM: usize = 65536;
 
-/// Fills the bytes from a place on, and answers how many were read: fewer only where the input has ended.
+/// Fills the bytes from a place on, and answers how many were read: fewer only where the input has
+/// ended.
 fn fill_from<R: ByteIn>(input: &mut R, done: usize, bytes: &mut [u8]) -> Result<usize, Failed>
     requires { done ≤ length bytes.old }
     ensures kept { take done bytes.new ≡ take done bytes.old }
     ensures bound { IfOk result (λ n. done + n ≤ length bytes.old) }
-    ensures ok { IfOk result (λ n. Fills (R.remaining input.old) (R.remaining input.new) n (drop done bytes.new)) }
+    ensures ok { IfOk result
+        (λ n. Fills (R.remaining input.old) (R.remaining input.new) n (drop done bytes.new)) }
+    ensures err { OnErr result (FillsBeginning (R.remaining input.old) (R.remaining input.new)
+        (drop done bytes.new)) }
     ensures counted { Counted (R.failures input.old) (R.failures input.new) result }
 {
     read_full(input, &mut bytes[done..])
 }
 
-/// Reads `more` bytes behind those that the vector has. `Truncated` where the input ends before; after a fault the
-/// vector holds a beginning of them behind the others.
+/// Reads `more` bytes behind those that the vector has. `Truncated` where the input ends before;
+/// after a fault the vector holds a beginning of them behind the others.
 fn append<R: ByteIn, A: Allocator>(
     input: &mut R,
     more: usize,
     bytes: &mut Vec<u8, A>,
 ) -> Result<(), AviFault>
-    ensures answer { Answers (λ (_ : Unit {0}). bytes.new.items) (appended bytes.old.items more) (R.remaining input.old) (R.remaining input.new) (R.failures input.old) (R.failures input.new) result }
+    requires { 0 < more }
+    ensures answer { Answers (λ (_ : Unit {0}). bytes.new.items) (appended bytes.old.items more)
+        (R.remaining input.old) (R.remaining input.new) (R.failures input.old)
+        (R.failures input.new) result }
     ensures err { OnErr result (AppendsSome (R.remaining input.old) more bytes.old.items bytes.new.items) }
     ensures long { OnOk result (length bytes.new.items ≡ length bytes.old.items + more) }
 {
@@ -140,16 +152,19 @@ fn append<R: ByteIn, A: Allocator>(
     }
 }
 
-/// Reads `size` bytes in place of what the vector has. Room is made bit by bit, each time for at most as many bytes
-/// as were read so far and 65536 more, and never beyond `size`.
+/// Reads `size` bytes in place of what the vector has. Room is made bit by bit, each time for at
+/// most as many bytes as were read so far and 65536 more, and never beyond `size`.
 ///
-/// `Truncated` where the input ends before; after a fault the vector holds a beginning of the bytes.
+/// `Truncated` where the input ends before; after a fault the vector holds a beginning of the
+/// bytes.
 pub(crate) fn fill<R: ByteIn, A: Allocator>(
     input: &mut R,
     size: usize,
     bytes: &mut Vec<u8, A>,
 ) -> Result<(), AviFault>
-    ensures answer { Answers (λ (_ : Unit {0}). bytes.new.items) (taken size) (R.remaining input.old) (R.remaining input.new) (R.failures input.old) (R.failures input.new) result }
+    ensures answer { Answers (λ (_ : Unit {0}). bytes.new.items) (wanted Kept size)
+        (R.remaining input.old) (R.remaining input.new) (R.failures input.old)
+        (R.failures input.new) result }
     ensures err { OnErr result (Begins (R.remaining input.old) size bytes.new.items) }
     ensures long { OnOk result (length bytes.new.items ≡ size) }
 {

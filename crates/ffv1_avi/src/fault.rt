@@ -9,11 +9,11 @@ use thiserror::Error;
 /// Why a file could not be read or written, by the number and name of the fault.
 #[derive(Clone, Copy, Debug, PartialEq, Eq, Error)]
 pub enum AviFault {
-    /// Memory was refused.
+    /// Memory was refused, for a frame or for the configuration record.
     #[error("2 OutOfMemory")]
     OutOfMemory,
-    /// The file is no AVI: it begins otherwise, a list is too short for its own name, scale or rate is zero alone,
-    /// there is no `movi`, or a list stands in it.
+    /// The file is no AVI: it begins otherwise, a list is too short for its own name, scale or rate
+    /// is zero alone, there is no `movi`, or a list stands in it.
     #[error("50 NotAvi")]
     NotAvi,
     /// The first `strl` is no FFV1 video, or `movi` comes before any `strl`.

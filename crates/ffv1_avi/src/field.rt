@@ -35,7 +35,8 @@ fn field_bytes(field: Field) -> [u8; 4]
 
 /// Writes bytes.
 pub(crate) fn put<W: ByteOut>(out: &mut W, bytes: &[u8]) -> Result<(), AviFault>
-    ensures { Writes (W.contents out.old) (W.contents out.new) (W.failures out.old) (W.failures out.new) bytes.now result }
+    ensures { Writes (W.contents out.old) (W.contents out.new) (W.failures out.old)
+        (W.failures out.new) bytes.now result }
 {
     match write_all(out, bytes) {
         Ok(()) => Ok(()),
@@ -45,7 +46,8 @@ pub(crate) fn put<W: ByteOut>(out: &mut W, bytes: &[u8]) -> Result<(), AviFault>
 
 /// Writes fields, one behind the other.
 pub(crate) fn put_fields<W: ByteOut>(out: &mut W, fields: &[Field]) -> Result<(), AviFault>
-    ensures { Writes (W.contents out.old) (W.contents out.new) (W.failures out.old) (W.failures out.new) (fields_bytes fields.now) result }
+    ensures { Writes (W.contents out.old) (W.contents out.new) (W.failures out.old)
+        (W.failures out.new) (fields_bytes fields.now) result }
 {
     for field in fields {
         put(out, &field_bytes(*field))?;
@@ -55,7 +57,8 @@ pub(crate) fn put_fields<W: ByteOut>(out: &mut W, fields: &[Field]) -> Result<()
 
 /// Writes the padding of so many bytes.
 pub(crate) fn put_padding<W: ByteOut>(out: &mut W, size: usize) -> Result<(), AviFault>
-    ensures { Writes (W.contents out.old) (W.contents out.new) (W.failures out.old) (W.failures out.new) (padding size) result }
+    ensures { Writes (W.contents out.old) (W.contents out.new) (W.failures out.old)
+        (W.failures out.new) (padding size) result }
 {
     put(out, &[0u8; 1][..size % 2])
 }

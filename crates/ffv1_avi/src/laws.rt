@@ -1,31 +1,86 @@
-//! Laws of files: what is read is a file by its chunks, such a file is read, and what was written is read back.
+//! Laws of files: what is read is a file by its chunks, such a file is read, and what was written
+//! is read back.
 
-ghost use Rattle.std.specs.Prelude.{◌≡◌, ℕ, List, [], Option, Some, None, Ok};
-ghost use Rattle.ffv1_avi.specs.Chunks.{AviFile, IsWritable};
-ghost use Rattle.ffv1_avi.specs.Files.{file_read, frame_read, frames_read, more_frames};
+ghost use Rattle.std.specs.Prelude.{◌≡◌, ◌<◌, ◌+◌, ◌++◌, ℕ, List, codes, length, [], Option, Some};
+ghost use Rattle.std.specs.Prelude.{None, Ok, Err};
+ghost use Rattle.ffv1_avi.specs.Chunks.{AreChunks, AviFile, Chunk, IsWritable, MoviBegins, Part};
+ghost use Rattle.ffv1_avi.specs.Chunks.{Passes, chunks_text, is_named, streams, those};
+ghost use Rattle.ffv1_avi.specs.Files.{file_read, open_read, frame_read, frames_read, more_frames};
 ghost use Rattle.ffv1_avi.specs.Head.{Head};
+ghost use Rattle.ffv1_avi.specs.Reads.{EndsEarly, Faults, Lacks, Met, Read, Reading, Short, Want};
 ghost use Rattle.ffv1_avi.specs.Reads.{read_on};
 ghost use Rattle.ffv1_avi.specs.Written.{file_of};
+ghost use Rattle.ffv1_avi.specs.declared.fault.AviFault.TheVariants as fault;
+ghost use Rattle.ffv1_avi.specs.declared.fault.AviFault.{AviFault};
 
-/// The frames of `movi` are the next one and those behind it; at its end there is none, and nothing is read.
+/// The frames of `movi` are the next one and those behind it; at its end there is none, and nothing
+/// is read.
 pub fn frames_in_turn()
-    ensures next { (left : ℕ) (text : List ℕ) → frames_read left text ≡ read_on (frame_read left text) (more_frames frames_read) }
+    ensures next { (left : ℕ) (text : List ℕ) →
+        frames_read left text ≡ read_on (frame_read left text) (more_frames frames_read) }
     ensures end { (text : List ℕ) → frame_read 0 text ≡ Ok (None, text) }
 {}
 
 /// What is read is a file of that head and those frames, by its chunks.
 pub fn read_is_file()
-    ensures { (file : List ℕ) (head : Head) (frames : List (List ℕ)) (rest : List ℕ) → file_read file ≡ Ok ((head, frames), rest) → AviFile file head frames }
+    ensures { (file : List ℕ) (head : Head) (frames : List (List ℕ)) (rest : List ℕ) →
+        file_read file ≡ Ok ((head, frames), rest) → AviFile file head frames }
 {}
 
-/// A file of a head and frames, by its chunks, is read as that head and those frames, and it has no others.
+/// Where the bytes are known, a value that a call answers is what they read as, and a fault is the
+/// first that they have; what is left is known too. Where a read failed, memory was refused or the
+/// bytes ended, those that were read end where more are wanted.
+pub fn known_bytes<X>()
+    ensures read { (reading : Reading X) (text : List ℕ) (new : Option (List ℕ)) (x : X) →
+        Read reading (Some text) new x →
+        (rest : List ℕ) × (new ≡ Some rest) × (reading text ≡ Ok (x, rest)) }
+    ensures fault { (reading : Reading X) (text : List ℕ) (new : Option (List ℕ)) (f : AviFault) →
+        Faults reading (Some text) new f →
+        (rest : List ℕ) × (new ≡ Some rest) × (reading text ≡ Err (Met f rest)) }
+    ensures stopped { (reading : Reading X) (text : List ℕ) (new : Option (List ℕ)) (w : Want) →
+        Lacks reading (Some text) new w →
+        (bytes rest : List ℕ) × (text ≡ bytes ++ rest) × (new ≡ Some rest)
+        × (reading bytes ≡ Err (Short w)) }
+{}
+
+/// A beginning of a file that is read, up to the end of `movi`, ends where more bytes are wanted.
+pub fn beginnings()
+    ensures { (file : List ℕ) (head : Head) (frames : List (List ℕ)) (is : AviFile file head frames)
+        (beginning more : List ℕ) → file ≡ (beginning ++ more) ++ is.rest → 0 < length more →
+        EndsEarly file_read beginning }
+{}
+
+/// Where `movi` comes behind no stream, the file has no FFV1, and nothing behind the name of `movi`
+/// is read.
+pub fn no_stream()
+    ensures { (file : List ℕ) (parts : List Part) (rest : List ℕ) → MoviBegins file parts rest →
+        streams parts ≡ [] → open_read file ≡ Err (Met fault.NoFfv1 rest) }
+{}
+
+/// A chunk that passes `movi`, behind chunks that are no frames, is truncated, and nothing behind
+/// its header is read.
+pub fn long_chunk()
+    ensures { (chunks : List Chunk) (left : ℕ) (name size rest : List ℕ) → AreChunks chunks →
+        those (is_named (codes "LIST")) chunks ≡ [] → those (is_named (codes "00dc")) chunks ≡ [] →
+        Passes left name size →
+        frame_read (length (chunks_text chunks) + left)
+        (chunks_text chunks ++ ((name ++ size) ++ rest))
+        ≡ Err (Met fault.Truncated rest) }
+{}
+
+/// A file of a head and frames, by its chunks, is read as that head and those frames, and it has no
+/// others.
 pub fn file_is_read()
-    ensures read { (file : List ℕ) (head : Head) (frames : List (List ℕ)) (is : AviFile file head frames) → file_read file ≡ Ok ((head, frames), is.rest) }
-    ensures only { (file : List ℕ) (head other : Head) (frames others : List (List ℕ)) → AviFile file head frames → AviFile file other others → (head ≡ other) × (frames ≡ others) }
+    ensures read { (file : List ℕ) (head : Head) (frames : List (List ℕ))
+        (is : AviFile file head frames) → file_read file ≡ Ok ((head, frames), is.rest) }
+    ensures only { (file : List ℕ) (head other : Head) (frames others : List (List ℕ)) →
+        AviFile file head frames → AviFile file other others → (head ≡ other) × (frames ≡ others) }
 {}
 
 /// What is written is a file of its head and frames, by its chunks, and is read back.
 pub fn written_is_read()
-    ensures file { (head : Head) (frames : List (List ℕ)) → IsWritable head frames → AviFile (file_of head frames) head frames }
-    ensures read { (head : Head) (frames : List (List ℕ)) → IsWritable head frames → file_read (file_of head frames) ≡ Ok ((head, frames), []) }
+    ensures file { (head : Head) (frames : List (List ℕ)) → IsWritable head frames →
+        AviFile (file_of head frames) head frames }
+    ensures read { (head : Head) (frames : List (List ℕ)) → IsWritable head frames →
+        file_read (file_of head frames) ≡ Ok ((head, frames), []) }
 {}

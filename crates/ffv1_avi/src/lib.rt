@@ -1,4 +1,16 @@
-//! AVI: files of FFV1 frames are written, and read chunk by chunk.
+//! AVI, by Microsoft's AVI RIFF File Reference: files of FFV1 frames (RFC 9043, 4.3.3) are written,
+//! and read chunk by chunk.
+//!
+//! `write_avi` writes an `AviHead` and frames in one call. `AviReader::open` reads a file up to its
+//! first list `movi`; then `AviReader::head` tells its head, and each `AviReader::next_frame` gives
+//! the next frame, until it answers false. A reader holds no input, each call is lent the same one.
+//! `AviFault` says why a file could not be read or written. The test `read_back` runs this:
+//!
+//! ```text
+//! let mut reader = AviReader::open(rt.alloc(), &mut input)?;
+//! let mut frame = Vec::new(rt.alloc());
+//! while reader.next_frame(&mut input, &mut frame)? { .. }
+//! ```
 #![tactic(auto)]
 
 mod chunk;

@@ -1,7 +1,8 @@
 //! A file up to its first movi.
 
 ghost use Rattle.std.specs.Prelude.{◌≡◌, ◌+◌, ◌≤◌, ℕ, List, Option, None, codes, true};
-ghost use Rattle.ffv1_avi.specs.Files.{first_stream, header_read, open_read, top_read, visit_header, visit_top};
+ghost use Rattle.ffv1_avi.specs.Files.{first_stream, header_read, open_read, top_read};
+ghost use Rattle.ffv1_avi.specs.Files.{visit_header, visit_top};
 ghost use Rattle.ffv1_avi.specs.Head.{Head};
 ghost use Rattle.ffv1_avi.specs.Reads.{Answers, taken};
 ghost use Rattle.ffv1_avi.specs.Walk.{is_name};
@@ -16,7 +17,8 @@ use std::alloc::Allocator;
 
 /// A list's own name.
 fn own_name<R: ByteIn>(input: &mut R) -> Result<[u8; 4], AviFault>
-    ensures { Answers (λ (name : List ℕ). name) (taken 4) (R.remaining input.old) (R.remaining input.new) (R.failures input.old) (R.failures input.new) result }
+    ensures { Answers (λ (name : List ℕ). name) (taken 4) (R.remaining input.old)
+        (R.remaining input.new) (R.failures input.old) (R.failures input.new) result }
 {
     let mut name = [0u8; 4];
     take(input, &mut name)?;
@@ -31,7 +33,9 @@ fn visit_stream<R: ByteIn, A: Allocator>(
     config: &mut Vec<u8, A>,
 ) -> Result<Option<Sizes>, AviFault>
     requires { 4 ≤ size }
-    ensures { Answers (λ (s : Option Sizes). found_next s config.new.items) (first_stream (found_with found config.old.items) size) (R.remaining input.old) (R.remaining input.new) (R.failures input.old) (R.failures input.new) result }
+    ensures { Answers (λ (s : Option Sizes). found_next s config.new.items)
+        (first_stream (found_with found config.old.items) size) (R.remaining input.old)
+        (R.remaining input.new) (R.failures input.old) (R.failures input.new) result }
 {
     if found.is_some() {
         pass(input, padded(size) - 4)?;
@@ -51,7 +55,9 @@ fn visit_header<R: ByteIn, A: Allocator>(
     config: &mut Vec<u8, A>,
 ) -> Result<Option<Sizes>, AviFault>
     requires { is_name entry.name (codes "LIST") ≡ true → 4 ≤ entry.size }
-    ensures { Answers (λ (s : Option Sizes). found_next s config.new.items) (visit_header (found_with found config.old.items) entry) (R.remaining input.old) (R.remaining input.new) (R.failures input.old) (R.failures input.new) result }
+    ensures { Answers (λ (s : Option Sizes). found_next s config.new.items)
+        (visit_header (found_with found config.old.items) entry) (R.remaining input.old)
+        (R.remaining input.new) (R.failures input.old) (R.failures input.new) result }
 {
     if !is_name(&entry.name, b"LIST") {
         pass(input, padded(entry.size))?;
@@ -74,7 +80,9 @@ fn read_header<R: ByteIn, A: Allocator>(
     config: &mut Vec<u8, A>,
 ) -> Result<Option<Sizes>, AviFault>
     requires { 4 ≤ size }
-    ensures { Answers (λ (s : Option Sizes). found_with s config.new.items) (header_read (found_with found config.old.items) size) (R.remaining input.old) (R.remaining input.new) (R.failures input.old) (R.failures input.new) result }
+    ensures { Answers (λ (s : Option Sizes). found_with s config.new.items)
+        (header_read (found_with found config.old.items) size) (R.remaining input.old)
+        (R.remaining input.new) (R.failures input.old) (R.failures input.new) result }
 {
     let mut found = found;
     let mut left = size - 4;
@@ -86,8 +94,8 @@ fn read_header<R: ByteIn, A: Allocator>(
     Ok(found)
 }
 
-/// Where a chunk of RIFF leads: on, with the head of the first stream so far, or to movi, with the head and the
-/// bytes of its chunks.
+/// Where a chunk of RIFF leads: on, with the head of the first stream so far, or to movi, with the
+/// head and the bytes of its chunks.
 #[derive(Clone, Copy)]
 pub(crate) enum Top {
     On(Option<Sizes>),
@@ -103,7 +111,9 @@ fn visit_top<R: ByteIn, A: Allocator>(
     config: &mut Vec<u8, A>,
 ) -> Result<Top, AviFault>
     requires { is_name entry.name (codes "LIST") ≡ true → 4 ≤ entry.size }
-    ensures { Answers (λ (t : Top). top_with t config.new.items) (visit_top (found_with found config.old.items) entry) (R.remaining input.old) (R.remaining input.new) (R.failures input.old) (R.failures input.new) result }
+    ensures { Answers (λ (t : Top). top_with t config.new.items)
+        (visit_top (found_with found config.old.items) entry) (R.remaining input.old)
+        (R.remaining input.new) (R.failures input.old) (R.failures input.new) result }
 {
     if !is_name(&entry.name, b"LIST") {
         pass(input, padded(entry.size))?;
@@ -131,7 +141,9 @@ fn read_top<R: ByteIn, A: Allocator>(
     room: u32,
     config: &mut Vec<u8, A>,
 ) -> Result<(Sizes, u32), AviFault>
-    ensures { Answers (λ (p : Sizes × ℕ). (head_with p.0 config.new.items, p.1)) (top_read room) (R.remaining input.old) (R.remaining input.new) (R.failures input.old) (R.failures input.new) result }
+    ensures { Answers (λ (p : Sizes × ℕ). (head_with p.0 config.new.items, p.1)) (top_read room)
+        (R.remaining input.old) (R.remaining input.new) (R.failures input.old)
+        (R.failures input.new) result }
 {
     let mut found = None;
     let mut left = room;
@@ -145,13 +157,16 @@ fn read_top<R: ByteIn, A: Allocator>(
     Err(AviFault::NotAvi)
 }
 
-/// A file up to the first movi: its sizes, its record in place of what the vector has, and the bytes of movi's chunks.
+/// A file up to the first movi: its sizes, its record in place of what the vector has, and the
+/// bytes of movi's chunks.
 #[tactic(auto, unfolding(crate::specs::Files::open_read))]
 pub(crate) fn read_opening<R: ByteIn, A: Allocator>(
     input: &mut R,
     config: &mut Vec<u8, A>,
 ) -> Result<(Sizes, u32), AviFault>
-    ensures { Answers (λ (p : Sizes × ℕ). (head_with p.0 config.new.items, p.1)) open_read (R.remaining input.old) (R.remaining input.new) (R.failures input.old) (R.failures input.new) result }
+    ensures { Answers
+        (λ (p : Sizes × ℕ). (head_with p.0 config.new.items, p.1)) open_read (R.remaining input.old)
+        (R.remaining input.new) (R.failures input.old) (R.failures input.new) result }
 {
     let mut head = [0u8; 12];
     take(input, &mut head)?;

@@ -2,7 +2,8 @@
 
 ghost use Rattle.std.specs.Prelude.{◌≡◌, ◌+◌, ◌*◌, ◌<◌, ◌≤◌, ℕ, List, Option, None, Some, length};
 ghost use Rattle.ffv1_avi.specs.Reads.{Answers};
-ghost use Rattle.ffv1_avi.specs.Streams.{format_in, format_read, rates_in, rates_read, stream_judged, stream_read, visit_field};
+ghost use Rattle.ffv1_avi.specs.Streams.{format_in, format_read, rates_in, rates_read};
+ghost use Rattle.ffv1_avi.specs.Streams.{stream_judged, stream_read, visit_field};
 ghost use Rattle.ffv1_avi.specs.Views.{came_with, format_with, head_with, known_next, known_with};
 
 use crate::chunk::{Entry, fill, is_name, next_entry, padded, pass, take};
@@ -11,7 +12,7 @@ use byteorder::{ByteOrder, LittleEndian};
 use ffv1_wire::ByteIn;
 use std::alloc::Allocator;
 
-/// The most bytes of a frame, and of a format.
+/// The most bytes of a frame, and of a format, that are read: 64 MiB.
 pub(crate) const LIMIT: u32 = 67_108_864;
 
 /// What a head says beside its record.
@@ -23,8 +24,8 @@ pub(crate) struct Sizes {
     pub(crate) scale: u32,
 }
 
-/// What is known of a stream so far: whether its header came, and what rate and scale it says; whether its format came,
-/// and what width and height that says.
+/// What is known of a stream so far: whether its header came, and what rate and scale it says;
+/// whether its format came, and what width and height that says.
 #[derive(Clone, Copy)]
 pub(crate) struct Fields {
     rates: Option<Option<(u32, u32)>>,
@@ -33,7 +34,8 @@ pub(crate) struct Fields {
 
 /// The rate and the scale of a stream's header of such a size, where it is one of video.
 fn read_rates<R: ByteIn>(input: &mut R, size: u32) -> Result<Option<(u32, u32)>, AviFault>
-    ensures { Answers (λ (r : Option (ℕ × ℕ)). r) (rates_in size) (R.remaining input.old) (R.remaining input.new) (R.failures input.old) (R.failures input.new) result }
+    ensures { Answers (λ (r : Option (ℕ × ℕ)). r) (rates_in size) (R.remaining input.old)
+        (R.remaining input.new) (R.failures input.old) (R.failures input.new) result }
 {
     if size < 56 {
         pass(input, padded(size))?;
@@ -50,13 +52,16 @@ fn read_rates<R: ByteIn>(input: &mut R, size: u32) -> Result<Option<(u32, u32)>,
     Ok(Some((rate, scale)))
 }
 
-/// The width and the height of a stream's format of such a size, and its record in place of what the vector has, where it is FFV1.
+/// The width and the height of a stream's format of such a size, and its record in place of what
+/// the vector has, where it is FFV1.
 fn read_format<R: ByteIn, A: Allocator>(
     input: &mut R,
     size: u32,
     config: &mut Vec<u8, A>,
 ) -> Result<Option<(u32, u32)>, AviFault>
-    ensures { Answers (λ (f : Option (ℕ × ℕ)). format_with f config.new.items) (format_in size) (R.remaining input.old) (R.remaining input.new) (R.failures input.old) (R.failures input.new) result }
+    ensures { Answers (λ (f : Option (ℕ × ℕ)). format_with f config.new.items) (format_in size)
+        (R.remaining input.old) (R.remaining input.new) (R.failures input.old)
+        (R.failures input.new) result }
 {
     if size < 40 {
         pass(input, padded(size))?;
@@ -77,7 +82,10 @@ fn read_format<R: ByteIn, A: Allocator>(
 
 /// A header of a stream: the first one counts.
 fn visit_rates<R: ByteIn>(input: &mut R, fields: Fields, size: u32) -> Result<Fields, AviFault>
-    ensures { (bytes : List ℕ) → Answers (λ (k : Fields). known_next k bytes) (rates_read (known_with fields bytes) size fields.rates) (R.remaining input.old) (R.remaining input.new) (R.failures input.old) (R.failures input.new) result }
+    ensures { (bytes : List ℕ) →
+        Answers (λ (k : Fields). known_next k bytes)
+        (rates_read (known_with fields bytes) size fields.rates) (R.remaining input.old)
+        (R.remaining input.new) (R.failures input.old) (R.failures input.new) result }
 {
     let mut fields = fields;
     if fields.rates.is_some() {
@@ -95,7 +103,10 @@ fn visit_format<R: ByteIn, A: Allocator>(
     size: u32,
     config: &mut Vec<u8, A>,
 ) -> Result<Fields, AviFault>
-    ensures { Answers (λ (k : Fields). known_next k config.new.items) (format_read (known_with fields config.old.items) size (came_with fields.format config.old.items)) (R.remaining input.old) (R.remaining input.new) (R.failures input.old) (R.failures input.new) result }
+    ensures { Answers (λ (k : Fields). known_next k config.new.items)
+        (format_read (known_with fields config.old.items) size
+        (came_with fields.format config.old.items)) (R.remaining input.old) (R.remaining input.new)
+        (R.failures input.old) (R.failures input.new) result }
 {
     let mut fields = fields;
     if fields.format.is_some() {
@@ -117,7 +128,9 @@ fn visit_field<R: ByteIn, A: Allocator>(
     entry: Entry,
     config: &mut Vec<u8, A>,
 ) -> Result<Fields, AviFault>
-    ensures { Answers (λ (k : Fields). known_next k config.new.items) (visit_field (known_with fields config.old.items) entry) (R.remaining input.old) (R.remaining input.new) (R.failures input.old) (R.failures input.new) result }
+    ensures { Answers (λ (k : Fields). known_next k config.new.items)
+        (visit_field (known_with fields config.old.items) entry) (R.remaining input.old)
+        (R.remaining input.new) (R.failures input.old) (R.failures input.new) result }
 {
     if is_name(&entry.name, b"strh") {
         return visit_rates(input, fields, entry.size);
@@ -131,7 +144,10 @@ fn visit_field<R: ByteIn, A: Allocator>(
 
 /// What a stream says, at its end.
 fn judged(fields: Fields) -> Result<Sizes, AviFault>
-    ensures { (bytes : List ℕ) (text : Option (List ℕ)) (failures : ℕ) → Answers (λ (s : Sizes). head_with s bytes) (stream_judged fields.rates (came_with fields.format bytes)) text text failures failures result }
+    ensures { (bytes : List ℕ) (text : Option (List ℕ)) (failures : ℕ) →
+        Answers (λ (s : Sizes). head_with s bytes)
+        (stream_judged fields.rates
+        (came_with fields.format bytes)) text text failures failures result }
 {
     let (Some(Some((rate, scale))), Some(Some((width, height)))) = (fields.rates, fields.format)
     else {
@@ -148,14 +164,17 @@ fn judged(fields: Fields) -> Result<Sizes, AviFault>
     })
 }
 
-/// A stream's list with so many bytes left behind its own name; its record in place of what the vector has.
+/// A stream's list with so many bytes left behind its own name; its record in place of what the
+/// vector has.
 #[tactic(auto, unfolding(crate::specs::Streams::stream_read))]
 pub(crate) fn read_stream<R: ByteIn, A: Allocator>(
     input: &mut R,
     room: u32,
     config: &mut Vec<u8, A>,
 ) -> Result<Sizes, AviFault>
-    ensures { Answers (λ (s : Sizes). head_with s config.new.items) (stream_read room) (R.remaining input.old) (R.remaining input.new) (R.failures input.old) (R.failures input.new) result }
+    ensures { Answers (λ (s : Sizes). head_with s config.new.items) (stream_read room)
+        (R.remaining input.old) (R.remaining input.new) (R.failures input.old)
+        (R.failures input.new) result }
 {
     let mut fields = Fields {
         rates: None,

@@ -5,6 +5,7 @@ ghost use Rattle.std.specs.Prelude.{◌≡◌, ◌+◌, ◌<◌, ◌≤◌, leng
 mod built;
 mod example;
 mod failing;
+mod large;
 
 use super::*;
 use example::EXAMPLE;
@@ -105,7 +106,8 @@ fn other_names(rt: HostRuntime) {
 
 #[test]
 fn other_sizes(rt: HostRuntime) {
-    // RIFF and lists below 4; a chunk that passes its list by its padding alone; the format too short, or too long for its list
+    // RIFF and lists below 4; a chunk that passes its list by its padding alone; the format too
+    // short, or too long for its list
     assert!(rt; opened(rt.alloc(), &changed(4, [3, 0, 0, 0])) == Err(AviFault::NotAvi));
     assert!(rt; opened(rt.alloc(), &changed(16, [3, 0, 0, 0])) == Err(AviFault::NotAvi));
     assert!(rt; opened(rt.alloc(), &changed(276, [17, 0, 0, 0])) == Ok(Err(AviFault::Truncated)));
@@ -136,7 +138,8 @@ fn long_format(size: u32) -> [u8; 298] {
     file
 }
 
-/// What the first frame is read as, and again, how long the vector then is, and how many bytes are left.
+/// What the first frame is read as, and again, how long the vector then is, and how many bytes are
+/// left.
 fn twice<A: Allocator + Copy>(
     alloc: A,
     file: &[u8],

@@ -1,9 +1,12 @@
 //! A file is written.
 
-ghost use Rattle.std.specs.Prelude.{◌≡◌, ◌+◌, ◌*◌, ◌<◌, ◌≤◌, ◌^◌, ◌++◌, ℕ, List, length, map, sum, flat_map, Option, None, Some, if◌then◌else◌, nat_le, nat_lt};
+ghost use Rattle.std.specs.Prelude.{◌≡◌, ◌+◌, ◌*◌, ◌<◌, ◌≤◌, ◌^◌, ◌++◌, ℕ, List, length, map, sum};
+ghost use Rattle.std.specs.Prelude.{flat_map, Option, None, Some, if◌then◌else◌, nat_le, nat_lt};
 ghost use Rattle.ffv1_avi.specs.Head.{head_of};
 ghost use Rattle.ffv1_avi.specs.Reads.{padded};
-ghost use Rattle.ffv1_avi.specs.Written.{avih, file_of, format_size, frame_chunk, frames_of, front, head_text, microseconds, movi, movi_size, opening, sizes_of, spelled, stream, strf};
+ghost use Rattle.ffv1_avi.specs.Written.{avih, file_of, format_size, frame_chunk, frames_of, front};
+ghost use Rattle.ffv1_avi.specs.Written.{head_text, microseconds, movi, movi_size, opening};
+ghost use Rattle.ffv1_avi.specs.Written.{sizes_of, spelled, stream, strf};
 ghost use Rattle.ffv1_avi.specs.Writes.{Writes, WritesFile};
 
 use crate::fault::AviFault;
@@ -12,7 +15,7 @@ use crate::head::AviHead;
 use ffv1_wire::ByteOut;
 use std::alloc::Allocator;
 
-/// The greatest size of RIFF.
+/// The greatest size of RIFF that is written: readers may take it as a signed number of 32 bits.
 const MOST: u64 = 2_147_483_647;
 
 /// A size with its padding.
@@ -26,7 +29,9 @@ fn padded(size: usize) -> u64
 /// The size of movi, where that of RIFF, which has so many bytes beside it, is not too great.
 fn movi_size<A: Allocator>(frames: &[Vec<u8, A>], others: u64) -> Option<u32>
     requires { others < 2 ^ 33 }
-    ensures { result ≡ (if nat_le (others + movi_size (frames_of frames.now)) 2147483647 then Some (movi_size (frames_of frames.now)) else None) }
+    ensures { result
+        ≡ (if nat_le (others + movi_size (frames_of frames.now)) 2147483647 then Some
+        (movi_size (frames_of frames.now)) else None) }
 {
     let mut size = 4u64;
     for frame in frames {
@@ -58,7 +63,8 @@ fn microseconds(rate: u32, scale: u32) -> u32
 /// RIFF of such a size, and its list hdrl, where the format has such a size with its padding.
 fn put_opening<W: ByteOut>(out: &mut W, size: u32, format: u32) -> Result<(), AviFault>
     requires { format ≤ 2 ^ 31 }
-    ensures { Writes (W.contents out.old) (W.contents out.new) (W.failures out.old) (W.failures out.new) (spelled (opening size format)) result }
+    ensures { Writes (W.contents out.old) (W.contents out.new) (W.failures out.old)
+        (W.failures out.new) (spelled (opening size format)) result }
 {
     let fields = [
         Field::Name(*b"RIFF"),
@@ -71,28 +77,29 @@ fn put_opening<W: ByteOut>(out: &mut W, size: u32, format: u32) -> Result<(), Av
     put_fields(out, &fields)
 }
 
-/// The main header, for so many frames.
+/// The main header, AVIMAINHEADER of the AVI RIFF File Reference, for so many frames.
 fn put_main_header<W: ByteOut, A: Allocator>(
     out: &mut W,
     head: &AviHead<A>,
     count: u32,
 ) -> Result<(), AviFault>
-    ensures { Writes (W.contents out.old) (W.contents out.new) (W.failures out.old) (W.failures out.new) (spelled (avih (head_of head.now) count)) result }
+    ensures { Writes (W.contents out.old) (W.contents out.new) (W.failures out.old)
+        (W.failures out.new) (spelled (avih (head_of head.now) count)) result }
 {
     let fields = [
         Field::Name(*b"avih"),
-        Field::Number(56),
-        Field::Number(microseconds(head.rate, head.scale)),
-        Field::Number(0),
-        Field::Number(0),
-        Field::Number(0),
-        Field::Number(count),
-        Field::Number(0),
-        Field::Number(1),
-        Field::Number(0),
-        Field::Number(head.width),
-        Field::Number(head.height),
-        Field::Number(0),
+        Field::Number(56), // cb
+        Field::Number(microseconds(head.rate, head.scale)), // dwMicroSecPerFrame
+        Field::Number(0), // dwMaxBytesPerSec: unknown
+        Field::Number(0), // dwPaddingGranularity
+        Field::Number(0), // dwFlags
+        Field::Number(count), // dwTotalFrames
+        Field::Number(0), // dwInitialFrames
+        Field::Number(1), // dwStreams: the one of video
+        Field::Number(0), // dwSuggestedBufferSize: unknown
+        Field::Number(head.width), // dwWidth
+        Field::Number(head.height), // dwHeight
+        Field::Number(0), // dwReserved
         Field::Number(0),
         Field::Number(0),
         Field::Number(0),
@@ -100,7 +107,8 @@ fn put_main_header<W: ByteOut, A: Allocator>(
     put_fields(out, &fields)
 }
 
-/// The list strl, where the format has such a size with its padding, and the stream's header, for so many frames.
+/// The list strl, where the format has such a size with its padding, and the stream's header,
+/// AVISTREAMHEADER, for so many frames.
 fn put_stream<W: ByteOut, A: Allocator>(
     out: &mut W,
     head: &AviHead<A>,
@@ -110,54 +118,57 @@ fn put_stream<W: ByteOut, A: Allocator>(
     requires width { head.now.width ≤ 8192 }
     requires height { head.now.height ≤ 8192 }
     requires format { format ≤ 2 ^ 31 }
-    ensures { Writes (W.contents out.old) (W.contents out.new) (W.failures out.old) (W.failures out.new) (spelled (stream (head_of head.now) format count)) result }
+    ensures { Writes (W.contents out.old) (W.contents out.new) (W.failures out.old)
+        (W.failures out.new) (spelled (stream (head_of head.now) format count)) result }
 {
     let fields = [
         Field::Name(*b"LIST"),
         Field::Number(76 + format),
         Field::Name(*b"strl"),
         Field::Name(*b"strh"),
-        Field::Number(56),
-        Field::Name(*b"vids"),
-        Field::Name(*b"FFV1"),
-        Field::Number(0),
-        Field::Pair(0, 0),
-        Field::Number(0),
-        Field::Number(head.scale),
-        Field::Number(head.rate),
-        Field::Number(0),
-        Field::Number(count),
-        Field::Number(0),
-        Field::Number(0),
-        Field::Number(0),
-        Field::Pair(0, 0),
-        Field::Pair(head.width as u16, head.height as u16),
+        Field::Number(56), // cb
+        Field::Name(*b"vids"), // fccType
+        Field::Name(*b"FFV1"), // fccHandler
+        Field::Number(0), // dwFlags
+        Field::Pair(0, 0), // wPriority, wLanguage
+        Field::Number(0), // dwInitialFrames
+        Field::Number(head.scale), // dwScale
+        Field::Number(head.rate), // dwRate
+        Field::Number(0), // dwStart
+        Field::Number(count), // dwLength
+        Field::Number(0), // dwSuggestedBufferSize: unknown
+        Field::Number(0), // dwQuality
+        Field::Number(0), // dwSampleSize: frames differ in size
+        Field::Pair(0, 0), // rcFrame: left, top
+        Field::Pair(head.width as u16, head.height as u16), // rcFrame: right, bottom
     ];
     put_fields(out, &fields)
 }
 
-/// The format, of such a size, up to its record.
+/// The format, BITMAPINFOHEADER, of such a size, up to the record that stands behind it (RFC 9043,
+/// 4.3.3).
 fn put_format<W: ByteOut, A: Allocator>(
     out: &mut W,
     head: &AviHead<A>,
     size: u32,
 ) -> Result<(), AviFault>
     requires { size ≡ 40 + length head.now.config_record.items }
-    ensures { Writes (W.contents out.old) (W.contents out.new) (W.failures out.old) (W.failures out.new) (spelled (strf (head_of head.now))) result }
+    ensures { Writes (W.contents out.old) (W.contents out.new) (W.failures out.old)
+        (W.failures out.new) (spelled (strf (head_of head.now))) result }
 {
     let fields = [
         Field::Name(*b"strf"),
-        Field::Number(size),
-        Field::Number(40),
-        Field::Number(head.width),
-        Field::Number(head.height),
-        Field::Pair(1, 24),
-        Field::Name(*b"FFV1"),
-        Field::Number(0),
-        Field::Number(0),
-        Field::Number(0),
-        Field::Number(0),
-        Field::Number(0),
+        Field::Number(size), // cb
+        Field::Number(40), // biSize: without the record
+        Field::Number(head.width), // biWidth
+        Field::Number(head.height), // biHeight
+        Field::Pair(1, 24), // biPlanes, which is always 1; biBitCount, of three samples of 8
+        Field::Name(*b"FFV1"), // biCompression
+        Field::Number(0), // biSizeImage
+        Field::Number(0), // biXPelsPerMeter
+        Field::Number(0), // biYPelsPerMeter
+        Field::Number(0), // biClrUsed
+        Field::Number(0), // biClrImportant
     ];
     put_fields(out, &fields)
 }
@@ -165,7 +176,8 @@ fn put_format<W: ByteOut, A: Allocator>(
 /// A frame's chunk.
 fn put_frame<W: ByteOut>(out: &mut W, frame: &[u8]) -> Result<(), AviFault>
     requires { length frame.now < 2 ^ 32 }
-    ensures { Writes (W.contents out.old) (W.contents out.new) (W.failures out.old) (W.failures out.new) (frame_chunk frame.now) result }
+    ensures { Writes (W.contents out.old) (W.contents out.new) (W.failures out.old)
+        (W.failures out.new) (frame_chunk frame.now) result }
 {
     let fields = [Field::Name(*b"00dc"), Field::Number(frame.len() as u32)];
     put_fields(out, &fields)?;
@@ -180,7 +192,9 @@ fn put_movi<W: ByteOut, A: Allocator>(
     size: u32,
 ) -> Result<(), AviFault>
     requires { movi_size (frames_of frames.now) ≤ 2147483647 }
-    ensures { Writes (W.contents out.old) (W.contents out.new) (W.failures out.old) (W.failures out.new) (spelled (movi size) ++ flat_map frame_chunk (frames_of frames.now)) result }
+    ensures { Writes (W.contents out.old) (W.contents out.new) (W.failures out.old)
+        (W.failures out.new)
+        (spelled (movi size) ++ flat_map frame_chunk (frames_of frames.now)) result }
 {
     let fields = [
         Field::Name(*b"LIST"),
@@ -204,7 +218,8 @@ fn put_head<W: ByteOut, A: Allocator>(
     requires width { head.now.width ≤ 8192 }
     requires height { head.now.height ≤ 8192 }
     requires short { 40 + length head.now.config_record.items ≤ 2147483647 }
-    ensures { Writes (W.contents out.old) (W.contents out.new) (W.failures out.old) (W.failures out.new) (head_text (head_of head.now) count size) result }
+    ensures { Writes (W.contents out.old) (W.contents out.new) (W.failures out.old)
+        (W.failures out.new) (head_text (head_of head.now) count size) result }
 {
     let len = 40 + head.config_record.len();
     let format = padded(len) as u32;
@@ -230,8 +245,9 @@ fn sizes<A: Allocator>(head: &AviHead<A>, frames: &[Vec<u8, A>]) -> Option<(u32,
 
 /// Writes a file of the head and the frames.
 ///
-/// Sizes are at most 8192. `TooLarge`, before any byte, where the size of RIFF would pass 2147483647; `Write` where a write
-/// failed: a beginning of the file has then been written. It takes no memory.
+/// Sizes are at most 8192. `TooLarge`, before any byte, where the size of RIFF would pass
+/// 2147483647; `Write` where a write failed: a beginning of the file has then been written. It
+/// takes no memory.
 pub fn write_avi<W: ByteOut, A: Allocator>(
     out: &mut W,
     head: &AviHead<A>,
@@ -239,7 +255,8 @@ pub fn write_avi<W: ByteOut, A: Allocator>(
 ) -> Result<(), AviFault>
     requires width { head.now.width ≤ 8192 }
     requires height { head.now.height ≤ 8192 }
-    ensures { WritesFile (W.contents out.old) (W.contents out.new) (W.failures out.old) (W.failures out.new) (head_of head.now) (frames_of frames.now) result }
+    ensures { WritesFile (W.contents out.old) (W.contents out.new) (W.failures out.old)
+        (W.failures out.new) (head_of head.now) (frames_of frames.now) result }
 {
     let Some((movi, riff)) = sizes(head, frames) else {
         return Err(AviFault::TooLarge);

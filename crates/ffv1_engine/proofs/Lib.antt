@@ -3,3 +3,4 @@ mod PlaneRows
 mod PlaneCount
 mod Refusals
 mod Compared
+mod PlaneBack

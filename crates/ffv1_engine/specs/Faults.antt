@@ -3,8 +3,8 @@ use Rattle.ffv1_engine.specs.declared.fault.Fault.{Fault}
 use Rattle.ffv1_engine.specs.declared.fault.Fault.TheVariants as fault
 use Rattle.ffv1_range.specs.declared.fault.Fault.{Fault as RangeFault}
 use Rattle.ffv1_range.specs.declared.fault.Fault.TheVariants as range_fault
-use Rattle.ffv1_plane.specs.declared.faults.Fault.{Fault as PlaneFault}
-use Rattle.ffv1_plane.specs.declared.faults.Fault.TheVariants as plane_fault
+use Rattle.ffv1_plane.specs.declared.fault.Fault.{Fault as PlaneFault}
+use Rattle.ffv1_plane.specs.declared.fault.Fault.TheVariants as plane_fault
 use Rattle.ffv1_y4m.specs.declared.fault.Fault.{Fault as Y4mFault}
 use Rattle.ffv1_y4m.specs.declared.fault.Fault.TheVariants as y4m_fault
 

@@ -1,8 +1,10 @@
 -- The first picture of a text, where it is mono.
-use Rattle.std.specs.Prelude.{◌≡◌, ℕ, ◌*◌, ◌≤◌, Bool, if◌then◌else◌, List, [], ◌∷◌, length, Option, Some, None, Result, Ok, Err, ⊤}
+use Rattle.std.specs.Prelude.{◌≡◌, ℕ, ◌*◌, ◌≤◌, Bool, if◌then◌else◌, List, [], ◌∷◌, length, Option}
+use Rattle.std.specs.Prelude.{Some, None, Result, Ok, Err, ⊤}
 use Rattle.ffv1_wire.specs.Failures.{one_more}
 use Rattle.ffv1_y4m.specs.Header.{header_of}
 use Rattle.ffv1_y4m.specs.Pictures.{picture_read}
+use Rattle.ffv1_y4m.specs.Sequence.{Outcome}
 use Rattle.ffv1_y4m.specs.declared.head.VideoHead.{VideoHead}
 use Rattle.ffv1_y4m.specs.declared.fault.Fault.{Fault as Y4mFault}
 use Rattle.ffv1_engine.specs.declared.fault.Fault.{Fault}
@@ -23,25 +25,29 @@ pub record IsMono (m : Mono) : Type 0 where
   pub high : m.height ≤ 8192
   pub whole : length m.samples ≡ m.width * m.height
 
--- the first fault of one reading after the other
-abbrev pub and_then : {X Y : Type 0} → Result X Y4mFault → (X → Result Y Fault) → Result Y Fault
+-- one reading after the other: the first fault, and what is left of the text
+abbrev pub and_then : {X Y : Type 0} → Outcome X →
+    (X × List ℕ → Result (Y × List ℕ) (Fault × List ℕ)) →
+    Result (Y × List ℕ) (Fault × List ℕ)
 and_then (Ok x) next = next x
-and_then (Err f) next = Err (of_y4m f)
+and_then (Err f) next = Err (of_y4m f.0, f.1)
 
 -- the one plane of a picture, if there is one
-abbrev pub mono_in : VideoHead → Option (List (List ℕ)) → List ℕ → Result (Mono × List ℕ) Fault
-mono_in head None rest = Err fault.NoFrames
-mono_in head (Some []) rest = Err fault.NoFrames
-mono_in head (Some (samples ∷ more)) rest = Ok (record { width = head.width; height = head.height; samples = samples }, rest)
+abbrev pub mono_in : VideoHead → Option (List (List ℕ)) → List ℕ →
+    Result (Mono × List ℕ) (Fault × List ℕ)
+mono_in head None rest = Err (fault.NoFrames, rest)
+mono_in head (Some []) rest = Err (fault.NoFrames, rest)
+mono_in head (Some (samples ∷ more)) rest =
+    Ok (record { width = head.width; height = head.height; samples = samples }, rest)
 
 -- the first picture behind a header, which is judged whole before it
-abbrev pub picture_behind : VideoHead × List ℕ → Result (Mono × List ℕ) Fault
+abbrev pub picture_behind : VideoHead × List ℕ → Result (Mono × List ℕ) (Fault × List ℕ)
 picture_behind header =
-    if header.0.chroma_planes then Err fault.Unsupported
+    if header.0.chroma_planes then Err (fault.Unsupported, header.1)
     else and_then (picture_read header.0 header.1) (λ read. mono_in header.0 read.0 read.1)
 
 -- the first picture of a text
-unfoldable pub mono_of : List ℕ → Result (Mono × List ℕ) Fault
+unfoldable pub mono_of : List ℕ → Result (Mono × List ℕ) (Fault × List ℕ)
 mono_of text = and_then (header_of text) picture_behind
 
 -- where the text is known, it reads as this picture, with this left
@@ -50,14 +56,16 @@ ReadsMono None new m = ⊤
 ReadsMono (Some text) None m = ⊥
 ReadsMono (Some text) (Some rest) m = mono_of text ≡ Ok (m, rest)
 
--- where the text is known, it reads as this fault
-abbrev pub FaultsMono : Option (List ℕ) → Fault → Type 0
-FaultsMono None f = ⊤
-FaultsMono (Some text) f = mono_of text ≡ Err f
+-- where the text is known, it reads as this fault, with this left
+abbrev pub FaultsMono : Option (List ℕ) → Option (List ℕ) → Fault → Type 0
+FaultsMono None new f = ⊤
+FaultsMono (Some text) None f = ⊥
+FaultsMono (Some text) (Some rest) f = mono_of text ≡ Err (f, rest)
 
--- why a picture was not read: a read failed, which was counted; or memory was refused; or the text has this fault
-abbrev pub RefusesMono : Option (List ℕ) → ℕ → ℕ → Fault → Type 0
-RefusesMono old failures after fault.Read = after ≡ one_more failures
-RefusesMono old failures after fault.OutOfMemory = after ≡ failures
-RefusesMono old failures after fault.Write = ⊥
-RefusesMono old failures after f = (after ≡ failures) × FaultsMono old f
+-- why a picture was not read: a read failed, which was counted; or memory was refused; or the text
+-- has this fault
+abbrev pub RefusesMono : Option (List ℕ) → Option (List ℕ) → ℕ → ℕ → Fault → Type 0
+RefusesMono old new failures after fault.Read = after ≡ one_more failures
+RefusesMono old new failures after fault.OutOfMemory = after ≡ failures
+RefusesMono old new failures after fault.Write = ⊥
+RefusesMono old new failures after f = (after ≡ failures) × FaultsMono old new f

@@ -1,5 +1,5 @@
 -- What a trial writes, and why it is refused.
-use Rattle.std.specs.Prelude.{◌≡◌, ℕ, Bool, List, length, Option}
+use Rattle.std.specs.Prelude.{◌≡◌, ℕ, true, List, length, Option}
 use Rattle.std.specs.Io.KnownBytes.{Appends, Keeps}
 use Rattle.ffv1_range.specs.Standard.{standard}
 use Rattle.ffv1_plane.specs.Quantisation.{small_set}
@@ -11,38 +11,43 @@ use Rattle.ffv1_engine.specs.Picture.{Mono, IsMono, ReadsMono, FaultsMono}
 use Rattle.ffv1_engine.specs.Plane.{plane_steps, plane_code}
 use Rattle.ffv1_engine.specs.Report.{report_of}
 
--- the four lines for a picture: its samples, the decisions of its residuals, their code, and whether it was decoded to the same
-abbrev pub lines_for : Mono → Bool → List ℕ
-lines_for m same =
-    report_of (length m.samples) (length (plane_steps small_set m.width m.height m.samples)) (plane_code standard small_set m.width m.height m.samples) same
+-- the four lines for a picture: its samples, the decisions of its residuals, their code, and that
+-- it was decoded to the same
+abbrev pub lines_for : Mono → List ℕ
+lines_for m = report_of (length m.samples)
+    (length (plane_steps small_set m.width m.height m.samples))
+    (plane_code standard small_set m.width m.height m.samples) true
 
 -- the lines of the first picture were written
 pub record TrialDone (text rest written all : Option (List ℕ)) : Type 0 where
   pub picture : Mono
-  pub same : Bool
   pub mono : IsMono picture
   pub reads : ReadsMono text rest picture
-  pub writes : Appends written all (lines_for picture same)
+  pub writes : Appends written all (lines_for picture)
 
 -- a beginning of the lines of the first picture was written
 pub record TrialCut (text written all : Option (List ℕ)) : Type 0 where
   pub rest : Option (List ℕ)
   pub picture : Mono
-  pub same : Bool
   pub mono : IsMono picture
   pub reads : ReadsMono text rest picture
-  pub writes : AppendsBeginning written all (lines_for picture same)
+  pub writes : AppendsBeginning written all (lines_for picture)
 
 -- nothing was written
 pub record Silent (written all : Option (List ℕ)) (failures after : ℕ) : Type 0 where
   pub kept : Keeps written all
   pub same : after ≡ failures
 
--- why a trial is refused: a write failed, which was counted, behind a beginning of the lines; or a read failed, which was
--- counted; or memory was refused; or the text has this fault
-abbrev pub TrialRefused : Option (List ℕ) → ℕ → ℕ → Option (List ℕ) → Option (List ℕ) → ℕ → ℕ → Fault → Type 0
-TrialRefused text reads reads_after written all writes writes_after fault.Write =
+-- why a trial is refused: a write failed, which was counted, behind a beginning of the lines; or a
+-- read failed, which was counted; or memory was refused; or the text has this fault,
+-- with this left of it
+abbrev pub TrialRefused : Option (List ℕ) → Option (List ℕ) → ℕ → ℕ → Option (List ℕ) →
+    Option (List ℕ) → ℕ → ℕ → Fault → Type 0
+TrialRefused text rest reads reads_after written all writes writes_after fault.Write =
     TrialCut text written all × (writes_after ≡ one_more writes) × (reads_after ≡ reads)
-TrialRefused text reads reads_after written all writes writes_after fault.Read = Silent written all writes writes_after × (reads_after ≡ one_more reads)
-TrialRefused text reads reads_after written all writes writes_after fault.OutOfMemory = Silent written all writes writes_after × (reads_after ≡ reads)
-TrialRefused text reads reads_after written all writes writes_after f = Silent written all writes writes_after × (reads_after ≡ reads) × FaultsMono text f
+TrialRefused text rest reads reads_after written all writes writes_after fault.Read =
+    Silent written all writes writes_after × (reads_after ≡ one_more reads)
+TrialRefused text rest reads reads_after written all writes writes_after fault.OutOfMemory =
+    Silent written all writes writes_after × (reads_after ≡ reads)
+TrialRefused text rest reads reads_after written all writes writes_after f =
+    Silent written all writes writes_after × (reads_after ≡ reads) × FaultsMono text rest f

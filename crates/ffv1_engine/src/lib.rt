@@ -2,7 +2,9 @@
 #![tactic(auto)]
 
 mod command_line;
+mod comparison;
 mod fault;
+pub mod laws;
 mod mono_trial;
 mod picture;
 mod plane;

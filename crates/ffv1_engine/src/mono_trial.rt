@@ -1,36 +1,45 @@
 //! A mono picture is coded and decoded.
 
-ghost use Rattle.std.specs.Prelude.{◌≡◌, ◌*◌, ◌≤◌, ◌<◌, ℕ, length, replicate, IfOk, IfErr, OnOk};
+ghost use Rattle.std.specs.Prelude.{◌≡◌, ◌*◌, ◌≤◌, ◌<◌, ℕ, length, replicate, IfErr, OnOk};
 ghost use Rattle.ffv1_engine.specs.declared.fault.Fault.TheVariants as fault;
 ghost use Rattle.ffv1_engine.specs.Trial.{TrialDone, TrialRefused};
 
+use crate::comparison::decodes_to;
 use crate::fault::Fault;
 use crate::picture::read_mono;
-use crate::plane::{code_plane, decodes_to};
+use crate::plane::code_plane;
 use crate::report::report;
 use ffv1_wire::{ByteIn, ByteOut, write_all};
 use std::alloc::Allocator;
 
-/// Codes the first picture of a YUV4MPEG2 text as the content of one slice, decodes the code, and writes four lines:
+/// Codes the first picture of a YUV4MPEG2 text as the content of one slice, decodes the code, and
+/// writes four lines:
 ///
 /// ```text
 /// samples {n}
 /// decisions {n}
 /// code {upper-case hexadecimal}
-/// same {yes or no}
+/// same yes
 /// ```
 ///
-/// The picture has to be mono: `Unsupported` otherwise, once its header was judged. Behind the picture nothing is
-/// read. The faults are those of the text, the first one from the left (`Header`, `Tag`, `Unsupported`, `FrameLine`,
-/// `FrameTruncated`), `NoFrames` where there is no picture, `Read` where a read failed, `OutOfMemory`, each with nothing
-/// written; and `Write` where a write failed, a beginning of the lines then written.
+/// The last line says that the code was decoded to the picture's own samples. Each trial compares
+/// them, and they are the same each time (`laws::code_comes_back`).
+///
+/// The picture has to be mono: `Unsupported` otherwise, once its header was judged. Behind the
+/// picture nothing is read. The faults are those of the text, the first one from the left
+/// (`Header`, `Tag`, `Unsupported`, `FrameLine`, `FrameTruncated`), `NoFrames` where there is no
+/// picture, `Read` where a read failed, `OutOfMemory`, each with nothing written; and `Write` where
+/// a write failed, a beginning of the lines then written.
 pub fn trial<R: ByteIn, W: ByteOut, A: Allocator + Copy>(
     alloc: A,
     input: &mut R,
     output: &mut W,
 ) -> Result<(), Fault>
-    ensures ok { OnOk result (TrialDone (R.remaining input.old) (R.remaining input.new) (W.contents output.old) (W.contents output.new)) }
-    ensures err { IfErr result (λ f. TrialRefused (R.remaining input.old) (R.failures input.old) (R.failures input.new) (W.contents output.old) (W.contents output.new) (W.failures output.old) (W.failures output.new) f) }
+    ensures ok { OnOk result (TrialDone (R.remaining input.old) (R.remaining input.new)
+        (W.contents output.old) (W.contents output.new)) }
+    ensures err { IfErr result (λ f. TrialRefused (R.remaining input.old) (R.remaining input.new)
+        (R.failures input.old) (R.failures input.new) (W.contents output.old)
+        (W.contents output.new) (W.failures output.old) (W.failures output.new) f) }
 {
     let mono = read_mono(alloc, input)?;
     let coded = code_plane(alloc, mono.width, mono.height, &mono.samples)?;

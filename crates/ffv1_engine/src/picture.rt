@@ -22,10 +22,17 @@ pub(crate) fn read_mono<R: ByteIn, A: Allocator + Copy>(
     alloc: A,
     input: &mut R,
 ) -> Result<Mono<A>, Fault>
-    ensures ok { IfOk result (λ m. ReadsMono (R.remaining input.old) (R.remaining input.new) (record { width = m.width; height = m.height; samples = m.samples.items })) }
-    ensures mono { IfOk result (λ m. IsMono (record { width = m.width; height = m.height; samples = m.samples.items })) }
+    ensures ok { IfOk result
+        (λ m. ReadsMono (R.remaining input.old) (R.remaining input.new)
+        (record { width = m.width; height = m.height; samples = m.samples.items })) }
+    ensures mono { IfOk result (λ m. IsMono (record {
+      width = m.width;
+      height = m.height;
+      samples = m.samples.items;
+    })) }
     ensures kept { OnOk result (R.failures input.new ≡ R.failures input.old) }
-    ensures err { IfErr result (λ f. RefusesMono (R.remaining input.old) (R.failures input.old) (R.failures input.new) f) }
+    ensures err { IfErr result (λ f. RefusesMono (R.remaining input.old) (R.remaining input.new)
+        (R.failures input.old) (R.failures input.new) f) }
 {
     let mut reader = Y4mReader::open(alloc, None, input)?;
     let head = *reader.head();

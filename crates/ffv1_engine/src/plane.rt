@@ -1,22 +1,21 @@
-//! One mono plane as the content of one slice, coded and decoded.
+//! One mono plane, coded as the content of one slice.
 
-ghost use Rattle.std.specs.Prelude.{◌≡◌, ℕ, ◌+◌, ◌*◌, ◌^◌, ◌≤◌, ◌<◌, ◌++◌, length, take, drop, replicate, IfOk, IfErr, OnOk, IsTrue, ◌↔◌};
+ghost use Rattle.std.specs.Prelude.{◌≡◌, ◌+◌, ◌*◌, ◌^◌, ◌≤◌, ◌<◌, length, replicate};
+ghost use Rattle.std.specs.Prelude.{IfOk, IfErr, OnOk};
 ghost use Rattle.ffv1_engine.specs.declared.fault.Fault.TheVariants as fault;
 ghost use Rattle.ffv1_range.specs.Symbols.{AllHeld};
 ghost use Rattle.ffv1_range.specs.Puts.{Puts};
-ghost use Rattle.ffv1_range.specs.Follows.{Follows};
 ghost use Rattle.ffv1_plane.specs.Quantisation.{contexts_of, small_set};
 ghost use Rattle.ffv1_range.specs.Standard.{standard};
 ghost use Rattle.ffv1_line.specs.Cell.{cell_of};
 ghost use Rattle.ffv1_line.specs.Row.{cell_steps, chosen_rows};
-ghost use Rattle.ffv1_line.specs.Encoded.{Written};
 ghost use Rattle.ffv1_line.specs.Length.{cell_decisions};
 ghost use Rattle.ffv1_engine.specs.Plane.{plane_residuals, plane_steps, plane_end, plane_code};
 
 use crate::fault::Fault;
-use ffv1_line::{decode_line, encode_line};
+use ffv1_line::{RollingRows, encode_line};
 use ffv1_plane::QuantSet;
-use ffv1_range::{RangeDecoder, RangeEncoder, StateTable};
+use ffv1_range::{RangeEncoder, StateTable};
 use std::alloc::{AllocError, Allocator, Global};
 
 /// A mono plane that was coded as the content of one slice.
@@ -28,15 +27,8 @@ pub struct Coded<A: Allocator = Global> {
     pub code: Vec<u8, A>,
 }
 
-/// Some zeros.
-fn zeros<A: Allocator>(alloc: A, count: usize) -> Result<Vec<u16, A>, AllocError>
-    ensures { IfOk result (λ v. v.items ≡ replicate count 0) }
-{
-    vec![in alloc; 0u16; count]
-}
-
 /// Fresh states, so many.
-fn fresh_states<A: Allocator>(alloc: A, count: usize) -> Result<Vec<u8, A>, AllocError>
+pub(crate) fn fresh_states<A: Allocator>(alloc: A, count: usize) -> Result<Vec<u8, A>, AllocError>
     ensures { IfOk result (λ v. v.items ≡ replicate count 128) }
 {
     vec![in alloc; 128u8; count]
@@ -60,7 +52,7 @@ fn load<A: Allocator>(samples: &[u8], line: &mut Vec<u16, A>)
     widen(samples, line.as_mut_slice());
 }
 
-/// Codes the rows of a plane one after the other, over three rolling lines.
+/// Codes the rows of a plane one after the other.
 fn encode_rows<A: Allocator + Copy>(
     alloc: A,
     encoder: &mut RangeEncoder<A>,
@@ -75,20 +67,19 @@ fn encode_rows<A: Allocator + Copy>(
     requires whole { length samples.now ≡ width * height }
     requires rows { length states.old ≡ contexts_of set.now * 32 }
     requires held { AllHeld table.now states.old }
-    ensures ok { OnOk result (Puts table.now encoder.old states.old encoder.new states.new (cell_steps set.now (cell_of width samples.now) 0 (chosen_rows set.now 8 (cell_of width samples.now) height))) }
+    ensures ok { OnOk result (Puts table.now encoder.old states.old encoder.new states.new
+        (cell_steps set.now (cell_of width samples.now) 0
+        (chosen_rows set.now 8 (cell_of width samples.now) height))) }
     ensures err { IfErr result (λ f. f ≡ fault.OutOfMemory) }
 {
-    let mut two = zeros(alloc, width)?;
-    let mut one = zeros(alloc, width)?;
-    let mut cur = zeros(alloc, width)?;
+    let mut rows = RollingRows::new(alloc, width)?;
     for y in 0..height {
         let start = y * width;
-        load(&samples[start..start + width], &mut cur);
-        encode_line(encoder, table, set, states, &two, &one, &cur, 8)?;
-        let above = two;
-        two = one;
-        one = cur;
-        cur = above;
+        load(&samples[start..start + width], &mut rows.cur);
+        encode_line(
+            encoder, table, set, states, &rows.two, &rows.one, &rows.cur, 8,
+        )?;
+        rows.turn();
     }
     Ok(())
 }
@@ -110,8 +101,11 @@ fn code_rows<A: Allocator + Copy>(
     requires held { AllHeld table.now states.old }
     ensures code { IfOk result (λ c. c.code.items ≡ plane_code table.now set.now width height samples.now) }
     ensures decisions { IfOk result (λ c. c.decisions ≡ length (plane_steps set.now width height samples.now)) }
-    ensures residuals { IfOk result (λ c. c.decisions ≡ cell_decisions (plane_residuals set.now width height samples.now)) }
-    ensures long { IfOk result (λ c. length c.code.items + 1 ≡ (plane_end table.now set.now width height samples.now).count) }
+    ensures residuals { IfOk result
+        (λ c. c.decisions ≡ cell_decisions (plane_residuals set.now width height samples.now)) }
+    ensures long { IfOk result
+        (λ c. length c.code.items + 1
+        ≡ (plane_end table.now set.now width height samples.now).count) }
     ensures err { IfErr result (λ f. f ≡ fault.OutOfMemory) }
 {
     set.bounded();
@@ -131,9 +125,10 @@ fn code_rows<A: Allocator + Copy>(
     Ok(Coded { decisions, code })
 }
 
-/// Codes a mono plane of `width` times `height` samples of 8 bits, row by row, as the content of one slice: with the
-/// standard's state transition table, the small quantisation table set and fresh states, without keyframe and head, ended by
-/// the sentinel (RFC 9043, 3.8.1 and 4.7). Both sizes are from 1 to 8192.
+/// Codes a mono plane of `width` times `height` samples of 8 bits, row by row, as the content of
+/// one slice: with the standard's state transition table, the small quantisation table set and
+/// fresh states, without keyframe and head, ended by the sentinel (RFC 9043, 3.8.1 and 4.7). Both
+/// sizes are from 1 to 8192.
 ///
 /// `OutOfMemory` where memory was refused.
 pub fn code_plane<A: Allocator + Copy>(
@@ -149,8 +144,11 @@ pub fn code_plane<A: Allocator + Copy>(
     requires whole { length samples.now ≡ width * height }
     ensures code { IfOk result (λ c. c.code.items ≡ plane_code standard small_set width height samples.now) }
     ensures decisions { IfOk result (λ c. c.decisions ≡ length (plane_steps small_set width height samples.now)) }
-    ensures residuals { IfOk result (λ c. c.decisions ≡ cell_decisions (plane_residuals small_set width height samples.now)) }
-    ensures long { IfOk result (λ c. length c.code.items + 1 ≡ (plane_end standard small_set width height samples.now).count) }
+    ensures residuals { IfOk result
+        (λ c. c.decisions ≡ cell_decisions (plane_residuals small_set width height samples.now)) }
+    ensures long { IfOk result
+        (λ c. length c.code.items + 1
+        ≡ (plane_end standard small_set width height samples.now).count) }
     ensures err { IfErr result (λ f. f ≡ fault.OutOfMemory) }
 {
     let table = StateTable::standard();
@@ -165,118 +163,4 @@ pub fn code_plane<A: Allocator + Copy>(
         height as usize,
         samples,
     )
-}
-
-/// Whether a line has these samples.
-fn shows(line: &[u16], samples: &[u8]) -> bool
-    requires { length line.now ≡ length samples.now }
-    ensures { IsTrue result ↔ (line.now ≡ samples.now) }
-{
-    // All places, without a way out in between, so that many are compared at once.
-    let mut same = true;
-    for x in 0..line.len() {
-        same = same & (line[x] == u16::from(samples[x]));
-    }
-    same
-}
-
-/// Whether the bytes decode to these samples, row by row over three rolling lines.
-fn decode_rows<A: Allocator + Copy>(
-    alloc: A,
-    decoder: &mut RangeDecoder<'_>,
-    table: &StateTable,
-    set: &QuantSet<A>,
-    states: &mut [u8],
-    width: usize,
-    height: usize,
-    samples: &[u8],
-) -> Result<bool, AllocError>
-    requires some { 0 < width }
-    requires whole { length samples.now ≡ width * height }
-    requires rows { length states.old ≡ contexts_of set.now * 32 }
-    requires held { AllHeld table.now states.old }
-{
-    let mut two = zeros(alloc, width)?;
-    let mut one = zeros(alloc, width)?;
-    let mut cur = zeros(alloc, width)?;
-    for y in 0..height {
-        let start = y * width;
-        if !decode_row(
-            decoder,
-            table,
-            set,
-            states,
-            &two,
-            &one,
-            &mut cur,
-            &samples[start..start + width],
-        ) {
-            return Ok(false);
-        }
-        let above = two;
-        two = one;
-        one = cur;
-        cur = above;
-    }
-    Ok(true)
-}
-
-/// Decodes a row into a line, and tells whether it has these samples.
-fn decode_row<A: Allocator>(
-    decoder: &mut RangeDecoder<'_>,
-    table: &StateTable,
-    set: &QuantSet<A>,
-    states: &mut [u8],
-    two: &[u16],
-    one: &[u16],
-    cur: &mut Vec<u16, A>,
-    samples: &[u8],
-) -> bool
-    requires some { 0 < length cur.old.items }
-    requires two_long { length two.now ≡ length cur.old.items }
-    requires one_long { length one.now ≡ length cur.old.items }
-    requires samples_long { length samples.now ≡ length cur.old.items }
-    requires rows { length states.old ≡ contexts_of set.now * 32 }
-    requires held { AllHeld table.now states.old }
-    ensures held { AllHeld table.now states.new }
-    ensures long { length cur.new.items ≡ length cur.old.items }
-{
-    match decode_line(decoder, table, set, states, two, one, cur.as_mut_slice(), 8) {
-        Ok(()) => shows(cur.as_slice(), samples),
-        Err(_) => false,
-    }
-}
-
-/// Whether the code of a mono plane decodes to these samples.
-pub(crate) fn decodes_to<A: Allocator + Copy>(
-    alloc: A,
-    code: &[u8],
-    width: u32,
-    height: u32,
-    samples: &[u8],
-) -> Result<bool, Fault>
-    requires some_wide { 1 ≤ width }
-    requires wide { width ≤ 8192 }
-    requires some_high { 1 ≤ height }
-    requires high { height ≤ 8192 }
-    requires whole { length samples.now ≡ width * height }
-    ensures err { IfErr result (λ f. f ≡ fault.OutOfMemory) }
-{
-    let table = StateTable::standard();
-    let set = QuantSet::small(alloc)?;
-    let mut states = fresh_states(alloc, set.contexts() as usize * 32)?;
-    let Ok(mut decoder) = RangeDecoder::new(code) else {
-        return Ok(false);
-    };
-    let same = decode_rows(
-        alloc,
-        &mut decoder,
-        &table,
-        &set,
-        states.as_mut_slice(),
-        width as usize,
-        height as usize,
-        samples,
-    )?;
-    Ok(same)
 }

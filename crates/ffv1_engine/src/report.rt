@@ -1,6 +1,7 @@
 //! What `trial` prints.
 
-ghost use Rattle.std.specs.Prelude.{◌≡◌, ◌<◌, ◌*◌, ◌++◌, List, length, codes, decimal, IfOk, OnOk, [], ◌∷◌};
+ghost use Rattle.std.specs.Prelude.{◌≡◌, ◌<◌, ◌*◌, ◌++◌, List, length, codes, decimal, IfOk, OnOk};
+ghost use Rattle.std.specs.Prelude.{[], ◌∷◌};
 ghost use Rattle.ffv1_engine.specs.Report.{hexadecimal, digit_of, report_of, same_line};
 
 use itoa::Buffer;
@@ -48,7 +49,8 @@ fn push_number<A: Allocator>(
     name: &[u8],
     number: u64,
 ) -> Result<(), AllocError>
-    ensures { OnOk result (text.new.items ≡ text.old.items ++ name.now ++ decimal number ++ 10 ∷ []) }
+    ensures { OnOk result
+        (text.new.items ≡ text.old.items ++ name.now ++ decimal number ++ 10 ∷ []) }
 {
     let mut buffer = Buffer::new();
     text.extend_from_slice(name)?;
@@ -57,8 +59,8 @@ fn push_number<A: Allocator>(
     Ok(())
 }
 
-/// The four lines of a trial: how many samples there were and how many decisions they took, the code in hexadecimal, and
-/// whether it was decoded to the same samples.
+/// The four lines of a trial: how many samples there were and how many decisions they took, the
+/// code in hexadecimal, and whether it was decoded to the same samples.
 pub(crate) fn report<A: Allocator>(
     alloc: A,
     samples: u64,

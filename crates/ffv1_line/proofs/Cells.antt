@@ -6,8 +6,8 @@ use Rattle.ffv1_range.specs.Table.{Table}
 use Rattle.ffv1_range.specs.Reading.{Reading}
 use Rattle.ffv1_range.proofs.Steps.{follows_none}
 use Rattle.ffv1_plane.specs.Quantisation.{Set}
-use Rattle.ffv1_line.specs.Cell.{Cell, seen, Shows, Above, Agrees, cell_of}
-use Rattle.ffv1_line.specs.Decoded.{Lined, Told, CellRead}
+use Rattle.ffv1_line.specs.Cell.{Cell, seen, Shows, Above, BeginsWith, Rolls, cell_of}
+use Rattle.ffv1_line.specs.Decoded.{Lined, RowsRead, CellRead}
 use Rattle.ffv1_line.proofs.Joined.{rows_next}
 use Rattle.std.proofs.Common.{take, drop, zero, add-one}
 use Rattle.std.proofs.lemmas.List.{get_or-take, get_or-drop}
@@ -17,13 +17,6 @@ use Rattle.ffv1_range.proofs.Steps.{puts_none}
 use Rattle.ffv1_line.specs.Row.{row_steps, cell_steps, chosen_row, chosen_rows}
 use Rattle.ffv1_line.specs.Encoded.{Written}
 use Rattle.ffv1_line.proofs.Joined.{puts_next}
-
--- the rolling lines are the rows above, whatever the cell that begins with these samples
-pub record Rolls (width : ℕ) (samples two one : List ℕ) (n : ℕ) : Type 0 where
-  pub long : length samples ≡ n * width
-  pub two_long : length two ≡ width
-  pub one_long : length one ≡ width
-  pub above : (c : Cell) → c.width ≡ width → Agrees c samples n → Above c n two one
 
 seen_over : (c : Cell) (x : ℕ) → seen c (suc (suc x)) 0 ≡ 0
 unfolding seen
@@ -42,7 +35,7 @@ rolls_first width = record {
   long = omega arith;
   two_long = length-replicate {A = ℕ} width 0;
   one_long = length-replicate {A = ℕ} width 0;
-  above = λ c same agrees. record {
+  above = λ c same begins. record {
     wide = length-replicate {A = ℕ} width 0 ∙ sym same;
     second = record { each = λ x h. get_or-replicate {A = ℕ} width x 0 0 (omega arith) ∙ sym (seen_over c x) };
     first = record { each = λ x h. get_or-replicate {A = ℕ} width x 0 0 (omega arith) ∙ sym (seen_above c x) };
@@ -54,17 +47,17 @@ in_rows w x y n h k =
     let more = mul-le-mul_left {m = suc y} {n = n} w k in
     omega arith
 
-agrees_before : (c : Cell) (samples cur : List ℕ) (n : ℕ) → length samples ≡ n * c.width → Agrees c (samples ++ cur) (n + 1) → Agrees c samples n
-agrees_before c samples cur n long agrees = record {
+begins_before : (c : Cell) (samples cur : List ℕ) (n : ℕ) → length samples ≡ n * c.width → BeginsWith c (samples ++ cur) (n + 1) → BeginsWith c samples n
+begins_before c samples cur n long begins = record {
   each = λ x y h k.
       let inside : y * c.width + x < length samples = rw long (in_rows c.width x y n h k) in
-      sym (get_or_append_left samples cur 0 (y * c.width + x) inside) ∙ agrees.each x y h (omega arith);
+      sym (get_or_append_left samples cur 0 (y * c.width + x) inside) ∙ begins.each x y h (omega arith);
 }
 
-agrees_row : (c : Cell) (samples cur : List ℕ) (n : ℕ) → length samples ≡ n * c.width → Agrees c (samples ++ cur) (n + 1) → Shows c (suc (suc n)) cur c.width
-agrees_row c samples cur n long agrees = record {
+begins_row : (c : Cell) (samples cur : List ℕ) (n : ℕ) → length samples ≡ n * c.width → BeginsWith c (samples ++ cur) (n + 1) → Shows c (suc (suc n)) cur c.width
+begins_row c samples cur n long begins = record {
   each = λ x h.
-      sym (get_or-append-add samples cur x 0) ∙ ap (λ k. get_or (samples ++ cur) (k + x) 0) long ∙ agrees.each x n h (omega arith) ∙ sym (seen_inside c x n h);
+      sym (get_or-append-add samples cur x 0) ∙ ap (λ k. get_or (samples ++ cur) (k + x) 0) long ∙ begins.each x n h (omega arith) ∙ sym (seen_inside c x n h);
 }
 
 pub rolls_next : (width : ℕ) (samples two one cur : List ℕ) (n : ℕ) → length cur ≡ width → Rolls width samples two one n → Rolls width (samples ++ cur) one cur (n + 1)
@@ -72,45 +65,45 @@ rolls_next width samples two one cur n wide rolls = record {
   long = length-append samples cur ∙ omega (arith, rolls.long);
   two_long = rolls.one_long;
   one_long = wide;
-  above = λ c same agrees.
+  above = λ c same begins.
       let long : length samples ≡ n * c.width = rw same rolls.long in
-      let above = rolls.above c same (agrees_before c samples cur n long agrees) in
+      let above = rolls.above c same (begins_before c samples cur n long begins) in
       let more : suc n ≡ n + 1 = omega arith in
       subst (λ k. Above c k one cur) more (record {
         wide = wide ∙ sym same;
         second = above.first;
-        first = agrees_row c samples cur n long agrees;
+        first = begins_row c samples cur n long begins;
       });
 }
 
-pub told_none : (t : Table) (set : Set) (bits : ℕ) (r : Reading) (states : List ℕ) (width : ℕ) → Told t set bits r states r states width [] 0
-told_none t set bits r states width = record {
+pub read_none : (t : Table) (set : Set) (bits : ℕ) (r : Reading) (states : List ℕ) (width : ℕ) → RowsRead t set bits r states r states width [] 0
+read_none t set bits r states width = record {
   residuals = [];
   count = refl;
-  rows = λ c same agrees. record { suits = tt; follows = follows_none t r states };
+  rows = λ c same begins. record { suits = tt; follows = follows_none t r states };
 }
 
-pub told_next : (t : Table) (set : Set) (bits : ℕ) (a b d : Reading) (states between after : List ℕ) (width : ℕ) (samples two one cur : List ℕ) (n : ℕ) →
-    length cur ≡ width → Rolls width samples two one n → Told t set bits a states b between width samples n → Lined t set bits b between d after two one cur (length cur) →
-    Told t set bits a states d after width (samples ++ cur) (n + 1)
-told_next t set bits a b d states between after width samples two one cur n wide rolls told lined = record {
-  residuals = told.residuals ++ (lined.residuals ∷ []);
-  count = length-append told.residuals (lined.residuals ∷ []) ∙ ap (λ k. k + 1) told.count;
-  rows = λ c same agrees.
+pub read_next : (t : Table) (set : Set) (bits : ℕ) (a b d : Reading) (states between after : List ℕ) (width : ℕ) (samples two one cur : List ℕ) (n : ℕ) →
+    length cur ≡ width → Rolls width samples two one n → RowsRead t set bits a states b between width samples n → Lined t set bits b between d after two one cur (length cur) →
+    RowsRead t set bits a states d after width (samples ++ cur) (n + 1)
+read_next t set bits a b d states between after width samples two one cur n wide rolls read lined = record {
+  residuals = read.residuals ++ (lined.residuals ∷ []);
+  count = length-append read.residuals (lined.residuals ∷ []) ∙ ap (λ k. k + 1) read.count;
+  rows = λ c same begins.
       let long : length samples ≡ n * c.width = rw same rolls.long in
-      let before = agrees_before c samples cur n long agrees in
-      let row = agrees_row c samples cur n long agrees in
+      let before = begins_before c samples cur n long begins in
+      let row = begins_row c samples cur n long begins in
       let all : c.width ≡ length cur = same ∙ sym wide in
       let coded = lined.coded c n (rolls.above c same before) (subst (λ k. Shows c (suc (suc n)) cur k) all row) in
-      rows_next t set bits a b d states between after c told.residuals lined.residuals (told.rows c same before) (lined.count ∙ sym all) (rw (told.count) coded);
+      rows_next t set bits a b d states between after c read.residuals lined.residuals (read.rows c same before) (lined.count ∙ sym all) (rw (read.count) coded);
 }
 
-pub told_all : (t : Table) (set : Set) (bits : ℕ) (a b : Reading) (states after : List ℕ) (width n : ℕ) (samples : List ℕ) → Told t set bits a states b after width samples n →
+pub read_all : (t : Table) (set : Set) (bits : ℕ) (a b : Reading) (states after : List ℕ) (width n : ℕ) (samples : List ℕ) → RowsRead t set bits a states b after width samples n →
     CellRead t set bits a states b after width n samples
-told_all t set bits a b states after width n samples told = record {
-  residuals = told.residuals;
-  count = told.count;
-  rows = told.rows (cell_of width samples) refl (record { each = λ x y h k. refl });
+read_all t set bits a b states after width n samples read = record {
+  residuals = read.residuals;
+  count = read.count;
+  rows = read.rows (cell_of width samples) refl (record { each = λ x y h k. refl });
 }
 
 pub shows_over : (width : ℕ) (samples : List ℕ) (y : ℕ) → y < 2 → Shows (cell_of width samples) y (replicate width 0) width
@@ -127,7 +120,7 @@ chosen_none : (set : Set) (bits : ℕ) (c : Cell) → chosen_rows set bits c 0 �
 unfolding chosen_rows
 chosen_none set bits c = refl
 
-length-rows : (set : Set) (bits : ℕ) (c : Cell) (n : ℕ) → length (chosen_rows set bits c n) ≡ n
+pub length-rows : (set : Set) (bits : ℕ) (c : Cell) (n : ℕ) → length (chosen_rows set bits c n) ≡ n
 unfolding chosen_rows
 length-rows set bits c zero = refl
 length-rows set bits c (suc n) =
@@ -154,3 +147,14 @@ cell_next t set bits a b d states between after c n two one cur wide_cur wide_on
     let next = subst (λ k. Puts t b between d after (row_steps set c n 0 (chosen_row set bits c n k))) wide_cur next in
     let next = subst (λ k. Puts t b between d after (row_steps set c k 0 (chosen_row set bits c n c.width))) (sym (length-rows set bits c n)) next in
     rw (chosen_next set bits c n) (puts_next t set a b d states between after c (chosen_rows set bits c n) (chosen_row set bits c n c.width) puts next)
+
+-- from a row to the next
+pub above_top : (c : Cell) → Above c 0 (replicate c.width 0) (replicate c.width 0)
+above_top c = record {
+  wide = length-replicate {A = ℕ} c.width 0;
+  second = record { each = λ x h. get_or-replicate {A = ℕ} c.width x 0 0 h ∙ sym (seen_over c x) };
+  first = record { each = λ x h. get_or-replicate {A = ℕ} c.width x 0 0 h ∙ sym (seen_above c x) };
+}
+
+pub above_next : (c : Cell) (y : ℕ) (two one cur : List ℕ) → Above c y two one → length cur ≡ c.width → Shows c (suc (suc y)) cur c.width → Above c (suc y) one cur
+above_next c y two one cur above wide shows = record { wide = wide; second = above.first; first = shows }

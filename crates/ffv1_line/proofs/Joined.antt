@@ -28,7 +28,7 @@ pub cell_steps-append : (set : Set) (c : Cell) (y : ℕ) (rows : List (List ℤ)
     cell_steps set c y (rows ++ (qs ∷ [])) ≡ cell_steps set c y rows ++ row_steps set c (y + length rows) 0 qs
 cell_steps-append set c y rows qs = cell_steps-at set c y (y + length rows) rows qs refl
 
-rows_suit-append : (set : Set) (bits : ℕ) (c : Cell) (y n : ℕ) (rows : List (List ℤ)) (qs : List ℤ) → n ≡ y + length rows → length qs ≡ c.width →
+pub rows_suit-append : (set : Set) (bits : ℕ) (c : Cell) (y n : ℕ) (rows : List (List ℤ)) (qs : List ℤ) → n ≡ y + length rows → length qs ≡ c.width →
     RowsSuit set bits c y rows → AreSuiting set bits c n 0 qs → RowsSuit set bits c y (rows ++ (qs ∷ []))
 rows_suit-append set bits c y n [] qs is long are one =
     let same : n ≡ y = omega arith in

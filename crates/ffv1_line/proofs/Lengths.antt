@@ -28,7 +28,7 @@ digits_of_some n some small =
     let most : leading_zeros w32 n + suc top.0 ≡ 32 = top.1 in
     omega (arith, most)
 
-no_digits : leading_zeros w32 0 ≡ 32
+pub no_digits : leading_zeros w32 0 ≡ 32
 no_digits = leading_of_zero 32
 
 -- the decisions of a symbol
@@ -72,7 +72,7 @@ cell_length set c y (qs ∷ rows) small =
     let rest = cell_length set c (suc y) rows small.1 in
     length-append (row_steps set c y 0 qs) (cell_steps set c (suc y) rows) ∙ (omega (arith, first, rest))
 
-row_most : (qs : List ℤ) → AreSmall qs → row_decisions qs ≤ 63 * length qs
+pub row_most : (qs : List ℤ) → AreSmall qs → row_decisions qs ≤ 63 * length qs
 row_most [] small = omega arith
 row_most (q ∷ qs) small =
     let first = symbol_most q small.0 in

@@ -3,3 +3,10 @@ pub mod Joined
 pub mod Rows
 pub mod Suits
 pub mod Lengths
+pub mod SameRow
+pub mod SameRowAfter
+pub mod ThreeRows
+pub mod CellBack
+pub mod MostDecisions
+pub mod SamplesBelow
+pub mod RefusedRows

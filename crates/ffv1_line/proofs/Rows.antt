@@ -30,7 +30,7 @@ pub record Stands (two one cur : List ℕ) (x ll l tl t : ℕ) : Type 0 where
   pub each : (c : Cell) (y : ℕ) → Above c y two one → Shows c (suc (suc y)) cur x → Left c y x ll l tl t
 
 -- right of the cell stands its rightmost sample
-seen_clamped : (c : Cell) (x y : ℕ) → seen c (suc (suc (min x (c.width - 1)))) y ≡ seen c (suc (suc x)) y
+pub seen_clamped : (c : Cell) (x y : ℕ) → seen c (suc (suc (min x (c.width - 1)))) y ≡ seen c (suc (suc x)) y
 unfolding seen
 seen_clamped c x zero = refl
 seen_clamped c x (suc zero) = refl
@@ -90,7 +90,7 @@ abbrev pub scalars : ℕ → ℕ → ℕ → ℕ → ℕ → ℕ → Around
 scalars l t tl tr ll tt = record { l = l; t = t; tl = tl; tr = tr; ll = ll; tt = tt }
 
 -- the scalars are the neighbours
-around_is : (c : Cell) (y x : ℕ) (two one : List ℕ) (k ll l tl t : ℕ) → k ≡ min (x + 1) (length one - 1) → x < length one → Above c y two one → Left c y x ll l tl t →
+pub around_is : (c : Cell) (y x : ℕ) (two one : List ℕ) (k ll l tl t : ℕ) → k ≡ min (x + 1) (length one - 1) → x < length one → Above c y two one → Left c y x ll l tl t →
     scalars l t tl (get_or one k 0) ll (get_or two x 0) ≡ around c x y
 around_is c y x two one k ll l tl t is inside above left =
     let right = top_right c y two one x k is (omega arith) above in
@@ -177,7 +177,7 @@ written_none t set bits w states two one cur = record {
 }
 
 -- along a row that stands
-stands-shows : (c : Cell) (y : ℕ) (row : List ℕ) (x : ℕ) → Shows c y row (x + 1) → Shows c y row x
+pub stands-shows : (c : Cell) (y : ℕ) (row : List ℕ) (x : ℕ) → Shows c y row (x + 1) → Shows c y row x
 stands-shows c y row x shows = record { each = λ k h. shows.each k (omega arith) }
 
 pub stands_along : (two one cur : List ℕ) (x k ll l tl t : ℕ) → k ≡ min (x + 1) (length one - 1) → x < length cur → length one ≡ length cur →

@@ -8,7 +8,8 @@ pub record Cell : Type 0 where
   pub width : ℕ
   pub at : ℕ → ℕ → ℕ
 
--- RFC 9043, 3.1 and 3.2; columns are counted from two to the left of the cell, rows from two above it
+-- RFC 9043, 3.1 and 3.2; columns are counted from two to the left of the cell, rows from two above
+-- it
 unfoldable pub seen : Cell → ℕ → ℕ → ℕ
 seen c zero y = 0
 seen c (suc zero) zero = 0
@@ -39,9 +40,16 @@ pub record Above (c : Cell) (y : ℕ) (two one : List ℕ) : Type 0 where
   pub first : Shows c (suc y) one c.width
 
 -- the first n rows of a cell are these samples, row by row
-pub record Agrees (c : Cell) (samples : List ℕ) (n : ℕ) : Type 0 where
+pub record BeginsWith (c : Cell) (samples : List ℕ) (n : ℕ) : Type 0 where
   pub each : (x y : ℕ) → x < c.width → y < n → slice_index samples (y * c.width + x) ≡ c.at x y
 
 -- the cell of some samples, row by row
 abbrev pub cell_of : ℕ → List ℕ → Cell
 cell_of width samples = record { width = width; at = λ x y. slice_index samples (y * width + x) }
+
+-- the rolling rows are those above row n, whatever the cell that begins with these samples
+pub record Rolls (width : ℕ) (samples two one : List ℕ) (n : ℕ) : Type 0 where
+  pub long : length samples ≡ n * width
+  pub two_long : length two ≡ width
+  pub one_long : length one ≡ width
+  pub above : (c : Cell) → c.width ≡ width → BeginsWith c samples n → Above c n two one

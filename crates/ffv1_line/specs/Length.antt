@@ -1,6 +1,8 @@
 -- How many decisions residuals take.
-use Rattle.std.specs.Prelude.{ℕ, ◌+◌, ◌-◌, ◌*◌, ◌^◌, ◌<◌, List, [], ◌∷◌, length, ℤ, unsigned_abs}
+use Rattle.std.specs.Prelude.{ℕ, ◌+◌, ◌-◌, ◌*◌, ◌^◌, ◌<◌, ◌≤◌, List, [], ◌∷◌, length, ℤ}
+use Rattle.std.specs.Prelude.{unsigned_abs}
 use Rattle.std.specs.Int.{w32, leading_zeros}
+use Rattle.ffv1_range.specs.Counts.{Counts, GoesOn, total}
 
 -- how many binary digits a number below 2 ^ 32 has: none for 0
 abbrev pub binary_digits : ℕ → ℕ
@@ -32,3 +34,9 @@ AreSmallRows (qs ∷ rows) = AreSmall qs × AreSmallRows rows
 abbrev pub residuals_in : List (List ℤ) → ℕ
 residuals_in [] = 0
 residuals_in (qs ∷ rows) = length qs + residuals_in rows
+
+-- the counters went on by at most so many decisions
+pub record CountedAtMost (old new : Counts) (most : ℕ) : Type 0 where
+  pub count : ℕ
+  pub few : count ≤ most
+  pub goes_on : GoesOn (total old) count (total new)

@@ -3,3 +3,4 @@ pub mod Row
 pub mod Decoded
 pub mod Encoded
 pub mod Length
+pub mod Coded

@@ -17,7 +17,8 @@ sample_steps set a q = shifted (size_of set a * 32) (signed_steps q)
 abbrev pub refused_steps : Set → Around → List Step
 refused_steps set a = shifted (size_of set a * 32) too_long
 
--- a residual suits a sample at a place: with the place's prediction it makes the sample (RFC 9043, 3.8)
+-- a residual suits a sample at a place: with the place's prediction it makes the sample (RFC 9043,
+-- 3.8)
 abbrev pub SuitsAt : Set → ℕ → Around → ℕ → ℤ → Type 0
 SuitsAt set bits a s q = IsSuiting bits (predicted a) (flip_of set a) s q
 
@@ -30,11 +31,13 @@ row_steps set c y x (q ∷ qs) = sample_steps set (around c x y) q ++ row_steps 
 abbrev pub AreSuiting : Set → ℕ → Cell → ℕ → ℕ → List ℤ → Type 0
 AreSuiting set bits c y x [] = Unit {0}
 AreSuiting set bits c y x (q ∷ qs) =
-    SuitsAt set bits (around c x y) (seen c (suc (suc x)) (suc (suc y))) q × AreSuiting set bits c y (suc x) qs
+    SuitsAt set bits (around c x y) (seen c (suc (suc x)) (suc (suc y))) q ×
+    AreSuiting set bits c y (suc x) qs
 
 -- the residual that an encoder takes
 abbrev pub chosen_at : Set → ℕ → Cell → ℕ → ℕ → ℤ
-chosen_at set bits c y x = chosen_of bits (predicted (around c x y)) (flip_of set (around c x y)) (seen c (suc (suc x)) (suc (suc y)))
+chosen_at set bits c y x = chosen_of bits (predicted (around c x y)) (flip_of set (around c x y))
+    (seen c (suc (suc x)) (suc (suc y)))
 
 -- those of the first n places of row y
 unfoldable pub chosen_row : Set → ℕ → Cell → ℕ → ℕ → List ℤ

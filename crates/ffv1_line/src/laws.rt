@@ -1,57 +1,281 @@
 //! Laws of the definitions.
 
-ghost use Rattle.std.specs.Prelude.{◌≡◌, ℕ, ℤ, unsigned_abs, ◌+◌, ◌-◌, ◌*◌, ◌^◌, ◌<◌, ◌≤◌, List, [], ◌∷◌, ◌++◌, length};
-ghost use Rattle.ffv1_range.specs.Reading.{Reading};
+ghost use Rattle.std.specs.Prelude.{◌≡◌, ℕ, ℤ, unsigned_abs, ◌+◌, ◌-◌, ◌*◌, ◌^◌, ◌<◌, ◌≤◌, List};
+ghost use Rattle.std.specs.Prelude.{[], ◌∷◌, ◌++◌, length, slice_index, replicate, take, drop};
+ghost use Rattle.ffv1_range.specs.Reading.{Reading, At};
 ghost use Rattle.ffv1_range.specs.Writing.{Writing};
-ghost use Rattle.ffv1_range.specs.Table.{Table};
+ghost use Rattle.ffv1_range.specs.Interval.{Decision, interval_of};
+ghost use Rattle.ffv1_range.specs.Codes.{AreBytes, AreStates, sentinel_of, full_of};
+ghost use Rattle.ffv1_range.specs.Table.{Table, IsTable};
 ghost use Rattle.ffv1_range.specs.Puts.{Puts};
-ghost use Rattle.ffv1_range.specs.History.{AreBelow};
+ghost use Rattle.ffv1_range.specs.Follows.{Follows};
+ghost use Rattle.ffv1_range.specs.History.{AreBelow, decisions_after};
 ghost use Rattle.ffv1_plane.specs.declared.prediction.Around.{Around};
 ghost use Rattle.ffv1_plane.specs.Quantisation.{Set, contexts_of};
 ghost use Rattle.ffv1_plane.specs.Context.{size_of};
-ghost use Rattle.ffv1_line.specs.Cell.{Cell};
+ghost use Rattle.ffv1_line.specs.Cell.{Cell, Above, Shows, Rolls, cell_of};
 ghost use Rattle.ffv1_line.specs.Row.{AreSuiting, row_steps, chosen_row, chosen_rows, cell_steps};
-ghost use Rattle.ffv1_line.specs.Length.{decisions_of, row_decisions, cell_decisions, AreSmall, AreSmallRows, residuals_in};
-ghost use Rattle.ffv1_range.specs.Symbols.{signed_steps};
-ghost use Rattle.ffv1_line.specs.Decoded.{Coded, Rows};
+ghost use Rattle.ffv1_line.specs.Length.{CountedAtMost, binary_digits, decisions_of, row_decisions};
+ghost use Rattle.ffv1_line.specs.Length.{cell_decisions, AreSmall, AreSmallRows, residuals_in};
+ghost use Rattle.ffv1_range.specs.Symbols.{Step, signed_steps};
+ghost use Rattle.ffv1_line.specs.Decoded.{Coded, Rows, RowsSuit, Lined, Refused, RowsRead};
+ghost use Rattle.ffv1_line.specs.Decoded.{CellRead};
+ghost use Rattle.ffv1_line.specs.Encoded.{Written};
+ghost use Rattle.ffv1_line.specs.Coded.{AreSame, CodesRow, RefusesRow, CodesRowBy, RefusesRowBy};
+ghost use Rattle.ffv1_line.specs.Coded.{CodesCellBy, StandsBehind};
 
 /// The rows of a cell, one after the other, are the cell's list.
 pub fn joined()
-    ensures { (set : Set) (c : Cell) (y : ℕ) (rows : List (List ℤ)) (qs : List ℤ) → cell_steps set c y (rows ++ (qs ∷ [])) ≡ cell_steps set c y rows ++ row_steps set c (y + length rows) 0 qs }
+    ensures { (set : Set) (c : Cell) (y : ℕ) (rows : List (List ℤ)) (qs : List ℤ) →
+        cell_steps set c y (rows ++ (qs ∷ [])) ≡ cell_steps set c y rows ++ row_steps set c
+        (y + length rows) 0 qs }
 {}
 
 /// The slots of a row are those of the set's contexts.
 pub fn slots()
-    ensures { (set : Set) (c : Cell) (y x : ℕ) (qs : List ℤ) → ((a : Around) → size_of set a < contexts_of set) → AreBelow (row_steps set c y x qs) (contexts_of set * 32) }
+    ensures { (set : Set) (c : Cell) (y x : ℕ) (qs : List ℤ) →
+        ((a : Around) → size_of set a < contexts_of set) →
+        AreBelow (row_steps set c y x qs) (contexts_of set * 32) }
 {}
 
 /// A decoder that read some rows of a cell, and then the next, read these rows.
 pub fn read_next()
-    ensures { (t : Table) (set : Set) (bits : ℕ) (a b d : Reading) (states between after : List ℕ) (c : Cell) (rows : List (List ℤ)) (qs : List ℤ) →
-        Rows t set bits a states b between c rows → length qs ≡ c.width → Coded t set bits b between d after qs c (length rows) → Rows t set bits a states d after c (rows ++ (qs ∷ [])) }
+    ensures { (t : Table) (set : Set) (bits : ℕ) (a b d : Reading) (states between after : List ℕ)
+        (c : Cell) (rows : List (List ℤ)) (qs : List ℤ) →
+        Rows t set bits a states b between c rows → length qs ≡ c.width →
+        Coded t set bits b between d after qs c (length rows) →
+        Rows t set bits a states d after c (rows ++ (qs ∷ [])) }
 {}
 
 /// An encoder that wrote some rows of a cell, and then the next, wrote these rows.
 pub fn wrote_next()
-    ensures { (t : Table) (set : Set) (a b d : Writing) (states between after : List ℕ) (c : Cell) (rows : List (List ℤ)) (qs : List ℤ) →
-        Puts t a states b between (cell_steps set c 0 rows) → Puts t b between d after (row_steps set c (length rows) 0 qs) → Puts t a states d after (cell_steps set c 0 (rows ++ (qs ∷ []))) }
+    ensures { (t : Table) (set : Set) (a b d : Writing) (states between after : List ℕ) (c : Cell)
+        (rows : List (List ℤ)) (qs : List ℤ) →
+        Puts t a states b between (cell_steps set c 0 rows) →
+        Puts t b between d after (row_steps set c (length rows) 0 qs) →
+        Puts t a states d after (cell_steps set c 0 (rows ++ (qs ∷ []))) }
 {}
 
-/// What an encoder writes of a row are residuals that suit its samples, each with a symbol; one for each sample.
+/// What an encoder writes of a row, and of the rows of a cell, are residuals that suit their
+/// samples, one for each sample.
 pub fn chosen()
-    ensures long { (set : Set) (bits : ℕ) (c : Cell) (y n : ℕ) → length (chosen_row set bits c y n) ≡ n }
-    ensures suit { (set : Set) (bits : ℕ) (c : Cell) (y n : ℕ) → 0 < bits → bits < 32 → ((i k : ℕ) → c.at i k < 2 ^ bits) → AreSuiting set bits c y 0 (chosen_row set bits c y n) }
+    ensures long { (set : Set) (bits : ℕ) (c : Cell) (y n : ℕ) →
+        length (chosen_row set bits c y n) ≡ n }
+    ensures suit { (set : Set) (bits : ℕ) (c : Cell) (y n : ℕ) → 0 < bits → bits < 32 →
+        0 < c.width →
+        ((x : ℕ) → x < c.width → c.at x y < 2 ^ bits) →
+        AreSuiting set bits c y 0 (chosen_row set bits c y n) }
+    ensures rows { (set : Set) (bits : ℕ) (c : Cell) (n : ℕ) →
+        length (chosen_rows set bits c n) ≡ n }
+    ensures rows_suit { (set : Set) (bits : ℕ) (c : Cell) (n : ℕ) → 0 < bits → bits < 32 →
+        0 < c.width →
+        ((x y : ℕ) → x < c.width → y < n → c.at x y < 2 ^ bits) →
+        RowsSuit set bits c 0 (chosen_rows set bits c n) }
 {}
 
-/// A residual of n binary digits takes 2 n + 1 decisions, at most 63; a row and a cell take those of their residuals, at slots of
-/// the set's contexts; and each residual that an encoder takes of a cell has a symbol.
+/// A residual of n binary digits takes 2 n + 1 decisions, at most 63; a row and a cell take those
+/// of their residuals, at slots of the set's contexts; and each residual that an encoder takes of a
+/// cell has a symbol.
 pub fn lengths()
     ensures symbol { (v : ℤ) → unsigned_abs v < 2 ^ 31 → length (signed_steps v) ≡ decisions_of v }
     ensures most { (v : ℤ) → unsigned_abs v < 2 ^ 31 → decisions_of v ≤ 63 }
-    ensures row { (set : Set) (c : Cell) (y x : ℕ) (qs : List ℤ) → AreSmall qs → length (row_steps set c y x qs) ≡ row_decisions qs }
-    ensures cell { (set : Set) (c : Cell) (y : ℕ) (rows : List (List ℤ)) → AreSmallRows rows → length (cell_steps set c y rows) ≡ cell_decisions rows }
-    ensures cell_most { (rows : List (List ℤ)) → AreSmallRows rows → cell_decisions rows ≤ 63 * residuals_in rows }
-    ensures cell_slots { (set : Set) (c : Cell) (y : ℕ) (rows : List (List ℤ)) → ((a : Around) → size_of set a < contexts_of set) → AreBelow (cell_steps set c y rows) (contexts_of set * 32) }
-    ensures chosen_small { (set : Set) (bits : ℕ) (c : Cell) (n : ℕ) → 0 < bits → 2 ^ (bits - 1) < 2 ^ 31 → AreSmallRows (chosen_rows set bits c n) }
-    ensures chosen_many { (set : Set) (bits : ℕ) (c : Cell) (n : ℕ) → residuals_in (chosen_rows set bits c n) ≡ n * c.width }
+    ensures row { (set : Set) (c : Cell) (y x : ℕ) (qs : List ℤ) → AreSmall qs →
+        length (row_steps set c y x qs) ≡ row_decisions qs }
+    ensures cell { (set : Set) (c : Cell) (y : ℕ) (rows : List (List ℤ)) → AreSmallRows rows →
+        length (cell_steps set c y rows) ≡ cell_decisions rows }
+    ensures cell_most { (rows : List (List ℤ)) → AreSmallRows rows →
+        cell_decisions rows ≤ 63 * residuals_in rows }
+    ensures cell_slots { (set : Set) (c : Cell) (y : ℕ) (rows : List (List ℤ)) →
+        ((a : Around) → size_of set a < contexts_of set) →
+        AreBelow (cell_steps set c y rows) (contexts_of set * 32) }
+    ensures chosen_small { (set : Set) (bits : ℕ) (c : Cell) (n : ℕ) → 0 < bits →
+        2 ^ (bits - 1) < 2 ^ 31 → AreSmallRows (chosen_rows set bits c n) }
+    ensures chosen_many { (set : Set) (bits : ℕ) (c : Cell) (n : ℕ) →
+        residuals_in (chosen_rows set bits c n) ≡ n * c.width }
+{}
+
+/// Behind one past the bytes code one row at most, below two given rows: residuals of so many
+/// samples that suit them are one list and make one row; a row that is refused is no beginning of
+/// one that is coded, and is refused at one place.
+pub fn only_row()
+    ensures one { (bytes : List ℕ) (t : Table) (base : ℕ) (past : List Step) (set : Set) (bits : ℕ)
+        (c d : Cell) (y z : ℕ) (two one : List ℕ) (ps qs : List ℤ) →
+        AreBytes bytes → IsTable t.floor t.one → 0 < length one → Above c y two one →
+        Above d z two one →
+        length ps ≡ length qs → CodesRow bytes t base past set bits c y ps →
+        CodesRow bytes t base past set bits d z qs → (ps ≡ qs) × AreSame c y d z (length ps) }
+    ensures whole_or_refused { (bytes : List ℕ) (t : Table) (base : ℕ) (past : List Step)
+        (set : Set)
+        (bits : ℕ) (c d : Cell) (y z : ℕ) (two one : List ℕ) (ps qs : List ℤ) →
+        AreBytes bytes → IsTable t.floor t.one → 0 < length one → Above c y two one →
+        Above d z two one →
+        length qs < length ps → CodesRow bytes t base past set bits c y ps →
+        RefusesRow bytes t base past set bits d z qs → ⊥ }
+    ensures one_refusal { (bytes : List ℕ) (t : Table) (base : ℕ) (past : List Step) (set : Set)
+        (bits : ℕ) (c d : Cell) (y z : ℕ) (two one : List ℕ) (ps qs : List ℤ) →
+        AreBytes bytes → IsTable t.floor t.one → 0 < length one → Above c y two one →
+        Above d z two one →
+        RefusesRow bytes t base past set bits c y ps →
+        RefusesRow bytes t base past set bits d z qs →
+        (ps ≡ qs) × AreSame c y d z (length ps) }
+{}
+
+/// The same behind any decisions, by any states.
+pub fn only_row_by_states()
+    ensures one { (bytes : List ℕ) (before : List Decision) (t : Table) (states : List ℕ)
+        (set : Set)
+        (bits : ℕ) (c d : Cell) (y z : ℕ) (two one : List ℕ) (ps qs : List ℤ) →
+        AreBytes bytes → 0 < length one → Above c y two one → Above d z two one →
+        length ps ≡ length qs → CodesRowBy bytes before t states set bits c y ps →
+        CodesRowBy bytes before t states set bits d z qs → (ps ≡ qs) × AreSame c y d z (length ps) }
+    ensures whole_or_refused { (bytes : List ℕ) (before : List Decision) (t : Table)
+        (states : List ℕ)
+        (set : Set) (bits : ℕ) (c d : Cell) (y z : ℕ) (two one : List ℕ) (ps qs : List ℤ) →
+        AreBytes bytes → 0 < length one → Above c y two one → Above d z two one →
+        length qs < length ps → CodesRowBy bytes before t states set bits c y ps →
+        RefusesRowBy bytes before t states set bits d z qs → ⊥ }
+    ensures one_refusal { (bytes : List ℕ) (before : List Decision) (t : Table) (states : List ℕ)
+        (set : Set) (bits : ℕ) (c d : Cell) (y z : ℕ) (two one : List ℕ) (ps qs : List ℤ) →
+        AreBytes bytes → 0 < length one → Above c y two one → Above d z two one →
+        RefusesRowBy bytes before t states set bits c y ps →
+        RefusesRowBy bytes before t states set bits d z qs →
+        (ps ≡ qs) × AreSame c y d z (length ps) }
+{}
+
+/// A row that its decoder's bytes code by its states is read as it is, and is not refused.
+pub fn row_comes_back()
+    ensures read { (t : Table) (set : Set) (bits : ℕ) (old new : Reading)
+        (states after two one cur : List ℕ) (before : List Decision) (c : Cell) (y : ℕ)
+        (qs : List ℤ) →
+        0 < length one → Above c y two one → length cur ≡ c.width → length qs ≡ c.width →
+        At old (interval_of before) → AreBytes old.bytes →
+        CodesRowBy old.bytes before t states set bits c y qs →
+        Lined t set bits old states new after two one cur (length cur) →
+        Shows c (y + 2) cur c.width × Follows t old states new after (row_steps set c y 0 qs) }
+    ensures not_refused { (t : Table) (set : Set) (bits : ℕ) (old new : Reading)
+        (states after two one cur : List ℕ) (before : List Decision) (c : Cell) (y x : ℕ)
+        (qs : List ℤ) →
+        0 < length one → Above c y two one → length qs ≡ c.width → x < c.width →
+        At old (interval_of before) → AreBytes old.bytes →
+        CodesRowBy old.bytes before t states set bits c y qs →
+        Refused t set bits old states new after two one cur x → ⊥ }
+{}
+
+/// So are the rows of a cell that its bytes code, one after the other.
+pub fn cell_comes_back()
+    ensures first { (before : List Decision) (t : Table) (states : List ℕ) (set : Set) (bits : ℕ)
+        (c : Cell) (rows : List (List ℤ)) (now : Reading) → At now (interval_of before) →
+        CodesCellBy now.bytes before t states set bits c rows →
+        StandsBehind before t states set bits c rows 0 now states }
+    ensures next { (before : List Decision) (t : Table) (states : List ℕ) (set : Set) (bits : ℕ)
+        (c : Cell) (rows : List (List ℤ)) (y : ℕ) (now new : Reading)
+        (between after two one cur : List ℕ) →
+        0 < c.width → y < length rows → Above c y two one → length cur ≡ c.width →
+        StandsBehind before t states set bits c rows y now between →
+        Lined t set bits now between new after two one cur (length cur) →
+        Shows c (y + 2) cur c.width ×
+        StandsBehind before t states set bits c rows (y + 1) new after }
+    ensures not_refused { (before : List Decision) (t : Table) (states : List ℕ) (set : Set)
+        (bits : ℕ)
+        (c : Cell) (rows : List (List ℤ)) (y x : ℕ) (now new : Reading)
+        (between after two one cur : List ℕ) →
+        y < length rows → Above c y two one → x < c.width →
+        StandsBehind before t states set bits c rows y now between →
+        Refused t set bits now between new after two one cur x → ⊥ }
+{}
+
+/// What an encoder wrote is coded by either ending, behind what it had written before: the rows of
+/// a cell, if they suit.
+pub fn written_is_coded()
+    ensures sentinel { (before : List Decision) (t : Table) (old w : Writing)
+        (states after : List ℕ)
+        (set : Set) (bits : ℕ) (c : Cell) (rows : List (List ℤ)) →
+        AreStates before → old.interval ≡ interval_of before → RowsSuit set bits c 0 rows →
+        Puts t old states w after (cell_steps set c 0 rows) →
+        CodesCellBy (sentinel_of w.interval) before t states set bits c rows }
+    ensures full { (before : List Decision) (t : Table) (old w : Writing) (states after : List ℕ)
+        (set : Set) (bits : ℕ) (c : Cell) (rows : List (List ℤ)) (behind : List ℕ) →
+        AreStates before → old.interval ≡ interval_of before → RowsSuit set bits c 0 rows →
+        AreBytes behind → Puts t old states w after (cell_steps set c 0 rows) →
+        CodesCellBy (full_of w.interval ++ behind) before t states set bits c rows }
+    ensures fresh_sentinel { (t : Table) (count : ℕ) (set : Set) (bits : ℕ) (c : Cell)
+        (rows : List (List ℤ)) → IsTable t.floor t.one → AreBelow (cell_steps set c 0 rows) count →
+        RowsSuit set bits c 0 rows →
+        CodesCellBy (sentinel_of (interval_of (decisions_after t [] (cell_steps set c 0 rows)))) []
+        t (replicate count 128) set bits c rows }
+    ensures fresh_full { (t : Table) (count : ℕ) (set : Set) (bits : ℕ) (c : Cell)
+        (rows : List (List ℤ)) (behind : List ℕ) → IsTable t.floor t.one →
+        AreBelow (cell_steps set c 0 rows) count → RowsSuit set bits c 0 rows → AreBytes behind →
+        CodesCellBy (full_of (interval_of (decisions_after t [] (cell_steps set c 0 rows)))
+        ++ behind) [] t (replicate count 128) set bits c rows }
+{}
+
+/// The rows two and one above are 0 at a cell's top, and from a row to the next they move by one.
+pub fn rolling()
+    ensures top { (c : Cell) → Above c 0 (replicate c.width 0) (replicate c.width 0) }
+    ensures next { (c : Cell) (y : ℕ) (two one cur : List ℕ) → Above c y two one →
+        length cur ≡ c.width → Shows c (y + 2) cur c.width → Above c (y + 1) one cur }
+    ensures row { (width y : ℕ) (samples : List ℕ) →
+        Shows (cell_of width samples) (y + 2) (take width (drop (y * width) samples)) width }
+{}
+
+/// A decoder that read rows, one below the other, read the cell of their samples.
+pub fn cell_is_read()
+    ensures top { (width : ℕ) → Rolls width [] (replicate width 0) (replicate width 0) 0 }
+    ensures rolls { (width n : ℕ) (samples two one cur : List ℕ) → length cur ≡ width →
+        Rolls width samples two one n → Rolls width (samples ++ cur) one cur (n + 1) }
+    ensures none { (t : Table) (set : Set) (bits : ℕ) (r : Reading) (states : List ℕ) (width : ℕ) →
+        RowsRead t set bits r states r states width [] 0 }
+    ensures next { (t : Table) (set : Set) (bits : ℕ) (a b d : Reading)
+        (states between after : List ℕ)
+        (width n : ℕ) (samples two one cur : List ℕ) → length cur ≡ width →
+        Rolls width samples two one n →
+        RowsRead t set bits a states b between width samples n →
+        Lined t set bits b between d after two one cur (length cur) →
+        RowsRead t set bits a states d after width (samples ++ cur) (n + 1) }
+    ensures all { (t : Table) (set : Set) (bits : ℕ) (a b : Reading) (states after : List ℕ)
+        (width n : ℕ) (samples : List ℕ) → RowsRead t set bits a states b after width samples n →
+        CellRead t set bits a states b after width n samples }
+{}
+
+/// Samples that were read have `bits` bits.
+pub fn samples_below()
+    ensures read { (t : Table) (set : Set) (bits : ℕ) (old new : Reading)
+        (states after two one cur : List ℕ) (n : ℕ) → n ≤ length one →
+        Lined t set bits old states new after two one cur n →
+        (x : ℕ) → x < n → slice_index cur x < 2 ^ bits }
+    ensures refused { (t : Table) (set : Set) (bits : ℕ) (old new : Reading)
+        (states after two one cur : List ℕ) (n : ℕ) → n ≤ length one →
+        Refused t set bits old states new after two one cur n →
+        (x : ℕ) → x < n → slice_index cur x < 2 ^ bits }
+{}
+
+/// A residual that was read has a symbol; so a sample that was read takes at most 63 decisions, a
+/// symbol that is refused 32, and a sample of `bits` bits that was written `2 * bits + 1`.
+pub fn most_decisions()
+    ensures small { (t : Table) (set : Set) (bits : ℕ) (old new : Reading)
+        (states after two one cur : List ℕ) (n : ℕ) → n ≤ length one →
+        (l : Lined t set bits old states new after two one cur n) → AreSmall l.residuals }
+    ensures small_refused { (t : Table) (set : Set) (bits : ℕ) (old new : Reading)
+        (states after two one cur : List ℕ) (n : ℕ) → n ≤ length one →
+        (r : Refused t set bits old states new after two one cur n) → AreSmall r.residuals }
+    ensures read { (t : Table) (set : Set) (bits : ℕ) (old new : Reading)
+        (states after two one cur : List ℕ) (n : ℕ) → n ≤ length one →
+        Lined t set bits old states new after two one cur n →
+        CountedAtMost old.counts new.counts (63 * n) }
+    ensures refused { (t : Table) (set : Set) (bits : ℕ) (old new : Reading)
+        (states after two one cur : List ℕ) (n : ℕ) → n ≤ length one →
+        Refused t set bits old states new after two one cur n →
+        CountedAtMost old.counts new.counts (63 * n + 32) }
+    ensures written { (t : Table) (set : Set) (bits : ℕ) (old new : Writing)
+        (states after two one cur : List ℕ) (n : ℕ) → 0 < bits → bits < 32 → n ≤ length one →
+        Written t set bits old states new after two one cur n →
+        CountedAtMost old.counts new.counts ((2 * bits + 1) * n) }
+{}
+
+/// A number has d binary digits where it is at least 2^(d-1) and below 2^d, and 0 has none.
+pub fn digits()
+    ensures least { (n : ℕ) → 0 < n → n < 2 ^ 32 → 2 ^ (binary_digits n - 1) ≤ n }
+    ensures most { (n : ℕ) → n < 2 ^ 32 → n < 2 ^ binary_digits n }
+    ensures none { binary_digits 0 ≡ 0 }
 {}

@@ -1,14 +1,33 @@
-//! One row of one cell of a plane, coded and decoded (RFC 9043, 3 and 4.7).
+//! One row of one cell of a plane, coded and decoded (RFC 9043, 3.1 to 3.8 and 4.7).
+//!
+//! A cell is the part of a plane that one slice holds. `encode_line` puts the residuals of a row's
+//! samples to a range encoder, and `decode_line` reads them back and makes the samples. Both are
+//! lent the rows two and one above, which are zeros at the top of a cell and roll from a row to the
+//! next (`RollingRows`), and the states of the plane's class, 32 for each context of its
+//! quantisation table set, which `reset` makes fresh at the begin of a slice.
+//!
+//! ```text
+//! encode_line(&mut encoder, &table, &set, &mut states, &rows.two, &rows.one, &rows.cur, 8)?;
+//! rows.turn();
+//! let bytes = encoder.finish_sentinel()?;
+//! ```
+//!
+//! What each call says is by the coordinates of the standard, for every cell of which these are
+//! rows; `laws` has what follows: bytes code one row at most, and what was written comes back.
 #![tactic(auto)]
 
 pub mod decode;
 pub mod encode;
+pub mod fault;
 pub mod laws;
 mod neighbours;
+pub mod rolling;
 pub mod states;
 
-pub use decode::{TooLong, decode_line};
+pub use decode::decode_line;
 pub use encode::encode_line;
+pub use fault::TooLong;
+pub use rolling::RollingRows;
 pub use states::reset;
 
 #[cfg(test)]

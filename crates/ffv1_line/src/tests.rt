@@ -1,14 +1,21 @@
 //! Rows in both directions, beside values computed outside the program from the standard's text.
 
-ghost use Rattle.std.specs.Prelude.{◌≡◌, ◌*◌, ◌^◌, ◌<◌, ◌⊎◌, IsTrue, length, replicate, unsigned_abs};
+ghost use Rattle.std.specs.Prelude.{◌≡◌, ◌*◌, ◌^◌, ◌<◌, ◌⊎◌, IsTrue, length, replicate};
+ghost use Rattle.std.specs.Prelude.{unsigned_abs};
 ghost use Rattle.ffv1_plane.specs.Quantisation.{contexts_of};
 ghost use Rattle.ffv1_range.specs.Symbols.{AreHeld, AllHeld};
 
-use crate::{TooLong, decode_line, encode_line};
+use crate::{RollingRows, TooLong, decode_line, encode_line};
 use ffv1_plane::{Around, QuantSet, context, predict, residual_of};
 use ffv1_range::{RangeDecoder, RangeEncoder, StateTable};
 use std::process::Abort;
 use std::test::Fail;
+use thiserror::Error;
+
+/// Rows of a test have other lengths than one another, or none.
+#[derive(Clone, Copy, Debug, Error)]
+#[error("rows of other lengths")]
+struct OtherLengths;
 
 /// Whether the rows two and one above have the length of a row, of at least one sample.
 fn are_rows(two: &[u16], one: &[u16], row: &[u16]) -> bool
@@ -36,13 +43,39 @@ fn encode_rows(
     let mut two = zeros;
     let mut one = zeros;
     'rows: for row in rows {
-        if are_rows(two, one, row) {
-            encode_line(encoder, table, set, states, two, one, row, bits)?;
+        if !are_rows(two, one, row) {
+            return Err(OtherLengths.into());
         }
+        encode_line(encoder, table, set, states, two, one, row, bits)?;
         two = one;
         one = row;
     }
     Ok(())
+}
+
+/// Codes rows, with fresh states.
+fn encode_fresh(
+    rt: &HostRuntime,
+    encoder: &mut RangeEncoder,
+    table: &StateTable,
+    set: &QuantSet,
+    zeros: &[u16],
+    rows: &[&[u16]],
+    bits: u8,
+) -> Result<(), Fail>
+    requires bits { (bits ≡ 8) ⊎ (bits ≡ 9) }
+    requires fresh { AreHeld table.now (replicate 32 128) }
+{
+    let mut states = vec![in rt.alloc(); 128u8; set.contexts() as usize * 32]?;
+    encode_rows(
+        encoder,
+        table,
+        set,
+        states.as_mut_slice(),
+        zeros,
+        rows,
+        bits,
+    )
 }
 
 /// The encoder of rows, with fresh states.
@@ -57,21 +90,13 @@ fn encoder_of(
     requires bits { (bits ≡ 8) ⊎ (bits ≡ 9) }
     requires fresh { AreHeld table.now (replicate 32 128) }
 {
-    let mut states = vec![in rt.alloc(); 128u8; set.contexts() as usize * 32]?;
     let mut encoder = RangeEncoder::new(rt.alloc());
-    encode_rows(
-        &mut encoder,
-        table,
-        set,
-        states.as_mut_slice(),
-        zeros,
-        rows,
-        bits,
-    )?;
+    encode_fresh(rt, &mut encoder, table, set, zeros, rows, bits)?;
     Ok(encoder)
 }
 
-/// Decodes a row.
+/// Decodes a row. Rows of other lengths are told as a refusal behind the row, which no decoder
+/// answers.
 fn decode_row(
     decoder: &mut RangeDecoder<'_>,
     table: &StateTable,
@@ -88,9 +113,10 @@ fn decode_row(
     ensures held { AllHeld table.now states.new }
     ensures long { length states.new ≡ length states.old }
 {
-    if are_rows(two, one, row) {
-        decode_line(decoder, table, set, states, two, one, row, bits)?;
+    if !are_rows(two, one, row) {
+        return Err(TooLong { x: row.len() });
     }
+    decode_line(decoder, table, set, states, two, one, row, bits)?;
     Ok(())
 }
 
@@ -249,16 +275,7 @@ fn keeps_states_of_classes_apart(rt: HostRuntime) -> Result<(), Fail> {
     let table = StateTable::standard();
     let set = QuantSet::small(rt.alloc())?;
     let mut encoder = encoder_of(&rt, &table, &set, &[0], &[&[0]], 8)?;
-    let mut others = vec![in rt.alloc(); 128u8; set.contexts() as usize * 32]?;
-    encode_rows(
-        &mut encoder,
-        &table,
-        &set,
-        others.as_mut_slice(),
-        &[0],
-        &[&[0]],
-        8,
-    )?;
+    encode_fresh(&rt, &mut encoder, &table, &set, &[0], &[&[0]], 8)?;
     assert!(rt; encoder.finish_full()?.as_slice() == b"\xBF\x40".as_slice());
     Ok(())
 }
@@ -353,6 +370,40 @@ fn samples(rt: &HostRuntime, width: usize, bits: u8) -> Result<Vec<u16>, Fail> {
     Ok(row)
 }
 
+/// The code of a row below rows of zeros.
+fn code_of(
+    rt: &HostRuntime,
+    table: &StateTable,
+    set: &QuantSet,
+    row: &[u16],
+    bits: u8,
+) -> Result<Vec<u8>, Fail>
+    requires bits { (bits ≡ 8) ⊎ (bits ≡ 9) }
+    requires fresh { AreHeld table.now (replicate 32 128) }
+{
+    let zeros = vec![in rt.alloc(); 0u16; row.len()]?;
+    let encoder = encoder_of(rt, table, set, &zeros, &[row], bits)?;
+    Ok(encoder.finish_sentinel()?)
+}
+
+/// Whether the code of a row below rows of zeros decodes to it.
+fn decodes_to(
+    rt: &HostRuntime,
+    table: &StateTable,
+    set: &QuantSet,
+    bytes: &[u8],
+    row: &[u16],
+    bits: u8,
+) -> Result<bool, Fail>
+    requires bits { (bits ≡ 8) ⊎ (bits ≡ 9) }
+    requires fresh { AreHeld table.now (replicate 32 128) }
+{
+    let zeros = vec![in rt.alloc(); 0u16; row.len()]?;
+    let mut other = vec![in rt.alloc(); 7u16; row.len()]?;
+    let (done, _) = decode_first(rt, table, set, bytes, &zeros, other.as_mut_slice(), bits)?;
+    Ok(done == Ok(()) && other.as_slice() == row)
+}
+
 /// Whether a row of so many samples comes back.
 fn comes_back(
     rt: &HostRuntime,
@@ -364,21 +415,9 @@ fn comes_back(
     requires bits { (bits ≡ 8) ⊎ (bits ≡ 9) }
     requires fresh { AreHeld table.now (replicate 32 128) }
 {
-    let zeros = vec![in rt.alloc(); 0u16; width]?;
     let row = samples(rt, width, bits)?;
-    let encoder = encoder_of(rt, table, set, &zeros, &[row.as_slice()], bits)?;
-    let bytes = encoder.finish_sentinel()?;
-    let mut other = vec![in rt.alloc(); 7u16; width]?;
-    let (done, _) = decode_first(
-        rt,
-        table,
-        set,
-        bytes.as_slice(),
-        &zeros,
-        other.as_mut_slice(),
-        bits,
-    )?;
-    Ok(done == Ok(()) && other.as_slice() == row.as_slice())
+    let bytes = code_of(rt, table, set, row.as_slice(), bits)?;
+    decodes_to(rt, table, set, bytes.as_slice(), row.as_slice(), bits)
 }
 
 /// Whether rows of 1, 2, 3 and 8192 samples come back, of 8 and of 9 bits.
@@ -406,5 +445,18 @@ fn rows_of_the_large_set_come_back(rt: HostRuntime) -> Result<(), Fail> {
     let table = StateTable::standard();
     let set = QuantSet::large(rt.alloc())?;
     assert!(rt; all_come_back(&rt, &table, &set)?);
+    Ok(())
+}
+
+#[test]
+fn rows_change_places(rt: HostRuntime) -> Result<(), Fail> {
+    let mut rolling = RollingRows::new(rt.alloc(), 2)?;
+    rolling.cur.fill(5);
+    rolling.turn();
+    rolling.cur.fill(6);
+    rolling.turn();
+    assert!(rt; rolling.two.as_slice() == [5, 5].as_slice());
+    assert!(rt; rolling.one.as_slice() == [6, 6].as_slice());
+    assert!(rt; rolling.cur.as_slice() == [0, 0].as_slice());
     Ok(())
 }

@@ -1,9 +1,12 @@
 -- Quantisation table sets by their runs.
-use Rattle.std.specs.Prelude.{ℕ, ◌≡◌, ◌+◌, ◌-◌, ◌*◌, ◌/◌, ◌≤◌, Bool, ◌&&◌, ◌==◌, nat_lt, nat_le, if◌then◌else◌, IsTrue, List, [], ◌∷◌, length, sum, take, slice_index_or, ℤ, pos, ◌-ℤ◌}
+use Rattle.std.specs.Prelude.{ℕ, ◌≡◌, ◌+◌, ◌-◌, ◌*◌, ◌/◌, ◌≤◌, Bool, ◌&&◌, ◌==◌, nat_lt, nat_le}
+use Rattle.std.specs.Prelude.{if◌then◌else◌, IsTrue, List, [], ◌∷◌, length, sum, take}
+use Rattle.std.specs.Prelude.{slice_index_or, ℤ, pos, ◌-ℤ◌}
 use Rattle.std.specs.List.{list_all}
 use Rattle.std.proofs.Common.{suc}
 
--- a set, as the runs of its five tables: how many entries after one another of a table's lower half are equal
+-- a set, as the runs of its five tables: how many entries after one another of a table's lower half
+-- are equal
 abbrev pub Set : Type 0
 Set = List (List ℕ)
 
@@ -45,13 +48,16 @@ pub record IsSet (set : Set) : Type 0 where
   pub filled : IsTrue (are_filled set)
   pub few : contexts_of set ≤ 32768
 
--- three tables of eleven levels and two of one
+-- three tables of eleven levels and two of one, in the form of RFC 9043, 4.1: a set of this codec's
+-- own, of 666 contexts, whose differences to the samples two to the left and two above count for
+-- nothing
 abbrev pub small_set : Set
 small_set =
     let runs = 1 ∷ 1 ∷ 3 ∷ 7 ∷ 11 ∷ 105 ∷ [] in
     runs ∷ runs ∷ runs ∷ (128 ∷ []) ∷ (128 ∷ []) ∷ []
 
--- three tables of eleven levels and two of five
+-- three tables of eleven levels and two of five, in the form of RFC 9043, 4.1: a set of this
+-- codec's own, of 16638 contexts
 abbrev pub large_set : Set
 large_set =
     let runs = 1 ∷ 1 ∷ 3 ∷ 7 ∷ 11 ∷ 105 ∷ [] in

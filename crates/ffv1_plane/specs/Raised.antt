@@ -1,5 +1,6 @@
 -- A quantisation table whose entries are raised by the greatest.
-use Rattle.std.specs.Prelude.{ℕ, ◌≡◌, ◌+◌, ◌-◌, ◌*◌, ◌<◌, ◌≤◌, IsTrue, List, [], ◌∷◌, length, slice_index, pos, ◌+ℤ◌}
+use Rattle.std.specs.Prelude.{ℕ, ◌≡◌, ◌+◌, ◌-◌, ◌*◌, ◌<◌, ◌≤◌, IsTrue, List, [], ◌∷◌, length}
+use Rattle.std.specs.Prelude.{slice_index, pos, ◌+ℤ◌}
 use Rattle.ffv1_plane.specs.Quantisation.{is_filled, entry_of, scale_behind, contexts_of, IsSet}
 
 -- a table of a set, by its runs and its scale
@@ -18,16 +19,21 @@ half_of t = t.scale * (length t.runs - 1)
 pub record IsRaised (runs : List ℕ) (scale : ℕ) (raised : List ℕ) : Type 0 where
   pub filled : IsTrue (is_filled runs)
   pub room : scale * (2 * length runs - 1) < 65536
-  pub each : (k : ℕ) → k < 256 → pos (slice_index raised k) ≡ entry_of runs scale k +ℤ pos (scale * (length runs - 1))
+  pub each : (k : ℕ) → k < 256 →
+      pos (slice_index raised k) ≡ entry_of runs scale k +ℤ pos (scale * (length runs - 1))
   pub most : (k : ℕ) → k < 256 → slice_index raised k ≤ 2 * (scale * (length runs - 1))
 
--- the five tables of a set, each at the scale behind those before it, and the sum of their greatest entries
+-- the five tables of a set, each at the scale behind those before it, and the sum of their greatest
+-- entries
 pub record AreRaised (first second third fourth fifth : RaisedTable) (half : ℕ) : Type 0 where
   pub set : IsSet (first.runs ∷ second.runs ∷ third.runs ∷ fourth.runs ∷ fifth.runs ∷ [])
   pub first_scale : first.scale ≡ 1
   pub second_scale : second.scale ≡ scale_behind 1 (first.runs ∷ [])
   pub third_scale : third.scale ≡ scale_behind 1 (first.runs ∷ second.runs ∷ [])
   pub fourth_scale : fourth.scale ≡ scale_behind 1 (first.runs ∷ second.runs ∷ third.runs ∷ [])
-  pub fifth_scale : fifth.scale ≡ scale_behind 1 (first.runs ∷ second.runs ∷ third.runs ∷ fourth.runs ∷ [])
-  pub contexts : contexts_of (first.runs ∷ second.runs ∷ third.runs ∷ fourth.runs ∷ fifth.runs ∷ []) ≡ half + 1
-  pub halves : half_of first + half_of second + half_of third + half_of fourth + half_of fifth ≡ half
+  pub fifth_scale : fifth.scale ≡ scale_behind 1
+      (first.runs ∷ second.runs ∷ third.runs ∷ fourth.runs ∷ [])
+  pub contexts : contexts_of (first.runs ∷ second.runs ∷ third.runs ∷ fourth.runs ∷ fifth.runs ∷
+      []) ≡ half + 1
+  pub halves : half_of first + half_of second + half_of third + half_of fourth + half_of
+      fifth ≡ half

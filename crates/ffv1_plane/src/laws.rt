@@ -1,11 +1,13 @@
 //! Laws of the definitions.
 
-ghost use Rattle.std.specs.Prelude.{◌≡◌, ◌≢◌, ℕ, ◌+◌, ◌-◌, ◌^◌, ◌<◌, ◌≤◌, List, length, sum, take, Bool, true, ℤ, pos, ◌+ℤ◌, ◌-ℤ◌};
+ghost use Rattle.std.specs.Prelude.{◌≡◌, ◌≢◌, ℕ, ◌+◌, ◌-◌, ◌^◌, ◌<◌, ◌≤◌, List, length, sum, take};
+ghost use Rattle.std.specs.Prelude.{Bool, true, ℤ, pos, ◌+ℤ◌, ◌-ℤ◌};
 ghost use Rattle.std.specs.Int.{int_rem_euclid};
 ghost use Rattle.ffv1_plane.specs.declared.prediction.Around.{Around};
 ghost use Rattle.ffv1_plane.specs.Quantisation.{Set, IsSet, runs_below, entry, contexts_of};
 ghost use Rattle.ffv1_plane.specs.Context.{size_of};
-ghost use Rattle.ffv1_plane.specs.Residual.{IsSuiting, IsFolded, turned, folded, sample_of, chosen_of};
+ghost use Rattle.ffv1_plane.specs.Residual.{IsSuiting, IsFolded, turned, folded, sample_of};
+ghost use Rattle.ffv1_plane.specs.Residual.{chosen_of};
 
 /// Run `v` of a table, from 0, gives its places the level `v`.
 pub fn levels()
@@ -13,7 +15,8 @@ pub fn levels()
         k < sum (take (v + 1) runs) → runs_below runs k ≡ v }
 {}
 
-/// The upper half of a table is its lower half with the signs flipped, and its middle entry is that before it.
+/// The upper half of a table is its lower half with the signs flipped, and its middle entry is that
+/// before it.
 pub fn mirrored()
     ensures half { (set : Set) (i k : ℕ) → 0 < k → k < 128 →
         entry set i (256 - k) ≡ pos 0 -ℤ entry set i k }
@@ -25,7 +28,8 @@ pub fn bounded()
     ensures { (set : Set) → IsSet set → (a : Around) → size_of set a < contexts_of set }
 {}
 
-/// The residual that an encoder takes makes its sample, has a symbol, and lies from -2^(bits-1) to 2^(bits-1) - 1.
+/// The residual that an encoder takes makes its sample, has a symbol, and lies from -2^(bits-1) to
+/// 2^(bits-1) - 1.
 pub fn chosen()
     ensures suits { (bits : ℕ) (p : ℤ) (flip : Bool) (s : ℕ) → 0 < bits → bits < 32 → s < 2 ^ bits →
         IsSuiting bits p flip s (chosen_of bits p flip s) }
@@ -39,18 +43,19 @@ pub fn only()
         IsSuiting bits p flip s q → IsFolded bits q → q ≡ chosen_of bits p flip s }
 {}
 
-/// Each residual makes exactly one sample of `bits` bits: the prediction and the residual, its sign flipped or not, modulo
-/// 2^bits.
+/// Each residual makes exactly one sample of `bits` bits: the prediction and the residual, its sign
+/// flipped or not, modulo 2^bits.
 pub fn made()
     ensures one { (bits : ℕ) (p : ℤ) (flip : Bool) (q : ℤ) →
         (s : ℕ) × (s < 2 ^ bits) × (pos s ≡ sample_of bits p flip q) }
-    ensures unfolded { (bits : ℕ) (p : ℤ) (flip : Bool) (s : ℕ) (q : ℤ) → IsSuiting bits p flip s q →
+    ensures unfolded { (bits : ℕ) (p : ℤ) (flip : Bool) (s : ℕ) (q : ℤ) →
+        IsSuiting bits p flip s q →
         pos s ≡ int_rem_euclid (p +ℤ turned flip q) (pos (2 ^ bits)) }
 {}
 
-/// The sign is flipped first, and the difference folded then. Only at a difference of 2^(bits-1), but for a multiple of
-/// 2^bits, does the order count: flipped or not it is folded to -2^(bits-1), and folded first it would be flipped to
-/// 2^(bits-1).
+/// The sign is flipped first, and the difference folded then. Only at a difference of 2^(bits-1),
+/// but for a multiple of 2^bits, does the order count: flipped or not it is folded to -2^(bits-1),
+/// and folded first it would be flipped to 2^(bits-1).
 pub fn flipped_first()
     ensures extreme { (bits : ℕ) (flip : Bool) → 0 < bits →
         folded bits (turned flip (pos (2 ^ (bits - 1)))) ≡ pos 0 -ℤ pos (2 ^ (bits - 1)) }

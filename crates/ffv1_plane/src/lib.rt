@@ -1,14 +1,28 @@
-//! Quantisation table sets, prediction, contexts and folded sample differences of FFV1 (RFC 9043, 3.3 to 3.5, 3.8 and 4.1).
+//! Prediction, contexts and folded sample differences of FFV1 (RFC 9043, 3.3 to 3.5, 3.8 and 4.1).
+//!
+//! A `QuantSet` is a quantisation table set, made by its runs (`QuantSet::from_runs`) or one of two
+//! of this codec's own (`QuantSet::small`, `QuantSet::large`). Of the samples around a place
+//! (`Around`), `predict` makes the prediction and `context` the number of the context and whether
+//! the sign is flipped. `residual_of` makes the residual that an encoder takes, and `sample_from`
+//! the sample again; `fold` and `unfold` are the same without the flip.
+//!
+//! ```text
+//! let (size, flip) = context(&set, &around);
+//! let residual = residual_of(predict(&around), flip, sample, 8);
+//! let again = sample_from(predict(&around), flip, residual, 8);
+//! ```
+//!
+//! The test `example` runs these lines. `laws` has what follows from the definitions.
 #![tactic(auto)]
 
-pub mod faults;
+pub mod fault;
 pub mod laws;
 pub mod prediction;
 pub mod quantisation;
 pub mod residual;
 mod table;
 
-pub use faults::Fault;
+pub use fault::Fault;
 pub use prediction::{Around, predict};
 pub use quantisation::{QuantSet, context};
 pub use residual::{fold, residual_of, sample_from, unfold};

@@ -3,8 +3,8 @@
 ghost use Rattle.std.specs.Prelude.{◌≡◌};
 ghost use Rattle.ffv1_plane.specs.Prediction.{predicted};
 
-/// The samples around a place, as RFC 9043, 3.1 and 3.2 names them: left, top, top left, top right, two to the left and
-/// two above.
+/// The samples around a place, as RFC 9043, 3.1 and 3.2 names them: left, top, top left, top right,
+/// two to the left and two above.
 #[derive(Clone, Copy, Debug, PartialEq, Eq)]
 pub struct Around {
     /// To the left.
@@ -21,7 +21,8 @@ pub struct Around {
     pub tt: u16,
 }
 
-/// The prediction of a place: the median of `l`, `t` and `l + t - tl` (RFC 9043, 3.3), from 0 to 65535.
+/// The prediction of a place: the median of `l`, `t` and `l + t - tl` (RFC 9043, 3.3), from 0 to
+/// 65535.
 #[inline(always)]
 pub fn predict(around: &Around) -> i32
     ensures { result ≡ predicted around.now }

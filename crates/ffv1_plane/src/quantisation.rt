@@ -1,19 +1,24 @@
 //! Quantisation table sets, and the contexts of places by them.
 
-ghost use Rattle.std.specs.Prelude.{◌≡◌, ℕ, ◌+◌, ◌*◌, ◌<◌, ◌≤◌, ◌↔◌, IfOk, IsErrOf, IsOkUnless, IsTrue, IsFalse, length, map, slice_index_or, [], ◌∷◌};
+ghost use Rattle.std.specs.Prelude.{◌≡◌, ℕ, ◌+◌, ◌*◌, ◌<◌, ◌≤◌, ◌↔◌, IfOk, IsErrOf, IsOkUnless};
+ghost use Rattle.std.specs.Prelude.{IsTrue, IsFalse, length, map, slice_index_or, [], ◌∷◌};
 ghost use Rattle.ffv1_plane.specs.declared.prediction.Around.{Around};
-ghost use Rattle.ffv1_plane.specs.Quantisation.{Set, IsSet, are_filled, contexts_of, small_set, large_set};
+ghost use Rattle.ffv1_plane.specs.Quantisation.{Set, IsSet, are_filled, contexts_of, small_set};
+ghost use Rattle.ffv1_plane.specs.Quantisation.{large_set};
 ghost use Rattle.ffv1_plane.specs.Context.{size_of, flip_of};
 ghost use Rattle.ffv1_plane.specs.Raised.{AreRaised, table_of};
 
-use crate::faults::Fault;
+use crate::fault::Fault;
 use crate::prediction::Around;
 use crate::table::{Table, fills, scale_after};
 use std::alloc::{AllocError, Allocator, Global};
 use std::marker::Model;
 
-/// A quantisation table set (RFC 9043, 3.4): five tables of 256 entries, one for each difference that makes a context. In a
-/// contract a set is the runs of its five tables, so two sets with the same runs are equal.
+/// A quantisation table set (RFC 9043, 3.4): five tables of 256 entries, one for each difference
+/// that makes a context. In a contract a set is the runs of its five tables, so two sets with the
+/// same runs are equal.
+// The five tables are fields, not an array: a look-up by a field needs no index, and the set's
+// invariant names each table's scale.
 #[derive(Drop)]
 pub struct QuantSet<A: Allocator = Global> {
     first: Table<A>,
@@ -31,7 +36,8 @@ impl<A: Allocator> Model for QuantSet<A> {
 
     ghost Value = { Set };
 
-    ghost view = { λ s. s.first.runs ∷ s.second.runs ∷ s.third.runs ∷ s.fourth.runs ∷ s.fifth.runs ∷ [] };
+    ghost view = { λ s. s.first.runs ∷ s.second.runs ∷ s.third.runs ∷ s.fourth.runs ∷ s.fifth.runs ∷
+        [] };
 
     ghost invariant = { λ s. AreRaised s.first s.second s.third s.fourth s.fifth s.half };
 }
@@ -45,7 +51,8 @@ const FIVE: [u8; 3] = [3, 11, 114];
 /// The runs of a table of one level.
 const ONE: [u8; 1] = [128];
 
-/// The scales of a set's tables but the first, whose scale is 1, and the sum of the tables' greatest entries.
+/// The scales of a set's tables but the first, whose scale is 1, and the sum of the tables'
+/// greatest entries.
 #[derive(Clone, Copy)]
 struct Scales {
     second: u16,
@@ -69,7 +76,8 @@ fn scales_of(
         IsErrOf result Fault.Contexts ↔ (IsTrue (are_filled set) × (32768 < contexts_of set)) }
     ensures memory { IsErrOf result Fault.OutOfMemory → ⊥ }
     ensures ok { IfOk result (λ s. AreRaised (table_of first.now 1) (table_of second.now s.second)
-        (table_of third.now s.third) (table_of fourth.now s.fourth) (table_of fifth.now s.fifth) s.half) }
+        (table_of third.now s.third) (table_of fourth.now s.fourth) (table_of fifth.now s.fifth)
+        s.half) }
 {
     if !(fills(first) && fills(second) && fills(third) && fills(fourth) && fills(fifth)) {
         return Err(Fault::Runs);
@@ -104,7 +112,8 @@ fn build<A: Allocator + Copy>(
     requires { AreRaised (table_of first.now 1) (table_of second.now scales.second)
         (table_of third.now scales.third) (table_of fourth.now scales.fourth)
         (table_of fifth.now scales.fifth) scales.half }
-    ensures { IfOk result (λ s. s ≡ first.now ∷ second.now ∷ third.now ∷ fourth.now ∷ fifth.now ∷ []) }
+    ensures { IfOk result (λ s. s ≡ first.now ∷ second.now ∷ third.now ∷ fourth.now ∷ fifth.now ∷
+        []) }
 {
     let first = Table::new(alloc, first, 1)?;
     let second = Table::new(alloc, second, scales.second)?;
@@ -122,14 +131,15 @@ fn build<A: Allocator + Copy>(
 }
 
 impl<A: Allocator + Copy> QuantSet<A> {
-    /// The set of five tables by their runs (RFC 9043, 4.1): run `v` of a table, from 0, gives `scale * v` to its next entries
-    /// until 128 are filled.
+    /// The set of five tables by their runs (RFC 9043, 4.1): run `v` of a table, from 0, gives
+    /// `scale * v` to its next entries until 128 are filled.
     ///
-    /// Refuses with `Fault::Runs` where a table has no run, a run of 0, or runs that do not fill 128 entries exactly; else
-    /// with `Fault::Contexts` where the set has more than 32768 contexts; else with `Fault::OutOfMemory` where a growth is
-    /// refused.
+    /// Refuses with `Fault::Runs` where a table has no run, a run of 0, or runs that do not fill
+    /// 128 entries exactly; else with `Fault::Contexts` where the set has more than 32768 contexts;
+    /// else with `Fault::OutOfMemory` where a growth is refused.
     pub fn from_runs(alloc: A, runs: &[&[u8]; 5]) -> Result<QuantSet<A>, Fault>
-        ensures runs { IsErrOf result Fault.Runs ↔ IsFalse (are_filled (map (λ r. r.now) runs.now)) }
+        ensures runs { IsErrOf result Fault.Runs ↔ IsFalse
+            (are_filled (map (λ r. r.now) runs.now)) }
         ensures contexts { let set = map (λ r. r.now) runs.now in
             IsErrOf result Fault.Contexts ↔ (IsTrue (are_filled set) × (32768 < contexts_of set)) }
         ensures memory { IsErrOf result Fault.OutOfMemory → IsSet (map (λ r. r.now) runs.now) }
@@ -142,8 +152,9 @@ impl<A: Allocator + Copy> QuantSet<A> {
         Ok(set)
     }
 
-    /// The set of the runs 1 1 3 7 11 105 three times and 128 twice, of 666 contexts: the samples two to the left and two
-    /// above count for nothing. Refuses with `Fault::OutOfMemory` alone, where a growth is refused.
+    /// The set of the runs 1 1 3 7 11 105 three times and 128 twice, of 666 contexts: the samples
+    /// two to the left and two above count for nothing. Refuses with `Fault::OutOfMemory` alone,
+    /// where a growth is refused.
     pub fn small(alloc: A) -> Result<QuantSet<A>, Fault>
         ensures ok { IfOk result (λ s. s ≡ small_set) }
         ensures contexts { IfOk result (λ s. contexts_of s ≡ 666) }
@@ -154,8 +165,8 @@ impl<A: Allocator + Copy> QuantSet<A> {
         QuantSet::from_runs(alloc, &[eleven, eleven, eleven, one, one])
     }
 
-    /// The set of the runs 1 1 3 7 11 105 three times and 3 11 114 twice, of 16638 contexts. Refuses with
-    /// `Fault::OutOfMemory` alone, where a growth is refused.
+    /// The set of the runs 1 1 3 7 11 105 three times and 3 11 114 twice, of 16638 contexts.
+    /// Refuses with `Fault::OutOfMemory` alone, where a growth is refused.
     pub fn large(alloc: A) -> Result<QuantSet<A>, Fault>
         ensures ok { IfOk result (λ s. s ≡ large_set) }
         ensures contexts { IfOk result (λ s. contexts_of s ≡ 16638) }
@@ -168,7 +179,8 @@ impl<A: Allocator + Copy> QuantSet<A> {
 }
 
 impl<A: Allocator> QuantSet<A> {
-    /// The number of contexts, from 1 to 32768 (RFC 9043, 4.1): half of the scale behind the five tables, rounded up.
+    /// The number of contexts, from 1 to 32768 (RFC 9043, 4.1): half of the scale behind the five
+    /// tables, rounded up.
     pub fn contexts(&self) -> u32
         ensures value { result ≡ contexts_of self.now }
         ensures some { 0 < result }
@@ -191,8 +203,8 @@ impl<A: Allocator> QuantSet<A> {
         }
     }
 
-    /// A law of each set: it is five filled tables with at most 32768 contexts, and the number of each place's context is
-    /// below the number of contexts.
+    /// A law of each set: it is five filled tables with at most 32768 contexts, and the number of
+    /// each place's context is below the number of contexts.
     pub fn bounded(&self)
         ensures set { IsSet self.now }
         ensures below { (a : Around) → size_of self.now a < contexts_of self.now }
@@ -201,9 +213,9 @@ impl<A: Allocator> QuantSet<A> {
     }
 }
 
-/// The context of a place (RFC 9043, 3.5): its number, which is the size of the sum of the five look-ups, each by the low
-/// eight bits of a difference, and whether the sum is negative, so that the sign of the sample difference is flipped. The
-/// number is below `set.contexts()`.
+/// The context of a place (RFC 9043, 3.5): its number, which is the size of the sum of the five
+/// look-ups, each by the low eight bits of a difference, and whether the sum is negative, so that
+/// the sign of the sample difference is flipped. The number is below `set.contexts()`.
 #[inline(always)]
 pub fn context<A: Allocator>(set: &QuantSet<A>, around: &Around) -> (u32, bool)
     ensures size { result.0 ≡ size_of set.now around.now }

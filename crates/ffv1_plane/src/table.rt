@@ -1,6 +1,7 @@
 //! One quantisation table of a set.
 
-ghost use Rattle.std.specs.Prelude.{◌≡◌, ℕ, ◌+◌, ◌-◌, ◌*◌, ◌^◌, ◌<◌, ◌≤◌, ◌+ℤ◌, pos, length, sum, IsTrue, IfOk};
+ghost use Rattle.std.specs.Prelude.{◌≡◌, ℕ, ◌+◌, ◌-◌, ◌*◌, ◌^◌, ◌<◌, ◌≤◌, ◌+ℤ◌, pos, length, sum};
+ghost use Rattle.std.specs.Prelude.{IsTrue, IfOk};
 ghost use Rattle.ffv1_plane.specs.Quantisation.{is_filled, entry_of};
 ghost use Rattle.ffv1_plane.specs.Context.{low};
 ghost use Rattle.ffv1_plane.specs.Raised.{RaisedTable, IsRaised, half_of};
@@ -100,7 +101,8 @@ impl<A: Allocator> Table<A> {
     /// The entry at the low eight bits of `a - b`, raised by the greatest.
     #[inline(always)]
     pub fn raised(&self, a: u16, b: u16) -> u32
-        ensures value { pos result ≡ entry_of self.now.runs self.now.scale (low a b) +ℤ pos (half_of self.now) }
+        ensures value { pos result ≡ entry_of self.now.runs self.now.scale (low a b) +ℤ pos
+            (half_of self.now) }
         ensures small { result ≤ 2 * half_of self.now }
         ensures half { 2 * half_of self.now < 65536 }
     {

@@ -1,4 +1,5 @@
-//! Values computed outside the program from the standard's text, and plain slow programs beside the fast ones.
+//! Values computed outside the program from the standard's text, and plain slow programs beside the
+//! fast ones.
 
 use crate::{Around, Fault, QuantSet, context, fold, predict, residual_of, sample_from, unfold};
 use std::alloc::Allocator;
@@ -6,6 +7,7 @@ use std::process::Abort;
 use std::test::Fail;
 
 const ELEVEN: [u8; 6] = [1, 1, 3, 7, 11, 105];
+
 /// Runs that FFmpeg writes.
 const ELEVEN_WIDE: [u8; 6] = [1, 1, 3, 7, 23, 93];
 
@@ -67,25 +69,195 @@ fn refuses_runs(rt: HostRuntime) {
     refuses(&rt, rt.alloc(), &[all, all, all, all, late], Fault::Runs);
 }
 
-#[test]
-fn compares_runs(rt: HostRuntime) -> Result<(), Fail> {
+/// A set has the runs of the small one.
+fn is_small<A: Allocator + Copy>(
+    rt: &impl Abort,
+    alloc: A,
+    set: &QuantSet<A>,
+) -> Result<(), Fault> {
     let (eleven, one) = (ELEVEN.as_slice(), ONE.as_slice());
-    let small = QuantSet::small(rt.alloc())?;
-    assert!(rt; small == QuantSet::from_runs(rt.alloc(), &[eleven, eleven, eleven, one, one])?);
-    assert!(rt; small != QuantSet::large(rt.alloc())?);
+    let again = QuantSet::from_runs(alloc, &[eleven, eleven, eleven, one, one])?;
+    assert!(rt; *set == again);
+    Ok(())
+}
+
+/// A set has other runs than the large one.
+fn is_not_large<A: Allocator + Copy>(
+    rt: &impl Abort,
+    alloc: A,
+    set: &QuantSet<A>,
+) -> Result<(), Fault> {
+    let large = QuantSet::large(alloc)?;
+    assert!(rt; *set != large);
     Ok(())
 }
 
 #[test]
-fn shows_number_and_name(rt: HostRuntime) -> Result<(), Fail> {
-    for (fault, text) in [
-        (Fault::OutOfMemory, "2 OutOfMemory"),
-        (Fault::Runs, "5 Runs"),
-        (Fault::Contexts, "6 Contexts"),
-    ] {
-        assert_eq!(rt; fault.to_string(rt.alloc())?.as_str(), text);
-    }
+fn compares_runs(rt: HostRuntime) -> Result<(), Fail> {
+    let small = QuantSet::small(rt.alloc())?;
+    is_small(&rt, rt.alloc(), &small)?;
+    is_not_large(&rt, rt.alloc(), &small)?;
     Ok(())
+}
+
+/// Whether a fault displays so.
+fn shows(rt: &HostRuntime, fault: Fault, text: &str) -> Result<bool, Fail> {
+    let shown = fault.to_string(rt.alloc())?;
+    Ok(shown.as_str() == text)
+}
+
+#[test]
+fn shows_number_and_name(rt: HostRuntime) -> Result<(), Fail> {
+    assert!(rt; shows(&rt, Fault::OutOfMemory, "2 OutOfMemory")?);
+    assert!(rt; shows(&rt, Fault::Runs, "5 Runs")?);
+    assert!(rt; shows(&rt, Fault::Contexts, "6 Contexts")?);
+    Ok(())
+}
+
+/// Among samples left, above, above to the left and to the right, two to the left and two above, a
+/// place has this prediction, and these contexts by two sets.
+fn finds<A: Allocator>(
+    rt: &impl Abort,
+    large: &QuantSet<A>,
+    other: &QuantSet<A>,
+    samples: [u16; 6],
+    prediction: i32,
+    in_large: (u32, bool),
+    in_other: (u32, bool),
+) {
+    let [l, t, tl, tr, ll, tt] = samples;
+    let around = Around {
+        l,
+        t,
+        tl,
+        tr,
+        ll,
+        tt,
+    };
+    assert_eq!(rt; predict(&around), prediction);
+    assert_eq!(rt; context(large, &around), in_large);
+    assert_eq!(rt; context(other, &around), in_other);
+}
+
+/// Predictions and contexts of thirteen places.
+fn finds_each<A: Allocator>(rt: &impl Abort, large: &QuantSet<A>, other: &QuantSet<A>) {
+    finds(
+        rt,
+        large,
+        other,
+        [0, 0, 0, 0, 0, 0],
+        0,
+        (0, false),
+        (0, false),
+    );
+    finds(
+        rt,
+        large,
+        other,
+        [255, 0, 0, 0, 255, 0],
+        255,
+        (1, true),
+        (1, true),
+    );
+    finds(
+        rt,
+        large,
+        other,
+        [0, 255, 255, 255, 0, 0],
+        0,
+        (1, false),
+        (3026, false),
+    );
+    finds(
+        rt,
+        large,
+        other,
+        [0, 1, 0, 1, 0, 1],
+        1,
+        (11, true),
+        (11, true),
+    );
+    finds(
+        rt,
+        large,
+        other,
+        [128, 0, 0, 0, 128, 0],
+        128,
+        (5, true),
+        (5, true),
+    );
+    finds(
+        rt,
+        large,
+        other,
+        [10, 20, 0, 0, 0, 0],
+        20,
+        (14198, true),
+        (7059, true),
+    );
+    finds(
+        rt,
+        large,
+        other,
+        [65535, 65535, 0, 0, 0, 0],
+        65535,
+        (111, true),
+        (3519, false),
+    );
+    finds(
+        rt,
+        large,
+        other,
+        [0, 65535, 65535, 65535, 65535, 65535],
+        0,
+        (1, false),
+        (604, true),
+    );
+    finds(
+        rt,
+        large,
+        other,
+        [254, 127, 255, 511, 0, 1],
+        127,
+        (13971, true),
+        (5743, true),
+    );
+    finds(
+        rt,
+        large,
+        other,
+        [65535, 257, 1, 254, 510, 0],
+        65535,
+        (240, false),
+        (3511, true),
+    );
+    finds(
+        rt,
+        large,
+        other,
+        [257, 65535, 511, 127, 1, 510],
+        65281,
+        (603, true),
+        (3265, true),
+    );
+    finds(
+        rt,
+        large,
+        other,
+        [32767, 1, 510, 0, 510, 128],
+        32258,
+        (13410, false),
+        (5545, false),
+    );
+    finds(
+        rt,
+        large,
+        other,
+        [256, 511, 257, 255, 32768, 254],
+        510,
+        (21, false),
+        (3004, true),
+    );
 }
 
 #[test]
@@ -93,123 +265,83 @@ fn predicts_and_finds_contexts(rt: HostRuntime) -> Result<(), Fail> {
     let large = QuantSet::large(rt.alloc())?;
     let (wide, five) = (ELEVEN_WIDE.as_slice(), FIVE.as_slice());
     let other = QuantSet::from_runs(rt.alloc(), &[wide, wide, five, five, five])?;
-    for ([l, t, tl, tr, ll, tt], prediction, in_large, in_other) in [
-        ([0, 0, 0, 0, 0, 0], 0, (0, false), (0, false)),
-        ([255, 0, 0, 0, 255, 0], 255, (1, true), (1, true)),
-        ([0, 255, 255, 255, 0, 0], 0, (1, false), (3026, false)),
-        ([0, 1, 0, 1, 0, 1], 1, (11, true), (11, true)),
-        ([128, 0, 0, 0, 128, 0], 128, (5, true), (5, true)),
-        ([10, 20, 0, 0, 0, 0], 20, (14198, true), (7059, true)),
-        (
-            [65535, 65535, 0, 0, 0, 0],
-            65535,
-            (111, true),
-            (3519, false),
-        ),
-        (
-            [0, 65535, 65535, 65535, 65535, 65535],
-            0,
-            (1, false),
-            (604, true),
-        ),
-        ([254, 127, 255, 511, 0, 1], 127, (13971, true), (5743, true)),
-        (
-            [65535, 257, 1, 254, 510, 0],
-            65535,
-            (240, false),
-            (3511, true),
-        ),
-        (
-            [257, 65535, 511, 127, 1, 510],
-            65281,
-            (603, true),
-            (3265, true),
-        ),
-        (
-            [32767, 1, 510, 0, 510, 128],
-            32258,
-            (13410, false),
-            (5545, false),
-        ),
-        (
-            [256, 511, 257, 255, 32768, 254],
-            510,
-            (21, false),
-            (3004, true),
-        ),
-    ] {
-        let around = Around {
-            l,
-            t,
-            tl,
-            tr,
-            ll,
-            tt,
-        };
-        assert_eq!(rt; predict(&around), prediction);
-        assert_eq!(rt; context(&large, &around), in_large);
-        assert_eq!(rt; context(&other, &around), in_other);
-    }
+    finds_each(&rt, &large, &other);
     Ok(())
 }
 
+/// A difference is folded to this, of 8 and of 9 bits.
+fn folds(rt: &impl Abort, d: i32, eight: i32, nine: i32) {
+    assert_eq!(rt; fold(d, 8), eight);
+    assert_eq!(rt; fold(d, 9), nine);
+}
+
 #[test]
-fn folds_and_unfolds(rt: HostRuntime) {
-    for (d, eight, nine) in [
-        (0, 0, 0),
-        (127, 127, 127),
-        (128, -128, 128),
-        (129, -127, 129),
-        (-128, -128, -128),
-        (-129, 127, -129),
-        (255, -1, 255),
-        (256, 0, -256),
-        (257, 1, -255),
-        (-256, 0, -256),
-        (-257, -1, 255),
-        (65535, -1, -1),
-        (i32::MAX, -1, -1),
-        (i32::MIN, 0, 0),
-        (2147483520, -128, -128),
-        (-2147483393, -1, 255),
-    ] {
-        assert_eq!(rt; (fold(d, 8), fold(d, 9)), (eight, nine));
-    }
-    for (pred, residual, eight, nine) in [
-        (0, -1, 255, 511),
-        (255, 1, 0, 256),
-        (255, -256, 255, 511),
-        (5, -10, 251, 507),
-        (65535, 65535, 254, 510),
-        (i32::MAX, 1, 0, 0),
-        (i32::MIN, -1, 255, 511),
-        (i32::MAX, i32::MAX, 254, 510),
-        (i32::MIN, i32::MIN, 0, 0),
-        (300, -44, 0, 256),
-    ] {
-        assert_eq!(rt;
-            (unfold(pred, residual, 8), unfold(pred, residual, 9)),
-            (eight, nine)
-        );
-    }
-    for (pred, sample, bits, plain, flipped) in [
-        (0, 128, 8, -128, -128),
-        (128, 0, 8, -128, -128),
-        (0, 255, 8, -1, 1),
-        (3, 200, 8, -59, 59),
-        (0, 256, 9, -256, -256),
-        (511, 0, 9, 1, -1),
-        (0, 63, 9, 63, -63),
-        (65535, 0, 8, 1, -1),
-        (i32::MIN, 65535, 8, -1, 1),
-    ] {
-        let bits = if bits == 8 { 8 } else { 9 };
-        assert_eq!(rt; residual_of(pred, false, sample, bits), plain);
-        assert_eq!(rt; residual_of(pred, true, sample, bits), flipped);
-        let lowest = sample % if bits == 8 { 256 } else { 512 };
-        assert_eq!(rt; sample_from(pred, false, plain, bits), lowest);
-        assert_eq!(rt; sample_from(pred, true, flipped, bits), lowest);
-    }
+fn folds_differences(rt: HostRuntime) {
+    folds(&rt, 0, 0, 0);
+    folds(&rt, 127, 127, 127);
+    folds(&rt, 128, -128, 128);
+    folds(&rt, 129, -127, 129);
+    folds(&rt, -128, -128, -128);
+    folds(&rt, -129, 127, -129);
+    folds(&rt, 255, -1, 255);
+    folds(&rt, 256, 0, -256);
+    folds(&rt, 257, 1, -255);
+    folds(&rt, -256, 0, -256);
+    folds(&rt, -257, -1, 255);
+    folds(&rt, 65535, -1, -1);
+    folds(&rt, i32::MAX, -1, -1);
+    folds(&rt, i32::MIN, 0, 0);
+    folds(&rt, 2147483520, -128, -128);
+    folds(&rt, -2147483393, -1, 255);
+}
+
+/// A prediction and a residual make this sample, of 8 and of 9 bits.
+fn unfolds(rt: &impl Abort, pred: i32, residual: i32, eight: u16, nine: u16) {
+    assert_eq!(rt; unfold(pred, residual, 8), eight);
+    assert_eq!(rt; unfold(pred, residual, 9), nine);
+}
+
+#[test]
+fn unfolds_residuals(rt: HostRuntime) {
+    unfolds(&rt, 0, -1, 255, 511);
+    unfolds(&rt, 255, 1, 0, 256);
+    unfolds(&rt, 255, -256, 255, 511);
+    unfolds(&rt, 5, -10, 251, 507);
+    unfolds(&rt, 65535, 65535, 254, 510);
+    unfolds(&rt, i32::MAX, 1, 0, 0);
+    unfolds(&rt, i32::MIN, -1, 255, 511);
+    unfolds(&rt, i32::MAX, i32::MAX, 254, 510);
+    unfolds(&rt, i32::MIN, i32::MIN, 0, 0);
+    unfolds(&rt, 300, -44, 0, 256);
+}
+
+/// A sample of 8 bits has these residuals, plain and flipped, and comes back from each.
+fn takes_eight(rt: &impl Abort, pred: i32, sample: u16, plain: i32, flipped: i32, lowest: u16) {
+    assert_eq!(rt; residual_of(pred, false, sample, 8), plain);
+    assert_eq!(rt; residual_of(pred, true, sample, 8), flipped);
+    assert_eq!(rt; sample_from(pred, false, plain, 8), lowest);
+    assert_eq!(rt; sample_from(pred, true, flipped, 8), lowest);
+}
+
+/// A sample of 9 bits has these residuals, plain and flipped, and comes back from each.
+fn takes_nine(rt: &impl Abort, pred: i32, sample: u16, plain: i32, flipped: i32, lowest: u16) {
+    assert_eq!(rt; residual_of(pred, false, sample, 9), plain);
+    assert_eq!(rt; residual_of(pred, true, sample, 9), flipped);
+    assert_eq!(rt; sample_from(pred, false, plain, 9), lowest);
+    assert_eq!(rt; sample_from(pred, true, flipped, 9), lowest);
+}
+
+#[test]
+fn takes_residuals(rt: HostRuntime) {
+    takes_eight(&rt, 0, 128, -128, -128, 128);
+    takes_eight(&rt, 128, 0, -128, -128, 0);
+    takes_eight(&rt, 0, 255, -1, 1, 255);
+    takes_eight(&rt, 3, 200, -59, 59, 200);
+    takes_nine(&rt, 0, 256, -256, -256, 256);
+    takes_nine(&rt, 511, 0, 1, -1, 0);
+    takes_nine(&rt, 0, 63, 63, -63, 63);
+    takes_eight(&rt, 65535, 0, 1, -1, 0);
+    takes_eight(&rt, i32::MIN, 65535, -1, 1, 255);
 }
 
 /// How many runs have their last place below `k`.
@@ -318,4 +450,34 @@ fn predicts_as_the_plain_program(rt: HostRuntime) {
             }
         }
     }
+}
+
+/// The lines of the crate's example.
+fn codes_and_comes_back<A: Allocator>(
+    rt: &impl Abort,
+    set: &QuantSet<A>,
+    around: &Around,
+    sample: u16,
+) {
+    let (size, flip) = context(set, around);
+    let residual = residual_of(predict(around), flip, sample, 8);
+    let again = sample_from(predict(around), flip, residual, 8);
+    assert_eq!(rt; size, 393);
+    assert_eq!(rt; residual, -20);
+    assert_eq!(rt; again, sample);
+}
+
+#[test]
+fn example(rt: HostRuntime) -> Result<(), Fail> {
+    let set = QuantSet::small(rt.alloc())?;
+    let around = Around {
+        l: 10,
+        t: 10,
+        tl: 0,
+        tr: 20,
+        ll: 0,
+        tt: 0,
+    };
+    codes_and_comes_back(&rt, &set, &around, 30);
+    Ok(())
 }

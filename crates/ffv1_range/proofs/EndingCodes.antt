@@ -8,9 +8,9 @@ use Rattle.std.proofs.Math.Nat.{pow-succ'}
 use Rattle.ffv1_range.specs.Interval.{Interval, Decision, share, part, renormalised, narrow, narrowed, start, interval_of}
 use Rattle.ffv1_range.specs.Codes.{value, digits, raised, rounded_of, sentinel_of, full_of, AreBytes, Inside, IsState, AreStates}
 use Rattle.ffv1_range.proofs.Values.{value-append, value-digits, length-digits}
-use Rattle.ffv1_range.proofs.Pushed.{bytes-pushed}
+use Rattle.ffv1_range.proofs.EmittedBytes.{bytes-pushed}
 use Rattle.ffv1_range.proofs.Endings.{take-digits, rounded-is}
-use Rattle.ffv1_range.specs.Writing.{interval_from}
+use Rattle.ffv1_range.specs.Registers.{interval_from}
 use Rattle.ffv1_range.proofs.Nested.{narrow-inside}
 
 -- what holds of each interval of a list

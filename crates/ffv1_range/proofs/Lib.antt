@@ -1,10 +1,10 @@
 pub mod Nested
 pub mod OneList
 pub mod Values
-pub mod Pushed
+pub mod EmittedBytes
 pub mod Endings
 pub mod EndingCodes
-pub mod Standing
+pub mod DecoderParts
 pub mod Counting
 pub mod Steps
 pub mod Mantissa
@@ -14,9 +14,12 @@ pub mod HistoryLemmas
 pub mod Named
 pub mod Prefix
 pub mod Standard
+pub mod Generator
 pub mod DeltaTables
 pub mod OneTable
 pub mod Windows
+pub mod Growth
+pub mod Parts
 pub mod Cost
 pub mod CostLower
 pub mod HeldLists

@@ -5,7 +5,7 @@ use Rattle.std.proofs.lemmas.Bool.Decides.{nat_tests}
 use Rattle.std.proofs.lemmas.Grind.{same_number_lists}
 use Rattle.std.proofs.lemmas.Int.{ints}
 use Rattle.std.proofs.lemmas.List.{get_or-replicate, get_or_past, length-replicate}
-use Rattle.ffv1_range.specs.declared.table.TheConstants.{STANDARD}
+use Rattle.ffv1_range.specs.Standard.{default_state_transition}
 use Rattle.ffv1_range.specs.Table.{Table, IsTable}
 use Rattle.ffv1_range.specs.Deltas.{entry_of, byte_of, IsTableOf}
 use Rattle.ffv1_range.proofs.Standard.{standard, all_below, all_below-at}
@@ -35,7 +35,7 @@ zero_delta k = elim (cases_lt k 255) [
 
 -- each entry of the standard is a byte
 abbrev is_byte : ℕ → Bool
-is_byte state = nat_lt (get_or STANDARD state 0) 256
+is_byte state = nat_lt (get_or default_state_transition state 0) 256
 
 standard_bytes : all_below is_byte 256 ≡ true
 unfolding all_below
@@ -47,21 +47,21 @@ byte_plus_none n small =
     let whole : byte_of (pos n) ≡ n = rw (lt-ltb n 256 small) refl in
     ap byte_of same ∙ whole
 
-entries : (state : ℕ) → state < 256 → get_or STANDARD state 0 ≡ byte_of (entry_of (replicate 255 (pos 0)) state)
+entries : (state : ℕ) → state < 256 → get_or default_state_transition state 0 ≡ byte_of (entry_of (replicate 255 (pos 0)) state)
 entries zero below = refl
 entries (suc k) below =
     let test = all_below-at is_byte 256 (suc k) standard_bytes below in
-    let small : get_or STANDARD (suc k) 0 < 256 = grind (arith, nat_tests) in
-    rw (zero_delta k) (sym (byte_plus_none (get_or STANDARD (suc k) 0) small))
+    let small : get_or default_state_transition (suc k) 0 < 256 = grind (arith, nat_tests) in
+    rw (zero_delta k) (sym (byte_plus_none (get_or default_state_transition (suc k) 0) small))
 
 abbrev is_none : ℕ → Bool
-is_none state = nat_lt (get_or STANDARD state 0) 1
+is_none state = nat_lt (get_or default_state_transition state 0) 1
 
 first_none : all_below is_none 8 ≡ true
 unfolding all_below
 first_none = refl
 
-first_entries : (state : ℕ) → state < 8 → get_or STANDARD state 0 ≡ 0
+first_entries : (state : ℕ) → state < 8 → get_or default_state_transition state 0 ≡ 0
 first_entries state below =
     let test = all_below-at is_none 8 state first_none below in
     grind (arith, nat_tests)
@@ -70,7 +70,7 @@ different : pos 0 ≡ negsuc 2147483647 → ⊥
 different e = omega (arith, ints)
 
 -- a floor is not below 8, where the entries are 0
-least_floor : (floor : ℕ) → IsTable floor STANDARD → 8 ≤ floor
+least_floor : (floor : ℕ) → IsTable floor default_state_transition → 8 ≤ floor
 least_floor floor is = elim (cases_lt floor 8) [
   | inl less ↦
       let positive = is.positive in
@@ -81,11 +81,11 @@ least_floor floor is = elim (cases_lt floor 8) [
   | inr more ↦ more
 ]
 
-pub standard_of : IsTableOf (replicate 255 (pos 0)) (record { floor = 8; one = STANDARD })
+pub standard_of : IsTableOf (replicate 255 (pos 0)) (record { floor = 8; one = default_state_transition })
 standard_of = record {
   sound = λ k below e. different (sym (zero_delta k) ∙ e);
-  floor = floor_of_table (replicate 255 (pos 0)) STANDARD entries 8 standard;
-  lowest = λ floor is. least_floor floor (table_of_floor (replicate 255 (pos 0)) STANDARD entries floor is);
+  floor = floor_of_table (replicate 255 (pos 0)) default_state_transition entries 8 standard;
+  lowest = λ floor is. least_floor floor (table_of_floor (replicate 255 (pos 0)) default_state_transition entries floor is);
   long = refl;
   entries = entries;
 }

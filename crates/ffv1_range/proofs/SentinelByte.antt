@@ -7,7 +7,7 @@ use Rattle.ffv1_range.specs.Codes.{value, digits, raised, rounded_of, sentinel_o
 use Rattle.ffv1_range.proofs.Values.{value-push, value-digits, length-digits}
 use Rattle.ffv1_range.proofs.Endings.{take-digits}
 use Rattle.ffv1_range.proofs.EndingCodes.{IsFit, renormalised-fit, part-fit, sentinel_state, bytes-take}
-use Rattle.ffv1_range.proofs.Pushed.{bytes-pushed}
+use Rattle.ffv1_range.proofs.EmittedBytes.{bytes-pushed}
 use Rattle.ffv1_range.proofs.Nested.{narrow-inside}
 
 -- the value of a rounded ending and one byte more

@@ -8,9 +8,8 @@ use Rattle.std.proofs.Math.Nat.{pow-succ'}
 use Rattle.ffv1_range.specs.Table.{Table}
 use Rattle.ffv1_range.specs.Reading.{Reading}
 use Rattle.ffv1_range.specs.Symbols.{exponent, exponent_steps, mantissa_steps, magnitude_steps, sized_steps, signed_steps, unsigned_steps}
-use Rattle.ffv1_range.specs.Follows.{Reads}
 use Rattle.ffv1_range.specs.Writing.{Writing}
-use Rattle.ffv1_range.specs.Puts.{Writes}
+use Rattle.ffv1_range.specs.Registers.{Reads, Writes}
 use Rattle.ffv1_range.proofs.Steps.{reads_append, writes_append}
 
 -- the exponent of a number is where its highest bit stands

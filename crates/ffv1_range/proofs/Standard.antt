@@ -2,8 +2,9 @@
 use Rattle.std.proofs.Common.{◌≡◌, ◌∙◌, refl, subst, length, slice_set, get_or-set_same, get_or-set_other, ℕ, zero, suc, ◌+◌, ◌-◌, ◌*◌, ◌<◌, ◌≤◌, Bool, true, false, List, get_or, arith, inl, inr, nat_lt, nat_le, ◌&&◌, ◌||◌}
 use Rattle.std.proofs.lemmas.Bool.{cases_lt, cases_eq}
 use Rattle.std.proofs.lemmas.Bool.Decides.{nat_tests}
-use Rattle.ffv1_range.specs.declared.table.TheConstants.{STANDARD}
-use Rattle.ffv1_range.specs.Table.{IsTable, AreZeros}
+use Rattle.ffv1_range.specs.Standard.{default_state_transition}
+use Rattle.ffv1_range.specs.Table.{IsTable}
+use Rattle.ffv1_range.specs.Registers.{AreZeros}
 
 -- whether a state that is held stays so
 abbrev stays : ℕ → List ℕ → ℕ → Bool
@@ -37,16 +38,16 @@ stays_least floor one state h least most = grind (arith, nat_tests)
 stays_most : (floor : ℕ) (one : List ℕ) (state : ℕ) → stays floor one state ≡ true → floor ≤ state → state + floor ≤ 256 → get_or one state 0 + floor ≤ 256
 stays_most floor one state h least most = grind (arith, nat_tests)
 
-standard_stays : all_below (stays 8 STANDARD) 257 ≡ true
+standard_stays : all_below (stays 8 default_state_transition) 257 ≡ true
 unfolding all_below
 standard_stays = refl
 
-pub standard : IsTable 8 STANDARD
+pub standard : IsTable 8 default_state_transition
 standard = record {
   positive = omega arith;
   middle = omega arith;
-  least = λ state l m. stays_least 8 STANDARD state (all_below-at (stays 8 STANDARD) 257 state standard_stays (omega arith)) l m;
-  most = λ state l m. stays_most 8 STANDARD state (all_below-at (stays 8 STANDARD) 257 state standard_stays (omega arith)) l m;
+  least = λ state l m. stays_least 8 default_state_transition state (all_below-at (stays 8 default_state_transition) 257 state standard_stays (omega arith)) l m;
+  most = λ state l m. stays_most 8 default_state_transition state (all_below-at (stays 8 default_state_transition) 257 state standard_stays (omega arith)) l m;
 }
 
 -- a 0 moves a state as a 1 moves 256 less the state

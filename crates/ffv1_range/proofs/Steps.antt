@@ -6,9 +6,10 @@ use Rattle.ffv1_range.specs.Table.{Table}
 use Rattle.ffv1_range.specs.Reading.{Reading, At}
 use Rattle.ffv1_range.specs.Symbols.{Step, raising, stepped, moved_by, decided}
 use Rattle.ffv1_range.specs.Counts.{Counts, Counted}
-use Rattle.ffv1_range.specs.Follows.{Follows, Reads}
+use Rattle.ffv1_range.specs.Follows.{Follows}
 use Rattle.ffv1_range.specs.Writing.{Writing}
-use Rattle.ffv1_range.specs.Puts.{Puts, Writes}
+use Rattle.ffv1_range.specs.Puts.{Puts}
+use Rattle.ffv1_range.specs.Registers.{Reads, Writes}
 use Rattle.ffv1_range.proofs.Nested.{narrowed-append}
 use Rattle.ffv1_range.proofs.Counting.{counted_none, counted_append}
 

@@ -85,7 +85,7 @@ module _ (t : Table) (states : List ℕ) (a k : ℕ) (steps : List Step) (fits :
   middle_long : length (take k (drop a states)) ≡ k
   middle_long = length-take-le k (drop a states) (simp length-drop (omega arith))
 
-  part_decided : decided t states (shifted a steps) ≡ decided t (take k (drop a states)) steps
+  pub part_decided : decided t states (shifted a steps) ≡ decided t (take k (drop a states)) steps
   part_decided =
       ap (λ s. decided t s (shifted a steps)) (split states a k)
       ∙ ap (λ n. decided t (take a states ++ (take k (drop a states) ++ drop k (drop a states))) (shifted n steps)) (sym front_long)

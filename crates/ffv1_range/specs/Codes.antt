@@ -1,5 +1,7 @@
--- What bytes code (RFC 9043, 3.8.1.1), and how a list of decisions ends (3.8.1.1.1 leaves that to the encoder).
-use Rattle.std.specs.Prelude.{ℕ, ◌+◌, ◌-◌, ◌*◌, ◌/◌, ◌%◌, ◌≤◌, ◌<◌, false, List, [], ◌∷◌, ◌++◌, slice_index, length, take, ◌⊎◌, ◌≡◌}
+-- What bytes code (RFC 9043, 3.8.1.1), and how a list of decisions ends (3.8.1.1.1 leaves that to
+-- the encoder).
+use Rattle.std.specs.Prelude.{ℕ, ◌+◌, ◌-◌, ◌*◌, ◌/◌, ◌%◌, ◌≤◌, ◌<◌, false, List, [], ◌∷◌, ◌++◌}
+use Rattle.std.specs.Prelude.{slice_index, length, take, ◌⊎◌, ◌≡◌}
 use Rattle.std.proofs.Common.{zero, suc}
 use Rattle.ffv1_range.specs.Interval.{Interval, Decision, narrow, interval_of}
 
@@ -57,14 +59,17 @@ pub record ExactlyOne (P Q : Type 0) : Type 0 where
   pub one : P ⊎ Q
   pub apart : P → Q → ⊥
 
--- each decision has the state that is named from the decisions before it, the last of which stand in past
+-- each decision has the state that is named from the decisions before it, the last of which stand
+-- in past
 abbrev pub AreNamed : (List Decision → ℕ) → List Decision → List Decision → Type 0
 AreNamed name past [] = Unit {0}
 AreNamed name past (d ∷ ds) = (d.state ≡ name past) × AreNamed name (past ++ (d ∷ [])) ds
 
 -- the only list of this many named decisions that the bytes code
-pub record IsOnlyList (bytes : List ℕ) (name : List Decision → ℕ) (count : ℕ) (ds : List Decision) : Type 0 where
+pub record IsOnlyList (bytes : List ℕ) (name : List Decision → ℕ) (count : ℕ)
+    (ds : List Decision) : Type 0 where
   pub long : length ds ≡ count
   pub named : AreNamed name [] ds
   pub codes : Codes bytes ds
-  pub only : (es : List Decision) → length es ≡ count → AreNamed name [] es → Codes bytes es → es ≡ ds
+  pub only : (es : List Decision) → length es ≡ count → AreNamed name [] es → Codes bytes es →
+      es ≡ ds

@@ -1,4 +1,5 @@
--- How many decisions were 1 and how many 0, by counters of 64 bits that stay at their greatest value.
+-- How many decisions were 1 and how many 0, by counters of 64 bits that stay at their greatest
+-- value.
 use Rattle.std.specs.Prelude.{◌≡◌, ℕ, ◌+◌, ◌-◌, ◌^◌, Bool, true, false, min, List, [], ◌∷◌, length}
 use Rattle.ffv1_range.specs.Weight.{one_if}
 use Rattle.ffv1_range.specs.Symbols.{Step}

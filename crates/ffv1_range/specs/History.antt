@@ -1,5 +1,6 @@
 -- The state of a slot, from all that was decided before (RFC 9043, 3.8.1.3 and 3.8.1.4).
-use Rattle.std.specs.Prelude.{◌≡◌, ℕ, ◌+◌, ◌<◌, ◌≤◌, ◌==◌, ◌⊎◌, Bool, List, [], ◌∷◌, ◌++◌, length, slice_index, map, filter}
+use Rattle.std.specs.Prelude.{◌≡◌, ℕ, ◌+◌, ◌<◌, ◌≤◌, ◌==◌, ◌⊎◌, Bool, List, [], ◌∷◌, ◌++◌, length}
+use Rattle.std.specs.Prelude.{slice_index, map, filter}
 use Rattle.ffv1_range.specs.Interval.{Decision}
 use Rattle.ffv1_range.specs.Table.{Table, moved}
 use Rattle.ffv1_range.specs.Symbols.{Step}
@@ -31,8 +32,10 @@ AreBelow (s ∷ ss) count = (s.slot < count) × AreBelow ss count
 -- no step is at one of the count slots from base on
 abbrev pub AreOutside : List Step → ℕ → ℕ → Type 0
 AreOutside [] base count = Unit {0}
-AreOutside (s ∷ ss) base count = ((s.slot < base) ⊎ (base + count ≤ s.slot)) × AreOutside ss base count
+AreOutside (s ∷ ss) base count = ((s.slot < base) ⊎ (base + count ≤ s.slot)) ×
+    AreOutside ss base count
 
 -- an array has the states of the slots from base on, behind the steps of past
 pub record HasStates (t : Table) (states : List ℕ) (base : ℕ) (past : List Step) : Type 0 where
-  pub each : (slot : ℕ) → slot < length states → slice_index states slot ≡ state_of t (base + slot) past
+  pub each : (slot : ℕ) → slot < length states →
+      slice_index states slot ≡ state_of t (base + slot) past

@@ -1,5 +1,6 @@
 -- The interval that a list of decisions leaves, over numbers without a limit (RFC 9043, 3.8.1.1).
-use Rattle.std.specs.Prelude.{ℕ, ◌+◌, ◌-◌, ◌*◌, ◌/◌, Bool, true, false, if◌then◌else◌, nat_lt, List, [], ◌∷◌}
+use Rattle.std.specs.Prelude.{ℕ, ◌+◌, ◌-◌, ◌*◌, ◌/◌, Bool, true, false, if◌then◌else◌, nat_lt, List}
+use Rattle.std.specs.Prelude.{[], ◌∷◌}
 use Rattle.std.proofs.Common.{suc}
 
 -- the numbers from low to below low + width, each of count bytes
@@ -25,12 +26,17 @@ share width state = width * state / 256
 abbrev pub part : Interval → ℕ → Bool → Interval
 part i state false = record { low = i.low; width = i.width - share i.width state; count = i.count }
 part i state true =
-    record { low = i.low + (i.width - share i.width state); width = share i.width state; count = i.count }
+    record {
+      low = i.low + (i.width - share i.width state);
+      width = share i.width state;
+      count = i.count;
+    }
 
 -- one byte more where the width is below 256
 abbrev pub renormalised : Interval → Interval
 renormalised i =
-    if nat_lt i.width 256 then record { low = 256 * i.low; width = 256 * i.width; count = suc i.count } else i
+    if nat_lt i.width 256
+    then record { low = 256 * i.low; width = 256 * i.width; count = suc i.count } else i
 
 -- the interval after one decision
 abbrev pub narrow : Interval → ℕ → Bool → Interval

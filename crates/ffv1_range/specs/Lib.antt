@@ -1,6 +1,8 @@
 pub mod Interval
 pub mod Codes
 pub mod Table
+pub mod Standard
+pub mod Generator
 pub mod Deltas
 pub mod Symbols
 pub mod History
@@ -10,4 +12,4 @@ pub mod Reading
 pub mod Writing
 pub mod Follows
 pub mod Puts
-pub mod Standard
+pub mod Registers

@@ -1,11 +1,11 @@
 -- Where a decoder stands.
-use Rattle.std.specs.Prelude.{◌≡◌, ℕ, ◌+◌, ◌^◌, ◌≤◌, ◌<◌, min, List}
+use Rattle.std.specs.Prelude.{◌≡◌, ℕ, ◌+◌, ◌^◌, min, List}
 use Rattle.ffv1_range.specs.Interval.{Interval}
 use Rattle.ffv1_range.specs.Codes.{value, Inside}
 use Rattle.ffv1_range.specs.Counts.{Counts}
 
--- what a decoder holds: the bytes, the width of its interval, how far the upper end of the interval lies
--- above the number of the bytes, how often it renormalised, and what it decided
+-- what a decoder holds: the bytes, the width of its interval, how far the upper end of the interval
+-- lies above the number of the bytes, how often it renormalised, and what it decided
 pub record Reading : Type 0 where
   pub bytes : List ℕ
   pub width : ℕ
@@ -29,15 +29,19 @@ pub record Pause : Type 0 where
 
 -- what is left of a decoder that lets its bytes go
 abbrev pub paused : Reading → Pause
-paused r = record { width = r.width; gap = r.gap; renormalisations = r.renormalisations; counts = r.counts }
+paused r = record {
+  width = r.width;
+  gap = r.gap;
+  renormalisations = r.renormalisations;
+  counts = r.counts;
+}
 
 -- a decoder that goes on with bytes
 abbrev pub resumed : Pause → List ℕ → Reading
-resumed p bytes = record { bytes = bytes; width = p.width; gap = p.gap; renormalisations = p.renormalisations; counts = p.counts }
-
--- what holds of each decoder
-pub record IsReading (width gap : ℕ) : Type 0 where
-  pub least : 256 ≤ width
-  pub most : width ≤ 65280
-  pub some : 0 < gap
-  pub within : gap ≤ width
+resumed p bytes = record {
+  bytes = bytes;
+  width = p.width;
+  gap = p.gap;
+  renormalisations = p.renormalisations;
+  counts = p.counts;
+}

@@ -1,5 +1,6 @@
 -- The decisions of a symbol, by their slots (RFC 9043, 3.8.1.2).
-use Rattle.std.specs.Prelude.{◌≡◌, ℕ, ◌+◌, ◌-◌, ◌/◌, ◌%◌, ◌<◌, Bool, true, false, ◌==◌, min, List, [], ◌∷◌, ◌++◌, length, slice_index, slice_set, ℤ, pos, negsuc}
+use Rattle.std.specs.Prelude.{◌≡◌, ℕ, ◌+◌, ◌-◌, ◌/◌, ◌%◌, ◌<◌, Bool, true, false, ◌==◌, min, List}
+use Rattle.std.specs.Prelude.{[], ◌∷◌, ◌++◌, length, slice_index, slice_set, ℤ, pos, negsuc}
 use Rattle.std.proofs.Common.{zero, suc}
 use Rattle.std.specs.Int.{w32, leading_zeros}
 use Rattle.ffv1_range.specs.Interval.{Decision}
@@ -23,7 +24,8 @@ exponent_steps e = raising e ++ (record { slot = 1 + min e 9; bit = false } ∷ 
 abbrev pub mantissa_steps : ℕ → ℕ → ℕ → List Step
 mantissa_steps zero place n = []
 mantissa_steps (suc count) place n =
-    mantissa_steps count (suc place) (n / 2) ++ (record { slot = 22 + min place 9; bit = (n % 2) == 1 } ∷ [])
+    mantissa_steps count (suc place) (n / 2) ++
+    (record { slot = 22 + min place 9; bit = (n % 2) == 1 } ∷ [])
 
 -- the place of the highest bit
 abbrev pub exponent : ℕ → ℕ
@@ -31,11 +33,14 @@ exponent n = 31 - leading_zeros w32 n
 
 -- a number that is not zero
 abbrev pub magnitude_steps : ℕ → List Step
-magnitude_steps n = ((record { slot = 0; bit = false } ∷ []) ++ exponent_steps (exponent n)) ++ mantissa_steps (exponent n) 0 n
+magnitude_steps n =
+    ((record { slot = 0; bit = false } ∷ []) ++ exponent_steps (exponent n))
+    ++ mantissa_steps (exponent n) 0 n
 
 -- a number that is not zero, and its sign
 abbrev pub sized_steps : ℕ → Bool → List Step
-sized_steps n negative = magnitude_steps n ++ (record { slot = 11 + min (exponent n) 10; bit = negative } ∷ [])
+sized_steps n negative = magnitude_steps n ++
+    (record { slot = 11 + min (exponent n) 10; bit = negative } ∷ [])
 
 -- the symbol of a number without a sign
 abbrev pub unsigned_steps : ℕ → List Step

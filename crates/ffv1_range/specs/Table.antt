@@ -1,5 +1,5 @@
 -- How states move (RFC 9043, 3.8.1.4).
-use Rattle.std.specs.Prelude.{◌≡◌, ℕ, ◌+◌, ◌-◌, ◌*◌, ◌≤◌, ◌<◌, Bool, true, false, List, slice_index}
+use Rattle.std.specs.Prelude.{ℕ, ◌+◌, ◌-◌, ◌≤◌, ◌<◌, Bool, true, false, List, slice_index}
 
 -- a floor, and where each state goes after a 1
 pub record Table : Type 0 where
@@ -24,11 +24,3 @@ pub record IsTable (floor : ℕ) (one : List ℕ) : Type 0 where
   pub middle : floor ≤ 128
   pub least : (state : ℕ) → floor ≤ state → state + floor ≤ 256 → floor ≤ slice_index one state
   pub most : (state : ℕ) → floor ≤ state → state + floor ≤ 256 → slice_index one state + floor ≤ 256
-
--- where each state that is held goes after either, in one number
-abbrev pub AreEither : ℕ → List ℕ → List ℕ → List ℕ → Type 0
-AreEither floor one zero either = (state : ℕ) → floor ≤ state → state + floor ≤ 256 → slice_index either state ≡ slice_index one state + 256 * slice_index zero state
-
--- where each state that is held goes after a 0, beside where it goes after a 1
-abbrev pub AreZeros : ℕ → List ℕ → List ℕ → Type 0
-AreZeros floor one zero = (state : ℕ) → floor ≤ state → state + floor ≤ 256 → slice_index zero state ≡ 256 - slice_index one (256 - state)

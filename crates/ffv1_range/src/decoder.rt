@@ -1,6 +1,7 @@
 //! Decisions are read.
 
-ghost use Rattle.std.specs.Prelude.{◌≡◌, ℕ, ◌+◌, ◌-◌, ◌*◌, ◌^◌, ◌≤◌, ◌<◌, ◌↔◌, IfOk, IfErr, IsErr, slice_index, slice_set, List, [], ◌∷◌, true};
+ghost use Rattle.std.specs.Prelude.{◌≡◌, ℕ, ◌+◌, ◌-◌, ◌*◌, ◌^◌, ◌≤◌, ◌<◌, ◌↔◌, IfOk, IfErr, IsErr};
+ghost use Rattle.std.specs.Prelude.{slice_index, slice_set, List, [], ◌∷◌, true, ⊤};
 ghost use Rattle.ffv1_range.specs.Interval.{Interval, narrow, renormalised, start};
 ghost use Rattle.ffv1_range.specs.Codes.{value};
 ghost use Rattle.ffv1_range.specs.Table.{moved, Holds};
@@ -8,16 +9,23 @@ ghost use Rattle.ffv1_range.specs.Reading.{At, paused};
 ghost use Rattle.ffv1_range.specs.Follows.{Follows};
 ghost use Rattle.ffv1_range.specs.Counts.{uncounted, counted, saturated, total};
 
+use crate::encoder::FIRST_WIDTH;
 use crate::fault::Fault;
 use crate::parked::Parked;
 use crate::table::StateTable;
 use crate::tally::Tally;
+use std::alloc::AllocError;
 use std::marker::Model;
 
-/// A decoder of the decisions that some bytes code (RFC 9043, 3.8.1.1). Bytes behind the end are read as 0. It takes no memory.
+/// A decoder of the decisions that some bytes code (RFC 9043, 3.8.1.1). Bytes behind the end are
+/// read as 0. It takes no memory.
 ///
-/// It is seen as a `Reading`: its bytes, the width of its interval, how far the interval's upper end lies above the number of
-/// the bytes, how often it renormalised, and its counts. `At` says which interval that is.
+/// It is seen as a `Reading`: its bytes, the width of its interval, how far the interval's upper
+/// end lies above the number of the bytes, how often it renormalised, and its counts. `At` says
+/// which interval that is.
+///
+/// A clone stands at the same place of the same bytes, and reads on by itself. It takes no memory
+/// and never fails.
 #[derive(Drop)]
 pub struct RangeDecoder<'a> {
     pub(crate) bytes: &'a [u8],
@@ -29,18 +37,43 @@ pub struct RangeDecoder<'a> {
 }
 
 impl<'a> Model for RangeDecoder<'a> {
-    ghost use Rattle.ffv1_range.specs.Reading.{Reading, IsReading};
+    ghost use Rattle.ffv1_range.specs.Reading.{Reading};
+    ghost use Rattle.ffv1_range.specs.Registers.{IsReading};
 
     ghost Value = { Reading };
 
-    ghost view = { λ r. record { bytes = r.bytes.now; width = r.width; gap = r.gap; renormalisations = r.renormalisations; counts = record { ones = r.ones; zeros = r.zeros } } };
+    ghost view = { λ r. record {
+      bytes = r.bytes.now;
+      width = r.width;
+      gap = r.gap;
+      renormalisations = r.renormalisations;
+      counts = record { ones = r.ones; zeros = r.zeros };
+    } };
 
     ghost invariant = { λ r. IsReading r.width r.gap };
 }
 
+impl<'a> Clone for RangeDecoder<'a> {
+    ghost is_clone = { λ decoder clone. clone ≡ decoder };
+
+    ghost is_infallible = { λ _. ⊤ };
+
+    #[inline(always)]
+    fn clone(&self) -> Result<RangeDecoder<'a>, AllocError> {
+        Ok(RangeDecoder {
+            bytes: self.bytes,
+            width: self.width,
+            gap: self.gap,
+            renormalisations: self.renormalisations,
+            ones: self.ones,
+            zeros: self.zeros,
+        })
+    }
+}
+
 impl<'a> RangeDecoder<'a> {
-    /// Begins at the bytes. Answers `BadStart` exactly where their first two, big end first and with zeros behind the end, are
-    /// 65280 or more: such bytes code no decisions, not even none.
+    /// Begins at the bytes. Answers `BadStart` exactly where their first two, big end first and
+    /// with zeros behind the end, are 65280 or more: such bytes code no decisions, not even none.
     pub fn new(bytes: &'a [u8]) -> Result<RangeDecoder<'a>, Fault>
         ensures refused { IsErr result ↔ (65280 ≤ value bytes.now 2) }
         ensures fault { IfErr result (λ f. f ≡ Fault.BadStart) }
@@ -51,13 +84,13 @@ impl<'a> RangeDecoder<'a> {
         let first = if bytes.is_empty() { 0 } else { bytes[0] };
         let second = if bytes.len() < 2 { 0 } else { bytes[1] };
         let number = u32::from(first) * 256 + u32::from(second);
-        if number >= 65280 {
+        if number >= FIRST_WIDTH {
             return Err(Fault::BadStart);
         }
         Ok(RangeDecoder {
             bytes,
-            width: 65280,
-            gap: 65280 - number,
+            width: FIRST_WIDTH,
+            gap: FIRST_WIDTH - number,
             renormalisations: 0,
             ones: 0,
             zeros: 0,
@@ -77,11 +110,10 @@ impl<'a> RangeDecoder<'a> {
         ensures zeros { result.zeros ≡ self.now.counts.zeros }
         ensures renormalisations { result.renormalisations ≡ self.now.renormalisations }
     {
-        let renormalisations = self.renormalisations;
         Tally {
             ones: self.ones,
             zeros: self.zeros,
-            renormalisations,
+            renormalisations: self.renormalisations,
         }
     }
 
@@ -90,24 +122,7 @@ impl<'a> RangeDecoder<'a> {
     pub fn park(self) -> Parked
         ensures { result ≡ paused self.entry }
     {
-        let (ones, zeros) = (self.ones, self.zeros);
         Parked {
-            width: self.width,
-            gap: self.gap,
-            renormalisations: self.renormalisations,
-            ones,
-            zeros,
-        }
-    }
-
-    /// A second decoder at the same place of the same bytes. A hot loop runs on such a copy of its own, and puts it back at
-    /// its end.
-    #[inline(always)]
-    pub fn copied(&self) -> RangeDecoder<'a>
-        ensures { result ≡ self.now }
-    {
-        RangeDecoder {
-            bytes: self.bytes,
             width: self.width,
             gap: self.gap,
             renormalisations: self.renormalisations,
@@ -123,7 +138,8 @@ impl<'a> RangeDecoder<'a> {
         ensures bytes { self.new.bytes ≡ self.old.bytes }
         ensures at { (i : Interval) → At self.old i → At self.new (narrow i state.old result) }
         ensures follows { (states : List ℕ) (slot : ℕ) → slice_index states slot ≡ state.old →
-            Follows table.now self.old states self.new (slice_set states slot state.new) (record { slot = slot; bit = result } ∷ []) }
+            Follows table.now self.old states self.new (slice_set states slot state.new)
+            (record { slot = slot; bit = result } ∷ []) }
         ensures counts { self.new.counts ≡ counted self.old.counts result }
         ensures moves { state.new ≡ moved table.now state.old result }
         ensures held { Holds table.now state.new }
@@ -159,7 +175,8 @@ impl<'a> RangeDecoder<'a> {
         false
     }
 
-    /// The next decision, uncounted, by one choice of numbers: for a decision that is data, which no branch predicts well.
+    /// The next decision, uncounted, by one choice of numbers: for a decision that is data, which
+    /// no branch predicts well.
     #[inline(always)]
     pub(crate) fn choose(&mut self, table: &StateTable, state: &mut u8) -> bool
         requires { Holds table.now state.old }
@@ -190,7 +207,8 @@ impl<'a> RangeDecoder<'a> {
         requires some { 0 < gap }
         requires within { gap ≤ width }
         ensures bytes { self.new.bytes ≡ self.old.bytes }
-        ensures at { (i : Interval) → At (record self.old { width = width; gap = gap }) i → At self.new (renormalised i) }
+        ensures at { (i : Interval) → At (record self.old { width = width; gap = gap }) i →
+            At self.new (renormalised i) }
         ensures counts { self.new.counts ≡ self.old.counts }
     {
         if width >= 256 {
@@ -208,7 +226,8 @@ impl<'a> RangeDecoder<'a> {
     fn next_byte(&mut self) -> u32
         ensures byte { result ≡ slice_index self.old.bytes (self.old.renormalisations + 2) }
         ensures below { result < 256 }
-        ensures moves { self.new ≡ record self.old { renormalisations = saturated (self.old.renormalisations + 1) } }
+        ensures moves { self.new ≡
+            record self.old { renormalisations = saturated (self.old.renormalisations + 1) } }
     {
         let at = self.renormalisations as usize;
         if at < self.bytes.len().saturating_sub(2) {

@@ -1,14 +1,18 @@
 //! Decisions are written.
 
-ghost use Rattle.std.specs.Prelude.{◌≡◌, ℕ, ◌+◌, ◌-◌, ◌*◌, ◌/◌, ◌^◌, ◌≤◌, ◌<◌, ◌++◌, List, length, replicate, slice_index, slice_set, [], ◌∷◌, IsTrue, IfOk, IfErr, IsErr, OnOk, false};
+ghost use Rattle.std.specs.Prelude.{◌≡◌, ℕ, ◌+◌, ◌-◌, ◌*◌, ◌/◌, ◌^◌, ◌≤◌, ◌<◌, ◌++◌, List, length};
+ghost use Rattle.std.specs.Prelude.{replicate, slice_index, slice_set, [], ◌∷◌, IsTrue, IfOk};
+ghost use Rattle.std.specs.Prelude.{IfErr, IsErr, OnOk, OnErr, ◌⊎◌, false};
 ghost use Rattle.ffv1_range.specs.Interval.{Decision, narrow, part, renormalised, interval_of};
-ghost use Rattle.ffv1_range.specs.Codes.{value, sentinel_of, full_of, rounded_of, AreBytes, AreStates, Codes};
+ghost use Rattle.ffv1_range.specs.Codes.{value, sentinel_of, full_of, rounded_of, AreBytes};
+ghost use Rattle.ffv1_range.specs.Codes.{AreStates, Codes};
 ghost use Rattle.ffv1_range.specs.Table.{Table, moved, Holds};
-ghost use Rattle.ffv1_range.specs.Writing.{unwritten, interval_from, IsWriting, IsChosen};
+ghost use Rattle.ffv1_range.specs.Writing.{unwritten};
 ghost use Rattle.ffv1_range.specs.Counts.{counted, total};
 ghost use Rattle.ffv1_range.specs.Symbols.{Step};
 ghost use Rattle.ffv1_range.specs.History.{AreBelow, decisions_after};
 ghost use Rattle.ffv1_range.specs.Puts.{Puts};
+ghost use Rattle.ffv1_range.specs.Registers.{interval_from, IsWriting, IsChosen};
 
 use crate::fault::Fault;
 use crate::table::StateTable;
@@ -16,11 +20,17 @@ use crate::tally::Tally;
 use std::alloc::{AllocError, Allocator, Global};
 use std::marker::Model;
 
+/// The width of a coder's interval at first (RFC 9043, 3.8.1.1).
+pub(crate) const FIRST_WIDTH: u32 = 65280;
+
+/// The state of the decision 0 that the sentinel ending adds (RFC 9043, 3.8.1.1.1).
+const SENTINEL_STATE: u8 = 129;
+
 /// An encoder of decisions (RFC 9043, 3.8.1.1). Its bytes grow in the memory of its allocator.
 ///
-/// It is seen as a `Writing`: the interval of the decisions that were put, over numbers without a limit, its counts, and
-/// whether it has failed. After a growth was refused it has failed for good: every later put and either ending answer
-/// `OutOfMemory`, and nothing of its bytes is handed out.
+/// It is seen as a `Writing`: the interval of the decisions that were put, over numbers without a
+/// limit, its counts, and whether it has failed. After a growth was refused it has failed for good:
+/// every later put and either ending answer `OutOfMemory`, and nothing of its bytes is handed out.
 #[derive(Drop)]
 pub struct RangeEncoder<A: Allocator = Global> {
     pub(crate) bytes: Vec<u8, A>,
@@ -32,11 +42,16 @@ pub struct RangeEncoder<A: Allocator = Global> {
 }
 
 impl<A: Allocator> Model for RangeEncoder<A> {
-    ghost use Rattle.ffv1_range.specs.Writing.{Writing, IsWriting, interval_from};
+    ghost use Rattle.ffv1_range.specs.Registers.{IsWriting, interval_from};
+    ghost use Rattle.ffv1_range.specs.Writing.{Writing};
 
     ghost Value = { Writing };
 
-    ghost view = { λ w. record { interval = interval_from w.bytes.items w.low w.width; counts = record { ones = w.ones; zeros = w.zeros }; failed = w.failed } };
+    ghost view = { λ w. record {
+      interval = interval_from w.bytes.items w.low w.width;
+      counts = record { ones = w.ones; zeros = w.zeros };
+      failed = w.failed;
+    } };
 
     ghost invariant = { λ w. IsWriting w.bytes.items w.low w.width };
 }
@@ -49,23 +64,32 @@ impl<A: Allocator> RangeEncoder<A> {
         RangeEncoder {
             bytes: Vec::new(alloc),
             low: 0,
-            width: 65280,
+            width: FIRST_WIDTH,
             ones: 0,
             zeros: 0,
             failed: false,
         }
     }
 
-    /// One decision more, by a state that the table holds. The state moves by the decision, also where the answer is
-    /// `OutOfMemory`: then a growth was refused, now or before, and the encoder has failed for good.
+    /// One decision more, by a state that the table holds. The state moves by the decision, also
+    /// where the answer is `OutOfMemory`: then a growth was refused, now or before, and the encoder
+    /// has failed for good.
     #[inline(always)]
     pub fn put(&mut self, table: &StateTable, state: &mut u8, bit: bool) -> Result<(), Fault>
         requires { Holds table.now state.old }
-        ensures ok { OnOk result (self.new ≡ record { interval = narrow self.old.interval state.old bit; counts = counted self.old.counts bit; failed = false }) }
-        ensures puts { OnOk result ((states : List ℕ) (slot : ℕ) → slice_index states slot ≡ state.old →
-            Puts table.now self.old states self.new (slice_set states slot state.new) (record { slot = slot; bit = bit } ∷ [])) }
+        ensures ok { OnOk result (self.new ≡ record {
+          interval = narrow self.old.interval state.old bit;
+          counts = counted self.old.counts bit;
+          failed = false;
+        }) }
+        ensures puts { OnOk result ((states : List ℕ) (slot : ℕ) →
+            slice_index states slot ≡ state.old →
+            Puts table.now self.old states self.new (slice_set states slot state.new)
+            (record { slot = slot; bit = bit } ∷ [])) }
         ensures moves { state.new ≡ moved table.now state.old bit }
         ensures held { Holds table.now state.new }
+        ensures refused { OnErr result (IsTrue self.old.failed ⊎
+            (self.old.interval.count < (narrow self.old.interval state.old bit).count)) }
         ensures err { IfErr result (λ f. (f ≡ Fault.OutOfMemory) × IsTrue self.new.failed) }
         ensures stays { IsTrue self.old.failed → IsErr result }
     {
@@ -92,8 +116,7 @@ impl<A: Allocator> RangeEncoder<A> {
     pub fn has_failed(&self) -> bool
         ensures { result ≡ self.now.failed }
     {
-        let RangeEncoder { failed, .. } = self;
-        *failed
+        self.failed
     }
 
     /// How many decisions were put, at most 2^64 - 1.
@@ -110,14 +133,19 @@ impl<A: Allocator> RangeEncoder<A> {
         self.bytes.len() as u64
     }
 
-    /// The bytes, by the sentinel ending: after one more decision 0 by the state 129, the least multiple of 256 that is at
-    /// least the interval's low end, without its last byte. They are as many as one and all renormalisations, that of the
-    /// last decision included. Answers `OutOfMemory` where a growth was refused, now or before; then no byte is handed out.
+    /// The bytes, by the sentinel ending: after one more decision 0 by the state 129, the least
+    /// multiple of 256 that is at least the interval's low end, without its last byte. They are as
+    /// many as one and all renormalisations, that of the last decision included. Answers
+    /// `OutOfMemory` where a growth was refused, now or before; then no byte is handed out.
     pub fn finish_sentinel(mut self) -> Result<Vec<u8, A>, Fault>
         ensures ok { IfOk result (λ bytes. bytes.items ≡ sentinel_of self.interval) }
-        ensures long { IfOk result (λ bytes. length bytes.items + 1 ≡ (narrow self.interval 129 false).count) }
-        ensures codes { IfOk result (λ bytes. (ds : List Decision) → AreStates ds → self.interval ≡ interval_of ds → Codes bytes.items ds) }
-        ensures fresh { IfOk result (λ bytes. (t : Table) (slots : ℕ) (after : List ℕ) (steps : List Step) → AreBelow steps slots → Puts t unwritten (replicate slots 128) self after steps →
+        ensures long { IfOk result (λ bytes.
+            length bytes.items + 1 ≡ (narrow self.interval 129 false).count) }
+        ensures codes { IfOk result (λ bytes. (ds : List Decision) → AreStates ds →
+            self.interval ≡ interval_of ds → Codes bytes.items ds) }
+        ensures fresh { IfOk result (λ bytes. (t : Table) (slots : ℕ) (after : List ℕ)
+            (steps : List Step) → AreBelow steps slots →
+            Puts t unwritten (replicate slots 128) self after steps →
             bytes.items ≡ sentinel_of (interval_of (decisions_after t [] steps))) }
         ensures err { IfErr result (λ f. f ≡ Fault.OutOfMemory) }
         ensures stays { IsTrue self.failed → IsErr result }
@@ -125,21 +153,24 @@ impl<A: Allocator> RangeEncoder<A> {
         if self.failed {
             return Err(Fault::OutOfMemory);
         }
-        self.step(129, false)?;
+        self.step(SENTINEL_STATE, false)?;
         let top = (self.low + 255) / 256;
         let mut bytes = self.bytes;
         emit(&mut bytes, top)?;
         Ok(bytes)
     }
 
-    /// The bytes, by the full ending: all bytes of the interval's low end, two more than the renormalisations. They code the
-    /// decisions whatever follows them. Answers `OutOfMemory` where a growth was refused, now or before; then no byte is
-    /// handed out.
+    /// The bytes, by the full ending: all bytes of the interval's low end, two more than the
+    /// renormalisations. They code the decisions whatever follows them. Answers `OutOfMemory` where
+    /// a growth was refused, now or before; then no byte is handed out.
     pub fn finish_full(self) -> Result<Vec<u8, A>, Fault>
         ensures ok { IfOk result (λ bytes. bytes.items ≡ full_of self.interval) }
         ensures long { IfOk result (λ bytes. length bytes.items ≡ self.interval.count) }
-        ensures codes { IfOk result (λ bytes. (ds : List Decision) (behind : List ℕ) → AreStates ds → self.interval ≡ interval_of ds → Codes (bytes.items ++ behind) ds) }
-        ensures fresh { IfOk result (λ bytes. (t : Table) (slots : ℕ) (after : List ℕ) (steps : List Step) → AreBelow steps slots → Puts t unwritten (replicate slots 128) self after steps →
+        ensures codes { IfOk result (λ bytes. (ds : List Decision) (behind : List ℕ) →
+            AreStates ds → self.interval ≡ interval_of ds → Codes (bytes.items ++ behind) ds) }
+        ensures fresh { IfOk result (λ bytes. (t : Table) (slots : ℕ) (after : List ℕ)
+            (steps : List Step) → AreBelow steps slots →
+            Puts t unwritten (replicate slots 128) self after steps →
             bytes.items ≡ full_of (interval_of (decisions_after t [] steps))) }
         ensures err { IfErr result (λ f. f ≡ Fault.OutOfMemory) }
         ensures stays { IsTrue self.failed → IsErr result }
@@ -167,11 +198,15 @@ impl<A: Allocator> RangeEncoder<A> {
         }
     }
 
-    /// Narrows the interval by a decision, uncounted, and gives out a byte where it is narrower than 256.
+    /// Narrows the interval by a decision, uncounted, and gives out a byte where it is narrower
+    /// than 256.
     #[inline(always)]
     pub(crate) fn step(&mut self, state: u8, bit: bool) -> Result<(), Fault>
         requires { 0 < state }
-        ensures ok { OnOk result (self.new ≡ record self.old { interval = narrow self.old.interval state bit }) }
+        ensures ok { OnOk result (self.new ≡
+            record self.old { interval = narrow self.old.interval state bit }) }
+        ensures refused { OnErr result (self.old.interval.count <
+            (narrow self.old.interval state bit).count) }
         ensures err { IfErr result (λ f. (f ≡ Fault.OutOfMemory) × IsTrue self.new.failed) }
     {
         let mut span = Span {
@@ -191,16 +226,16 @@ impl<A: Allocator> RangeEncoder<A> {
     }
 }
 
-/// What an encoder's interval has beside its bytes: its low end, two places below them, and its width. A symbol is written
-/// with a copy of it.
+/// What an encoder's interval has beside its bytes: its low end, two places below them, and its
+/// width. A symbol is written with a copy of it.
 #[derive(Drop)]
 pub(crate) struct Span {
     pub(crate) low: u32,
     pub(crate) width: u32,
 }
 
-/// Narrows the interval by a decision, and gives out a byte where it is narrower than 256. Where a growth is refused, nothing
-/// is left of the bytes.
+/// Narrows the interval by a decision, and gives out a byte where it is narrower than 256. Where a
+/// growth is refused, nothing is left of the bytes.
 #[inline(always)]
 pub(crate) fn narrow_by<A: Allocator>(
     bytes: &mut Vec<u8, A>,
@@ -210,7 +245,11 @@ pub(crate) fn narrow_by<A: Allocator>(
 ) -> Result<(), AllocError>
     requires writing { IsWriting bytes.old.items span.old.low span.old.width }
     requires positive { 0 < state }
-    ensures ok { OnOk result (interval_from bytes.new.items span.new.low span.new.width ≡ narrow (interval_from bytes.old.items span.old.low span.old.width) state bit) }
+    ensures ok { OnOk result (interval_from bytes.new.items span.new.low span.new.width ≡
+        narrow (interval_from bytes.old.items span.old.low span.old.width) state bit) }
+    ensures refused { OnErr result (
+        (interval_from bytes.old.items span.old.low span.old.width).count <
+        (narrow (interval_from bytes.old.items span.old.low span.old.width) state bit).count) }
     ensures writing { IsWriting bytes.new.items span.new.low span.new.width }
 {
     let (low, width) = part_of(bytes, span.low, span.width, state, bit);
@@ -228,7 +267,7 @@ pub(crate) fn narrow_by<A: Allocator>(
         Err(refused) => {
             bytes.clear();
             span.low = 0;
-            span.width = 65280;
+            span.width = FIRST_WIDTH;
             Err(refused)
         }
     }
@@ -239,7 +278,8 @@ pub(crate) fn narrow_by<A: Allocator>(
 fn part_of(bytes: &[u8], low: u32, width: u32, state: u8, bit: bool) -> (u32, u32)
     requires writing { IsWriting bytes.now low width }
     requires positive { 0 < state }
-    ensures interval { interval_from bytes.now result.0 result.1 ≡ part (interval_from bytes.now low width) state bit }
+    ensures interval { interval_from bytes.now result.0 result.1 ≡
+        part (interval_from bytes.now low width) state bit }
     ensures chosen { IsChosen bytes.now result.0 result.1 }
 {
     let upper = width * u32::from(state) / 256;
@@ -250,13 +290,16 @@ fn part_of(bytes: &[u8], low: u32, width: u32, state: u8, bit: bool) -> (u32, u3
     (low, lower)
 }
 
-/// One place more of a number with its bytes big end first. A top of 256 or more carries into the bytes before.
+/// One place more of a number with its bytes big end first. A top of 256 or more carries into the
+/// bytes before.
 #[inline(always)]
 fn emit<A: Allocator>(bytes: &mut Vec<u8, A>, top: u32) -> Result<(), AllocError>
     requires bytes_fit { AreBytes bytes.old.items }
     requires below { top < 512 }
-    requires room { 256 * value bytes.old.items (length bytes.old.items) + top < 256 * 256 ^ length bytes.old.items }
-    ensures value { OnOk result (value bytes.new.items (length bytes.new.items) ≡ 256 * value bytes.old.items (length bytes.old.items) + top) }
+    requires room { 256 * value bytes.old.items (length bytes.old.items) + top <
+        256 * 256 ^ length bytes.old.items }
+    ensures value { OnOk result (value bytes.new.items (length bytes.new.items) ≡
+        256 * value bytes.old.items (length bytes.old.items) + top) }
     ensures long { OnOk result (length bytes.new.items ≡ length bytes.old.items + 1) }
     ensures bytes_fit { OnOk result (AreBytes bytes.new.items) }
 {

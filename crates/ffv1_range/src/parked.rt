@@ -1,9 +1,11 @@
 //! Decoders without their bytes.
 
 ghost use Rattle.std.specs.Prelude.{◌≡◌};
+ghost use Rattle.ffv1_range.specs.Counts.{total};
 ghost use Rattle.ffv1_range.specs.Reading.{resumed};
 
 use crate::decoder::RangeDecoder;
+use crate::tally::Tally;
 use std::marker::Model;
 
 /// A decoder that has let its bytes go. It is seen as a `Pause`.
@@ -17,18 +19,44 @@ pub struct Parked {
 }
 
 impl Model for Parked {
-    ghost use Rattle.ffv1_range.specs.Reading.{Pause, IsReading};
+    ghost use Rattle.ffv1_range.specs.Reading.{Pause};
+    ghost use Rattle.ffv1_range.specs.Registers.{IsReading};
 
     ghost Value = { Pause };
 
-    ghost view = { λ p. record { width = p.width; gap = p.gap; renormalisations = p.renormalisations; counts = record { ones = p.ones; zeros = p.zeros } } };
+    ghost view = { λ p. record {
+      width = p.width;
+      gap = p.gap;
+      renormalisations = p.renormalisations;
+      counts = record { ones = p.ones; zeros = p.zeros };
+    } };
 
     ghost invariant = { λ p. IsReading p.width p.gap };
 }
 
 impl Parked {
-    /// Goes on with bytes. On the bytes that it had, the decoder is as if it had never been parked; on others it is some
-    /// decoder of theirs.
+    /// How many decisions were read, at most 2^64 - 1.
+    pub fn taken(&self) -> u64
+        ensures { result ≡ total self.now.counts }
+    {
+        self.ones.saturating_add(self.zeros)
+    }
+
+    /// How many ones, zeros and renormalisations there were, each at most 2^64 - 1.
+    pub fn tally(&self) -> Tally
+        ensures ones { result.ones ≡ self.now.counts.ones }
+        ensures zeros { result.zeros ≡ self.now.counts.zeros }
+        ensures renormalisations { result.renormalisations ≡ self.now.renormalisations }
+    {
+        Tally {
+            ones: self.ones,
+            zeros: self.zeros,
+            renormalisations: self.renormalisations,
+        }
+    }
+
+    /// Goes on with bytes. On the bytes that it had, the decoder is as if it had never been parked;
+    /// on others it is some decoder of theirs.
     #[inline(always)]
     pub fn wake<'a>(self, bytes: &'a [u8]) -> RangeDecoder<'a>
         ensures { result ≡ resumed self bytes.now }

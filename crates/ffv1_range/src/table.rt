@@ -1,7 +1,10 @@
 //! Where states move.
 
-ghost use Rattle.std.specs.Prelude.{◌≡◌, ◌≢◌, ℤ, pos, negsuc, ◌+ℤ◌, slice_index_or, length, IfOk, IfErr, IfSome, IfNone, IsFalse, ℕ, ◌+◌, ◌-◌, ◌*◌, ◌≤◌, ◌<◌, ◌↔◌, slice_index, replicate, IsTrue, true, false};
+ghost use Rattle.std.specs.Prelude.{◌≡◌, ◌≢◌, ℤ, pos, negsuc, ◌+ℤ◌, slice_index_or, length, IfOk};
+ghost use Rattle.std.specs.Prelude.{IfErr, IfSome, IfNone, IsFalse, ℕ, ◌+◌, ◌-◌, ◌*◌, ◌≤◌, ◌<◌};
+ghost use Rattle.std.specs.Prelude.{◌↔◌, slice_index, replicate, IsTrue, true, false};
 ghost use Rattle.ffv1_range.specs.Table.{moved, Holds, IsTable};
+ghost use Rattle.ffv1_range.specs.Standard.{standard};
 ghost use Rattle.ffv1_range.specs.Symbols.{AreHeld};
 ghost use Rattle.ffv1_range.specs.Deltas.{entry_of, byte_of, IsTableOf, HaveNoTable};
 
@@ -25,8 +28,9 @@ pub(crate) const STANDARD: [u8; 256] = [
     248, 0, 0, 0, 0, 0, 0, 0,
 ];
 
-/// Where each state goes after a decision (RFC 9043, 3.8.1.4). A state is a number from 1 to 255; the greater it is, the
-/// cheaper is a decision 1. A table holds the states from its floor to 256 less its floor, and moves them among themselves.
+/// Where each state goes after a decision (RFC 9043, 3.8.1.4). A state is a number from 1 to 255;
+/// the greater it is, the cheaper is a decision 1. A table holds the states from its floor to 256
+/// less its floor, and moves them among themselves.
 #[derive(Drop)]
 pub struct StateTable {
     floor: u8,
@@ -36,19 +40,21 @@ pub struct StateTable {
 }
 
 impl Model for StateTable {
-    ghost use Rattle.ffv1_range.specs.Table.{Table, IsTable, AreZeros, AreEither};
+    ghost use Rattle.ffv1_range.specs.Table.{Table, IsTable};
+    ghost use Rattle.ffv1_range.specs.Registers.{AreZeros, AreEither};
 
     ghost Value = { Table };
 
     ghost view = { λ t. record { floor = t.floor; one = t.one } };
 
-    ghost invariant = { λ t. IsTable t.floor t.one × AreZeros t.floor t.one t.zero × AreEither t.floor t.one t.zero t.either };
+    ghost invariant = { λ t. IsTable t.floor t.one × AreZeros t.floor t.one t.zero ×
+        AreEither t.floor t.one t.zero t.either };
 }
 
 impl StateTable {
     /// The standard's table (RFC 9043, 3.8.1.5). Its floor is 8.
     pub fn standard() -> Self
-        ensures value { result ≡ record { floor = 8; one = STANDARD } }
+        ensures value { result ≡ standard }
         ensures table { IsTable result.floor result.one }
         ensures fresh { AreHeld result (replicate 32 128) }
     {
@@ -61,9 +67,10 @@ impl StateTable {
         }
     }
 
-    /// The standard's table changed by deltas, that of state 1 first (RFC 9043, 4.2.4). Answers `StateTable` exactly where a
-    /// delta is -2147483648, or no floor from 1 to 128 is such that each state from it to 256 less it goes to one of them
-    /// after a decision 1. The table's floor is the least such.
+    /// The standard's table changed by deltas, that of state 1 first (RFC 9043, 4.2.4). Answers
+    /// `StateTable` exactly where a delta is -2147483648, or no floor from 1 to 128 is such that
+    /// each state from it to 256 less it goes to one of them after a decision 1. The table's floor
+    /// is the least such.
     pub fn with_deltas(deltas: &[i32; 255]) -> Result<StateTable, Fault>
         ensures ok { IfOk result (λ t. IsTableOf deltas.now t) }
         ensures table { IfOk result (λ t. IsTable t.floor t.one) }
@@ -121,7 +128,8 @@ impl StateTable {
         self.zero[state as usize]
     }
 
-    /// Where a state goes after a decision 1, and 256 times where it goes after a decision 0: one number to choose from.
+    /// Where a state goes after a decision 1, and 256 times where it goes after a decision 0: one
+    /// number to choose from.
     #[inline(always)]
     pub(crate) fn after_either(&self, state: u8) -> u16
         requires { Holds self.now state }
@@ -133,9 +141,11 @@ impl StateTable {
     }
 }
 
-/// Where each state goes after either decision: after a 1 in the low byte, and after a 0 in the high one.
+/// Where each state goes after either decision: after a 1 in the low byte, and after a 0 in the
+/// high one.
 fn both(one: &[u8; 256], zero: &[u8; 256]) -> [u16; 256]
-    ensures { (state : ℕ) → state < 256 → slice_index result state ≡ slice_index one.now state + 256 * slice_index zero.now state }
+    ensures { (state : ℕ) → state < 256 →
+        slice_index result state ≡ slice_index one.now state + 256 * slice_index zero.now state }
 {
     let mut pairs = [0; 256];
     for state in 0..256usize {
@@ -146,7 +156,8 @@ fn both(one: &[u8; 256], zero: &[u8; 256]) -> [u16; 256]
 
 /// Where each state goes after a decision 0: a 0 moves a state as a 1 moves 256 less the state.
 fn zeros_beside(one: &[u8; 256]) -> [u8; 256]
-    ensures { (state : ℕ) → 0 < state → state < 256 → 0 < slice_index one.now (256 - state) → slice_index result state ≡ 256 - slice_index one.now (256 - state) }
+    ensures { (state : ℕ) → 0 < state → state < 256 → 0 < slice_index one.now (256 - state) →
+        slice_index result state ≡ 256 - slice_index one.now (256 - state) }
 {
     let mut zero = [0; 256];
     for state in 1..256usize {
@@ -158,9 +169,13 @@ fn zeros_beside(one: &[u8; 256]) -> [u8; 256]
 /// Where each state goes after a decision 1, by deltas; 0 for what is no byte.
 fn changed(deltas: &[i32; 255]) -> Result<[u8; 256], Fault>
     ensures long { IfOk result (λ one. length one ≡ 256) }
-    ensures sound { IfOk result (λ one. (k : ℕ) → k < length deltas.now → slice_index_or deltas.now k (pos 0) ≢ negsuc 2147483647) }
-    ensures entries { IfOk result (λ one. (state : ℕ) → state < 256 → slice_index one state ≡ byte_of (entry_of deltas.now state)) }
-    ensures refused { IfErr result (λ f. (f ≡ Fault.StateTable) × ((k : ℕ) × ((k < length deltas.now) × (slice_index_or deltas.now k (pos 0) ≡ negsuc 2147483647)))) }
+    ensures sound { IfOk result (λ one. (k : ℕ) → k < length deltas.now →
+        slice_index_or deltas.now k (pos 0) ≢ negsuc 2147483647) }
+    ensures entries { IfOk result (λ one. (state : ℕ) → state < 256 →
+        slice_index one state ≡ byte_of (entry_of deltas.now state)) }
+    ensures refused { IfErr result (λ f. (f ≡ Fault.StateTable) ×
+        ((k : ℕ) × ((k < length deltas.now) ×
+        (slice_index_or deltas.now k (pos 0) ≡ negsuc 2147483647)))) }
 {
     let mut one = [0; 256];
     for k in 0..255usize {

@@ -1,7 +1,7 @@
 //! What the decisions of a coder were.
 
-/// How many decisions of a coder were 1 and how many 0, and how often it renormalised. Each count stays at 2^64 - 1 once it
-/// is there.
+/// How many decisions of a coder were 1 and how many 0, and how often it renormalised. Each count
+/// stays at 2^64 - 1 once it is there.
 #[derive(Clone, Copy, Debug, PartialEq, Eq)]
 pub struct Tally {
     /// Decisions 1.

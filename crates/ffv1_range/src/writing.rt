@@ -1,14 +1,17 @@
 //! Symbols are written: numbers by their decisions (RFC 9043, 3.8.1.2).
 
-ghost use Rattle.std.specs.Prelude.{◌≡◌, ℕ, ◌+◌, ◌*◌, ◌^◌, ◌≤◌, ◌<◌, List, [], ◌∷◌, OnOk, IfOk, IfErr, IsTrue, IsErr, length, unsigned_abs, false};
-ghost use Rattle.ffv1_range.specs.Symbols.{Step, AreHeld, AllHeld, shifted, exponent_steps, mantissa_steps, magnitude_steps, signed_steps, unsigned_steps};
+ghost use Rattle.std.specs.Prelude.{◌≡◌, ℕ, ◌+◌, ◌*◌, ◌^◌, ◌≤◌, ◌<◌, List, [], ◌∷◌, OnOk, OnErr};
+ghost use Rattle.std.specs.Prelude.{IfOk, IfErr, IsTrue, IsErr, length, unsigned_abs, false};
+ghost use Rattle.ffv1_range.specs.Symbols.{Step, AreHeld, AllHeld, shifted, exponent_steps};
+ghost use Rattle.ffv1_range.specs.Symbols.{mantissa_steps, magnitude_steps, signed_steps};
+ghost use Rattle.ffv1_range.specs.Symbols.{unsigned_steps};
 ghost use Rattle.ffv1_range.specs.Counts.{ones_in, Counted};
-ghost use Rattle.ffv1_range.specs.Puts.{Puts, Writes};
-ghost use Rattle.ffv1_range.specs.Writing.{IsWriting, standing};
+ghost use Rattle.ffv1_range.specs.Puts.{Puts, Grows, MayBeRefused};
+ghost use Rattle.ffv1_range.specs.Registers.{Writes, IsWriting, interval_from, standing};
 
 use crate::encoder::{RangeEncoder, Span, narrow_by};
 use crate::fault::Fault;
-use crate::symbols::{ones_below, sign_slot};
+use crate::reading::{EXPONENT, MANTISSA, ZERO, ones_below, sign_slot};
 use crate::table::StateTable;
 use std::alloc::{AllocError, Allocator};
 
@@ -25,7 +28,13 @@ fn put_slot<A: Allocator>(
     requires writing { IsWriting bytes.old.items span.old.low span.old.width }
     requires held { AreHeld table.now states.old }
     requires slot { slot < 32 }
-    ensures writes { OnOk result (Writes table.now (standing bytes.old.items span.old.low span.old.width) states.old (standing bytes.new.items span.new.low span.new.width) states.new (record { slot = slot; bit = bit } ∷ [])) }
+    ensures writes { OnOk result (Writes table.now
+        (standing bytes.old.items span.old.low span.old.width) states.old
+        (standing bytes.new.items span.new.low span.new.width) states.new
+        (record { slot = slot; bit = bit } ∷ [])) }
+    ensures refused { OnErr result (Grows table.now
+        (interval_from bytes.old.items span.old.low span.old.width) states.old
+        (record { slot = slot; bit = bit } ∷ [])) }
     ensures writing { IsWriting bytes.new.items span.new.low span.new.width }
     ensures held { AreHeld table.now states.new }
 {
@@ -50,18 +59,24 @@ fn put_exponent<A: Allocator>(
 ) -> Result<(), AllocError>
     requires writing { IsWriting bytes.old.items span.old.low span.old.width }
     requires held { AreHeld table.now states.old }
-    ensures writes { OnOk result (Writes table.now (standing bytes.old.items span.old.low span.old.width) states.old (standing bytes.new.items span.new.low span.new.width) states.new (exponent_steps exponent)) }
+    ensures writes { OnOk result (Writes table.now
+        (standing bytes.old.items span.old.low span.old.width) states.old
+        (standing bytes.new.items span.new.low span.new.width) states.new
+        (exponent_steps exponent)) }
+    ensures refused { OnErr result (Grows table.now
+        (interval_from bytes.old.items span.old.low span.old.width) states.old
+        (exponent_steps exponent)) }
     ensures writing { IsWriting bytes.new.items span.new.low span.new.width }
     ensures held { AreHeld table.now states.new }
 {
     let few = exponent.min(9);
     for k in 0..few {
-        put_slot(bytes, span, table, states, 1 + k as usize, true)?;
+        put_slot(bytes, span, table, states, EXPONENT + k as usize, true)?;
     }
     'more: for _k in few..exponent {
-        put_slot(bytes, span, table, states, 10, true)?;
+        put_slot(bytes, span, table, states, EXPONENT + 9, true)?;
     }
-    put_slot(bytes, span, table, states, 1 + few as usize, false)?;
+    put_slot(bytes, span, table, states, EXPONENT + few as usize, false)?;
     Ok(())
 }
 
@@ -78,13 +93,26 @@ fn put_mantissa<A: Allocator>(
     requires writing { IsWriting bytes.old.items span.old.low span.old.width }
     requires held { AreHeld table.now states.old }
     requires small { exponent < 32 }
-    ensures writes { OnOk result (Writes table.now (standing bytes.old.items span.old.low span.old.width) states.old (standing bytes.new.items span.new.low span.new.width) states.new (mantissa_steps exponent 0 number)) }
+    ensures writes { OnOk result (Writes table.now
+        (standing bytes.old.items span.old.low span.old.width) states.old
+        (standing bytes.new.items span.new.low span.new.width) states.new
+        (mantissa_steps exponent 0 number)) }
+    ensures refused { OnErr result (Grows table.now
+        (interval_from bytes.old.items span.old.low span.old.width) states.old
+        (mantissa_steps exponent 0 number)) }
     ensures writing { IsWriting bytes.new.items span.new.low span.new.width }
     ensures held { AreHeld table.now states.new }
 {
     let few = exponent.min(9);
     'high: for place in (few..exponent).rev() {
-        put_slot(bytes, span, table, states, 31, (number >> place) % 2 == 1)?;
+        put_slot(
+            bytes,
+            span,
+            table,
+            states,
+            MANTISSA + 9,
+            (number >> place) % 2 == 1,
+        )?;
     }
     for place in (0..few).rev() {
         put_slot(
@@ -92,7 +120,7 @@ fn put_mantissa<A: Allocator>(
             span,
             table,
             states,
-            22 + place as usize,
+            MANTISSA + place as usize,
             (number >> place) % 2 == 1,
         )?;
     }
@@ -111,11 +139,17 @@ fn put_magnitude<A: Allocator>(
     requires writing { IsWriting bytes.old.items span.old.low span.old.width }
     requires held { AreHeld table.now states.old }
     requires positive { 0 < number }
-    ensures writes { OnOk result (Writes table.now (standing bytes.old.items span.old.low span.old.width) states.old (standing bytes.new.items span.new.low span.new.width) states.new (magnitude_steps number)) }
+    ensures writes { OnOk result (Writes table.now
+        (standing bytes.old.items span.old.low span.old.width) states.old
+        (standing bytes.new.items span.new.low span.new.width) states.new
+        (magnitude_steps number)) }
+    ensures refused { OnErr result (Grows table.now
+        (interval_from bytes.old.items span.old.low span.old.width) states.old
+        (magnitude_steps number)) }
     ensures writing { IsWriting bytes.new.items span.new.low span.new.width }
     ensures held { AreHeld table.now states.new }
 {
-    put_slot(bytes, span, table, states, 0, false)?;
+    put_slot(bytes, span, table, states, ZERO, false)?;
     let exponent = 31 - number.leading_zeros();
     put_exponent(bytes, span, table, states, exponent)?;
     put_mantissa(bytes, span, table, states, exponent, number)?;
@@ -133,12 +167,17 @@ fn put_natural<A: Allocator>(
 ) -> Result<(), AllocError>
     requires writing { IsWriting bytes.old.items span.old.low span.old.width }
     requires held { AreHeld table.now states.old }
-    ensures writes { OnOk result (Writes table.now (standing bytes.old.items span.old.low span.old.width) states.old (standing bytes.new.items span.new.low span.new.width) states.new (unsigned_steps number)) }
+    ensures writes { OnOk result (Writes table.now
+        (standing bytes.old.items span.old.low span.old.width) states.old
+        (standing bytes.new.items span.new.low span.new.width) states.new (unsigned_steps number)) }
+    ensures refused { OnErr result (Grows table.now
+        (interval_from bytes.old.items span.old.low span.old.width) states.old
+        (unsigned_steps number)) }
     ensures writing { IsWriting bytes.new.items span.new.low span.new.width }
     ensures held { AreHeld table.now states.new }
 {
     if number == 0 {
-        put_slot(bytes, span, table, states, 0, true)?;
+        put_slot(bytes, span, table, states, ZERO, true)?;
         return Ok(());
     }
     put_magnitude(bytes, span, table, states, number)?;
@@ -157,13 +196,18 @@ fn put_number<A: Allocator>(
     requires writing { IsWriting bytes.old.items span.old.low span.old.width }
     requires held { AreHeld table.now states.old }
     requires size { unsigned_abs value < 2 ^ 31 }
-    ensures writes { OnOk result (Writes table.now (standing bytes.old.items span.old.low span.old.width) states.old (standing bytes.new.items span.new.low span.new.width) states.new (signed_steps value)) }
+    ensures writes { OnOk result (Writes table.now
+        (standing bytes.old.items span.old.low span.old.width) states.old
+        (standing bytes.new.items span.new.low span.new.width) states.new (signed_steps value)) }
+    ensures refused { OnErr result (Grows table.now
+        (interval_from bytes.old.items span.old.low span.old.width) states.old
+        (signed_steps value)) }
     ensures writing { IsWriting bytes.new.items span.new.low span.new.width }
     ensures held { AreHeld table.now states.new }
 {
     let number = value.unsigned_abs();
     if number == 0 {
-        put_slot(bytes, span, table, states, 0, true)?;
+        put_slot(bytes, span, table, states, ZERO, true)?;
         return Ok(());
     }
     put_magnitude(bytes, span, table, states, number)?;
@@ -173,9 +217,9 @@ fn put_number<A: Allocator>(
 }
 
 impl<A: Allocator> RangeEncoder<A> {
-    /// The symbol of a signed number of a size below 2^31, by 32 states that the table holds. The states move by the
-    /// decisions. Answers `OutOfMemory` where a growth was refused, now or before: the encoder has failed for good, and the
-    /// states are still held by the table.
+    /// The symbol of a signed number of a size below 2^31, by 32 states that the table holds. The
+    /// states move by the decisions. Answers `OutOfMemory` where a growth was refused, now or
+    /// before: the encoder has failed for good, and the states are still held by the table.
     #[inline(always)]
     pub fn put_signed(
         &mut self,
@@ -185,7 +229,10 @@ impl<A: Allocator> RangeEncoder<A> {
     ) -> Result<(), Fault>
         requires held { AreHeld table.now states.old }
         requires size { unsigned_abs value < 2 ^ 31 }
-        ensures ok { OnOk result (Puts table.now self.old states.old self.new states.new (signed_steps value)) }
+        ensures ok { OnOk result (Puts table.now self.old states.old self.new states.new
+            (signed_steps value)) }
+        ensures refused { OnErr result (MayBeRefused table.now self.old states.old
+            (signed_steps value)) }
         ensures held { AreHeld table.now states.new }
         ensures err { IfErr result (λ f. (f ≡ Fault.OutOfMemory) × IsTrue self.new.failed) }
         ensures stays { IsTrue self.old.failed → IsErr result }
@@ -208,7 +255,10 @@ impl<A: Allocator> RangeEncoder<A> {
         requires sound { self.old.failed ≡ false }
         requires held { AreHeld table.now states.old }
         requires size { unsigned_abs value < 2 ^ 31 }
-        ensures ok { OnOk result (Puts table.now self.old states.old self.new states.new (signed_steps value)) }
+        ensures ok { OnOk result (Puts table.now self.old states.old self.new states.new
+            (signed_steps value)) }
+        ensures refused { OnErr result (MayBeRefused table.now self.old states.old
+            (signed_steps value)) }
         ensures held { AreHeld table.now states.new }
         ensures err { IfErr result (λ f. (f ≡ Fault.OutOfMemory) × IsTrue self.new.failed) }
     {
@@ -234,7 +284,8 @@ impl<A: Allocator> RangeEncoder<A> {
         Ok(())
     }
 
-    /// The symbol of a number without a sign, below 2^31, by 32 states that the table holds. All else is as with `put_signed`.
+    /// The symbol of a number without a sign, below 2^31, by 32 states that the table holds. All
+    /// else is as with `put_signed`.
     #[inline(always)]
     pub fn put_unsigned(
         &mut self,
@@ -244,7 +295,10 @@ impl<A: Allocator> RangeEncoder<A> {
     ) -> Result<(), Fault>
         requires held { AreHeld table.now states.old }
         requires size { number < 2 ^ 31 }
-        ensures ok { OnOk result (Puts table.now self.old states.old self.new states.new (unsigned_steps number)) }
+        ensures ok { OnOk result (Puts table.now self.old states.old self.new states.new
+            (unsigned_steps number)) }
+        ensures refused { OnErr result (MayBeRefused table.now self.old states.old
+            (unsigned_steps number)) }
         ensures held { AreHeld table.now states.new }
         ensures err { IfErr result (λ f. (f ≡ Fault.OutOfMemory) × IsTrue self.new.failed) }
         ensures stays { IsTrue self.old.failed → IsErr result }
@@ -273,8 +327,8 @@ impl<A: Allocator> RangeEncoder<A> {
         Ok(())
     }
 
-    /// The symbol of a signed number, by row `row` of many states, 32 a row, by an encoder that has not failed. All else is as
-    /// with `put_signed`.
+    /// The symbol of a signed number, by row `row` of many states, 32 a row, by an encoder that has
+    /// not failed. All else is as with `put_signed`.
     #[inline(always)]
     pub fn put_signed_in_row(
         &mut self,
@@ -287,12 +341,16 @@ impl<A: Allocator> RangeEncoder<A> {
         requires rows { row * 32 + 32 ≤ length states.old }
         requires held { AllHeld table.now states.old }
         requires size { unsigned_abs value < 2 ^ 31 }
-        ensures ok { OnOk result (Puts table.now self.old states.old self.new states.new (shifted (row * 32) (signed_steps value))) }
+        ensures ok { OnOk result (Puts table.now self.old states.old self.new states.new
+            (shifted (row * 32) (signed_steps value))) }
+        ensures refused { OnErr result (MayBeRefused table.now self.old states.old
+            (shifted (row * 32) (signed_steps value))) }
         ensures held { AllHeld table.now states.new }
         ensures err { IfErr result (λ f. (f ≡ Fault.OutOfMemory) × IsTrue self.new.failed) }
         ensures stays { IsTrue self.old.failed → IsErr result }
     {
         let base = row * 32;
+        // By arms: what each outcome says of the row is lifted to all states in its own arm.
         match self.write_signed(table, &mut states[base..base + 32], value) {
             Ok(()) => Ok(()),
             Err(refused) => Err(refused),
@@ -302,7 +360,8 @@ impl<A: Allocator> RangeEncoder<A> {
     /// Counts the decisions of a symbol.
     #[inline(always)]
     fn count(&mut self, ones: u32, zeros: u32)
-        ensures counts { (steps : List Step) → ones ≡ ones_in steps → ones + zeros ≡ length steps → Counted self.old.counts steps self.new.counts }
+        ensures counts { (steps : List Step) → ones ≡ ones_in steps → ones + zeros ≡ length steps →
+            Counted self.old.counts steps self.new.counts }
         ensures rest { self.new ≡ record self.old { counts = self.new.counts } }
     {
         self.ones = self.ones.saturating_add(u64::from(ones));

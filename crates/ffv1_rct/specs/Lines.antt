@@ -4,7 +4,10 @@ use Rattle.ffv1_rct.specs.Transform.{luma_of, chroma_of, IsCoded, HasColour, IsO
 
 -- at each of the first n places Y, Cb and Cr are the transform of red, green and blue
 abbrev pub AreCoded : ℕ → List ℕ → List ℕ → List ℕ → List ℕ → List ℕ → List ℕ → Type 0
-AreCoded n r g b y cb cr = (x : ℕ) → x < n → IsCoded (slice_index r x) (slice_index g x) (slice_index b x) (slice_index y x) (slice_index cb x) (slice_index cr x)
+AreCoded n r g b y cb cr =
+    (x : ℕ) → x < n →
+    IsCoded (slice_index r x) (slice_index g x) (slice_index b x) (slice_index y x)
+    (slice_index cb x) (slice_index cr x)
 
 -- place x has a colour
 abbrev pub HasColourAt : List ℕ → List ℕ → List ℕ → ℕ → Type 0
@@ -12,7 +15,10 @@ HasColourAt y cb cr x = HasColour (slice_index y x) (slice_index cb x) (slice_in
 
 -- at each of the first n places red, green and blue are the only colour
 abbrev pub AreOnlyColours : ℕ → List ℕ → List ℕ → List ℕ → List ℕ → List ℕ → List ℕ → Type 0
-AreOnlyColours n y cb cr r g b = (x : ℕ) → x < n → IsOnlyColour (slice_index y x) (slice_index cb x) (slice_index cr x) (slice_index r x) (slice_index g x) (slice_index b x)
+AreOnlyColours n y cb cr r g b =
+    (x : ℕ) → x < n →
+    IsOnlyColour (slice_index y x) (slice_index cb x) (slice_index cr x) (slice_index r x)
+    (slice_index g x) (slice_index b x)
 
 -- from place n on a line is as before
 abbrev pub IsKeptFrom : ℕ → List ℕ → List ℕ → Type 0

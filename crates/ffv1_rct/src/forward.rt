@@ -6,7 +6,8 @@ ghost use Rattle.ffv1_rct.specs.Lines.{AreCoded};
 
 use std::simd::prelude::*;
 
-/// The transform of a place. Y is `floor((r + 2 g + b) / 4)`, which is `g + floor((b - g + r - g) / 4)`.
+/// The transform of a place. Y is `floor((r + 2 g + b) / 4)`, which is `g + floor((b - g + r - g) /
+/// 4)`.
 #[inline(always)]
 fn coded_of(r: u8, g: u8, b: u8) -> (u16, u16, u16)
     ensures { IsCoded r g b result.0 result.1 result.2 }
@@ -78,8 +79,9 @@ fn forward_rest(
     }
 }
 
-/// The transform of a line (RFC 9043, 3.7.2), place by place: `Y = g + floor((b - g + r - g) / 4)`, `Cb = b - g + 256` and
-/// `Cr = r - g + 256`, so that Y lies from 0 to 255, and Cb and Cr from 1 to 511. The six lines have one length, any.
+/// The transform of a line (RFC 9043, 3.7.2), place by place: `Y = g + floor((b - g + r - g) / 4)`,
+/// `Cb = b - g + 256` and `Cr = r - g + 256`, so that Y lies from 0 to 255, and Cb and Cr from 1 to
+/// 511. The six lines have one length, any.
 pub fn forward_line(r: &[u8], g: &[u8], b: &[u8], y: &mut [u16], cb: &mut [u16], cr: &mut [u16])
     requires g { length g.now ≡ length r.now }
     requires b { length b.now ≡ length r.now }

@@ -1,14 +1,16 @@
 //! From Y, Cb and Cr back to red, green and blue.
 
-ghost use Rattle.std.specs.Prelude.{◌≡◌, ℕ, ◌≤◌, ◌<◌, ◌↔◌, length, OnOk, IfErr, IsErr, IfSome, IsNone, IsTrue, IsFalse, ◌+◌};
+ghost use Rattle.std.specs.Prelude.{◌≡◌, ℕ, ◌≤◌, ◌<◌, ◌↔◌, length, OnOk, IfErr, IsErr, IfSome};
+ghost use Rattle.std.specs.Prelude.{IsNone, IsTrue, IsFalse, ◌+◌};
 ghost use Rattle.ffv1_rct.specs.Transform.{HasColour, IsOnlyColour};
 ghost use Rattle.ffv1_rct.specs.Lines.{AreOnlyColours, HasColourAt, IsKeptFrom};
 
-use crate::faults::Colour;
+use crate::fault::NoColour;
 use std::simd::prelude::*;
 
-/// The colour of a place, or `None` where it has none. Sums and differences are taken modulo 65536, as lanes take them:
-/// where red, green and blue come out from 0 to 255, then Cb and Cr are below 512, and nothing was cut.
+/// The colour of a place, or `None` where it has none. Sums and differences are taken modulo 65536,
+/// as lanes take them: where red, green and blue come out from 0 to 255, then Cb and Cr are below
+/// 512, and nothing was cut.
 #[inline(always)]
 fn colour_of(y: u16, cb: u16, cr: u16) -> Option<(u8, u8, u8)>
     ensures some { IfSome result (λ p. IsOnlyColour y cb cr p.0 p.1 p.2) }
@@ -23,8 +25,9 @@ fn colour_of(y: u16, cb: u16, cr: u16) -> Option<(u8, u8, u8)>
     Some((red as u8, green as u8, blue as u8))
 }
 
-/// The colours of 16 places from `at` on, or `false` and nothing done where not each of them has one. The numbers are those
-/// of `colour_of`: all of them lie from 0 to 255 where no bit above the lowest eight is set in any.
+/// The colours of 16 places from `at` on, or `false` and nothing done where not each of them has
+/// one. The numbers are those of `colour_of`: all of them lie from 0 to 255 where no bit above the
+/// lowest eight is set in any.
 #[inline(always)]
 fn inverse_block(
     at: usize,
@@ -74,7 +77,7 @@ fn inverse_rest(
     r: &mut [u8],
     g: &mut [u8],
     b: &mut [u8],
-) -> Result<(), Colour>
+) -> Result<(), NoColour>
     requires at { at ≤ length y.now }
     requires cb { length cb.now ≡ length y.now }
     requires cr { length cr.now ≡ length y.now }
@@ -93,7 +96,7 @@ fn inverse_rest(
 {
     for x in at..y.len() {
         let Some((red, green, blue)) = colour_of(y[x], cb[x], cr[x]) else {
-            return Err(Colour { x });
+            return Err(NoColour { x });
         };
         r[x] = red;
         g[x] = green;
@@ -102,11 +105,12 @@ fn inverse_rest(
     Ok(())
 }
 
-/// The inverse of the transform of a line (RFC 9043, 3.7.2), for any values of Y, Cb and Cr: at each place the only red, green
-/// and blue whose transform the place is. The six lines have one length, any.
+/// The inverse of the transform of a line (RFC 9043, 3.7.2), for any values of Y, Cb and Cr: at
+/// each place the only red, green and blue whose transform the place is. The six lines have one
+/// length, any.
 ///
-/// Refuses exactly where a place has no red, green and blue from 0 to 255, with the first such place `x`: the places before
-/// `x` are filled then, `x` and all behind it are as before.
+/// Refuses exactly where a place has no red, green and blue from 0 to 255, with the first such
+/// place `x`: the places before `x` are filled then, `x` and all behind it are as before.
 pub fn inverse_line(
     y: &[u16],
     cb: &[u16],
@@ -114,7 +118,7 @@ pub fn inverse_line(
     r: &mut [u8],
     g: &mut [u8],
     b: &mut [u8],
-) -> Result<(), Colour>
+) -> Result<(), NoColour>
     requires cb { length cb.now ≡ length y.now }
     requires cr { length cr.now ≡ length y.now }
     requires r { length r.old ≡ length y.now }

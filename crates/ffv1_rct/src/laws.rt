@@ -1,6 +1,7 @@
 //! Laws of the transform.
 
-ghost use Rattle.std.specs.Prelude.{ℕ, ℤ, pos, List, ◌≡◌, ◌<◌, slice_index, ◌≤ℤ◌, ◌<ℤ◌, ◌+ℤ◌, ◌*ℤ◌, length};
+ghost use Rattle.std.specs.Prelude.{ℕ, ℤ, pos, List, ◌≡◌, ◌<◌, slice_index, ◌≤ℤ◌, ◌<ℤ◌, ◌+ℤ◌, ◌*ℤ◌};
+ghost use Rattle.std.specs.Prelude.{length};
 ghost use Rattle.ffv1_rct.specs.Transform.{quarter_below, IsCoded, IsColour};
 ghost use Rattle.ffv1_rct.specs.Lines.{AreCoded, lumas, chromas};
 
@@ -12,39 +13,48 @@ pub fn rounds_down()
 
 /// The transform of a place determines its red, green and blue, and they determine the transform.
 pub fn only()
-    ensures colour { (r g b s h d y cb cr : ℕ) → IsCoded r g b y cb cr → IsCoded s h d y cb cr → (s ≡ r) × (h ≡ g) × (d ≡ b) }
-    ensures coded { (r g b y cb cr z db dr : ℕ) → IsCoded r g b y cb cr → IsCoded r g b z db dr → (z ≡ y) × (db ≡ cb) × (dr ≡ cr) }
+    ensures colour { (r g b s h d y cb cr : ℕ) → IsCoded r g b y cb cr → IsCoded s h d y cb cr →
+        (s ≡ r) × (h ≡ g) × (d ≡ b) }
+    ensures coded { (r g b y cb cr z db dr : ℕ) → IsCoded r g b y cb cr → IsCoded r g b z db dr →
+        (z ≡ y) × (db ≡ cb) × (dr ≡ cr) }
 {}
 
-/// The inverse of a line's transform is the line itself: lines of one length with the same transform at each place are the
-/// same lines.
+/// The inverse of a line's transform is the line itself: lines of one length with the same
+/// transform at each place are the same lines.
 pub fn inverse_of_forward()
-    ensures { (n : ℕ) (r g b s h d y cb cr : List ℕ) → length r ≡ n → length g ≡ n → length b ≡ n → length s ≡ n → length h ≡ n → length d ≡ n
+    ensures { (n : ℕ) (r g b s h d y cb cr : List ℕ) → length r ≡ n → length g ≡ n → length b ≡ n →
+        length s ≡ n → length h ≡ n → length d ≡ n
         → AreCoded n r g b y cb cr → AreCoded n s h d y cb cr → (s ≡ r) × (h ≡ g) × (d ≡ b) }
 {}
 
-/// The transform of the inverse of a line is the line itself: two transforms of one line, of its length, are the same
-/// lines.
+/// The transform of the inverse of a line is the line itself: two transforms of one line, of its
+/// length, are the same lines.
 pub fn forward_of_inverse()
-    ensures { (n : ℕ) (r g b y cb cr z db dr : List ℕ) → length y ≡ n → length cb ≡ n → length cr ≡ n → length z ≡ n → length db ≡ n → length dr ≡ n
+    ensures { (n : ℕ) (r g b y cb cr z db dr : List ℕ) → length y ≡ n → length cb ≡ n →
+        length cr ≡ n → length z ≡ n → length db ≡ n → length dr ≡ n
         → AreCoded n r g b y cb cr → AreCoded n r g b z db dr → (z ≡ y) × (db ≡ cb) × (dr ≡ cr) }
 {}
 
-/// The transform of a place whose red, green and blue lie from 0 to 255: Y lies from 0 to 255, Cb and Cr from 1 to 511.
+/// The transform of a place whose red, green and blue lie from 0 to 255: Y lies from 0 to 255, Cb
+/// and Cr from 1 to 511.
 pub fn small()
     ensures luma { (r g b y cb cr : ℕ) → IsColour y cb cr r g b → y < 256 }
     ensures blue { (r g b y cb cr : ℕ) → IsColour y cb cr r g b → (0 < cb) × (cb < 512) }
     ensures red { (r g b y cb cr : ℕ) → IsColour y cb cr r g b → (0 < cr) × (cr < 512) }
 {}
 
-/// The transform of a line as one list for each of Y, Cb and Cr: lines that are the transform at each place are these lists,
-/// and of lines from 0 to 255 these lists are the transform at each place, of the same length.
+/// The transform of a line as one list for each of Y, Cb and Cr: lines that are the transform at
+/// each place are these lists, and of lines from 0 to 255 these lists are the transform at each
+/// place, of the same length.
 pub fn lists()
-    ensures lists { (n : ℕ) (r g b y cb cr : List ℕ) → length r ≡ n → length g ≡ n → length b ≡ n → length y ≡ n → length cb ≡ n → length cr ≡ n
+    ensures lists { (n : ℕ) (r g b y cb cr : List ℕ) → length r ≡ n → length g ≡ n → length b ≡ n →
+        length y ≡ n → length cb ≡ n → length cr ≡ n
         → AreCoded n r g b y cb cr → (y ≡ lumas r g b) × (cb ≡ chromas b g) × (cr ≡ chromas r g) }
     ensures coded { (n : ℕ) (r g b : List ℕ) → length r ≡ n → length g ≡ n → length b ≡ n
-        → ((x : ℕ) → slice_index r x < 256) → ((x : ℕ) → slice_index g x < 256) → ((x : ℕ) → slice_index b x < 256)
+        → ((x : ℕ) → slice_index r x < 256) → ((x : ℕ) → slice_index g x < 256) →
+        ((x : ℕ) → slice_index b x < 256)
         → AreCoded n r g b (lumas r g b) (chromas b g) (chromas r g) }
-    ensures luma_long { (r g b : List ℕ) → length g ≡ length r → length b ≡ length r → length (lumas r g b) ≡ length r }
+    ensures luma_long { (r g b : List ℕ) → length g ≡ length r → length b ≡ length r →
+        length (lumas r g b) ≡ length r }
     ensures chroma_long { (v g : List ℕ) → length g ≡ length v → length (chromas v g) ≡ length v }
 {}

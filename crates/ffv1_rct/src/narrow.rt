@@ -1,9 +1,10 @@
 //! From a coded transparency line to bytes.
 
-ghost use Rattle.std.specs.Prelude.{◌≡◌, ℕ, ◌≤◌, ◌<◌, ◌↔◌, length, slice_index, take, OnOk, IfErr, IsErr, IsTrue, IsFalse, ◌+◌};
+ghost use Rattle.std.specs.Prelude.{◌≡◌, ℕ, ◌≤◌, ◌<◌, ◌↔◌, length, slice_index, take, OnOk, IfErr};
+ghost use Rattle.std.specs.Prelude.{IsErr, IsTrue, IsFalse, ◌+◌};
 ghost use Rattle.ffv1_rct.specs.Lines.{IsKeptFrom};
 
-use crate::faults::Colour;
+use crate::fault::NoColour;
 use std::simd::prelude::*;
 
 /// 32 places from `at` on, or `false` and nothing done where one of them lies above 255.
@@ -28,7 +29,7 @@ fn narrow_block(at: usize, a: &[u16], out: &mut [u8]) -> bool
 }
 
 /// The places from `at` on, up to the first above 255.
-fn narrow_rest(at: usize, a: &[u16], out: &mut [u8]) -> Result<(), Colour>
+fn narrow_rest(at: usize, a: &[u16], out: &mut [u8]) -> Result<(), NoColour>
     requires at { at ≤ length a.now }
     requires out { length out.old ≡ length a.now }
     requires done { (x : ℕ) → x < at → slice_index out.old x ≡ slice_index a.now x }
@@ -41,18 +42,19 @@ fn narrow_rest(at: usize, a: &[u16], out: &mut [u8]) -> Result<(), Colour>
 {
     for x in at..a.len() {
         if a[x] > 255 {
-            return Err(Colour { x });
+            return Err(NoColour { x });
         }
         out[x] = a[x] as u8;
     }
     Ok(())
 }
 
-/// The samples of a coded transparency line, any, as bytes, unchanged. The two lines have one length, any.
+/// The samples of a coded transparency line, any, as bytes, unchanged. The two lines have one
+/// length, any.
 ///
-/// Refuses exactly where a place lies above 255, with the first such place `x`: the places before `x` are filled then, `x`
-/// and all behind it are as before.
-pub fn narrow_line(a: &[u16], out: &mut [u8]) -> Result<(), Colour>
+/// Refuses exactly where a place lies above 255, with the first such place `x`: the places before
+/// `x` are filled then, `x` and all behind it are as before.
+pub fn narrow_line(a: &[u16], out: &mut [u8]) -> Result<(), NoColour>
     requires { length out.old ≡ length a.now }
     ensures exact { IsErr result ↔ ((x : ℕ) × (x < length a.now) × (255 < slice_index a.now x)) }
     ensures ok { OnOk result (out.new ≡ a.now) }

@@ -70,8 +70,8 @@ fn forward_agrees(
     true
 }
 
-/// Whether the inverse fills lines of sevens by the formula up to the first place with no colour, is refused there, and
-/// leaves the sevens from there on.
+/// Whether the inverse fills lines of sevens by the formula up to the first place with no colour,
+/// is refused there, and leaves the sevens from there on.
 fn inverse_agrees(
     y: &[u16],
     cb: &[u16],
@@ -93,7 +93,7 @@ fn inverse_agrees(
     let mut refused = None;
     for x in 0..y.len() {
         if refused.is_none() && !has_colour(y[x], cb[x], cr[x]) {
-            refused = Some(Colour { x });
+            refused = Some(NoColour { x });
         }
         let (red, green, blue) = match refused {
             None => colour(y[x], cb[x], cr[x]),
@@ -118,7 +118,7 @@ fn narrow_agrees(a: &[u16], out: &mut [u8]) -> bool
     let mut refused = None;
     for x in 0..a.len() {
         if refused.is_none() && a[x] > 255 {
-            refused = Some(Colour { x });
+            refused = Some(NoColour { x });
         }
         let sample = match refused {
             None => a[x],
@@ -135,6 +135,17 @@ fn narrow_agrees(a: &[u16], out: &mut [u8]) -> bool
 }
 
 #[test]
+fn example(rt: HostRuntime) -> Result<(), Fail> {
+    let (mut y, mut cb, mut cr) = ([0u16], [0u16], [0u16]);
+    forward_line(&[0], &[255], &[0], &mut y, &mut cb, &mut cr);
+    assert_eq!(rt; (y, cb, cr), ([127], [1], [1]));
+    let (mut r, mut g, mut b) = ([7u8], [7u8], [7u8]);
+    inverse_line(&y, &cb, &cr, &mut r, &mut g, &mut b)?;
+    assert_eq!(rt; (r, g, b), ([0], [255], [0]));
+    Ok(())
+}
+
+#[test]
 fn worked_colours(rt: HostRuntime) {
     let (mut y, mut cb, mut cr) = ([0u16; 2], [0u16; 2], [0u16; 2]);
     forward_line(&[0, 255], &[255, 0], &[0, 0], &mut y, &mut cb, &mut cr);
@@ -143,7 +154,7 @@ fn worked_colours(rt: HostRuntime) {
     assert_eq!(rt; cr, [1, 511]);
     let (mut r, mut g, mut b) = ([7u8; 1], [7u8; 1], [7u8; 1]);
     let refused = inverse_line(&[511], &[256], &[256], &mut r, &mut g, &mut b);
-    assert_eq!(rt; refused, Err(Colour { x: 0 }));
+    assert_eq!(rt; refused, Err(NoColour { x: 0 }));
     assert_eq!(rt; (r, g, b), ([7], [7], [7]));
 }
 
@@ -211,12 +222,15 @@ fn refused_places(rt: HostRuntime) {
     y[3] = 511;
     y[40] = 511;
     let refused = inverse_line(&y, &[1; 70], &[1; 70], &mut r, &mut g, &mut b);
-    assert_eq!(rt; refused, Err(Colour { x: 3 }));
-    assert_eq!(rt; narrow_line(&y, &mut r), Err(Colour { x: 3 }));
+    assert_eq!(rt; refused, Err(NoColour { x: 3 }));
+    assert_eq!(rt; narrow_line(&y, &mut r), Err(NoColour { x: 3 }));
 }
 
 #[test]
 fn refusal_as_text(rt: HostRuntime) -> Result<(), Fail> {
-    assert_eq!(rt; Colour { x: 3 }.to_string(rt.alloc())?.as_str(), "7 Colour");
+    assert_eq!(rt;
+        NoColour { x: 3 }.to_string(rt.alloc())?.as_str(),
+        "7 Colour"
+    );
     Ok(())
 }

@@ -8,34 +8,28 @@ use Rattle.std.proofs.lemmas.List.{get_or-map}
 use Rattle.std.proofs.lemmas.List.FromFn.{get_or-range_with_len, length-range_with_len}
 use Rattle.std.proofs.lemmas.Nat.{xor_block, xor_lt, xor_comm, pow-add, and_mask, mod_below}
 use Rattle.ffv1_record.specs.declared.tables.TheConstants.{REMAINDERS}
-use Rattle.ffv1_record.specs.Parity.{divided}
+use Rattle.ffv1_record.specs.Parity.{divided, byte_remainder}
 use Rattle.ffv1_record.proofs.Division.{divided-zero, divided_xor, divided_small, xor_scaled}
 
--- ---- the table
+-- ---- the tables
 
-abbrev entry : ℕ → ℕ
-entry at = divided (8 * (at / 256) + 8) (at % 256 * 2 ^ (8 * (at / 256) + 32))
+abbrev row : ℕ → List ℕ
+row behind = map (λ byte. divided (8 * behind + 8) (byte * 2 ^ (8 * behind + 32))) (range_with_len 0 256)
 
-entries : REMAINDERS ≡ map entry (range_with_len 0 4096)
+rows : REMAINDERS ≡ map row (range_with_len 0 16)
 unfolding divided
-entries = refl
+rows = refl
 
-pub table : (more byte : ℕ) → more < 16 → byte < 256 → slice_index REMAINDERS (256 * more + byte) ≡ divided (8 * more + 8) (byte * 2 ^ (8 * more + 32))
-table more byte few small =
-    let at = 256 * more + byte in
-    let inside : at < 4096 = omega arith in
-    let numbers = range_with_len 0 4096 in
-    let high : at / 256 ≡ more = omega arith in
-    let low : at % 256 ≡ byte = omega arith in
-    let number : get_or numbers at 0 ≡ at = get_or-range_with_len 0 4096 at 0 inside ∙ omega arith in
-    let long : at < length numbers = rw (length-range_with_len 0 4096) inside in
-    ap (λ (l : List ℕ). slice_index l at) entries ∙ get_or-map entry numbers at 0 0 long ∙ ap entry number
-    ∙ ap (λ (k : ℕ). divided (8 * k + 8) (at % 256 * 2 ^ (8 * k + 32))) high ∙ ap (λ (b : ℕ). divided (8 * more + 8) (b * 2 ^ (8 * more + 32))) low
-
-pub lowest : (byte : ℕ) → byte < 256 → slice_index REMAINDERS byte ≡ divided 8 (byte * 2 ^ 32)
-lowest byte small =
-    let at : byte ≡ 256 * 0 + byte = omega arith in
-    ap (λ (k : ℕ). slice_index REMAINDERS k) at ∙ table 0 byte (omega arith) small
+pub table : (behind byte : ℕ) → behind < 16 → byte < 256 → slice_index (get_or REMAINDERS behind []) byte ≡ byte_remainder behind byte
+table behind byte few small =
+    let behinds = range_with_len 0 16 in
+    let bytes = range_with_len 0 256 in
+    let number : get_or behinds behind 0 ≡ behind = get_or-range_with_len 0 16 behind 0 few ∙ omega arith in
+    let long : behind < length behinds = rw (length-range_with_len 0 16) few in
+    let place : get_or bytes byte 0 ≡ byte = get_or-range_with_len 0 256 byte 0 small ∙ omega arith in
+    let wide : byte < length bytes = rw (length-range_with_len 0 256) small in
+    ap (λ (l : List (List ℕ)). slice_index (get_or l behind []) byte) rows ∙ ap (λ (l : List ℕ). slice_index l byte) (get_or-map row behinds behind 0 [] long ∙ ap row number)
+    ∙ get_or-map (λ b. byte_remainder behind b) bytes byte 0 0 wide ∙ ap (byte_remainder behind) place
 
 -- ---- some bytes, followed by 32 bits 0
 
@@ -83,13 +77,13 @@ by_bytes (b ∷ bs) small =
 -- ---- a block behind some bytes
 
 sixteen : (a b c d e f g h i j k l m n o p : ℕ) → a < 256 → b < 256 → c < 256 → d < 256 → e < 256 → f < 256 → g < 256 → h < 256 → i < 256 → j < 256 → k < 256 → l < 256 → m < 256 → n < 256 → o < 256 → p < 256 →
-    bit_xor (slice_index REMAINDERS (3840 + a)) (bit_xor (slice_index REMAINDERS (3584 + b)) (bit_xor (slice_index REMAINDERS (3328 + c)) (bit_xor (slice_index REMAINDERS (3072 + d)) (bit_xor (slice_index REMAINDERS (2816 + e)) (bit_xor (slice_index REMAINDERS (2560 + f)) (bit_xor (slice_index REMAINDERS (2304 + g)) (bit_xor (slice_index REMAINDERS (2048 + h)) (bit_xor (slice_index REMAINDERS (1792 + i)) (bit_xor (slice_index REMAINDERS (1536 + j)) (bit_xor (slice_index REMAINDERS (1280 + k)) (bit_xor (slice_index REMAINDERS (1024 + l)) (bit_xor (slice_index REMAINDERS (768 + m)) (bit_xor (slice_index REMAINDERS (512 + n)) (bit_xor (slice_index REMAINDERS (256 + o)) (slice_index REMAINDERS p)))))))))))))))
+    bit_xor (byte_remainder 15 a) (bit_xor (byte_remainder 14 b) (bit_xor (byte_remainder 13 c) (bit_xor (byte_remainder 12 d) (bit_xor (byte_remainder 11 e) (bit_xor (byte_remainder 10 f) (bit_xor (byte_remainder 9 g) (bit_xor (byte_remainder 8 h) (bit_xor (byte_remainder 7 i) (bit_xor (byte_remainder 6 j) (bit_xor (byte_remainder 5 k) (bit_xor (byte_remainder 4 l) (bit_xor (byte_remainder 3 m) (bit_xor (byte_remainder 2 n) (bit_xor (byte_remainder 1 o) (byte_remainder 0 p)))))))))))))))
     ≡ divided 128 (((a * 2 ^ 24 + b * 2 ^ 16 + c * 2 ^ 8 + d) * 2 ^ 96 + (e * 2 ^ 88 + f * 2 ^ 80 + g * 2 ^ 72 + h * 2 ^ 64 + i * 2 ^ 56 + j * 2 ^ 48 + k * 2 ^ 40 + l * 2 ^ 32 + m * 2 ^ 24 + n * 2 ^ 16 + o * 2 ^ 8 + p)) * 2 ^ 32)
 sixteen a b c d e f g h i j k l m n o p sa sb sc sd se sf sg sh si sj sk sl sm sn so sp =
     let all = by_bytes (a ∷ b ∷ c ∷ d ∷ e ∷ f ∷ g ∷ h ∷ i ∷ j ∷ k ∷ l ∷ m ∷ n ∷ o ∷ p ∷ []) (sa, (sb, (sc, (sd, (se, (sf, (sg, (sh, (si, (sj, (sk, (sl, (sm, (sn, (so, (sp, tt)))))))))))))))) in
     let number : (a * 2 ^ 24 + b * 2 ^ 16 + c * 2 ^ 8 + d) * 2 ^ 96 + (e * 2 ^ 88 + f * 2 ^ 80 + g * 2 ^ 72 + h * 2 ^ 64 + i * 2 ^ 56 + j * 2 ^ 48 + k * 2 ^ 40 + l * 2 ^ 32 + m * 2 ^ 24 + n * 2 ^ 16 + o * 2 ^ 8 + p) ≡ number_of (a ∷ b ∷ c ∷ d ∷ e ∷ f ∷ g ∷ h ∷ i ∷ j ∷ k ∷ l ∷ m ∷ n ∷ o ∷ p ∷ []) = omega arith in
-    let last : slice_index REMAINDERS p ≡ bit_xor (divided 8 (p * 2 ^ 32)) 0 = lowest p sp ∙ sym (xor_zero_r (divided 8 (p * 2 ^ 32))) in
-    rw (table 15 a (omega arith) sa, table 14 b (omega arith) sb, table 13 c (omega arith) sc, table 12 d (omega arith) sd, table 11 e (omega arith) se, table 10 f (omega arith) sf, table 9 g (omega arith) sg, table 8 h (omega arith) sh, table 7 i (omega arith) si, table 6 j (omega arith) sj, table 5 k (omega arith) sk, table 4 l (omega arith) sl, table 3 m (omega arith) sm, table 2 n (omega arith) sn, table 1 o (omega arith) so, last)
+    let last : byte_remainder 0 p ≡ bit_xor (divided 8 (p * 2 ^ 32)) 0 = sym (xor_zero_r (divided 8 (p * 2 ^ 32))) in
+    rw last
     (sym all ∙ ap (λ x. divided 128 (x * 2 ^ 32)) (sym number))
 
 -- the same in the order of a program
@@ -109,7 +103,7 @@ bytes_of n =
 -- a block of a number of four bytes and one of twelve, behind bytes of a remainder
 pub block : (remainder high low e f g h i j k l m n o p : ℕ) → remainder < 2 ^ 32 → high < 2 ^ 32 → e < 256 → f < 256 → g < 256 → h < 256 → i < 256 → j < 256 → k < 256 → l < 256 → m < 256 → n < 256 → o < 256 → p < 256 →
     low ≡ e * 2 ^ 88 + f * 2 ^ 80 + g * 2 ^ 72 + h * 2 ^ 64 + i * 2 ^ 56 + j * 2 ^ 48 + k * 2 ^ 40 + l * 2 ^ 32 + m * 2 ^ 24 + n * 2 ^ 16 + o * 2 ^ 8 + p →
-    bit_xor (bit_xor (bit_xor (bit_xor (bit_xor (bit_xor (bit_xor (bit_xor (bit_xor (bit_xor (bit_xor (bit_xor (bit_xor (bit_xor (bit_xor (slice_index REMAINDERS (3840 + bit_xor remainder high / 16777216)) (slice_index REMAINDERS (3584 + bit_and (bit_xor remainder high / 65536) 255))) (slice_index REMAINDERS (3328 + bit_and (bit_xor remainder high / 256) 255))) (slice_index REMAINDERS (3072 + bit_and (bit_xor remainder high) 255))) (slice_index REMAINDERS (2816 + e))) (slice_index REMAINDERS (2560 + f))) (slice_index REMAINDERS (2304 + g))) (slice_index REMAINDERS (2048 + h))) (slice_index REMAINDERS (1792 + i))) (slice_index REMAINDERS (1536 + j))) (slice_index REMAINDERS (1280 + k))) (slice_index REMAINDERS (1024 + l))) (slice_index REMAINDERS (768 + m))) (slice_index REMAINDERS (512 + n))) (slice_index REMAINDERS (256 + o))) (slice_index REMAINDERS p)
+    bit_xor (bit_xor (bit_xor (bit_xor (bit_xor (bit_xor (bit_xor (bit_xor (bit_xor (bit_xor (bit_xor (bit_xor (bit_xor (bit_xor (bit_xor (byte_remainder 15 (bit_xor remainder high / 16777216)) (byte_remainder 14 (bit_and (bit_xor remainder high / 65536) 255))) (byte_remainder 13 (bit_and (bit_xor remainder high / 256) 255))) (byte_remainder 12 (bit_and (bit_xor remainder high) 255))) (byte_remainder 11 e)) (byte_remainder 10 f)) (byte_remainder 9 g)) (byte_remainder 8 h)) (byte_remainder 7 i)) (byte_remainder 6 j)) (byte_remainder 5 k)) (byte_remainder 4 l)) (byte_remainder 3 m)) (byte_remainder 2 n)) (byte_remainder 1 o)) (byte_remainder 0 p)
     ≡ bit_xor (divided 128 (remainder * 2 ^ 128)) (divided 128 ((high * 2 ^ 96 + low) * 2 ^ 32))
 block remainder high low e f g h i j k l m n o p small_r small_h se sf sg sh si sj sk sl sm sn so sp is_low =
     let first = bit_xor remainder high in
@@ -125,23 +119,20 @@ block remainder high low e f g h i j k l m n o p small_r small_h se sf sg sh si 
     let sums : bit_xor (remainder * 2 ^ 96 + 0) (high * 2 ^ 96 + low) ≡ first * 2 ^ 96 + low = xor_block 96 remainder high 0 low (omega arith) low_below in
     let plain : remainder * 2 ^ 96 + 0 ≡ remainder * 2 ^ 96 = omega arith in
     let wide : remainder * 2 ^ 128 ≡ remainder * 2 ^ 96 * 2 ^ 32 = omega arith in
-    let r : ℕ → ℕ = λ at. slice_index REMAINDERS at in
-    in_order (r (3840 + first / 16777216)) (r (3584 + bit_and (first / 65536) 255)) (r (3328 + bit_and (first / 256) 255)) (r (3072 + bit_and first 255)) (r (2816 + e)) (r (2560 + f)) (r (2304 + g)) (r (2048 + h)) (r (1792 + i)) (r (1536 + j)) (r (1280 + k)) (r (1024 + l)) (r (768 + m)) (r (512 + n)) (r (256 + o)) (r p)
+    in_order (byte_remainder 15 (first / 16777216)) (byte_remainder 14 (bit_and (first / 65536) 255)) (byte_remainder 13 (bit_and (first / 256) 255)) (byte_remainder 12 (bit_and first 255)) (byte_remainder 11 e) (byte_remainder 10 f) (byte_remainder 9 g) (byte_remainder 8 h) (byte_remainder 7 i) (byte_remainder 6 j) (byte_remainder 5 k) (byte_remainder 4 l) (byte_remainder 3 m) (byte_remainder 2 n) (byte_remainder 1 o) (byte_remainder 0 p)
     ∙ by_table ∙ ap (λ x. divided 128 (x * 2 ^ 32)) (whole ∙ sym sums ∙ ap (λ x. bit_xor x (high * 2 ^ 96 + low)) plain)
     ∙ shifted_xor 128 (remainder * 2 ^ 96) (high * 2 ^ 96 + low) ∙ sym (ap (λ x. bit_xor x (divided 128 ((high * 2 ^ 96 + low) * 2 ^ 32))) (ap (divided 128) wide))
 
 -- a byte behind bytes of a remainder
 pub single : (remainder byte : ℕ) → remainder < 2 ^ 32 → byte < 256 →
-    bit_xor (remainder * 256 % 4294967296) (slice_index REMAINDERS (bit_xor (remainder / 16777216) byte)) ≡ bit_xor (divided 8 (remainder * 256)) (divided 8 (byte * 4294967296))
+    bit_xor (remainder * 256 % 4294967296) (byte_remainder 0 (bit_xor (remainder / 16777216) byte)) ≡ bit_xor (divided 8 (remainder * 256)) (divided 8 (byte * 4294967296))
 single remainder byte small_r small_b =
     let high = remainder / 16777216 in
     let low = remainder * 256 % 4294967296 in
     let of_high : high < 256 = omega (arith, small_r) in
-    let at : bit_xor high byte < 256 = xor_lt 8 high byte of_high small_b in
-    let by_table : slice_index REMAINDERS (bit_xor high byte) ≡ divided 8 (bit_xor high byte * 2 ^ 32) = lowest (bit_xor high byte) at in
     let low_below : low < 2 ^ 32 = mod_below (remainder * 256) 4294967296 (omega arith) in
     let parts : remainder * 256 ≡ bit_xor (high * 2 ^ 32) low = omega arith ∙ sym (xor_shifted high 32 low low_below) in
     let kept : divided 8 low ≡ low = divided_small 8 0 low low_below ∙ divided-zero low in
     let first : divided 8 (remainder * 256) ≡ bit_xor (divided 8 (high * 2 ^ 32)) low = ap (divided 8) parts ∙ divided_xor 8 (high * 2 ^ 32) low ∙ ap (bit_xor (divided 8 (high * 2 ^ 32))) kept in
-    ap (bit_xor low) (by_table ∙ shifted_xor 8 high byte) ∙ sym (xor_assoc low (divided 8 (high * 2 ^ 32)) (divided 8 (byte * 2 ^ 32)))
+    ap (bit_xor low) (shifted_xor 8 high byte) ∙ sym (xor_assoc low (divided 8 (high * 2 ^ 32)) (divided 8 (byte * 2 ^ 32)))
     ∙ ap (λ x. bit_xor x (divided 8 (byte * 2 ^ 32))) (xor_comm low (divided 8 (high * 2 ^ 32)) ∙ sym first)

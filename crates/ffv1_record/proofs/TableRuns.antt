@@ -10,7 +10,7 @@ use Rattle.ffv1_record.specs.Given.{Source, Stands, StandsIn, Gives, GivesIn}
 use Rattle.std.proofs.lemmas.Bool.{lt-ltb, le-leb}
 use Rattle.std.proofs.lemmas.Bool.Decides.{nat_tests}
 use Rattle.ffv1_record.proofs.Checks.{both}
-use Rattle.ffv1_record.proofs.Standing.{stands_fresh}
+use Rattle.ffv1_record.proofs.DecoderSpots.{stands_fresh}
 
 -- what is read from here on, with so many entries left to fill, is what is read from there
 pub record LeadsTable (left : ℕ) (runs : List ℕ) (a c : Source) (states : List ℕ) : Type 0 where

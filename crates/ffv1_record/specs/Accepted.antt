@@ -1,9 +1,12 @@
--- Which configurations are accepted (RFC 9043, 4.2 and 4.3, and this project's profile), and why one is refused.
-use Rattle.std.specs.Prelude.{◌≡◌, ◌⊎◌, ℕ, ◌*◌, ◌/◌, ◌%◌, ◌^◌, ◌<◌, nat_le, Bool, ◌&&◌, ◌||◌, not, ◌==◌, IsTrue, List, [], ◌∷◌, length}
+-- Which configurations are accepted (RFC 9043, 4.2 and 4.3, and this project's profile), and why
+-- one is refused.
+use Rattle.std.specs.Prelude.{◌≡◌, ◌⊎◌, ℕ, ◌*◌, ◌/◌, ◌%◌, ◌^◌, ◌<◌, nat_le, Bool, ◌&&◌, ◌||◌, not}
+use Rattle.std.specs.Prelude.{◌==◌, IsTrue, List, [], ◌∷◌, length}
 use Rattle.ffv1_range.specs.Table.{Table, IsTable}
 use Rattle.ffv1_range.specs.Standard.{standard}
 use Rattle.ffv1_range.specs.Deltas.{IsTableOf}
 use Rattle.ffv1_record.specs.Sets.{AreSets}
+use Rattle.ffv1_record.specs.Writable.{IsWritable}
 use Rattle.ffv1_record.specs.declared.config.Coder.{Coder}
 use Rattle.ffv1_record.specs.declared.config.Coder.TheVariants as coder
 use Rattle.ffv1_record.specs.declared.fault.RecordFault.{RecordFault}
@@ -12,12 +15,16 @@ use Rattle.ffv1_record.specs.Configuration.{Configuration, is_rct}
 
 -- width and height are from 1 to 8192
 abbrev pub is_sized : Configuration → Bool
-is_sized c = (nat_le 1 c.width && nat_le c.width 8192) && (nat_le 1 c.height && nat_le c.height 8192)
+is_sized c = (nat_le 1 c.width && nat_le c.width 8192)
+    && (nat_le 1 c.height && nat_le c.height 8192)
 
--- RFC 9043, 4.2.5 to 4.2.9: RCT has chroma planes; chroma of another size than the picture's is of YCbCr alone, and at most a quarter as wide or high
+-- RFC 9043, 4.2.5 to 4.2.9: RCT has chroma planes; chroma of another size than the picture's is of
+-- YCbCr alone, and at most a quarter as wide or high
 abbrev pub is_subsampled : Configuration → Bool
 is_subsampled c =
-    (nat_le c.log2_h 2 && nat_le c.log2_v 2) && ((c.chroma_planes || not (is_rct c.colour)) && ((c.chroma_planes && not (is_rct c.colour)) || (c.log2_h == 0 && c.log2_v == 0)))
+    (nat_le c.log2_h 2 && nat_le c.log2_v 2)
+    && ((c.chroma_planes || not (is_rct c.colour))
+    && ((c.chroma_planes && not (is_rct c.colour)) || (c.log2_h == 0 && c.log2_v == 0)))
 
 -- RFC 9043, 4.2.10: an extra plane comes with chroma planes alone
 abbrev pub is_transparent : Configuration → Bool
@@ -34,7 +41,8 @@ IsTableFor (coder.Two deltas) t = IsTableOf deltas t
 
 -- RFC 9043, 4.2.11 and 4.2.12: columns and rows are from 1 to 32, and each has a sample
 abbrev pub is_divided : Configuration → Bool
-is_divided c = (nat_le 1 c.columns && (nat_le c.columns 32 && nat_le c.columns c.width)) && (nat_le 1 c.rows && (nat_le c.rows 32 && nat_le c.rows c.height))
+is_divided c = (nat_le 1 c.columns && (nat_le c.columns 32 && nat_le c.columns c.width))
+    && (nat_le 1 c.rows && (nat_le c.rows 32 && nat_le c.rows c.height))
 
 -- RFC 9043, 4.7.4 and 4.8.3: where part k of a size begins that is divided into count parts
 abbrev pub edge : ℕ → ℕ → ℕ → ℕ
@@ -52,13 +60,15 @@ Passes fault.ExtraPlane c = IsTrue (is_transparent c)
 Passes fault.Sets c = IsTrue (are_counted c)
 Passes fault.StateTable c = (t : Table) × IsTableFor c.coder t
 Passes fault.Grid c = IsTrue (is_divided c)
-Passes fault.ChromaEdge c = AreMultiples c.width c.columns c.log2_h × AreMultiples c.height c.rows c.log2_v
+Passes fault.ChromaEdge c = AreMultiples c.width c.columns c.log2_h
+    × AreMultiples c.height c.rows c.log2_v
 Passes other c = Unit {0}
 
 -- the faults in the order in which they are looked for
 abbrev pub checks : List RecordFault
 checks =
-    fault.Size ∷ fault.Subsampling ∷ fault.ExtraPlane ∷ fault.Sets ∷ fault.StateTable ∷ fault.Grid ∷ fault.ChromaEdge ∷ []
+    fault.Size ∷ fault.Subsampling ∷ fault.ExtraPlane ∷ fault.Sets ∷ fault.StateTable ∷ fault.Grid
+    ∷ fault.ChromaEdge ∷ []
 
 abbrev pub PassesAll : List RecordFault → Configuration → Type 0
 PassesAll [] c = Unit {0}
@@ -79,4 +89,5 @@ pub record IsAccepted (c : Configuration) (t : Table) : Type 0 where
   pub passes : PassesAll checks c
   pub table : IsTableFor c.coder t
   pub closed : IsTable t.floor t.one
+  pub writable : IsWritable c.coder
   pub sets : AreSets c.sets

@@ -1,4 +1,5 @@
--- What a configuration says (RFC 9043, 4.2), and the size of the pictures, which the container tells.
+-- What a configuration says (RFC 9043, 4.2), and the size of the pictures, which the container
+-- tells.
 use Rattle.std.specs.Prelude.{ℕ, Bool, true, false, List}
 use Rattle.ffv1_plane.specs.Quantisation.{Set}
 use Rattle.ffv1_record.specs.declared.config.Config.{Config}

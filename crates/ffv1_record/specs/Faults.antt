@@ -1,8 +1,8 @@
 -- What a fault of a crate below is here.
 use Rattle.ffv1_range.specs.declared.fault.Fault.{Fault as RangeFault}
 use Rattle.ffv1_range.specs.declared.fault.Fault.TheVariants as range_fault
-use Rattle.ffv1_plane.specs.declared.faults.Fault.{Fault as PlaneFault}
-use Rattle.ffv1_plane.specs.declared.faults.Fault.TheVariants as plane_fault
+use Rattle.ffv1_plane.specs.declared.fault.Fault.{Fault as PlaneFault}
+use Rattle.ffv1_plane.specs.declared.fault.Fault.TheVariants as plane_fault
 use Rattle.ffv1_record.specs.declared.fault.RecordFault.{RecordFault}
 use Rattle.ffv1_record.specs.declared.fault.RecordFault.TheVariants as fault
 

@@ -1,4 +1,5 @@
--- What a call that reads gives, and what one that writes leaves.
+-- Internal: what ties a decoder and its states to the readings; no public clause cites it. What a
+-- call that reads gives.
 use Rattle.std.specs.Prelude.{◌≡◌, ◌⊎◌, ℕ, ◌+◌, ◌≤◌, List, [], Result, Ok, Err}
 use Rattle.ffv1_range.specs.Interval.{interval_of}
 use Rattle.ffv1_range.specs.Reading.{Reading, At}
@@ -29,17 +30,28 @@ pub record StandsIn (a : Source) (states b : List ℕ) (base : ℕ) (s : Spot) :
   pub table : HasStates standard states base s.past
 
 -- what a call that reads told, seen by view, is what reading gives, unless memory was refused
-abbrev pub Tells : {X Y : Type 0} → (Y → X) → Reader X → Source → List ℕ → Spot → Result Y RecordFault → Type 0
+abbrev pub Tells : {X Y : Type 0} → (Y → X) → Reader X → Source → List ℕ → Spot →
+    Result Y RecordFault → Type 0
 Tells view r after b s (Ok y) = (t : Spot) × r b s (Ok (view y, t)) × Stands after b t
 Tells view r after b s (Err f) = (f ≡ fault.OutOfMemory) ⊎ r b s (Err f)
 
-pub record Gives {X Y : Type 0} (view : Y → X) (r : Reader X) (before after : Source) (result : Result Y RecordFault) : Type 0 where
+pub record Gives {X Y : Type 0} (view : Y →
+    X) (r : Reader X) (before after : Source) (result : Result Y RecordFault) : Type 0 where
   pub gives : (b : List ℕ) (s : Spot) → Stands before b s → Tells view r after b s result
 
 -- the same of a call that reads by the states of a table
-abbrev pub TellsIn : {X : Type 0} → (ℕ → Reader X) → Source → List ℕ → List ℕ → ℕ → Spot → Result X RecordFault → Type 0
-TellsIn r after states b base s (Ok x) = (t : Spot) × r base b s (Ok (x, t)) × StandsIn after states b base t
+abbrev pub TellsIn : {X : Type 0} → (ℕ → Reader X) → Source → List ℕ → List ℕ → ℕ → Spot →
+    Result X RecordFault → Type 0
+TellsIn r after states b base s (Ok x) = (t : Spot) × r base b s (Ok (x, t))
+    × StandsIn after states b base t
 TellsIn r after states b base s (Err f) = r base b s (Err f)
 
-pub record GivesIn {X : Type 0} (r : ℕ → Reader X) (before : Source) (states : List ℕ) (after : Source) (states_after : List ℕ) (result : Result X RecordFault) : Type 0 where
-  pub gives : (b : List ℕ) (base : ℕ) (s : Spot) → StandsIn before states b base s → TellsIn r after states_after b base s result
+pub record GivesIn {X : Type 0} (r : ℕ →
+    Reader X) (before : Source) (states : List ℕ) (after : Source) (states_after : List ℕ) (result
+    : Result X RecordFault) : Type 0 where
+  pub gives : (b : List ℕ) (base : ℕ) (s : Spot) → StandsIn before states b base s →
+      TellsIn r after states_after b base s result
+
+-- a reading gives a value where it stands
+pub record IsRead {X : Type 0} (r : Reader X) (a : Source) : Type 0 where
+  pub read : (b : List ℕ) (s : Spot) → Stands a b s → (x : X) × (t : Spot) × r b s (Ok (x, t))

@@ -10,3 +10,5 @@ pub mod Reader
 pub mod Reading
 pub mod Given
 pub mod Written
+pub mod Equal
+pub mod Order

@@ -1,5 +1,6 @@
 -- Reading symbol by symbol: what is read next, and which fault is met first.
-use Rattle.std.specs.Prelude.{◌≡◌, ◌⊎◌, ℕ, ◌+◌, ◌<◌, ◌^◌, nat_le, ◌&&◌, Bool, true, false, List, ◌++◌, ℤ, unsigned_abs, Result, Ok, Err}
+use Rattle.std.specs.Prelude.{◌≡◌, ◌⊎◌, ℕ, ◌+◌, ◌<◌, ◌^◌, nat_le, ◌&&◌, Bool, true, false, List}
+use Rattle.std.specs.Prelude.{◌++◌, ℤ, unsigned_abs, Result, Ok, Err}
 use Rattle.ffv1_range.specs.Table.{Table}
 use Rattle.ffv1_range.specs.Deltas.{IsTableOf}
 use Rattle.ffv1_range.specs.Symbols.{Step, shifted, too_long}
@@ -7,7 +8,8 @@ use Rattle.ffv1_record.specs.declared.fault.RecordFault.{RecordFault}
 use Rattle.ffv1_record.specs.declared.fault.RecordFault.TheVariants as fault
 use Rattle.ffv1_record.specs.Record.{IsCoded, number_steps, signed_number_steps, truth_steps}
 
--- where a reader stands: the steps that were read, and the first slot of the next quantisation table
+-- where a reader stands: the steps that were read, and the first slot of the next quantisation
+-- table
 pub record Spot : Type 0 where
   pub past : List Step
   pub fresh : ℕ
@@ -21,8 +23,10 @@ abbrev pub Reader : Type 0 → Type 1
 Reader X = List ℕ → Spot → Result (X × Spot) RecordFault → Type 0
 
 -- one value, and then what follows by it; or the first's fault
-pub record Then {X Y : Type 0} (first : Reader X) (next : X → Reader Y) (b : List ℕ) (s : Spot) (out : Result (Y × Spot) RecordFault) : Type 0 where
-  pub either : ((x : X) × (t : Spot) × first b s (Ok (x, t)) × next x b t out) ⊎ ((f : RecordFault) × first b s (Err f) × (out ≡ Err f))
+pub record Then {X Y : Type 0} (first : Reader X) (next : X →
+    Reader Y) (b : List ℕ) (s : Spot) (out : Result (Y × Spot) RecordFault) : Type 0 where
+  pub either : ((x : X) × (t : Spot) × first b s (Ok (x, t)) × next x b t out)
+      ⊎ ((f : RecordFault) × first b s (Err f) × (out ≡ Err f))
 
 infixl 10 ◌>>=◌
 abbrev pub ◌>>=◌ : {X Y : Type 0} → Reader X → (X → Reader Y) → Reader Y
@@ -44,18 +48,21 @@ next_table bytes s out = out ≡ Ok (s.fresh, record { past = s.past; fresh = s.
 -- the symbol of a number that the bytes code next, by the states at these slots
 unfoldable pub number : ℕ → Reader ℕ
 number base bytes s out =
-    ((n : ℕ) × (n < 2 ^ 31) × IsCoded bytes (s.past ++ number_steps base n) × (out ≡ Ok (n, behind s (number_steps base n))))
+    ((n : ℕ) × (n < 2 ^ 31) × IsCoded bytes (s.past ++ number_steps base n)
+    × (out ≡ Ok (n, behind s (number_steps base n))))
     ⊎ (IsCoded bytes (s.past ++ shifted base too_long) × (out ≡ Err fault.SymbolTooLong))
 
 -- that of a signed number
 unfoldable pub signed_number : Reader ℤ
 signed_number bytes s out =
-    ((v : ℤ) × (unsigned_abs v < 2 ^ 31) × IsCoded bytes (s.past ++ signed_number_steps v) × (out ≡ Ok (v, behind s (signed_number_steps v))))
+    ((v : ℤ) × (unsigned_abs v < 2 ^ 31) × IsCoded bytes (s.past ++ signed_number_steps v)
+    × (out ≡ Ok (v, behind s (signed_number_steps v))))
     ⊎ (IsCoded bytes (s.past ++ shifted 0 too_long) × (out ≡ Err fault.SymbolTooLong))
 
 -- the truth value that they code next
 unfoldable pub truth : Reader Bool
-truth bytes s out = (b : Bool) × IsCoded bytes (s.past ++ truth_steps b) × (out ≡ Ok (b, behind s (truth_steps b)))
+truth bytes s out = (b : Bool) × IsCoded bytes (s.past ++ truth_steps b)
+    × (out ≡ Ok (b, behind s (truth_steps b)))
 
 -- a number from least to most, or a fault
 abbrev pub number_within : ℕ → ℕ → ℕ → RecordFault → Reader ℕ

@@ -1,5 +1,7 @@
--- The parameters of a record, read in their order (RFC 9043, 4.2), each check made where its symbol has been read.
-use Rattle.std.specs.Prelude.{◌≡◌, ◌≢◌, ◌⊎◌, ℕ, ◌+◌, ◌-◌, ◌≤◌, ◌<◌, ◌==◌, nat_le, ◌||◌, not, Bool, true, List, [], ◌∷◌, ◌++◌, length, ℤ, Ok, Err}
+-- The parameters of a record, read in their order (RFC 9043, 4.2), each check made where its symbol
+-- has been read.
+use Rattle.std.specs.Prelude.{◌≡◌, ◌≢◌, ◌⊎◌, ℕ, ◌+◌, ◌-◌, ◌≤◌, ◌<◌, ◌==◌, nat_le, ◌||◌, not, Bool}
+use Rattle.std.specs.Prelude.{true, List, [], ◌∷◌, ◌++◌, length, ℤ, Ok, Err}
 use Rattle.std.proofs.Common.{zero, suc}
 use Rattle.ffv1_range.specs.Codes.{value}
 use Rattle.ffv1_plane.specs.Quantisation.{Set, contexts_of}
@@ -14,7 +16,8 @@ use Rattle.ffv1_record.specs.Parity.{remainder_of}
 use Rattle.ffv1_record.specs.Configuration.{Configuration}
 use Rattle.ffv1_record.specs.Accepted.{IsFirst, checks}
 use Rattle.ffv1_record.specs.Record.{body_of}
-use Rattle.ffv1_record.specs.Reader.{Reader, Spot, ◌>>=◌, done, require, next_table, number, signed_number, truth, number_within, makes_table}
+use Rattle.ffv1_record.specs.Reader.{Reader, Spot, ◌>>=◌, done, require, next_table, number}
+use Rattle.ffv1_record.specs.Reader.{signed_number, truth, number_within, makes_table}
 
 -- so many deltas, behind some
 unfoldable pub deltas_onto : ℕ → List ℤ → Reader (List ℤ)
@@ -58,7 +61,14 @@ planes = do
   log2_v ← number 0
   extra ← truth
   _ ← require (chroma || not extra) fault.ExtraPlane
-  done (record { colour = colour_of kind; chroma_planes = chroma; extra_plane = extra; log2_h = log2_h; log2_v = log2_v })
+  done (record {
+    colour = colour_of kind;
+    chroma_planes = chroma;
+    extra_plane = extra;
+    log2_h =
+        log2_h;
+    log2_v = log2_v;
+  })
 
 -- a count, coded less 1
 abbrev pub count_of : Reader ℕ
@@ -66,7 +76,8 @@ count_of = do
   n ← number 0
   done (n + 1)
 
--- the runs of a table behind some, with so many entries left to fill; each run fills at least one, so that many steps suffice
+-- the runs of a table behind some, with so many entries left to fill; each run fills at least one,
+-- so that many steps suffice
 unfoldable pub runs_onto : ℕ → ℕ → ℕ → List ℕ → Reader (List ℕ)
 runs_onto base steps zero runs = done runs
 runs_onto base zero (suc left) runs = done runs
@@ -88,7 +99,8 @@ set = do
   third ← table
   fourth ← table
   fifth ← table
-  _ ← require (nat_le (contexts_of (first ∷ second ∷ third ∷ fourth ∷ fifth ∷ [])) 32768) fault.Contexts
+  _ ← require (nat_le (contexts_of (first ∷ second ∷ third ∷ fourth ∷ fifth
+      ∷ [])) 32768) fault.Contexts
   done (first ∷ second ∷ third ∷ fourth ∷ fifth ∷ [])
 
 -- so many sets, behind some
@@ -112,6 +124,15 @@ tables = do
   ss ← sets_onto count []
   _ ← uncoded count
   done ss
+
+-- the parameters before the first set, of which the last says how many sets there are
+abbrev pub before_sets : Reader ℕ
+before_sets = do
+  _ ← opening
+  _ ← planes
+  _ ← count_of
+  _ ← count_of
+  number_within 0 1 8 fault.Sets
 
 -- a truth value that is coded as a number
 abbrev pub flag : RecordFault → Reader Bool
@@ -154,7 +175,8 @@ abbrev pub IsMet : List ℕ → ℕ → ℕ → RecordFault → Type 0
 IsMet bytes width height f =
     ((65280 ≤ value (body_of bytes) 2) × (f ≡ fault.BadStart))
     ⊎ parameters width height (body_of bytes) beginning (Err f)
-    ⊎ ((c : Configuration) × (t : Spot) × parameters width height (body_of bytes) beginning (Ok (c, t)) × IsFirst checks c f)
+    ⊎ ((c : Configuration) × (t : Spot)
+    × parameters width height (body_of bytes) beginning (Ok (c, t)) × IsFirst checks c f)
 
 -- the bytes are no record of a configuration of this size, and this is the first fault
 abbrev pub IsRefused : List ℕ → ℕ → ℕ → RecordFault → Type 0
@@ -162,3 +184,23 @@ IsRefused bytes width height f =
     ((length bytes < 5) × (f ≡ fault.Short))
     ⊎ ((5 ≤ length bytes) × (remainder_of bytes ≢ 0) × (f ≡ fault.Parity))
     ⊎ ((5 ≤ length bytes) × (remainder_of bytes ≡ 0) × IsMet bytes width height f)
+
+-- the bytes are no record, and this fault stands before the first set: it is told whatever memory
+-- there is
+abbrev pub IsRefusedBeforeSets : List ℕ → RecordFault → Type 0
+IsRefusedBeforeSets bytes f =
+    ((length bytes < 5) × (f ≡ fault.Short))
+    ⊎ ((5 ≤ length bytes) × (remainder_of bytes ≢ 0) × (f ≡ fault.Parity))
+    ⊎ ((5 ≤ length bytes) × (remainder_of bytes ≡ 0) × (65280 ≤ value (body_of bytes) 2)
+    × (f ≡ fault.BadStart))
+    ⊎ ((5 ≤ length bytes) × (remainder_of bytes ≡ 0)
+    × before_sets (body_of bytes) beginning (Err f))
+
+-- no fault stands before the first set: from there on memory is taken
+pub record ReachesSets (bytes : List ℕ) : Type 0 where
+  pub long : 5 ≤ length bytes
+  pub whole : remainder_of bytes ≡ 0
+  pub start : value (body_of bytes) 2 < 65280
+  pub count : ℕ
+  pub behind : Spot
+  pub read : before_sets (body_of bytes) beginning (Ok (count, behind))

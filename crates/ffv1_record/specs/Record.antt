@@ -1,6 +1,8 @@
--- The configuration record as a list of decisions (RFC 9043, 4.2 and 4.3). The parameters share 32 states, at slots 0 to 31; each
--- quantisation table has 32 of its own, those of table k (all tables of all sets counted, from 0) at the slots from 32 * (k + 1) on.
-use Rattle.std.specs.Prelude.{◌≡◌, ◌⊎◌, ℕ, ◌+◌, ◌-◌, ◌≤◌, Bool, false, List, [], ◌∷◌, ◌++◌, length, take, ℤ}
+-- The configuration record as a list of decisions (RFC 9043, 4.2 and 4.3). The parameters share 32
+-- states, at slots 0 to 31; each quantisation table has 32 of its own, those of table k (all tables
+-- of all sets counted, from 0) at the slots from 32 * (k + 1) on.
+use Rattle.std.specs.Prelude.{◌≡◌, ◌⊎◌, ℕ, ◌+◌, ◌-◌, ◌≤◌, Bool, false, List, [], ◌∷◌, ◌++◌, length}
+use Rattle.std.specs.Prelude.{take, ℤ}
 use Rattle.std.proofs.Common.{zero, suc}
 use Rattle.ffv1_range.specs.Interval.{Decision, interval_of}
 use Rattle.ffv1_range.specs.Codes.{Codes, digits, full_of}
@@ -58,10 +60,12 @@ uncoded_steps (suc k) = truth_steps false ++ uncoded_steps k
 abbrev pub opening_steps : Configuration → List Step
 opening_steps c = number_steps 0 3 ++ number_steps 0 4 ++ coder_steps c.coder
 
--- colorspace_type, bits_per_raw_sample, chroma_planes, log2_h_chroma_subsample, log2_v_chroma_subsample, extra_plane
+-- colorspace_type, bits_per_raw_sample, chroma_planes, log2_h_chroma_subsample,
+-- log2_v_chroma_subsample, extra_plane
 abbrev pub planes_steps : ℕ → Configuration → List Step
 planes_steps bits c =
-    number_steps 0 (one_if (is_rct c.colour)) ++ number_steps 0 bits ++ truth_steps c.chroma_planes ++ number_steps 0 c.log2_h ++ number_steps 0 c.log2_v ++ truth_steps c.extra_plane
+    number_steps 0 (one_if (is_rct c.colour)) ++ number_steps 0 bits ++ truth_steps c.chroma_planes
+    ++ number_steps 0 c.log2_h ++ number_steps 0 c.log2_v ++ truth_steps c.extra_plane
 
 -- num_h_slices and num_v_slices, each less 1
 abbrev pub grid_steps : Configuration → List Step
@@ -69,7 +73,8 @@ grid_steps c = number_steps 0 (c.columns - 1) ++ number_steps 0 (c.rows - 1)
 
 -- quant_table_set_count, the sets, and a states_coded for each
 abbrev pub tables_steps : Configuration → List Step
-tables_steps c = number_steps 0 (length c.sets) ++ sets_steps 32 c.sets ++ uncoded_steps (length c.sets)
+tables_steps c = number_steps 0 (length c.sets) ++ sets_steps 32 c.sets
+    ++ uncoded_steps (length c.sets)
 
 -- ec and intra
 abbrev pub closing_steps : Configuration → List Step
@@ -77,7 +82,8 @@ closing_steps c = number_steps 0 (one_if c.ec) ++ number_steps 0 (one_if c.intra
 
 -- the parameters, with bits_per_raw_sample
 abbrev pub record_steps : ℕ → Configuration → List Step
-record_steps bits c = opening_steps c ++ planes_steps bits c ++ grid_steps c ++ tables_steps c ++ closing_steps c
+record_steps bits c = opening_steps c ++ planes_steps bits c ++ grid_steps c ++ tables_steps c
+    ++ closing_steps c
 
 abbrev pub record_decisions : ℕ → Configuration → List Decision
 record_decisions bits c = decisions_after standard [] (record_steps bits c)
@@ -98,7 +104,8 @@ body_of bytes = take (length bytes - 4) bytes
 abbrev pub IsCoded : List ℕ → List Step → Type 0
 IsCoded bytes steps = Codes bytes (decisions_after standard [] steps)
 
--- the bytes are a record of the configuration: a bits_per_raw_sample of 0 means 8, and bytes between the parameters and the parity count for nothing
+-- the bytes are a record of the configuration: a bits_per_raw_sample of 0 means 8, and bytes
+-- between the parameters and the parity count for nothing
 pub record IsRecord (bytes : List ℕ) (c : Configuration) : Type 0 where
   pub long : 5 ≤ length bytes
   pub whole : remainder_of bytes ≡ 0

@@ -1,3 +1,4 @@
+-- Internal: what ties an encoder and its states to the definition; no public clause cites it.
 -- Where a writer of a record stands.
 use Rattle.std.specs.Prelude.{◌≡◌, ℕ, ◌+◌, ◌≤◌, List, [], ◌++◌}
 use Rattle.ffv1_range.specs.Interval.{interval_of}
@@ -26,10 +27,15 @@ pub record HoldingIn (a : Target) (states : List ℕ) (base : ℕ) (s : Spot) : 
   pub kept : base + 32 ≤ s.fresh
   pub table : HasStates standard states base s.past
 
--- it wrote these steps, which the next table's first slot may name, and gave so many slots to tables
+-- it wrote these steps, which the next table's first slot may name, and gave so many slots to
+-- tables
 pub record Wrote (steps : ℕ → List Step) (grown : ℕ) (before after : Target) : Type 0 where
-  pub wrote : (s : Spot) → Holding before s → Holding after (record { past = s.past ++ steps s.fresh; fresh = s.fresh + grown })
+  pub wrote : (s : Spot) → Holding before s →
+      Holding after (record { past = s.past ++ steps s.fresh; fresh = s.fresh + grown })
 
 -- the same by the states of a table
-pub record WroteIn (steps : ℕ → List Step) (before : Target) (states : List ℕ) (after : Target) (states_after : List ℕ) : Type 0 where
-  pub wrote : (base : ℕ) (s : Spot) → HoldingIn before states base s → HoldingIn after states_after base (record { past = s.past ++ steps base; fresh = s.fresh })
+pub record WroteIn (steps : ℕ →
+    List Step) (before : Target) (states : List ℕ) (after : Target) (states_after : List ℕ) : Type
+    0 where
+  pub wrote : (base : ℕ) (s : Spot) → HoldingIn before states base s →
+      HoldingIn after states_after base (record { past = s.past ++ steps base; fresh = s.fresh })

@@ -11,7 +11,8 @@ use ffv1_range::StateTable;
 use std::alloc::{Allocator, Global};
 use std::marker::Model;
 
-/// How much a decoder of pictures holds: the lengths of its vectors. The height of the pictures changes none.
+/// How much a decoder of pictures holds: the lengths of its vectors. The height of the pictures
+/// changes none.
 #[derive(Clone, Copy, Debug, PartialEq, Eq)]
 pub struct Held {
     /// States: 32 for each column, class of planes, and context of the largest set.

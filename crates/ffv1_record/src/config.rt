@@ -1,10 +1,15 @@
 //! Configurations, and which are accepted.
 
-ghost use Rattle.std.specs.Prelude.{◌≡◌, ℕ, ◌+◌, ◌*◌, ◌/◌, ◌^◌, ◌<◌, ◌≤◌, ◌↔◌, IsTrue, IfOk, IfErr, length};
+ghost use Rattle.std.specs.Prelude.{◌≡◌, ◌≢◌, ℕ, ◌+◌, ◌*◌, ◌/◌, ◌^◌, ◌<◌, ◌≤◌, ◌↔◌, IsTrue};
+ghost use Rattle.std.specs.Prelude.{IsFalse, IfOk, IfErr, length};
 ghost use Rattle.ffv1_range.specs.Table.{Table, IsTable};
+ghost use Rattle.ffv1_range.specs.Deltas.{IsTableOf, HaveNoTable};
 ghost use Rattle.ffv1_record.specs.Configuration.{configuration_of};
 ghost use Rattle.ffv1_record.specs.Sets.{AreSets};
-ghost use Rattle.ffv1_record.specs.Accepted.{is_sized, is_subsampled, is_transparent, are_counted, is_divided, IsTableFor, AreMultiples, IsFirst, Passes, checks, IsAccepted};
+ghost use Rattle.ffv1_record.specs.Writable.{AreDeltas, IsWritable};
+ghost use Rattle.ffv1_record.specs.Accepted.{is_sized, is_subsampled, is_transparent, are_counted};
+ghost use Rattle.ffv1_record.specs.Accepted.{is_divided, IsTableFor, AreMultiples, IsFirst, Passes};
+ghost use Rattle.ffv1_record.specs.Accepted.{checks, IsAccepted};
 
 use crate::checked::Checked;
 use crate::fault::RecordFault;
@@ -13,7 +18,7 @@ use ffv1_range::StateTable;
 use std::alloc::{Allocator, Global};
 
 /// Which state transition table there is (RFC 9043, 4.2.3 and 4.2.4).
-#[derive(Clone, Copy, Debug, PartialEq, Eq)]
+#[derive(Clone, Copy, Debug)]
 pub enum Coder {
     /// The standard's.
     One,
@@ -22,7 +27,7 @@ pub enum Coder {
 }
 
 /// How colours are coded (RFC 9043, 4.2.5).
-#[derive(Clone, Copy, Debug, PartialEq, Eq)]
+#[derive(Clone, Copy, Debug)]
 pub enum Colour {
     /// One plane after the other.
     YCbCr,
@@ -30,8 +35,8 @@ pub enum Colour {
     Rct,
 }
 
-/// What a stream is coded by: the parameters of RFC 9043, 4.2, for pictures of 8 bits a sample, each a key frame, and the
-/// size of the pictures.
+/// What a stream is coded by: the parameters of RFC 9043, 4.2, for pictures of 8 bits a sample,
+/// each a key frame, and the size of the pictures.
 #[derive(Drop)]
 pub struct Config<A: Allocator = Global> {
     /// The width of the pictures in samples, 1 to 8192.
@@ -46,7 +51,8 @@ pub struct Config<A: Allocator = Global> {
     pub chroma_planes: bool,
     /// Whether there is a plane of transparency. It comes with chroma planes alone.
     pub extra_plane: bool,
-    /// The binary logarithm of how much narrower chroma is, 0 to 2; 0 with RCT and without chroma planes.
+    /// The binary logarithm of how much narrower chroma is, 0 to 2; 0 with RCT and without chroma
+    /// planes.
     pub log2_h: u32,
     /// The same of how much lower it is.
     pub log2_v: u32,
@@ -62,24 +68,59 @@ pub struct Config<A: Allocator = Global> {
     pub intra: bool,
 }
 
+/// Whether each delta has a symbol, which the least number of 32 bits has not.
+fn have_symbols(deltas: &[i32; 255]) -> bool
+    ensures long { length deltas.now ≡ 255 }
+    ensures yes { IsTrue result → AreDeltas deltas.now }
+    ensures no { IsFalse result → HaveNoTable deltas.now }
+{
+    for k in 0..255usize {
+        if deltas[k] == i32::MIN {
+            return false;
+        }
+    }
+    true
+}
+
+/// The state transition table of some deltas. Refuses with `StateTable` where they make none.
+fn table_of(deltas: &[i32; 255]) -> Result<StateTable, RecordFault>
+    ensures ok { IfOk result (λ t. IsTableOf deltas.now t) }
+    ensures closed { IfOk result (λ t. IsTable t.floor t.one) }
+    ensures long { IfOk result (λ _. length deltas.now ≡ 255) }
+    ensures writable { IfOk result (λ _. AreDeltas deltas.now) }
+    ensures refused { IfErr result (λ f. (f ≡ RecordFault.StateTable) × HaveNoTable deltas.now) }
+{
+    if !have_symbols(deltas) {
+        return Err(RecordFault::StateTable);
+    }
+    match StateTable::with_deltas(deltas) {
+        Ok(table) => Ok(table),
+        Err(_) => Err(RecordFault::StateTable),
+    }
+}
+
 impl Coder {
     /// The state transition table. Refuses with `StateTable` where the deltas make none.
     fn table(&self) -> Result<StateTable, RecordFault>
         ensures ok { IfOk result (λ t. IsTableFor self.now t) }
         ensures closed { IfOk result (λ t. IsTable t.floor t.one) }
-        ensures refused { IfErr result (λ f. (f ≡ RecordFault.StateTable) × ((t : Table) → IsTableFor self.now t → ⊥)) }
+        ensures writable { IfOk result (λ _. IsWritable self.now) }
+        ensures refused { IfErr result
+            (λ f. (f ≡ RecordFault.StateTable) × ((t : Table) → IsTableFor self.now t → ⊥)) }
     {
         match self {
             Coder::One => Ok(StateTable::standard()),
-            Coder::Two(deltas) => match StateTable::with_deltas(deltas) {
+            // Both arms are written out, so that the clauses are proved by arm.
+            Coder::Two(deltas) => match table_of(deltas) {
                 Ok(table) => Ok(table),
-                Err(_) => Err(RecordFault::StateTable),
+                Err(fault) => Err(fault),
             },
         }
     }
 }
 
-/// Whether each inner edge of a size that is divided into some parts is a multiple of the chroma factor.
+/// Whether each inner edge of a size that is divided into some parts is a multiple of the chroma
+/// factor.
 fn are_multiples(size: u32, count: u32, log2: u32) -> bool
     requires size { size ≤ 8192 }
     requires count { count ≤ 32 }
@@ -149,12 +190,14 @@ impl<A: Allocator> Config<A> {
             && are_multiples(self.height, self.rows, self.log2_v)
     }
 
-    /// The configuration, checked. Refuses with the first of these that stands: `Size`, `Subsampling`, `ExtraPlane`, `Sets`,
-    /// `StateTable`, `Grid`, `ChromaEdge`; else accepts. It takes no memory.
+    /// The configuration, checked. Refuses with the first of these that stands: `Size`,
+    /// `Subsampling`, `ExtraPlane`, `Sets`, `StateTable`, `Grid`, `ChromaEdge`; else accepts. It
+    /// takes no memory.
     pub fn check(self) -> Result<Checked<A>, RecordFault>
         ensures ok { IfOk result (λ c. c.configuration ≡ configuration_of self) }
         ensures accepted { IfOk result (λ c. IsAccepted c.configuration c.table) }
         ensures refused { IfErr result (λ f. IsFirst checks (configuration_of self) f) }
+        ensures memory { IfErr result (λ f. f ≢ RecordFault.OutOfMemory) }
     {
         if !self.is_sized() {
             return Err(RecordFault::Size);

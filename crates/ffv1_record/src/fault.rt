@@ -31,13 +31,15 @@ pub enum RecordFault {
     /// The width or the height is not from 1 to 8192.
     #[error("10 Size")]
     Size,
-    /// There are not 1 to 32 columns or rows, or more columns than the width, or more rows than the height.
+    /// There are not 1 to 32 columns or rows, or more columns than the width, or more rows than the
+    /// height.
     #[error("11 Grid")]
     Grid,
     /// An inner edge of the slices is no multiple of its chroma factor.
     #[error("12 ChromaEdge")]
     ChromaEdge,
-    /// A chroma factor is above 4; or RCT has no chroma planes; or a chroma factor is not 1 with RCT or without chroma planes.
+    /// A chroma factor is above 4; or RCT has no chroma planes; or a chroma factor is not 1 with
+    /// RCT or without chroma planes.
     #[error("13 Subsampling")]
     Subsampling,
     /// There are not 1 to 8 quantisation table sets.

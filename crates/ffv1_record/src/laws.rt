@@ -1,22 +1,31 @@
 //! Laws of the definitions, each the contract of a function that does nothing.
 
-ghost use Rattle.std.specs.Prelude.{◌≡◌, ◌↔◌, ℕ, ◌*◌, ◌^◌, ◌<◌, ◌≤◌, ◌++◌, List, length, bit_xor};
+ghost use Rattle.std.specs.Prelude.{Err, true, false, [], slice_index_or, ◌≡◌, ◌↔◌, ℕ, ◌*◌, ◌^◌};
+ghost use Rattle.std.specs.Prelude.{◌<◌, ◌≤◌, ◌++◌, List, length, bit_xor};
+ghost use Rattle.std.specs.List.{Contains};
 ghost use Rattle.ffv1_range.specs.Codes.{AreBytes, value, digits};
 ghost use Rattle.ffv1_record.specs.Configuration.{Configuration};
 ghost use Rattle.ffv1_record.specs.Parity.{remainder_of, parity_of};
-ghost use Rattle.ffv1_range.specs.Table.{Table};
+ghost use Rattle.ffv1_range.specs.Table.{Table, IsTable};
+ghost use Rattle.ffv1_plane.specs.Quantisation.{IsSet};
+ghost use Rattle.ffv1_record.specs.declared.config.Colour.TheVariants as colour;
 ghost use Rattle.ffv1_record.specs.declared.fault.RecordFault.{RecordFault};
-ghost use Rattle.ffv1_record.specs.Sets.{AreSets};
-ghost use Rattle.ffv1_record.specs.Accepted.{IsAccepted, AreMultiples};
+ghost use Rattle.ffv1_record.specs.Sets.{AreSets, most_contexts};
+ghost use Rattle.ffv1_record.specs.Accepted.{IsAccepted, IsTableFor, AreMultiples};
+ghost use Rattle.ffv1_record.specs.Accepted.{IsFirst, Passes, PassesAll, checks};
 ghost use Rattle.ffv1_record.specs.Writable.{IsWritable};
-ghost use Rattle.ffv1_record.specs.Reading.{IsRefused};
-ghost use Rattle.ffv1_record.specs.Record.{IsRecord, record_of};
+ghost use Rattle.ffv1_record.specs.Order.{FirstBad, in_order};
+ghost use Rattle.ffv1_record.specs.Reading.{beginning, parameters, IsRefused, IsRefusedBeforeSets};
+ghost use Rattle.ffv1_record.specs.Reading.{ReachesSets};
+ghost use Rattle.ffv1_record.specs.Record.{IsRecord, record_of, body_of};
 
-/// Bytes followed by four more have the remainder 0 exactly where the four are their parity, big end first; and the
-/// parity of bytes is 0 exactly where their remainder is.
+/// Bytes followed by four more have the remainder 0 exactly where the four are their parity, big
+/// end first; and the parity of bytes is 0 exactly where their remainder is.
 pub fn guarded()
-    ensures stored { (bytes : List ℕ) (n : ℕ) → AreBytes bytes → n < 2 ^ 32 → (remainder_of (bytes ++ digits 4 n) ≡ 0) ↔ (n ≡ parity_of bytes) }
-    ensures zero { (bytes : List ℕ) → AreBytes bytes → (parity_of bytes ≡ 0) ↔ (remainder_of bytes ≡ 0) }
+    ensures stored { (bytes : List ℕ) (n : ℕ) → AreBytes bytes → n < 2 ^ 32 →
+        (remainder_of (bytes ++ digits 4 n) ≡ 0) ↔ (n ≡ parity_of bytes) }
+    ensures zero { (bytes : List ℕ) → AreBytes bytes →
+        (parity_of bytes ≡ 0) ↔ (remainder_of bytes ≡ 0) }
     ensures small { (bytes : List ℕ) → AreBytes bytes → remainder_of bytes < 2 ^ 32 }
     ensures small_parity { (bytes : List ℕ) → AreBytes bytes → parity_of bytes < 2 ^ 32 }
 {}
@@ -24,13 +33,16 @@ pub fn guarded()
 /// The remainder of a sum, place by place, of bytes is the sum of the remainders.
 pub fn additive()
     ensures { (xs ys zs : List ℕ) → length xs ≡ length zs → length ys ≡ length zs →
-        value zs (length zs) ≡ bit_xor (value xs (length xs)) (value ys (length ys)) → remainder_of zs ≡ bit_xor (remainder_of xs) (remainder_of ys) }
+        value zs (length zs) ≡ bit_xor (value xs (length xs)) (value ys (length ys)) →
+        remainder_of zs ≡ bit_xor (remainder_of xs) (remainder_of ys) }
 {}
 
 /// Bytes that differ, and only within 32 neighbouring bits, have different remainders.
 pub fn burst()
-    ensures { (xs ys : List ℕ) (bits place : ℕ) → AreBytes xs → AreBytes ys → length xs ≡ length ys → 0 < bits → bits < 2 ^ 32 →
-        bit_xor (value xs (length xs)) (value ys (length ys)) ≡ bits * 2 ^ place → remainder_of xs ≡ remainder_of ys → ⊥ }
+    ensures { (xs ys : List ℕ) (bits place : ℕ) → AreBytes xs → AreBytes ys →
+        length xs ≡ length ys → 0 < bits → bits < 2 ^ 32 →
+        bit_xor (value xs (length xs)) (value ys (length ys)) ≡ bits * 2 ^ place →
+        remainder_of xs ≡ remainder_of ys → ⊥ }
 {}
 
 /// What is written of a configuration is its record, whatever the configuration.
@@ -40,20 +52,92 @@ pub fn written_is_record()
     guarded();
 }
 
-/// Bytes are refused for one reason at most, and none that are a record of an accepted configuration.
+/// What is written of an accepted configuration is read: it is its record, and no fault stands in
+/// it.
+pub fn written_is_read()
+    ensures stored { (c : Configuration) (t : Table) → IsAccepted c t → IsRecord (record_of c) c }
+    ensures none { (c : Configuration) (t : Table) (f : RecordFault) → IsAccepted c t →
+        IsRefused (record_of c) c.width c.height f → ⊥ }
+{
+    written_is_record();
+}
+
+/// Bytes are a record of one accepted configuration of a size at most, and that has one state
+/// transition table.
+pub fn one_configuration()
+    ensures one { (bytes : List ℕ) (c d : Configuration) (t u : Table) → AreBytes bytes →
+        IsAccepted c t → IsAccepted d u → c.width ≡ d.width → c.height ≡ d.height →
+        IsRecord bytes c → IsRecord bytes d → c ≡ d }
+    ensures table { (c : Configuration) (t u : Table) → IsAccepted c t → IsAccepted c u → t ≡ u }
+{}
+
+/// A fault that stands before the first set is told whatever memory there is: the bytes are
+/// refused with it, and `read_record` answers `OutOfMemory` for no such bytes.
+pub fn before_sets()
+    ensures refused { (bytes : List ℕ) (width height : ℕ) (f : RecordFault) →
+        IsRefusedBeforeSets bytes f → IsRefused bytes width height f }
+    ensures apart { (bytes : List ℕ) (f : RecordFault) → AreBytes bytes →
+        ReachesSets bytes → IsRefusedBeforeSets bytes f → ⊥ }
+{}
+
+/// Bytes are refused for one reason at most, and none that are a record of an accepted
+/// configuration.
 pub fn one_refusal()
     ensures one { (bytes : List ℕ) (width height : ℕ) (f g : RecordFault) → AreBytes bytes →
         IsRefused bytes width height f → IsRefused bytes width height g → f ≡ g }
-    ensures none { (bytes : List ℕ) (c : Configuration) (t : Table) (f : RecordFault) → AreBytes bytes →
-        IsAccepted c t → IsWritable c.coder → IsRecord bytes c → IsRefused bytes c.width c.height f → ⊥ }
+    ensures none { (bytes : List ℕ) (c : Configuration) (t : Table) (f : RecordFault) →
+        AreBytes bytes →
+        IsAccepted c t → IsRecord bytes c → IsRefused bytes c.width c.height f → ⊥ }
+{}
+
+/// Which fault `Config::check` tells: one of its own seven, the one of which the configuration does
+/// not meet what it has to, and none of the faults of reading.
+pub fn first_fault()
+    ensures named { (c : Configuration) (f : RecordFault) → IsFirst checks c f → Contains checks f }
+    ensures fails { (c : Configuration) (f : RecordFault) → IsFirst checks c f → Passes f c → ⊥ }
+    ensures passes { (c : Configuration) (f : RecordFault) →
+        PassesAll checks c → IsFirst checks c f → ⊥ }
 {}
 
 /// What holds of a configuration that was checked, in numbers.
 pub fn accepted()
-    ensures sizes { (c : Configuration) (t : Table) → IsAccepted c t → (1 ≤ c.width) × (c.width ≤ 8192) × (1 ≤ c.height) × (c.height ≤ 8192) }
-    ensures factors { (c : Configuration) (t : Table) → IsAccepted c t → (c.log2_h ≤ 2) × (c.log2_v ≤ 2) }
-    ensures columns { (c : Configuration) (t : Table) → IsAccepted c t → (1 ≤ c.columns) × (c.columns ≤ 32) × (c.columns ≤ c.width) }
-    ensures rows { (c : Configuration) (t : Table) → IsAccepted c t → (1 ≤ c.rows) × (c.rows ≤ 32) × (c.rows ≤ c.height) }
-    ensures edges { (c : Configuration) (t : Table) → IsAccepted c t → AreMultiples c.width c.columns c.log2_h × AreMultiples c.height c.rows c.log2_v }
-    ensures sets { (c : Configuration) (t : Table) → IsAccepted c t → (1 ≤ length c.sets) × (length c.sets ≤ 8) × AreSets c.sets }
+    ensures sizes { (c : Configuration) (t : Table) → IsAccepted c t →
+        (1 ≤ c.width) × (c.width ≤ 8192) × (1 ≤ c.height) × (c.height ≤ 8192) }
+    ensures factors { (c : Configuration) (t : Table) → IsAccepted c t →
+        (c.log2_h ≤ 2) × (c.log2_v ≤ 2) }
+    ensures columns { (c : Configuration) (t : Table) → IsAccepted c t →
+        (1 ≤ c.columns) × (c.columns ≤ 32) × (c.columns ≤ c.width) }
+    ensures rows { (c : Configuration) (t : Table) → IsAccepted c t →
+        (1 ≤ c.rows) × (c.rows ≤ 32) × (c.rows ≤ c.height) }
+    ensures edges { (c : Configuration) (t : Table) → IsAccepted c t →
+        AreMultiples c.width c.columns c.log2_h × AreMultiples c.height c.rows c.log2_v }
+    ensures sets { (c : Configuration) (t : Table) → IsAccepted c t →
+        (1 ≤ length c.sets) × (length c.sets ≤ 8) × AreSets c.sets }
+{}
+
+/// What holds of the planes, sets and table of a configuration that was checked.
+pub fn accepted_parts()
+    ensures rct { (c : Configuration) (t : Table) → IsAccepted c t → c.colour ≡ colour.Rct →
+        (c.chroma_planes ≡ true) × (c.log2_h ≡ 0) × (c.log2_v ≡ 0) }
+    ensures luma { (c : Configuration) (t : Table) → IsAccepted c t → c.chroma_planes ≡ false →
+        (c.colour ≡ colour.YCbCr) × (c.log2_h ≡ 0) × (c.log2_v ≡ 0) × (c.extra_plane ≡ false) }
+    ensures set { (c : Configuration) (t : Table) (k : ℕ) → IsAccepted c t → k < length c.sets →
+        IsSet (slice_index_or c.sets k []) }
+    ensures most { (c : Configuration) (t : Table) → IsAccepted c t →
+        most_contexts c.sets ≤ 32768 }
+    ensures coder { (c : Configuration) (t : Table) → IsAccepted c t →
+        IsTableFor c.coder t × IsTable t.floor t.one × IsWritable c.coder }
+{}
+
+/// The first parameter that is not good, in the order of the record, is the fault that is told:
+/// where the bytes code good symbols of all parameters before it, and then symbols that are a fault
+/// in its place.
+pub fn first_bad_parameter()
+    ensures read { (bytes : List ℕ) (width height bits : ℕ) (c : Configuration) (f : RecordFault) →
+        AreBytes bytes → FirstBad in_order bytes [] bits c f →
+        parameters width height bytes beginning (Err f) }
+    ensures refused { (bytes : List ℕ) (width height bits : ℕ)
+        (c : Configuration) (f : RecordFault) →
+        AreBytes bytes → 5 ≤ length bytes → remainder_of bytes ≡ 0 →
+        FirstBad in_order (body_of bytes) [] bits c f → IsRefused bytes width height f }
 {}

@@ -1,9 +1,29 @@
-//! The configuration of an FFV1 stream (RFC 9043, 4.2 and 4.3): which are accepted, how one is written and read as a
-//! configuration record, and the parity that guards records and slices.
+//! The configuration of an FFV1 stream (RFC 9043, 4.2 and 4.3): which are accepted, how one is
+//! written and read as a configuration record, and the parity that guards records and slices
+//! (4.3.2, 4.9.3).
+//!
+//! A `Config` is what a stream is coded by, with its quantisation table `Sets`. `Config::check`
+//! comes first: it refuses what the profile does not take, and makes a `Checked`, which has the
+//! state transition table, too, and says how much a decoder holds. `write_record` writes a
+//! `Checked`, and `read_record` gives it back; `parity` is a function of bytes alone. `laws` has
+//! what holds of the definitions.
+//!
+//! ```
+//! let mut sets = Sets::new(heap);
+//! sets.push(QuantSet::small(heap)?)?;
+//! let (columns, rows) = (2, 2);
+//! let config = Config { width: 352, height: 288, coder: Coder::One, colour: Colour::Rct,
+//!     chroma_planes: true, extra_plane: false, log2_h: 0, log2_v: 0, columns, rows, sets,
+//!     ec: true, intra: true };
+//! let checked = config.check()?;
+//! let record = write_record(heap, &checked)?;
+//! assert!(read_record(heap, &record, 352, 288)? == checked);
+//! ```
 #![tactic(auto)]
 
 pub mod checked;
 pub mod config;
+mod equal;
 pub mod fault;
 pub mod laws;
 mod planes;

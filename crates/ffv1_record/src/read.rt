@@ -1,14 +1,17 @@
 //! A configuration record is read.
 
-ghost use Rattle.std.specs.Prelude.{◌≡◌, ◌⊎◌, ℕ, ◌+◌, ◌*◌, ◌≤◌, ◌<◌, ◌++◌, [], ◌∷◌, ◌||◌, not, length, take, IsTrue, IfOk, IfErr, MatchResult, Result, Ok, Err};
+ghost use Rattle.std.specs.Prelude.{◌≡◌, ◌≢◌, ◌⊎◌, ℕ, ◌+◌, ◌*◌, ◌≤◌, ◌<◌, ◌++◌, [], ◌∷◌, ◌||◌, not};
+ghost use Rattle.std.specs.Prelude.{length, take, IsTrue, IfOk, IfErr, MatchResult, Result, Ok};
+ghost use Rattle.std.specs.Prelude.{Err, true};
 ghost use Rattle.ffv1_record.specs.declared.fault.RecordFault.TheVariants as fault;
 ghost use Rattle.ffv1_record.specs.Configuration.{Configuration, configuration_of};
 ghost use Rattle.ffv1_record.specs.Accepted.{IsAccepted};
 ghost use Rattle.ffv1_record.specs.Record.{IsRecord};
-ghost use Rattle.ffv1_record.specs.Writable.{IsWritable};
-ghost use Rattle.ffv1_record.specs.Reader.{truth};
-ghost use Rattle.ffv1_record.specs.Reading.{deltas_onto, opening, depth, colour_of, planes, count_of, table, set, sets_onto, uncoded, tables, flag, parameters, IsRefused};
-ghost use Rattle.ffv1_record.specs.Given.{Gives};
+ghost use Rattle.ffv1_record.specs.Reader.{truth, number_within};
+ghost use Rattle.ffv1_record.specs.Reading.{deltas_onto, opening, depth, colour_of, planes};
+ghost use Rattle.ffv1_record.specs.Reading.{count_of, table, set, sets_onto, uncoded, tables, flag};
+ghost use Rattle.ffv1_record.specs.Reading.{before_sets, parameters, IsRefused, ReachesSets};
+ghost use Rattle.ffv1_record.specs.Given.{Gives, IsRead};
 ghost use Rattle.ffv1_range.specs.Table.{Table};
 ghost use Rattle.ffv1_plane.specs.Quantisation.{is_filled, are_filled, contexts_of};
 
@@ -26,7 +29,8 @@ use std::alloc::{Allocator, Global};
 
 /// The 255 deltas of coder_type 2.
 fn read_deltas(reader: &mut RecordReader<'_>) -> Result<[i32; 255], RecordFault>
-    ensures { Gives (λ ds. ds) (deltas_onto 255 []) reader.old reader.new result }
+    ensures gives { Gives (λ ds. ds) (deltas_onto 255 []) reader.old reader.new result }
+    ensures told { IfErr result (λ f. f ≢ fault.OutOfMemory) }
 {
     let mut deltas = [0i32; 255];
     for k in 0..255usize {
@@ -37,7 +41,8 @@ fn read_deltas(reader: &mut RecordReader<'_>) -> Result<[i32; 255], RecordFault>
 
 /// Version, micro_version, coder_type and deltas.
 fn read_opening(reader: &mut RecordReader<'_>) -> Result<Coder, RecordFault>
-    ensures { Gives (λ c. c) opening reader.old reader.new result }
+    ensures gives { Gives (λ c. c) opening reader.old reader.new result }
+    ensures told { IfErr result (λ f. f ≢ fault.OutOfMemory) }
 {
     reader.number_within(3, 3, RecordFault::Version)?;
     reader.number_within(4, 4, RecordFault::MicroVersion)?;
@@ -54,7 +59,8 @@ fn read_opening(reader: &mut RecordReader<'_>) -> Result<Coder, RecordFault>
 
 /// The bits of a sample: 8, or 0 for the same.
 fn read_depth(reader: &mut RecordReader<'_>) -> Result<u32, RecordFault>
-    ensures { Gives (λ n. n) depth reader.old reader.new result }
+    ensures gives { Gives (λ n. n) depth reader.old reader.new result }
+    ensures told { IfErr result (λ f. f ≢ fault.OutOfMemory) }
 {
     let bits = reader.number()?;
     if bits == 0 {
@@ -85,7 +91,8 @@ fn suits(chroma_planes: bool, extra_plane: bool) -> bool
 
 /// Colour, bits and chroma.
 fn read_planes(reader: &mut RecordReader<'_>) -> Result<Planes, RecordFault>
-    ensures { Gives (λ p. p) planes reader.old reader.new result }
+    ensures gives { Gives (λ p. p) planes reader.old reader.new result }
+    ensures told { IfErr result (λ f. f ≢ fault.OutOfMemory) }
 {
     let kind = reader.number_within(0, 1, RecordFault::ColourSpace)?;
     let colour = colour_of(kind);
@@ -108,7 +115,8 @@ fn read_planes(reader: &mut RecordReader<'_>) -> Result<Planes, RecordFault>
 
 /// A count that is coded less 1.
 fn read_count(reader: &mut RecordReader<'_>) -> Result<u32, RecordFault>
-    ensures { Gives (λ n. n) count_of reader.old reader.new result }
+    ensures gives { Gives (λ n. n) count_of reader.old reader.new result }
+    ensures told { IfErr result (λ f. f ≢ fault.OutOfMemory) }
 {
     let less = reader.number()?;
     Ok(less + 1)
@@ -142,10 +150,15 @@ fn set_of<A: Allocator + Copy>(
     fourth: &[u8],
     fifth: &[u8],
 ) -> Result<QuantSet<A>, RecordFault>
-    requires { IsTrue (are_filled (first.now ∷ second.now ∷ third.now ∷ fourth.now ∷ fifth.now ∷ [])) }
-    ensures ok { IfOk result (λ s. s ≡ first.now ∷ second.now ∷ third.now ∷ fourth.now ∷ fifth.now ∷ []) }
+    requires { IsTrue (are_filled (first.now ∷ second.now ∷ third.now ∷ fourth.now ∷ fifth.now
+        ∷ [])) }
+    ensures ok { IfOk result (λ s. s ≡ first.now ∷ second.now ∷ third.now ∷ fourth.now ∷ fifth.now
+        ∷ []) }
     ensures few { IfOk result (λ s. contexts_of s ≤ 32768) }
-    ensures err { IfErr result (λ f. (f ≡ fault.OutOfMemory) ⊎ ((f ≡ fault.Contexts) × (32768 < contexts_of (first.now ∷ second.now ∷ third.now ∷ fourth.now ∷ fifth.now ∷ [])))) }
+    ensures err { IfErr result
+        (λ f. (f ≡ fault.OutOfMemory)
+        ⊎ ((f ≡ fault.Contexts) × (32768 < contexts_of (first.now ∷ second.now ∷ third.now
+        ∷ fourth.now ∷ fifth.now ∷ [])))) }
 {
     match QuantSet::from_runs(alloc, &[first, second, third, fourth, fifth]) {
         Ok(set) => Ok(set),
@@ -187,15 +200,16 @@ fn read_sets<A: Allocator + Copy>(
 }
 
 /// That no set's initial states are coded.
-fn read_uncoded(reader: &mut RecordReader<'_>, count: u32) -> Result<bool, RecordFault>
-    ensures { Gives (λ b. b) (uncoded count) reader.old reader.new result }
+fn read_uncoded(reader: &mut RecordReader<'_>, count: u32) -> Result<(), RecordFault>
+    ensures gives { Gives (λ _. true) (uncoded count) reader.old reader.new result }
+    ensures told { IfErr result (λ f. f ≢ fault.OutOfMemory) }
 {
     for _index in 0..count {
         if reader.truth() {
             return Err(RecordFault::CodedStates);
         }
     }
-    Ok(true)
+    Ok(())
 }
 
 /// The quantisation table sets.
@@ -203,7 +217,9 @@ fn read_tables<A: Allocator + Copy>(
     alloc: A,
     reader: &mut RecordReader<'_>,
 ) -> Result<Sets<A>, RecordFault>
-    ensures { Gives (λ s. s) tables reader.old reader.new result }
+    ensures gives { Gives (λ s. s) tables reader.old reader.new result }
+    ensures memory { IfErr result
+        (λ f. f ≡ fault.OutOfMemory → IsRead (number_within 0 1 8 fault.Sets) reader.old) }
 {
     let count = reader.number_within(1, 8, RecordFault::Sets)?;
     let sets = read_sets(alloc, reader, count)?;
@@ -213,7 +229,8 @@ fn read_tables<A: Allocator + Copy>(
 
 /// A truth value that is coded as a number.
 fn read_flag(reader: &mut RecordReader<'_>, fault: RecordFault) -> Result<bool, RecordFault>
-    ensures { Gives (λ b. b) (flag fault) reader.old reader.new result }
+    ensures gives { Gives (λ b. b) (flag fault) reader.old reader.new result }
+    ensures refused { IfErr result (λ f. (f ≡ fault) ⊎ (f ≡ RecordFault.SymbolTooLong)) }
 {
     let number = reader.number_within(0, 1, fault)?;
     Ok(number == 1)
@@ -226,7 +243,8 @@ fn read_parameters<A: Allocator + Copy>(
     width: u32,
     height: u32,
 ) -> Result<Config<A>, RecordFault>
-    ensures { Gives configuration_of (parameters width height) reader.old reader.new result }
+    ensures gives { Gives configuration_of (parameters width height) reader.old reader.new result }
+    ensures memory { IfErr result (λ f. f ≡ fault.OutOfMemory → IsRead before_sets reader.old) }
 {
     let coder = read_opening(reader)?;
     let planes = read_planes(reader)?;
@@ -254,11 +272,14 @@ fn read_parameters<A: Allocator + Copy>(
 
 /// The configuration of a record (RFC 9043, 4.3), for pictures of a size that the container tells.
 ///
-/// Refuses with `Short` where there are fewer than 5 bytes; else with `Parity` where their remainder is not 0; else with
-/// `BadStart`; else with the first in the order of the bytes of `SymbolTooLong`, `Version` to `ExtraPlane`, `StateTable`,
-/// `Runs`, `Contexts` and `Sets`, each judged where its symbol has been read, the deltas behind their last; else with the
-/// first that `Config::check` finds. `OutOfMemory` where a growth was refused before another fault was met. Bytes between the
-/// parameters and the parity are ignored, and 0 bits of a sample mean 8.
+/// Refuses with `Short` where there are fewer than 5 bytes; else with `Parity` where their
+/// remainder is not 0; else with `BadStart` where the first two are 65280 or more; else with the
+/// first in the order of the bytes of `SymbolTooLong`, `Version` to `ExtraPlane`, `StateTable`,
+/// `Runs`, `Contexts` and `Sets`, each judged where its symbol has been read, the deltas behind
+/// their last; else with the first that `Config::check` finds. `OutOfMemory` where a growth was
+/// refused before another fault was met: no memory is taken before the first set, so a fault that
+/// stands before it is told first. Bytes between the parameters and the parity are ignored, and 0
+/// bits of a sample mean 8. After a refusal the bytes are as they were, and may be read again.
 pub fn read_record<A: Allocator + Copy>(
     alloc: A,
     bytes: &[u8],
@@ -269,9 +290,12 @@ pub fn read_record<A: Allocator + Copy>(
     ensures width { IfOk result (λ c. c.configuration.width ≡ width) }
     ensures height { IfOk result (λ c. c.configuration.height ≡ height) }
     ensures accepted { IfOk result (λ c. IsAccepted c.configuration c.table) }
-    ensures only { (c : Configuration) (t : Table) → c.width ≡ width → c.height ≡ height → IsAccepted c t → IsWritable c.coder → IsRecord bytes.now c →
+    ensures only { (c : Configuration) (t : Table) → c.width ≡ width → c.height ≡ height →
+        IsAccepted c t → IsRecord bytes.now c →
         MatchResult result (λ r. r.configuration ≡ c) (λ f. f ≡ fault.OutOfMemory) }
-    ensures exact { IfErr result (λ f. (f ≡ fault.OutOfMemory) ⊎ IsRefused bytes.now width height f) }
+    ensures exact { IfErr result
+        (λ f. (f ≡ fault.OutOfMemory) ⊎ IsRefused bytes.now width height f) }
+    ensures memory { IfErr result (λ f. f ≡ fault.OutOfMemory → ReachesSets bytes.now) }
 {
     if bytes.len() < 5 {
         return Err(RecordFault::Short);
@@ -282,6 +306,7 @@ pub fn read_record<A: Allocator + Copy>(
     }
     let mut reader = RecordReader::new(&bytes[..bytes.len() - 4])?;
     let config = read_parameters(alloc, &mut reader, width, height)?;
+    // Both arms are written out, so that the clauses are proved by arm.
     match config.check() {
         Ok(checked) => Ok(checked),
         Err(fault) => Err(fault),

@@ -1,6 +1,7 @@
 //! The symbols of a record are read.
 
-ghost use Rattle.std.specs.Prelude.{◌≡◌, ◌↔◌, ℕ, ◌+◌, ◌^◌, ◌≤◌, ◌<◌, IfOk, IfErr, IsErr, length, unsigned_abs, nat_lt};
+ghost use Rattle.std.specs.Prelude.{◌≡◌, ◌⊎◌, ◌↔◌, ℕ, ◌+◌, ◌^◌, ◌≤◌, ◌<◌, IfOk, IfErr, IsErr};
+ghost use Rattle.std.specs.Prelude.{length, unsigned_abs, nat_lt};
 ghost use Rattle.ffv1_range.specs.Codes.{value};
 ghost use Rattle.ffv1_range.specs.Standard.{standard};
 ghost use Rattle.ffv1_range.specs.Symbols.{AreHeld};
@@ -34,10 +35,12 @@ impl<'a> Model for RecordReader<'a> {
 }
 
 impl<'a> RecordReader<'a> {
-    /// Begins at the bytes. Refuses with `BadStart` exactly where their first two are 65280 or more.
+    /// Begins at the bytes. Refuses with `BadStart` exactly where their first two are 65280 or
+    /// more.
     pub(crate) fn new(bytes: &'a [u8]) -> Result<RecordReader<'a>, RecordFault>
         ensures ok { IfOk result (λ r. Stands r bytes.now beginning) }
-        ensures refused { IfErr result (λ f. (f ≡ RecordFault.BadStart) × (65280 ≤ value bytes.now 2)) }
+        ensures refused { IfErr result
+            (λ f. (f ≡ RecordFault.BadStart) × (65280 ≤ value bytes.now 2)) }
         ensures start { IfOk result (λ r. value bytes.now 2 < 65280) }
     {
         let Ok(decoder) = RangeDecoder::new(bytes) else {
@@ -54,6 +57,7 @@ impl<'a> RecordReader<'a> {
     pub(crate) fn number(&mut self) -> Result<u32, RecordFault>
         ensures gives { Gives (λ n. n) (number 0) self.old self.new result }
         ensures small { IfOk result (λ n. n < 2 ^ 31) }
+        ensures refused { IfErr result (λ f. f ≡ RecordFault.SymbolTooLong) }
     {
         let Ok(number) = self.decoder.get_unsigned(&self.table, &mut self.states) else {
             return Err(RecordFault::SymbolTooLong);
@@ -63,7 +67,8 @@ impl<'a> RecordReader<'a> {
 
     /// The signed number that comes next.
     pub(crate) fn signed_number(&mut self) -> Result<i32, RecordFault>
-        ensures { Gives (λ v. v) signed_number self.old self.new result }
+        ensures gives { Gives (λ v. v) signed_number self.old self.new result }
+        ensures refused { IfErr result (λ f. f ≡ RecordFault.SymbolTooLong) }
     {
         let Ok(number) = self.decoder.get_signed(&self.table, &mut self.states) else {
             return Err(RecordFault::SymbolTooLong);
@@ -98,6 +103,7 @@ impl<'a> RecordReader<'a> {
         fault: RecordFault,
     ) -> Result<u32, RecordFault>
         ensures gives { Gives (λ n. n) (number_within 0 least most fault) self.old self.new result }
+        ensures refused { IfErr result (λ f. (f ≡ fault) ⊎ (f ≡ RecordFault.SymbolTooLong)) }
         ensures least { IfOk result (λ n. least ≤ n) }
         ensures most { IfOk result (λ n. n ≤ most) }
     {
@@ -111,7 +117,8 @@ impl<'a> RecordReader<'a> {
     /// A run less 1, at most `most`, by the states of its table.
     pub(crate) fn run(&mut self, states: &mut [u8], most: u32) -> Result<u32, RecordFault>
         requires held { AreHeld standard states.old }
-        ensures gives { GivesIn (λ base. number_within base 0 most RecordFault.Runs) self.old states.old self.new states.new result }
+        ensures gives { GivesIn (λ base. number_within base 0 most RecordFault.Runs) self.old
+            states.old self.new states.new result }
         ensures most { IfOk result (λ n. n ≤ most) }
         ensures held { AreHeld standard states.new }
     {

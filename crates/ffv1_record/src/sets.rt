@@ -1,6 +1,7 @@
 //! The quantisation table sets of a configuration.
 
-ghost use Rattle.std.specs.Prelude.{◌≡◌, ℕ, ◌+◌, ◌<◌, ◌≤◌, max, [], ◌∷◌, ◌++◌, length, slice_index_or, OnOk, OnErr, IsTrue, ◌↔◌};
+ghost use Rattle.std.specs.Prelude.{◌≡◌, ℕ, ◌+◌, ◌<◌, ◌≤◌, max, [], ◌∷◌, ◌++◌, length};
+ghost use Rattle.std.specs.Prelude.{slice_index_or, OnOk, OnErr, IsTrue, ◌↔◌};
 ghost use Rattle.ffv1_record.specs.Sets.{AreSets, most_contexts};
 
 use ffv1_plane::QuantSet;
@@ -42,7 +43,8 @@ impl<A: Allocator> Sets<A> {
         }
     }
 
-    /// One set more, as the last. Where a growth is refused nothing changes, and the set is dropped.
+    /// One set more, as the last. Where a growth is refused nothing changes, and the set is
+    /// dropped.
     pub fn push(&mut self, set: QuantSet<A>) -> Result<(), AllocError>
         ensures ok { OnOk result (self.new ≡ self.old ++ set ∷ []) }
         ensures err { OnErr result (self.new ≡ self.old) }
@@ -73,6 +75,14 @@ impl<A: Allocator> Sets<A> {
         ensures { result.now ≡ slice_index_or self.now index [] }
     {
         &self.sets[index]
+    }
+
+    /// The sets, in order.
+    pub fn as_slice(&self) -> &[QuantSet<A>]
+        ensures value { result.now ≡ self.now }
+        ensures sets { AreSets self.now }
+    {
+        &self.sets
     }
 
     /// The largest number of contexts of the sets, at most 32768; 0 where there is none.

@@ -1,4 +1,5 @@
-//! Values from outside the program: records of an independent model and of FFmpeg, and records made by hand.
+//! Values from outside the program: records of an independent model and of FFmpeg, and records made
+//! by hand.
 
 mod checks;
 mod held;

@@ -1,6 +1,8 @@
 //! A configuration record is written.
 
-ghost use Rattle.std.specs.Prelude.{◌≡◌, ℕ, ◌+◌, ◌-◌, ◌*◌, ◌^◌, ◌≤◌, ◌<◌, ◌++◌, [], ◌∷◌, length, IsTrue, OnOk, IfOk, IfErr, true, ◌≢◌, slice_index_or, pos, negsuc};
+ghost use Rattle.std.specs.Prelude.{◌≡◌, ℕ, ◌+◌, ◌-◌, ◌*◌, ◌^◌, ◌≤◌, ◌<◌, ◌++◌, [], ◌∷◌, length};
+ghost use Rattle.std.specs.Prelude.{IsTrue, OnOk, IfOk, IfErr, true, ◌≢◌, slice_index_or, pos};
+ghost use Rattle.std.specs.Prelude.{negsuc};
 ghost use Rattle.ffv1_range.specs.Weight.{one_if};
 ghost use Rattle.ffv1_range.specs.Table.{Table};
 ghost use Rattle.ffv1_record.specs.Accepted.{IsTableFor};
@@ -8,7 +10,10 @@ ghost use Rattle.ffv1_plane.specs.Quantisation.{is_filled};
 ghost use Rattle.ffv1_record.specs.declared.fault.RecordFault.TheVariants as fault;
 ghost use Rattle.ffv1_record.specs.Configuration.{configuration_of, is_rct};
 ghost use Rattle.ffv1_record.specs.Writable.{AreDeltas, IsWritable};
-ghost use Rattle.ffv1_record.specs.Record.{number_steps, deltas_steps, coder_steps, runs_steps, set_steps, sets_steps, uncoded_steps, planes_steps, grid_steps, closing_steps, coded_of, record_of, record_decisions, IsRecord};
+ghost use Rattle.ffv1_record.specs.Record.{number_steps, deltas_steps, coder_steps, runs_steps};
+ghost use Rattle.ffv1_record.specs.Record.{set_steps, sets_steps, uncoded_steps, planes_steps};
+ghost use Rattle.ffv1_record.specs.Record.{grid_steps, closing_steps, coded_of, record_of};
+ghost use Rattle.ffv1_record.specs.Record.{record_decisions, IsRecord};
 ghost use Rattle.ffv1_record.specs.Written.{Wrote};
 
 use crate::checked::Checked;
@@ -26,7 +31,8 @@ fn write_deltas<A: Allocator>(
     writer: &mut RecordWriter<A>,
     deltas: &[i32; 255],
 ) -> Result<(), RecordFault>
-    requires { (k : ℕ) → k < length deltas.now → slice_index_or deltas.now k (pos 0) ≢ negsuc 2147483647 }
+    requires { (k : ℕ) → k < length deltas.now →
+        slice_index_or deltas.now k (pos 0) ≢ negsuc 2147483647 }
     ensures ok { OnOk result (Wrote (λ _. deltas_steps deltas.now) 0 writer.old writer.new) }
     ensures long { length deltas.now ≡ 255 }
     ensures writable { OnOk result (AreDeltas deltas.now) }
@@ -66,7 +72,9 @@ fn write_opening<A: Allocator>(
 ) -> Result<(), RecordFault>
     requires { (t : Table) × IsTableFor coder.now t }
     ensures writable { OnOk result (IsWritable coder.now) }
-    ensures ok { OnOk result (Wrote (λ _. number_steps 0 3 ++ number_steps 0 4 ++ coder_steps coder.now) 0 writer.old writer.new) }
+    ensures ok { OnOk result (Wrote
+        (λ _. number_steps 0 3 ++ number_steps 0 4
+        ++ coder_steps coder.now) 0 writer.old writer.new) }
     ensures err { IfErr result (λ f. f ≡ fault.OutOfMemory) }
 {
     writer.number(3)?;
@@ -99,7 +107,8 @@ fn write_planes<A: Allocator, B: Allocator>(
 ) -> Result<(), RecordFault>
     requires log2_h { config.now.log2_h ≤ 2 }
     requires log2_v { config.now.log2_v ≤ 2 }
-    ensures ok { OnOk result (Wrote (λ _. planes_steps 8 (configuration_of config.now)) 0 writer.old writer.new) }
+    ensures ok { OnOk result (Wrote
+        (λ _. planes_steps 8 (configuration_of config.now)) 0 writer.old writer.new) }
     ensures err { IfErr result (λ f. f ≡ fault.OutOfMemory) }
 {
     writer.number(one_if(is_rct(config.colour)))?;
@@ -120,7 +129,8 @@ fn write_grid<A: Allocator, B: Allocator>(
     requires columns { config.now.columns ≤ 32 }
     requires some_rows { 1 ≤ config.now.rows }
     requires rows { config.now.rows ≤ 32 }
-    ensures ok { OnOk result (Wrote (λ _. grid_steps (configuration_of config.now)) 0 writer.old writer.new) }
+    ensures ok { OnOk result (Wrote
+        (λ _. grid_steps (configuration_of config.now)) 0 writer.old writer.new) }
     ensures err { IfErr result (λ f. f ≡ fault.OutOfMemory) }
 {
     writer.number(config.columns - 1)?;
@@ -163,7 +173,8 @@ fn write_sets<A: Allocator, B: Allocator>(
     writer: &mut RecordWriter<A>,
     sets: &Sets<B>,
 ) -> Result<(), RecordFault>
-    ensures ok { OnOk result (Wrote (λ base. sets_steps base sets.now) (160 * length sets.now) writer.old writer.new) }
+    ensures ok { OnOk result (Wrote
+        (λ base. sets_steps base sets.now) (160 * length sets.now) writer.old writer.new) }
     ensures err { IfErr result (λ f. f ≡ fault.OutOfMemory) }
 {
     for index in 0..sets.len() {
@@ -192,7 +203,9 @@ fn write_tables<A: Allocator, B: Allocator>(
     sets: &Sets<B>,
 ) -> Result<(), RecordFault>
     requires { length sets.now ≤ 8 }
-    ensures ok { OnOk result (Wrote (λ base. number_steps 0 (length sets.now) ++ sets_steps base sets.now ++ uncoded_steps (length sets.now)) (160 * length sets.now) writer.old writer.new) }
+    ensures ok { OnOk result (Wrote
+        (λ base. number_steps 0 (length sets.now) ++ sets_steps base sets.now
+        ++ uncoded_steps (length sets.now)) (160 * length sets.now) writer.old writer.new) }
     ensures err { IfErr result (λ f. f ≡ fault.OutOfMemory) }
 {
     writer.number(sets.len() as u32)?;
@@ -206,7 +219,8 @@ fn write_closing<A: Allocator, B: Allocator>(
     writer: &mut RecordWriter<A>,
     config: &Config<B>,
 ) -> Result<(), RecordFault>
-    ensures ok { OnOk result (Wrote (λ _. closing_steps (configuration_of config.now)) 0 writer.old writer.new) }
+    ensures ok { OnOk result (Wrote
+        (λ _. closing_steps (configuration_of config.now)) 0 writer.old writer.new) }
     ensures err { IfErr result (λ f. f ≡ fault.OutOfMemory) }
 {
     writer.number(one_if(config.ec))?;
@@ -220,7 +234,8 @@ fn write_parameters<A: Allocator, B: Allocator>(
     checked: &Checked<B>,
 ) -> Result<Vec<u8, A>, RecordFault>
     ensures ok { IfOk result (λ v. v.items ≡ coded_of checked.now.configuration) }
-    ensures long { IfOk result (λ v. length v.items ≤ length (record_decisions 8 checked.now.configuration) + 2) }
+    ensures long { IfOk result
+        (λ v. length v.items ≤ length (record_decisions 8 checked.now.configuration) + 2) }
     ensures writable { IfOk result (λ v. IsWritable checked.now.configuration.coder) }
     ensures err { IfErr result (λ f. f ≡ fault.OutOfMemory) }
 {
@@ -241,29 +256,28 @@ fn write_sealed<A: Allocator, B: Allocator>(
     checked: &Checked<B>,
 ) -> Result<Vec<u8, A>, RecordFault>
     ensures ok { IfOk result (λ v. v.items ≡ record_of checked.now.configuration) }
-    ensures long { IfOk result (λ v. length v.items ≤ length (record_decisions 8 checked.now.configuration) + 6) }
+    ensures long { IfOk result
+        (λ v. length v.items ≤ length (record_decisions 8 checked.now.configuration) + 6) }
     ensures writable { IfOk result (λ v. IsWritable checked.now.configuration.coder) }
     ensures err { IfErr result (λ f. f ≡ fault.OutOfMemory) }
 {
     let mut bytes = write_parameters(alloc, checked)?;
-    let tail = parity(&bytes);
-    bytes.push((tail / 256 / 256 / 256 % 256) as u8)?;
-    bytes.push((tail / 256 / 256 % 256) as u8)?;
-    bytes.push((tail / 256 % 256) as u8)?;
-    bytes.push((tail % 256) as u8)?;
+    let tail = parity(&bytes).to_be_bytes();
+    bytes.extend_from_slice(&tail)?;
     Ok(bytes)
 }
 
-/// The configuration record (RFC 9043, 4.3): the parameters by the full ending, and their parity, big end first. It has at most
-/// 6 bytes more than decisions, and `read_record` gives the configuration back. Refuses with `OutOfMemory` alone, where a growth
-/// was refused.
+/// The configuration record (RFC 9043, 4.3): the parameters by the full ending, and their parity,
+/// big end first. It has at most 6 bytes more than decisions, and `read_record` gives the
+/// configuration back. Refuses with `OutOfMemory` alone, where a growth was refused.
 pub fn write_record<A: Allocator, B: Allocator>(
     alloc: A,
     checked: &Checked<B>,
 ) -> Result<Vec<u8, A>, RecordFault>
     ensures ok { IfOk result (λ v. v.items ≡ record_of checked.now.configuration) }
     ensures stored { IfOk result (λ v. IsRecord v.items checked.now.configuration) }
-    ensures long { IfOk result (λ v. length v.items ≤ length (record_decisions 8 checked.now.configuration) + 6) }
+    ensures long { IfOk result
+        (λ v. length v.items ≤ length (record_decisions 8 checked.now.configuration) + 6) }
     ensures writable { IfOk result (λ v. IsWritable checked.now.configuration.coder) }
     ensures err { IfErr result (λ f. f ≡ fault.OutOfMemory) }
 {

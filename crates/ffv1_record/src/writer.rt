@@ -1,6 +1,7 @@
 //! The symbols of a record are written.
 
-ghost use Rattle.std.specs.Prelude.{◌≡◌, ℕ, ◌^◌, ◌<◌, [], ◌∷◌, OnOk, IfOk, IfErr, unsigned_abs, length};
+ghost use Rattle.std.specs.Prelude.{◌≡◌, ℕ, ◌^◌, ◌<◌, [], ◌∷◌, OnOk, IfOk, IfErr, unsigned_abs};
+ghost use Rattle.std.specs.Prelude.{length};
 ghost use Rattle.ffv1_range.specs.Interval.{interval_of};
 ghost use Rattle.ffv1_range.specs.Codes.{full_of};
 ghost use Rattle.ffv1_range.specs.History.{decisions_after};
@@ -95,7 +96,8 @@ impl<A: Allocator> RecordWriter<A> {
     pub(crate) fn run(&mut self, states: &mut [u8], less: u32) -> Result<(), RecordFault>
         requires small { less < 2 ^ 31 }
         requires held { AreHeld standard states.old }
-        ensures ok { OnOk result (WroteIn (λ base. number_steps base less) self.old states.old self.new states.new) }
+        ensures ok { OnOk result (WroteIn
+            (λ base. number_steps base less) self.old states.old self.new states.new) }
         ensures held { AreHeld standard states.new }
         ensures err { IfErr result (λ f. f ≡ fault.OutOfMemory) }
     {
@@ -113,7 +115,8 @@ impl<A: Allocator> RecordWriter<A> {
 
     /// The bytes, by the full ending.
     pub(crate) fn finish(self) -> Result<Vec<u8, A>, RecordFault>
-        ensures ok { IfOk result (λ v. (s : Spot) → Holding self s → v.items ≡ full_of (interval_of (decisions_after standard [] s.past))) }
+        ensures ok { IfOk result (λ v. (s : Spot) → Holding self s →
+            v.items ≡ full_of (interval_of (decisions_after standard [] s.past))) }
         ensures long { IfOk result (λ v. length v.items ≡ self.writing.interval.count) }
         ensures err { IfErr result (λ f. f ≡ fault.OutOfMemory) }
     {

@@ -4,8 +4,8 @@ ghost use Rattle.std.specs.Prelude.{◌≡◌, ◌*◌, ◌<◌, length};
 ghost use Rattle.ffv1_plane.specs.Quantisation.{contexts_of};
 ghost use Rattle.ffv1_range.specs.Symbols.{AllHeld};
 
-use anyhow::{Result, anyhow};
-use ffv1_line::{decode_line, encode_line};
+use anyhow::{Result, anyhow, ensure};
+use ffv1_line::{RollingRows, decode_line, encode_line};
 use ffv1_plane::QuantSet;
 use ffv1_range::{RangeDecoder, RangeEncoder, StateTable};
 use std::alloc::Global;
@@ -23,21 +23,19 @@ pub(crate) fn encode(
     requires rows { length states.old ≡ contexts_of set.now * 32 }
     requires held { AllHeld table.now states.old }
 {
-    let mut two = vec![in alloc; 0u16; width]?;
-    let mut one = vec![in alloc; 0u16; width]?;
-    let mut cur = vec![in alloc; 0u16; width]?;
+    let mut rows = RollingRows::new(alloc, width)?;
     let mut encoder = RangeEncoder::new(alloc);
     'rows: for row in plane.chunks_exact(width) {
-        for (sample, byte) in cur.iter_mut().zip(row) {
+        for (sample, byte) in rows.cur.iter_mut().zip(row) {
             *sample = u16::from(*byte);
         }
-        if cur.len() > 0 && two.len() == cur.len() && one.len() == cur.len() {
-            encode_line(&mut encoder, table, set, states, &two, &one, &cur, 8)?;
-        }
-        let above = two;
-        two = one;
-        one = cur;
-        cur = above;
+        let RollingRows { two, one, cur } = &rows;
+        ensure!(
+            cur.len() > 0 && two.len() == cur.len() && one.len() == cur.len(),
+            "lengths"
+        );
+        encode_line(&mut encoder, table, set, states, two, one, cur, 8)?;
+        rows.turn();
     }
     Ok(encoder.finish_sentinel()?)
 }
@@ -89,9 +87,7 @@ pub(crate) fn decode(
     requires rows { length states.old ≡ contexts_of set.now * 32 }
     requires held { AllHeld table.now states.old }
 {
-    let mut two = vec![in alloc; 0u16; width]?;
-    let mut one = vec![in alloc; 0u16; width]?;
-    let mut cur = vec![in alloc; 0u16; width]?;
+    let mut rows = RollingRows::new(alloc, width)?;
     let Ok(mut decoder) = RangeDecoder::new(bytes) else {
         return Err(anyhow!("start"));
     };
@@ -105,15 +101,12 @@ pub(crate) fn decode(
             table,
             set,
             states,
-            &two,
-            &one,
-            cur.as_mut_slice(),
+            &rows.two,
+            &rows.one,
+            rows.cur.as_mut_slice(),
         )?;
-        same = same & shows(&cur, row);
-        let above = two;
-        two = one;
-        one = cur;
-        cur = above;
+        same = same & shows(&rows.cur, row);
+        rows.turn();
     }
     Ok(same)
 }

@@ -110,7 +110,8 @@ fn time<R: AllocGlobal + Clock + Print>(
     Ok(rt.println(format_args!("coding {coding} us decoding {decoding} us"))?)
 }
 
-/// Codes and decodes the plane, and prints how many bytes it takes and whether it comes back; then the least times.
+/// Codes and decodes the plane, and prints how many bytes it takes and whether it comes back; then
+/// the least times.
 pub(crate) fn run<R: AllocGlobal + Files + Env + Clock + Print>(rt: &R) -> Result<()> {
     let asked = read(rt)?;
     ensure!(asked.width > 0, "width");

@@ -2,6 +2,7 @@
 
 mod avi;
 mod coder;
+mod faults;
 mod orders;
 mod record;
 mod refusals;

@@ -1,4 +1,16 @@
-//! Byte readers, byte writers and line sinks, as traits whose contracts name the bytes and count the failures.
+//! Byte readers, byte writers and line sinks, as traits whose contracts name the bytes and count
+//! the failures.
+//!
+//! `FromRead` makes a `ByteIn` of a reader of std's, and `ToWrite` a `ByteOut` of a writer;
+//! `read_byte`, `read_full`, `skip` and `write_all` are loops over them that stop at the first
+//! failure and try nothing again. A `LineSink` takes the lines of a picture, and `hand_over` gives
+//! it some in order. `laws` joins calls in a row into one. The test `end_of_input` runs this:
+//!
+//! ```text
+//! let mut input = FromRead::new(b"abcde".as_slice());
+//! assert_eq!(rt; read_byte(&mut input)?, Some(b'a'));
+//! assert_eq!(rt; skip(&mut input, 2)?, 2);
+//! ```
 #![tactic(auto)]
 
 pub mod laws;

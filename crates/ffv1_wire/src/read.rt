@@ -16,8 +16,8 @@ pub trait ByteIn {
     /// The number of reads that failed, modulo 2 ^ 64.
     ghost failures: { Self → ℕ };
 
-    /// Reads bytes into the front of `buf`, and answers how many: none only at the end of the input, unless `buf`
-    /// has no room.
+    /// Reads bytes into the front of `buf`, and answers how many: none only at the end of the
+    /// input, unless `buf` has no room.
     ///
     /// A read that fails takes none from the input and is counted.
     fn read(&mut self, buf: &mut [u8]) -> Result<usize, Failed>
@@ -73,14 +73,15 @@ impl<R: Read> ByteIn for FromRead<R> {
     }
 }
 
-/// Reads until `buf` is full or the input has ended, and answers how many bytes stand at its front: fewer than its
-/// length only at the end.
+/// Reads until `buf` is full or the input has ended, and answers how many bytes stand at its front:
+/// fewer than its length only at the end.
 ///
-/// After a failure, which is the last thing that happens, the bytes that were taken from the input stand at the
-/// front of `buf`, and do not fill it.
+/// After a failure, which is the last thing that happens, the bytes that were taken from the input
+/// stand at the front of `buf`, and do not fill it.
 pub fn read_full<R: ByteIn>(input: &mut R, buf: &mut [u8]) -> Result<usize, Failed>
     ensures bound { ReadsAtMost result buf.new }
-    ensures ok { IfOk result (λ n. Fills (R.remaining input.old) (R.remaining input.new) n buf.new) }
+    ensures ok { IfOk result
+        (λ n. Fills (R.remaining input.old) (R.remaining input.new) n buf.new) }
     ensures err { OnErr result (FillsBeginning (R.remaining input.old) (R.remaining input.new) buf.new) }
     ensures counted { Counted (R.failures input.old) (R.failures input.new) result }
 {
@@ -109,8 +110,9 @@ pub fn read_byte<R: ByteIn>(input: &mut R) -> Result<Option<u8>, Failed>
 /// The most bytes that `skip` takes in one read.
 const ROOM: usize = 4096;
 
-/// Takes `count` bytes from the input, or all that are left, and answers how many: fewer than `count` only at the
-/// end. After a failure, which is the last thing that happens, it has taken fewer than `count`.
+/// Takes `count` bytes from the input, or all that are left, and answers how many: fewer than
+/// `count` only at the end. After a failure, which is the last thing that happens, it has taken
+/// fewer than `count`.
 pub fn skip<R: ByteIn>(input: &mut R, count: u64) -> Result<u64, Failed>
     ensures ok { IfOk result (λ n. Skips (R.remaining input.old) (R.remaining input.new) n count) }
     ensures err { OnErr result (SkipsBeginning (R.remaining input.old) (R.remaining input.new) count) }

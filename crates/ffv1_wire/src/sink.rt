@@ -23,8 +23,8 @@ pub struct Line<'a> {
 
 /// What takes the lines of a picture, and counts those that it refuses.
 pub trait LineSink {
-    /// What a sink becomes by a line that it takes: the sink before, the line's plane, row and samples, and the
-    /// sink after.
+    /// What a sink becomes by a line that it takes: the sink before, the line's plane, row and
+    /// samples, and the sink after.
     ghost takes: { Self → ℕ → ℕ → List ℕ → Self → Type 0 };
 
     /// What a sink becomes by a line that it refuses.

@@ -8,7 +8,11 @@ use std::alloc::Allocator;
 use std::io::{ErrorKind, Read, Write, repeat};
 use std::test::Fail;
 
-const KINDS: [ErrorKind; 2] = [ErrorKind::Other, ErrorKind::Interrupted];
+const KINDS: [ErrorKind; 3] = [
+    ErrorKind::Other,
+    ErrorKind::Interrupted,
+    ErrorKind::WouldBlock,
+];
 
 /// The bytes behind what the vector has.
 fn appended<A: Allocator>(vec: Vec<u8, A>, bytes: &[u8]) -> Result<Vec<u8, A>, Failed>
@@ -29,7 +33,8 @@ fn second_on(bytes: &[u8], room: &mut [u8]) -> Result<usize, Failed>
     read_full(&mut input, room)
 }
 
-/// Fills the room, and after the failure the rest of it. Also the failures, and the calls of the reader inside.
+/// Fills the room, and after the failure the rest of it. Also the failures, and the calls of the
+/// reader inside.
 fn fill_twice(
     input: FailingReader<'_>,
     room: &mut [u8],
@@ -65,7 +70,8 @@ fn read_twice<R: Read + Drop>(
     (first, second, input.failures())
 }
 
-/// Writes the bytes, and after the failure the rest of them. Also the failures, and the writer inside.
+/// Writes the bytes, and after the failure the rest of them. Also the failures, and the writer
+/// inside.
 fn write_twice<W: Write>(
     out: W,
     bytes: &[u8],
@@ -193,7 +199,12 @@ fn failing_at_the_end(rt: HostRuntime) {
 #[test]
 fn failing_writes(rt: HostRuntime) {
     let bytes = *b"abcdef";
-    for kind in KINDS {
+    for kind in [
+        None,
+        Some(ErrorKind::Other),
+        Some(ErrorKind::Interrupted),
+        Some(ErrorKind::WouldBlock),
+    ] {
         for n in 0..6usize {
             let out = FailingWriter::new(rt.alloc(), n, kind);
             let (first, second, failures, inner) = write_twice(out, &bytes, n);

@@ -16,7 +16,8 @@ pub trait ByteOut {
     /// The number of writes that failed, modulo 2 ^ 64.
     ghost failures: { Self → ℕ };
 
-    /// Writes a beginning of `buf`, and answers how many bytes it took: at least one, unless `buf` is empty.
+    /// Writes a beginning of `buf`, and answers how many bytes it took: at least one, unless `buf`
+    /// is empty.
     ///
     /// A write that fails takes none and is counted.
     fn write(&mut self, buf: &[u8]) -> Result<usize, Failed>
@@ -26,7 +27,8 @@ pub trait ByteOut {
         ensures counted { Counted (failures self.old) (failures self.new) result };
 }
 
-/// A writer of std's. Any error, `Interrupted` too, and a write that takes none of some bytes, is a failure.
+/// A writer of std's. Any error, `Interrupted` too, and a write that takes none of some bytes, is a
+/// failure.
 #[derive(Drop)]
 pub struct ToWrite<W> {
     inner: W,
@@ -73,8 +75,8 @@ impl<W: Write> ByteOut for ToWrite<W> {
     }
 }
 
-/// Writes all the bytes. After a failure, which is the last thing that happens, the writer holds a beginning of
-/// them and not all.
+/// Writes all the bytes. After a failure, which is the last thing that happens, the writer holds a
+/// beginning of them and not all.
 pub fn write_all<W: ByteOut>(out: &mut W, bytes: &[u8]) -> Result<(), Failed>
     ensures ok { OnOk result (Appends (W.contents out.old) (W.contents out.new) bytes.now) }
     ensures err { OnErr result (AppendsBeginning (W.contents out.old) (W.contents out.new) bytes.now) }

@@ -4,8 +4,8 @@ use Rattle.std.proofs.lemmas.Fmt.{length-decimal-le}
 use Rattle.std.proofs.Math.Seq.{take-append_seam, drop-append-add}
 use Rattle.std.specs.List.{position}
 use Rattle.ffv1_y4m.specs.declared.head.VideoHead.{VideoHead}
-use Rattle.ffv1_y4m.specs.Header.{line_end}
-use Rattle.ffv1_y4m.specs.Ppm.{line_read, sizes_of, image_head, image_header, parted, colours_read, same_sizes, image_begun, image_read, image_header_text, interleaved}
+use Rattle.ffv1_y4m.specs.Header.{line_end, line_read}
+use Rattle.ffv1_y4m.specs.Ppm.{sizes_of, image_head, image_header, parted, colours_read, same_sizes, image_begun, image_read, image_header_text, interleaved}
 use Rattle.ffv1_y4m.specs.Images.{AreColours, AllColours, samples_text, image_text, IsImages, ReadsImages, ReadsFrom}
 use Rattle.ffv1_y4m.specs.VideoHead.{IsSized, colour_head}
 use Rattle.ffv1_y4m.specs.HeaderLine.{Without}
@@ -102,7 +102,7 @@ same_found w h rest =
 later_by : (head : VideoHead) (cs rest : List ℕ) → image_header (80 ∷ cs) ≡ Ok (head, rest) → same_sizes head head rest ≡ Ok (true, rest) → image_begun head (80 ∷ cs) ≡ Ok (true, rest)
 later_by head cs rest h same = rw h same
 
-begun_found : (w h : ℕ) (rest : List ℕ) → IsSized (colour_head w h) → image_begun (colour_head w h) (image_header_text w h ++ rest) ≡ Ok (true, rest)
+pub begun_found : (w h : ℕ) (rest : List ℕ) → IsSized (colour_head w h) → image_begun (colour_head w h) (image_header_text w h ++ rest) ≡ Ok (true, rest)
 begun_found w h rest s =
     rw (header_parts w h rest) (later_by (colour_head w h) (54 ∷ 10 ∷ ((decimal w ++ 32 ∷ decimal h) ++ 10 ∷ (codes "255\n" ++ rest))) rest (header_line_found w h rest s) (same_found w h rest))
 

@@ -1,5 +1,5 @@
 -- Images that were read are there.
-use Rattle.std.proofs.Common.{◌≡◌, ℕ, ◌+◌, ◌*◌, ◌≤◌, ◌==◌, ◌&&◌, ◌^◌, nat_lt, nat_le, nat_eq, zero, suc, Bool, true, false, cond, Option, Some, None, List, [], ◌∷◌, ◌++◌, length, take, drop, flat_map, codes, decimal, Result, Ok, Err, refl, ap, ◌∙◌, sym, subst, append_assoc, arith, length-take, take-append-drop}
+use Rattle.std.proofs.Common.{◌≡◌, ℕ, ◌+◌, ◌*◌, ◌≤◌, ◌==◌, ◌&&◌, ◌^◌, nat_lt, nat_le, nat_eq, zero, suc, Bool, true, false, cond, Option, Some, None, List, [], ◌∷◌, ◌++◌, length, take, drop, flat_map, codes, decimal, Ok, Err, refl, ap, ◌∙◌, sym, subst, append_assoc, arith, length-take, take-append-drop}
 use Rattle.std.proofs.lemmas.Bool.{eqb-true, leb-true, true≢false, false≢true}
 use Rattle.std.proofs.lemmas.List.{take_all}
 use Rattle.std.specs.Cmp.Lexicographic.{same_text}
@@ -8,15 +8,14 @@ use Rattle.std.specs.Option.{option_and_then}
 use Rattle.std.specs.Str.Parse.{digits_value}
 use lib.Pointwise.{pointwise}
 use Rattle.ffv1_y4m.specs.declared.head.VideoHead.{VideoHead}
-use Rattle.ffv1_y4m.specs.declared.fault.Fault.{Fault}
 use Rattle.ffv1_y4m.specs.declared.fault.Fault.TheVariants as fault
-use Rattle.ffv1_y4m.specs.Header.{is_text, within, number_of, size_of, line_end}
-use Rattle.ffv1_y4m.specs.Sequence.{◌then◌, give, refuse, where_begun}
-use Rattle.ffv1_y4m.specs.Ppm.{line_read, line_to, sizes_of, sizes_at, both_sizes, sized_head, image_head, some_head, image_header, each_third, colours_read, same_sizes, image_begun, image_read, image_header_text, interleaved}
+use Rattle.ffv1_y4m.specs.Header.{is_text, within, number_of, size_of, line_read}
+use Rattle.ffv1_y4m.specs.Sequence.{Outcome, ◌then◌, give, refuse, where_begun}
+use Rattle.ffv1_y4m.specs.Ppm.{sizes_of, sizes_at, both_sizes, sized_head, image_head, some_head, image_header, each_third, colours_read, same_sizes, image_begun, image_read, image_header_text, interleaved}
 use Rattle.ffv1_y4m.specs.Images.{AreColours, AllColours, samples_text, image_text, IsImages, ReadsImages, ReadsFrom}
 use Rattle.ffv1_y4m.specs.VideoHead.{IsSized, colour_head}
 use Rattle.ffv1_y4m.proofs.Taken.{value_in, rest_in, is_fault, is_some, some_in, parted_by}
-use Rattle.ffv1_y4m.proofs.Texts.{line_parts}
+use Rattle.ffv1_y4m.proofs.Lines.{line_parts, line_was}
 use Rattle.ffv1_y4m.proofs.Thirds.{length-each_third}
 use Rattle.ffv1_y4m.proofs.Colours.{told}
 
@@ -92,17 +91,6 @@ lines_read : (magic line most : List ℕ) (head : VideoHead) → image_head magi
 unfolding image_head
 lines_read magic line most head h = lines_by (is_text magic (codes "P6")) (is_text most (codes "255")) magic line most head refl refl h
 
--- a line that was read
-line_by : (end : Option ℕ) (most : ℕ) (text line rest : List ℕ) → line_end most text ≡ end → line_to text end ≡ Ok (line, rest) → text ≡ line ++ 10 ∷ rest
-line_by None most text line rest found h = absurd (true≢false (ap is_fault h))
-line_by (Some end) most text line rest found h =
-    let front : take end text ≡ line = ap (value_in []) h in
-    let behind : drop (end + 1) text ≡ rest = ap rest_in h in
-    line_parts 10 most text end found ∙ (rw (front, behind) refl)
-
-line_told : (most : ℕ) (text line rest : List ℕ) → line_read most text ≡ Ok (line, rest) → text ≡ line ++ 10 ∷ rest
-line_told most text line rest h = line_by (line_end most text) most text line rest refl h
-
 some_told : (o : Option VideoHead) (text : List ℕ) (head : VideoHead) (rest : List ℕ) → some_head o text ≡ Ok (head, rest) → (o ≡ Some head) × (text ≡ rest)
 some_told None text head rest h = absurd (true≢false (ap is_fault h))
 some_told (Some k) text head rest h = (ap (λ r. Some (value_in head r)) h, ap rest_in h)
@@ -132,8 +120,8 @@ header_read text head rest h =
     let two = parted_by (line_read 10 one.mid) (λ sizes. line_read 4 then λ most. some_head (image_head one.value sizes most)) head rest one.goes_on in
     let three = parted_by (line_read 4 two.mid) (λ most. some_head (image_head one.value two.value most)) head rest two.goes_on in
     let last = some_told (image_head one.value two.value three.value) three.mid head rest three.goes_on in
-    let r : two.mid ≡ three.value ++ 10 ∷ rest = line_told 4 two.mid three.value three.mid three.begins ∙ ap (λ z. three.value ++ 10 ∷ z) last.1 in
-    header_with text one.mid two.mid rest one.value two.value three.value head (line_told 3 text one.value one.mid one.begins) (line_told 10 one.mid two.value two.mid two.begins) r (lines_read one.value two.value three.value head last.0)
+    let r : two.mid ≡ three.value ++ 10 ∷ rest = (line_was 4 two.mid three.value three.mid three.begins).whole ∙ ap (λ z. three.value ++ 10 ∷ z) last.1 in
+    header_with text one.mid two.mid rest one.value two.value three.value head (line_was 3 text one.value one.mid one.begins).whole (line_was 10 one.mid two.value two.mid two.begins).whole r (lines_read one.value two.value three.value head last.0)
 
 -- samples are their thirds
 interleaved-parted : (n : ℕ) (xs : List ℕ) → length xs ≡ 3 * n → interleaved (each_third 0 xs) (each_third 1 xs) (each_third 2 xs) ≡ xs
@@ -190,8 +178,8 @@ same_by false b head next text rest p q h = absurd (true≢false (ap is_fault h)
 same_by true false head next text rest p q h = absurd (true≢false (ap is_fault h))
 same_by true true head next text rest p q h = (eqb-true _ _ p, eqb-true _ _ q, ap rest_in h)
 
-record LaterTold (head : VideoHead) (text rest : List ℕ) : Type 0 where
-  whole : text ≡ image_header_text head.width head.height ++ rest
+pub record LaterTold (head : VideoHead) (text rest : List ℕ) : Type 0 where
+  pub whole : text ≡ image_header_text head.width head.height ++ rest
 
 later_with : (head next : VideoHead) (text mid rest : List ℕ) → HeaderTold text next mid → (head.width ≡ next.width) × (head.height ≡ next.height) × (mid ≡ rest) → LaterTold head text rest
 later_with head next text mid rest t same = record { whole = t.whole ∙ (rw (same.0, same.1, same.2) refl) }
@@ -202,11 +190,11 @@ later_by head text rest h =
     let same = same_by (head.width == t.value.width) (head.height == t.value.height) head t.value t.mid rest refl refl t.goes_on in
     later_with head t.value text t.mid rest (header_read text t.value t.mid t.begins) same
 
-abbrev bool_in : Result (Bool × List ℕ) Fault → Bool
+abbrev bool_in : Outcome Bool → Bool
 bool_in (Ok p) = p.0
 bool_in (Err f) = false
 
-begun_read : (head : VideoHead) (text rest : List ℕ) → image_begun head text ≡ Ok (true, rest) → LaterTold head text rest
+pub begun_read : (head : VideoHead) (text rest : List ℕ) → image_begun head text ≡ Ok (true, rest) → LaterTold head text rest
 begun_read head [] rest h = absurd (false≢true (ap bool_in h))
 begun_read head (c ∷ cs) rest h = later_by head (c ∷ cs) rest h
 

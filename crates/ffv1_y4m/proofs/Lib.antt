@@ -5,6 +5,8 @@ mod Textual
 mod Frames
 mod Sizes
 mod Sequences
+mod PpmSteps
+mod Begun
 mod Written
 mod PlaneByPlane
 mod Thirds

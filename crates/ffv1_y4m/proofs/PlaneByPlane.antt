@@ -1,81 +1,137 @@
 -- Planes that are read one behind the other.
-use Rattle.std.proofs.Common.{◌≡◌, ℕ, ◌+◌, ◌<◌, ◌≤◌, Option, Some, None, List, [], ◌∷◌, ◌++◌, length, take, drop, get_or, map, Result, Ok, Err, refl, ap, ◌∙◌, sym, append_assoc, append-nil, arith, add-one, drop-cons}
+use Rattle.std.proofs.Common.{◌≡◌, ℕ, ◌+◌, ◌<◌, ◌≤◌, nat_lt, Bool, true, false, cond, Option, List, [], ◌∷◌, ◌++◌, length, take, drop, get_or, map, flat_map, Ok, Err, inl, inr, refl, ap, ◌∙◌, sym, subst, append_assoc, append-nil, arith, add-one, drop-cons, length-take, take-append-drop}
 use Rattle.std.proofs.Math.ListN.{set}
 use Rattle.std.proofs.Math.Seq.{take-suc}
-use Rattle.std.proofs.lemmas.List.{take_all, take_more_set, map-append, drop_all}
+use Rattle.std.proofs.lemmas.Grind.{common_steps, flat_map-append}
+use Rattle.std.proofs.lemmas.List.{take_all, take_more_set, map-append}
+use Rattle.std.specs.Io.KnownBytes.{Consumes}
+use Rattle.ffv1_wire.specs.Failures.{one_more}
 use Rattle.ffv1_y4m.specs.declared.fault.Fault.{Fault}
-use Rattle.ffv1_y4m.specs.Header.{◌>>=◌}
-use Rattle.ffv1_y4m.specs.Pictures.{plane_read, planes_read}
-use Rattle.ffv1_y4m.specs.Reads.{Refused, Faults, Read}
-use Rattle.ffv1_y4m.proofs.Sequences.{refused_as}
+use Rattle.ffv1_y4m.specs.declared.fault.Fault.TheVariants as fault
+use Rattle.ffv1_y4m.specs.Pictures.{GrowsBeforePlane, plane_read, planes_read}
+use Rattle.ffv1_y4m.specs.Reads.{Decides, IsNone, Says, Stands, Wants}
+use Rattle.ffv1_y4m.specs.Sequence.{Outcome, Reading, ◌>>=◌, ◌then◌, give, left}
+use Rattle.ffv1_y4m.proofs.Sequences.{consumes_none, consumes_then, moved, shortens_then, stands_first}
+use Rattle.ffv1_y4m.proofs.Texts.{plane_found, plane_only, planes_found}
 
 -- the planes that were read, and those behind them
-abbrev pub onto : List (List ℕ) → Result (List (List ℕ) × List ℕ) Fault → Result (List (List ℕ) × List ℕ) Fault
+abbrev pub onto : List (List ℕ) → Outcome (List (List ℕ)) → Outcome (List (List ℕ))
 onto done (Ok p) = Ok (done ++ p.0, p.1)
 onto done (Err f) = Err f
 
--- the text reads as these planes and, of the rest, those of the sizes behind them
-abbrev pub Behind : List ℕ → Option (List ℕ) → Option (List ℕ) → ℕ → List (List ℕ) → Type 0
-Behind sizes None new n done = Unit {0}
-Behind sizes (Some text) None n done = ⊥
-Behind sizes (Some text) (Some rest) n done = planes_read sizes text ≡ onto done (planes_read (drop n sizes) rest)
-
--- the first n planes are read, of these sizes
-abbrev pub Partway : List ℕ → Option (List ℕ) → Option (List ℕ) → ℕ → List (List ℕ) → Type 0
-Partway sizes old new n planes = (map (λ plane. length plane) (take n planes) ≡ take n sizes) × Behind sizes old new n (take n planes)
-
-onto_none : (r : Result (List (List ℕ) × List ℕ) Fault) → r ≡ onto [] r
+onto_none : (r : Outcome (List (List ℕ))) → r ≡ onto [] r
 onto_none (Ok p) = refl
 onto_none (Err f) = refl
 
+onto_more : (plane : List ℕ) (done : List (List ℕ)) (r : Outcome (List (List ℕ))) → (onto done r >>= λ p. Ok (plane ∷ p.0, p.1)) ≡ onto (plane ∷ done) r
+onto_more plane done (Ok p) = refl
+onto_more plane done (Err f) = refl
+
+onto_left : (done : List (List ℕ)) (r : Outcome (List (List ℕ))) → left (onto done r) ≡ left r
+onto_left done (Ok p) = refl
+onto_left done (Err f) = refl
+
+-- planes, and what is read behind them
+planes_front : (done : List (List ℕ)) (sizes behind : List ℕ) → planes_read (map (λ p. length p) done ++ sizes) (flat_map (λ p. p) done ++ behind) ≡ onto done (planes_read sizes behind)
+planes_front [] sizes behind = onto_none (planes_read sizes behind)
+planes_front (p ∷ done) sizes behind =
+    rw (append_assoc p (flat_map (λ q. q) done) behind, plane_found p (flat_map (λ q. q) done ++ behind), planes_front done sizes behind) (onto_more p done (planes_read sizes behind))
+
+-- the first n planes are read, of these sizes
+abbrev pub Partway : List ℕ → Option (List ℕ) → Option (List ℕ) → ℕ → List (List ℕ) → Type 0
+Partway sizes old new n planes = (map (λ plane. length plane) (take n planes) ≡ take n sizes) × Consumes old new (flat_map (λ plane. plane) (take n planes))
+
 pub partway_none : (sizes : List ℕ) (old : Option (List ℕ)) (planes : List (List ℕ)) → Partway sizes old old 0 planes
-partway_none sizes None planes = (refl, tt)
-partway_none sizes (Some text) planes = (refl, onto_none (planes_read sizes text))
+partway_none sizes old planes = (refl, consumes_none old)
 
--- one plane more of the reading
-onto_more : (done : List (List ℕ)) (plane : List ℕ) (r : Result (List (List ℕ) × List ℕ) Fault) →
-    onto done (r >>= λ p. Ok (plane ∷ p.0, p.1)) ≡ onto (done ++ plane ∷ []) r
-onto_more done plane (Ok p) = ap (λ z. Ok (z, p.1)) (sym (append_assoc done (plane ∷ []) p.0))
-onto_more done plane (Err f) = refl
-
-behind_more : (sizes : List ℕ) (old mid new : Option (List ℕ)) (n size : ℕ) (done : List (List ℕ)) (plane : List ℕ) → drop n sizes ≡ size ∷ drop (n + 1) sizes →
-    Behind sizes old mid n done → Read (plane_read size) mid new plane → Behind sizes old new (n + 1) (done ++ plane ∷ [])
-behind_more sizes None mid new n size done plane parts h read = tt
-behind_more sizes (Some text) None new n size done plane parts h read = absurd h
-behind_more sizes (Some text) (Some rest) None n size done plane parts h read = absurd read
-behind_more sizes (Some text) (Some rest) (Some more) n size done plane parts h read =
-    h ∙ (rw (parts, read) (onto_more done plane (planes_read (drop (n + 1) sizes) more)))
+-- a plane that was read is what was taken
+plane_local : (size : ℕ) (bytes plane : List ℕ) (new : Option (List ℕ)) → Decides (plane_read size) bytes new (Ok plane) → (bytes ≡ plane) × (length plane ≡ size)
+plane_local size bytes plane new (inl k) =
+    let t = plane_only size (bytes ++ []) plane [] (k []) in
+    (sym (append-nil bytes) ∙ (t.whole ∙ append-nil plane), t.long)
+plane_local size bytes plane new (inr k) =
+    let t = plane_only size bytes plane [] k.1 in
+    (t.whole ∙ append-nil plane, t.long)
 
 parts_at : (sizes : List ℕ) (n : ℕ) → n < length sizes → drop n sizes ≡ get_or sizes n 0 ∷ drop (n + 1) sizes
 parts_at sizes n inside = rw add-one (drop-cons sizes n 0 inside)
 
-pub partway_step : (sizes : List ℕ) (old mid new : Option (List ℕ)) (n : ℕ) (planes : List (List ℕ)) (plane : List ℕ) → n < length sizes → length planes ≡ length sizes →
-    Partway sizes old mid n planes → Read (plane_read (get_or sizes n 0)) mid new plane → length plane ≡ get_or sizes n 0 → Partway sizes old new (n + 1) (set planes n plane)
-partway_step sizes old mid new n planes plane inside many h read long =
+pub partway_step : (sizes : List ℕ) (old mid new : Option (List ℕ)) (n m k : ℕ) (planes : List (List ℕ)) (plane : List ℕ) → n < length sizes → length planes ≡ length sizes →
+    Partway sizes old mid n planes → Stands (plane_read (get_or sizes n 0)) IsNone (moved mid new m k) (Ok plane) → Partway sizes old new (n + 1) (set planes n plane)
+partway_step sizes old mid new n m k planes plane inside many h read =
+    let was = plane_local (get_or sizes n 0) read.bytes plane new read.said.1 in
+    let P : List ℕ → Type 0 = λ z. Consumes mid new z in
+    let taken : Consumes mid new plane = subst P was.0 read.taken in
     let more : take (n + 1) (set planes n plane) ≡ take n planes ++ plane ∷ [] = take_more_set planes n plane (omega (arith, inside, many)) in
     let size : take (n + 1) sizes ≡ take n sizes ++ get_or sizes n 0 ∷ [] = rw (add-one n) (take-suc sizes n 0 inside) in
-    let lengths : map (λ p. length p) (take n planes ++ plane ∷ []) ≡ take n sizes ++ get_or sizes n 0 ∷ [] = map-append (λ p. length p) (take n planes) (plane ∷ []) ∙ (rw (h.0, long) refl) in
-    (rw (more, size) lengths, rw more (behind_more sizes old mid new n (get_or sizes n 0) (take n planes) plane (parts_at sizes n inside) h.1 read))
+    let lengths : map (λ p. length p) (take n planes ++ plane ∷ []) ≡ take n sizes ++ get_or sizes n 0 ∷ [] = map-append (λ p. length p) (take n planes) (plane ∷ []) ∙ (rw (h.0, was.1) refl) in
+    let flat : flat_map (λ p. p) (take n planes ++ plane ∷ []) ≡ flat_map (λ p. p) (take n planes) ++ plane = flat_map-append (λ p. p) (take n planes) (plane ∷ []) ∙ ap (λ z. flat_map (λ p. p) (take n planes) ++ z) (append-nil plane) in
+    let Q : List ℕ → Type 0 = λ z. Consumes old new z in
+    (rw (more, size) lengths, rw more (subst Q (sym flat) (consumes_then old mid new (flat_map (λ p. p) (take n planes)) plane h.1 taken)))
 
-faults_behind : (sizes : List ℕ) (old mid : Option (List ℕ)) (n : ℕ) (done : List (List ℕ)) (f : Fault) → n < length sizes → Behind sizes old mid n done → Faults (plane_read (get_or sizes n 0)) mid f → Faults (planes_read sizes) old f
-faults_behind sizes None mid n done f inside h k = tt
-faults_behind sizes (Some text) None n done f inside h k = absurd h
-faults_behind sizes (Some text) (Some rest) n done f inside h k = h ∙ (rw (parts_at sizes n inside, k) refl)
-
-pub partway_stop : (sizes : List ℕ) (old mid : Option (List ℕ)) (n before between after : ℕ) (planes : List (List ℕ)) (f : Fault) → n < length sizes →
-    Partway sizes old mid n planes → between ≡ before → Refused (plane_read (get_or sizes n 0)) mid between after f → Refused (planes_read sizes) old before after f
-partway_stop sizes old mid n before between after planes f inside h same refused =
-    refused_as (plane_read (get_or sizes n 0)) (planes_read sizes) old mid before between after f same refused (faults_behind sizes old mid n (take n planes) f inside h.1)
-
-pub partway_end : (sizes : List ℕ) (old new : Option (List ℕ)) (n : ℕ) (planes : List (List ℕ)) → length sizes ≤ n → length planes ≡ length sizes → Partway sizes old new n planes →
-    Read (planes_read sizes) old new planes × (map (λ plane. length plane) planes ≡ sizes)
-partway_end sizes old new n planes all many h =
-    let every : take n planes ≡ planes = take_all n planes (omega (arith, all, many)) in
-    (read_all old new (rw every at h.1), rw (every, take_all n sizes all) at h.0)
+-- what is read behind other bytes, in a turn that leaves faults as they are
+says_behind : {X Y : Type 0} (r : Reading X) (q : Reading Y) (turn : Outcome X → Outcome Y) (g more : List ℕ → Type 0) (old mid new : Option (List ℕ)) (n m k : ℕ) (front bytes : List ℕ) (f : Fault) →
+    m ≡ n → ((o : Outcome X) → left (turn o) ≡ left o) → ((e : Fault × List ℕ) → turn (Err e) ≡ Err e) → ((text : List ℕ) → q (front ++ text) ≡ turn (r text)) → (g bytes → more (front ++ bytes)) →
+    Says r g bytes (moved mid new m k) (Err f) → Says q more (front ++ bytes) (moved old new n k) (Err f)
+says_behind {X = X} r q turn g more old mid new n m k front bytes f same lefts errs turns to = by f
   where
-    read_all : (a b : Option (List ℕ)) → Behind sizes a b n planes → Read (planes_read sizes) a b planes
-    read_all None b k = tt
-    read_all (Some text) None k = k
-    read_all (Some text) (Some rest) k =
-        let none : drop n sizes ≡ [] = drop_all n sizes all in
-        k ∙ (rw none (ap (λ z. Ok (z, rest)) (append-nil planes)))
+    wants : Wants r bytes → Wants q (front ++ bytes)
+    wants h = λ b behind. rw (append_assoc front bytes (b ∷ behind), turns (bytes ++ b ∷ behind), lefts (r (bytes ++ b ∷ behind))) (h b behind)
+
+    decides : (e : Fault) → Decides r bytes new (Err e) → Decides q (front ++ bytes) new (Err e)
+    decides e (inl h) = inl (λ behind. rw (append_assoc front bytes behind, turns (bytes ++ behind), h behind) (errs (e, behind)))
+    decides e (inr h) = inr (h.0, rw (turns bytes, h.1) (errs (e, [])))
+
+    by : (e : Fault) → Says r g bytes (moved mid new m k) (Err e) → Says q more (front ++ bytes) (moved old new n k) (Err e)
+    by fault.Read s = (s.0 ∙ ap one_more same, wants s.1)
+    by fault.OutOfMemory s = (s.0 ∙ same, to s.1)
+    by fault.Write s = absurd s
+    by fault.Header s = (s.0 ∙ same, decides fault.Header s.1)
+    by fault.Tag s = (s.0 ∙ same, decides fault.Tag s.1)
+    by fault.Unsupported s = (s.0 ∙ same, decides fault.Unsupported s.1)
+    by fault.FrameLine s = (s.0 ∙ same, decides fault.FrameLine s.1)
+    by fault.FrameTruncated s = (s.0 ∙ same, decides fault.FrameTruncated s.1)
+    by fault.FormatChanged s = (s.0 ∙ same, decides fault.FormatChanged s.1)
+
+short_left : (b : Bool) (size : ℕ) (text : List ℕ) → length (left (cond {A = Outcome (List ℕ)} b (Err (fault.FrameTruncated, [])) (Ok (take size text, drop size text)))) ≤ length text
+short_left true size text = omega arith
+short_left false size text = grind (arith, common_steps)
+
+planes_shorten : (sizes text : List ℕ) → length (left (planes_read sizes text)) ≤ length text
+planes_shorten [] text = omega arith
+planes_shorten (size ∷ sizes) text =
+    shortens_then (plane_read size) (λ plane. planes_read sizes then λ planes. give (plane ∷ planes)) text (short_left (nat_lt (length text) size) size text)
+    (λ plane rest. shortens_then (planes_read sizes) (λ planes. give (plane ∷ planes)) rest (planes_shorten sizes rest) (λ planes last. omega arith))
+
+pub planes_behind : (sizes : List ℕ) (plane text : List ℕ) → length (left ((planes_read sizes then λ planes. give (plane ∷ planes)) text)) ≤ length text
+planes_behind sizes plane text = shortens_then (planes_read sizes) (λ planes. give (plane ∷ planes)) text (planes_shorten sizes text) (λ planes last. omega arith)
+
+pub planes_begun_shorten : (sizes text : List ℕ) → length (left (planes_read sizes text)) ≤ length text
+planes_begun_shorten sizes text = planes_shorten sizes text
+
+turned : (sizes : List ℕ) (n : ℕ) (planes : List (List ℕ)) → n < length sizes → map (λ plane. length plane) (take n planes) ≡ take n sizes → (text : List ℕ) →
+    planes_read sizes (flat_map (λ plane. plane) (take n planes) ++ text) ≡ onto (take n planes) ((plane_read (get_or sizes n 0) then λ plane. planes_read (drop (n + 1) sizes) then λ ps. give (plane ∷ ps)) text)
+turned sizes n planes inside lengths text =
+    let whole : sizes ≡ map (λ plane. length plane) (take n planes) ++ (get_or sizes n 0 ∷ drop (n + 1) sizes) = sym (take-append-drop n sizes) ∙ (rw (lengths, parts_at sizes n inside) refl) in
+    ap (λ z. planes_read z (flat_map (λ plane. plane) (take n planes) ++ text)) whole ∙ planes_front (take n planes) (get_or sizes n 0 ∷ drop (n + 1) sizes) text
+
+pub partway_stop : (sizes : List ℕ) (old mid new : Option (List ℕ)) (n before between after : ℕ) (planes : List (List ℕ)) (f : Fault) → n < length sizes → length planes ≡ length sizes →
+    Partway sizes old mid n planes → between ≡ before → Stands (plane_read (get_or sizes n 0)) IsNone (moved mid new between after) (Err f) → Stands (planes_read sizes) (GrowsBeforePlane sizes) (moved old new before after) (Err f)
+partway_stop sizes old mid new n before between after planes f inside many h same read =
+    let front : List ℕ = flat_map (λ plane. plane) (take n planes) in
+    let first : Stands (plane_read (get_or sizes n 0) then λ plane. planes_read (drop (n + 1) sizes) then λ ps. give (plane ∷ ps)) IsNone (moved mid new between after) (Err f) =
+    stands_first (plane_read (get_or sizes n 0)) (λ plane. planes_read (drop (n + 1) sizes) then λ ps. give (plane ∷ ps)) IsNone IsNone (moved mid new between after) f (λ plane text. planes_behind (drop (n + 1) sizes) plane text) (λ xs e. e) read in
+    let long : length (take n planes) ≡ n = length-take n planes ∙ (omega (arith, inside, many)) in
+    record {
+      bytes = front ++ first.bytes;
+      taken = consumes_then old mid new front first.bytes h.1 first.taken;
+      said = says_behind _ (planes_read sizes) (onto (take n planes)) IsNone (GrowsBeforePlane sizes) old mid new before between after front first.bytes f same (onto_left (take n planes)) (λ e. refl) (turned sizes n planes inside h.0)
+          (λ none. (take n planes, rw none (append-nil front), omega (arith, long, inside), rw long h.0)) first.said;
+    }
+
+pub partway_end : (sizes : List ℕ) (old new : Option (List ℕ)) (n before after : ℕ) (planes : List (List ℕ)) → length sizes ≤ n → length planes ≡ length sizes → Partway sizes old new n planes → after ≡ before →
+    Stands (planes_read sizes) (GrowsBeforePlane sizes) (moved old new before after) (Ok planes) × (map (λ plane. length plane) planes ≡ sizes)
+partway_end sizes old new n before after planes all many h same =
+    let every : take n planes ≡ planes = take_all n planes (omega (arith, all, many)) in
+    let lengths : map (λ plane. length plane) planes ≡ sizes = rw (every, take_all n sizes all) at h.0 in
+    (record { bytes = flat_map (λ plane. plane) planes; taken = rw every at h.1; said = (same, inl (λ behind. rw (← lengths) (planes_found planes behind))) }, lengths)

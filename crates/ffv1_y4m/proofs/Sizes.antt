@@ -9,7 +9,8 @@ use Rattle.ffv1_y4m.specs.declared.head.VideoHead.{VideoHead}
 use Rattle.ffv1_y4m.specs.declared.tags.Chroma.{Chroma}
 use Rattle.ffv1_y4m.specs.declared.tags.Tags.{Tags}
 use Rattle.ffv1_y4m.specs.VideoHead.{IsSized, IsRatio, IsChroma, IsHead}
-use Rattle.ffv1_y4m.specs.Header.{◌>>=◌, first_value, first_answer, within, number_of, structure_of, tagged, judged, words_of, all_judged, no_tags, present, head_of_tags, head_from, or_else, size_of, capped_of, both_of, parted_of, ratio_of, chroma_of, chroma_planes, is_text}
+use Rattle.ffv1_y4m.specs.Sequence.{◌>>=◌}
+use Rattle.ffv1_y4m.specs.Header.{first_value, first_answer, within, number_of, structure_of, tagged, judged, words_of, all_judged, no_tags, present, head_of_tags, head_from, or_else, size_of, capped_of, both_of, parted_of, ratio_of, chroma_of, chroma_planes, is_text}
 
 -- a value, where there is one
 abbrev pub IsSome : {X : Type 0} → (X → Type 0) → Option X → Type 0

@@ -1,19 +1,22 @@
 -- What a header reads as is a fault of its text: no failed read, no want of memory.
-use Rattle.std.proofs.Common.{◌≡◌, ℕ, Bool, true, false, cond, Option, Some, None, List, [], ◌∷◌, take, drop, Result, Ok, Err, refl}
+use Rattle.std.proofs.Common.{ℕ, Bool, true, false, cond, Option, Some, None, List, [], ◌∷◌, ◌≤◌, drop, length, Result, Ok, Err, inl, refl, arith}
 use Rattle.ffv1_y4m.specs.declared.fault.Fault.{Fault}
 use Rattle.ffv1_y4m.specs.declared.fault.Fault.TheVariants as fault
 use Rattle.ffv1_y4m.specs.declared.head.VideoHead.{VideoHead}
 use Rattle.ffv1_y4m.specs.declared.tags.Tags.{Tags}
-use Rattle.ffv1_y4m.specs.Header.{◌>>=◌, first_value, first_answer, structure_of, tagged, judged, words_of, all_judged, no_tags, present, head_of_tags, head_of_line, header_of, size_of, ratio_of, chroma_of}
-use Rattle.ffv1_y4m.specs.State.{is_memory, NoWant}
-use Rattle.ffv1_y4m.specs.Reads.{Answers, ReadsLine, Refused, Faults}
+use Rattle.ffv1_y4m.specs.Sequence.{◌>>=◌}
+use Rattle.ffv1_y4m.specs.Header.{first_value, first_answer, structure_of, tagged, judged, words_of, all_judged, no_tags, present, head_of_tags, head_of_line, size_of, ratio_of, chroma_of}
+use Rattle.ffv1_y4m.specs.State.{IsHeaderFault, OnFault}
+use Rattle.ffv1_y4m.specs.Sequence.{judge, left}
+use Rattle.ffv1_y4m.specs.Reads.{Nowhere, Says, Stands}
+use Rattle.ffv1_y4m.proofs.Sequences.{Shortens, consumes_none, moved}
 
 -- a fault of the text
 abbrev pub IsTextual : Fault → Type 0
-IsTextual fault.OutOfMemory = ⊥
-IsTextual fault.Read = ⊥
-IsTextual fault.Write = ⊥
-IsTextual f = Unit {0}
+IsTextual fault.Header = Unit {0}
+IsTextual fault.Tag = Unit {0}
+IsTextual fault.Unsupported = Unit {0}
+IsTextual f = ⊥
 
 abbrev pub HasTextual : {X : Type 0} → Result X Fault → Type 0
 HasTextual (Ok x) = Unit {0}
@@ -84,54 +87,41 @@ textual_line line =
     let header : Textual {X = VideoHead} (Err fault.Header) = record { fault = tt } in
     textual_cond _ _ _ tag (textual_cond _ _ _ (textual_next (all_judged no_tags (words_of (drop 10 line))) head_of_tags (textual_all no_tags (words_of (drop 10 line))) textual_head) header)
 
--- a fault of the text, which is not one of reading
-refused_by : (text : Option (List ℕ)) (before after : ℕ) (f : Fault) → IsTextual f → after ≡ before → Faults header_of text f → Refused header_of text before after f
-refused_by text before after fault.OutOfMemory textual same reads = absurd textual
-refused_by text before after fault.Read textual same reads = absurd textual
-refused_by text before after fault.Header textual same reads = (same, reads)
-refused_by text before after fault.Tag textual same reads = (same, reads)
-refused_by text before after fault.Unsupported textual same reads = (same, reads)
-refused_by text before after fault.FrameLine textual same reads = (same, reads)
-refused_by text before after fault.FrameTruncated textual same reads = (same, reads)
-refused_by text before after fault.Write textual same reads = absurd textual
-refused_by text before after fault.FormatChanged textual same reads = (same, reads)
+-- the answer of a header's line, of no byte
+said_line : (r : Result VideoHead Fault) (old : Option (List ℕ)) (n : ℕ) → HasTextual r → Says (judge r) Nowhere [] (moved old old n n) r
+said_line (Ok h) old n t = (refl, inl (λ behind. refl))
+said_line (Err fault.Header) old n t = (refl, inl (λ behind. refl))
+said_line (Err fault.Tag) old n t = (refl, inl (λ behind. refl))
+said_line (Err fault.Unsupported) old n t = (refl, inl (λ behind. refl))
+said_line (Err fault.OutOfMemory) old n t = absurd t
+said_line (Err fault.Read) old n t = absurd t
+said_line (Err fault.Write) old n t = absurd t
+said_line (Err fault.FrameLine) old n t = absurd t
+said_line (Err fault.FrameTruncated) old n t = absurd t
+said_line (Err fault.FormatChanged) old n t = absurd t
 
--- a header line that was read is the text's
-header_is : (text rest line : List ℕ) (n : ℕ) (r : Result VideoHead Fault) → ReadsLine 1025 (Some text) (Some rest) line (Some n) → r ≡ head_of_line (take n line) → header_of text ≡ (r >>= λ head. Ok (head, rest))
-header_is text rest line n r read is =
-    rw (read.0, is, read.1, read.2) refl
+pub stands_line : (r : Result VideoHead Fault) (old : Option (List ℕ)) (n : ℕ) → Textual r → Stands (judge r) Nowhere (moved old old n n) r
+stands_line r old n t = record { bytes = []; taken = consumes_none old; said = said_line r old n t.fault }
 
--- a line that was read answers for the text
-pub line_answers : (old new : Option (List ℕ)) (before after most : ℕ) (line : List ℕ) (n : ℕ) (r : Result VideoHead Fault) →
-    most ≡ 1025 → ReadsLine most old new line (Some n) → after ≡ before → Textual r → r ≡ head_of_line (take n line) → Answers (λ (h : VideoHead). h) header_of old new before after r
-line_answers None new before after most line n (Ok h) long read same textual is = (same, tt)
-line_answers None new before after most line n (Err f) long read same textual is = refused_by None before after f textual.fault same tt
-line_answers (Some text) None before after most line n r long read same textual is = absurd read
-line_answers (Some text) (Some rest) before after most line n (Ok h) long read same textual is = (same, header_is text rest line n (Ok h) (rw long at read) is)
-line_answers (Some text) (Some rest) before after most line n (Err f) long read same textual is =
-    refused_by (Some text) before after f textual.fault same (header_is text rest line n (Err f) (rw long at read) is)
+own_line : (r : Result VideoHead Fault) → HasTextual r → OnFault IsHeaderFault r
+own_line (Ok h) t = tt
+own_line (Err fault.Header) t = tt
+own_line (Err fault.Tag) t = tt
+own_line (Err fault.Unsupported) t = tt
+own_line (Err fault.OutOfMemory) t = absurd t
+own_line (Err fault.Read) t = absurd t
+own_line (Err fault.Write) t = absurd t
+own_line (Err fault.FrameLine) t = absurd t
+own_line (Err fault.FrameTruncated) t = absurd t
+own_line (Err fault.FormatChanged) t = absurd t
 
--- without such a line there is no header
-pub line_none : (old new : Option (List ℕ)) (before after most : ℕ) (line : List ℕ) →
-    most ≡ 1025 → ReadsLine most old new line None → after ≡ before → Answers (λ (h : VideoHead). h) header_of old new before after (Err fault.Header)
-line_none None new before after most line long read same = (same, tt)
-line_none (Some text) None before after most line long read same = absurd read
-line_none (Some text) (Some rest) before after most line long read same =
-    let none = rw long at read in
-    (same, rw none refl)
+-- a fault of the text is one of a header
+pub header_fault : (r : Result VideoHead Fault) → Textual r → OnFault IsHeaderFault r
+header_fault r t = own_line r t.fault
 
-not_memory : (f : Fault) → IsTextual f → is_memory f ≡ false
-not_memory fault.OutOfMemory h = absurd h
-not_memory fault.Read h = refl
-not_memory fault.Write h = refl
-not_memory fault.Header h = refl
-not_memory fault.Tag h = refl
-not_memory fault.Unsupported h = refl
-not_memory fault.FrameLine h = refl
-not_memory fault.FrameTruncated h = refl
-not_memory fault.FormatChanged h = refl
+left_judged : {X : Type 0} (r : Result X Fault) (text : List ℕ) → length (left (judge r text)) ≤ length text
+left_judged (Ok x) text = omega arith
+left_judged (Err f) text = omega arith
 
--- a fault of the text is no want of memory
-pub no_want : (r : Result VideoHead Fault) → Textual r → NoWant r
-no_want (Ok h) t = tt
-no_want (Err f) t = not_memory f t.fault
+pub shortens_line : Shortens (λ line. judge (head_of_line line))
+shortens_line = λ line text. left_judged (head_of_line line) text

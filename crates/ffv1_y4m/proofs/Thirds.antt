@@ -68,7 +68,7 @@ colours_of n bs rest long =
     let enough : nat_lt (length (bs ++ rest)) (3 * n) ≡ false = le-ltb _ _ (grind (arith, common_steps, long)) in
     rw enough (rw (← long) (rw (take-append_seam bs rest, drop-append_seam bs rest) refl))
 
-pub colours_short : (n : ℕ) (bs : List ℕ) → length bs < 3 * n → colours_read n bs ≡ Err fault.FrameTruncated
+pub colours_short : (n : ℕ) (bs : List ℕ) → length bs < 3 * n → colours_read n bs ≡ Err (fault.FrameTruncated, [])
 colours_short n bs few =
     let short : nat_lt (length bs) (3 * n) ≡ true = lt-ltb _ _ few in
     rw short refl

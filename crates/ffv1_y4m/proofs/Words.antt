@@ -4,7 +4,8 @@ use Rattle.std.specs.List.{position, position_or_len}
 use Rattle.std.proofs.lemmas.List.Sums.{prefix_len_passes}
 use Rattle.std.proofs.lemmas.Bool.{ltb-false}
 use Rattle.std.proofs.lemmas.List.Quantifiers.{position-Some}
-use Rattle.ffv1_y4m.specs.Header.{words_of, onto_first, judged, all_judged, ◌>>=◌}
+use Rattle.ffv1_y4m.specs.Sequence.{◌>>=◌}
+use Rattle.ffv1_y4m.specs.Header.{words_of, onto_first, judged, all_judged}
 use Rattle.ffv1_y4m.specs.declared.fault.Fault.{Fault}
 use Rattle.ffv1_y4m.specs.declared.tags.Tags.{Tags}
 

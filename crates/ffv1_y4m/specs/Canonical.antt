@@ -1,5 +1,6 @@
 -- The canonical text of a stream of pictures: each tag but X is written, in one order.
-use Rattle.std.specs.Prelude.{ℕ, Bool, true, false, ◌==◌, if◌then◌else◌, List, ◌++◌, codes, decimal, flat_map}
+use Rattle.std.specs.Prelude.{ℕ, Bool, true, false, ◌==◌, if◌then◌else◌, List, ◌++◌, codes, decimal}
+use Rattle.std.specs.Prelude.{flat_map}
 use Rattle.ffv1_y4m.specs.Pictures.{picture_text}
 use Rattle.ffv1_y4m.specs.declared.head.VideoHead.{VideoHead}
 
@@ -39,15 +40,20 @@ name_text tag name = tag ++ name
 
 -- the sizes: W H
 unfoldable pub sizes_text : VideoHead → List ℕ
-sizes_text h = codes "YUV4MPEG2" ++ (number_text (codes " W") h.width ++ number_text (codes " H") h.height)
+sizes_text h =
+    codes "YUV4MPEG2" ++ (number_text (codes " W") h.width ++ number_text (codes " H") h.height)
 
 -- the rate, the structure and the aspect: F I A
 unfoldable pub times_text : VideoHead → List ℕ
-times_text h = ratio_text (codes " F") h.rate h.scale ++ (name_text (codes " I") (structure_name h.structure) ++ ratio_text (codes " A") h.sar_num h.sar_den)
+times_text h =
+    ratio_text (codes " F") h.rate h.scale
+    ++ (name_text (codes " I") (structure_name h.structure)
+    ++ ratio_text (codes " A") h.sar_num h.sar_den)
 
 -- the header: W H F I A C, one space before each, and a line feed
 unfoldable pub header_text : VideoHead → List ℕ
-header_text h = sizes_text h ++ (times_text h ++ (name_text (codes " C") (chroma_name h) ++ codes "\n"))
+header_text h =
+    sizes_text h ++ (times_text h ++ (name_text (codes " C") (chroma_name h) ++ codes "\n"))
 
 -- the canonical text of these pictures
 abbrev pub canonical_text : VideoHead → List (List (List ℕ)) → List ℕ

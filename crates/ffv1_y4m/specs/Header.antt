@@ -1,11 +1,14 @@
--- The header line of YUV4MPEG2, as MJPEG Tools write it (yuv4mpeg(5)): which head a text begins with, or the first
--- fault from the left.
-use Rattle.std.specs.Prelude.{◌≡◌, ℕ, ◌+◌, ◌<◌, ◌^◌, ◌==◌, ◌&&◌, ◌||◌, Bool, true, false, if◌then◌else◌, nat_eq, nat_lt, nat_le, List, [], ◌∷◌, length, take, drop, codes, decimal, Option, Some, None, Result, Ok, Err}
+-- The header line of YUV4MPEG2, as MJPEG Tools write it (yuv4mpeg(5)): which head a text begins
+-- with, or the first fault from the left.
+use Rattle.std.specs.Prelude.{◌≡◌, ℕ, ◌+◌, ◌<◌, ◌^◌, ◌==◌, ◌&&◌, ◌||◌, Bool, true, false}
+use Rattle.std.specs.Prelude.{if◌then◌else◌, nat_eq, nat_lt, nat_le, List, [], ◌∷◌, length, take}
+use Rattle.std.specs.Prelude.{drop, codes, decimal, Option, Some, None, Result, Ok, Err}
 use Rattle.std.specs.Borrow.{Bor}
 use Rattle.std.specs.List.{position}
 use lib.Pointwise.{pointwise}
 use Rattle.std.specs.Option.{option_and_then}
 use Rattle.std.specs.Str.Parse.{digits_value}
+use Rattle.ffv1_y4m.specs.Sequence.{◌>>=◌, Reading, ◌then◌, judge}
 use Rattle.ffv1_y4m.specs.declared.head.VideoHead.{VideoHead}
 use Rattle.ffv1_y4m.specs.declared.tags.Chroma.{Chroma}
 use Rattle.ffv1_y4m.specs.declared.tags.Tags.{Tags}
@@ -16,7 +19,8 @@ use Rattle.ffv1_y4m.specs.declared.fault.Fault.TheVariants as fault
 abbrev pub IsSplitOnce : ℕ → List ℕ → Option (Bor (List ℕ) × Bor (List ℕ)) → Type 0
 IsSplitOnce byte text None = position (λ c. c == byte) text ≡ None
 IsSplitOnce byte text (Some p) =
-    (at : ℕ) × (position (λ c. c == byte) text ≡ Some at) × (p.0.now ≡ take at text) × (p.1.now ≡ drop (at + 1) text) × (at < length text)
+    (at : ℕ) × (position (λ c. c == byte) text ≡ Some at) × (p.0.now ≡ take at text)
+    × (p.1.now ≡ drop (at + 1) text) × (at < length text)
 
 -- the text is this name
 abbrev pub is_text : List ℕ → List ℕ → Bool
@@ -25,7 +29,8 @@ is_text text name = pointwise nat_eq text name
 -- the number below 2 ^ 32 whose one decimal spelling the text is
 unfoldable pub number_of : List ℕ → Option ℕ
 number_of text =
-    if nat_lt (digits_value 10 text) (2 ^ 32) && pointwise nat_eq text (decimal (digits_value 10 text))
+    if nat_lt (digits_value 10 text) (2 ^ 32) && pointwise nat_eq text
+    (decimal (digits_value 10 text))
     then Some (digits_value 10 text) else None
 
 -- a number within these bounds
@@ -42,7 +47,9 @@ capped_of most text = option_and_then (within 0 most) (number_of text)
 
 -- two numbers, both zero or neither
 abbrev pub pair_of : ℕ → ℕ → Option (ℕ × ℕ)
-pair_of n d = if n == 0 then (if d == 0 then Some (n, d) else None) else (if d == 0 then None else Some (n, d))
+pair_of n d =
+    if n == 0 then (if d == 0 then Some (n, d) else None) else
+    (if d == 0 then None else Some (n, d))
 
 -- two numbers of at most so much, in two texts; both zero or neither
 abbrev pub both_of : Option ℕ → Option ℕ → Option (ℕ × ℕ)
@@ -53,7 +60,8 @@ both_of (Some n) (Some d) = pair_of n d
 -- the texts before and behind a colon
 abbrev pub parted_of : ℕ → List ℕ → Option ℕ → Option (ℕ × ℕ)
 parted_of most value None = None
-parted_of most value (Some colon) = both_of (capped_of most (take colon value)) (capped_of most (drop (colon + 1) value))
+parted_of most value (Some colon) =
+    both_of (capped_of most (take colon value)) (capped_of most (drop (colon + 1) value))
 
 -- two numbers of at most so much, joined by a colon; both zero or neither
 abbrev pub ratio_of : ℕ → List ℕ → Option (ℕ × ℕ)
@@ -61,19 +69,24 @@ ratio_of most value = parted_of most value (position (λ c. c == 58) value)
 
 -- chroma planes of these sizes
 abbrev pub chroma_planes : ℕ → ℕ → Chroma
-chroma_planes log2_h log2_v = record { planes = true; log2_h = log2_h; log2_v = log2_v; extra = false }
+chroma_planes log2_h log2_v =
+    record { planes = true; log2_h = log2_h; log2_v = log2_v; extra = false }
 
 -- the chroma of the names for no chroma, and for a plane of transparency
 abbrev pub other_chroma_of : List ℕ → Option Chroma
 other_chroma_of value =
-    if is_text value (codes "444alpha") then Some (record { planes = true; log2_h = 0; log2_v = 0; extra = true })
-    else if is_text value (codes "mono") then Some (record { planes = false; log2_h = 0; log2_v = 0; extra = false })
+    if is_text value (codes "444alpha") then Some
+    (record { planes = true; log2_h = 0; log2_v = 0; extra = true })
+    else if is_text value (codes "mono") then Some
+    (record { planes = false; log2_h = 0; log2_v = 0; extra = false })
     else None
 
 -- the chroma of a name
 unfoldable pub chroma_of : List ℕ → Option Chroma
 chroma_of value =
-    if is_text value (codes "420jpeg") || (is_text value (codes "420mpeg2") || is_text value (codes "420paldv")) then Some (chroma_planes 1 1)
+    if is_text value (codes "420jpeg") ||
+    (is_text value (codes "420mpeg2") || is_text value (codes "420paldv")) then Some
+    (chroma_planes 1 1)
     else if is_text value (codes "422") then Some (chroma_planes 1 0)
     else if is_text value (codes "444") then Some (chroma_planes 0 0)
     else if is_text value (codes "411") then Some (chroma_planes 2 0)
@@ -91,12 +104,14 @@ structure_of value =
 
 -- nothing said yet
 abbrev pub no_tags : Tags
-no_tags = record { width = None; height = None; rate = None; structure = None; aspect = None; chroma = None }
-
-infixl 10 ◌>>=◌
-abbrev pub ◌>>=◌ : {X Y : Type 0} → Result X Fault → (X → Result Y Fault) → Result Y Fault
-(Ok x) >>= next = next x
-(Err f) >>= next = Err f
+no_tags = record {
+  width = None;
+  height = None;
+  rate = None;
+  structure = None;
+  aspect = None;
+  chroma = None;
+}
 
 -- a value for the first time, where it is one; the second time comes first
 abbrev pub first_value : {X Y : Type 0} → Option X → Option Y → Fault → Result Y Fault
@@ -112,12 +127,22 @@ first_answer None new = new
 -- the tags with one more, by its letter: W H F I A C X
 unfoldable pub tagged : Tags → ℕ → List ℕ → Result Tags Fault
 tagged t letter value =
-    if letter == 87 then (first_value t.width (size_of value) fault.Tag >>= λ n. Ok (record t { width = Some n }))
-    else if letter == 72 then (first_value t.height (size_of value) fault.Tag >>= λ n. Ok (record t { height = Some n }))
-    else if letter == 70 then (first_value t.rate (ratio_of 4294967295 value) fault.Tag >>= λ r. Ok (record t { rate = Some r }))
-    else if letter == 73 then (first_answer t.structure (structure_of value) >>= λ s. Ok (record t { structure = Some s }))
-    else if letter == 65 then (first_value t.aspect (ratio_of 65535 value) fault.Tag >>= λ r. Ok (record t { aspect = Some r }))
-    else if letter == 67 then (first_value t.chroma (chroma_of value) fault.Unsupported >>= λ c. Ok (record t { chroma = Some c }))
+    if letter == 87 then
+    (first_value t.width (size_of value) fault.Tag >>= λ n. Ok (record t { width = Some n }))
+    else if letter == 72 then
+    (first_value t.height (size_of value) fault.Tag >>= λ n. Ok (record t { height = Some n }))
+    else if letter == 70 then
+    (first_value t.rate (ratio_of 4294967295 value) fault.Tag >>= λ r. Ok
+    (record t { rate = Some r }))
+    else if letter == 73 then
+    (first_answer t.structure (structure_of value) >>= λ s. Ok
+    (record t { structure = Some s }))
+    else if letter == 65 then
+    (first_value t.aspect (ratio_of 65535 value) fault.Tag >>= λ r. Ok
+    (record t { aspect = Some r }))
+    else if letter == 67 then
+    (first_value t.chroma (chroma_of value) fault.Unsupported >>= λ c. Ok
+    (record t { chroma = Some c }))
     else if letter == 88 then Ok t
     else Err fault.Tag
 
@@ -145,7 +170,8 @@ abbrev pub or_else : {X : Type 0} → Option X → X → X
 or_else (Some x) d = x
 or_else None d = d
 
--- the head that the tags give, once there are both sizes; without them no rate, an unknown structure and aspect, and 4:2:0
+-- the head that the tags give, once there are both sizes; without them no rate, an unknown
+-- structure and aspect, and 4:2:0
 abbrev pub head_from : ℕ → ℕ → ℕ × ℕ → ℕ → ℕ × ℕ → Chroma → VideoHead
 head_from width height rate structure aspect chroma = record {
   width = width;
@@ -170,24 +196,32 @@ unfoldable pub head_of_tags : Tags → Result VideoHead Fault
 head_of_tags t = do
   width ← present t.width
   height ← present t.height
-  Ok (head_from width height (or_else t.rate (0, 0)) (or_else t.structure 0) (or_else t.aspect (0, 0)) (or_else t.chroma (chroma_planes 1 1)))
+  Ok (head_from width height (or_else t.rate (0, 0)) (or_else t.structure 0)
+      (or_else t.aspect (0, 0)) (or_else t.chroma (chroma_planes 1 1)))
 
 -- the head of a header line, given without its line feed
 unfoldable pub head_of_line : List ℕ → Result VideoHead Fault
 head_of_line line =
     if is_text line (codes "YUV4MPEG2") then Err fault.Tag
-    else if is_text (take 10 line) (codes "YUV4MPEG2 ") then (all_judged no_tags (words_of (drop 10 line)) >>= head_of_tags)
+    else if is_text (take 10 line) (codes "YUV4MPEG2 ") then
+    (all_judged no_tags (words_of (drop 10 line)) >>= head_of_tags)
     else Err fault.Header
 
 -- where the line feed of a line stands, if it is among the first so many bytes
 abbrev pub line_end : ℕ → List ℕ → Option ℕ
 line_end most text = position (λ c. c == 10) (take most text)
 
--- the head and what stands behind its line, or the first fault
-abbrev pub ended_at : List ℕ → Option ℕ → Result (VideoHead × List ℕ) Fault
-ended_at text None = Err fault.Header
-ended_at text (Some end) = head_of_line (take end text) >>= λ head. Ok (head, drop (end + 1) text)
+-- a line, and what stands behind its line feed; where it does not end in time, those bytes are left
+-- out
+abbrev pub line_to : ℕ → List ℕ → Option ℕ → Result (List ℕ × List ℕ) (Fault × List ℕ)
+line_to most text None = Err (fault.Header, drop most text)
+line_to most text (Some end) = Ok (take end text, drop (end + 1) text)
 
--- a text's header: its line of at most 1024 bytes and the line feed
-abbrev pub header_of : List ℕ → Result (VideoHead × List ℕ) Fault
-header_of text = ended_at text (line_end 1025 text)
+-- a line of at most so many bytes, its line feed included
+abbrev pub line_read : ℕ → Reading (List ℕ)
+line_read most text = line_to most text (line_end most text)
+
+-- a text's header: its line of at most 1024 bytes and the line feed, which is judged when it is
+-- read
+abbrev pub header_of : Reading VideoHead
+header_of = line_read 1025 then λ line. judge (head_of_line line)

@@ -1,5 +1,7 @@
--- What a header line says: tags behind `YUV4MPEG2`, each a letter and a value behind one space, in any order.
-use Rattle.std.specs.Prelude.{◌≡◌, ℕ, ◌==◌, ◌||◌, Bool, true, false, if◌then◌else◌, List, [], ◌∷◌, ◌++◌, codes, flat_map, Some, Ok}
+-- What a header line says: tags behind `YUV4MPEG2`, each a letter and a value behind one space, in
+-- any order.
+use Rattle.std.specs.Prelude.{◌≡◌, ℕ, ◌==◌, ◌||◌, Bool, true, false, if◌then◌else◌, List, [], ◌∷◌}
+use Rattle.std.specs.Prelude.{◌++◌, codes, flat_map, Some, Ok}
 use Rattle.ffv1_y4m.specs.Header.{size_of, ratio_of, structure_of, chroma_of, chroma_planes}
 use Rattle.ffv1_y4m.specs.declared.head.VideoHead.{VideoHead}
 use Rattle.ffv1_y4m.specs.declared.tags.Chroma.{Chroma}
@@ -17,7 +19,8 @@ is_letter c = c == 87 || (c == 72 || (c == 70 || (c == 73 || (c == 65 || (c == 6
 abbrev pub AreTags : List (List ℕ) → Type 0
 AreTags [] = Unit {0}
 AreTags ([] ∷ tags) = ⊥
-AreTags ((letter ∷ value) ∷ tags) = (is_letter letter ≡ true) × Without 32 (letter ∷ value) × AreTags tags
+AreTags ((letter ∷ value) ∷ tags) =
+    (is_letter letter ≡ true) × Without 32 (letter ∷ value) × AreTags tags
 
 -- the tags behind one space each
 abbrev pub spaced : List (List ℕ) → List ℕ
@@ -27,7 +30,8 @@ spaced tags = flat_map (λ tag. 32 ∷ tag) tags
 abbrev pub values_of : ℕ → List (List ℕ) → List (List ℕ)
 values_of letter [] = []
 values_of letter ([] ∷ tags) = values_of letter tags
-values_of letter ((c ∷ value) ∷ tags) = if c == letter then value ∷ values_of letter tags else values_of letter tags
+values_of letter ((c ∷ value) ∷ tags) =
+    if c == letter then value ∷ values_of letter tags else values_of letter tags
 
 -- there is one value, and it says x
 abbrev pub Once : {X : Type 0} → (List ℕ → X → Type 0) → List (List ℕ) → X → Type 0
@@ -55,7 +59,8 @@ SaysChroma value c = chroma_of value ≡ Some c
 
 -- the chroma of a head
 abbrev pub chroma_in : VideoHead → Chroma
-chroma_in h = record { planes = h.chroma_planes; log2_h = h.log2_h; log2_v = h.log2_v; extra = h.extra_plane }
+chroma_in h =
+    record { planes = h.chroma_planes; log2_h = h.log2_h; log2_v = h.log2_v; extra = h.extra_plane }
 
 -- a line says this head: W and H once, F, I, A and C at most once, X any number of times
 pub record IsHeaderLine (line : List ℕ) (h : VideoHead) : Type 0 where

@@ -1,5 +1,6 @@
 -- The text of a stream of PPM: images of one size, one behind the other.
-use Rattle.std.specs.Prelude.{◌≡◌, ℕ, zero, suc, take, drop, ◌*◌, true, false, List, [], ◌∷◌, ◌++◌, length, flat_map, Some, None, Ok}
+use Rattle.std.specs.Prelude.{◌≡◌, ℕ, zero, suc, take, drop, ◌*◌, true, false, List, [], ◌∷◌, ◌++◌}
+use Rattle.std.specs.Prelude.{length, flat_map, Some, None, Ok}
 use Rattle.ffv1_y4m.specs.Ppm.{image_header_text, image_read, interleaved}
 use Rattle.ffv1_wire.specs.Runs.{Line}
 use Rattle.ffv1_y4m.specs.Sink.{PpmSink, text_with, kept_behind, row_with}
@@ -32,7 +33,8 @@ abbrev pub image_text : ℕ → ℕ → List (List ℕ) → List ℕ
 image_text width height planes = image_header_text width height ++ samples_text planes
 
 -- a text is these images of these sizes
-pub record IsImages (text : List ℕ) (width height : ℕ) (images : List (List (List ℕ))) : Type 0 where
+pub record IsImages (text : List ℕ) (width height : ℕ)
+    (images : List (List (List ℕ))) : Type 0 where
   pub sized : IsSized (colour_head width height)
   pub whole : text ≡ flat_map (image_text width height) images
   pub fit : AllColours (width * height) images
@@ -40,11 +42,13 @@ pub record IsImages (text : List ℕ) (width height : ℕ) (images : List (List 
 -- reading image after image gives these and then the end
 abbrev pub ReadsImages : VideoHead → List ℕ → List (List (List ℕ)) → Type 0
 ReadsImages h text [] = image_read h false text ≡ Ok (None, [])
-ReadsImages h text (p ∷ ps) = (rest : List ℕ) × (image_read h false text ≡ Ok (Some p, rest)) × ReadsImages h rest ps
+ReadsImages h text (p ∷ ps) =
+    (rest : List ℕ) × (image_read h false text ≡ Ok (Some p, rest)) × ReadsImages h rest ps
 
 -- the same where the header of the first image was read before
 abbrev pub ReadsFrom : VideoHead → List ℕ → List (List ℕ) → List (List (List ℕ)) → Type 0
-ReadsFrom h text p ps = (rest : List ℕ) × (image_read h true text ≡ Ok (Some p, rest)) × ReadsImages h rest ps
+ReadsFrom h text p ps =
+    (rest : List ℕ) × (image_read h true text ≡ Ok (Some p, rest)) × ReadsImages h rest ps
 
 -- the lines of rows of an image, from this row on: red, green and blue of each
 abbrev pub image_lines : ℕ → ℕ → ℕ → List ℕ → List ℕ → List ℕ → List Line
@@ -61,8 +65,10 @@ pub record AtImage {W : Type 0} (s : PpmSink W) : Type 0 where
   pub row : s.row ≡ 0
   pub working : s.failed ≡ false
 
--- what lines make a sink write, one after the other, by the lines that wait and the row that comes next
+-- what lines make a sink write, one after the other, by the lines that wait and the row that comes
+-- next
 abbrev pub text_of_lines : ℕ → ℕ → List (List ℕ) → ℕ → List Line → List ℕ
 text_of_lines width height kept row [] = []
 text_of_lines width height kept row (l ∷ ls) =
-    text_with width height row kept l.samples ++ text_of_lines width height (kept_behind kept l.samples) (row_with height row kept) ls
+    text_with width height row kept l.samples
+    ++ text_of_lines width height (kept_behind kept l.samples) (row_with height row kept) ls

@@ -5,6 +5,7 @@ pub mod Pictures
 pub mod Ppm
 pub mod State
 pub mod Sink
+pub mod Passage
 pub mod Reads
 pub mod Canonical
 pub mod Writes

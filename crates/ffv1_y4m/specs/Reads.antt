@@ -1,43 +1,91 @@
--- What a call on a reader of pictures answers, beside what the input reads as.
-use Rattle.std.specs.Prelude.{◌≡◌, ℕ, ◌+◌, ◌≤◌, List, length, take, drop, Option, Some, None, option_to_list, IfSome, Result, Ok, Err, ⊤}
-use Rattle.std.specs.Io.KnownBytes.{prepend_known}
-use Rattle.ffv1_y4m.specs.Header.{line_end}
-use Rattle.ffv1_y4m.specs.Sequence.{Reading}
+-- What a call on a reader of pictures answers, and what it leaves of its input.
+use Rattle.std.specs.Prelude.{◌≡◌, ◌≤◌, ◌⊎◌, ℕ, suc, List, [], ◌∷◌, ◌++◌, length, Option, Some}
+use Rattle.std.specs.Prelude.{None, Result, Ok, Err}
+use Rattle.std.specs.Io.KnownBytes.{Consumes, IsAtEnd}
+use Rattle.ffv1_y4m.specs.Sequence.{Reading, judge, left}
+use Rattle.ffv1_y4m.specs.Passage.{Passage}
 use Rattle.ffv1_wire.specs.Failures.{one_more}
 use Rattle.ffv1_y4m.specs.declared.fault.Fault.{Fault}
 use Rattle.ffv1_y4m.specs.declared.fault.Fault.TheVariants as fault
 
--- a text of which the first byte may have been read
-abbrev pub known_text : Option ℕ → Option (List ℕ) → Option (List ℕ)
-known_text first rest = prepend_known (option_to_list first) rest
+-- where the bytes are known, they read as this, with those left; else some bytes do
+abbrev pub ReadsAs : {X : Type 0} → Reading X → Option (List ℕ) → Option (List ℕ) → Result X Fault →
+    Type 0
+ReadsAs reading None new r = (text : List ℕ) × (rest : List ℕ) × (reading text ≡ judge r rest)
+ReadsAs reading (Some text) None r = ⊥
+ReadsAs reading (Some text) (Some rest) r = reading text ≡ judge r rest
 
--- where the bytes are known: where a line of at most so many bytes ends, and its bytes, with those behind its line feed left; or that none ends
-abbrev pub ReadsLine : ℕ → Option (List ℕ) → Option (List ℕ) → List ℕ → Option ℕ → Type 0
-ReadsLine most None new line end = IfSome end (λ n. n ≤ length line)
-ReadsLine most (Some text) None line end = ⊥
-ReadsLine most (Some text) (Some rest) line None = line_end most text ≡ None
-ReadsLine most (Some text) (Some rest) line (Some n) =
-    (line_end most text ≡ Some n) × (take n line ≡ take n text) × (rest ≡ drop (n + 1) text) × (n ≤ length line)
+-- the bytes that were taken are such
+abbrev pub Took : (List ℕ → Type 0) → Passage → Type 0
+Took are p = (bytes : List ℕ) × Consumes p.old p.new bytes × are bytes
 
--- where the bytes are known, they read as this value, with those left
-abbrev pub Read : {X : Type 0} → Reading X → Option (List ℕ) → Option (List ℕ) → X → Type 0
-Read reading None new x = ⊤
-Read reading (Some text) None x = ⊥
-Read reading (Some text) (Some rest) x = reading text ≡ Ok (x, rest)
+-- behind these bytes the reading takes one more, whichever comes: they have met no fault, and are
+-- not all
+abbrev pub Wants : {X : Type 0} → Reading X → List ℕ → Type 0
+Wants reading bytes =
+    (next : ℕ) (behind : List ℕ) → length (left (reading (bytes ++ next ∷ behind))) ≤ length behind
 
--- where the bytes are known, they read as this fault
-abbrev pub Faults : {X : Type 0} → Reading X → Option (List ℕ) → Fault → Type 0
-Faults reading None f = ⊤
-Faults reading (Some text) f = reading text ≡ Err f
-
--- why a call was refused: a read failed, which was counted; or memory was refused; or what was read has this fault; never a write
-abbrev pub Refused : {X : Type 0} → Reading X → Option (List ℕ) → ℕ → ℕ → Fault → Type 0
-Refused reading old failures after fault.Read = after ≡ one_more failures
-Refused reading old failures after fault.OutOfMemory = after ≡ failures
-Refused reading old failures after fault.Write = ⊥
-Refused reading old failures after f = (after ≡ failures) × Faults reading old f
+-- why a call was refused: a read failed, which was counted, where one more byte was to be read; or
+-- memory was refused, where it grows; or what was read has this fault; never a write
+abbrev pub Refused : {X : Type 0} → Reading X → (List ℕ → Type 0) → Passage → Fault → Type 0
+Refused reading grows p fault.Read = (p.after ≡ one_more p.before) × Took (Wants reading) p
+Refused reading grows p fault.OutOfMemory = (p.after ≡ p.before) × Took grows p
+Refused reading grows p fault.Write = ⊥
+Refused reading grows p f = (p.after ≡ p.before) × ReadsAs reading p.old p.new (Err f)
 
 -- the answer of a call
-abbrev pub Answers : {X Y : Type 0} → (Y → X) → Reading X → Option (List ℕ) → Option (List ℕ) → ℕ → ℕ → Result Y Fault → Type 0
-Answers view reading old new failures after (Ok y) = (after ≡ failures) × Read reading old new (view y)
-Answers view reading old new failures after (Err f) = Refused reading old failures after f
+abbrev pub Answers : {X Y : Type 0} → (Y → X) → Reading X → (List ℕ → Type 0) → Passage →
+    Result Y Fault → Type 0
+Answers view reading grows p (Ok y) =
+    (p.after ≡ p.before) × ReadsAs reading p.old p.new (Ok (view y))
+Answers view reading grows p (Err f) = Refused reading grows p f
+
+-- memory grows nowhere
+abbrev pub Nowhere : List ℕ → Type 0
+Nowhere bytes = ⊥
+
+-- memory grows before any byte
+abbrev pub IsNone : List ℕ → Type 0
+IsNone bytes = bytes ≡ []
+
+-- the bytes that were taken read so whatever stands behind them, or the input has ended there and
+-- they read so
+abbrev pub Decides : {X : Type 0} → Reading X → List ℕ → Option (List ℕ) → Result X Fault → Type 0
+Decides reading bytes new r =
+    ((behind : List ℕ) → reading (bytes ++ behind) ≡ judge r behind)
+    ⊎ (IsAtEnd new × (reading bytes ≡ judge r []))
+
+-- what the bytes that were taken say of the answer
+abbrev pub Says : {X : Type 0} → Reading X → (List ℕ → Type 0) → List ℕ → Passage → Result X Fault →
+    Type 0
+Says reading grows bytes p (Ok x) = (p.after ≡ p.before) × Decides reading bytes p.new (Ok x)
+Says reading grows bytes p (Err fault.Read) = (p.after ≡ one_more p.before) × Wants reading bytes
+Says reading grows bytes p (Err fault.OutOfMemory) = (p.after ≡ p.before) × grows bytes
+Says reading grows bytes p (Err fault.Write) = ⊥
+Says reading grows bytes p (Err f) = (p.after ≡ p.before) × Decides reading bytes p.new (Err f)
+
+-- the answer of a step, by the bytes that it took
+pub record Stands {X : Type 0} (reading : Reading X) (grows : List ℕ →
+    Type 0) (p : Passage) (r : Result X Fault) : Type 0 where
+  pub bytes : List ℕ
+  pub taken : Consumes p.old p.new bytes
+  pub said : Says reading grows bytes p r
+
+-- a value, seen so
+abbrev pub seen : {X Y : Type 0} → (Y → X) → Result Y Fault → Result X Fault
+seen view (Ok y) = Ok (view y)
+seen view (Err f) = Err f
+
+-- the input ended before so many bytes, or a read failed before
+abbrev pub Stops : ℕ → Passage → Fault → Type 0
+Stops size p fault.Read =
+    (p.after ≡ one_more p.before) × Took (λ bytes. suc (length bytes) ≤ size) p
+Stops size p fault.FrameTruncated =
+    (p.after ≡ p.before) × Took (λ bytes. suc (length bytes) ≤ size) p × IsAtEnd p.new
+Stops size p f = ⊥
+
+-- so many bytes in a row, which have this property; or fewer
+abbrev pub Gathers : {Y : Type 0} → ℕ → (Y → List ℕ → Type 0) → Passage → Result Y Fault → Type 0
+Gathers size are p (Ok y) =
+    (p.after ≡ p.before) × Took (λ bytes. (length bytes ≡ size) × are y bytes) p
+Gathers size are p (Err f) = Stops size p f

@@ -1,11 +1,23 @@
 -- Readings of a text, one behind the other.
 use Rattle.std.specs.Prelude.{ℕ, Bool, true, false, List, Option, Some, None, Result, Ok, Err}
-use Rattle.ffv1_y4m.specs.Header.{◌>>=◌}
 use Rattle.ffv1_y4m.specs.declared.fault.Fault.{Fault}
 
--- what a text reads as: a value and what is left, or a fault
+infixl 10 ◌>>=◌
+abbrev pub ◌>>=◌ : {X Y E : Type 0} → Result X E → (X → Result Y E) → Result Y E
+(Ok x) >>= next = next x
+(Err f) >>= next = Err f
+
+-- what a text reads as: a value, or the first fault from the left; and what is left of the text
+abbrev pub Outcome : Type 0 → Type 0
+Outcome X = Result (X × List ℕ) (Fault × List ℕ)
+
 abbrev pub Reading : Type 0 → Type 0
-Reading X = List ℕ → Result (X × List ℕ) Fault
+Reading X = List ℕ → Outcome X
+
+-- an answer that is given of no byte
+abbrev pub judge : {X : Type 0} → Result X Fault → Reading X
+judge (Ok x) text = Ok (x, text)
+judge (Err f) text = Err (f, text)
 
 -- a value that is read of no byte
 abbrev pub give : {X : Type 0} → X → Reading X
@@ -13,7 +25,12 @@ give x text = Ok (x, text)
 
 -- a fault of any text
 abbrev pub refuse : {X : Type 0} → Fault → Reading X
-refuse f text = Err f
+refuse f text = Err (f, text)
+
+-- what is left of the text, behind a value as behind a fault
+abbrev pub left : {X : Type 0} → Outcome X → List ℕ
+left (Ok p) = p.1
+left (Err f) = f.1
 
 -- one reading and then the next, which the first one's value names
 infixr 8 ◌then◌

@@ -22,4 +22,5 @@ pub record IsText (text : List ℕ) (h : VideoHead) (pictures : List (List (List
 -- reading picture after picture gives these and then the end
 abbrev pub ReadsAll : VideoHead → List ℕ → List (List (List ℕ)) → Type 0
 ReadsAll h text [] = picture_read h text ≡ Ok (None, [])
-ReadsAll h text (p ∷ ps) = (rest : List ℕ) × (picture_read h text ≡ Ok (Some p, rest)) × ReadsAll h rest ps
+ReadsAll h text (p ∷ ps) =
+    (rest : List ℕ) × (picture_read h text ≡ Ok (Some p, rest)) × ReadsAll h rest ps

@@ -13,13 +13,17 @@ pub record Y4mWriting : Type 0 where
   pub begun : Bool
   pub failed : Bool
 
--- all of the text is written; or a write failed, which was counted, and a beginning of the text is written and not all
-abbrev pub Writes : List ℕ → Option (List ℕ) → Option (List ℕ) → ℕ → ℕ → Result (Unit {0}) Fault → Type 0
+-- all of the text is written; or a write failed, which was counted, and a beginning of the text is
+-- written and not all
+abbrev pub Writes : List ℕ → Option (List ℕ) → Option (List ℕ) → ℕ → ℕ → Result (Unit {0}) Fault →
+    Type 0
 Writes text old new before after (Ok x) = Appends old new text × (after ≡ before)
-Writes text old new before after (Err f) = (f ≡ fault.Write) × AppendsBeginning old new text × (after ≡ one_more before)
+Writes text old new before after (Err f) =
+    (f ≡ fault.Write) × AppendsBeginning old new text × (after ≡ one_more before)
 
 -- a call on a writer of which a write may have failed: then it answers so again, and writes nothing
-abbrev pub NextWrites : Bool → List ℕ → Option (List ℕ) → Option (List ℕ) → ℕ → ℕ → Result (Unit {0}) Fault → Type 0
+abbrev pub NextWrites : Bool → List ℕ → Option (List ℕ) → Option (List ℕ) → ℕ → ℕ →
+    Result (Unit {0}) Fault → Type 0
 NextWrites true text old new before after r = (r ≡ Err fault.Write) × (new ≡ old) × (after ≡ before)
 NextWrites false text old new before after r = Writes text old new before after r
 

@@ -19,11 +19,12 @@ pub enum Fault {
     /// A write failed.
     #[error("57 Write")]
     Write,
-    /// The first line is no header of YUV4MPEG2: it begins otherwise, is longer than 1024 bytes, or has no end; or
-    /// the first lines are no header of PPM.
+    /// The first line is no header of YUV4MPEG2: it begins otherwise, is longer than 1024 bytes, or
+    /// has no end; or the first lines are no header of PPM.
     #[error("60 Header")]
     Header,
-    /// A tag of the header is empty, unknown, there for the second time or has no value of its kind, or a size is missing.
+    /// A tag of the header is empty, unknown, there for the second time or has no value of its
+    /// kind, or a size is missing.
     #[error("61 Tag")]
     Tag,
     /// A tag names a colour space or an interlacing that this codec leaves out.

@@ -1,6 +1,7 @@
 //! Laws of texts.
 
-ghost use Rattle.std.specs.Prelude.{◌≡◌, ℕ, ◌≤◌, ◌*◌, List, [], ◌∷◌, ◌++◌, length, flat_map, true, false, Ok};
+ghost use Rattle.std.specs.Prelude.{◌≡◌, ℕ, ◌≤◌, ◌*◌, List, [], ◌∷◌, ◌++◌, length, flat_map, true};
+ghost use Rattle.std.specs.Prelude.{false, Ok};
 ghost use Rattle.ffv1_y4m.specs.declared.head.VideoHead.{VideoHead};
 ghost use Rattle.ffv1_y4m.specs.Header.{head_of_line, header_of};
 ghost use Rattle.ffv1_y4m.specs.HeaderLine.{IsHeaderLine};
@@ -9,7 +10,8 @@ ghost use Rattle.ffv1_y4m.specs.Canonical.{canonical_text, next_text};
 ghost use Rattle.ffv1_y4m.specs.VideoHead.{Fits, IsHead, colour_head, plane_sizes};
 ghost use Rattle.ffv1_y4m.specs.State.{HasRoom, samples_of};
 ghost use Rattle.std.specs.declared.vec.Vec.{Vec};
-ghost use Rattle.ffv1_y4m.specs.Images.{AtImage, image_lines, image_text, IsImages, ReadsFrom, text_of_lines};
+ghost use Rattle.ffv1_y4m.specs.Images.{AtImage, image_lines, image_text, IsImages, ReadsFrom};
+ghost use Rattle.ffv1_y4m.specs.Images.{text_of_lines};
 ghost use Rattle.ffv1_y4m.specs.Sink.{PpmSink, Refuses, Takes, WritesPart};
 ghost use Rattle.ffv1_wire.specs.Runs.{Grows, Line, Refuses as RunRefuses};
 ghost use Rattle.std.specs.Io.KnownBytes.{Appends};
@@ -24,45 +26,63 @@ pub fn header_lines()
     ensures only { (line : List ℕ) (h : VideoHead) → head_of_line line ≡ Ok h → IsHeaderLine line h }
 {}
 
-/// A text is read as its head and its pictures, and what is read so is such a text;
-/// the canonical text of a head and of pictures that fit it is one, so it reads back as them, and it is what a writer writes
-/// of them, picture by picture.
+/// A text is read as its head and its pictures, and what is read so is such a text; the canonical
+/// text of a head and of pictures that fit it is one, so it reads back as them, and it is what a
+/// writer writes of them, picture by picture.
 pub fn texts()
-    ensures found { (text : List ℕ) (h : VideoHead) (pictures : List (List (List ℕ))) → IsText text h pictures →
+    ensures found { (text : List ℕ) (h : VideoHead) (pictures : List (List (List ℕ))) →
+        IsText text h pictures →
         (rest : List ℕ) × (header_of text ≡ Ok (h, rest)) × ReadsAll h rest pictures }
-    ensures only { (text : List ℕ) (h : VideoHead) (rest : List ℕ) (pictures : List (List (List ℕ))) → header_of text ≡ Ok (h, rest) →
+    ensures only { (text : List ℕ) (h : VideoHead) (rest : List ℕ)
+        (pictures : List (List (List ℕ))) → header_of text ≡ Ok (h, rest) →
         ReadsAll h rest pictures → IsText text h pictures }
-    ensures canonical { (h : VideoHead) (pictures : List (List (List ℕ))) → IsHead h → AllFit h pictures → IsText (canonical_text h pictures) h pictures }
+    ensures canonical { (h : VideoHead) (pictures : List (List (List ℕ))) → IsHead h →
+        AllFit h pictures → IsText (canonical_text h pictures) h pictures }
     ensures back { (h : VideoHead) (pictures : List (List (List ℕ))) → IsHead h → AllFit h pictures →
-        (rest : List ℕ) × (header_of (canonical_text h pictures) ≡ Ok (h, rest)) × ReadsAll h rest pictures }
-    ensures written { (h : VideoHead) (picture : List (List ℕ)) (pictures : List (List (List ℕ))) → next_text h false picture ++ flat_map (next_text h true) pictures ≡ canonical_text h (picture ∷ pictures) }
+        (rest : List ℕ) × (header_of (canonical_text h pictures) ≡ Ok (h, rest))
+        × ReadsAll h rest pictures }
+    ensures written { (h : VideoHead) (picture : List (List ℕ)) (pictures : List (List (List ℕ))) →
+        next_text h false picture ++ flat_map (next_text h true) pictures
+        ≡ canonical_text h (picture ∷ pictures) }
 {}
 
-/// A text of images is read as the head of its sizes and its images, and what is read so is such a text.
+/// A text of images is read as the head of its sizes and its images, and what is read so is such a
+/// text.
 pub fn images()
-    ensures found { (text : List ℕ) (width height : ℕ) (image : List (List ℕ)) (images : List (List (List ℕ))) → IsImages text width height (image ∷ images) →
-        (rest : List ℕ) × (image_header text ≡ Ok (colour_head width height, rest)) × ReadsFrom (colour_head width height) rest image images }
-    ensures only { (text : List ℕ) (head : VideoHead) (rest : List ℕ) (image : List (List ℕ)) (images : List (List (List ℕ))) → image_header text ≡ Ok (head, rest) →
+    ensures found { (text : List ℕ) (width height : ℕ) (image : List (List ℕ))
+        (images : List (List (List ℕ))) → IsImages text width height (image ∷ images) →
+        (rest : List ℕ) × (image_header text ≡ Ok (colour_head width height, rest))
+        × ReadsFrom (colour_head width height) rest image images }
+    ensures only { (text : List ℕ) (head : VideoHead) (rest : List ℕ) (image : List (List ℕ))
+        (images : List (List (List ℕ))) → image_header text ≡ Ok (head, rest) →
         ReadsFrom head rest image images → IsImages text head.width head.height (image ∷ images) }
 {}
 
-/// A sink that has taken whole images and takes the lines of one more has written its text behind the others, and
-/// again has taken whole images.
+/// A sink that has taken whole images and takes the lines of one more has written its text behind
+/// the others, and again has taken whole images.
 pub fn image_runs<W: ByteOut>()
-    ensures image { (red green blue : List ℕ) (s t : PpmSink W) → 1 ≤ s.height → AtImage s → length red ≡ s.height * s.width →
+    ensures image { (red green blue : List ℕ) (s t : PpmSink W) → 1 ≤ s.height → AtImage s →
+        length red ≡ s.height * s.width →
         Grows (Takes W.contents W.failures) s (image_lines s.width 0 s.height red green blue) t →
-        Appends (W.contents s.out) (W.contents t.out) (image_text s.width s.height (red ∷ green ∷ blue ∷ [])) × AtImage t × (t.failures ≡ s.failures) }
+        Appends (W.contents s.out) (W.contents t.out)
+        (image_text s.width s.height (red ∷ green ∷ blue ∷ [])) × AtImage t
+        × (t.failures ≡ s.failures) }
 {}
 
-/// A sink has written the text of the lines that it took, and before a refusal a beginning of the text of all.
+/// A sink has written the text of the lines that it took, and before a refusal a beginning of the
+/// text of all.
 pub fn line_runs<W: ByteOut>()
     ensures taken { (s t : PpmSink W) (lines : List Line) → Grows (Takes W.contents W.failures) s lines t →
-        Appends (W.contents s.out) (W.contents t.out) (text_of_lines s.width s.height s.kept s.row lines) }
-    ensures refused { (s t : PpmSink W) (lines : List Line) → RunRefuses (Takes W.contents W.failures) (Refuses W.contents W.failures) s lines t →
-        WritesPart (W.contents s.out) (W.contents t.out) (text_of_lines s.width s.height s.kept s.row lines) }
+        Appends (W.contents s.out) (W.contents t.out)
+        (text_of_lines s.width s.height s.kept s.row lines) }
+    ensures refused { (s t : PpmSink W) (lines : List Line) →
+        RunRefuses (Takes W.contents W.failures) (Refuses W.contents W.failures) s lines t →
+        WritesPart (W.contents s.out) (W.contents t.out)
+        (text_of_lines s.width s.height s.kept s.row lines) }
 {}
 
 /// Planes that were read have room for planes of the same sizes.
 pub fn rooms<A: Allocator>()
-    ensures left { (h : VideoHead) (planes : List (Vec ℕ A)) → Fits h (samples_of planes) → HasRoom (plane_sizes h) planes }
+    ensures left { (h : VideoHead) (planes : List (Vec ℕ A)) → Fits h (samples_of planes) →
+        HasRoom (plane_sizes h) planes }
 {}

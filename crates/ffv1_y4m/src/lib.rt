@@ -22,6 +22,5 @@ pub use head::VideoHead;
 pub use planes::{has_chroma_name, plane_count, plane_size};
 pub use ppm_reader::PpmReader;
 pub use ppm_writer::PpmWriter;
-pub use reading::{read_frame_line, read_header, read_plane};
 pub use y4m_reader::Y4mReader;
 pub use y4m_writer::Y4mWriter;

@@ -1,10 +1,14 @@
 //! The planes of a picture are read.
 
-ghost use Rattle.std.specs.Prelude.{◌≡◌, ◌<◌, ℕ, ◌≤◌, ◌^◌, ◌*◌, Bool, List, length, map, get_or, OnOk, IfOk, true, OnErr, take};
-ghost use Rattle.ffv1_y4m.specs.Pictures.{planes_read, picture_read};
-ghost use Rattle.ffv1_y4m.specs.Reads.{Answers};
-ghost use Rattle.ffv1_y4m.specs.State.{HasRoom, NoWant, samples_of, shown};
-ghost use Rattle.ffv1_y4m.specs.VideoHead.{Fits, is_chroma, IsSized, IsReduced, plane_sizes, reduced};
+ghost use Rattle.std.specs.Prelude.{◌≡◌, ◌<◌, ℕ, ◌≤◌, ◌^◌, ◌*◌, Bool, List, length, map, get_or};
+ghost use Rattle.std.specs.Prelude.{OnOk, IfOk, true, false, OnErr, take};
+ghost use Rattle.ffv1_y4m.specs.Passage.{passage};
+ghost use Rattle.ffv1_y4m.specs.Pictures.{GrowsBeforePlane, GrowsInPicture, planes_read};
+ghost use Rattle.ffv1_y4m.specs.Pictures.{picture_read};
+ghost use Rattle.ffv1_y4m.specs.Reads.{Stands, seen};
+ghost use Rattle.ffv1_y4m.specs.State.{HasRoom, IsPictureFault, NoWant, OnFault, samples_of, shown};
+ghost use Rattle.ffv1_y4m.specs.VideoHead.{Fits, is_chroma, IsSized, IsReduced, plane_sizes};
+ghost use Rattle.ffv1_y4m.specs.VideoHead.{reduced};
 
 use crate::fault::Fault;
 use crate::head::VideoHead;
@@ -54,9 +58,11 @@ pub fn plane_size(head: &VideoHead, plane: usize) -> usize
     }
 }
 
-/// Whether YUV4MPEG2 has a name for the chroma: 4:2:0, 4:2:2, 4:4:4 with transparency or without, 4:1:1, or none.
+/// Whether YUV4MPEG2 has a name for the chroma: 4:2:0, 4:2:2, 4:4:4 with transparency or without,
+/// 4:1:1, or none.
 pub fn has_chroma_name(head: &VideoHead) -> bool
-    ensures { result ≡ is_chroma head.now.chroma_planes head.now.log2_h head.now.log2_v head.now.extra_plane }
+    ensures { result
+        ≡ is_chroma head.now.chroma_planes head.now.log2_h head.now.log2_v head.now.extra_plane }
 {
     match (head.chroma_planes, head.extra_plane) {
         (true, true) => head.log2_h == 0 && head.log2_v == 0,
@@ -93,7 +99,11 @@ fn read_planes<R: ByteIn, A: Allocator>(
     requires many { length planes.old.items ≡ length (plane_sizes head.now) }
     requires sized { IsSized head.now }
     requires factors { IsReduced head.now }
-    ensures answer { Answers (λ (_ : Unit {0}). samples_of planes.new.items) (planes_read (plane_sizes head.now)) (R.remaining input.old) (R.remaining input.new) (R.failures input.old) (R.failures input.new) result }
+    ensures answer { Stands (planes_read (plane_sizes head.now))
+        (GrowsBeforePlane (plane_sizes head.now))
+        (passage R.remaining R.failures input.old input.new)
+        (seen (λ (_ : Unit {0}). samples_of planes.new.items) result) }
+    ensures own { OnFault IsPictureFault result }
     ensures fits { OnOk result (Fits head.now (samples_of planes.new.items)) }
     ensures room { HasRoom (plane_sizes head.now) planes.old.items → NoWant result }
 {
@@ -112,7 +122,11 @@ pub(crate) fn read_picture<R: ByteIn, A: Allocator + Copy>(
 ) -> Result<bool, Fault>
     requires sized { IsSized head.now }
     requires factors { IsReduced head.now }
-    ensures answer { Answers (shown planes.new.items) (picture_read head.now) (R.remaining input.old) (R.remaining input.new) (R.failures input.old) (R.failures input.new) result }
+    ensures answer { Stands (picture_read head.now) (GrowsInPicture head.now)
+        (passage R.remaining R.failures input.old input.new)
+        (seen (shown planes.new.items) result) }
+    ensures own { OnFault IsPictureFault result }
+    ensures lent { IfOk result (λ more. more ≡ false → planes.new ≡ planes.old) }
     ensures fits { IfOk result (λ more. more ≡ true → Fits head.now (samples_of planes.new.items)) }
     ensures room { HasRoom (plane_sizes head.now) planes.old.items → NoWant result }
 {

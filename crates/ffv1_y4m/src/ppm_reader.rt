@@ -1,9 +1,11 @@
 //! The reader of PPM.
 
 ghost use Rattle.std.specs.Prelude.{◌≡◌, ℕ, Bool, IfOk, true, false, None};
-ghost use Rattle.ffv1_y4m.specs.Ppm.{image_header, image_read};
-ghost use Rattle.ffv1_y4m.specs.Reads.{Answers, known_text};
-ghost use Rattle.ffv1_y4m.specs.State.{HasRoom, NoWant, PpmReading, samples_of, shown, NextAnswers, failing};
+ghost use Rattle.ffv1_y4m.specs.Passage.{passage, passage_from};
+ghost use Rattle.ffv1_y4m.specs.Ppm.{GrowsInImage, image_header, image_read};
+ghost use Rattle.ffv1_y4m.specs.Reads.{Answers, Nowhere};
+ghost use Rattle.ffv1_y4m.specs.State.{HasRoom, IsImageFault, IsLineFault, Lent, NextAnswers};
+ghost use Rattle.ffv1_y4m.specs.State.{NoWant, OnFault, PpmReading, failing, samples_of, shown};
 ghost use Rattle.ffv1_y4m.specs.VideoHead.{Fits, IsSized, colour_head, plane_sizes};
 
 use crate::fault::Fault;
@@ -13,8 +15,8 @@ use ffv1_wire::ByteIn;
 use std::alloc::{Allocator, Global};
 use std::marker::Model;
 
-/// A reader of binary PPM, one image after the other. It is seen as the head that it read, whether the samples of
-/// the first image come next, and the fault that it met, if it met one.
+/// A reader of binary PPM, one image after the other. It is seen as the head that it read, whether
+/// the samples of the first image come next, and the fault that it met, if it met one.
 ///
 /// It holds no input, and is handed the same one each time.
 #[derive(Drop)]
@@ -36,8 +38,9 @@ impl<A: Allocator> Model for PpmReader<A> {
 }
 
 impl<A: Allocator + Copy> PpmReader<A> {
-    /// Reads the header of the first image from an input of which the caller has read the first byte, if it has one:
-    /// the lines `P6`, `{width} {height}` and `255`, sizes of 1 to 8192 without leading zeros.
+    /// Reads the header of the first image from an input of which the caller has read the first
+    /// byte, if it has one: the lines `P6`, `{width} {height}` and `255`, sizes of 1 to 8192
+    /// without leading zeros.
     ///
     /// `Header` where the text begins otherwise or ends inside, `Read` where a read failed.
     pub fn open<R: ByteIn>(
@@ -45,9 +48,10 @@ impl<A: Allocator + Copy> PpmReader<A> {
         first: Option<u8>,
         input: &mut R,
     ) -> Result<PpmReader<A>, Fault>
-        ensures answer { Answers (λ (r : PpmReading). r.head) image_header (known_text first (R.remaining input.old)) (R.remaining input.new) (R.failures input.old) (R.failures input.new) result }
+        ensures answer { Answers (λ (r : PpmReading). r.head) image_header Nowhere
+            (passage_from first R.remaining R.failures input.old input.new) result }
         ensures fresh { IfOk result (λ r. (r.begun ≡ true) × (r.failed ≡ None)) }
-        ensures memory { NoWant result }
+        ensures own { OnFault IsLineFault result }
         ensures head { IfOk result (λ r. IsSized r.head × (r.head ≡ colour_head r.head.width r.head.height)) }
     {
         let head = read_image_header(first, input)?;
@@ -59,7 +63,8 @@ impl<A: Allocator + Copy> PpmReader<A> {
         })
     }
 
-    /// The sizes, and that there are three planes of that size; rate, structure and aspect are unknown.
+    /// The sizes, and that there are three planes of that size; rate, structure and aspect are
+    /// unknown.
     pub fn head(&self) -> &VideoHead
         ensures value { result.now ≡ self.now.head }
         ensures head { IsSized result.now × (result.now ≡ colour_head result.now.width result.now.height) }
@@ -67,22 +72,31 @@ impl<A: Allocator + Copy> PpmReader<A> {
         &self.head
     }
 
-    /// Reads the next image in place of what the planes were: red, green, blue, each row by row. False where the input
-    /// has ended. After a fault or false nothing is said of the planes.
+    /// Reads the next image in place of what the planes were: red, green, blue, each row by row.
+    /// False where the input has ended: the planes are then as they were. After a fault nothing is
+    /// said of them, unless it came before.
     ///
-    /// Memory is taken only where a vector has room for fewer samples. The first fault is answered: of a later image
-    /// `Header`, then `FormatChanged` where its sizes are not the first one's; then `FrameTruncated` where the input ends inside
-    /// samples; `Read` where a read failed; `OutOfMemory`. After a fault each call answers that fault again and reads
-    /// nothing.
+    /// Memory is taken only where a vector has room for fewer samples. The first fault is answered:
+    /// of a later image `Header`, then `FormatChanged` where its sizes are not the first one's;
+    /// then `FrameTruncated` where the input ends inside samples; `Read` where a read failed;
+    /// `OutOfMemory`. After a fault each call answers that fault again and reads nothing.
     pub fn next<R: ByteIn>(
         &mut self,
         input: &mut R,
         planes: &mut Vec<Vec<u8, A>, A>,
     ) -> Result<bool, Fault>
-        ensures answer { NextAnswers self.old.failed (shown planes.new.items) (image_read self.old.head self.old.begun) (R.remaining input.old) (R.remaining input.new) (R.failures input.old) (R.failures input.new) result }
+        ensures answer { NextAnswers self.old.failed (shown planes.new.items)
+            (image_read self.old.head self.old.begun) (GrowsInImage self.old.head self.old.begun)
+            (passage R.remaining R.failures input.old input.new) result }
+        ensures own { self.old.failed ≡ None → OnFault IsImageFault result }
+        ensures lent { Lent self.old.failed planes.old planes.new result }
         ensures fits { IfOk result (λ more. more ≡ true → Fits self.old.head (samples_of planes.new.items)) }
-        ensures room { self.old.failed ≡ None → HasRoom (plane_sizes self.old.head) planes.old.items → NoWant result }
-        ensures after { self.new ≡ record self.old { begun = false; failed = failing self.old.failed result } }
+        ensures room { self.old.failed ≡ None →
+            HasRoom (plane_sizes self.old.head) planes.old.items → NoWant result }
+        ensures after { self.new ≡ record self.old {
+          begun = false;
+          failed = failing self.old.failed result;
+        } }
     {
         let begun = self.begun;
         self.begun = false;

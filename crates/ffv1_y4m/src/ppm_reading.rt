@@ -1,10 +1,13 @@
 //! Headers and samples of PPM are read.
 
-ghost use Rattle.std.specs.Prelude.{◌≡◌, ℕ, ◌*◌, ◌≤◌, Bool, List, [], ◌∷◌, true, length, map, take, IfOk, OnOk, IfSome};
-ghost use Rattle.ffv1_y4m.specs.Ppm.{colours_read, each_third, image_begun, image_head, image_header, image_read, line_read, parted, sizes_of};
-ghost use Rattle.ffv1_y4m.specs.declared.head.VideoHead.{VideoHead};
-ghost use Rattle.ffv1_y4m.specs.Reads.{Answers, known_text};
-ghost use Rattle.ffv1_y4m.specs.State.{HasRoom, NoWant, samples_of, shown};
+ghost use Rattle.std.specs.Prelude.{◌≡◌, ◌==◌, ◌&&◌, ℕ, ◌*◌, ◌≤◌, Bool, List, [], ◌∷◌, true, false};
+ghost use Rattle.std.specs.Prelude.{length, map, IfOk, OnOk};
+ghost use Rattle.ffv1_y4m.specs.Passage.{passage, passage_from};
+ghost use Rattle.ffv1_y4m.specs.Ppm.{GrowsInImage, colours_read, each_third, image_begun};
+ghost use Rattle.ffv1_y4m.specs.Ppm.{image_head, image_header, image_read, parted, sizes_of};
+ghost use Rattle.ffv1_y4m.specs.Reads.{Gathers, IsNone, Nowhere, Stands, seen};
+ghost use Rattle.ffv1_y4m.specs.State.{HasRoom, IsImageFault, IsLineFault, NoWant, OnFault};
+ghost use Rattle.ffv1_y4m.specs.State.{samples_of, shown};
 ghost use Rattle.std.specs.Vec.{vec_capacity};
 ghost use Rattle.ffv1_y4m.specs.VideoHead.{colour_head, IsSized};
 
@@ -16,18 +19,6 @@ use crate::values::{is_text, size, split_once};
 use ffv1_wire::{ByteIn, read_byte, read_full};
 use std::alloc::Allocator;
 use std::mem::replace;
-
-/// A line of a header, without its line feed, into the front of `line`, and how long it is.
-fn header_line<R: ByteIn>(first: Option<u8>, input: &mut R, line: &mut [u8]) -> Result<usize, Fault>
-    ensures answer { Answers (λ (end : ℕ). take end line.new) (line_read (length line.new)) (known_text first (R.remaining input.old)) (R.remaining input.new) (R.failures input.old) (R.failures input.new) result }
-    ensures memory { NoWant result }
-    ensures within { IfOk result (λ end. end ≤ length line.new) }
-{
-    match read_line(first, input, line)? {
-        Some(end) => Ok(end),
-        None => Err(Fault::Header),
-    }
-}
 
 /// Two sizes with a space between them.
 fn sizes(line: &[u8]) -> Option<(u32, u32)>
@@ -76,32 +67,43 @@ pub(crate) fn read_image_header<R: ByteIn>(
     first: Option<u8>,
     input: &mut R,
 ) -> Result<VideoHead, Fault>
-    ensures answer { Answers (λ (h : VideoHead). h) image_header (known_text first (R.remaining input.old)) (R.remaining input.new) (R.failures input.old) (R.failures input.new) result }
-    ensures memory { NoWant result }
+    ensures answer { Stands image_header Nowhere
+        (passage_from first R.remaining R.failures input.old input.new) result }
+    ensures own { OnFault IsLineFault result }
     ensures head { IfOk result (λ h. IsSized h × (h ≡ colour_head h.width h.height)) }
 {
     let mut magic = [0u8; 3];
     let mut sizes = [0u8; 10];
     let mut most = [0u8; 4];
-    let magic_end = header_line(first, input, &mut magic)?;
-    let sizes_end = header_line(None, input, &mut sizes)?;
-    let most_end = header_line(None, input, &mut most)?;
+    let magic_end = read_line(first, input, &mut magic)?;
+    let sizes_end = read_line(None, input, &mut sizes)?;
+    let most_end = read_line(None, input, &mut most)?;
     match image_head(&magic[..magic_end], &sizes[..sizes_end], &most[..most_end]) {
         Some(head) => Ok(head),
         None => Err(Fault::Header),
     }
 }
 
-/// Reads the header of a later image: true, the input then standing behind it; or false where the input has ended.
+/// Whether two images have the same sizes.
+fn same_sizes(head: &VideoHead, next: &VideoHead) -> bool
+    ensures { result ≡ (head.now.width == next.now.width && head.now.height == next.now.height) }
+{
+    head.width == next.width && head.height == next.height
+}
+
+/// Reads the header of a later image: true, the input then standing behind it; or false where the
+/// input has ended.
 fn read_later_header<R: ByteIn>(head: &VideoHead, input: &mut R) -> Result<bool, Fault>
+    ensures answer { Stands (image_begun head.now) Nowhere
+        (passage R.remaining R.failures input.old input.new) result }
+    ensures own { OnFault IsImageFault result }
     ensures memory { NoWant result }
-    ensures answer { Answers (λ (b : Bool). b) (image_begun head.now) (R.remaining input.old) (R.remaining input.new) (R.failures input.old) (R.failures input.new) result }
 {
     let Some(byte) = read_byte(input)? else {
         return Ok(false);
     };
     let next = read_image_header(Some(byte), input)?;
-    if head.width != next.width || head.height != next.height {
+    if !same_sizes(head, &next) {
         return Err(Fault::FormatChanged);
     }
     Ok(true)
@@ -131,8 +133,9 @@ fn read_block<R: ByteIn>(
     requires block { length red.old ≤ 1024 }
     requires green { length green.old ≡ length red.old }
     requires blue { length blue.old ≡ length red.old }
-    ensures memory { NoWant result }
-    ensures answer { Answers (λ (_ : Unit {0}). red.new ∷ green.new ∷ blue.new ∷ []) (colours_read (length red.old)) (R.remaining input.old) (R.remaining input.new) (R.failures input.old) (R.failures input.new) result }
+    ensures answer { Gathers (3 * length red.old)
+        (λ _ bytes. red.new ∷ green.new ∷ blue.new ∷ [] ≡ parted bytes)
+        (passage R.remaining R.failures input.old input.new) result }
 {
     let mut room = [0u8; 3 * BLOCK];
     let size = 3 * red.len();
@@ -156,8 +159,9 @@ fn read_colours<R: ByteIn>(
 ) -> Result<(), Fault>
     requires green { length green.old ≡ length red.old }
     requires blue { length blue.old ≡ length red.old }
-    ensures memory { NoWant result }
-    ensures answer { Answers (λ (_ : Unit {0}). red.new ∷ green.new ∷ blue.new ∷ []) (colours_read (length red.old)) (R.remaining input.old) (R.remaining input.new) (R.failures input.old) (R.failures input.new) result }
+    ensures answer { Gathers (3 * length red.old)
+        (λ _ bytes. red.new ∷ green.new ∷ blue.new ∷ [] ≡ parted bytes)
+        (passage R.remaining R.failures input.old input.new) result }
 {
     let mut done = 0;
     while done < red.len() {
@@ -181,9 +185,14 @@ fn read_into<R: ByteIn, A: Allocator>(
     blue: &mut Vec<u8, A>,
     size: usize,
 ) -> Result<(), Fault>
-    ensures answer { Answers (λ (_ : Unit {0}). red.new.items ∷ green.new.items ∷ blue.new.items ∷ []) (colours_read size) (R.remaining input.old) (R.remaining input.new) (R.failures input.old) (R.failures input.new) result }
-    ensures room { size ≤ vec_capacity red.old → size ≤ vec_capacity green.old → size ≤ vec_capacity blue.old → NoWant result }
-    ensures long { OnOk result ((length red.new.items ≡ size) × (length green.new.items ≡ size) × (length blue.new.items ≡ size)) }
+    ensures answer { Stands (colours_read size) IsNone
+        (passage R.remaining R.failures input.old input.new)
+        (seen (λ (_ : Unit {0}). red.new.items ∷ green.new.items ∷ blue.new.items ∷ []) result) }
+    ensures own { OnFault IsImageFault result }
+    ensures room { size ≤ vec_capacity red.old → size ≤ vec_capacity green.old →
+        size ≤ vec_capacity blue.old → NoWant result }
+    ensures long { OnOk result ((length red.new.items ≡ size) × (length green.new.items ≡ size)
+        × (length blue.new.items ≡ size)) }
 {
     red.resize(size, 0)?;
     green.resize(size, 0)?;
@@ -205,9 +214,13 @@ fn read_colour_planes<R: ByteIn, A: Allocator + Copy>(
     size: usize,
 ) -> Result<(), Fault>
     requires { length planes.old.items ≡ 3 }
-    ensures answer { Answers (λ (_ : Unit {0}). samples_of planes.new.items) (colours_read size) (R.remaining input.old) (R.remaining input.new) (R.failures input.old) (R.failures input.new) result }
+    ensures answer { Stands (colours_read size) IsNone
+        (passage R.remaining R.failures input.old input.new)
+        (seen (λ (_ : Unit {0}). samples_of planes.new.items) result) }
+    ensures own { OnFault IsImageFault result }
     ensures room { HasRoom (size ∷ size ∷ size ∷ []) planes.old.items → NoWant result }
-    ensures long { OnOk result (map (λ plane. length plane) (samples_of planes.new.items) ≡ size ∷ size ∷ size ∷ []) }
+    ensures long { OnOk result
+        (map (λ plane. length plane) (samples_of planes.new.items) ≡ size ∷ size ∷ size ∷ []) }
 {
     let mut red = replace(&mut planes[0], Vec::new(alloc));
     let mut green = replace(&mut planes[1], Vec::new(alloc));
@@ -219,8 +232,38 @@ fn read_colour_planes<R: ByteIn, A: Allocator + Copy>(
     answer
 }
 
-/// Reads the next image, of which the header may have been read before, in place of what the planes were; false where
-/// the input has ended.
+/// Reads the planes of an image of this head, in place of what the vectors had.
+fn read_image_planes<R: ByteIn, A: Allocator + Copy>(
+    alloc: A,
+    head: &VideoHead,
+    input: &mut R,
+    planes: &mut Vec<Vec<u8, A>, A>,
+) -> Result<(), Fault>
+    requires { IsSized head.now }
+    ensures answer { Stands (colours_read (head.now.width * head.now.height)) IsNone
+        (passage R.remaining R.failures input.old input.new)
+        (seen (λ (_ : Unit {0}). samples_of planes.new.items) result) }
+    ensures own { OnFault IsImageFault result }
+    ensures room { HasRoom
+        (head.now.width * head.now.height ∷ head.now.width * head.now.height ∷ head.now.width *
+        head.now.height ∷ []) planes.old.items → NoWant result }
+    ensures long { OnOk result
+        (map (λ plane. length plane) (samples_of planes.new.items)
+        ≡ head.now.width * head.now.height ∷ head.now.width * head.now.height ∷ head.now.width *
+        head.now.height ∷ []) }
+{
+    lend_planes(alloc, planes, 3)?;
+    read_colour_planes(
+        alloc,
+        input,
+        planes,
+        head.width as usize * head.height as usize,
+    )?;
+    Ok(())
+}
+
+/// Reads the next image, of which the header may have been read before, in place of what the planes
+/// were; false where the input has ended.
 pub(crate) fn read_image<R: ByteIn, A: Allocator + Copy>(
     alloc: A,
     head: &VideoHead,
@@ -229,19 +272,26 @@ pub(crate) fn read_image<R: ByteIn, A: Allocator + Copy>(
     planes: &mut Vec<Vec<u8, A>, A>,
 ) -> Result<bool, Fault>
     requires { IsSized head.now }
-    ensures answer { Answers (shown planes.new.items) (image_read head.now begun) (R.remaining input.old) (R.remaining input.new) (R.failures input.old) (R.failures input.new) result }
-    ensures room { HasRoom (head.now.width * head.now.height ∷ head.now.width * head.now.height ∷ head.now.width * head.now.height ∷ []) planes.old.items → NoWant result }
-    ensures long { IfOk result (λ more. more ≡ true → map (λ plane. length plane) (samples_of planes.new.items) ≡ head.now.width * head.now.height ∷ head.now.width * head.now.height ∷ head.now.width * head.now.height ∷ []) }
+    ensures answer { Stands (image_read head.now begun) (GrowsInImage head.now begun)
+        (passage R.remaining R.failures input.old input.new)
+        (seen (shown planes.new.items) result) }
+    ensures own { OnFault IsImageFault result }
+    ensures lent { IfOk result (λ more. more ≡ false → planes.new ≡ planes.old) }
+    ensures room { HasRoom
+        (head.now.width * head.now.height ∷ head.now.width * head.now.height ∷ head.now.width *
+        head.now.height ∷ []) planes.old.items → NoWant result }
+    ensures long { IfOk result (λ more. more ≡ true →
+        map (λ plane. length plane) (samples_of planes.new.items)
+        ≡ head.now.width * head.now.height ∷ head.now.width * head.now.height ∷ head.now.width *
+        head.now.height ∷ []) }
 {
-    if !begun && !read_later_header(head, input)? {
+    if begun {
+        read_image_planes(alloc, head, input, planes)?;
+        return Ok(true);
+    }
+    if !read_later_header(head, input)? {
         return Ok(false);
     }
-    lend_planes(alloc, planes, 3)?;
-    read_colour_planes(
-        alloc,
-        input,
-        planes,
-        head.width as usize * head.height as usize,
-    )?;
+    read_image_planes(alloc, head, input, planes)?;
     Ok(true)
 }

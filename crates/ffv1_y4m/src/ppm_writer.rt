@@ -1,6 +1,7 @@
 //! The writer of PPM, as a sink of lines.
 
-ghost use Rattle.std.specs.Prelude.{◌≡◌, ℕ, ◌*◌, ◌≤◌, ◌==◌, ◌++◌, if◌then◌else◌, IfOk, IfErr, List, [], length, false};
+ghost use Rattle.std.specs.Prelude.{◌≡◌, ℕ, ◌*◌, ◌≤◌, ◌==◌, ◌++◌, if◌then◌else◌, IfOk, IfErr, List};
+ghost use Rattle.std.specs.Prelude.{[], length, false};
 ghost use Rattle.ffv1_y4m.specs.declared.fault.Fault.TheVariants as fault;
 ghost use Rattle.ffv1_y4m.specs.Ppm.{image_header_text, interleaved};
 ghost use Rattle.ffv1_y4m.specs.Sink.{PpmSink, Takes, Refuses, row_text};
@@ -14,8 +15,9 @@ use std::marker::Model;
 
 /// A sink of lines that writes them as binary PPM, one image behind the other. It owns its writer.
 ///
-/// Lines come as red, green, blue of each row, the rows from the top. The lines of red and green are kept until the
-/// row's blue one comes, which writes the row, and before the first row of an image its header.
+/// Lines come as red, green, blue of each row, the rows from the top. The lines of red and green
+/// are kept until the row's blue one comes, which writes the row, and before the first row of an
+/// image its header.
 #[derive(Drop)]
 pub struct PpmWriter<W, A: Allocator = Global> {
     out: W,
@@ -36,9 +38,19 @@ impl<W, A: Allocator> Model for PpmWriter<W, A> {
 
     ghost Value = { PpmSink W };
 
-    ghost view = { λ s. record { out = s.out; width = s.width; height = s.last + 1; kept = kept_of s.plane s.red.items s.green.items; row = s.row; failed = s.failed; failures = s.failures } };
+    ghost view = { λ s. record {
+      out = s.out;
+      width = s.width;
+      height = s.last + 1;
+      kept = kept_of s.plane s.red.items s.green.items;
+      row = s.row;
+      failed = s.failed;
+      failures =
+          s.failures;
+    } };
 
-    ghost invariant = { λ s. (s.plane ≤ 2) × (s.row ≤ s.last) × (length s.red.items ≡ s.width) × (length s.green.items ≡ s.width) × (length s.text.items ≡ 3 * s.width) };
+    ghost invariant = { λ s. (s.plane ≤ 2) × (s.row ≤ s.last) × (length s.red.items ≡ s.width)
+        × (length s.green.items ≡ s.width) × (length s.text.items ≡ 3 * s.width) };
 }
 
 /// Red, green and blue of each place, one after the other.
@@ -63,7 +75,8 @@ fn write_row<W: ByteOut>(
     row: u16,
     text: &[u8],
 ) -> Result<(), Fault>
-    ensures { Writes ((if row == 0 then image_header_text width height else []) ++ text.now) (W.contents out.old) (W.contents out.new) (W.failures out.old) (W.failures out.new) result }
+    ensures { Writes ((if row == 0 then image_header_text width height else []) ++ text.now)
+        (W.contents out.old) (W.contents out.new) (W.failures out.old) (W.failures out.new) result }
 {
     if row == 0 {
         write_image_header(out, width, height)?;
@@ -75,14 +88,23 @@ fn write_row<W: ByteOut>(
 }
 
 impl<W: ByteOut, A: Allocator + Copy> PpmWriter<W, A> {
-    /// A sink of images of these sizes, of which no line has come yet. It takes its memory here: two lines, and the
-    /// text of a row. `OutOfMemory` hands the writer back as it came.
+    /// A sink of images of these sizes, of which no line has come yet. It takes its memory here:
+    /// two lines, and the text of a row. `OutOfMemory` hands the writer back as it came.
     pub fn sized(alloc: A, out: W, width: u32, height: u32) -> Result<PpmWriter<W, A>, (W, Fault)>
         requires some_wide { 1 ≤ width }
         requires wide { width ≤ 8192 }
         requires some_high { 1 ≤ height }
         requires high { height ≤ 8192 }
-        ensures ok { IfOk result (λ s. s ≡ record { out = out; width = width; height = height; kept = []; row = 0; failed = false; failures = 0 }) }
+        ensures ok { IfOk result
+            (λ s. s ≡ record {
+              out = out;
+              width = width;
+              height = height;
+              kept = [];
+              row = 0;
+              failed = false;
+              failures = 0;
+            }) }
         ensures err { IfErr result (λ e. (e.0 ≡ out) × (e.1 ≡ fault.OutOfMemory)) }
     {
         let Ok((red, green, text)) = lines(alloc, width as usize) else {
@@ -123,7 +145,8 @@ fn lines<A: Allocator + Copy>(
     width: usize,
 ) -> Result<(Vec<u8, A>, Vec<u8, A>, Vec<u8, A>), AllocError>
     requires { width ≤ 8192 }
-    ensures { IfOk result (λ l. (length l.0.items ≡ width) × (length l.1.items ≡ width) × (length l.2.items ≡ 3 * width)) }
+    ensures { IfOk result (λ l. (length l.0.items ≡ width) × (length l.1.items ≡ width)
+        × (length l.2.items ≡ 3 * width)) }
 {
     let red = vec![in alloc; 0; width]?;
     let green = vec![in alloc; 0; width]?;
@@ -138,9 +161,9 @@ impl<W: ByteOut, A: Allocator> LineSink for PpmWriter<W, A> {
 
     ghost failures = { λ s. s.failures };
 
-    /// Takes the line that comes next; a blue one writes its row. Any other line, and one of another length, is refused and
-    /// changes nothing but the count. A line whose write fails is refused, a beginning of its row written; behind it each
-    /// line is refused. It takes no memory.
+    /// Takes the line that comes next; a blue one writes its row. Any other line, and one of
+    /// another length, is refused and changes nothing but the count. A line whose write fails is
+    /// refused, a beginning of its row written; behind it each line is refused. It takes no memory.
     fn line(&mut self, plane: u8, y: u16, samples: &[u8]) -> Result<(), SinkFault> {
         if self.failed
             || plane != self.plane

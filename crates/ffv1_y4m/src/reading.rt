@@ -1,16 +1,18 @@
 //! Headers and pictures are read.
 
-ghost use Rattle.std.specs.Prelude.{◌≡◌, ◌+◌, ◌++◌, ℕ, Bool, List, ◌∷◌, [], Option, take, drop, length, IfOk, OnOk, OnErr, option_to_list, MatchOption, None, Some, ◌≤◌};
-ghost use Rattle.std.specs.Io.KnownBytes.{Keeps, Consumes, IsAtEnd, prepend_known};
+ghost use Rattle.std.specs.Prelude.{◌≡◌, ◌≤◌, ℕ, Bool, List, Option, length, take, IfOk, OnOk};
+ghost use Rattle.std.specs.Prelude.{OnErr, None};
+ghost use Rattle.std.specs.Io.KnownBytes.{Keeps};
 ghost use Rattle.ffv1_wire.specs.Failures.{Counted};
 ghost use Rattle.ffv1_wire.specs.Reads.{GivesByte};
-ghost use Rattle.ffv1_y4m.specs.Header.{head_of_line, header_of};
+ghost use Rattle.ffv1_y4m.specs.Header.{head_of_line, header_of, line_read};
 ghost use Rattle.ffv1_y4m.specs.declared.head.VideoHead.{VideoHead};
-ghost use Rattle.ffv1_y4m.specs.State.{NoWant};
+ghost use Rattle.ffv1_y4m.specs.State.{IsHeaderFault, IsLineFault, IsPictureFault, NoWant, OnFault};
 ghost use Rattle.std.specs.Vec.{vec_capacity};
-ghost use Rattle.ffv1_y4m.specs.VideoHead.{IsHead, IsSized};
+ghost use Rattle.ffv1_y4m.specs.VideoHead.{IsHead};
+ghost use Rattle.ffv1_y4m.specs.Passage.{known_text, passage, passage_from};
 ghost use Rattle.ffv1_y4m.specs.Pictures.{frame_begun, plane_read};
-ghost use Rattle.ffv1_y4m.specs.Reads.{Answers, known_text, ReadsLine};
+ghost use Rattle.ffv1_y4m.specs.Reads.{IsNone, Nowhere, Stands, seen};
 
 use crate::fault::Fault;
 use crate::head::VideoHead;
@@ -40,7 +42,10 @@ fn head_of_line(line: &[u8]) -> Result<VideoHead, Fault>
 
 /// The byte that was read before, or else the next one.
 fn next_byte<R: ByteIn>(first: &mut Option<u8>, input: &mut R) -> Result<Option<u8>, Failed>
-    ensures ok { IfOk result (λ b. GivesByte (known_text first.old (R.remaining input.old)) (R.remaining input.new) b) }
+    ensures ok { IfOk result
+        (λ b. GivesByte (known_text first.old (R.remaining input.old)) (R.remaining input.new) b) }
+    ensures err { OnErr result (Keeps (known_text first.old (R.remaining input.old))
+        (R.remaining input.new)) }
     ensures taken { first.new ≡ None }
     ensures counted { Counted (R.failures input.old) (R.failures input.new) result }
 {
@@ -50,85 +55,84 @@ fn next_byte<R: ByteIn>(first: &mut Option<u8>, input: &mut R) -> Result<Option<
     read_byte(input)
 }
 
-/// A line, without its line feed, into the front of `line`, and how long it is; or None where no line feed is among
-/// as many bytes as `line` has room for.
+/// Reads a line, without its line feed, into the front of `line`, and answers how long it is.
+/// `Header` where no line feed is among as many bytes as `line` has room for; behind these nothing
+/// is read.
 pub(crate) fn read_line<R: ByteIn>(
     first: Option<u8>,
     input: &mut R,
     line: &mut [u8],
-) -> Result<Option<usize>, Failed>
-    ensures ok { IfOk result (λ end. ReadsLine (length line.new) (known_text first (R.remaining input.old)) (R.remaining input.new) line.new end) }
-    ensures counted { Counted (R.failures input.old) (R.failures input.new) result }
+) -> Result<usize, Fault>
+    requires { 1 ≤ length line.old }
+    ensures answer { Stands (line_read (length line.new)) Nowhere
+        (passage_from first R.remaining R.failures input.old input.new)
+        (seen (λ end. take end line.new) result) }
+    ensures within { IfOk result (λ end. end ≤ length line.new) }
+    ensures own { OnFault IsLineFault result }
 {
     let mut first = first;
     for len in 0..line.len() {
         match next_byte(&mut first, input)? {
-            Some(b'\n') => return Ok(Some(len)),
+            Some(b'\n') => return Ok(len),
             Some(byte) => line[len] = byte,
-            None => return Ok(None),
+            None => return Err(Fault::Header),
         }
     }
-    Ok(None)
+    Err(Fault::Header)
 }
 
-/// Reads the header of YUV4MPEG2 from an input of which the caller has read the first byte, if it has one.
-///
-/// The input then stands behind the header's line feed. Each fault is the first one from the left: `Header` where
-/// the first line does not begin with `YUV4MPEG2` and a space or the line feed, is longer than 1024 bytes or has no
-/// line feed; `Tag` where a tag is empty, has an unknown letter, is there for the second time (but for X) or has no value of
-/// its kind, or W or H is missing; `Unsupported` where C names no chroma that is read here, or I is mixed; `Read`
-/// where a read failed.
-pub fn read_header<R: ByteIn>(first: Option<u8>, input: &mut R) -> Result<VideoHead, Fault>
-    ensures answer { Answers (λ (h : VideoHead). h) header_of (known_text first (R.remaining input.old)) (R.remaining input.new) (R.failures input.old) (R.failures input.new) result }
-    ensures sized { IfOk result (λ h. IsSized h) }
+/// Reads the header of YUV4MPEG2 from an input of which the caller has read the first byte, if it
+/// has one.
+pub(crate) fn read_header<R: ByteIn>(first: Option<u8>, input: &mut R) -> Result<VideoHead, Fault>
+    ensures answer { Stands header_of Nowhere
+        (passage_from first R.remaining R.failures input.old input.new) result }
     ensures head { IfOk result (λ h. IsHead h) }
-    ensures memory { NoWant result }
+    ensures own { OnFault IsHeaderFault result }
 {
     let mut line = [0u8; LINE];
-    match read_line(first, input, &mut line)? {
-        Some(end) => head_of_line(&line[..end]),
-        None => Err(Fault::Header),
-    }
+    let end = read_line(first, input, &mut line)?;
+    head_of_line(&line[..end])
 }
 
 /// The line that begins a picture.
 const FRAME: [u8; 6] = *b"FRAME\n";
 
-/// Reads the line that begins a picture: true, the input then standing behind it; or false where the input has ended.
+/// Reads the line that begins a picture: true, the input then standing behind it; or false where
+/// the input has ended.
 ///
-/// `FrameLine` where a byte differs from the line `FRAME` and its line feed, `FrameTruncated` where the input ends
-/// inside it, `Read` where a read failed.
-pub fn read_frame_line<R: ByteIn>(input: &mut R) -> Result<bool, Fault>
-    ensures memory { NoWant result }
-    ensures answer { Answers (λ (b : Bool). b) frame_begun (R.remaining input.old) (R.remaining input.new) (R.failures input.old) (R.failures input.new) result }
+/// `FrameLine` where a byte differs, behind which nothing is read; `FrameTruncated` where the input
+/// ends inside the line; `Read` where a read failed.
+pub(crate) fn read_frame_line<R: ByteIn>(input: &mut R) -> Result<bool, Fault>
+    ensures answer { Stands frame_begun Nowhere (passage R.remaining R.failures input.old input.new) result }
+    ensures own { OnFault IsPictureFault result }
 {
-    let mut line = [0u8; 6];
-    let len = read_full(input, &mut line)?;
-    if len == 0 {
-        return Ok(false);
-    }
-    if !is_text(&line[..len], &FRAME[..len]) {
-        return Err(Fault::FrameLine);
-    }
-    if len < 6 {
-        return Err(Fault::FrameTruncated);
+    for place in 0..FRAME.len() {
+        match read_byte(input)? {
+            Some(byte) if byte == FRAME[place] => (),
+            Some(_) => return Err(Fault::FrameLine),
+            None if place == 0 => return Ok(false),
+            None => return Err(Fault::FrameTruncated),
+        }
     }
     Ok(true)
 }
 
-/// Reads the samples of a plane, `size` of them, in place of what the vector had. It takes memory only where the
-/// vector has room for fewer.
+/// Reads the samples of a plane, `size` of them, in place of what the vector had. It takes memory
+/// only where the vector has room for fewer, before it reads.
 ///
-/// `FrameTruncated` where the input ends before, `Read` where a read failed, `OutOfMemory`; after a fault
-/// nothing is said of the vector.
-pub fn read_plane<R: ByteIn, A: Allocator>(
+/// `FrameTruncated` where the input ends before, `Read` where a read failed, `OutOfMemory`; after a
+/// fault nothing is said of the vector.
+pub(crate) fn read_plane<R: ByteIn, A: Allocator>(
     input: &mut R,
     plane: &mut Vec<u8, A>,
     size: usize,
 ) -> Result<(), Fault>
-    ensures answer { Answers (λ (_ : Unit {0}). plane.new.items) (plane_read size) (R.remaining input.old) (R.remaining input.new) (R.failures input.old) (R.failures input.new) result }
+    ensures answer { Stands (plane_read size) IsNone
+        (passage R.remaining R.failures input.old input.new)
+        (seen (λ (_ : Unit {0}). plane.new.items) result) }
     ensures long { OnOk result (length plane.new.items ≡ size) }
     ensures room { size ≤ vec_capacity plane.old → NoWant result }
+    ensures own { OnFault IsPictureFault result }
 {
     plane.resize(size, 0)?;
     let len = read_full(input, plane.as_mut_slice())?;

@@ -1,7 +1,9 @@
 //! The tags of a header line.
 
 ghost use Rattle.std.specs.Prelude.{◌≡◌, Some};
-ghost use Rattle.ffv1_y4m.specs.Header.{no_tags, judged, tagged, all_judged, words_of, chroma_of, other_chroma_of, head_of_tags, first_value, first_answer, chroma_planes, structure_of};
+ghost use Rattle.ffv1_y4m.specs.Header.{no_tags, judged, tagged, all_judged, words_of, chroma_of};
+ghost use Rattle.ffv1_y4m.specs.Header.{other_chroma_of, head_of_tags, first_value, first_answer};
+ghost use Rattle.ffv1_y4m.specs.Header.{chroma_planes, structure_of};
 
 use crate::fault::Fault;
 use crate::head::VideoHead;
@@ -59,7 +61,8 @@ fn chroma_named(value: &[u8]) -> Option<Chroma>
     other_chroma(value)
 }
 
-/// The chroma of the names that are left: with a plane of transparency, or with no chroma planes at all.
+/// The chroma of the names that are left: with a plane of transparency, or with no chroma planes at
+/// all.
 fn other_chroma(value: &[u8]) -> Option<Chroma>
     ensures { result ≡ other_chroma_of value.now }
 {

@@ -1,5 +1,6 @@
 //! Texts as other programs write them, and worked values.
 
+mod failing;
 mod headers;
 mod images;
 mod pictures;

@@ -2,7 +2,8 @@
 
 ghost use Rattle.std.specs.Prelude.{◌≡◌, ◌≤◌, ◌<◌, ◌==◌, IfSome, length};
 ghost use Rattle.std.specs.List.{position};
-ghost use Rattle.ffv1_y4m.specs.Header.{IsSplitOnce, number_of, capped_of, size_of, ratio_of, structure_of, is_text};
+ghost use Rattle.ffv1_y4m.specs.Header.{IsSplitOnce, number_of, capped_of, size_of, ratio_of};
+ghost use Rattle.ffv1_y4m.specs.Header.{structure_of, is_text};
 
 use crate::fault::Fault;
 use itoa::Buffer;

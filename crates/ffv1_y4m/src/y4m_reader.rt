@@ -2,9 +2,11 @@
 
 ghost use Rattle.std.specs.Prelude.{◌≡◌, ℕ, Bool, IfOk, true, None};
 ghost use Rattle.ffv1_y4m.specs.Header.{header_of};
-ghost use Rattle.ffv1_y4m.specs.Pictures.{picture_read};
-ghost use Rattle.ffv1_y4m.specs.Reads.{Answers, known_text};
-ghost use Rattle.ffv1_y4m.specs.State.{HasRoom, NoWant, Y4mReading, samples_of, shown, NextAnswers, failing};
+ghost use Rattle.ffv1_y4m.specs.Passage.{passage, passage_from};
+ghost use Rattle.ffv1_y4m.specs.Pictures.{GrowsInPicture, picture_read};
+ghost use Rattle.ffv1_y4m.specs.Reads.{Answers, Nowhere};
+ghost use Rattle.ffv1_y4m.specs.State.{HasRoom, IsHeaderFault, IsPictureFault, Lent, NextAnswers};
+ghost use Rattle.ffv1_y4m.specs.State.{NoWant, OnFault, Y4mReading, failing, samples_of, shown};
 ghost use Rattle.ffv1_y4m.specs.VideoHead.{Fits, IsHead, plane_sizes};
 
 use crate::fault::Fault;
@@ -15,7 +17,8 @@ use ffv1_wire::ByteIn;
 use std::alloc::{Allocator, Global};
 use std::marker::Model;
 
-/// A reader of YUV4MPEG2. It is seen as the head that it read and the fault that it met, if it met one.
+/// A reader of YUV4MPEG2. It is seen as the head that it read and the fault that it met, if it met
+/// one.
 ///
 /// It holds no input, and is handed the same one each time.
 #[derive(Drop)]
@@ -39,15 +42,21 @@ impl<A: Allocator> Model for Y4mReader<A> {
 impl<A: Allocator + Copy> Y4mReader<A> {
     /// Reads the header from an input of which the caller has read the first byte, if it has one.
     ///
-    /// The faults are those of `read_header`: `Header`, `Tag`, `Unsupported`, `Read`.
+    /// The input then stands behind the line feed, behind a fault too. The first fault from the
+    /// left is answered: `Header` where the line does not begin with `YUV4MPEG2` and a space or the
+    /// line feed, has no line feed, or is longer than 1024 bytes, of which 1025 are read and none
+    /// behind them; `Tag` where a tag is empty, has an unknown letter, is there for the second time
+    /// (but for X) or has no value of its kind, or W or H is missing; `Unsupported` where C names
+    /// no chroma that is read here, or I is mixed; `Read` where a read failed.
     pub fn open<R: ByteIn>(
         alloc: A,
         first: Option<u8>,
         input: &mut R,
     ) -> Result<Y4mReader<A>, Fault>
-        ensures answer { Answers (λ (r : Y4mReading). r.head) header_of (known_text first (R.remaining input.old)) (R.remaining input.new) (R.failures input.old) (R.failures input.new) result }
+        ensures answer { Answers (λ (r : Y4mReading). r.head) header_of Nowhere
+            (passage_from first R.remaining R.failures input.old input.new) result }
         ensures fresh { IfOk result (λ r. r.failed ≡ None) }
-        ensures memory { NoWant result }
+        ensures own { OnFault IsHeaderFault result }
         ensures head { IfOk result (λ r. IsHead r.head) }
     {
         let head = read_header(first, input)?;
@@ -66,21 +75,27 @@ impl<A: Allocator + Copy> Y4mReader<A> {
         &self.head
     }
 
-    /// Reads the next picture in place of what the planes were: Y, Cb, Cr, transparency, as many of them as there are,
-    /// each row by row. False where the input has ended. After a fault or false nothing is said of the planes.
+    /// Reads the next picture in place of what the planes were: Y, Cb, Cr, transparency, as many of
+    /// them as there are, each row by row. False where the input has ended: the planes are then as
+    /// they were. After a fault nothing is said of them, unless it came before.
     ///
-    /// Memory is taken only where a vector has room for fewer samples. The first fault from the left is answered:
-    /// `FrameLine` where a byte differs from the line `FRAME` and its line feed, `FrameTruncated` where the input ends
-    /// inside it or inside samples, `Read` where a read failed, `OutOfMemory`. After a fault each call answers that fault again
-    /// and reads nothing.
+    /// Memory is taken only where a vector has room for fewer samples. The first fault from the
+    /// left is answered: `FrameLine` where a byte differs from the line `FRAME` and its line feed,
+    /// `FrameTruncated` where the input ends inside it or inside samples, `Read` where a read
+    /// failed, `OutOfMemory`. After a fault each call answers that fault again and reads nothing.
     pub fn next<R: ByteIn>(
         &mut self,
         input: &mut R,
         planes: &mut Vec<Vec<u8, A>, A>,
     ) -> Result<bool, Fault>
-        ensures answer { NextAnswers self.old.failed (shown planes.new.items) (picture_read self.old.head) (R.remaining input.old) (R.remaining input.new) (R.failures input.old) (R.failures input.new) result }
+        ensures answer { NextAnswers self.old.failed (shown planes.new.items)
+            (picture_read self.old.head) (GrowsInPicture self.old.head)
+            (passage R.remaining R.failures input.old input.new) result }
+        ensures own { self.old.failed ≡ None → OnFault IsPictureFault result }
+        ensures lent { Lent self.old.failed planes.old planes.new result }
         ensures fits { IfOk result (λ more. more ≡ true → Fits self.old.head (samples_of planes.new.items)) }
-        ensures room { self.old.failed ≡ None → HasRoom (plane_sizes self.old.head) planes.old.items → NoWant result }
+        ensures room { self.old.failed ≡ None →
+            HasRoom (plane_sizes self.old.head) planes.old.items → NoWant result }
         ensures after { self.new ≡ record self.old { failed = failing self.old.failed result } }
     {
         if let Some(fault) = self.failed {

@@ -12,7 +12,8 @@ use ffv1_wire::ByteOut;
 use std::alloc::Allocator;
 use std::marker::Model;
 
-/// A writer of YUV4MPEG2. It is seen as its head, whether the header is written, and whether a write has failed.
+/// A writer of YUV4MPEG2. It is seen as its head, whether the header is written, and whether a
+/// write has failed.
 ///
 /// It holds no output, and is handed the same one each time. It takes no memory.
 #[derive(Drop)]
@@ -33,8 +34,9 @@ impl Model for Y4mWriter {
 impl Y4mWriter {
     /// A writer of pictures with this head, of which nothing is written yet.
     ///
-    /// What it writes is read back where the head is as a reader gives it: sizes of 1 to 8192, a rate and an aspect of
-    /// which both numbers are 0 or neither, a structure of at most 3, and chroma planes that have a name.
+    /// What it writes is read back where the head is as a reader gives it: sizes of 1 to 8192, a
+    /// rate and an aspect of which both numbers are 0 or neither, a structure of at most 3, and
+    /// chroma planes that have a name.
     pub fn new(head: VideoHead) -> Y4mWriter
         ensures { result ≡ record { head = head; begun = false; failed = false } }
     {
@@ -48,14 +50,20 @@ impl Y4mWriter {
     /// Writes the next picture of these planes, and before the first one the header:
     /// `YUV4MPEG2 W{width} H{height} F{rate}:{scale} I{structure} A{sar_num}:{sar_den} C{chroma}`.
     ///
-    /// `Write` where a write failed: a beginning of the text of this call is then written, and not all of it. Each call
-    /// behind it answers `Write` again and writes nothing.
+    /// The planes are those of the head, as a reader gives them: then what is written reads back.
+    /// Planes of another number or size are written as they are, and what stands then is no text of
+    /// the head.
+    ///
+    /// `Write` where a write failed: a beginning of the text of this call is then written, and not
+    /// all of it. Each call behind it answers `Write` again and writes nothing.
     pub fn picture<W: ByteOut, A: Allocator>(
         &mut self,
         output: &mut W,
         planes: &[Vec<u8, A>],
     ) -> Result<(), Fault>
-        ensures answer { NextWrites self.old.failed (next_text self.old.head self.old.begun (samples_of planes.now)) (W.contents output.old) (W.contents output.new) (W.failures output.old) (W.failures output.new) result }
+        ensures answer { NextWrites self.old.failed
+            (next_text self.old.head self.old.begun (samples_of planes.now)) (W.contents output.old)
+            (W.contents output.new) (W.failures output.old) (W.failures output.new) result }
         ensures after { self.new ≡ written_by self.old result }
     {
         if self.failed {
@@ -77,7 +85,8 @@ fn write_next<W: ByteOut, A: Allocator>(
     output: &mut W,
     planes: &[Vec<u8, A>],
 ) -> Result<(), Fault>
-    ensures { Writes (next_text head.now begun (samples_of planes.now)) (W.contents output.old) (W.contents output.new) (W.failures output.old) (W.failures output.new) result }
+    ensures { Writes (next_text head.now begun (samples_of planes.now)) (W.contents output.old)
+        (W.contents output.new) (W.failures output.old) (W.failures output.new) result }
 {
     if begun {
         write_picture(output, planes)?;

@@ -36,7 +36,7 @@ fn list<A: Allocator + Copy>(
 }
 
 /// So many zeros.
-fn zeros<A: Allocator>(alloc: A, count: usize) -> Result<Vec<u8, A>, AllocError> {
+pub fn zeros<A: Allocator>(alloc: A, count: usize) -> Result<Vec<u8, A>, AllocError> {
     let mut bytes = Vec::new(alloc);
     bytes.resize(count, 0)?;
     Ok(bytes)

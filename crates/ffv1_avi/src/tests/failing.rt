@@ -3,6 +3,7 @@
 ghost use Rattle.std.specs.Prelude.{Some};
 
 use super::example::EXAMPLE;
+use super::large::file_of;
 use crate::{AviFault, AviHead, AviReader, write_avi};
 use ffv1_wire::{FromRead, ToWrite};
 use std::alloc::{Allocator, Global};
@@ -100,6 +101,41 @@ fn failing_reads(rt: HostRuntime) {
     }
     assert_eq!(rt; frames, 3);
     assert!(rt; 8 < opens && opens < 36);
+}
+
+/// Reads the first frame, which fails, and whatever comes next: both answers, and how many bytes
+/// the vector then has, and whether the second call read nothing.
+fn failing_frame<A: Allocator + Copy>(
+    alloc: A,
+    file: &[u8],
+    before: usize,
+) -> Result<
+    (
+        Result<bool, AviFault>,
+        usize,
+        Result<bool, AviFault>,
+        usize,
+        u64,
+    ),
+    AviFault,
+> {
+    let mut input = FromRead::new(FailingReader { rest: file, before });
+    let mut reader = AviReader::open(alloc, &mut input)?;
+    let mut frame = Vec::new(alloc);
+    let first = reader.next_frame(&mut input, &mut frame);
+    let held = frame.len();
+    let second = reader.next_frame(&mut input, &mut frame);
+    Ok((first, held, second, frame.len(), input.failures()))
+}
+
+#[test]
+fn failing_in_a_frame(rt: HostRuntime) -> Result<(), Fail> {
+    // 70000 bytes, of which 65536 are read and held before the read that fails
+    let file = file_of(rt.alloc(), 69_999)?;
+    let failed = Err(AviFault::Read);
+    let read = failing_frame(rt.alloc(), file.as_slice(), 1700)?;
+    assert!(rt; read == (failed, 65_536, failed, 0, 1));
+    Ok(())
 }
 
 #[test]

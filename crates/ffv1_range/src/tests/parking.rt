@@ -1,4 +1,5 @@
-//! The first slice of a picture of one sample: a keyframe bit, nine values of its head, and one residual, all of them ones.
+//! The first slice of a picture of one sample: a keyframe bit, nine values of its head, and one
+//! residual, all of them ones.
 
 use crate::decoder::RangeDecoder;
 use crate::encoder::RangeEncoder;
@@ -32,7 +33,8 @@ fn eleven_ones(rt: HostRuntime) -> Result<(), Fail> {
     Ok(())
 }
 
-/// What the eleven decisions of a slice are, parked and woken between any two of them; nothing where one is a 0.
+/// What the eleven decisions of a slice are, parked and woken between any two of them; nothing
+/// where one is a 0.
 fn read_parked(bytes: &[u8]) -> Option<Tally> {
     let table = StateTable::standard();
     let (mut key, mut residual, mut head) = (128, 128, [128; 32]);
@@ -70,7 +72,15 @@ fn other_bytes(rt: HostRuntime) {
     let mut state = 128;
     let mut decoder = RangeDecoder::new(&[0x80, 0x3f, 0x40]).expect(&rt, "a good start");
     let first = decoder.get(&table, &mut state);
-    let mut woken = decoder.park().wake(&[]);
+    let parked = decoder.park();
+    let tally = Tally {
+        ones: 1,
+        zeros: 0,
+        renormalisations: 0,
+    };
+    assert_eq!(rt; parked.taken(), 1);
+    assert!(rt; parked.tally() == tally);
+    let mut woken = parked.wake(&[]);
     woken.get(&table, &mut state);
     assert!(rt; first);
     assert_eq!(rt; woken.taken(), 2);

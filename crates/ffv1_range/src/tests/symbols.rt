@@ -10,6 +10,20 @@ use crate::table::StateTable;
 use std::test::Fail;
 
 #[test]
+fn there_and_back(rt: HostRuntime) -> Result<(), Fail> {
+    let table = StateTable::standard();
+    let (mut states, mut fresh) = ([128; 32], [128; 32]);
+    let mut encoder = RangeEncoder::new(rt.alloc());
+    encoder
+        .put_signed(&table, &mut states, -3)
+        .expect(&rt, "memory");
+    let bytes = encoder.finish_sentinel().expect(&rt, "memory");
+    let mut decoder = RangeDecoder::new(&bytes).expect(&rt, "a good start");
+    assert!(rt; decoder.get_signed(&table, &mut fresh) == Ok(-3));
+    Ok(())
+}
+
+#[test]
 fn signed(rt: HostRuntime) -> Result<(), Fail> {
     let table = StateTable::standard();
     for (value, code, decisions, ones) in [
@@ -35,7 +49,7 @@ fn signed(rt: HostRuntime) -> Result<(), Fail> {
         assert_eq!(rt; bytes.as_slice(), code);
         let mut fresh = [128; 32];
         let mut decoder = RangeDecoder::new(&bytes).expect(&rt, "a good start");
-        let mut copy = decoder.copied();
+        let mut copy = decoder.clone().unwrap();
         assert!(rt; copy.get_signed(&table, &mut fresh) == Ok(value));
         assert_eq!(rt; copy.taken(), decisions);
         assert_eq!(rt; copy.tally().ones, ones);
@@ -129,7 +143,7 @@ fn too_long(rt: HostRuntime) -> Result<(), Fail> {
     let mut fresh = [128; 32];
     let mut decoder = RangeDecoder::new(&bytes).expect(&rt, "a good start");
     let mut other = [128; 32];
-    let mut copy = decoder.copied();
+    let mut copy = decoder.clone().unwrap();
     assert!(rt; decoder.get_signed(&table, &mut fresh) == Err(Fault::SymbolTooLong));
     assert_eq!(rt; decoder.taken(), 32);
     assert_eq!(rt; decoder.tally().ones, 31);

@@ -25,7 +25,8 @@ fn floors(rt: HostRuntime) -> Result<(), Fail> {
     Ok(())
 }
 
-/// The bytes of so many pairs (128, 1), (254, 0) and then (128, 1) twice, by states that never move.
+/// The bytes of so many pairs (128, 1), (254, 0) and then (128, 1) twice, by states that never
+/// move.
 fn carried(rt: &HostRuntime, pairs: usize) -> Result<Vec<u8>, Fault> {
     let mut deltas = [0; 255];
     for k in 0..255usize {

@@ -36,7 +36,7 @@ fn meets(
 }
 
 #[test]
-fn versions_and_coder(rt: HostRuntime) -> Result<(), Fail> {
+fn versions(rt: HostRuntime) -> Result<(), Fail> {
     let heap = rt.alloc();
     meets(
         &rt,
@@ -66,6 +66,12 @@ fn versions_and_coder(rt: HostRuntime) -> Result<(), Fail> {
         1,
         RecordFault::MicroVersion,
     )?;
+    Ok(())
+}
+
+#[test]
+fn coders(rt: HostRuntime) -> Result<(), Fail> {
+    let heap = rt.alloc();
     meets(&rt, heap, Made { coder: 0, ..MONO }, 1, RecordFault::Coder)?;
     meets(
         &rt,
@@ -83,7 +89,7 @@ fn versions_and_coder(rt: HostRuntime) -> Result<(), Fail> {
 }
 
 #[test]
-fn planes(rt: HostRuntime) -> Result<(), Fail> {
+fn colours_and_depth(rt: HostRuntime) -> Result<(), Fail> {
     let heap = rt.alloc();
     meets(
         &rt,
@@ -93,6 +99,12 @@ fn planes(rt: HostRuntime) -> Result<(), Fail> {
         RecordFault::ColourSpace,
     )?;
     meets(&rt, heap, Made { bits: 10, ..MONO }, 1, RecordFault::Depth)?;
+    Ok(())
+}
+
+#[test]
+fn chroma_and_transparency(rt: HostRuntime) -> Result<(), Fail> {
+    let heap = rt.alloc();
     meets(
         &rt,
         heap,

@@ -1,11 +1,17 @@
 //! Records as others write them.
 
+ghost use Rattle.std.specs.Prelude.{◌≡◌, IfOk, IfErr};
+
+use crate::checked::Checked;
 use crate::config::{Coder, Colour, Config};
 use crate::fault::RecordFault;
+use crate::laws::one_configuration;
 use crate::read::read_record;
 use crate::remainder::parity;
+use crate::sets::Sets;
 use crate::tests::made::{MONO, Made, made_record, mono, mono_large};
 use crate::write::write_record;
+use ffv1_plane::QuantSet;
 use std::alloc::Global;
 use std::process::Abort;
 use std::test::Fail;
@@ -43,10 +49,64 @@ fn stored(rt: &impl Abort, alloc: Global, config: Config, bytes: &[u8]) -> Resul
     assert!(rt; record.as_slice() == bytes);
     assert_eq!(rt; parity(&record), 0);
     let again = read_record(alloc, &record, width, height)?;
-    let (old, new) = (checked.config(), again.config());
-    assert!(rt; old.coder == new.coder && old.colour == new.colour);
-    assert!(rt; old.ec == new.ec && old.intra == new.intra && old.columns == new.columns);
-    assert!(rt; new.sets.len() == 1 && old.sets.get(0) == new.sets.get(0));
+    assert!(rt; again == checked);
+    Ok(())
+}
+
+/// The example of the crate's root.
+#[test]
+fn example(rt: HostRuntime) -> Result<(), Fail> {
+    let heap = rt.alloc();
+    let mut sets = Sets::new(heap);
+    sets.push(QuantSet::small(heap)?)?;
+    let (columns, rows) = (2, 2);
+    let config = Config {
+        width: 352,
+        height: 288,
+        coder: Coder::One,
+        colour: Colour::Rct,
+        chroma_planes: true,
+        extra_plane: false,
+        log2_h: 0,
+        log2_v: 0,
+        columns,
+        rows,
+        sets,
+        ec: true,
+        intra: true,
+    };
+    let checked = config.check()?;
+    let record = write_record(heap, &checked)?;
+    assert!(rt; read_record(heap, &record, 352, 288)? == checked);
+    Ok(())
+}
+
+/// What is written of a checked configuration is read as that one, but for want of memory.
+fn written_and_read_back(
+    alloc: Global,
+    checked: &Checked<Global>,
+) -> Result<Checked<Global>, RecordFault>
+    ensures same { IfOk result (λ c. c ≡ checked.now) }
+    ensures memory { IfErr result (λ f. f ≡ RecordFault.OutOfMemory) }
+{
+    let (width, height) = (checked.config().width, checked.config().height);
+    let record = write_record(alloc, checked)?;
+    one_configuration();
+    match read_record(alloc, &record, width, height) {
+        Ok(again) => Ok(again),
+        Err(fault) => Err(fault),
+    }
+}
+
+#[test]
+fn read_back(rt: HostRuntime) -> Result<(), Fail> {
+    let heap = rt.alloc();
+    let checked = mono_large(heap, 31, 17)?.check()?;
+    assert!(rt; written_and_read_back(heap, &checked)? == checked);
+    let other = mono(heap, 31, 17)?.check()?;
+    assert!(rt; other != checked && other.config().sets != checked.config().sets);
+    assert_eq!(rt; other.config().sets.as_slice().len(), 1);
+    assert!(rt; other.config().sets.as_slice()[0] == *other.config().sets.get(0));
     Ok(())
 }
 

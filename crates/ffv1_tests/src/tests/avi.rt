@@ -28,8 +28,8 @@ fn file_of<A: Allocator + Copy>(alloc: A, len: usize) -> Result<Vec<u8, A>, AviF
     Ok(out.into_inner())
 }
 
-/// What the first frame is read as, how many bytes the vector then holds, and what is read next, where the request
-/// behind `before` others is refused.
+/// What the first frame is read as, how many bytes the vector then holds, and what is read next,
+/// where the request behind `before` others is refused.
 fn read_scarcely<A: Allocator + Copy>(
     alloc: A,
     file: &[u8],

@@ -71,7 +71,8 @@ fn each_growth_of_each_call(rt: HostRuntime) {
     }
 }
 
-/// Whether the first ending, else the other, of so many decisions is refused, where the decisions themselves are not.
+/// Whether the first ending, else the other, of so many decisions is refused, where the decisions
+/// themselves are not.
 fn ending_is_refused<A: Allocator + Copy>(
     alloc: A,
     table: &StateTable,

@@ -1,6 +1,8 @@
 //! What a trial prints, computed outside the program from the standard's text, and its faults.
 
-use ffv1_engine::{Fault, trial};
+ghost use Rattle.std.specs.Prelude.{◌≤◌};
+
+use ffv1_engine::{Fault, code_plane, trial};
 use ffv1_wire::{FromRead, ToWrite};
 use std::alloc::Allocator;
 use std::process::Abort;
@@ -69,7 +71,8 @@ fn more_samples(rt: HostRuntime) -> Result<(), Fail> {
     prints(
         &rt,
         rt.alloc(),
-        b"YUV4MPEG2 H2 F30000:1001 Ip A0:0 XYSCSS=MONO XCOLORRANGE=FULL W2 Cmono\nFRAME\n\x0A\x14\x1E\x28behind",
+        b"YUV4MPEG2 H2 F30000:1001 Ip A0:0 XYSCSS=MONO XCOLORRANGE=FULL W2 \
+            Cmono\nFRAME\n\x0A\x14\x1E\x28behind",
         b"samples 4\ndecisions 38\ncode 71C6E52D49\nsame yes\n",
     )?;
     Ok(())
@@ -91,4 +94,26 @@ fn faults(rt: HostRuntime) {
     ] {
         refuses(&rt, rt.alloc(), text, fault);
     }
+}
+
+/// How many decisions a plane of one sample value takes.
+fn decisions_of<A: Allocator + Copy>(alloc: A, width: u32, height: u32) -> Result<u64, Fault>
+    requires some_wide { 1 ≤ width }
+    requires wide { width ≤ 8192 }
+    requires some_high { 1 ≤ height }
+    requires high { height ≤ 8192 }
+{
+    let samples = vec![in alloc; 128u8; width as usize * height as usize]?;
+    Ok(code_plane(alloc, width, height, &samples)?.decisions)
+}
+
+/// Planes of the least and the greatest sizes are coded: a plane of 128 takes 17 decisions for its
+/// first sample, and one for each other.
+#[test]
+fn sizes(rt: HostRuntime) -> Result<(), Fail> {
+    assert!(rt; decisions_of(rt.alloc(), 1, 1)? == 17);
+    assert!(rt; decisions_of(rt.alloc(), 1, 8192)? == 17 + 8191);
+    assert!(rt; decisions_of(rt.alloc(), 8192, 1)? == 17 + 8191);
+    assert!(rt; decisions_of(rt.alloc(), 352, 288)? == 17 + 101_375);
+    Ok(())
 }

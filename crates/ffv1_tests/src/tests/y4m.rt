@@ -49,8 +49,8 @@ fn count_of<A: Allocator + Copy>(alloc: A, text: &[u8]) -> Result<u32, Fault> {
     }
 }
 
-/// Each request of memory is refused in turn: `OutOfMemory` for as many as the first picture makes, of one vector of planes
-/// and a vector for each of three; the second one makes none.
+/// Each request of memory is refused in turn: `OutOfMemory` for as many as the first picture makes,
+/// of one vector of planes and a vector for each of three; the second one makes none.
 #[test]
 fn memory_refused(rt: HostRuntime) -> Result<(), Fail> {
     for text in [PICTURES, IMAGES] {
@@ -88,8 +88,8 @@ fn reads_failed(rt: HostRuntime) -> Result<(), Fail> {
     Ok(())
 }
 
-/// Writers of each number of bytes below the text's length: a beginning is written, and `Write` is answered from
-/// then on.
+/// Writers of each number of bytes below the text's length: a beginning is written, and `Write` is
+/// answered from then on.
 #[test]
 fn pictures_cut(rt: HostRuntime) -> Result<(), Fail> {
     for room in 0..70usize {
@@ -121,8 +121,9 @@ fn images_cut(rt: HostRuntime) -> Result<(), Fail> {
     let lines: [&[u8]; 6] = [b"ad", b"be", b"cf", b"gj", b"hk", b"il"];
     for room in 0..40usize {
         let output = ToWrite::new(ShortWriter::new(rt.alloc(), room, 4));
-        let Ok(mut sink) = PpmWriter::sized(rt.alloc(), output, 2, 1) else {
-            return Ok(());
+        let mut sink = match PpmWriter::sized(rt.alloc(), output, 2, 1) {
+            Ok(sink) => sink,
+            Err((_, fault)) => return Err(fault.into()),
         };
         let mut refused = 0u64;
         for (number, line) in lines.iter().enumerate() {

@@ -51,17 +51,18 @@ impl Read for FailingReader<'_> {
     }
 }
 
-/// A writer that takes one byte at a time, and fails once, after so many calls.
+/// A writer that takes one byte at a time, and once, after so many calls, fails, or takes none
+/// where it has no kind of failure.
 #[derive(Drop)]
 pub struct FailingWriter<A: Allocator = Global> {
     held: Vec<u8, A>,
     before: usize,
-    kind: ErrorKind,
+    kind: Option<ErrorKind>,
     calls: u64,
 }
 
 impl<A: Allocator> FailingWriter<A> {
-    pub fn new(alloc: A, before: usize, kind: ErrorKind) -> FailingWriter<A> {
+    pub fn new(alloc: A, before: usize, kind: Option<ErrorKind>) -> FailingWriter<A> {
         FailingWriter {
             held: Vec::new(alloc),
             before,
@@ -87,7 +88,10 @@ impl<A: Allocator> Write for FailingWriter<A> {
         let before = self.before;
         self.before = before.wrapping_sub(1);
         if before == 0 {
-            return Err(Error::from(self.kind));
+            return match self.kind {
+                Some(kind) => Err(Error::from(kind)),
+                None => Ok(0),
+            };
         }
         let n = buf.len().min(1);
         self.held.extend_from_slice(&buf[..n])?;
@@ -176,7 +180,9 @@ impl<W: ByteOut> LineSink for RowsOut<W> {
 
 /// Hands over the lines, whose samples stand behind the others if all are taken.
 pub fn keep_rows<A: Allocator>(sink: &mut KeepRows<A>, lines: &[Line<'_>]) -> Result<(), SinkFault>
-    ensures { OnOk result (sink.new.samples.items ≡ sink.old.samples.items ++ flat_map (λ l. l.samples) (lines_of lines.entry.now)) }
+    ensures { OnOk result
+        (sink.new.samples.items ≡ sink.old.samples.items
+        ++ flat_map (λ l. l.samples) (lines_of lines.entry.now)) }
 {
     texts::<KeepRows<A>>();
     hand_over(sink, lines)?;

@@ -95,7 +95,8 @@ fn headers_of_other_programs(rt: HostRuntime) -> Result<(), Fail> {
     let rows: [(&[u8], VideoHead); 5] = [
         (b"YUV4MPEG2 W2 H2\n", PLAIN),
         (
-            b"YUV4MPEG2 W176 H144 F30000:1001 Ip A128:117 C420jpeg XYSCSS=420JPEG XCOLORRANGE=LIMITED\n",
+            b"YUV4MPEG2 W176 H144 F30000:1001 Ip A128:117 C420jpeg XYSCSS=420JPEG \
+                XCOLORRANGE=LIMITED\n",
             VideoHead {
                 width: 176,
                 height: 144,
@@ -174,5 +175,24 @@ fn first_byte_read_before(rt: HostRuntime) -> Result<(), Fail> {
     let reader = Y4mReader::open(rt.alloc(), Some(b'Y'), &mut input)?;
     assert!(rt; *reader.head() == PLAIN);
     assert!(rt; input.into_inner() == b"rest".as_slice());
+    Ok(())
+}
+
+/// How many bytes are left behind a header line without an end.
+fn left_of_long(alloc: Global, len: usize) -> Result<usize, Fault> {
+    let mut text = Vec::new(alloc);
+    text.resize(len, b'x')?;
+    let mut input = FromRead::new(text.as_slice());
+    match Y4mReader::open(alloc, None, &mut input) {
+        Ok(_) => Ok(len),
+        Err(_) => Ok(input.into_inner().len()),
+    }
+}
+
+#[test]
+fn no_more_than_a_line_is_read(rt: HostRuntime) -> Result<(), Fail> {
+    assert!(rt; left_of_long(rt.alloc(), 1024) == Ok(0));
+    assert!(rt; left_of_long(rt.alloc(), 1025) == Ok(0));
+    assert!(rt; left_of_long(rt.alloc(), 1032) == Ok(7));
     Ok(())
 }

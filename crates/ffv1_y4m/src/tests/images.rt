@@ -50,7 +50,8 @@ fn images_are_parted(rt: HostRuntime) -> Result<(), Fail> {
 
 #[test]
 fn refused_images(rt: HostRuntime) -> Result<(), Fail> {
-    let rows: [(&[u8], Option<Fault>); 18] = [
+    let rows: [(&[u8], Option<Fault>); 19] = [
+        (b"P6\n8192 81920\n255\n", Some(Fault::Header)),
         (b"", Some(Fault::Header)),
         (b"P", Some(Fault::Header)),
         (b"P5\n1 1\n255\nabc", Some(Fault::Header)),
@@ -113,7 +114,7 @@ fn images_of_several_blocks(rt: HostRuntime) -> Result<(), Fail> {
 fn lines_are_written(rt: HostRuntime) -> Result<(), Fail> {
     let output = ToWrite::new(Vec::new(rt.alloc()));
     let Ok(mut sink) = PpmWriter::sized(rt.alloc(), output, 2, 2) else {
-        return Ok(());
+        return Err(Fail::from(Fault::OutOfMemory));
     };
     let rows: [(u8, u16, &[u8], bool); 17] = [
         (1, 0, b"bb", false),
@@ -147,7 +148,7 @@ fn lines_are_written(rt: HostRuntime) -> Result<(), Fail> {
 fn one_red_sample(rt: HostRuntime) -> Result<(), Fail> {
     let output = ToWrite::new(Vec::new(rt.alloc()));
     let Ok(mut sink) = PpmWriter::sized(rt.alloc(), output, 1, 1) else {
-        return Ok(());
+        return Err(Fail::from(Fault::OutOfMemory));
     };
     for (plane, sample) in [(0u8, 255u8), (1, 0), (2, 0)] {
         assert!(rt; sink.line(plane, 0, &[sample]) == Ok::<(), SinkFault>(()));
@@ -155,5 +156,57 @@ fn one_red_sample(rt: HostRuntime) -> Result<(), Fail> {
     let text = sink.into_inner().into_inner();
     assert!(rt; text.as_slice() == b"P6\n1 1\n255\n\xFF\x00\x00".as_slice());
     assert!(rt; text.len() == 14);
+    Ok(())
+}
+
+/// The longest line of sizes, of which the head says both.
+#[test]
+fn longest_sizes(rt: HostRuntime) -> Result<(), Fail> {
+    let mut input = FromRead::new(b"P6\n8192 8192\n255\nabc".as_slice());
+    let reader = PpmReader::open(rt.alloc(), None, &mut input)?;
+    assert!(rt; reader.head().width == 8192 && reader.head().height == 8192);
+    assert!(rt; input.into_inner() == b"abc".as_slice());
+    Ok(())
+}
+
+/// The fault of a text's second image, and how many bytes are left behind it; the call after it
+/// reads nothing.
+fn second_fault(alloc: Global, text: &[u8]) -> Result<(Option<Fault>, usize), Fault> {
+    let mut input = FromRead::new(text);
+    let mut reader = PpmReader::open(alloc, None, &mut input)?;
+    let mut planes = Vec::new(alloc);
+    reader.next(&mut input, &mut planes)?;
+    let fault = reader.next(&mut input, &mut planes).err();
+    let again = reader.next(&mut input, &mut planes).err();
+    if again != fault {
+        return Ok((again, text.len()));
+    }
+    Ok((fault, input.into_inner().len()))
+}
+
+#[test]
+fn left_behind_later_images(rt: HostRuntime) -> Result<(), Fail> {
+    let rows: [(&[u8], Option<Fault>, usize); 5] = [
+        (b"P6\n1 1\n255\nabc", None, 0),
+        (
+            b"P6\n1 1\n255\nabcP6\n2 1\n255\nrest",
+            Some(Fault::FormatChanged),
+            4,
+        ),
+        (
+            b"P6\n1 1\n255\nabcP5\n1 1\n255\nrest",
+            Some(Fault::Header),
+            4,
+        ),
+        (b"P6\n1 1\n255\nabcP6x\n1 1", Some(Fault::Header), 4),
+        (
+            b"P6\n1 1\n255\nabcP6\n1 1\n255\nde",
+            Some(Fault::FrameTruncated),
+            0,
+        ),
+    ];
+    for (text, fault, left) in rows {
+        assert!(rt; second_fault(rt.alloc(), text) == Ok((fault, left)));
+    }
     Ok(())
 }

@@ -125,3 +125,54 @@ fn frame_lines(rt: HostRuntime) -> Result<(), Fail> {
     }
     Ok(())
 }
+
+/// The fault of opening a text or of its next picture, and how many bytes of the text are left
+/// behind it.
+fn fault_and_left(alloc: Global, text: &[u8]) -> (Option<Fault>, usize) {
+    let mut input = FromRead::new(text);
+    let fault = first_fault(alloc, &mut input);
+    (fault, input.into_inner().len())
+}
+
+/// The fault of opening an input, or else of its next picture.
+fn first_fault(alloc: Global, input: &mut FromRead<&[u8]>) -> Option<Fault> {
+    match Y4mReader::open(alloc, None, input) {
+        Err(fault) => Some(fault),
+        Ok(mut reader) => reader.next(input, &mut Vec::new(alloc)).err(),
+    }
+}
+
+#[test]
+fn left_behind_faults(rt: HostRuntime) -> Result<(), Fail> {
+    let rows: [(&[u8], Option<Fault>, usize); 9] = [
+        (b"YUV4MPEG1 W1 H1\nrest", Some(Fault::Header), 4),
+        (b"YUV4MPEG2 W1 H1", Some(Fault::Header), 0),
+        (b"YUV4MPEG2 W1 H1 q\nrest", Some(Fault::Tag), 4),
+        (b"YUV4MPEG2 W1 H1 Im\nrest", Some(Fault::Unsupported), 4),
+        (
+            b"YUV4MPEG2 W1 H1 Cmono\nFRaME\na",
+            Some(Fault::FrameLine),
+            4,
+        ),
+        (
+            b"YUV4MPEG2 W1 H1 Cmono\nFRAME Ip\na",
+            Some(Fault::FrameLine),
+            4,
+        ),
+        (
+            b"YUV4MPEG2 W1 H1 Cmono\nFRA",
+            Some(Fault::FrameTruncated),
+            0,
+        ),
+        (
+            b"YUV4MPEG2 W2 H1 Cmono\nFRAME\na",
+            Some(Fault::FrameTruncated),
+            0,
+        ),
+        (b"YUV4MPEG2 W1 H1 Cmono\nFRAME\narest", None, 4),
+    ];
+    for (text, fault, left) in rows {
+        assert!(rt; fault_and_left(rt.alloc(), text) == (fault, left));
+    }
+    Ok(())
+}

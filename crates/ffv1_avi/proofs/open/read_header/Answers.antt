@@ -12,7 +12,7 @@ pub returns-in_err-entry : goal.returns-in_err-entry
 returns-in_err-entry g c =
     let p = err_from_is_err_and c.from_residual.result c.from_residual.ensures.1 in
     let found = found_with c.loop-entry.found c.loop-entry.config.items in
-    rw (p.1, p.2) (goes_no_entry visit_header c.loop-entry.left found (ended c.args.size) _ c.in_err-entry.field-0.0 c.loop-entry.invariant c.in_err-entry.ensures.answer)
+    rw (p.1, p.2) (goes_no_entry visit_header c.loop-entry.left found (ended c.args.size) _ _ c.in_err-entry.field-0.0 c.loop-entry.invariant c.in_err-entry.ensures.answer)
 
 pub returns-in_err-found : goal.returns-in_err-found
 returns-in_err-found g c =
@@ -20,7 +20,7 @@ returns-in_err-found g c =
     let e = c.in-Some.entry in
     let found = found_with c.loop-entry.found c.loop-entry.config.items in
     let here = goes_entry visit_header c.loop-entry.left found (ended c.args.size) _ _ e c.loop-entry.invariant (rw c.in-Some.is at c.in_ok-entry.ensures.answer) in
-    rw (p.1, p.2) (goes_refused (visit_header found e) (behind_chunk visit_header e.left (ended c.args.size)) _ c.in_err-found.field-0.0 here c.in_err-found.ensures)
+    rw (p.1, p.2) (goes_refused (visit_header found e) (behind_chunk visit_header e.left (ended c.args.size)) _ _ c.in_err-found.field-0.0 here c.in_err-found.ensures)
 
 pub loop-entry-preserved : goal.loop-entry-preserved
 loop-entry-preserved g c =
@@ -34,7 +34,7 @@ returns-in_err-pass g c =
     let p = err_from_is_err_and c.from_residual-in_err-pass.result c.from_residual-in_err-pass.ensures.1 in
     let found = found_with c.loop-entry.found c.loop-entry.config.items in
     let here = goes_end visit_header c.loop-entry.left found (ended c.args.size) _ _ c.loop-entry.invariant (rw c.in_default.is at c.in_ok-entry.ensures.answer) in
-    rw (p.1, p.2) (goes_refused (passed (c.args.size % 2)) (λ _. given found) _ c.in_err-pass.field-0.0 here (rw c.from.ensures at c.in_err-pass.ensures))
+    rw (p.1, p.2) (goes_refused (passed (c.args.size % 2)) (λ _. given found) _ _ c.in_err-pass.field-0.0 here (rw c.from.ensures at c.in_err-pass.ensures))
 
 pub returns : goal.returns
 returns g c =

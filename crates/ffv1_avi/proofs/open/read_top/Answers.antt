@@ -13,7 +13,7 @@ pub returns-in_err-entry : goal.returns-in_err-entry
 returns-in_err-entry g c =
     let p = err_from_is_err_and c.from_residual.result c.from_residual.ensures.1 in
     let found = found_with c.loop-entry.found c.loop-entry.config.items in
-    rw (p.1, p.2) (goes_no_entry visit_top c.loop-entry.left found ended _ c.in_err-entry.field-0.0 c.loop-entry.invariant c.in_err-entry.ensures.answer)
+    rw (p.1, p.2) (goes_no_entry visit_top c.loop-entry.left found ended _ _ c.in_err-entry.field-0.0 c.loop-entry.invariant c.in_err-entry.ensures.answer)
 
 pub returns-in_err-sizes : goal.returns-in_err-sizes
 returns-in_err-sizes g c =
@@ -21,7 +21,7 @@ returns-in_err-sizes g c =
     let e = c.in-Some.entry in
     let found = found_with c.loop-entry.found c.loop-entry.config.items in
     let here = goes_entry visit_top c.loop-entry.left found ended _ _ e c.loop-entry.invariant (rw c.in-Some.is at c.in_ok-entry.ensures.answer) in
-    rw (p.1, p.2) (goes_refused (visit_top found e) (behind_chunk visit_top e.left ended) _ c.in_err-sizes.field-0.0 here c.in_err-sizes.ensures)
+    rw (p.1, p.2) (goes_refused (visit_top found e) (behind_chunk visit_top e.left ended) _ _ c.in_err-sizes.field-0.0 here c.in_err-sizes.ensures)
 
 pub returns-in-Movi : goal.returns-in-Movi
 returns-in-Movi g c =

@@ -12,14 +12,14 @@ found p = given p.1
 pub returns-in_err-entry-clause-answer : goal.returns-in_err-entry-clause-answer
 returns-in_err-entry-clause-answer g c =
     let p = err_from_is_err_and c.from_residual.result c.from_residual.ensures.1 in
-    rw (p.1, p.2) (goes_no_entry visit_movi c.loop-entry.left tt found _ c.in_err-entry.field-0.0 c.loop-entry.invariant c.in_err-entry.ensures.answer)
+    rw (p.1, p.2) (goes_no_entry visit_movi c.loop-entry.left tt found _ _ c.in_err-entry.field-0.0 c.loop-entry.invariant c.in_err-entry.ensures.answer)
 
 pub returns-in_err-size-clause-answer : goal.returns-in_err-size-clause-answer
 returns-in_err-size-clause-answer g c =
     let p = err_from_is_err_and c.from_residual-in_err-size.result c.from_residual-in_err-size.ensures.1 in
     let e = c.in-Some.entry in
     let here = goes_entry visit_movi c.loop-entry.left tt found _ _ e c.loop-entry.invariant (rw c.in-Some.is at c.in_ok-entry.ensures.answer) in
-    rw (p.1, p.2) (goes_refused (visit_movi tt e) (behind_chunk visit_movi e.left found) _ c.in_err-size.field-0.0 here c.in_err-size.ensures.answer)
+    rw (p.1, p.2) (goes_refused (visit_movi tt e) (behind_chunk visit_movi e.left found) _ _ c.in_err-size.field-0.0 here c.in_err-size.ensures.answer)
 
 pub returns-in-Some-2-clause-answer : goal.returns-in-Some-2-clause-answer
 returns-in-Some-2-clause-answer g c =

@@ -13,7 +13,7 @@ returns-in_err-pass g c =
     let p = err_from_is_err_and c.from_residual.result c.from_residual.ensures.1 in
     let size = c.args.size in
     let start = goes_same _ (passed (padded size) >>= λ _. given None) (rates_short size c.if-size-lt56.true) (goes_none (rates_in size) (g.R.ByteIn.remaining c.args.input.now) (g.R.ByteIn.failures c.args.input.now)) in
-    rw (p.1, p.2) (goes_refused (passed (padded size)) (λ _. given None) _ c.in_err-pass.field-0.0 start (rw c.padded.ensures at c.in_err-pass.ensures))
+    rw (p.1, p.2) (goes_refused (passed (padded size)) (λ _. given None) _ _ c.in_err-pass.field-0.0 start (rw c.padded.ensures at c.in_err-pass.ensures))
 
 pub returns-then-size-lt56 : goal.returns-then-size-lt56
 returns-then-size-lt56 g c =
@@ -26,7 +26,7 @@ returns-in_err-take g c =
     let p = err_from_is_err_and c.from_residual-in_err-take.result c.from_residual-in_err-take.ensures.1 in
     let size = c.args.size in
     let start = goes_same _ (taken 56 >>= λ head. (passed (padded size - 56) >>= λ _. given (rates_front head))) (rates_long size c.if-size-lt56.false) (goes_none (rates_in size) (g.R.ByteIn.remaining c.args.input.now) (g.R.ByteIn.failures c.args.input.now)) in
-    rw (p.1, p.2) (goes_refused (taken 56) (λ head. (passed (padded size - 56) >>= λ _. given (rates_front head))) _ c.in_err-take.field-0.0 start c.in_err-take.ensures)
+    rw (p.1, p.2) (goes_refused (taken 56) (λ head. (passed (padded size - 56) >>= λ _. given (rates_front head))) _ _ c.in_err-take.field-0.0 start c.in_err-take.ensures)
 
 pub returns-in_err-pass-2 : goal.returns-in_err-pass-2
 returns-in_err-pass-2 g c =
@@ -34,7 +34,7 @@ returns-in_err-pass-2 g c =
     let size = c.args.size in
     let start = goes_same _ (taken 56 >>= λ head. (passed (padded size - 56) >>= λ _. given (rates_front head))) (rates_long size c.if-size-lt56.false) (goes_none (rates_in size) (g.R.ByteIn.remaining c.args.input.now) (g.R.ByteIn.failures c.args.input.now)) in
     let next = goes_read (taken 56) (λ head. (passed (padded size - 56) >>= λ _. given (rates_front head))) _ _ c.take.new.buf start c.in_ok-take.ensures in
-    rw (p.1, p.2) (goes_refused (passed (padded size - 56)) (λ _. given (rates_front c.take.new.buf)) _ c.in_err-pass-2.field-0.0 next (rw c.padded-2.ensures at c.in_err-pass-2.ensures))
+    rw (p.1, p.2) (goes_refused (passed (padded size - 56)) (λ _. given (rates_front c.take.new.buf)) _ _ c.in_err-pass-2.field-0.0 next (rw c.padded-2.ensures at c.in_err-pass-2.ensures))
 
 pub returns-then-not-is_name : goal.returns-then-not-is_name
 returns-then-not-is_name g c =

@@ -12,7 +12,7 @@ pub returns-in_err-entry : goal.returns-in_err-entry
 returns-in_err-entry g c =
     let p = err_from_is_err_and c.from_residual.result c.from_residual.ensures.1 in
     let known = known_with c.loop-entry.fields c.loop-entry.config.items in
-    rw (p.1, p.2) (goes_no_entry visit_field c.loop-entry.left known judged _ c.in_err-entry.field-0.0 c.loop-entry.invariant c.in_err-entry.ensures.answer)
+    rw (p.1, p.2) (goes_no_entry visit_field c.loop-entry.left known judged _ _ c.in_err-entry.field-0.0 c.loop-entry.invariant c.in_err-entry.ensures.answer)
 
 pub returns-in_err-fields : goal.returns-in_err-fields
 returns-in_err-fields g c =
@@ -20,7 +20,7 @@ returns-in_err-fields g c =
     let e = c.in-Some.entry in
     let known = known_with c.loop-entry.fields c.loop-entry.config.items in
     let here = goes_entry visit_field c.loop-entry.left known judged _ _ e c.loop-entry.invariant (rw c.in-Some.is at c.in_ok-entry.ensures.answer) in
-    rw (p.1, p.2) (goes_refused (visit_field known e) (behind_chunk visit_field e.left judged) _ c.in_err-fields.field-0.0 here c.in_err-fields.ensures)
+    rw (p.1, p.2) (goes_refused (visit_field known e) (behind_chunk visit_field e.left judged) _ _ c.in_err-fields.field-0.0 here c.in_err-fields.ensures)
 
 pub loop-entry-preserved : goal.loop-entry-preserved
 loop-entry-preserved g c =

@@ -7,9 +7,9 @@ use Rattle.ffv1_engine.proofs.plane.encode_rows.Goals as goal
 
 pub loop-y-init : goal.loop-y-init
 loop-y-init g c =
-    let two = c.in_ok-two.ensures in
-    let one = c.in_ok-one.ensures in
-    let cur = c.in_ok-cur.ensures in
+    let two = c.in_ok-rows.ensures.two in
+    let one = c.in_ok-rows.ensures.one in
+    let cur = c.in_ok-rows.ensures.cur in
     let long = length-replicate {A = ℕ} c.args.width 0 in
     record {
       held = c.requires.held;
@@ -33,7 +33,7 @@ loop-y-preserved g c =
     let written = rw (c.deref.ensures.value, c.deref-in-loop-y.ensures.value, c.deref-in-loop-y-2.ensures.value) at c.in_ok-encode_line.ensures.ok in
     let two_more : suc (suc y) ≡ y + 2 = omega arith in
     let one_more : suc (suc y) ≡ y + 1 + 1 = omega arith in
-    record {
+    rw (c.turn.ensures.two, c.turn.ensures.one, c.turn.ensures.cur) (record {
       held = c.in_ok-encode_line.ensures.held;
       rows = c.encode_line.auto.states ∙ inv.rows;
       two_long = inv.one_long;
@@ -43,7 +43,7 @@ loop-y-preserved g c =
       one_shows = subst (λ n. Shows (cell_of w samples) n c.load.new.line.items w) one_more shows;
       puts = cell_next _ _ _ _ _ _ _ _ _ (cell_of w samples) y _ _ _ long inv.one_long inv.two_shows inv.one_shows
           (subst (λ n. Shows (cell_of w samples) n c.load.new.line.items w) two_more shows) inv.puts written;
-    }
+    })
 
 pub returns-clause-ok : goal.returns-clause-ok
 returns-clause-ok g c =

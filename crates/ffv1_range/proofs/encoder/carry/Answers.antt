@@ -1,6 +1,6 @@
 use Rattle.std.proofs.Common.{arith, length-set, ◌-◌}
 use Rattle.ffv1_range.proofs.Values.{carry_stop, carry_step}
-use Rattle.ffv1_range.proofs.Pushed.{bytes-set}
+use Rattle.ffv1_range.proofs.EmittedBytes.{bytes-set}
 use Rattle.ffv1_range.proofs.encoder.carry.Goals as goal
 
 pub returns-then-bytes-at-lt255-clause-carried : goal.returns-then-bytes-at-lt255-clause-carried

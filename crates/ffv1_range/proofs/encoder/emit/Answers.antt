@@ -1,6 +1,6 @@
 use Rattle.std.proofs.Common.{arith, length, ◌≡◌, ◌-◌}
 use Rattle.std.proofs.Math.Seq.{take-append_seam}
-use Rattle.ffv1_range.proofs.Pushed.{value-pushed}
+use Rattle.ffv1_range.proofs.EmittedBytes.{value-pushed}
 use Rattle.ffv1_range.proofs.encoder.emit.Goals as goal
 
 pub returns-then-top-lt256-clause-value : goal.returns-then-top-lt256-clause-value

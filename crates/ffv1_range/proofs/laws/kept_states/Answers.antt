@@ -1,4 +1,5 @@
 use Rattle.ffv1_range.proofs.HistoryLemmas.{kept_is, fresh_has, decided_is, moved_has, others_have}
+use Rattle.ffv1_range.proofs.Parts.{part_has, put_has}
 use Rattle.ffv1_range.proofs.laws.kept_states.Goals as goal
 
 pub returns-clause-all : goal.returns-clause-all
@@ -15,3 +16,9 @@ returns-clause-moved c = moved_has
 
 pub returns-clause-others : goal.returns-clause-others
 returns-clause-others c = others_have
+
+pub returns-clause-part : goal.returns-clause-part
+returns-clause-part c = part_has
+
+pub returns-clause-put : goal.returns-clause-put
+returns-clause-put c = put_has

@@ -1,4 +1,5 @@
 use Rattle.ffv1_range.proofs.Steps.{follows_none, follows_append, puts_none, puts_append}
+use Rattle.ffv1_range.proofs.Growth.{refused_first, refused_second}
 use Rattle.ffv1_range.proofs.laws.one_after_another.Goals as goal
 
 pub returns-clause-follows_none : goal.returns-clause-follows_none
@@ -12,3 +13,9 @@ returns-clause-puts_none c = puts_none
 
 pub returns-clause-puts_append : goal.returns-clause-puts_append
 returns-clause-puts_append c = puts_append
+
+pub returns-clause-refused_first : goal.returns-clause-refused_first
+returns-clause-refused_first c = refused_first
+
+pub returns-clause-refused_second : goal.returns-clause-refused_second
+returns-clause-refused_second c = refused_second

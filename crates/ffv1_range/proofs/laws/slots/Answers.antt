@@ -1,5 +1,6 @@
 use Rattle.ffv1_range.proofs.Windows.{signed_below, too_long_below, shifted_below}
 use Rattle.ffv1_range.proofs.Unsigned.{unsigned_below}
+use Rattle.ffv1_range.proofs.Parts.{below_more, shifted_twice, shifted-append}
 use Rattle.ffv1_range.proofs.laws.slots.Goals as goal
 
 pub returns-clause-signed : goal.returns-clause-signed
@@ -13,3 +14,12 @@ returns-clause-shifted c = shifted_below
 
 pub returns-clause-unsigned : goal.returns-clause-unsigned
 returns-clause-unsigned c = unsigned_below
+
+pub returns-clause-more : goal.returns-clause-more
+returns-clause-more c = below_more
+
+pub returns-clause-twice : goal.returns-clause-twice
+returns-clause-twice c = shifted_twice
+
+pub returns-clause-append : goal.returns-clause-append
+returns-clause-append c = shifted-append

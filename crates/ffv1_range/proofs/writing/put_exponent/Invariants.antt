@@ -1,6 +1,5 @@
 use Rattle.ffv1_range.specs.Symbols.{AreHeld, raising}
-use Rattle.ffv1_range.specs.Puts.{Writes}
-use Rattle.ffv1_range.specs.Writing.{IsWriting, standing}
+use Rattle.ffv1_range.specs.Registers.{Writes, IsWriting, standing}
 use Rattle.ffv1_range.proofs.writing.put_exponent.Given as goal
 
 abbrev pub invariant-loop-k : goal.invariant-loop-k

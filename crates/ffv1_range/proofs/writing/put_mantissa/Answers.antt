@@ -1,6 +1,7 @@
 use Rattle.std.proofs.Common.{◌≡◌, ◌+◌, ◌-◌, ◌<◌, min, arith}
 use Rattle.ffv1_range.proofs.Steps.{writes_append}
 use Rattle.ffv1_range.proofs.Mantissa.{longer, mantissa_next}
+use Rattle.ffv1_range.proofs.Growth.{on_err, mantissa_grows}
 use Rattle.ffv1_range.proofs.writing.put_mantissa.Goals as goal
 
 pub high-preserved : goal.high-preserved
@@ -37,3 +38,15 @@ loop-place-preserved g c =
       below = omega arith;
       writes = rw (more, mantissa_next) (writes_append _ _ _ _ _ _ _ _ _ c.loop-place.invariant.writes (rw slot at c.in_ok-put_slot-2.ensures.writes));
     }
+
+pub returns-in_err-put_slot-clause-refused : goal.returns-in_err-put_slot-clause-refused
+returns-in_err-put_slot-clause-refused g c =
+    let positive : 0 < c.high.place = omega arith in
+    let slot : 31 ≡ 22 + min (c.high.place - 1) 9 = omega (arith, c.min-few.ensures, c.high.invariant.below, c.high-test.true) in
+    on_err c.from_residual.result (mantissa_grows _ _ _ _ _ c.args.exponent c.high.place c.args.number positive c.high.invariant.below c.high.invariant.writes (rw slot at c.in_err-put_slot.ensures.refused))
+
+pub returns-in_err-put_slot-2-clause-refused : goal.returns-in_err-put_slot-2-clause-refused
+returns-in_err-put_slot-2-clause-refused g c =
+    let positive : 0 < c.loop-place.place = omega arith in
+    let slot : 22 + (c.loop-place.place - 1) ≡ 22 + min (c.loop-place.place - 1) 9 = omega (arith, c.min-few.ensures, c.loop-place.auto.place) in
+    on_err c.from_residual-in_err-put_slot-2.result (mantissa_grows _ _ _ _ _ c.args.exponent c.loop-place.place c.args.number positive c.loop-place.invariant.below c.loop-place.invariant.writes (rw slot at c.in_err-put_slot-2.ensures.refused))

@@ -1,4 +1,4 @@
-use Rattle.ffv1_record.proofs.Guarding.{added}
+use Rattle.ffv1_record.proofs.ParityLaws.{added}
 use Rattle.ffv1_record.proofs.laws.additive.Goals as goal
 
 -- src/laws.rt:17:1

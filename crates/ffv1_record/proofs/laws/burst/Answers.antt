@@ -1,4 +1,4 @@
-use Rattle.ffv1_record.proofs.Guarding.{different}
+use Rattle.ffv1_record.proofs.ParityLaws.{different}
 use Rattle.ffv1_record.proofs.laws.burst.Goals as goal
 
 -- src/laws.rt:23:1

@@ -1,4 +1,4 @@
-use Rattle.ffv1_record.proofs.Guarding.{stored, parity_zero, remainder_small, parity_small}
+use Rattle.ffv1_record.proofs.ParityLaws.{stored, parity_zero, remainder_small, parity_small}
 use Rattle.ffv1_record.proofs.laws.guarded.Goals as goal
 
 -- src/laws.rt:9:1

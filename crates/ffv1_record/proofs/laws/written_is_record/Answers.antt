@@ -1,7 +1,7 @@
 use Rattle.std.proofs.Common.{refl}
 use Rattle.ffv1_record.specs.Record.{coded_of}
 use Rattle.ffv1_record.specs.Parity.{parity_of}
-use Rattle.ffv1_record.proofs.Stored.{stored_record}
+use Rattle.ffv1_record.proofs.WrittenIsRecord.{stored_record}
 use Rattle.ffv1_record.proofs.laws.written_is_record.Goals as goal
 
 pub returns : goal.returns

@@ -1,6 +1,6 @@
 use Rattle.std.proofs.Common.{◌≡◌, ◌-◌, length, take, []}
 use Rattle.ffv1_record.specs.Reading.{deltas_onto}
-use Rattle.ffv1_record.proofs.Leading.{Leads}
+use Rattle.ffv1_record.proofs.ReadingLoops.{Leads}
 use Rattle.ffv1_record.proofs.read.read_deltas.Given as goal
 
 abbrev pub invariant-loop-k : goal.invariant-loop-k

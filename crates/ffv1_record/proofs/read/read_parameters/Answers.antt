@@ -1,27 +1,39 @@
 use Rattle.ffv1_record.specs.Configuration.{configuration_of}
-use Rattle.ffv1_record.proofs.Giving.{and_then, handed, stop, gives_done}
+use Rattle.ffv1_record.proofs.CallsGive.{and_then, handed, stop, gives_done, told, read_first, read_then}
 use Rattle.ffv1_record.proofs.read.read_parameters.Goals as goal
 
-pub returns-in_err-coder : goal.returns-in_err-coder
-returns-in_err-coder g c = handed c.from_residual.result c.from_residual.ensures.1 (stop c.in_err-coder.ensures)
+pub returns-in_err-coder-clause-gives : goal.returns-in_err-coder-clause-gives
+returns-in_err-coder-clause-gives g c = handed c.from_residual.result c.from_residual.ensures.1 (stop c.in_err-coder.ensures.gives)
 
-pub returns-in_err-planes : goal.returns-in_err-planes
-returns-in_err-planes g c = handed c.from_residual-in_err-planes.result c.from_residual-in_err-planes.ensures.1 (and_then c.in_ok-coder.ensures (stop c.in_err-planes.ensures))
+pub returns-in_err-planes-clause-gives : goal.returns-in_err-planes-clause-gives
+returns-in_err-planes-clause-gives g c = handed c.from_residual-in_err-planes.result c.from_residual-in_err-planes.ensures.1 (and_then c.in_ok-coder.ensures.gives (stop c.in_err-planes.ensures.gives))
 
-pub returns-in_err-columns : goal.returns-in_err-columns
-returns-in_err-columns g c = handed c.from_residual-in_err-columns.result c.from_residual-in_err-columns.ensures.1 (and_then c.in_ok-coder.ensures (and_then c.in_ok-planes.ensures (stop c.in_err-columns.ensures)))
+pub returns-in_err-columns-clause-gives : goal.returns-in_err-columns-clause-gives
+returns-in_err-columns-clause-gives g c = handed c.from_residual-in_err-columns.result c.from_residual-in_err-columns.ensures.1 (and_then c.in_ok-coder.ensures.gives (and_then c.in_ok-planes.ensures.gives (stop c.in_err-columns.ensures.gives)))
 
-pub returns-in_err-rows : goal.returns-in_err-rows
-returns-in_err-rows g c = handed c.from_residual-in_err-rows.result c.from_residual-in_err-rows.ensures.1 (and_then c.in_ok-coder.ensures (and_then c.in_ok-planes.ensures (and_then c.in_ok-columns.ensures (stop c.in_err-rows.ensures))))
+pub returns-in_err-rows-clause-gives : goal.returns-in_err-rows-clause-gives
+returns-in_err-rows-clause-gives g c = handed c.from_residual-in_err-rows.result c.from_residual-in_err-rows.ensures.1 (and_then c.in_ok-coder.ensures.gives (and_then c.in_ok-planes.ensures.gives (and_then c.in_ok-columns.ensures.gives (stop c.in_err-rows.ensures.gives))))
 
-pub returns-in_err-sets : goal.returns-in_err-sets
-returns-in_err-sets g c = handed c.from_residual-in_err-sets.result c.from_residual-in_err-sets.ensures.1 (and_then c.in_ok-coder.ensures (and_then c.in_ok-planes.ensures (and_then c.in_ok-columns.ensures (and_then c.in_ok-rows.ensures (stop c.in_err-sets.ensures)))))
+pub returns-in_err-sets-clause-gives : goal.returns-in_err-sets-clause-gives
+returns-in_err-sets-clause-gives g c = handed c.from_residual-in_err-sets.result c.from_residual-in_err-sets.ensures.1 (and_then c.in_ok-coder.ensures.gives (and_then c.in_ok-planes.ensures.gives (and_then c.in_ok-columns.ensures.gives (and_then c.in_ok-rows.ensures.gives (stop c.in_err-sets.ensures.gives)))))
 
-pub returns-in_err-ec : goal.returns-in_err-ec
-returns-in_err-ec g c = handed c.from_residual-in_err-ec.result c.from_residual-in_err-ec.ensures.1 (and_then c.in_ok-coder.ensures (and_then c.in_ok-planes.ensures (and_then c.in_ok-columns.ensures (and_then c.in_ok-rows.ensures (and_then c.in_ok-sets.ensures (stop c.in_err-ec.ensures))))))
+pub returns-in_err-ec-clause-gives : goal.returns-in_err-ec-clause-gives
+returns-in_err-ec-clause-gives g c = handed c.from_residual-in_err-ec.result c.from_residual-in_err-ec.ensures.1 (and_then c.in_ok-coder.ensures.gives (and_then c.in_ok-planes.ensures.gives (and_then c.in_ok-columns.ensures.gives (and_then c.in_ok-rows.ensures.gives (and_then c.in_ok-sets.ensures.gives (stop c.in_err-ec.ensures.gives))))))
 
-pub returns-in_err-intra : goal.returns-in_err-intra
-returns-in_err-intra g c = handed c.from_residual-in_err-intra.result c.from_residual-in_err-intra.ensures.1 (and_then c.in_ok-coder.ensures (and_then c.in_ok-planes.ensures (and_then c.in_ok-columns.ensures (and_then c.in_ok-rows.ensures (and_then c.in_ok-sets.ensures (and_then c.in_ok-ec.ensures (stop c.in_err-intra.ensures)))))))
+pub returns-in_err-intra-clause-gives : goal.returns-in_err-intra-clause-gives
+returns-in_err-intra-clause-gives g c = handed c.from_residual-in_err-intra.result c.from_residual-in_err-intra.ensures.1 (and_then c.in_ok-coder.ensures.gives (and_then c.in_ok-planes.ensures.gives (and_then c.in_ok-columns.ensures.gives (and_then c.in_ok-rows.ensures.gives (and_then c.in_ok-sets.ensures.gives (and_then c.in_ok-ec.ensures.gives (stop c.in_err-intra.ensures.gives)))))))
 
-pub returns : goal.returns
-returns g c = (and_then c.in_ok-coder.ensures (and_then c.in_ok-planes.ensures (and_then c.in_ok-columns.ensures (and_then c.in_ok-rows.ensures (and_then c.in_ok-sets.ensures (and_then c.in_ok-ec.ensures (and_then c.in_ok-intra.ensures (gives_done configuration_of _ _))))))))
+pub returns-clause-gives : goal.returns-clause-gives
+returns-clause-gives g c = (and_then c.in_ok-coder.ensures.gives (and_then c.in_ok-planes.ensures.gives (and_then c.in_ok-columns.ensures.gives (and_then c.in_ok-rows.ensures.gives (and_then c.in_ok-sets.ensures.gives (and_then c.in_ok-ec.ensures.gives (and_then c.in_ok-intra.ensures.gives (gives_done configuration_of _ _))))))))
+
+pub returns-in_err-sets-clause-memory : goal.returns-in_err-sets-clause-memory
+returns-in_err-sets-clause-memory g c = told _ c.from_residual-in_err-sets.result c.from_residual-in_err-sets.ensures.1
+    (λ memory. read_then c.in_ok-coder.ensures.gives (read_then c.in_ok-planes.ensures.gives (read_then c.in_ok-columns.ensures.gives (read_then c.in_ok-rows.ensures.gives (c.in_err-sets.ensures.memory memory)))))
+
+pub returns-in_err-ec-clause-memory : goal.returns-in_err-ec-clause-memory
+returns-in_err-ec-clause-memory g c = told _ c.from_residual-in_err-ec.result c.from_residual-in_err-ec.ensures.1
+    (λ memory. read_then c.in_ok-coder.ensures.gives (read_then c.in_ok-planes.ensures.gives (read_then c.in_ok-columns.ensures.gives (read_then c.in_ok-rows.ensures.gives (read_first c.in_ok-sets.ensures.gives)))))
+
+pub returns-in_err-intra-clause-memory : goal.returns-in_err-intra-clause-memory
+returns-in_err-intra-clause-memory g c = told _ c.from_residual-in_err-intra.result c.from_residual-in_err-intra.ensures.1
+    (λ memory. read_then c.in_ok-coder.ensures.gives (read_then c.in_ok-planes.ensures.gives (read_then c.in_ok-columns.ensures.gives (read_then c.in_ok-rows.ensures.gives (read_first c.in_ok-sets.ensures.gives)))))

@@ -1,5 +1,5 @@
 use Rattle.std.proofs.Common.{inl, inr}
-use Rattle.ffv1_record.proofs.Giving.{and_then, handed, stop, gives_required, gives_refused, gives_done, gives_memory}
+use Rattle.ffv1_record.proofs.CallsGive.{and_then, handed, stop, gives_required, gives_refused, gives_done, gives_memory}
 use Rattle.ffv1_record.proofs.TableRuns.{few_contexts, many_contexts}
 use Rattle.ffv1_record.proofs.read.read_set.Goals as goal
 

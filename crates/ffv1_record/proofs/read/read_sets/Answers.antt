@@ -1,6 +1,6 @@
 use Rattle.std.proofs.Common.{◌≡◌, ◌-◌, arith, refl}
-use Rattle.ffv1_record.proofs.Giving.{handed, gives_memory}
-use Rattle.ffv1_record.proofs.Leading.{leads_none, sets_next, sets_refuse, sets_end}
+use Rattle.ffv1_record.proofs.CallsGive.{handed, gives_memory}
+use Rattle.ffv1_record.proofs.ReadingLoops.{leads_none, sets_next, sets_refuse, sets_end}
 use Rattle.ffv1_record.proofs.read.read_sets.Goals as goal
 
 pub returns-in_err-set : goal.returns-in_err-set

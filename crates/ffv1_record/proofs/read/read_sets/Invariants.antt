@@ -1,6 +1,6 @@
 use Rattle.std.proofs.Common.{◌-◌, []}
 use Rattle.ffv1_record.specs.Reading.{sets_onto}
-use Rattle.ffv1_record.proofs.Leading.{Leads}
+use Rattle.ffv1_record.proofs.ReadingLoops.{Leads}
 use Rattle.ffv1_record.proofs.read.read_sets.Given as goal
 
 abbrev pub invariant-loop-index : goal.invariant-loop-index

@@ -2,7 +2,7 @@ use Rattle.std.proofs.Common.{◌≡◌, ◌-◌, ◌+◌, zero, arith, refl}
 use Rattle.ffv1_range.specs.Standard.{standard}
 use Rattle.ffv1_range.proofs.Named.{fresh_held}
 use Rattle.ffv1_range.proofs.Standard.{standard as standard_table}
-use Rattle.ffv1_record.proofs.Giving.{handed}
+use Rattle.ffv1_record.proofs.CallsGive.{handed}
 use Rattle.ffv1_record.proofs.TableRuns.{table_begins, table_next_at, table_refuse_at, table_end, run_more, run_each, all_filled}
 use Rattle.ffv1_record.proofs.read.read_table.Goals as goal
 

@@ -1,4 +1,4 @@
-use Rattle.ffv1_record.proofs.Holding.{wrote_on}
+use Rattle.ffv1_record.proofs.EncoderSteps.{wrote_on}
 use Rattle.ffv1_record.proofs.write.write_closing.Goals as goal
 
 pub returns-clause-ok : goal.returns-clause-ok

@@ -1,4 +1,4 @@
-use Rattle.ffv1_record.proofs.Holding.{wrote_on}
+use Rattle.ffv1_record.proofs.EncoderSteps.{wrote_on}
 use Rattle.ffv1_record.proofs.write.write_coder.Goals as goal
 
 pub returns-in-Two-clause-ok : goal.returns-in-Two-clause-ok

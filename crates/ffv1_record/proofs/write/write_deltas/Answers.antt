@@ -3,7 +3,7 @@ use Rattle.std.specs.Int.{w32}
 use mir.Val.{SFits, to_z, of_z}
 use Rattle.std.proofs.lemmas.Int.{to_z-of_z}
 use Rattle.ffv1_record.proofs.Checks.{small_delta}
-use Rattle.ffv1_record.proofs.Holding.{wrote_on, wrote_as, deltas_last, deltas_more, taken_more}
+use Rattle.ffv1_record.proofs.EncoderSteps.{wrote_on, wrote_as, deltas_last, deltas_more, taken_more}
 use Rattle.ffv1_record.proofs.write.write_deltas.Goals as goal
 
 pub signed_number-requires : goal.signed_number-requires

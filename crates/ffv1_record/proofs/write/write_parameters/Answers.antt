@@ -1,5 +1,5 @@
 use Rattle.ffv1_record.specs.Configuration.{configuration_of}
-use Rattle.ffv1_record.proofs.Holding.{wrote_all, bytes_are, bytes_few}
+use Rattle.ffv1_record.proofs.EncoderSteps.{wrote_all, bytes_are, bytes_few}
 use Rattle.ffv1_record.proofs.write.write_parameters.Goals as goal
 
 pub returns-clause-ok : goal.returns-clause-ok

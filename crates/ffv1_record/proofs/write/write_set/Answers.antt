@@ -1,4 +1,4 @@
-use Rattle.ffv1_record.proofs.Holding.{wrote_set}
+use Rattle.ffv1_record.proofs.EncoderSteps.{wrote_set}
 use Rattle.ffv1_record.proofs.write.write_set.Goals as goal
 
 pub returns-clause-ok : goal.returns-clause-ok

@@ -1,6 +1,6 @@
 use Rattle.std.proofs.Common.{◌≡◌, ◌<◌, length, take, arith, []}
 use Rattle.std.proofs.lemmas.List.{length-take}
-use Rattle.ffv1_record.proofs.Holding.{wrote_more, taken_more}
+use Rattle.ffv1_record.proofs.EncoderSteps.{wrote_more, taken_more}
 use Rattle.ffv1_record.proofs.write.write_sets.Goals as goal
 
 pub loop-index-preserved : goal.loop-index-preserved

@@ -2,7 +2,7 @@ use Rattle.std.proofs.Common.{◌≡◌, length, take, arith, take_all}
 use Rattle.ffv1_range.specs.Standard.{standard}
 use Rattle.ffv1_range.proofs.Named.{fresh_held}
 use Rattle.ffv1_range.proofs.Standard.{standard as standard_table}
-use Rattle.ffv1_record.proofs.Holding.{running_none, running_next, running_end, taken_more}
+use Rattle.ffv1_record.proofs.EncoderSteps.{running_none, running_next, running_end, taken_more}
 use Rattle.ffv1_record.proofs.write.write_table.Goals as goal
 
 pub loop-k-init : goal.loop-k-init

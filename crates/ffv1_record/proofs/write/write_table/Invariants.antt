@@ -1,7 +1,7 @@
 use Rattle.std.proofs.Common.{take}
 use Rattle.ffv1_range.specs.Standard.{standard}
 use Rattle.ffv1_range.specs.Symbols.{AreHeld}
-use Rattle.ffv1_record.proofs.Holding.{Running}
+use Rattle.ffv1_record.proofs.EncoderSteps.{Running}
 use Rattle.ffv1_record.proofs.write.write_table.Given as goal
 
 abbrev pub invariant-loop-k : goal.invariant-loop-k

@@ -1,5 +1,5 @@
 use Rattle.std.proofs.Common.{sym, add-one}
-use Rattle.ffv1_record.proofs.Holding.{wrote_on, wrote_as, uncoded_last}
+use Rattle.ffv1_record.proofs.EncoderSteps.{wrote_on, wrote_as, uncoded_last}
 use Rattle.ffv1_record.proofs.write.write_uncoded.Goals as goal
 
 pub loop-index-preserved : goal.loop-index-preserved

@@ -1,27 +1,39 @@
-use Rattle.std.proofs.Common.{◌<◌, ◌≤◌, sym, arith}
-use Rattle.ffv1_y4m.proofs.Frames.{frame_ends, frame_differs, frame_short, frame_whole}
+use Rattle.std.proofs.Common.{◌≡◌, ◌==◌, ◌<◌, false, get_or, ◌∙◌, ap, arith}
+use Rattle.std.proofs.lemmas.Result.{err_from_is_err_and}
+use Rattle.std.proofs.lemmas.Grind.{common_steps}
+use Rattle.ffv1_y4m.specs.Pictures.{frame_line}
+use Rattle.ffv1_wire.specs.Failures.{one_more}
+use Rattle.ffv1_y4m.proofs.Frames.{frame_failed, frame_differs, frame_nothing, frame_short, frame_whole}
 use Rattle.ffv1_y4m.proofs.reading.read_frame_line.Goals as goal
 
-pub returns-then-len-eq0-clause-answer : goal.returns-then-len-eq0-clause-answer
-returns-then-len-eq0-clause-answer g c =
-    let read = c.in_ok-len.ensures in
-    frame_ends _ _ _ _ c.read_full.new.buf c.in_ok-len.len c.read_full.auto.buf c.if-len-eq0.true read.ok read.counted
+pub returns-in_err-byte-clause-answer : goal.returns-in_err-byte-clause-answer
+returns-in_err-byte-clause-answer g c =
+    let p = err_from_is_err_and c.from_residual.result c.from_residual.ensures.1 in
+    let inv = c.loop-place.invariant in
+    let new = c.in_err-byte.ensures in
+    rw (p.1, p.2) (frame_failed _ _ _ c.loop-place.place _ _ (omega arith) inv.0 new.err (new.counted ∙ ap one_more inv.1))
 
-pub returns-then-not-is_text-clause-answer : goal.returns-then-not-is_text-clause-answer
-returns-then-not-is_text-clause-answer g c =
-    let read = c.in_ok-len.ensures in
-    let some : 0 < c.in_ok-len.len = omega (arith, c.if-len-eq0.false) in
-    let most : c.in_ok-len.len ≤ 6 = omega (arith, read.bound.0, c.read_full.auto.buf) in
-    frame_differs _ _ _ _ c.read_full.new.buf c.in_ok-len.len c.read_full.auto.buf some most read.ok read.counted (sym c.if-not-is_text.ensures)
+pub returns-in-Some-2-clause-answer : goal.returns-in-Some-2-clause-answer
+returns-in-Some-2-clause-answer g c =
+    let inv = c.loop-place.invariant in
+    let new = rw c.in-Some.is at c.in_ok-byte.ensures.ok in
+    let differs : (c.in-Some.byte == get_or frame_line c.loop-place.place 0) ≡ false = grind (arith, common_steps, c.if-byte-place.false) in
+    frame_differs _ _ _ c.loop-place.place c.in-Some.byte _ _ (omega arith) inv.0 new differs (c.in_ok-byte.ensures.counted ∙ inv.1)
 
-pub returns-then-len-lt6-clause-answer : goal.returns-then-len-lt6-clause-answer
-returns-then-len-lt6-clause-answer g c =
-    let read = c.in_ok-len.ensures in
-    let some : 0 < c.in_ok-len.len = omega (arith, c.if-len-eq0.false) in
-    frame_short _ _ _ _ c.read_full.new.buf c.in_ok-len.len c.read_full.auto.buf some c.if-len-lt6.true read.ok read.counted (sym c.if-not-is_text.ensures)
+pub returns-in-None-clause-answer : goal.returns-in-None-clause-answer
+returns-in-None-clause-answer g c =
+    let inv = c.loop-place.invariant in
+    let new = rw c.in-None.is at c.in_ok-byte.ensures.ok in
+    frame_nothing _ _ _ c.loop-place.place _ _ (omega (arith, c.if-place-eq0.true)) inv.0 new.0 new.1 (c.in_ok-byte.ensures.counted ∙ inv.1)
+
+pub returns-in-None-2-clause-answer : goal.returns-in-None-2-clause-answer
+returns-in-None-2-clause-answer g c =
+    let inv = c.loop-place.invariant in
+    let new = rw c.in-None.is at c.in_ok-byte.ensures.ok in
+    let some : 0 < c.loop-place.place = omega (arith, c.if-place-eq0.false) in
+    frame_short _ _ _ c.loop-place.place _ _ some (omega arith) inv.0 new.0 new.1 (c.in_ok-byte.ensures.counted ∙ inv.1)
 
 pub returns-clause-answer : goal.returns-clause-answer
 returns-clause-answer g c =
-    let read = c.in_ok-len.ensures in
-    let most : c.in_ok-len.len ≤ 6 = omega (arith, read.bound.0, c.read_full.auto.buf) in
-    frame_whole _ _ _ _ c.read_full.new.buf c.in_ok-len.len c.read_full.auto.buf c.if-len-lt6.false most read.ok read.counted (sym c.if-not-is_text.ensures)
+    let inv = c.loop-place.invariant in
+    frame_whole _ _ c.loop-place.place _ _ (omega arith) inv.0 inv.1

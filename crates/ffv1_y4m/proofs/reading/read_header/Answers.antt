@@ -1,22 +1,30 @@
 use Rattle.std.proofs.Common.{◌≡◌, ◌∙◌, take, length, arith}
 use Rattle.std.proofs.lemmas.Grind.{common_steps}
-use Rattle.ffv1_y4m.specs.Header.{head_of_line}
-use Rattle.ffv1_y4m.proofs.Textual.{textual_line, line_answers, line_none, no_want}
+use Rattle.std.proofs.lemmas.Result.{err_from_is_err_and}
+use Rattle.ffv1_y4m.specs.Header.{head_of_line, line_read}
+use Rattle.ffv1_y4m.specs.Reads.{Nowhere}
+use Rattle.ffv1_y4m.specs.Sequence.{judge}
+use Rattle.ffv1_y4m.proofs.Lines.{line_stays}
+use Rattle.ffv1_y4m.proofs.Sequences.{stands_first, stands_next}
+use Rattle.ffv1_y4m.proofs.Textual.{header_fault, shortens_line, stands_line, textual_line}
 use Rattle.ffv1_y4m.proofs.reading.read_header.Goals as goal
 
-pub returns-in-Some-clause-answer : goal.returns-in-Some-clause-answer
-returns-in-Some-clause-answer g c =
-    let read = rw c.in-Some.is at c.in_ok-end.ensures.ok in
+pub returns-in_err-end-clause-answer : goal.returns-in_err-end-clause-answer
+returns-in_err-end-clause-answer g c =
+    let p = err_from_is_err_and c.from_residual.result c.from_residual.ensures.1 in
     let long : length c.read_line.new.line ≡ 1025 = c.read_line.auto.line in
-    let is : c.head_of_line.result ≡ head_of_line (take c.in-Some.end c.read_line.new.line) = c.head_of_line.ensures.value ∙ grind (arith, common_steps) in
-    line_answers _ _ _ _ (length c.read_line.new.line) c.read_line.new.line c.in-Some.end _ long read c.in_ok-end.ensures.counted (rw is (textual_line (take c.in-Some.end c.read_line.new.line))) is
+    let read = rw long at c.in_err-end.ensures.answer in
+    rw (p.1, p.2) (stands_first (line_read 1025) (λ line. judge (head_of_line line)) Nowhere Nowhere _ c.in_err-end.field-0.0 shortens_line (λ xs h. h) read)
 
-pub returns-in-None-clause-answer : goal.returns-in-None-clause-answer
-returns-in-None-clause-answer g c =
-    let read = rw c.in-None.is at c.in_ok-end.ensures.ok in
-    line_none _ _ _ _ (length c.read_line.new.line) c.read_line.new.line c.read_line.auto.line read c.in_ok-end.ensures.counted
+pub returns-clause-answer : goal.returns-clause-answer
+returns-clause-answer g c =
+    let long : length c.read_line.new.line ≡ 1025 = c.read_line.auto.line in
+    let read = rw long at c.in_ok-end.ensures.answer in
+    let line = take c.in_ok-end.end c.read_line.new.line in
+    let is : c.head_of_line.result ≡ head_of_line (take c.in_ok-end.end c.read_line.new.line) = c.head_of_line.ensures.value ∙ grind (arith, common_steps) in
+    rw is (stands_next (line_read 1025) (λ l. judge (head_of_line l)) Nowhere Nowhere Nowhere _ _ _ _ _ _ line (head_of_line line) (line_stays 1025 line) (λ xs ys a b. b) read (stands_line (head_of_line line) _ _ (textual_line line)))
 
-pub returns-in-Some-clause-memory : goal.returns-in-Some-clause-memory
-returns-in-Some-clause-memory g c =
-    let is : c.head_of_line.result ≡ head_of_line (take c.in-Some.end c.read_line.new.line) = c.head_of_line.ensures.value ∙ grind (arith, common_steps) in
-    no_want c.head_of_line.result (rw is (textual_line (take c.in-Some.end c.read_line.new.line)))
+pub returns-clause-own : goal.returns-clause-own
+returns-clause-own g c =
+    let is : c.head_of_line.result ≡ head_of_line (take c.in_ok-end.end c.read_line.new.line) = c.head_of_line.ensures.value ∙ grind (arith, common_steps) in
+    header_fault c.head_of_line.result (rw is (textual_line (take c.in_ok-end.end c.read_line.new.line)))

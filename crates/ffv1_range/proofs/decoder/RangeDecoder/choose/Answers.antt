@@ -1,7 +1,7 @@
 use Rattle.std.proofs.Common.{true, false}
 use Rattle.std.proofs.lemmas.Bool.{le-leb, lt-leb}
 use Rattle.ffv1_range.specs.Interval.{part}
-use Rattle.ffv1_range.proofs.Standing.{at_one, at_zero}
+use Rattle.ffv1_range.proofs.DecoderParts.{at_one, at_zero}
 use Rattle.ffv1_range.proofs.decoder.RangeDecoder.choose.Goals as goal
 use Rattle.ffv1_range.proofs.decoder.RangeDecoder.choose.Goals.{then-bit, else-bit}
 

@@ -1,6 +1,6 @@
 use Rattle.std.proofs.Common.{true, false}
 use Rattle.ffv1_range.specs.Interval.{part}
-use Rattle.ffv1_range.proofs.Standing.{at_one, at_zero}
+use Rattle.ffv1_range.proofs.DecoderParts.{at_one, at_zero}
 use Rattle.ffv1_range.proofs.decoder.RangeDecoder.decide.Goals as goal
 
 pub returns-then-gap-part-clause-at : goal.returns-then-gap-part-clause-at

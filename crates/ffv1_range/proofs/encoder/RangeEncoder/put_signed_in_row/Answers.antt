@@ -3,6 +3,7 @@ use Rattle.std.proofs.lemmas.Int.{to_z-of_z}
 use Rattle.std.specs.Int.{w32}
 use mir.Val.{SFits}
 use Rattle.ffv1_range.specs.Symbols.{signed_steps}
+use Rattle.ffv1_range.proofs.Growth.{refused_part}
 use Rattle.ffv1_range.proofs.Windows.{puts_part, all_held_part, signed_below}
 use Rattle.ffv1_range.proofs.encoder.RangeEncoder.put_signed_in_row.Goals as goal
 
@@ -23,3 +24,10 @@ pub returns-in-Err-clause-held : goal.returns-in-Err-clause-held
 returns-in-Err-clause-held g c =
     let wide : c.args.row * 32 + 32 - c.args.row * 32 ≡ 32 = omega arith in
     rw wide (all_held_part c.args.table.now c.args.states.now c.write_signed.new.states (c.args.row * 32) 32 c.requires.rows c.requires.held c.write_signed.ensures.held)
+
+pub returns-in-Err-clause-refused : goal.returns-in-Err-clause-refused
+returns-in-Err-clause-refused g c =
+    let fits : SFits w32 c.args.value = search rules in
+    let wide : c.args.row * 32 + 32 - c.args.row * 32 ≡ 32 = omega arith in
+    let refused = simp to_z-of_z at c.in-Err.ensures.refused in
+    refused_part c.args.table.now c.args.self.now c.args.states.now (c.args.row * 32) 32 (signed_steps c.args.value) c.requires.rows (signed_below c.args.value) (rw wide at refused)

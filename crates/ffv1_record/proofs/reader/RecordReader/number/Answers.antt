@@ -1,4 +1,4 @@
-use Rattle.ffv1_record.proofs.Giving.{gives_number, refuses_number}
+use Rattle.ffv1_record.proofs.CallsGive.{gives_number, refuses_number}
 use Rattle.ffv1_record.proofs.reader.RecordReader.number.Goals as goal
 
 pub returns-in_default-clause-gives : goal.returns-in_default-clause-gives

@@ -1,4 +1,4 @@
-use Rattle.ffv1_record.proofs.Giving.{gives_number_in, refuses_number_in}
+use Rattle.ffv1_record.proofs.CallsGive.{gives_number_in, refuses_number_in}
 use Rattle.ffv1_record.proofs.reader.RecordReader.number_in.Goals as goal
 
 pub returns-in_default-clause-gives : goal.returns-in_default-clause-gives

@@ -1,4 +1,4 @@
-use Rattle.ffv1_record.proofs.Giving.{stopped, gives_within, refuses_within, within_bounds, above_bounds, below_bounds}
+use Rattle.ffv1_record.proofs.CallsGive.{stopped, gives_within, refuses_within, within_bounds, above_bounds, below_bounds}
 use Rattle.ffv1_record.proofs.reader.RecordReader.number_within.Goals.{else-least-number-via-then-least-number+else-number-most, else-least-number-via-else-least-number}
 use Rattle.ffv1_record.proofs.reader.RecordReader.number_within.Goals as goal
 

@@ -1,4 +1,4 @@
-use Rattle.ffv1_record.proofs.Giving.{gives_run, refuses_run}
+use Rattle.ffv1_record.proofs.CallsGive.{gives_run, refuses_run}
 use Rattle.ffv1_record.proofs.reader.RecordReader.run.Goals as goal
 
 pub returns-then-number-most-clause-gives : goal.returns-then-number-most-clause-gives

@@ -1,5 +1,5 @@
 use Rattle.std.proofs.Common.{refl}
-use Rattle.ffv1_record.proofs.Giving.{gives_truth}
+use Rattle.ffv1_record.proofs.CallsGive.{gives_truth}
 use Rattle.ffv1_record.proofs.reader.RecordReader.truth.Goals as goal
 
 pub returns : goal.returns

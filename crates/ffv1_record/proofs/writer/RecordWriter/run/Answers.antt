@@ -1,5 +1,5 @@
 use Rattle.ffv1_range.proofs.Unsigned.{unsigned_below}
-use Rattle.ffv1_record.proofs.Holding.{wrote_steps_in}
+use Rattle.ffv1_record.proofs.EncoderSteps.{wrote_steps_in}
 use Rattle.ffv1_record.proofs.writer.RecordWriter.run.Goals as goal
 
 pub returns-clause-ok : goal.returns-clause-ok

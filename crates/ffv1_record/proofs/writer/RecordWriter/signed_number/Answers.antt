@@ -3,7 +3,7 @@ use Rattle.std.specs.Int.{w32}
 use mir.Val.{SFits, to_z, of_z}
 use Rattle.std.proofs.lemmas.Int.{to_z-of_z}
 use Rattle.ffv1_range.proofs.Windows.{signed_below}
-use Rattle.ffv1_record.proofs.Holding.{wrote_steps}
+use Rattle.ffv1_record.proofs.EncoderSteps.{wrote_steps}
 use Rattle.ffv1_record.proofs.writer.RecordWriter.signed_number.Goals as goal
 
 pub returns-clause-ok : goal.returns-clause-ok

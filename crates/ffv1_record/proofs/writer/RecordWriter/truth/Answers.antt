@@ -1,5 +1,5 @@
 use Rattle.std.proofs.Common.{refl, arith}
-use Rattle.ffv1_record.proofs.Holding.{wrote_steps}
+use Rattle.ffv1_record.proofs.EncoderSteps.{wrote_steps}
 use Rattle.ffv1_record.proofs.writer.RecordWriter.truth.Goals as goal
 
 pub returns-clause-ok : goal.returns-clause-ok

@@ -1,0 +1,17 @@
+-- What a call on known bytes answers.
+use Rattle.std.proofs.Common.{◌≡◌, ℕ, Option, Some, None, Ok, Err, List, ◌++◌, ap, ◌∙◌, refl}
+use Rattle.ffv1_avi.specs.declared.fault.AviFault.{AviFault}
+use Rattle.ffv1_avi.specs.Reads.{Faults, Lacks, Met, Read, Reading, Short, Want}
+
+pub known_read : {X : Type 0} (reading : Reading X) (text : List ℕ) (new : Option (List ℕ)) (x : X) → Read reading (Some text) new x → (rest : List ℕ) × (new ≡ Some rest) × (reading text ≡ Ok (x, rest))
+known_read reading text None x h = absurd h.consumed
+known_read reading text (Some rest) x h = (rest, refl, ap reading h.consumed ∙ h.is rest)
+
+pub known_fault : {X : Type 0} (reading : Reading X) (text : List ℕ) (new : Option (List ℕ)) (f : AviFault) → Faults reading (Some text) new f → (rest : List ℕ) × (new ≡ Some rest) × (reading text ≡ Err (Met f rest))
+known_fault reading text None f h = absurd h.consumed
+known_fault reading text (Some rest) f h = (rest, refl, ap reading h.consumed ∙ h.is rest)
+
+pub known_lack : {X : Type 0} (reading : Reading X) (text : List ℕ) (new : Option (List ℕ)) (w : Want) → Lacks reading (Some text) new w →
+    (bytes rest : List ℕ) × (text ≡ bytes ++ rest) × (new ≡ Some rest) × (reading bytes ≡ Err (Short w))
+known_lack reading text None w h = absurd h.consumed
+known_lack reading text (Some rest) w h = (h.bytes, rest, h.consumed, refl, h.is)

@@ -1,0 +1,67 @@
+use Rattle.std.proofs.Common.{◌≡◌, ◌-◌, ◌&&◌, ◌++◌, ℕ, List, [], Bool, if◌then◌else◌, nat_le, true, false, codes, length, take, drop, refl, sym, ap, ◌∙◌, arith, length-drop}
+use Rattle.std.proofs.lemmas.Bool.{le-leb, lt-leb}
+use Rattle.std.proofs.lemmas.List.{take_all}
+use Rattle.byteorder.specs.Endian.{little_number}
+use Rattle.ffv1_avi.specs.declared.fault.AviFault.TheVariants as fault
+use Rattle.ffv1_avi.specs.declared.stream.Sizes.{Sizes}
+use Rattle.ffv1_avi.specs.Files.{begins, open_read, top_read}
+use Rattle.ffv1_avi.specs.Head.{Head}
+use Rattle.ffv1_avi.specs.Reads.{Looked, Reading, refused, taken, ◌>>=◌}
+use Rattle.ffv1_avi.specs.Views.{head_with}
+use Rattle.ffv1_avi.specs.Walk.{is_name}
+use Rattle.ffv1_avi.proofs.Contents.{number_taken}
+use Rattle.ffv1_avi.proofs.Passing.{wanted_sound}
+use Rattle.ffv1_avi.proofs.Reading.{faults_here, goes_fault, goes_last, goes_none, goes_read, goes_same}
+use Rattle.ffv1_avi.proofs.open.read_opening.Goals as goal
+use Rattle.ffv1_avi.proofs.open.read_opening.Goals.{then-not-is_name-via-then-not-is_name, then-not-is_name-via-else-not-is_name+then-not-is_name-2, then-not-is_name-via-else-not-is_name+else-not-is_name-2+then-size-lt4}
+
+abbrev behind : List ℕ → Reading (Head × ℕ)
+behind bytes = if begins bytes then top_read (little_number 4 (drop 4 bytes) - 4) else refused fault.NotAvi
+
+opened : (text : List ℕ) → open_read text ≡ (taken 12 >>= behind) text
+unfolding open_read
+opened text = refl
+
+begun : (bytes : List ℕ) → begins bytes ≡ true → (text : List ℕ) → behind bytes text ≡ top_read (little_number 4 (drop 4 bytes) - 4) text
+begun bytes is text = rw is refl
+
+not_begun : (bytes : List ℕ) → begins bytes ≡ false → (text : List ℕ) → behind bytes text ≡ refused fault.NotAvi text
+not_begun bytes is text = rw is refl
+
+all_three : (a b c : Bool) → a ≡ true → b ≡ true → c ≡ true → ((a && b) && c) ≡ true
+all_three a b c p q r = rw (p, q, r) refl
+
+no_first : (a b c : Bool) → a ≡ false → ((a && b) && c) ≡ false
+no_first a b c p = rw p refl
+
+no_second : (a b c : Bool) → a ≡ true → b ≡ false → ((a && b) && c) ≡ false
+no_second a b c p q = rw (p, q) refl
+
+no_third : (a b c : Bool) → a ≡ true → b ≡ true → c ≡ false → ((a && b) && c) ≡ false
+no_third a b c p q r = rw (p, q, r) refl
+
+pub returns-then-not-is_name : goal.returns-then-not-is_name
+returns-then-not-is_name g c =
+    let head = c.take.new.buf in
+    let long : length head ≡ 12 = (wanted_sound Looked 12 (c.in_ok-take.ensures.1.bytes ++ []) (head, []) (c.in_ok-take.ensures.1.is [])).1 in
+    let form : take 4 (drop 8 head) ≡ drop 8 head = take_all 4 (drop 8 head) (omega (arith, long, length-drop 8 head)) in
+    let size : c.read_u32-size.result ≡ little_number 4 (drop 4 head) = c.read_u32-size.ensures ∙ number_taken 8 (drop 4 head) (omega arith) in
+    let a = is_name (take 4 head) (codes "RIFF") in
+    let b = is_name (drop 8 head) (codes "AVI ") in
+    let z = nat_le 4 (little_number 4 (drop 4 head)) in
+    let other : begins head ≡ false = elim c.then-not-is_name.branch [ then-not-is_name-via-then-not-is_name w ↦ no_first a b z (sym w.if-not-is_name.ensures) | then-not-is_name-via-else-not-is_name+then-not-is_name-2 w ↦ no_second a b z (sym w.if-not-is_name.ensures) (ap (λ y. is_name y (codes "AVI ")) (sym form) ∙ sym w.if-not-is_name-2.ensures) | then-not-is_name-via-else-not-is_name+else-not-is_name-2+then-size-lt4 w ↦ no_third a b z (sym w.if-not-is_name.ensures) (ap (λ y. is_name y (codes "AVI ")) (sym form) ∙ sym w.if-not-is_name-2.ensures) (lt-leb _ _ (omega (arith, size, w.if-size-lt4.true))) ] in
+    let start = goes_same _ (taken 12 >>= behind) opened (goes_none open_read (g.R.ByteIn.remaining c.args.input.now) (g.R.ByteIn.failures c.args.input.now)) in
+    let here = goes_same _ (refused fault.NotAvi) (not_begun head other) (goes_read (taken 12) behind _ _ head start c.in_ok-take.ensures) in
+    goes_fault fault.NotAvi here (refl, faults_here (Head × ℕ) fault.NotAvi _)
+
+pub returns : goal.returns
+returns g c =
+    let head = c.take.new.buf in
+    let long : length head ≡ 12 = (wanted_sound Looked 12 (c.in_ok-take.ensures.1.bytes ++ []) (head, []) (c.in_ok-take.ensures.1.is [])).1 in
+    let form : take 4 (drop 8 head) ≡ drop 8 head = take_all 4 (drop 8 head) (omega (arith, long, length-drop 8 head)) in
+    let size : c.read_u32-size.result ≡ little_number 4 (drop 4 head) = c.read_u32-size.ensures ∙ number_taken 8 (drop 4 head) (omega arith) in
+    let enough : nat_le 4 (little_number 4 (drop 4 head)) ≡ true = le-leb _ _ (omega (arith, size, c.if-size-lt4.false)) in
+    let here : begins head ≡ true = all_three _ _ _ (sym c.if-not-is_name.ensures) (ap (λ y. is_name y (codes "AVI ")) (sym form) ∙ sym c.if-not-is_name-2.ensures) enough in
+    let start = goes_same _ (taken 12 >>= behind) opened (goes_none open_read (g.R.ByteIn.remaining c.args.input.now) (g.R.ByteIn.failures c.args.input.now)) in
+    let next = goes_same _ (top_read (little_number 4 (drop 4 head) - 4)) (begun head here) (goes_read (taken 12) behind _ _ head start c.in_ok-take.ensures) in
+    goes_last (top_read (little_number 4 (drop 4 head) - 4)) (λ (p : Sizes × ℕ). (head_with p.0 c.read_top.new.config.items, p.1)) _ _ c.read_top.result next (rw size at c.read_top.ensures)

@@ -1,0 +1,85 @@
+use Rattle.std.proofs.Common.{◌≡◌, ◌%◌, ◌∙◌, ◌++◌, take, ℕ, List, Option, Some, None, inr, arith, ap, sym}
+use Rattle.std.proofs.lemmas.Result.{err_from_is_err_and}
+use Rattle.ffv1_avi.specs.Files.{found_read, frame_found, frame_read}
+use Rattle.ffv1_avi.specs.Readers.{Leaves}
+use Rattle.ffv1_avi.specs.Reads.{Begins, Kept, Read, Reading, given, passed, wanted, ◌>>=◌}
+use Rattle.ffv1_avi.proofs.Chunking.{cut_front}
+use Rattle.ffv1_avi.proofs.Passing.{wanted_sound}
+use Rattle.ffv1_avi.proofs.Reading.{goes_given, goes_none, goes_read, goes_refused, goes_same}
+use Rattle.ffv1_avi.proofs.Walking.{read_on_twice}
+use Rattle.ffv1_avi.proofs.reader.read_frame.Goals as goal
+
+abbrev framed : ℕ → List ℕ → Reading (Option (List ℕ × ℕ))
+framed after bytes = given (Some (bytes, after))
+
+abbrev behind : ℕ → List ℕ → Reading (List ℕ)
+behind size bytes = passed (size % 2) >>= λ _. given bytes
+
+abbrev rest : ℕ → ℕ → List ℕ → Reading (Option (List ℕ × ℕ))
+rest size after bytes = behind size bytes >>= framed after
+
+abbrev last : ℕ → ℕ → List ℕ → Reading (Option (List ℕ × ℕ))
+last size after bytes = passed (size % 2) >>= λ _. given (Some (bytes, after))
+
+found_twice : (size after : ℕ) (text : List ℕ) → found_read (Some (size, after)) text ≡ (wanted Kept size >>= rest size after) text
+found_twice size after text = read_on_twice (wanted Kept size text) (behind size) (framed after)
+
+rest_twice : (size after : ℕ) (bytes text : List ℕ) → rest size after bytes text ≡ last size after bytes text
+rest_twice size after bytes text = read_on_twice (passed (size % 2) text) (λ _. given bytes) (framed after)
+
+leaves_begun : (left : ℕ) (old now : Option (List ℕ)) (size after : ℕ) (bytes : List ℕ) → Read (frame_found left) old now (Some (size, after)) → Begins now size bytes → Leaves left old bytes
+leaves_begun left None now size after bytes read begins = tt
+leaves_begun left (Some text) None size after bytes read begins = absurd read.consumed
+leaves_begun left (Some text) (Some more) size after bytes read begins = inr (size, after, more, ap (frame_found left) read.consumed ∙ read.is more, begins.0, begins.1, begins.2)
+
+begins_all : (old new : Option (List ℕ)) (size : ℕ) (bytes : List ℕ) → Read (wanted Kept size) old new bytes → Begins old size bytes
+begins_all None new size bytes read = tt
+begins_all (Some text) None size bytes read = absurd read.consumed
+begins_all (Some text) (Some left) size bytes read =
+    let all = wanted_sound Kept size (read.bytes ++ left) (bytes, left) (read.is left) in
+    (size, omega arith, sym (cut_front size bytes left all.1) ∙ ap (λ z. take size z) (sym (read.consumed ∙ all.0)))
+
+pub returns-in_err-fill-clause-answer : goal.returns-in_err-fill-clause-answer
+returns-in_err-fill-clause-answer g c =
+    let p = err_from_is_err_and c.from_residual-in_err-fill.result c.from_residual-in_err-fill.ensures.1 in
+    let size = c.in-Some.size in
+    let after = c.in-Some.after in
+    let start = goes_none (frame_read c.args.left) (g.R.ByteIn.remaining c.args.input.now) (g.R.ByteIn.failures c.args.input.now) in
+    let found = goes_read (frame_found c.args.left) found_read _ _ (Some (size, after)) start (rw c.in-Some.is at c.in_ok-size.ensures.answer) in
+    let here = goes_same _ (wanted Kept size >>= rest size after) (found_twice size after) found in
+    rw (p.1, p.2) (goes_refused (wanted Kept size) (rest size after) _ _ c.in_err-fill.field-0.0 here c.in_err-fill.ensures.answer)
+
+pub returns-in_err-fill-clause-err : goal.returns-in_err-fill-clause-err
+returns-in_err-fill-clause-err g c =
+    let p = err_from_is_err_and c.from_residual-in_err-fill.result c.from_residual-in_err-fill.ensures.1 in
+    let read = rw c.in-Some.is at c.in_ok-size.ensures.answer in
+    rw p.1 (leaves_begun c.args.left _ _ c.in-Some.size c.in-Some.after c.fill.new.bytes.items read.1 c.in_err-fill.ensures.err)
+
+pub returns-in_err-pass-clause-answer : goal.returns-in_err-pass-clause-answer
+returns-in_err-pass-clause-answer g c =
+    let p = err_from_is_err_and c.from_residual-in_err-pass.result c.from_residual-in_err-pass.ensures.1 in
+    let size = c.in-Some.size in
+    let after = c.in-Some.after in
+    let bytes = c.fill.new.bytes.items in
+    let start = goes_none (frame_read c.args.left) (g.R.ByteIn.remaining c.args.input.now) (g.R.ByteIn.failures c.args.input.now) in
+    let found = goes_read (frame_found c.args.left) found_read _ _ (Some (size, after)) start (rw c.in-Some.is at c.in_ok-size.ensures.answer) in
+    let here = goes_same _ (wanted Kept size >>= rest size after) (found_twice size after) found in
+    let next = goes_same _ (last size after bytes) (rest_twice size after bytes) (goes_read (wanted Kept size) (rest size after) _ _ bytes here c.in_ok-fill.ensures.answer) in
+    rw (p.1, p.2) (goes_refused (passed (size % 2)) (λ _. given (Some (bytes, after))) _ _ c.in_err-pass.field-0.0 next (rw c.from.ensures at c.in_err-pass.ensures))
+
+pub returns-in_err-pass-clause-err : goal.returns-in_err-pass-clause-err
+returns-in_err-pass-clause-err g c =
+    let p = err_from_is_err_and c.from_residual-in_err-pass.result c.from_residual-in_err-pass.ensures.1 in
+    let read = rw c.in-Some.is at c.in_ok-size.ensures.answer in
+    rw p.1 (leaves_begun c.args.left _ _ c.in-Some.size c.in-Some.after c.fill.new.bytes.items read.1 (begins_all _ _ c.in-Some.size c.fill.new.bytes.items c.in_ok-fill.ensures.answer.1))
+
+pub returns-clause-answer : goal.returns-clause-answer
+returns-clause-answer g c =
+    let size = c.in-Some.size in
+    let after = c.in-Some.after in
+    let bytes = c.fill.new.bytes.items in
+    let start = goes_none (frame_read c.args.left) (g.R.ByteIn.remaining c.args.input.now) (g.R.ByteIn.failures c.args.input.now) in
+    let found = goes_read (frame_found c.args.left) found_read _ _ (Some (size, after)) start (rw c.in-Some.is at c.in_ok-size.ensures.answer) in
+    let here = goes_same _ (wanted Kept size >>= rest size after) (found_twice size after) found in
+    let next = goes_same _ (last size after bytes) (rest_twice size after bytes) (goes_read (wanted Kept size) (rest size after) _ _ bytes here c.in_ok-fill.ensures.answer) in
+    goes_given (Some (bytes, after)) (goes_read (passed (size % 2)) (λ _. given (Some (bytes, after))) _ _ tt next (rw c.from.ensures at c.in_ok-pass.ensures))

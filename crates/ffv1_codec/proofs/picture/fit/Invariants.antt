@@ -1,0 +1,9 @@
+use Rattle.std.proofs.Common.{◌≡◌, ℕ, ◌*◌, ◌<◌, length}
+use Rattle.ffv1_slice.specs.Grid.{across, down, whole_of}
+use Rattle.ffv1_codec.specs.Picture.{plane, planes_of}
+use Rattle.ffv1_codec.proofs.picture.fit.Given as goal
+
+abbrev pub invariant-loop-plane : goal.invariant-loop-plane
+invariant-loop-plane g l = record {
+  sizes : (p : ℕ) → p < l.plane → length (plane (planes_of l.planes) p) ≡ whole_of (across l.grid p) * whole_of (down l.grid p);
+}

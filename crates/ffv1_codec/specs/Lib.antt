@@ -1,0 +1,4 @@
+pub mod Picture
+pub mod SliceList
+pub mod Frame
+pub mod Worked

@@ -1,0 +1,87 @@
+//! Laws of the definitions, each the contract of a function that does nothing.
+
+ghost use Rattle.std.specs.Prelude.{◌≡◌, ℕ, ◌^◌, ◌<◌, true, false, [], ◌∷◌};
+ghost use Rattle.ffv1_record.specs.declared.config.Colour.TheVariants as colour;
+ghost use Rattle.ffv1_record.specs.Accepted.{Accepted, IsAccepted};
+ghost use Rattle.ffv1_slice.specs.Head.{IsHead};
+ghost use Rattle.ffv1_codec.specs.Picture.{Planes, IsPicture, coded_at, cell_in};
+ghost use Rattle.ffv1_codec.specs.SliceList.{Said, IsBody, Line, bits_of, lines_in};
+ghost use Rattle.ffv1_codec.specs.SliceList.{chosen_head, chosen_body};
+ghost use Rattle.ffv1_codec.specs.Worked.{small_pictures, unknown};
+ghost use Rattle.ffv1_codec.specs.Frame.{IsSaid, CodesPicture, HasLongSlice, frame_of};
+
+use ffv1_line::laws::chosen;
+use ffv1_range::laws::{named_states, sentinel_ending};
+use ffv1_rct::laws::{lists, small};
+use ffv1_record::laws::accepted;
+use ffv1_slice::laws::{divided, joined, parts, tiling};
+
+/// The coded samples of a picture have 8 bits, and 9 in RCT.
+pub fn coded_samples()
+    ensures { (a : Accepted) (planes : Planes) (p x y : ℕ) → IsPicture a.configuration planes →
+        coded_at a.configuration planes p x y < 2 ^ bits_of a.configuration }
+{
+    lists();
+    small();
+}
+
+/// What an encoder takes of a picture: a head of the profile that says what is to be said, and
+/// residuals that suit the samples of its slice.
+pub fn chosen_slices()
+    ensures head { (a : Accepted) (info : Said) → IsAccepted a.configuration a.table →
+        IsSaid info → IsHead a.configuration (chosen_head a.configuration info) }
+    ensures body { (a : Accepted) (planes : Planes) (info : Said) (n : ℕ) →
+        IsAccepted a.configuration a.table → IsPicture a.configuration planes →
+        IsBody a.configuration (chosen_head a.configuration info)
+        (cell_in a.configuration planes n) (lines_in a.configuration n)
+        (chosen_body a.configuration (chosen_head a.configuration info)
+        (cell_in a.configuration planes n) (lines_in a.configuration n)) }
+{
+    accepted();
+    coded_samples();
+    chosen();
+    divided();
+    tiling();
+    parts();
+}
+
+/// The payload that an encoder writes of a picture codes the picture, where no slice has more
+/// coded bytes than its footer can say.
+pub fn encoded_frame()
+    ensures { (a : Accepted) (planes : Planes) (info : Said) →
+        IsAccepted a.configuration a.table → IsPicture a.configuration planes → IsSaid info →
+        (HasLongSlice a planes info → ⊥) →
+        CodesPicture a (frame_of a planes info) planes info }
+{
+    chosen_slices();
+    joined();
+    named_states();
+    sentinel_ending();
+}
+
+/// Frames that are known from outside the program: what the definition of a frame gives for them.
+pub fn worked_frames()
+    ensures zero { frame_of (small_pictures colour.YCbCr false false 1 1 1 false)
+        ((0 ∷ []) ∷ []) unknown ≡ 254 ∷ 123 ∷ 0 ∷ 0 ∷ 2 ∷ [] }
+    ensures parity { frame_of (small_pictures colour.YCbCr false false 1 1 1 true)
+        ((0 ∷ []) ∷ []) unknown ≡
+        254 ∷ 123 ∷ 0 ∷ 0 ∷ 2 ∷ 0 ∷ 148 ∷ 140 ∷ 19 ∷ 60 ∷ [] }
+    ensures greatest { frame_of (small_pictures colour.YCbCr false false 1 1 1 false)
+        ((255 ∷ []) ∷ []) unknown ≡ 254 ∷ 24 ∷ 0 ∷ 0 ∷ 2 ∷ [] }
+    ensures middle { frame_of (small_pictures colour.YCbCr false false 1 1 1 false)
+        ((128 ∷ []) ∷ []) unknown ≡ 254 ∷ 121 ∷ 246 ∷ 133 ∷ 0 ∷ 0 ∷ 4 ∷ [] }
+    ensures four { frame_of (small_pictures colour.YCbCr false false 2 2 1 false)
+        ((10 ∷ 20 ∷ 30 ∷ 40 ∷ []) ∷ []) unknown ≡
+        254 ∷ 108 ∷ 175 ∷ 89 ∷ 122 ∷ 136 ∷ 0 ∷ 0 ∷ 6 ∷ [] }
+    ensures beside { frame_of (small_pictures colour.YCbCr false false 2 1 2 false)
+        ((0 ∷ 0 ∷ []) ∷ []) unknown ≡
+        254 ∷ 123 ∷ 0 ∷ 0 ∷ 2 ∷ 63 ∷ 118 ∷ 0 ∷ 0 ∷ 2 ∷ [] }
+    ensures chroma { frame_of (small_pictures colour.YCbCr true false 1 1 1 false)
+        ((0 ∷ []) ∷ (0 ∷ []) ∷ (0 ∷ []) ∷ []) unknown ≡ 254 ∷ 222 ∷ 0 ∷ 0 ∷ 2 ∷ [] }
+    ensures transparency { frame_of (small_pictures colour.YCbCr true true 1 1 1 false)
+        ((0 ∷ []) ∷ (0 ∷ []) ∷ (0 ∷ []) ∷ (0 ∷ []) ∷ []) unknown ≡
+        254 ∷ 245 ∷ 0 ∷ 0 ∷ 2 ∷ [] }
+    ensures red { frame_of (small_pictures colour.Rct true false 1 1 1 false)
+        ((255 ∷ []) ∷ (0 ∷ []) ∷ (0 ∷ []) ∷ []) unknown ≡
+        254 ∷ 120 ∷ 223 ∷ 131 ∷ 217 ∷ 44 ∷ 0 ∷ 0 ∷ 6 ∷ [] }
+{}

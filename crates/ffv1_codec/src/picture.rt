@@ -1,0 +1,71 @@
+//! Pictures.
+
+ghost use Rattle.std.specs.Prelude.{◌≡◌, ◌↔◌, IfSome, IsNone, IsTrue, IsFalse};
+ghost use Rattle.ffv1_codec.specs.Picture.{Fits, AreOf, planes_of};
+
+use ffv1_record::Checked;
+use ffv1_slice::Grid;
+use std::alloc::{Allocator, Global};
+use std::marker::Model;
+
+/// A picture: for each plane its samples, row after row (RFC 9043, 3.2). In RCT the planes are red,
+/// green, blue and, where there is one, transparency, else Y, Cb, Cr and transparency. It is seen
+/// as the list of its planes.
+#[derive(Drop)]
+pub struct Picture<A: Allocator = Global> {
+    planes: Vec<Vec<u8, A>, A>,
+}
+
+impl<A: Allocator> Model for Picture<A> {
+    ghost use Rattle.ffv1_codec.specs.Picture.{Planes, planes_of};
+
+    ghost Value = { Planes };
+
+    ghost view = { λ p. planes_of p.planes.items };
+}
+
+/// Whether there are as many planes as a grid has, each of its size.
+fn fit<A: Allocator>(grid: &Grid, planes: &[Vec<u8, A>]) -> bool
+    ensures yes { IsTrue result → AreOf grid.now (planes_of planes.now) }
+    ensures no { IsFalse result → AreOf grid.now (planes_of planes.now) → ⊥ }
+{
+    if planes.len() != grid.planes() as usize {
+        return false;
+    }
+    for plane in 0..grid.planes() {
+        let size = grid.width(plane) as usize * grid.height(plane) as usize;
+        if planes[plane as usize].len() != size {
+            return false;
+        }
+    }
+    true
+}
+
+impl<A: Allocator> Picture<A> {
+    /// A picture of a configuration. None exactly where the number of planes, or the length of one,
+    /// is not the configuration's; the planes are dropped then. It takes no memory.
+    pub fn new<B: Allocator>(checked: &Checked<B>, planes: Vec<Vec<u8, A>, A>) -> Option<Picture<A>>
+        ensures some { IfSome result (λ p. p ≡ planes_of planes.items) }
+        ensures fits { IfSome result (Fits checked.now.configuration) }
+        ensures none { IsNone result → Fits checked.now.configuration (planes_of planes.items) → ⊥ }
+    {
+        if !fit(&Grid::of(checked), planes.as_slice()) {
+            return None;
+        }
+        Some(Picture { planes })
+    }
+
+    /// Whether the number of planes and their lengths are a configuration's.
+    pub fn fits<B: Allocator>(&self, checked: &Checked<B>) -> bool
+        ensures { IsTrue result ↔ Fits checked.now.configuration self.now }
+    {
+        fit(&Grid::of(checked), self.planes.as_slice())
+    }
+
+    /// Its planes, each of its samples, row after row.
+    pub fn planes(&self) -> &[Vec<u8, A>]
+        ensures { self.now ≡ planes_of result.now }
+    {
+        self.planes.as_slice()
+    }
+}

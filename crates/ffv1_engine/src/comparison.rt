@@ -1,0 +1,147 @@
+//! The code of a mono plane, decoded and compared with the plane.
+
+ghost use Rattle.std.specs.Prelude.{◌≡◌, ℕ, ℤ, List, ◌+◌, ◌*◌, ◌≤◌, ◌<◌, length, take, drop};
+ghost use Rattle.std.specs.Prelude.{replicate, IfOk, IfErr, IsTrue, ◌↔◌, true};
+ghost use Rattle.ffv1_engine.specs.declared.fault.Fault.TheVariants as fault;
+ghost use Rattle.ffv1_range.specs.Symbols.{AllHeld};
+ghost use Rattle.ffv1_range.specs.Standard.{standard};
+ghost use Rattle.ffv1_plane.specs.Quantisation.{contexts_of, small_set};
+ghost use Rattle.ffv1_line.specs.Cell.{Cell, Shows, cell_of};
+ghost use Rattle.ffv1_engine.specs.Plane.{plane_residuals, plane_code, StandsBefore};
+
+use crate::fault::Fault;
+use crate::laws::code_comes_back;
+use crate::plane::fresh_states;
+use ffv1_line::laws::{cell_comes_back, rolling};
+use ffv1_line::{RollingRows, decode_line};
+use ffv1_plane::QuantSet;
+use ffv1_range::{RangeDecoder, StateTable};
+use std::alloc::{AllocError, Allocator};
+
+/// Whether a line has these samples.
+fn shows(line: &[u16], samples: &[u8]) -> bool
+    requires { length line.now ≡ length samples.now }
+    ensures { IsTrue result ↔ (line.now ≡ samples.now) }
+{
+    // All places, without a way out in between, so that many are compared at once.
+    let mut same = true;
+    for x in 0..line.len() {
+        same = same & (line[x] == u16::from(samples[x]));
+    }
+    same
+}
+
+/// Decodes a row below the rows above it, and tells whether it has these samples. It has, where
+/// they are the next row of a cell that the bytes code.
+fn decode_row<A: Allocator>(
+    decoder: &mut RangeDecoder<'_>,
+    table: &StateTable,
+    set: &QuantSet<A>,
+    states: &mut [u8],
+    rows: &mut RollingRows<Vec<u16, A>>,
+    row: &[u8],
+) -> bool
+    requires some { 0 < length row.now }
+    requires two_long { length rows.old.two.items ≡ length row.now }
+    requires one_long { length rows.old.one.items ≡ length row.now }
+    requires cur_long { length rows.old.cur.items ≡ length row.now }
+    requires rows { length states.old ≡ contexts_of set.now * 32 }
+    requires held { AllHeld table.now states.old }
+    ensures held { AllHeld table.now states.new }
+    ensures two_long { length rows.new.two.items ≡ length row.now }
+    ensures one_long { length rows.new.one.items ≡ length row.now }
+    ensures cur_long { length rows.new.cur.items ≡ length row.now }
+    ensures same { (fresh : List ℕ) (c : Cell) (qs : List (List ℤ)) (y : ℕ) → y < length qs →
+        c.width ≡ length row.now → Shows c (y + 2) row.now c.width →
+        StandsBefore table.now fresh set.now c qs y decoder.old states.old rows.old.two.items
+        rows.old.one.items → result ≡ true }
+    ensures next { (fresh : List ℕ) (c : Cell) (qs : List (List ℤ)) (y : ℕ) → y < length qs →
+        c.width ≡ length row.now → Shows c (y + 2) row.now c.width →
+        StandsBefore table.now fresh set.now c qs y decoder.old states.old rows.old.two.items
+        rows.old.one.items →
+        StandsBefore table.now fresh set.now c qs (y + 1) decoder.new states.new
+        rows.new.two.items rows.new.one.items }
+{
+    cell_comes_back();
+    rolling();
+    let cur = rows.cur.as_mut_slice();
+    match decode_line(decoder, table, set, states, &rows.two, &rows.one, cur, 8) {
+        Ok(()) => {
+            let same = shows(rows.cur.as_slice(), row);
+            rows.turn();
+            same
+        }
+        Err(_) => false,
+    }
+}
+
+/// Whether the bytes decode to these samples, row by row. They do where they code them.
+fn decode_rows<A: Allocator + Copy>(
+    alloc: A,
+    decoder: &mut RangeDecoder<'_>,
+    table: &StateTable,
+    set: &QuantSet<A>,
+    states: &mut [u8],
+    width: usize,
+    height: usize,
+    samples: &[u8],
+) -> Result<bool, AllocError>
+    requires some { 0 < width }
+    requires whole { length samples.now ≡ width * height }
+    requires rows { length states.old ≡ contexts_of set.now * 32 }
+    requires held { AllHeld table.now states.old }
+    requires stands { StandsBefore table.now states.old set.now (cell_of width samples.now)
+        (plane_residuals set.now width height samples.now) 0 decoder.old states.old
+        (replicate width 0) (replicate width 0) }
+    ensures same { IfOk result (λ same. same ≡ true) }
+{
+    let mut rows = RollingRows::new(alloc, width)?;
+    for y in 0..height {
+        let start = y * width;
+        let row = &samples[start..start + width];
+        if !decode_row(decoder, table, set, states, &mut rows, row) {
+            return Ok(false);
+        }
+    }
+    Ok(true)
+}
+
+/// Whether the code of a mono plane decodes to the plane's samples: it does, if memory serves.
+pub(crate) fn decodes_to<A: Allocator + Copy>(
+    alloc: A,
+    code: &[u8],
+    width: u32,
+    height: u32,
+    samples: &[u8],
+) -> Result<bool, Fault>
+    requires some_wide { 1 ≤ width }
+    requires wide { width ≤ 8192 }
+    requires some_high { 1 ≤ height }
+    requires high { height ≤ 8192 }
+    requires whole { length samples.now ≡ width * height }
+    requires coded { code.now ≡ plane_code standard small_set width height samples.now }
+    ensures same { IfOk result (λ same. same ≡ true) }
+    ensures err { IfErr result (λ f. f ≡ fault.OutOfMemory) }
+{
+    code_comes_back();
+    cell_comes_back();
+    rolling();
+    let table = StateTable::standard();
+    let set = QuantSet::small(alloc)?;
+    set.bounded();
+    let mut states = fresh_states(alloc, set.contexts() as usize * 32)?;
+    let Ok(mut decoder) = RangeDecoder::new(code) else {
+        return Ok(false);
+    };
+    let same = decode_rows(
+        alloc,
+        &mut decoder,
+        &table,
+        &set,
+        states.as_mut_slice(),
+        width as usize,
+        height as usize,
+        samples,
+    )?;
+    Ok(same)
+}

@@ -1,0 +1,78 @@
+-- What ties the registers of the coder to the definitions. The contracts of the calls inside cite
+-- it; a caller of the crate needs none of it.
+use Rattle.std.specs.Prelude.{◌≡◌, ℕ, ◌+◌, ◌-◌, ◌*◌, ◌^◌, ◌≤◌, ◌<◌, false, List, length}
+use Rattle.std.specs.Prelude.{slice_index}
+use Rattle.ffv1_range.specs.Interval.{Interval, narrowed}
+use Rattle.ffv1_range.specs.Codes.{value, AreBytes, AreStates}
+use Rattle.ffv1_range.specs.Counts.{uncounted}
+use Rattle.ffv1_range.specs.Table.{Table}
+use Rattle.ffv1_range.specs.Symbols.{Step, moved_by, decided}
+use Rattle.ffv1_range.specs.Reading.{Reading, At}
+use Rattle.ffv1_range.specs.Writing.{Writing}
+
+-- where each state that is held goes after a 1, and 256 times where it goes after a 0
+abbrev pub AreEither : ℕ → List ℕ → List ℕ → List ℕ → Type 0
+AreEither floor one zero either = (state : ℕ) → floor ≤ state → state + floor ≤ 256 →
+    slice_index either state ≡ slice_index one state + 256 * slice_index zero state
+
+-- where each state that is held goes after a 0, beside where it goes after a 1
+abbrev pub AreZeros : ℕ → List ℕ → List ℕ → Type 0
+AreZeros floor one zero = (state : ℕ) → floor ≤ state → state + floor ≤ 256 →
+    slice_index zero state ≡ 256 - slice_index one (256 - state)
+
+-- what holds of each decoder
+pub record IsReading (width gap : ℕ) : Type 0 where
+  pub least : 256 ≤ width
+  pub most : width ≤ 65280
+  pub some : 0 < gap
+  pub within : gap ≤ width
+
+-- the decoder read these steps, moved the states by them, and has not counted them yet
+pub record Reads (t : Table) (old : Reading) (states : List ℕ) (new : Reading) (after : List ℕ)
+    (steps : List Step) : Type 0 where
+  pub bytes : new.bytes ≡ old.bytes
+  pub at : (i : Interval) → At old i → At new (narrowed i (decided t states steps))
+  pub counts : new.counts ≡ old.counts
+  pub moves : after ≡ moved_by t states steps
+  pub named : AreStates (decided t states steps)
+
+-- the interval of an encoder whose low end has these bytes and, two places lower, low
+abbrev pub interval_from : List ℕ → ℕ → ℕ → Interval
+interval_from bytes low width = record {
+  low = 65536 * value bytes (length bytes) + low;
+  width = width;
+  count = length bytes + 2;
+}
+
+-- an encoder of this interval, before its counts
+abbrev pub standing : List ℕ → ℕ → ℕ → Writing
+standing bytes low width = record {
+  interval = interval_from bytes low width;
+  counts = uncounted;
+  failed = false;
+}
+
+-- what holds of each encoder: a carry that is still in low does not leave the first byte
+pub record IsWriting (bytes : List ℕ) (low width : ℕ) : Type 0 where
+  pub bytes_fit : AreBytes bytes
+  pub below : low + width ≤ 131072
+  pub least : 256 ≤ width
+  pub most : width ≤ 65280
+  pub room : 65536 * value bytes (length bytes) + low + width ≤ 65536 * 256 ^ length bytes
+
+-- what holds of the part of a decision, before it is renormalised
+pub record IsChosen (bytes : List ℕ) (low width : ℕ) : Type 0 where
+  pub bytes_fit : AreBytes bytes
+  pub below : low + width ≤ 131072
+  pub least : 0 < width
+  pub most : width ≤ 65280
+  pub room : 65536 * value bytes (length bytes) + low + width ≤ 65536 * 256 ^ length bytes
+
+-- an interval was narrowed by these steps, and the states moved; they are not counted yet
+pub record Writes (t : Table) (old : Writing) (states : List ℕ) (new : Writing) (after : List ℕ)
+    (steps : List Step) : Type 0 where
+  pub interval : new.interval ≡ narrowed old.interval (decided t states steps)
+  pub counts : new.counts ≡ old.counts
+  pub failed : new.failed ≡ old.failed
+  pub moves : after ≡ moved_by t states steps
+  pub named : AreStates (decided t states steps)

@@ -1,0 +1,75 @@
+-- Bytes that are the record of a configuration give that configuration.
+use Rattle.std.proofs.Common.{◌≡◌, ℕ, suc, ◌≤◌, inl, inr, List, [], ◌∷◌, take, ap, sym, subst, arith, Result, Ok, Err}
+use Rattle.std.specs.List.{Contains}
+use Rattle.std.proofs.lemmas.Bool.{cases_lt}
+use Rattle.std.proofs.lemmas.List.{get_or-take, length-take, get_or_past}
+use Rattle.ffv1_range.specs.Codes.{AreBytes, value}
+use Rattle.ffv1_range.specs.Table.{Table}
+use Rattle.ffv1_record.specs.declared.fault.RecordFault.{RecordFault}
+use Rattle.ffv1_record.specs.declared.fault.RecordFault.TheVariants as fault
+use Rattle.ffv1_record.specs.Configuration.{Configuration}
+use Rattle.ffv1_record.specs.Accepted.{IsAccepted, IsFirst, Passes, PassesAll}
+use Rattle.ffv1_record.specs.Record.{IsRecord, IsCoded, body_of, record_steps}
+use Rattle.ffv1_record.specs.Reader.{Spot}
+use Rattle.ffv1_record.specs.Reading.{parameters, beginning}
+use Rattle.ffv1_record.specs.Given.{Source, Stands, Gives}
+use Rattle.ffv1_record.proofs.ReadIsCoded.{ok_same, not_both}
+use Rattle.ffv1_record.proofs.CodedIsRead.{coded_front}
+use Rattle.ffv1_record.proofs.CodedRecordIsRead.{forced_parameters, ending_of, ending_past}
+
+-- a beginning of bytes is bytes
+pub taken_bytes : (bytes : List ℕ) (n : ℕ) → AreBytes bytes → AreBytes (take n bytes)
+taken_bytes bytes n are k = elim (cases_lt k n) [
+  | inl inside ↦ rw (get_or-take n bytes k 0 inside) (are k)
+  | inr outside ↦
+      let short = length-take n bytes in
+      rw (get_or_past (take n bytes) k 0 (omega arith)) (omega arith)
+]
+
+-- no fault stands where all checks are passed
+pub none_stands : (fs : List RecordFault) (c : Configuration) (f : RecordFault) → PassesAll fs c → IsFirst fs c f → ⊥
+none_stands [] c f passes first = first
+none_stands (g ∷ gs) c f passes first = elim first [
+  | inl here ↦ here.0 passes.0
+  | inr later ↦ none_stands gs c f passes.1 later.1
+]
+
+-- the first fault is one of those that are looked for, and its condition is not met
+pub named_first : (fs : List RecordFault) (c : Configuration) (f : RecordFault) → IsFirst fs c f → Contains fs f
+named_first [] c f first = absurd first
+named_first (g ∷ gs) c f first = elim first [
+  | inl here ↦ (0, omega arith, sym here.1)
+  | inr later ↦
+      let rest = named_first gs c f later.1 in
+      let inside = rest.1 in
+      (suc rest.0, omega (arith, inside), rest.2)
+]
+
+pub fails_first : (fs : List RecordFault) (c : Configuration) (f : RecordFault) → IsFirst fs c f → Passes f c → ⊥
+fails_first [] c f first passes = first
+fails_first (g ∷ gs) c f first passes = elim first [
+  | inl here ↦ here.0 (subst (λ h. Passes h c) here.1 passes)
+  | inr later ↦ fails_first gs c f later.1 passes
+]
+
+module _ (bytes : List ℕ) (are : AreBytes (body_of bytes)) (c : Configuration) (t : Table) (is : IsAccepted c t) (stored : IsRecord bytes c) where
+  pub good_start : 65280 ≤ value (body_of bytes) 2 → ⊥
+  good_start high =
+      let start = coded_front (body_of bytes) are [] (record_steps stored.bits c) stored.coded in
+      let below = start.below in
+      absurd (omega arith)
+
+  pub read_so : (out : Result (Configuration × Spot) RecordFault) → parameters c.width c.height (body_of bytes) beginning out → out ≡ Ok (c, ending_of stored.bits c)
+  read_so out h = (forced_parameters (body_of bytes) are stored.bits c t stored.known is is.writable).forces (subst (IsCoded (body_of bytes)) (sym (ending_past stored.bits c)) stored.coded) out h
+
+  module _ (width height : ℕ) (wide : c.width ≡ width) (high : c.height ≡ height) (a b : Source) (begun : Stands a (body_of bytes) beginning) where
+    pub read_is : (x : Configuration) → Gives (λ z. z) (parameters width height) a b (Ok x) → x ≡ c
+    read_is x gives =
+        let told = gives.gives (body_of bytes) beginning begun in
+        ap (λ p. p.0) (ok_same (x, told.0) (c, ending_of stored.bits c) (read_so (Ok (x, told.0)) (subst (λ h. parameters c.width h (body_of bytes) beginning (Ok (x, told.0))) (sym high) (subst (λ w. parameters w height (body_of bytes) beginning (Ok (x, told.0))) (sym wide) told.1))))
+
+    pub refused_by_memory : (f : RecordFault) → Gives {Y = Configuration} (λ z. z) (parameters width height) a b (Err f) → f ≡ fault.OutOfMemory
+    refused_by_memory f gives = elim (gives.gives (body_of bytes) beginning begun) [
+      | inl memory ↦ memory
+      | inr refused ↦ absurd (not_both (c, ending_of stored.bits c) f (sym (read_so (Err f) (subst (λ h. parameters c.width h (body_of bytes) beginning (Err f)) (sym high) (subst (λ w. parameters w height (body_of bytes) beginning (Err f)) (sym wide) refused)))))
+    ]

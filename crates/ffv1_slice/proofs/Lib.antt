@@ -1,0 +1,17 @@
+pub mod Cuttings
+pub mod Parts
+pub mod Tilings
+pub mod Symbols
+pub mod Heads
+pub mod Giving
+pub mod HeadValues
+pub mod Lengths
+pub mod Footing
+pub mod FoundHeads
+pub mod Spanning
+pub mod Judging
+pub mod Factors
+pub mod Finding
+pub mod Refusals
+pub mod Joined
+pub mod Keys

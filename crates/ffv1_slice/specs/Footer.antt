@@ -1,0 +1,29 @@
+-- What stands behind the coded bytes of a slice (RFC 9043, 4.9): slice_size, and where ec is 1
+-- error_status and slice_crc_parity.
+use Rattle.std.specs.Prelude.{◌≡◌, ◌⊎◌, ◌<◌, ℕ, Bool, true, false, List, [], ◌∷◌, ◌++◌, length}
+use Rattle.ffv1_range.specs.Codes.{digits}
+use Rattle.ffv1_record.specs.Parity.{parity_of}
+use Rattle.ffv1_slice.specs.declared.fault.SliceFault.{SliceFault}
+use Rattle.ffv1_slice.specs.declared.fault.SliceFault.TheVariants as fault
+
+-- how many bytes it has
+abbrev pub foot_length : Bool → ℕ
+foot_length false = 3
+foot_length true = 8
+
+-- the slice without its parity: the coded bytes, their number, and the status 0
+abbrev pub unsealed : List ℕ → List ℕ
+unsealed bytes = (bytes ++ digits 3 (length bytes)) ++ (0 ∷ [])
+
+-- the footer of coded bytes
+abbrev pub footer_of : Bool → List ℕ → List ℕ
+footer_of false bytes = digits 3 (length bytes)
+footer_of true bytes =
+    (digits 3 (length bytes) ++ (0 ∷ [])) ++ digits 4 (parity_of (unsealed bytes))
+
+-- why coded bytes get no footer: their number has more than three bytes, or with ec the copy whose
+-- parity is taken was refused memory
+abbrev pub HasNoFooter : Bool → List ℕ → SliceFault → Type 0
+HasNoFooter ec bytes f =
+    ((f ≡ fault.SliceTooLong) × (16777215 < length bytes))
+    ⊎ ((f ≡ fault.OutOfMemory) × (ec ≡ true) × (length bytes < 16777216))

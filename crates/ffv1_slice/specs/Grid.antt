@@ -1,0 +1,113 @@
+-- How pictures are divided into slices of one cell, plane by plane (RFC 9043, 4.6.1 to 4.6.4, 4.7.2
+-- to 4.7.4, 4.8.1 to 4.8.3). Plane 0 is Y or red, 1 Cb or green, 2 Cr or blue, 3 transparency.
+use Rattle.std.specs.Prelude.{◌≡◌, ℕ, ◌+◌, ◌-◌, ◌*◌, ◌/◌, ◌%◌, ◌^◌, ◌<◌, ◌≤◌, Bool, true, false}
+use Rattle.std.proofs.Common.{zero, suc}
+use Rattle.ffv1_record.specs.Configuration.{Configuration}
+use Rattle.ffv1_record.specs.Accepted.{edge, AreMultiples}
+
+-- what the division of pictures depends on
+pub record Division : Type 0 where
+  pub width : ℕ
+  pub height : ℕ
+  pub columns : ℕ
+  pub rows : ℕ
+  pub log2_h : ℕ
+  pub log2_v : ℕ
+  pub planes : ℕ
+
+-- how many planes there are, with or without chroma and transparency
+abbrev pub planes_in : Bool → Bool → ℕ
+planes_in chroma true = 4
+planes_in true false = 3
+planes_in false false = 1
+
+abbrev pub division_of : Configuration → Division
+division_of c = record {
+  width = c.width;
+  height = c.height;
+  columns = c.columns;
+  rows = c.rows;
+  log2_h = c.log2_h;
+  log2_v = c.log2_v;
+  planes = planes_in c.chroma_planes c.extra_plane;
+}
+
+-- the logarithm of a plane's factor: planes 1 and 2 have the chroma's
+abbrev pub factor_of : ℕ → ℕ → ℕ
+factor_of log2 zero = 0
+factor_of log2 (suc zero) = log2
+factor_of log2 (suc (suc zero)) = log2
+factor_of log2 (suc (suc (suc p))) = 0
+
+-- a size over a factor, rounded up
+unfoldable pub reduced : ℕ → ℕ → ℕ
+reduced log2 n = (n + (2 ^ log2 - 1)) / 2 ^ log2
+
+-- a size that is divided into some parts, seen in a plane of some factor
+pub record Side : Type 0 where
+  pub size : ℕ
+  pub count : ℕ
+  pub log2 : ℕ
+
+-- each part has a sample, and each inner edge is a multiple of the factor
+pub record IsDivided (s : Side) : Type 0 where
+  pub some : 0 < s.count
+  pub fits : s.count ≤ s.size
+  pub multiples : AreMultiples s.size s.count s.log2
+
+-- where part k begins in the plane, and how long it is: the part's own size over the factor,
+-- rounded up
+abbrev pub begin_of : Side → ℕ → ℕ
+begin_of s k = reduced s.log2 (edge k s.size s.count)
+
+abbrev pub length_of : Side → ℕ → ℕ
+length_of s k = reduced s.log2 (edge (suc k) s.size s.count - edge k s.size s.count)
+
+-- how long all of it is
+abbrev pub whole_of : Side → ℕ
+whole_of s = reduced s.log2 s.size
+
+-- the width and the height of a plane
+abbrev pub across : Division → ℕ → Side
+across d p = record { size = d.width; count = d.columns; log2 = factor_of d.log2_h p }
+
+abbrev pub down : Division → ℕ → Side
+down d p = record { size = d.height; count = d.rows; log2 = factor_of d.log2_v p }
+
+-- what holds of a division
+pub record IsDivision (d : Division) : Type 0 where
+  pub width : d.width ≤ 8192
+  pub height : d.height ≤ 8192
+  pub some_columns : 0 < d.columns
+  pub columns : d.columns ≤ 32
+  pub wide : d.columns ≤ d.width
+  pub some_rows : 0 < d.rows
+  pub rows : d.rows ≤ 32
+  pub high : d.rows ≤ d.height
+  pub log2_h : d.log2_h ≤ 2
+  pub log2_v : d.log2_v ≤ 2
+  pub multiples_h : AreMultiples d.width d.columns d.log2_h
+  pub multiples_v : AreMultiples d.height d.rows d.log2_v
+  pub planes : d.planes ≤ 4
+
+-- how many slices there are, in raster order
+abbrev pub slices_in : Division → ℕ
+slices_in d = d.columns * d.rows
+
+-- a place lies in a part
+pub record Lies (s : Side) (x k : ℕ) : Type 0 where
+  pub inside : k < s.count
+  pub least : begin_of s k ≤ x
+  pub most : x < begin_of s k + length_of s k
+
+-- the cell of slice n in plane p holds the sample in column x and line y
+pub record Covers (d : Division) (p n x y : ℕ) : Type 0 where
+  pub inside : n < slices_in d
+  pub column : Lies (across d p) x (n % d.columns)
+  pub row : Lies (down d p) y (n / d.columns)
+
+-- one cell does, and no other
+pub record CoversOnce (d : Division) (p x y : ℕ) : Type 0 where
+  pub slice : ℕ
+  pub covers : Covers d p slice x y
+  pub only : (other : ℕ) → Covers d p other x y → other ≡ slice

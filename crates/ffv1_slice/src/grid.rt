@@ -1,0 +1,268 @@
+//! How pictures are divided into slices.
+
+ghost use Rattle.std.specs.Prelude.{◌≡◌, ◌-◌, ◌+◌, ◌*◌, ◌/◌, ◌%◌, ◌<◌, ◌≤◌};
+ghost use Rattle.std.proofs.Common.{suc};
+ghost use Rattle.ffv1_record.specs.Accepted.{edge};
+ghost use Rattle.ffv1_slice.specs.Grid.{Division, IsDivision, division_of, factor_of, reduced};
+ghost use Rattle.ffv1_slice.specs.Grid.{planes_in, slices_in, begin_of, length_of, whole_of};
+ghost use Rattle.ffv1_slice.specs.Grid.{across, down};
+
+use ffv1_record::Checked;
+use ffv1_record::laws::accepted;
+use std::alloc::Allocator;
+use std::marker::Model;
+
+/// How pictures of a configuration are divided. It is seen as a `Division`.
+#[derive(Drop)]
+pub struct Grid {
+    width: u32,
+    height: u32,
+    columns: u32,
+    rows: u32,
+    log2_h: u32,
+    log2_v: u32,
+    planes: u32,
+}
+
+impl Model for Grid {
+    ghost use Rattle.ffv1_slice.specs.Grid.{Division, IsDivision};
+
+    ghost Value = { Division };
+
+    ghost view = { λ g. record {
+      width = g.width;
+      height = g.height;
+      columns = g.columns;
+      rows = g.rows;
+      log2_h = g.log2_h;
+      log2_v = g.log2_v;
+      planes = g.planes;
+    } };
+
+    ghost invariant = { λ g. IsDivision
+        (record {
+          width = g.width;
+          height = g.height;
+          columns = g.columns;
+          rows = g.rows;
+          log2_h = g.log2_h;
+          log2_v = g.log2_v;
+          planes = g.planes;
+        }) };
+}
+
+/// The rectangle of a slice in a plane, in samples of the plane.
+#[derive(Clone, Copy, Debug, PartialEq, Eq)]
+pub struct Cell {
+    /// The first column.
+    pub left: u32,
+    /// The first line.
+    pub top: u32,
+    /// How many columns there are.
+    pub width: u32,
+    /// How many lines there are.
+    pub height: u32,
+}
+
+/// How many planes there are.
+fn planes_in(chroma_planes: bool, extra_plane: bool) -> u32
+    ensures value { result ≡ planes_in chroma_planes extra_plane }
+    ensures few { result ≤ 4 }
+{
+    if extra_plane {
+        return 4;
+    }
+    if chroma_planes {
+        return 3;
+    }
+    1
+}
+
+/// The logarithm of a plane's factor.
+fn factor_of(log2: u32, plane: u32) -> u32
+    requires { log2 ≤ 2 }
+    ensures value { result ≡ factor_of log2 plane }
+    ensures small { result ≤ 2 }
+{
+    match plane {
+        1 => log2,
+        2 => log2,
+        _ => 0,
+    }
+}
+
+/// A size over a factor, rounded up.
+fn reduced(log2: u32, size: u32) -> u32
+    requires log2 { log2 ≤ 2 }
+    requires size { size ≤ 8192 }
+    ensures value { result ≡ reduced log2 size }
+    ensures fits { result ≤ size }
+{
+    if log2 == 0 {
+        return size;
+    }
+    if log2 == 1 {
+        return (size + 1) / 2;
+    }
+    (size + 3) / 4
+}
+
+/// Where part k begins of a size that is divided into count parts.
+fn edge(k: u32, size: u32, count: u32) -> u32
+    requires size { size ≤ 8192 }
+    requires count { count ≤ 32 }
+    requires some { 0 < count }
+    requires k { k ≤ count }
+    ensures value { result ≡ edge k size count }
+    ensures fits { result ≤ size }
+{
+    k * size / count
+}
+
+/// Where part k begins in a plane.
+fn begin_of(k: u32, size: u32, count: u32, log2: u32) -> u32
+    requires size { size ≤ 8192 }
+    requires count { count ≤ 32 }
+    requires some { 0 < count }
+    requires k { k ≤ count }
+    requires log2 { log2 ≤ 2 }
+    ensures value { result ≡ begin_of (record { size = size; count = count; log2 = log2 }) k }
+    ensures fits { result ≤ 8192 }
+{
+    reduced(log2, edge(k, size, count))
+}
+
+/// How long part k is in a plane.
+fn length_of(k: u32, size: u32, count: u32, log2: u32) -> u32
+    requires size { size ≤ 8192 }
+    requires count { count ≤ 32 }
+    requires some { 0 < count }
+    requires k { k < count }
+    requires log2 { log2 ≤ 2 }
+    ensures value { result ≡ length_of (record { size = size; count = count; log2 = log2 }) k }
+    ensures fits { result ≤ 8192 }
+{
+    let first = edge(k, size, count);
+    let last = edge(k + 1, size, count);
+    reduced(log2, last - first)
+}
+
+impl Grid {
+    /// The grid of a configuration. It takes no memory.
+    pub fn of<A: Allocator>(checked: &Checked<A>) -> Grid
+        ensures value { result ≡ division_of checked.now.configuration }
+        ensures division { IsDivision result }
+    {
+        accepted();
+        let config = checked.config();
+        Grid {
+            width: config.width,
+            height: config.height,
+            columns: config.columns,
+            rows: config.rows,
+            log2_h: config.log2_h,
+            log2_v: config.log2_v,
+            planes: planes_in(config.chroma_planes, config.extra_plane),
+        }
+    }
+
+    /// How many planes there are.
+    pub fn planes(&self) -> u32
+        ensures { result ≡ self.now.planes }
+    {
+        self.planes
+    }
+
+    /// How many columns of slices there are.
+    pub fn columns(&self) -> u32
+        ensures { result ≡ self.now.columns }
+    {
+        self.columns
+    }
+
+    /// How many rows of slices there are.
+    pub fn rows(&self) -> u32
+        ensures { result ≡ self.now.rows }
+    {
+        self.rows
+    }
+
+    /// How many slices there are.
+    pub fn slices(&self) -> u32
+        ensures value { result ≡ slices_in self.now }
+        ensures few { result ≤ 1024 }
+    {
+        self.columns * self.rows
+    }
+
+    /// The width of a plane.
+    pub fn width(&self, plane: u32) -> u32
+        ensures { result ≡ whole_of (across self.now plane) }
+    {
+        reduced(factor_of(self.log2_h, plane), self.width)
+    }
+
+    /// The height of a plane.
+    pub fn height(&self, plane: u32) -> u32
+        ensures { result ≡ whole_of (down self.now plane) }
+    {
+        reduced(factor_of(self.log2_v, plane), self.height)
+    }
+
+    /// Where a column of slices begins in a plane; behind the last, where it ends.
+    pub fn left(&self, plane: u32, column: u32) -> u32
+        requires { column ≤ self.now.columns }
+        ensures { result ≡ begin_of (across self.now plane) column }
+    {
+        let Grid {
+            width,
+            columns,
+            log2_h,
+            ..
+        } = *self;
+        begin_of(column, width, columns, factor_of(log2_h, plane))
+    }
+
+    /// Where a row of slices begins in a plane; behind the last, where it ends.
+    pub fn top(&self, plane: u32, row: u32) -> u32
+        requires { row ≤ self.now.rows }
+        ensures { result ≡ begin_of (down self.now plane) row }
+    {
+        let Grid {
+            height,
+            rows,
+            log2_v,
+            ..
+        } = *self;
+        begin_of(row, height, rows, factor_of(log2_v, plane))
+    }
+
+    /// The rectangle of a slice in a plane.
+    pub fn cell(&self, plane: u32, slice: u32) -> Cell
+        requires { slice < slices_in self.now }
+        ensures left { result.left ≡ begin_of (across self.now plane) (slice % self.now.columns) }
+        ensures top { result.top ≡ begin_of (down self.now plane) (slice / self.now.columns) }
+        ensures width { result.width ≡
+            length_of (across self.now plane) (slice % self.now.columns) }
+        ensures height { result.height ≡
+            length_of (down self.now plane) (slice / self.now.columns) }
+    {
+        let Grid {
+            width,
+            height,
+            columns,
+            rows,
+            log2_h,
+            log2_v,
+            ..
+        } = *self;
+        let column = slice % columns;
+        let row = slice / columns;
+        Cell {
+            left: begin_of(column, width, columns, factor_of(log2_h, plane)),
+            top: begin_of(row, height, rows, factor_of(log2_v, plane)),
+            width: length_of(column, width, columns, factor_of(log2_h, plane)),
+            height: length_of(row, height, rows, factor_of(log2_v, plane)),
+        }
+    }
+}

@@ -1,0 +1,121 @@
+//! Laws of the definitions, each the contract of a function that does nothing.
+
+ghost use Rattle.std.specs.Prelude.{◌≡◌, ℕ, ◌+◌, ◌*◌, ◌^◌, ◌<◌, ◌≤◌, ◌++◌, Bool, true, List, Ok};
+ghost use Rattle.std.specs.Prelude.{Err, length, slice_index};
+ghost use Rattle.std.proofs.Common.{suc};
+ghost use Rattle.ffv1_range.specs.Codes.{AreBytes};
+ghost use Rattle.ffv1_range.specs.Table.{Table, IsTable};
+ghost use Rattle.ffv1_range.specs.Symbols.{Step};
+ghost use Rattle.ffv1_record.specs.Configuration.{Configuration};
+ghost use Rattle.ffv1_record.specs.Accepted.{IsAccepted};
+ghost use Rattle.ffv1_slice.specs.declared.cutting.CutFault.{CutFault};
+ghost use Rattle.ffv1_slice.specs.declared.fault.SliceFault.{SliceFault};
+ghost use Rattle.ffv1_slice.specs.declared.head.SliceHead.{SliceHead};
+ghost use Rattle.ffv1_record.specs.Parity.{remainder_of};
+ghost use Rattle.ffv1_slice.specs.Footer.{footer_of, foot_length};
+ghost use Rattle.ffv1_slice.specs.Cutting.{IsCutting, Cuts, cut_of, IsRefused};
+ghost use Rattle.ffv1_slice.specs.Cutting.{joined_of, offset_in, AreCodedBytes, AreCodedIn};
+ghost use Rattle.ffv1_slice.specs.Grid.{Side, IsDivided, begin_of, length_of, whole_of, Lies};
+ghost use Rattle.ffv1_slice.specs.Grid.{Division, IsDivision, CoversOnce, across, down};
+ghost use Rattle.ffv1_slice.specs.Grid.{division_of, slices_in, Covers};
+ghost use Rattle.ffv1_slice.specs.Head.{CodesHead, RefusesHead, IsHead, Stops, head_rules};
+ghost use Rattle.ffv1_slice.specs.Head.{head_steps};
+ghost use Rattle.ffv1_slice.specs.Length.{head_most, numbers_most};
+
+use ffv1_record::laws::{accepted, guarded};
+
+/// A payload has one cutting at most.
+pub fn one_cutting()
+    ensures { (payload : List ℕ) (foot count : ℕ) (xs ys : ℕ → ℕ) →
+        IsCutting payload foot count xs → IsCutting payload foot count ys → (s : ℕ) → s ≤ count →
+        xs s ≡ ys s }
+{}
+
+/// What is found from the end of a payload is its cutting, each slice sound; and where it has such
+/// a cutting, that is found. So a payload that is refused has none.
+pub fn cutting()
+    ensures found { (c : Configuration) (payload os : List ℕ) → cut_of c payload ≡ Ok os →
+        (length os ≡ suc (c.columns * c.rows)) × Cuts c payload (slice_index os) }
+    ensures only { (c : Configuration) (payload : List ℕ) (spans : ℕ → ℕ) → Cuts c payload spans →
+        (os : List ℕ) × (cut_of c payload ≡ Ok os) × (length os ≡ suc (c.columns * c.rows))
+        × ((s : ℕ) → s ≤ c.columns * c.rows → slice_index os s ≡ spans s) }
+    ensures refused { (c : Configuration) (payload : List ℕ) (spans : ℕ → ℕ) (f : CutFault) →
+        cut_of c payload ≡ Err f → Cuts c payload spans → ⊥ }
+    ensures why { (c : Configuration) (payload : List ℕ) (f : CutFault) →
+        cut_of c payload ≡ Err f → IsRefused c payload f }
+    ensures because { (c : Configuration) (payload : List ℕ) (f : CutFault) →
+        IsRefused c payload f → cut_of c payload ≡ Err f }
+{}
+
+/// Coded bytes with their footers, one slice's behind the other's, are cut where they were joined.
+pub fn joined()
+    ensures cuts { (c : Configuration) (codes : List (List ℕ)) → AreCodedBytes codes →
+        length codes ≡ c.columns * c.rows → Cuts c (joined_of c.ec codes) (offset_in c.ec codes) }
+    ensures coded { (ec : Bool) (codes : List (List ℕ)) → AreCodedBytes codes →
+        AreCodedIn (joined_of ec codes) (foot_length ec) (offset_in ec codes) codes }
+{
+    footing();
+}
+
+/// The parts of a side stand one behind the other, from 0 to its end, and none is empty.
+pub fn parts()
+    ensures first { (s : Side) → IsDivided s → begin_of s 0 ≡ 0 }
+    ensures next { (s : Side) (k : ℕ) → IsDivided s → k < s.count →
+        begin_of s k + length_of s k ≡ begin_of s (suc k) }
+    ensures last { (s : Side) → IsDivided s → begin_of s s.count ≡ whole_of s }
+    ensures some { (s : Side) (k : ℕ) → IsDivided s → k < s.count → 0 < length_of s k }
+    ensures one { (s : Side) (x : ℕ) → IsDivided s → x < whole_of s → (k : ℕ) × Lies s x k
+        × ((other : ℕ) → Lies s x other → other ≡ k) }
+    ensures inside { (s : Side) (x k : ℕ) → IsDivided s → Lies s x k → x < whole_of s }
+{}
+
+/// The cells of a plane cover each of its samples once, and nothing else.
+pub fn tiling()
+    ensures across { (d : Division) (p : ℕ) → IsDivision d → IsDivided (across d p) }
+    ensures down { (d : Division) (p : ℕ) → IsDivision d → IsDivided (down d p) }
+    ensures covered { (d : Division) (p x y : ℕ) → IsDivision d → x < whole_of (across d p) →
+        y < whole_of (down d p) → CoversOnce d p x y }
+    ensures inside { (d : Division) (p n x y : ℕ) → IsDivision d → Covers d p n x y →
+        (x < whole_of (across d p)) × (y < whole_of (down d p)) }
+{}
+
+/// A footer is as long as a configuration says, and with its parity a slice has the remainder 0.
+pub fn footing()
+    ensures long { (ec : Bool) (bytes : List ℕ) → length (footer_of ec bytes) ≡ foot_length ec }
+    ensures whole { (bytes : List ℕ) → AreBytes bytes →
+        remainder_of (bytes ++ footer_of true bytes) ≡ 0 }
+{
+    guarded();
+}
+
+/// A head takes few decisions, and so do numbers in the place of a head up to the first that is
+/// refused.
+pub fn lengths()
+    ensures head { (c : Configuration) (t : Table) (n : ℕ) (h : SliceHead) → IsAccepted c t →
+        IsHead c h → n < c.columns * c.rows → length (head_steps c n h) ≤ head_most c }
+    ensures refused { (c : Configuration) (n before : ℕ) (f : SliceFault) (steps : List Step) →
+        Stops (head_rules c n) before f steps → length steps ≤ numbers_most c }
+{
+    accepted();
+}
+
+/// Pictures of a configuration that was checked are divided so.
+pub fn divided()
+    ensures { (c : Configuration) (t : Table) → IsAccepted c t → IsDivision (division_of c) }
+{
+    accepted();
+}
+
+/// Behind its key bytes code one head at most, or are refused in one way.
+pub fn one_head()
+    ensures head { (bytes : List ℕ) (t : Table) (c : Configuration) (n : ℕ) (g h : SliceHead) →
+        AreBytes bytes → IsTable t.floor t.one → n < 2 ^ 31 → length c.sets ≤ 8 →
+        CodesHead bytes t c n g → CodesHead bytes t c n h → g ≡ h }
+    ensures apart { (bytes : List ℕ) (t : Table) (c : Configuration) (n : ℕ) (h : SliceHead)
+        (f : SliceFault) (steps : List Step) → AreBytes bytes → IsTable t.floor t.one → n < 2 ^ 31 →
+        length c.sets ≤ 8 →
+        CodesHead bytes t c n h → RefusesHead bytes t c n f steps → ⊥ }
+    ensures refusal { (bytes : List ℕ) (t : Table) (c : Configuration) (n : ℕ) (f g : SliceFault)
+        (xs ys : List Step) → AreBytes bytes → IsTable t.floor t.one →
+        RefusesHead bytes t c n f xs → RefusesHead bytes t c n g ys → (f ≡ g) × (xs ≡ ys) }
+{}

@@ -1,0 +1,153 @@
+//! The texts of faults: each the number and the name that stand for it on standard error.
+
+use ffv1_avi::AviFault;
+use ffv1_engine::Fault;
+use ffv1_record::RecordFault;
+use ffv1_slice::SliceFault;
+use std::test::Fail;
+
+#[test]
+fn of_the_engine(rt: HostRuntime) -> Result<(), Fail> {
+    for (fault, text) in [
+        (Fault::StateTable, "1 StateTable"),
+        (Fault::OutOfMemory, "2 OutOfMemory"),
+        (Fault::BadStart, "3 BadStart"),
+        (Fault::SymbolTooLong, "4 SymbolTooLong"),
+        (Fault::Runs, "5 Runs"),
+        (Fault::Contexts, "6 Contexts"),
+        (Fault::Read, "56 Read"),
+        (Fault::Write, "57 Write"),
+        (Fault::Header, "60 Header"),
+        (Fault::Tag, "61 Tag"),
+        (Fault::Unsupported, "62 Unsupported"),
+        (Fault::FrameLine, "63 FrameLine"),
+        (Fault::FrameTruncated, "64 FrameTruncated"),
+        (Fault::NoFrames, "70 NoFrames"),
+        (Fault::FormatChanged, "71 FormatChanged"),
+    ] {
+        assert_eq!(rt; fault.to_string(rt.alloc())?.as_str(), text);
+    }
+    Ok(())
+}
+
+#[test]
+fn of_the_range_coder(rt: HostRuntime) -> Result<(), Fail> {
+    for (fault, text) in [
+        (ffv1_range::Fault::StateTable, "1 StateTable"),
+        (ffv1_range::Fault::OutOfMemory, "2 OutOfMemory"),
+        (ffv1_range::Fault::BadStart, "3 BadStart"),
+        (ffv1_range::Fault::SymbolTooLong, "4 SymbolTooLong"),
+    ] {
+        assert_eq!(rt; fault.to_string(rt.alloc())?.as_str(), text);
+    }
+    Ok(())
+}
+
+#[test]
+fn of_planes(rt: HostRuntime) -> Result<(), Fail> {
+    for (fault, text) in [
+        (ffv1_plane::Fault::OutOfMemory, "2 OutOfMemory"),
+        (ffv1_plane::Fault::Runs, "5 Runs"),
+        (ffv1_plane::Fault::Contexts, "6 Contexts"),
+    ] {
+        assert_eq!(rt; fault.to_string(rt.alloc())?.as_str(), text);
+    }
+    Ok(())
+}
+
+#[test]
+fn of_the_record(rt: HostRuntime) -> Result<(), Fail> {
+    for (fault, text) in [
+        (RecordFault::StateTable, "1 StateTable"),
+        (RecordFault::OutOfMemory, "2 OutOfMemory"),
+        (RecordFault::BadStart, "3 BadStart"),
+        (RecordFault::SymbolTooLong, "4 SymbolTooLong"),
+        (RecordFault::Runs, "5 Runs"),
+        (RecordFault::Contexts, "6 Contexts"),
+        (RecordFault::Size, "10 Size"),
+        (RecordFault::Grid, "11 Grid"),
+        (RecordFault::ChromaEdge, "12 ChromaEdge"),
+        (RecordFault::Subsampling, "13 Subsampling"),
+        (RecordFault::Sets, "14 Sets"),
+        (RecordFault::Short, "15 Short"),
+        (RecordFault::Parity, "16 Parity"),
+        (RecordFault::Version, "17 Version"),
+        (RecordFault::MicroVersion, "18 MicroVersion"),
+        (RecordFault::Coder, "19 Coder"),
+        (RecordFault::ColourSpace, "20 ColourSpace"),
+        (RecordFault::Depth, "21 Depth"),
+        (RecordFault::CodedStates, "22 CodedStates"),
+        (RecordFault::Ec, "23 Ec"),
+        (RecordFault::Intra, "24 Intra"),
+        (RecordFault::ExtraPlane, "25 ExtraPlane"),
+    ] {
+        assert_eq!(rt; fault.to_string(rt.alloc())?.as_str(), text);
+    }
+    Ok(())
+}
+
+#[test]
+fn of_avi(rt: HostRuntime) -> Result<(), Fail> {
+    for (fault, text) in [
+        (AviFault::OutOfMemory, "2 OutOfMemory"),
+        (AviFault::NotAvi, "50 NotAvi"),
+        (AviFault::NoFfv1, "51 NoFfv1"),
+        (AviFault::Truncated, "52 Truncated"),
+        (AviFault::ChunkTooLong, "53 ChunkTooLong"),
+        (AviFault::EmptyFrame, "54 EmptyFrame"),
+        (AviFault::TooLarge, "55 TooLarge"),
+        (AviFault::Read, "56 Read"),
+        (AviFault::Write, "57 Write"),
+    ] {
+        assert_eq!(rt; fault.to_string(rt.alloc())?.as_str(), text);
+    }
+    Ok(())
+}
+
+#[test]
+fn of_y4m(rt: HostRuntime) -> Result<(), Fail> {
+    for (fault, text) in [
+        (ffv1_y4m::Fault::OutOfMemory, "2 OutOfMemory"),
+        (ffv1_y4m::Fault::Read, "56 Read"),
+        (ffv1_y4m::Fault::Write, "57 Write"),
+        (ffv1_y4m::Fault::Header, "60 Header"),
+        (ffv1_y4m::Fault::Tag, "61 Tag"),
+        (ffv1_y4m::Fault::Unsupported, "62 Unsupported"),
+        (ffv1_y4m::Fault::FrameLine, "63 FrameLine"),
+        (ffv1_y4m::Fault::FrameTruncated, "64 FrameTruncated"),
+        (ffv1_y4m::Fault::FormatChanged, "71 FormatChanged"),
+    ] {
+        assert_eq!(rt; fault.to_string(rt.alloc())?.as_str(), text);
+    }
+    Ok(())
+}
+
+#[test]
+fn of_rows_and_colour_lines(rt: HostRuntime) -> Result<(), Fail> {
+    let row = ffv1_line::TooLong { x: 3 };
+    assert_eq!(rt; row.to_string(rt.alloc())?.as_str(), "4 SymbolTooLong");
+    let line = ffv1_rct::NoColour { x: 3 };
+    assert_eq!(rt; line.to_string(rt.alloc())?.as_str(), "7 Colour");
+    Ok(())
+}
+
+#[test]
+fn of_slices(rt: HostRuntime) -> Result<(), Fail> {
+    for (fault, text) in [
+        (SliceFault::OutOfMemory, "2 OutOfMemory"),
+        (SliceFault::SymbolTooLong, "4 SymbolTooLong"),
+        (SliceFault::NotKey, "30 NotKey"),
+        (SliceFault::Place, "31 Place"),
+        (SliceFault::SetIndex, "32 SetIndex"),
+        (SliceFault::Structure, "33 Structure"),
+        (SliceFault::Aspect, "34 Aspect"),
+        (SliceFault::Footer, "35 Footer"),
+        (SliceFault::Leftover, "36 Leftover"),
+        (SliceFault::SliceParity, "37 SliceParity"),
+        (SliceFault::SliceStatus, "38 SliceStatus"),
+        (SliceFault::SliceTooLong, "40 SliceTooLong"),
+    ] {
+        assert_eq!(rt; fault.to_string(rt.alloc())?.as_str(), text);
+    }
+    Ok(())
+}

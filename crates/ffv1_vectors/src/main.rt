@@ -1,0 +1,28 @@
+//! Asks the crates what `model/ffv1.py` answered, and reads two files made by FFmpeg: each line of
+//! the text files in `data/` is one case. It prints how many cases of each agree.
+#![tactic(auto)]
+
+mod fields;
+mod files;
+mod heads;
+mod payloads;
+
+use std::rt::Files;
+
+/// Prints the count of one file.
+fn print<R: Print>(rt: &R, name: &str, count: fields::Count) -> anyhow::Result<()> {
+    println!(rt; "{name} {} of {} agree", count.agree, count.cases)?;
+    Ok(())
+}
+
+/// Asks all files.
+fn run<R: AllocGlobal + Files + Print>(rt: &R) -> anyhow::Result<()> {
+    print(rt, "heads", heads::count(rt)?)?;
+    print(rt, "payloads", payloads::count(rt)?)?;
+    print(rt, "files", files::count(rt)?)?;
+    Ok(())
+}
+
+fn main(rt: HostRuntime) -> anyhow::Result<()> {
+    run(&rt)
+}

@@ -1,0 +1,78 @@
+//! Reads that fail behind bytes that were read.
+
+ghost use Rattle.std.specs.Prelude.{Some};
+
+use crate::{Fault, PpmReader, Y4mReader};
+use ffv1_wire::FromRead;
+use std::alloc::Global;
+use std::io;
+use std::io::{Error, ErrorKind, Read};
+use std::test::Fail;
+
+/// A reader that gives these bytes, and fails behind them.
+#[derive(Drop)]
+struct BrokenReader<'a> {
+    rest: &'a [u8],
+}
+
+impl Read for BrokenReader<'_> {
+    ghost remaining = { λ s. Some s.rest.now };
+
+    fn read(&mut self, buf: &mut [u8]) -> io::Result<usize> {
+        if self.rest.is_empty() {
+            return Err(Error::from(ErrorKind::Other));
+        }
+        self.rest.read(buf)
+    }
+}
+
+/// The fault of opening what was read of a text of YUV4MPEG2, or else of its next picture.
+fn picture_fault(alloc: Global, text: &[u8]) -> Option<Fault> {
+    let mut input = FromRead::new(BrokenReader { rest: text });
+    match Y4mReader::open(alloc, None, &mut input) {
+        Err(fault) => Some(fault),
+        Ok(mut reader) => reader.next(&mut input, &mut Vec::new(alloc)).err(),
+    }
+}
+
+#[test]
+fn failed_reads_of_pictures(rt: HostRuntime) -> Result<(), Fail> {
+    let rows: [(&[u8], Option<Fault>); 8] = [
+        (b"", Some(Fault::Read)),
+        (b"YUV4MPEG2 W1", Some(Fault::Read)),
+        (b"YUV4MPEG2 W1\n", Some(Fault::Tag)),
+        (b"YUV4MPEG2 W2 H1 Cmono\n", Some(Fault::Read)),
+        (b"YUV4MPEG2 W2 H1 Cmono\nFRA", Some(Fault::Read)),
+        (b"YUV4MPEG2 W2 H1 Cmono\nFRa", Some(Fault::FrameLine)),
+        (b"YUV4MPEG2 W2 H1 Cmono\nFRAME\na", Some(Fault::Read)),
+        (b"YUV4MPEG2 W2 H1 Cmono\nFRAME\nab", None),
+    ];
+    for (text, fault) in rows {
+        assert!(rt; picture_fault(rt.alloc(), text) == fault);
+    }
+    Ok(())
+}
+
+/// The same of a text of PPM.
+fn image_fault(alloc: Global, text: &[u8]) -> Option<Fault> {
+    let mut input = FromRead::new(BrokenReader { rest: text });
+    match PpmReader::open(alloc, None, &mut input) {
+        Err(fault) => Some(fault),
+        Ok(mut reader) => reader.next(&mut input, &mut Vec::new(alloc)).err(),
+    }
+}
+
+#[test]
+fn failed_reads_of_images(rt: HostRuntime) -> Result<(), Fail> {
+    let rows: [(&[u8], Option<Fault>); 5] = [
+        (b"P6", Some(Fault::Read)),
+        (b"P6 1", Some(Fault::Header)),
+        (b"P6\n1 1\n255", Some(Fault::Read)),
+        (b"P6\n1 1\n255\nab", Some(Fault::Read)),
+        (b"P6\n1 1\n255\nabc", None),
+    ];
+    for (text, fault) in rows {
+        assert!(rt; image_fault(rt.alloc(), text) == fault);
+    }
+    Ok(())
+}

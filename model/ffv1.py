@@ -1,0 +1,441 @@
+#!/usr/bin/env python3
+"""FFV1 version 3, range coded (RFC 9043), in plain Python: the standard in small.
+
+It is written from the text of the standard, apart from the crates, and is there to be compared with
+them. Numbers have no limit, states are found by going along the decisions of their slot, and nothing
+is done for speed. Each rule is one function, with the section of RFC 9043 that it comes from; what is
+this project's own choice says so.
+
+What there is so far: the range coder and its symbols, the configuration record, slice headers,
+slice footers, and how a frame is cut into its slices.
+"""
+
+# ------------------------------------------------------------------------------------------ faults
+
+FAULTS = {
+    1: "StateTable", 3: "BadStart", 4: "SymbolTooLong", 5: "Runs", 6: "Contexts", 10: "Size",
+    11: "Grid", 12: "ChromaEdge", 13: "Subsampling", 14: "Sets", 15: "Short", 16: "Parity",
+    17: "Version", 18: "MicroVersion", 19: "Coder", 20: "ColourSpace", 21: "Depth",
+    22: "CodedStates", 23: "Ec", 24: "Intra", 25: "ExtraPlane", 30: "NotKey", 31: "Place",
+    32: "SetIndex", 33: "Structure", 34: "Aspect", 35: "Footer", 36: "Leftover",
+    37: "SliceParity", 38: "SliceStatus", 40: "SliceTooLong",
+}
+
+
+class Fault(Exception):
+    """Why something is refused, by its number; with the slice that it was met in."""
+
+    def __init__(self, number, slice=0):
+        super().__init__(f"{number} {FAULTS[number]}")
+        self.number, self.slice = number, slice
+
+
+# ------------------------------------------------------- state transition tables (3.8.1.4 to 3.8.1.6)
+
+# 3.8.1.5: where each state from 8 to 248 goes after a decision 1
+ONE_STATE = [0] * 8 + [
+    20, 21, 22, 23, 24, 25, 26, 27, 28, 29, 30, 31, 32, 33, 34, 35, 36, 37, 37, 38, 39, 40, 41, 42,
+    43, 44, 45, 46, 47, 48, 49, 50, 51, 52, 53, 54, 55, 56, 56, 57, 58, 59, 60, 61, 62, 63, 64, 65,
+    66, 67, 68, 69, 70, 71, 72, 73, 74, 75, 75, 76, 77, 78, 79, 80, 81, 82, 83, 84, 85, 86, 87, 88,
+    89, 90, 91, 92, 93, 94, 94, 95, 96, 97, 98, 99, 100, 101, 102, 103, 104, 105, 106, 107, 108,
+    109, 110, 111, 112, 113, 114, 114, 115, 116, 117, 118, 119, 120, 121, 122, 123, 124, 125, 126,
+    127, 128, 129, 130, 131, 132, 133, 133, 134, 135, 136, 137, 138, 139, 140, 141, 142, 143, 144,
+    145, 146, 147, 148, 149, 150, 151, 152, 152, 153, 154, 155, 156, 157, 158, 159, 160, 161, 162,
+    163, 164, 165, 166, 167, 168, 169, 170, 171, 171, 172, 173, 174, 175, 176, 177, 178, 179, 180,
+    181, 182, 183, 184, 185, 186, 187, 188, 189, 190, 190, 191, 192, 194, 194, 195, 196, 197, 198,
+    199, 200, 201, 202, 202, 204, 205, 206, 207, 208, 209, 209, 210, 211, 212, 213, 215, 215, 216,
+    217, 218, 219, 220, 220, 222, 223, 224, 225, 226, 227, 227, 229, 229, 230, 231, 232, 234, 234,
+    235, 236, 237, 238, 239, 240, 241, 242, 243, 244, 245, 246, 247, 248, 248,
+] + [0] * 7
+
+
+def table_of(deltas):
+    """3.8.1.6, 4.2.4: the table changed by state_transition_delta, that of state 1 first.
+
+    Own: it is accepted where some floor from 1 to 128 is such that each state from the floor to
+    256 less it goes to one of them, and no delta is -2147483648.
+    """
+    one = [0] + [ONE_STATE[state] + deltas[state - 1] for state in range(1, 256)]
+    for floor in range(1, 129):
+        held = range(floor, 257 - floor)
+        if -2147483648 not in deltas and all(one[state] in held for state in held):
+            return one
+    raise Fault(1)
+
+
+def moved(one, state, bit):
+    """3.8.1.4: the state after a decision; zero_state[i] is 256 - one_state[256 - i]."""
+    return one[state] if bit else 256 - one[256 - state]
+
+
+STANDARD = table_of([0] * 255)
+
+
+# --------------------------------------------------------------------- range binary values (3.8.1.1)
+
+class Interval:
+    """3.8.1.1: the numbers of count bytes from low to below low + width."""
+
+    def __init__(self):
+        self.low, self.width, self.count = 0, 65280, 2
+
+    def narrow(self, state, bit):
+        """One decision: the upper part, of the state's share, is for a 1; then at most one byte more."""
+        share = self.width * state // 256
+        if bit:
+            self.low, self.width = self.low + self.width - share, share
+        else:
+            self.width -= share
+        if self.width < 256:
+            self.low, self.width, self.count = 256 * self.low, 256 * self.width, self.count + 1
+
+
+class History:
+    """3.8.1.3, 3.8.1.4: the decisions so far, by their slots; a state is 128, moved along those of
+    its slot."""
+
+    def __init__(self, one):
+        self.one, self.slots, self.count = one, {}, 0
+
+    def state(self, slot):
+        state = 128
+        for bit in self.slots.get(slot, []):
+            state = moved(self.one, state, bit)
+        return state
+
+    def append(self, slot, bit):
+        self.slots.setdefault(slot, []).append(bit)
+        self.count += 1
+
+
+class Encoder:
+    """A list of decisions, and the interval that they leave."""
+
+    def __init__(self, one=STANDARD):
+        self.history, self.interval = History(one), Interval()
+
+    def put(self, slot, bit):
+        self.interval.narrow(self.history.state(slot), bit)
+        self.history.append(slot, bit)
+
+    def full(self):
+        """Own: all bytes of the low end."""
+        return self.interval.low.to_bytes(self.interval.count, "big")
+
+    def sentinel(self):
+        """Own: after one more decision 0 by the state 129 the least multiple of 256 that is at least
+        the low end, without its last byte."""
+        end = Interval()
+        end.low, end.width, end.count = self.interval.low, self.interval.width, self.interval.count
+        end.narrow(129, 0)
+        return (-(-end.low // 256)).to_bytes(end.count - 1, "big")
+
+
+class Decoder:
+    """What bytes code, decision by decision: the bit for which the number of the first bytes lies in
+    the narrowed interval. Own: bytes behind the end are 0."""
+
+    def __init__(self, data, one=STANDARD):
+        self.data, self.history, self.interval = data, History(one), Interval()
+        if self.number(2) >= 65280:
+            raise Fault(3)
+
+    def number(self, count):
+        return int.from_bytes((self.data + bytes(count))[:count], "big")
+
+    def get(self, slot):
+        state = self.history.state(slot)
+        share = self.interval.width * state // 256
+        middle = self.interval.low + self.interval.width - share
+        bit = int(self.number(self.interval.count) >= middle)
+        self.interval.narrow(state, bit)
+        self.history.append(slot, bit)
+        return bit
+
+
+# ------------------------------------------------------------------ range nonbinary values (3.8.1.2)
+
+def steps_of(value, signed):
+    """The decisions of a number: (slot, bit) of 32 slots. Zero, exponent, mantissa, sign."""
+    if value == 0:
+        return [(0, 1)]
+    size = abs(value)
+    exponent = size.bit_length() - 1
+    assert exponent <= 30
+    steps = [(0, 0)]
+    steps += [(1 + min(k, 9), 1) for k in range(exponent)] + [(1 + min(exponent, 9), 0)]
+    steps += [(22 + min(k, 9), size >> k & 1) for k in reversed(range(exponent))]
+    return steps + ([(11 + min(exponent, 10), int(value < 0))] if signed else [])
+
+
+def put_number(encoder, base, value, signed=False):
+    """A number, by the 32 slots from base on."""
+    for slot, bit in steps_of(value, signed):
+        encoder.put((base, slot), bit)
+
+
+def get_number(decoder, base, signed=False):
+    """The number that comes next. Own: a 31st exponent decision of 1 is refused at once."""
+    if decoder.get((base, 0)):
+        return 0
+    exponent = 0
+    while decoder.get((base, 1 + min(exponent, 9))):
+        exponent += 1
+        if exponent == 31:
+            raise Fault(4)
+    size = 1
+    for k in reversed(range(exponent)):
+        size = 2 * size + decoder.get((base, 22 + min(k, 9)))
+    if signed and decoder.get((base, 11 + min(exponent, 10))):
+        return -size
+    return size
+
+
+# ------------------------------------------------------------------- quantisation table sets (3.4, 4.1)
+
+SMALL = [[1, 1, 3, 7, 11, 105]] * 3 + [[128]] * 2           # own: 666 contexts
+LARGE = [[1, 1, 3, 7, 11, 105]] * 3 + [[3, 11, 114]] * 2    # own: 16638 contexts
+
+
+def contexts_of(runs):
+    """4.1: how many contexts a set of five tables has, by the runs of their entries."""
+    product = 1
+    for table in runs:
+        product *= 2 * len(table) - 1
+    return (product + 1) // 2
+
+
+# -------------------------------------------------------------------------------- parameters (4.2)
+
+class Config:
+    """The parameters of the profile, and the size of the pictures, which the container tells."""
+
+    def __init__(self, width, height, coder=1, deltas=None, rct=False, chroma=False, log2_h=0,
+                 log2_v=0, extra=False, columns=1, rows=1, sets=None, ec=1, intra=1):
+        self.width, self.height, self.coder = width, height, coder
+        self.deltas = deltas if deltas is not None else [0] * 255
+        self.rct, self.chroma, self.log2_h, self.log2_v = rct, chroma, log2_h, log2_v
+        self.extra, self.columns, self.rows = extra, columns, rows
+        self.sets = sets if sets is not None else [SMALL]
+        self.ec, self.intra = ec, intra
+
+    def table(self):
+        return table_of(self.deltas) if self.coder == 2 else STANDARD
+
+    def slices(self):
+        return self.columns * self.rows
+
+
+def edge(k, size, count):
+    """4.7.4, 4.8.3: where part k of a size in count parts begins."""
+    return k * size // count
+
+
+def check(config):
+    """Own: which parameters are of the profile; the first fault in this order."""
+    c = config
+    if not (1 <= c.width <= 8192 and 1 <= c.height <= 8192):
+        raise Fault(10)
+    plain = c.log2_h == 0 and c.log2_v == 0
+    if c.log2_h > 2 or c.log2_v > 2 or (c.rct and not c.chroma) or \
+            ((c.rct or not c.chroma) and not plain):
+        raise Fault(13)
+    if c.extra and not c.chroma:
+        raise Fault(25)
+    if not 1 <= len(c.sets) <= 8:
+        raise Fault(14)
+    c.table()
+    if not (1 <= c.columns <= min(32, c.width) and 1 <= c.rows <= min(32, c.height)):
+        raise Fault(11)
+    for size, count, log2 in [(c.width, c.columns, c.log2_h), (c.height, c.rows, c.log2_v)]:
+        if any(edge(k, size, count) % 2 ** log2 for k in range(1, count)):
+            raise Fault(12)
+
+
+# --------------------------------------------------------------------------- parity (4.3.2, 4.9.3)
+
+def remainder(data):
+    """The remainder of a polynomial over bits on long division by 0x104C11DB7; no inversion."""
+    number = int.from_bytes(data, "big")
+    while number.bit_length() > 32:
+        number ^= 0x104C11DB7 << (number.bit_length() - 33)
+    return number
+
+
+def parity(data):
+    """The four bytes that make the remainder of all 0."""
+    return remainder(data + bytes(4)).to_bytes(4, "big")
+
+
+# ---------------------------------------------------------------------- configuration record (4.3)
+
+def put_sets(encoder, sets):
+    """4.1: the runs of each table less 1, each table by states of its own."""
+    for number, runs in enumerate(table for tables in sets for table in tables):
+        for run in runs:
+            put_number(encoder, f"table {number}", run - 1)
+
+
+def write_record(config):
+    c, e = config, Encoder()
+    for value in [3, 4, c.coder]:                                    # version to coder_type
+        put_number(e, "record", value)
+    if c.coder == 2:
+        for delta in c.deltas:                                       # state_transition_delta
+            put_number(e, "record", delta, signed=True)
+    put_number(e, "record", int(c.rct))                              # colorspace_type
+    put_number(e, "record", 8)                                       # bits_per_raw_sample
+    e.put(("record", 0), int(c.chroma))                              # chroma_planes
+    put_number(e, "record", c.log2_h)
+    put_number(e, "record", c.log2_v)
+    e.put(("record", 0), int(c.extra))                               # extra_plane
+    for value in [c.columns - 1, c.rows - 1, len(c.sets)]:
+        put_number(e, "record", value)
+    put_sets(e, c.sets)
+    for _ in c.sets:
+        e.put(("record", 0), 0)                                      # states_coded
+    put_number(e, "record", c.ec)
+    put_number(e, "record", c.intra)
+    coded = e.full()
+    return coded + parity(coded)
+
+
+def get_set(decoder, number):
+    """4.1: one set; own: 5 where a run passes 128, 6 behind the last where there are too many contexts."""
+    tables = []
+    for which in range(5):
+        runs = []
+        while sum(runs) < 128:
+            run = get_number(decoder, f"table {5 * number + which}") + 1
+            if sum(runs) + run > 128:
+                raise Fault(5)
+            runs.append(run)
+        tables.append(runs)
+    if contexts_of(tables) > 32768:
+        raise Fault(6)
+    return tables
+
+
+def get_judged(decoder, accepted, number):
+    """The next parameter, which is to be one of these."""
+    value = get_number(decoder, "record")
+    if value not in accepted:
+        raise Fault(number)
+    return value
+
+
+def read_record(data, width, height):
+    """The configuration that a record codes, or the first fault in the order of its bytes."""
+    if len(data) < 5:
+        raise Fault(15)
+    if remainder(data):
+        raise Fault(16)
+    d = Decoder(data[:-4])
+    get_judged(d, [3], 17)
+    get_judged(d, [4], 18)
+    coder = get_judged(d, [1, 2], 19)
+    deltas = [get_number(d, "record", signed=True) for _ in range(255)] if coder == 2 else None
+    if deltas:
+        table_of(deltas)
+    rct = get_judged(d, [0, 1], 20) == 1
+    get_judged(d, [0, 8], 21)
+    chroma = d.get(("record", 0)) == 1
+    log2_h, log2_v = get_number(d, "record"), get_number(d, "record")
+    extra = d.get(("record", 0)) == 1
+    if extra and not chroma:
+        raise Fault(25)
+    columns, rows = get_number(d, "record") + 1, get_number(d, "record") + 1
+    count = get_judged(d, range(1, 9), 14)
+    sets = [get_set(d, number) for number in range(count)]
+    for _ in sets:
+        if d.get(("record", 0)):
+            raise Fault(22)
+    ec, intra = get_judged(d, [0, 1], 23), get_judged(d, [0, 1], 24)
+    config = Config(width, height, coder, deltas, rct, chroma, log2_h, log2_v, extra, columns, rows,
+                    sets, ec, intra)
+    check(config)
+    return config
+
+
+# ------------------------------------------------------------------ slices: key and header (4.4, 4.6)
+
+def index_count(config):
+    """4.6.5: a set index for luma, one for chroma, and one for transparency. Own: mono has two."""
+    return 3 if config.extra else 2
+
+
+def place_of(config, slice):
+    """4.6.1 to 4.6.4: slice_x, slice_y, and slice_width and slice_height less 1, of one cell."""
+    return [slice % config.columns, slice // config.columns, 0, 0]
+
+
+def is_aspect(num, den):
+    """4.6.8, 4.6.9. Own: both below 65536, and both 0 or neither."""
+    return num < 65536 and den < 65536 and (num == 0) == (den == 0)
+
+
+def put_head(encoder, config, slice, indexes, structure, num, den):
+    """The keyframe of the first slice, and the header, by 32 states."""
+    if slice == 0:
+        encoder.put("key", 1)
+    for value in place_of(config, slice) + indexes + [structure, num, den]:
+        put_number(encoder, "head", value)
+
+
+def get_key(decoder, slice):
+    if slice == 0 and not decoder.get("key"):
+        raise Fault(30)
+
+
+def get_head(decoder, config, slice):
+    """The header: indexes, structure and aspect; each value judged behind its symbol."""
+    for wanted in place_of(config, slice):
+        if get_number(decoder, "head") != wanted:
+            raise Fault(31)
+    indexes = []
+    for _ in range(index_count(config)):
+        index = get_number(decoder, "head")
+        if index >= len(config.sets):
+            raise Fault(32)
+        indexes.append(index)
+    structure = get_number(decoder, "head")
+    if structure > 3:
+        raise Fault(33)
+    num = get_number(decoder, "head")
+    den = get_number(decoder, "head")
+    if not is_aspect(num, den):
+        raise Fault(34)
+    return indexes, structure, num, den
+
+
+# --------------------------------------------------------------------- slice footers, cutting (4.9)
+
+def footer(coded, ec):
+    """slice_size, and with ec error_status and slice_crc_parity. Own: slice_size counts the bytes
+    before the footer."""
+    if len(coded) > 0xFFFFFF:
+        raise Fault(40)
+    size = len(coded).to_bytes(3, "big")
+    return size + bytes(1) + parity(coded + size + bytes(1)) if ec else size
+
+
+def cut(config, payload):
+    """Where the coded bytes of each slice begin and end. Slices are found from the last to the first;
+    then each is judged, from the first to the last."""
+    foot = 8 if config.ec else 3
+    spans, end = [], len(payload)
+    for slice in reversed(range(config.slices())):
+        size = int.from_bytes(payload[end - foot:end - foot + 3], "big") if end >= foot else 0
+        if end < foot + size:
+            raise Fault(35, slice)
+        spans.insert(0, (end - foot - size, end - foot))
+        end -= foot + size
+    if end:
+        raise Fault(36)
+    if config.ec:
+        for slice, (begin, end) in enumerate(spans):
+            if remainder(payload[begin:end + foot]):
+                raise Fault(37, slice)
+            if payload[end + 3]:
+                raise Fault(38, slice)
+    return spans

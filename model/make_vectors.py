@@ -1,0 +1,130 @@
+#!/usr/bin/env python3
+"""Writes the vectors that `ffv1_vectors` asks the crates: what `ffv1.py` answers, with fixed seeds.
+
+    python3 model/make_vectors.py        # into crates/ffv1_vectors/data
+
+Each line is one case, its fields separated by a space; bytes are hexadecimal, and `-` where there are
+none. A fault of 0 means that the bytes are accepted.
+"""
+import os
+import random
+
+import ffv1
+
+DATA = os.path.join(os.path.dirname(os.path.abspath(__file__)), "..", "crates", "ffv1_vectors", "data")
+LARGE_NUMBERS = [0, 1, 2, 3, 4, 7, 15, 16, 31, 32, 65535, 65536, 2 ** 31 - 1]
+
+
+def hexadecimal(data):
+    return data.hex() or "-"
+
+
+def damaged(random, data):
+    """Bytes with one or two bits flipped."""
+    data = bytearray(data)
+    for _ in range(random.choice([1, 2])):
+        data[random.randrange(len(data))] ^= 1 << random.randrange(8)
+    return bytes(data)
+
+
+def put_too_long(encoder, base):
+    """A symbol that is refused: 31 exponent decisions of 1."""
+    encoder.put((base, 0), 0)
+    for k in range(31):
+        encoder.put((base, 1 + min(k, 9)), 1)
+
+
+def head_bytes(random, config, slice):
+    """A head of a slice, with one of its numbers changed in half of the cases."""
+    indexes = [random.randrange(len(config.sets)) for _ in range(ffv1.index_count(config))]
+    aspect = random.choice([[0, 0], [random.randrange(1, 65536), random.randrange(1, 65536)]])
+    values = ffv1.place_of(config, slice) + indexes + [random.randrange(4)] + aspect
+    if random.random() < 0.5:
+        values[random.randrange(len(values))] = random.choice(LARGE_NUMBERS)
+    encoder = ffv1.Encoder()
+    if slice == 0:
+        encoder.put("key", int(random.random() < 0.95))
+    refused = random.randrange(len(values)) if random.random() < 0.1 else len(values)
+    for value in values[:refused]:
+        ffv1.put_number(encoder, "head", value)
+    if refused < len(values):
+        put_too_long(encoder, "head")
+    return encoder.sentinel()
+
+
+def head_answer(config, slice, data):
+    """The fault, the decisions that were read, and what the head says."""
+    decoder = ffv1.Decoder(data)
+    try:
+        ffv1.get_key(decoder, slice)
+        indexes, structure, num, den = ffv1.get_head(decoder, config, slice)
+    except ffv1.Fault as fault:
+        return [fault.number, decoder.history.count, 0, 0, 0, 0, 0, 0]
+    return [0, decoder.history.count, *(indexes + [0])[:3], structure, num, den]
+
+
+def heads(random, count):
+    """columns rows extra sets slice bytes fault decisions three-indexes structure num den"""
+    lines = []
+    while len(lines) < count:
+        columns, rows = random.choice([1, 2, 3, 17, 32]), random.choice([1, 2, 20, 32])
+        sets, extra = random.choice([1, 2, 8]), random.random() < 0.4
+        config = ffv1.Config(columns, rows, chroma=extra, extra=extra, columns=columns, rows=rows,
+                             sets=[ffv1.SMALL] * sets)
+        slice = random.choice([0, random.randrange(columns * rows)])
+        data = head_bytes(random, config, slice)
+        if data and random.random() < 0.3:
+            data = damaged(random, data)
+        if int.from_bytes((data + bytes(2))[:2], "big") >= 65280:
+            continue
+        answer = head_answer(config, slice, data)
+        lines.append([columns, rows, int(extra), sets, slice, hexadecimal(data), *answer])
+    return lines
+
+
+def payload_of(random, config):
+    """Slices of random bytes with their footers, some then damaged."""
+    slices = [bytes(random.randrange(256) for _ in range(random.choice([0, 1, 2, 5, 9])))
+              for _ in range(config.slices())]
+    payload = b"".join(coded + ffv1.footer(coded, config.ec) for coded in slices)
+    kind = random.randrange(6)
+    if kind == 1:
+        payload = damaged(random, payload)
+    elif kind == 2:
+        payload = payload[:random.randrange(len(payload))]
+    elif kind == 3:
+        payload = bytes([random.randrange(3)]) * random.choice([1, 2, 8]) + payload
+    elif kind == 4:
+        place = random.randrange(len(payload))
+        payload = payload[:place] + bytes([random.choice([0, 1, 2, 255])]) + payload[place + 1:]
+    elif kind == 5 and config.ec:
+        body = slices[-1] + len(slices[-1]).to_bytes(3, "big") + bytes([random.randrange(1, 256)])
+        payload = payload[:len(payload) - len(body) - 4] + body + ffv1.parity(body)
+    return payload
+
+
+def payloads(random, count):
+    """columns rows ec bytes fault slice spans"""
+    lines = []
+    for _ in range(count):
+        columns, rows, ec = random.choice([1, 2, 3]), random.choice([1, 2]), random.choice([0, 1, 1])
+        config = ffv1.Config(columns, rows, columns=columns, rows=rows, ec=ec)
+        payload = payload_of(random, config)
+        try:
+            spans = ffv1.cut(config, payload)
+            answer = [0, 0, *(place for span in spans for place in span)]
+        except ffv1.Fault as fault:
+            answer = [fault.number, fault.slice]
+        lines.append([columns, rows, ec, hexadecimal(payload), *answer])
+    return lines
+
+
+def write(name, lines):
+    os.makedirs(DATA, exist_ok=True)
+    with open(os.path.join(DATA, name), "w") as out:
+        out.writelines(" ".join(str(field) for field in line) + "\n" for line in lines)
+
+
+if __name__ == "__main__":
+    write("heads.txt", heads(random.Random(9043), 400))
+    write("payloads.txt", payloads(random.Random(9044), 2000))
