@@ -4,3 +4,6 @@ mod PlaneCount
 mod Refusals
 mod Compared
 mod PlaneBack
+mod TakenRows
+mod TakenOrder
+mod TakenTrial

@@ -1,9 +1,8 @@
 -- The code of a plane comes back.
-use Rattle.std.proofs.Common.{◌≡◌, ℕ, ◌+◌, ◌*◌, ◌<◌, List, [], length, get_or, arith, replicate, ap, sym, ◌∙◌}
+use Rattle.std.proofs.Common.{◌≡◌, ℕ, ◌+◌, ◌*◌, ◌<◌, List, length, arith, sym, ◌∙◌}
 use Rattle.std.proofs.lemmas.List.{ext_get_or}
 use Rattle.ffv1_range.specs.Interval.{start, interval_of}
 use Rattle.ffv1_range.specs.Codes.{AreBytes, value, Inside}
-use Rattle.ffv1_range.specs.Symbols.{decided}
 use Rattle.ffv1_range.specs.Table.{Table, IsTable}
 use Rattle.ffv1_range.proofs.Nested.{narrowed-inside}
 use Rattle.ffv1_plane.specs.declared.prediction.Around.{Around}

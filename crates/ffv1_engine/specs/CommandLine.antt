@@ -1,5 +1,5 @@
 -- The command line that the program takes, in clap's terms, and what an order names of it.
-use Rattle.std.specs.Prelude.{◌≡◌, ◌⊎◌, true, codes, Option, Some, None, List}
+use Rattle.std.specs.Prelude.{◌≡◌, ◌≢◌, ◌⊎◌, true, codes, Option, Some, None, List}
 use Rattle.clap.specs.Words.{App, Rule, Row, Text, new_app, new_rule, with_rule, with_subcommand}
 use Rattle.clap.specs.Words.{first_of, subcommand_of, takes, fault_of, HasKind}
 use Rattle.clap.specs.Values.{kind_of}
@@ -46,7 +46,10 @@ NamesNone line = (o : Order) → Names o line → ⊥
 abbrev pub IsRefused : List Text → Error → Type 0
 IsRefused words e = HasKind (fault_of line_app words) e ⊎ NamesNone (subcommand_of line_app words)
 
--- a line that clap takes, and that names an order, fails for want of memory alone
-abbrev pub FailsOnlyForMemory : List Text → Error → Type 0
-FailsOnlyForMemory words e = takes line_app words ≡ true →
-    (o : Order) → Names o (subcommand_of line_app words) → kind_of e ≡ kind.OutOfMemory
+-- of the subcommand with this name its rows name no order
+abbrev pub LacksOrder : Text → List Row → Type 0
+LacksOrder name rows = (name ≢ codes "trial") ⊎ (first_of (codes "IN") rows ≡ None)
+
+-- a line that clap takes fails for want of memory alone
+pub record FailsOnlyForMemory (words : List Text) (e : Error) : Type 0 where
+  pub memory : takes line_app words ≡ true → kind_of e ≡ kind.OutOfMemory

@@ -6,7 +6,7 @@ ghost use Rattle.clap.specs.Words.{app_of, rule_of, subcommand_of, found_of, row
 ghost use Rattle.clap.specs.declared.builder.command.Command.TheViews.{out-Command as fields_of};
 ghost use Rattle.ffv1_engine.specs.CommandLine.{file_rule, one_file, line_app, top_app};
 ghost use Rattle.ffv1_engine.specs.CommandLine.{Names, NamesNone};
-ghost use Rattle.ffv1_engine.specs.CommandLine.{FailsOnlyForMemory, IsRefused};
+ghost use Rattle.ffv1_engine.specs.CommandLine.{FailsOnlyForMemory, IsRefused, LacksOrder};
 
 use clap::error::ErrorKind;
 use clap::{Arg, ArgMatches, Command, Error};
@@ -60,6 +60,7 @@ fn path<'a>(rows: &ArgMatches<'a>, id: &str) -> Option<&'a str>
 fn order_of<'a>(name: &str, rows: &ArgMatches<'a>) -> Option<Order<'a>>
     ensures some { IfSome result (λ o. Names o (Some (name.now, rows_of (found_of rows.now)))) }
     ensures none { IsNone result → NamesNone (Some (name.now, rows_of (found_of rows.now))) }
+    ensures lacks { IsNone result → LacksOrder name.now (rows_of (found_of rows.now)) }
 {
     if name != "trial" {
         return None;
@@ -78,8 +79,8 @@ fn refusal(alloc: Global) -> Result<Error, AllocError> {
 /// clap's meaning of it.
 ///
 /// The error is clap's own, whose text says why, of a kind that clap's meaning of the line gives;
-/// or the line names no order; or memory was refused. So a line that clap takes and that names an
-/// order fails for want of memory alone.
+/// or the line names no order; or memory was refused. A line that clap takes names an order, and
+/// fails for want of memory alone.
 pub fn words<'a>(alloc: Global, words: &'a [&'a str]) -> Result<Order<'a>, Error>
     ensures ok { IfOk result (λ o.
         Names o (subcommand_of line_app (map (λ w. w.now) words.entry.now))) }

@@ -1,4 +1,4 @@
-use Rattle.std.proofs.Common.{◌≡◌, ◌<◌, ◌+◌, ◌-◌, ◌*◌, sym, refl, ◌∙◌, length, take, drop, List, ℕ, true, arith}
+use Rattle.std.proofs.Common.{◌≡◌, ◌<◌, ◌+◌, ◌-◌, ◌*◌, sym, refl, ◌∙◌, length, take, drop, true, arith}
 use Rattle.ffv1_line.specs.Cell.{cell_of}
 use Rattle.ffv1_line.proofs.Cells.{length-rows}
 use Rattle.ffv1_engine.specs.Plane.{plane_residuals}

@@ -1,9 +1,9 @@
-use Rattle.std.proofs.Common.{◌≡◌, ◌<◌, ◌≤◌, ◌*◌, sym, subst, ap, ap₂, ◌∙◌, List, ℕ, [], replicate, rules, arith}
+use Rattle.std.proofs.Common.{◌≡◌, ◌<◌, ◌≤◌, ◌*◌, sym, ap, ap₂, ◌∙◌, ℕ, [], replicate, rules, arith}
 use Rattle.ffv1_range.specs.Codes.{value}
 use Rattle.ffv1_plane.specs.Quantisation.{contexts_of}
 use Rattle.ffv1_line.specs.Cell.{cell_of}
 use Rattle.ffv1_line.specs.Coded.{CodesCellBy}
-use Rattle.ffv1_engine.specs.Plane.{plane_code, plane_residuals, CodesPlane}
+use Rattle.ffv1_engine.specs.Plane.{plane_code, plane_residuals}
 use Rattle.ffv1_engine.proofs.comparison.decodes_to.Goals as goal
 
 pub returns-in_default-clause-same : goal.returns-in_default-clause-same
