@@ -5,6 +5,7 @@ pub mod Streams
 pub mod Files
 pub mod Written
 pub mod Chunks
+pub mod Begun
 pub mod Views
 pub mod Writes
 pub mod Readers
