@@ -1,6 +1,6 @@
 //! Memory that is refused while a configuration record is written or read, at every place.
 
-use crate::Scarce;
+use ffv1_doubles::Scarce;
 use ffv1_plane::QuantSet;
 use ffv1_record::{Coder, Colour, Config, RecordFault, Sets, read_record, write_record};
 use std::alloc::Allocator;
