@@ -6,6 +6,6 @@ pub mod Files
 pub mod Written
 pub mod Chunks
 pub mod Begun
-pub mod Views
 pub mod Writes
 pub mod Readers
+pub mod Internal

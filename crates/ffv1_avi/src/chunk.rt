@@ -76,7 +76,8 @@ pub(crate) fn next_entry<R: ByteIn>(input: &mut R, left: u32) -> Result<Option<E
     ensures answer { Answers (λ (e : Option Entry). e) (entry_read left)
         (passage R.remaining R.failures input.old input.new) result }
     ensures less { IfOk result (λ o. IfSome o (λ e. e.left + 8 ≤ left)) }
-    ensures listed { IfOk result (λ o. IfSome o (λ e. is_name e.name (codes "LIST") ≡ true → 4 ≤ e.size)) }
+    ensures listed { IfOk result (λ o. IfSome o (λ e. is_name e.name (codes "LIST") ≡ true →
+        4 ≤ e.size)) }
 {
     if left == 0 {
         return Ok(None);
@@ -131,7 +132,8 @@ fn append<R: ByteIn, A: Allocator>(
     requires { 0 < more }
     ensures answer { Answers (λ (_ : Unit {0}). bytes.new.items) (appended bytes.old.items more)
         (passage R.remaining R.failures input.old input.new) result }
-    ensures err { OnErr result (AppendsSome (R.remaining input.old) more bytes.old.items bytes.new.items) }
+    ensures err { OnErr result (AppendsSome (R.remaining input.old) more bytes.old.items
+        bytes.new.items) }
     ensures long { OnOk result (length bytes.new.items ≡ length bytes.old.items + more) }
 {
     let done = bytes.len();

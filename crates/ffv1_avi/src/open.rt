@@ -7,7 +7,7 @@ ghost use Rattle.ffv1_avi.specs.Head.{Head};
 ghost use Rattle.ffv1_wire.specs.Passage.{passage};
 ghost use Rattle.ffv1_avi.specs.Reads.{Answers, taken};
 ghost use Rattle.ffv1_avi.specs.Walk.{is_name};
-ghost use Rattle.ffv1_avi.specs.Views.{found_next, found_with, head_with, top_with};
+ghost use Rattle.ffv1_avi.specs.Internal.Views.{found_next, found_with, head_with, top_with};
 
 use crate::chunk::{Entry, is_name, next_entry, padded, pass, take};
 use crate::fault::AviFault;

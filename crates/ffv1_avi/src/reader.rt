@@ -156,7 +156,8 @@ impl<A: Allocator> AviReader<A> {
         ensures stands { StandsAfter self.old result self.new }
         ensures sized { IfOk result (λ more. more ≡ true → (0 < length frame.new.items)
             × (length frame.new.items ≤ 67108864)) }
-        ensures end { IfOk result (λ more. more ≡ false → (frame.new.items ≡ []) × (self.new.left ≡ 0)) }
+        ensures end { IfOk result (λ more. more ≡ false → (frame.new.items ≡ [])
+            × (self.new.left ≡ 0)) }
         ensures err { OnErr result (Leaves self.old.left (R.remaining input.old) frame.new.items) }
         ensures over { self.old.fault ≡ None → self.old.left ≡ 0 →
             (result ≡ Ok false) × (self.new ≡ self.old) × (frame.new.items ≡ [])

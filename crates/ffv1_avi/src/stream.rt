@@ -5,7 +5,7 @@ ghost use Rattle.ffv1_wire.specs.Passage.{at_rest, passage};
 ghost use Rattle.ffv1_avi.specs.Reads.{Answers};
 ghost use Rattle.ffv1_avi.specs.Streams.{format_in, format_read, rates_in, rates_read};
 ghost use Rattle.ffv1_avi.specs.Streams.{stream_judged, stream_read, visit_field};
-ghost use Rattle.ffv1_avi.specs.Views.{came_with, format_with, head_with, known_next, known_with};
+ghost use Rattle.ffv1_avi.specs.Internal.Views.{came_with, format_with, head_with, known_next, known_with};
 
 use crate::chunk::{Entry, fill, is_name, next_entry, padded, pass, take};
 use crate::fault::AviFault;

@@ -29,7 +29,8 @@ impl<W: ByteOut> RowsOut<W> {
 impl<W: ByteOut> LineSink for RowsOut<W> {
     ghost takes = { λ s _ _ samples t. Appends (W.contents s.out) (W.contents t.out) samples };
 
-    ghost refuses = { λ s _ _ samples t. AppendsBeginning (W.contents s.out) (W.contents t.out) samples };
+    ghost refuses = { λ s _ _ samples t. AppendsBeginning (W.contents s.out) (W.contents t.out)
+        samples };
 
     ghost failures = { λ s. W.failures s.out };
 
