@@ -111,7 +111,7 @@ pub list_skip_complete : (size : ℕ) (bytes padding rest : List ℕ) → 4 ≤ 
 list_skip_complete size bytes padding rest room long odd =
     passed_complete (padded size - 4) (drop 4 bytes ++ padding) rest (omega (arith, room, long, odd, length-append (drop 4 bytes) padding, length-drop 4 bytes))
 
-header_complete : Complete visit_header TakesHeader
+pub header_complete : Complete visit_header TakesHeader
 unfolding visit_header
 header_complete s e bytes padding t rest listed long odd takes = on_list (is_name e.name (codes "LIST")) (is_name (take 4 bytes) (codes "strl")) refl refl takes
   where

@@ -17,4 +17,5 @@ pub mod FileLaws
 pub mod WrittenLaws
 pub mod BeginningLaws
 pub mod RefusalLaws
+pub mod LongLaws
 pub mod KnownLaws

@@ -2,6 +2,7 @@
 use Rattle.std.proofs.Common.{◌≡◌, ℕ, Bool, true, false, Option, List, [], ◌∷◌, ◌++◌, take, codes, flat_map, ap, ◌∙◌, sym, subst, refl}
 use Rattle.std.specs.Cmp.Lexicographic.{same_text}
 use Rattle.ffv1_avi.specs.Chunks.{AreChunks, AreParts, Chunk, IsChunk, Part, chunk_text, chunks_text, header_chunks, is_list, part_chunk}
+pub use Rattle.ffv1_avi.specs.Begun.{parts_text}
 use Rattle.ffv1_avi.specs.Head.{Head}
 use Rattle.ffv1_avi.specs.Walk.{is_name}
 use Rattle.ffv1_avi.proofs.Chunking.{Run, Taking}
@@ -13,12 +14,9 @@ run_then : {S : Type 0} (T : Taking S) (xs ys : List Chunk) (s m t : S) → Run 
 run_then {S = S} T [] ys s m t h k = let P : S → Type 0 = λ z. Run T z ys t in subst P h k
 run_then T (x ∷ xs) ys s m t h k = (h.0, h.1, run_then T xs ys h.0 m t h.2 k)
 
-run_part : {S : Type 0} (T : Taking S) (xs ys : List Chunk) (s t : S) → Run T s (xs ++ ys) t → (m : S) × Run T s xs m × Run T m ys t
+pub run_part : {S : Type 0} (T : Taking S) (xs ys : List Chunk) (s t : S) → Run T s (xs ++ ys) t → (m : S) × Run T s xs m × Run T m ys t
 run_part T [] ys s t h = (s, refl, h)
 run_part T (x ∷ xs) ys s t h = let more = run_part T xs ys h.0 t h.2 in (more.0, (h.0, h.1, more.1), more.2)
-
-abbrev pub parts_text : List Part → List ℕ
-parts_text parts = flat_map (λ p. chunk_text (part_chunk p)) parts
 
 -- the parts that some chunks are
 pub record ArePartsOf (chunks : List Chunk) (s t : Option Head) : Type 0 where

@@ -71,7 +71,7 @@ goes_refused r k new last f h why = refused_behind new r last f (λ text why is.
 
 -- the last reading answers
 pub goes_last : {X Y : Type 0} {whole : Reading X} {old now : Option (List ℕ)} {before after : ℕ} (r : Reading X) (view : Y → X) (new : Option (List ℕ)) (last : ℕ) (result : Result Y AviFault) →
-    Goes whole old before r now after → Answers view r now new after last result → Answers view whole old new before last result
+    Goes whole old before r now after → Answers view r (record { old = now; new = new; before = after; after = last }) result → Answers view whole (record { old = old; new = new; before = before; after = last }) result
 goes_last {whole = whole} {old = old} {now = now} r view new last (Ok y) h read = (
   read.0 ∙ h.same,
   record {

@@ -58,7 +58,7 @@ no_stream file parts rest is none =
     spelled_length = refl
 
 -- a header whose chunk does not fit
-entry_long : (left : ℕ) (name size rest : List ℕ) → length name ≡ 4 → length size ≡ 4 → 8 ≤ left → left < 8 + padded (little_number 4 size) → entry_read left ((name ++ size) ++ rest) ≡ Err (Met fault.Truncated rest)
+pub entry_long : (left : ℕ) (name size rest : List ℕ) → length name ≡ 4 → length size ≡ 4 → 8 ≤ left → left < 8 + padded (little_number 4 size) → entry_read left ((name ++ size) ++ rest) ≡ Err (Met fault.Truncated rest)
 unfolding entry_read
 entry_long left name size rest named sized enough long =
     let both : length (name ++ size) ≡ 8 = omega (arith, named, sized, length-append name size) in

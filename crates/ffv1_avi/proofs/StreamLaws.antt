@@ -132,7 +132,7 @@ run_short (c ∷ cs) k t run none x first =
         more (ap (λ (z : Known). z.format) next ∙ none) x (rw q at first)
 
 -- what the chunks of a stream make known
-run_exists : (cs : List Chunk) (k : Known) → (k.format ≡ None → (x : Chunk) → format_chunk cs ≡ Some x → length x.bytes ≤ limit) → (t : Known) × Run TakesField k cs t
+pub run_exists : (cs : List Chunk) (k : Known) → (k.format ≡ None → (x : Chunk) → format_chunk cs ≡ Some x → length x.bytes ≤ limit) → (t : Known) × Run TakesField k cs t
 run_exists [] k short = (k, refl)
 run_exists (c ∷ cs) k short =
     on_names (is_name c.name (codes "strh")) (is_name c.name (codes "strf")) refl refl (λ m h. run_exists cs m h)

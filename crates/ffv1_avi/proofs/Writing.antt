@@ -7,6 +7,7 @@ use Rattle.std.specs.Io.KnownBytes.{Appends}
 use Rattle.ffv1_wire.specs.Writes.{AppendsBeginning}
 use Rattle.ffv1_avi.specs.declared.fault.AviFault.{AviFault}
 use Rattle.ffv1_avi.specs.declared.fault.AviFault.TheVariants as fault
+use Rattle.ffv1_wire.specs.Passage.{between}
 use Rattle.ffv1_avi.specs.Writes.{Stopped, Writes}
 
 pub appends_none : (a : Option (List ℕ)) → Appends a a []
@@ -47,7 +48,7 @@ stopped_later a b c m n xs ys fault.TooLarge h k = absurd k
 stopped_later a b c m n xs ys fault.Read h k = absurd k
 
 -- a write that stopped wrote a beginning of more
-pub writes_stop : (a b : Option (List ℕ)) (m n : ℕ) (xs ys : List ℕ) (f : AviFault) → Writes a b m n xs (Err f) → Writes a b m n (xs ++ ys) (Err f)
+pub writes_stop : (a b : Option (List ℕ)) (m n : ℕ) (xs ys : List ℕ) (f : AviFault) → Writes (between a b m n) xs (Err f) → Writes (between a b m n) (xs ++ ys) (Err f)
 writes_stop a b m n xs ys fault.Write k = (k.0, beginning_sooner a b xs ys k.1)
 writes_stop a b m n xs ys fault.OutOfMemory k = absurd k
 writes_stop a b m n xs ys fault.NotAvi k = absurd k
@@ -59,7 +60,7 @@ writes_stop a b m n xs ys fault.TooLarge k = absurd k
 writes_stop a b m n xs ys fault.Read k = absurd k
 
 -- a call that writes behind bytes that were written
-pub writes_then : (a b c : Option (List ℕ)) (l m n : ℕ) (xs ys : List ℕ) (r : Result (Unit {0}) AviFault) → m ≡ l → Appends a b xs → Writes b c m n ys r → Writes a c l n (xs ++ ys) r
+pub writes_then : (a b c : Option (List ℕ)) (l m n : ℕ) (xs ys : List ℕ) (r : Result (Unit {0}) AviFault) → m ≡ l → Appends a b xs → Writes (between b c m n) ys r → Writes (between a c l n) (xs ++ ys) r
 writes_then a b c l m n xs ys (Ok u) same h k = (k.0 ∙ same, appends_then a b c xs ys h k.1)
 writes_then a b c l m n xs ys (Err f) same h k = rw (← same) (stopped_later a b c m n xs ys f h k)
 
@@ -79,12 +80,12 @@ pieces_then f xs i d a b c inside h k =
 
 -- the writing of a piece stopped
 pub pieces_stop : {X : Type 0} (f : X → List ℕ) (xs : List X) (i : ℕ) (d : X) (a b c : Option (List ℕ)) (l m n : ℕ) (e : AviFault) → i < length xs → m ≡ l → Appends a b (flat_map f (take i xs)) →
-    Writes b c m n (f (get_or xs i d)) (Err e) → Writes a c l n (flat_map f xs) (Err e)
+    Writes (between b c m n) (f (get_or xs i d)) (Err e) → Writes (between a c l n) (flat_map f xs) (Err e)
 pieces_stop f xs i d a b c l m n e inside same h k =
-    let P : List ℕ → Type 0 = λ z. Writes a c l n z (Err e) in
+    let P : List ℕ → Type 0 = λ z. Writes (between a c l n) z (Err e) in
     let all : (flat_map f (take i xs) ++ f (get_or xs i d)) ++ flat_map f (drop (suc i) xs) ≡ flat_map f xs = ap (λ z. z ++ flat_map f (drop (suc i) xs)) (sym (flat_more f xs i d inside)) ∙ flat_cut f xs (suc i) in
     subst P all (writes_stop a c l n _ _ e (writes_then a b c l m n _ _ (Err e) same h k))
 
 -- a write that stopped behind bytes that were written
-pub stops_then : (a b c : Option (List ℕ)) (l m n : ℕ) (xs ys : List ℕ) (f : AviFault) → m ≡ l → Appends a b xs → Writes b c m n ys (Err f) → Writes a c l n (xs ++ ys) (Err f)
+pub stops_then : (a b c : Option (List ℕ)) (l m n : ℕ) (xs ys : List ℕ) (f : AviFault) → m ≡ l → Appends a b xs → Writes (between b c m n) ys (Err f) → Writes (between a c l n) (xs ++ ys) (Err f)
 stops_then a b c l m n xs ys f same h k = rw (← same) (stopped_later a b c m n xs ys f h k)

@@ -5,6 +5,7 @@ pub mod Streams
 pub mod Files
 pub mod Written
 pub mod Chunks
-pub mod Views
+pub mod Begun
 pub mod Writes
 pub mod Readers
+pub mod Internal

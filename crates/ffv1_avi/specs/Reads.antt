@@ -4,6 +4,7 @@ use Rattle.std.specs.Prelude.{◌≡◌, ℕ, ◌+◌, ◌%◌, ◌≤◌, ◌++
 use Rattle.std.specs.Prelude.{take, drop, Option, Some, None, Result, Ok, Err, ⊤}
 use Rattle.std.specs.Io.KnownBytes.{Consumes, IsAtEnd}
 use Rattle.ffv1_wire.specs.Failures.{one_more}
+use Rattle.ffv1_wire.specs.Passage.{Passage}
 use Rattle.ffv1_avi.specs.declared.fault.AviFault.{AviFault}
 use Rattle.ffv1_avi.specs.declared.fault.AviFault.TheVariants as fault
 
@@ -106,10 +107,9 @@ Refused reading old new before after fault.Write = ⊥
 Refused reading old new before after f = (after ≡ before) × Faults reading old new f
 
 -- the answer of a call
-abbrev pub Answers : {X Y : Type 0} → (Y → X) → Reading X → Option (List ℕ) → Option (List ℕ) → ℕ →
-    ℕ → Result Y AviFault → Type 0
-Answers view reading old new before after (Ok y) = (after ≡ before) × Read reading old new (view y)
-Answers view reading old new before after (Err f) = Refused reading old new before after f
+abbrev pub Answers : {X Y : Type 0} → (Y → X) → Reading X → Passage → Result Y AviFault → Type 0
+Answers view reading p (Ok y) = (p.after ≡ p.before) × Read reading p.old p.new (view y)
+Answers view reading p (Err f) = Refused reading p.old p.new p.before p.after f
 
 -- so many bytes behind others
 abbrev pub appended : List ℕ → ℕ → Reading (List ℕ)

@@ -2,6 +2,7 @@
 use Rattle.std.specs.Prelude.{◌≡◌, ℕ, ◌<◌, ◌≤◌, List, Option, Result, Ok, Err}
 use Rattle.std.specs.Io.KnownBytes.{Appends, Keeps}
 use Rattle.ffv1_wire.specs.Failures.{one_more}
+use Rattle.ffv1_wire.specs.Passage.{Passage}
 use Rattle.ffv1_wire.specs.Writes.{AppendsBeginning}
 use Rattle.ffv1_avi.specs.Head.{Head}
 use Rattle.ffv1_avi.specs.Written.{file_of, most, riff_size}
@@ -16,15 +17,12 @@ Stopped old new failures after bytes fault.Write =
 Stopped old new failures after bytes f = ⊥
 
 -- these bytes were written
-abbrev pub Writes : Option (List ℕ) → Option (List ℕ) → ℕ → ℕ → List ℕ →
-    Result (Unit {0}) AviFault → Type 0
-Writes old new failures after bytes (Ok u) = (after ≡ failures) × Appends old new bytes
-Writes old new failures after bytes (Err f) = Stopped old new failures after bytes f
+abbrev pub Writes : Passage → List ℕ → Result (Unit {0}) AviFault → Type 0
+Writes p bytes (Ok u) = (p.after ≡ p.before) × Appends p.old p.new bytes
+Writes p bytes (Err f) = Stopped p.old p.new p.before p.after bytes f
 
 -- the file of a head and frames was written, or refused before any byte where it would be too large
-abbrev pub WritesFile : Option (List ℕ) → Option (List ℕ) → ℕ → ℕ → Head → List (List ℕ) →
-    Result (Unit {0}) AviFault → Type 0
-WritesFile old new failures after head frames (Err fault.TooLarge) =
-    (most < riff_size head frames) × (after ≡ failures) × Keeps old new
-WritesFile old new failures after head frames r =
-    (riff_size head frames ≤ most) × Writes old new failures after (file_of head frames) r
+abbrev pub WritesFile : Passage → Head → List (List ℕ) → Result (Unit {0}) AviFault → Type 0
+WritesFile p head frames (Err fault.TooLarge) =
+    (most < riff_size head frames) × (p.after ≡ p.before) × Keeps p.old p.new
+WritesFile p head frames r = (riff_size head frames ≤ most) × Writes p (file_of head frames) r

@@ -4,6 +4,7 @@ ghost use Rattle.std.specs.Prelude.{◌≡◌, ◌+◌, ◌<◌, ◌≤◌, IfOk
 ghost use Rattle.std.specs.Prelude.{drop, length, take, true};
 ghost use Rattle.ffv1_wire.specs.Failures.{Counted};
 ghost use Rattle.ffv1_wire.specs.Reads.{Fills, FillsBeginning};
+ghost use Rattle.ffv1_wire.specs.Passage.{passage};
 ghost use Rattle.ffv1_avi.specs.Reads.{Answers, AppendsSome, Begins, Kept, appended, padded, taken};
 ghost use Rattle.ffv1_avi.specs.Reads.{passed, wanted};
 ghost use Rattle.ffv1_avi.specs.Walk.{entry_read, is_name};
@@ -38,8 +39,8 @@ pub(crate) fn padded(size: u32) -> u64
 
 /// Fills `buf`. `Truncated` where the input ends before.
 pub(crate) fn take<R: ByteIn>(input: &mut R, buf: &mut [u8]) -> Result<(), AviFault>
-    ensures { Answers (λ (_ : Unit {0}). buf.new) (taken (length buf.old)) (R.remaining input.old)
-        (R.remaining input.new) (R.failures input.old) (R.failures input.new) result }
+    ensures { Answers (λ (_ : Unit {0}). buf.new) (taken (length buf.old))
+        (passage R.remaining R.failures input.old input.new) result }
 {
     match read_full(input, buf) {
         Ok(len) => if len < buf.len() {
@@ -53,8 +54,8 @@ pub(crate) fn take<R: ByteIn>(input: &mut R, buf: &mut [u8]) -> Result<(), AviFa
 
 /// Passes so many bytes. `Truncated` where the input ends before.
 pub(crate) fn pass<R: ByteIn>(input: &mut R, count: u64) -> Result<(), AviFault>
-    ensures { Answers (λ (_ : Unit {0}). tt) (passed count) (R.remaining input.old)
-        (R.remaining input.new) (R.failures input.old) (R.failures input.new) result }
+    ensures { Answers (λ (_ : Unit {0}). tt) (passed count)
+        (passage R.remaining R.failures input.old input.new) result }
 {
     match skip(input, count) {
         Ok(len) => if len < count {
@@ -72,10 +73,11 @@ pub(crate) fn pass<R: ByteIn>(input: &mut R, count: u64) -> Result<(), AviFault>
 /// where it is a list without room for its own name.
 #[tactic(auto, unfolding(crate::specs::Walk::entry_read))]
 pub(crate) fn next_entry<R: ByteIn>(input: &mut R, left: u32) -> Result<Option<Entry>, AviFault>
-    ensures answer { Answers (λ (e : Option Entry). e) (entry_read left) (R.remaining input.old)
-        (R.remaining input.new) (R.failures input.old) (R.failures input.new) result }
+    ensures answer { Answers (λ (e : Option Entry). e) (entry_read left)
+        (passage R.remaining R.failures input.old input.new) result }
     ensures less { IfOk result (λ o. IfSome o (λ e. e.left + 8 ≤ left)) }
-    ensures listed { IfOk result (λ o. IfSome o (λ e. is_name e.name (codes "LIST") ≡ true → 4 ≤ e.size)) }
+    ensures listed { IfOk result (λ o. IfSome o (λ e. is_name e.name (codes "LIST") ≡ true →
+        4 ≤ e.size)) }
 {
     if left == 0 {
         return Ok(None);
@@ -129,9 +131,9 @@ fn append<R: ByteIn, A: Allocator>(
 ) -> Result<(), AviFault>
     requires { 0 < more }
     ensures answer { Answers (λ (_ : Unit {0}). bytes.new.items) (appended bytes.old.items more)
-        (R.remaining input.old) (R.remaining input.new) (R.failures input.old)
-        (R.failures input.new) result }
-    ensures err { OnErr result (AppendsSome (R.remaining input.old) more bytes.old.items bytes.new.items) }
+        (passage R.remaining R.failures input.old input.new) result }
+    ensures err { OnErr result (AppendsSome (R.remaining input.old) more bytes.old.items
+        bytes.new.items) }
     ensures long { OnOk result (length bytes.new.items ≡ length bytes.old.items + more) }
 {
     let done = bytes.len();
@@ -163,8 +165,7 @@ pub(crate) fn fill<R: ByteIn, A: Allocator>(
     bytes: &mut Vec<u8, A>,
 ) -> Result<(), AviFault>
     ensures answer { Answers (λ (_ : Unit {0}). bytes.new.items) (wanted Kept size)
-        (R.remaining input.old) (R.remaining input.new) (R.failures input.old)
-        (R.failures input.new) result }
+        (passage R.remaining R.failures input.old input.new) result }
     ensures err { OnErr result (Begins (R.remaining input.old) size bytes.new.items) }
     ensures long { OnOk result (length bytes.new.items ≡ size) }
 {

@@ -2,6 +2,7 @@
 
 ghost use Rattle.std.specs.Prelude.{◌≡◌, ◌++◌, ℕ, List, length, OnOk, OnErr, replicate};
 ghost use Rattle.std.specs.Io.KnownBytes.{Appends};
+ghost use Rattle.ffv1_wire.specs.Passage.{passage};
 ghost use Rattle.ffv1_avi.specs.Written.{field_bytes, fields_bytes, padding};
 ghost use Rattle.ffv1_avi.specs.Writes.{Writes};
 
@@ -35,8 +36,7 @@ fn field_bytes(field: Field) -> [u8; 4]
 
 /// Writes bytes.
 pub(crate) fn put<W: ByteOut>(out: &mut W, bytes: &[u8]) -> Result<(), AviFault>
-    ensures { Writes (W.contents out.old) (W.contents out.new) (W.failures out.old)
-        (W.failures out.new) bytes.now result }
+    ensures { Writes (passage W.contents W.failures out.old out.new) bytes.now result }
 {
     match write_all(out, bytes) {
         Ok(()) => Ok(()),
@@ -46,8 +46,8 @@ pub(crate) fn put<W: ByteOut>(out: &mut W, bytes: &[u8]) -> Result<(), AviFault>
 
 /// Writes fields, one behind the other.
 pub(crate) fn put_fields<W: ByteOut>(out: &mut W, fields: &[Field]) -> Result<(), AviFault>
-    ensures { Writes (W.contents out.old) (W.contents out.new) (W.failures out.old)
-        (W.failures out.new) (fields_bytes fields.now) result }
+    ensures { Writes (passage W.contents W.failures out.old out.new)
+        (fields_bytes fields.now) result }
 {
     for field in fields {
         put(out, &field_bytes(*field))?;
@@ -57,8 +57,7 @@ pub(crate) fn put_fields<W: ByteOut>(out: &mut W, fields: &[Field]) -> Result<()
 
 /// Writes the padding of so many bytes.
 pub(crate) fn put_padding<W: ByteOut>(out: &mut W, size: usize) -> Result<(), AviFault>
-    ensures { Writes (W.contents out.old) (W.contents out.new) (W.failures out.old)
-        (W.failures out.new) (padding size) result }
+    ensures { Writes (passage W.contents W.failures out.old out.new) (padding size) result }
 {
     put(out, &[0u8; 1][..size % 2])
 }

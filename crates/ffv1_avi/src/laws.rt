@@ -5,6 +5,8 @@ ghost use Rattle.std.specs.Prelude.{◌≡◌, ◌<◌, ◌+◌, ◌++◌, ℕ, 
 ghost use Rattle.std.specs.Prelude.{None, Ok, Err};
 ghost use Rattle.ffv1_avi.specs.Chunks.{AreChunks, AviFile, Chunk, IsWritable, MoviBegins, Part};
 ghost use Rattle.ffv1_avi.specs.Chunks.{Passes, chunks_text, is_named, streams, those};
+ghost use Rattle.ffv1_avi.specs.Begun.{AreReadable, HasShortFormat, HeaderBegins, RiffBegins};
+ghost use Rattle.ffv1_avi.specs.Begun.{StreamBegins, streams_of};
 ghost use Rattle.ffv1_avi.specs.Files.{file_read, open_read, frame_read, frames_read, more_frames};
 ghost use Rattle.ffv1_avi.specs.Head.{Head};
 ghost use Rattle.ffv1_avi.specs.Reads.{EndsEarly, Faults, Lacks, Met, Read, Reading, Short, Want};
@@ -57,15 +59,29 @@ pub fn no_stream()
         streams parts ≡ [] → open_read file ≡ Err (Met fault.NoFfv1 rest) }
 {}
 
-/// A chunk that passes `movi`, behind chunks that are no frames, is truncated, and nothing behind
-/// its header is read.
+/// A chunk that passes its list is truncated, and nothing behind its header is read: in `movi`
+/// behind chunks that are no frames, in RIFF and in `hdrl` behind chunks whose first stream, if
+/// there is one, is FFV1, and in the first stream behind chunks of which no format is too long.
 pub fn long_chunk()
-    ensures { (chunks : List Chunk) (left : ℕ) (name size rest : List ℕ) → AreChunks chunks →
+    ensures movi { (chunks : List Chunk) (left : ℕ) (name size rest : List ℕ) → AreChunks chunks →
         those (is_named (codes "LIST")) chunks ≡ [] → those (is_named (codes "00dc")) chunks ≡ [] →
         Passes left name size →
         frame_read (length (chunks_text chunks) + left)
         (chunks_text chunks ++ ((name ++ size) ++ rest))
         ≡ Err (Met fault.Truncated rest) }
+    ensures riff { (file : List ℕ) (parts : List Part) (left : ℕ) (name size rest : List ℕ) →
+        RiffBegins file parts left ((name ++ size) ++ rest) → AreReadable (streams parts) →
+        Passes left name size → open_read file ≡ Err (Met fault.Truncated rest) }
+    ensures header { (file : List ℕ) (parts : List Part) (chunks : List Chunk) (left : ℕ)
+        (name size rest : List ℕ) →
+        HeaderBegins file parts chunks left ((name ++ size) ++ rest) →
+        AreReadable (streams parts ++ streams_of chunks) →
+        Passes left name size → open_read file ≡ Err (Met fault.Truncated rest) }
+    ensures stream { (file : List ℕ) (parts : List Part) (chunks fields : List Chunk) (left : ℕ)
+        (name size rest : List ℕ) →
+        StreamBegins file parts chunks fields left ((name ++ size) ++ rest) →
+        streams parts ≡ [] → streams_of chunks ≡ [] → HasShortFormat fields →
+        Passes left name size → open_read file ≡ Err (Met fault.Truncated rest) }
 {}
 
 /// A file of a head and frames, by its chunks, is read as that head and those frames, and it has no

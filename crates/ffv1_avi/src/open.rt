@@ -4,9 +4,10 @@ ghost use Rattle.std.specs.Prelude.{◌≡◌, ◌+◌, ◌≤◌, ℕ, List, Op
 ghost use Rattle.ffv1_avi.specs.Files.{first_stream, header_read, open_read, top_read};
 ghost use Rattle.ffv1_avi.specs.Files.{visit_header, visit_top};
 ghost use Rattle.ffv1_avi.specs.Head.{Head};
+ghost use Rattle.ffv1_wire.specs.Passage.{passage};
 ghost use Rattle.ffv1_avi.specs.Reads.{Answers, taken};
 ghost use Rattle.ffv1_avi.specs.Walk.{is_name};
-ghost use Rattle.ffv1_avi.specs.Views.{found_next, found_with, head_with, top_with};
+ghost use Rattle.ffv1_avi.specs.Internal.Views.{found_next, found_with, head_with, top_with};
 
 use crate::chunk::{Entry, is_name, next_entry, padded, pass, take};
 use crate::fault::AviFault;
@@ -17,8 +18,8 @@ use std::alloc::Allocator;
 
 /// A list's own name.
 fn own_name<R: ByteIn>(input: &mut R) -> Result<[u8; 4], AviFault>
-    ensures { Answers (λ (name : List ℕ). name) (taken 4) (R.remaining input.old)
-        (R.remaining input.new) (R.failures input.old) (R.failures input.new) result }
+    ensures { Answers (λ (name : List ℕ). name) (taken 4)
+        (passage R.remaining R.failures input.old input.new) result }
 {
     let mut name = [0u8; 4];
     take(input, &mut name)?;
@@ -34,8 +35,8 @@ fn visit_stream<R: ByteIn, A: Allocator>(
 ) -> Result<Option<Sizes>, AviFault>
     requires { 4 ≤ size }
     ensures { Answers (λ (s : Option Sizes). found_next s config.new.items)
-        (first_stream (found_with found config.old.items) size) (R.remaining input.old)
-        (R.remaining input.new) (R.failures input.old) (R.failures input.new) result }
+        (first_stream (found_with found config.old.items) size)
+        (passage R.remaining R.failures input.old input.new) result }
 {
     if found.is_some() {
         pass(input, padded(size) - 4)?;
@@ -56,8 +57,8 @@ fn visit_header<R: ByteIn, A: Allocator>(
 ) -> Result<Option<Sizes>, AviFault>
     requires { is_name entry.name (codes "LIST") ≡ true → 4 ≤ entry.size }
     ensures { Answers (λ (s : Option Sizes). found_next s config.new.items)
-        (visit_header (found_with found config.old.items) entry) (R.remaining input.old)
-        (R.remaining input.new) (R.failures input.old) (R.failures input.new) result }
+        (visit_header (found_with found config.old.items) entry)
+        (passage R.remaining R.failures input.old input.new) result }
 {
     if !is_name(&entry.name, b"LIST") {
         pass(input, padded(entry.size))?;
@@ -81,8 +82,8 @@ fn read_header<R: ByteIn, A: Allocator>(
 ) -> Result<Option<Sizes>, AviFault>
     requires { 4 ≤ size }
     ensures { Answers (λ (s : Option Sizes). found_with s config.new.items)
-        (header_read (found_with found config.old.items) size) (R.remaining input.old)
-        (R.remaining input.new) (R.failures input.old) (R.failures input.new) result }
+        (header_read (found_with found config.old.items) size)
+        (passage R.remaining R.failures input.old input.new) result }
 {
     let mut found = found;
     let mut left = size - 4;
@@ -112,8 +113,8 @@ fn visit_top<R: ByteIn, A: Allocator>(
 ) -> Result<Top, AviFault>
     requires { is_name entry.name (codes "LIST") ≡ true → 4 ≤ entry.size }
     ensures { Answers (λ (t : Top). top_with t config.new.items)
-        (visit_top (found_with found config.old.items) entry) (R.remaining input.old)
-        (R.remaining input.new) (R.failures input.old) (R.failures input.new) result }
+        (visit_top (found_with found config.old.items) entry)
+        (passage R.remaining R.failures input.old input.new) result }
 {
     if !is_name(&entry.name, b"LIST") {
         pass(input, padded(entry.size))?;
@@ -142,8 +143,7 @@ fn read_top<R: ByteIn, A: Allocator>(
     config: &mut Vec<u8, A>,
 ) -> Result<(Sizes, u32), AviFault>
     ensures { Answers (λ (p : Sizes × ℕ). (head_with p.0 config.new.items, p.1)) (top_read room)
-        (R.remaining input.old) (R.remaining input.new) (R.failures input.old)
-        (R.failures input.new) result }
+        (passage R.remaining R.failures input.old input.new) result }
 {
     let mut found = None;
     let mut left = room;
@@ -165,8 +165,8 @@ pub(crate) fn read_opening<R: ByteIn, A: Allocator>(
     config: &mut Vec<u8, A>,
 ) -> Result<(Sizes, u32), AviFault>
     ensures { Answers
-        (λ (p : Sizes × ℕ). (head_with p.0 config.new.items, p.1)) open_read (R.remaining input.old)
-        (R.remaining input.new) (R.failures input.old) (R.failures input.new) result }
+        (λ (p : Sizes × ℕ). (head_with p.0 config.new.items, p.1)) open_read
+        (passage R.remaining R.failures input.old input.new) result }
 {
     let mut head = [0u8; 12];
     take(input, &mut head)?;

@@ -5,6 +5,7 @@ ghost use Rattle.std.specs.Prelude.{List, [], false, Option, None, Some, IfErr, 
 ghost use Rattle.std.specs.Prelude.{Err};
 ghost use Rattle.ffv1_avi.specs.Files.{frame_found, frame_read, open_read, visit_movi};
 ghost use Rattle.ffv1_avi.specs.Head.{Head, head_of};
+ghost use Rattle.ffv1_wire.specs.Passage.{passage};
 ghost use Rattle.ffv1_avi.specs.Reads.{Answers};
 ghost use Rattle.ffv1_avi.specs.Readers.{Leaves, Standing, StandsAfter, frame_with, next_of};
 ghost use Rattle.ffv1_avi.specs.Readers.{next_with, opened_at};
@@ -24,8 +25,7 @@ use std::marker::Model;
 fn visit_movi<R: ByteIn>(input: &mut R, entry: Entry) -> Result<Option<u32>, AviFault>
     ensures sized { IfOk result (λ o. IfSome o (λ n. (0 < n) × (n ≤ 67108864))) }
     ensures answer { Answers (λ (size : Option ℕ). (tt, frame_with size entry.left))
-        (visit_movi tt entry) (R.remaining input.old) (R.remaining input.new) (R.failures input.old)
-        (R.failures input.new) result }
+        (visit_movi tt entry) (passage R.remaining R.failures input.old input.new) result }
 {
     if is_name(&entry.name, b"LIST") {
         return Err(AviFault::NotAvi);
@@ -47,8 +47,8 @@ fn visit_movi<R: ByteIn>(input: &mut R, entry: Entry) -> Result<Option<u32>, Avi
 #[tactic(auto, unfolding(crate::specs::Files::frame_found))]
 fn find_frame<R: ByteIn>(input: &mut R, left: u32) -> Result<Option<(u32, u32)>, AviFault>
     ensures sized { IfOk result (λ o. IfSome o (λ p. (0 < p.0) × (p.0 ≤ 67108864))) }
-    ensures answer { Answers (λ (p : Option (ℕ × ℕ)). p) (frame_found left) (R.remaining input.old)
-        (R.remaining input.new) (R.failures input.old) (R.failures input.new) result }
+    ensures answer { Answers (λ (p : Option (ℕ × ℕ)). p) (frame_found left)
+        (passage R.remaining R.failures input.old input.new) result }
 {
     let mut left = left;
     while let Some(entry) = next_entry(input, left)? {
@@ -68,8 +68,7 @@ fn read_frame<R: ByteIn, A: Allocator>(
     frame: &mut Vec<u8, A>,
 ) -> Result<Option<u32>, AviFault>
     ensures answer { Answers (λ (after : Option ℕ). next_with frame.new.items after)
-        (frame_read left) (R.remaining input.old) (R.remaining input.new) (R.failures input.old)
-        (R.failures input.new) result }
+        (frame_read left) (passage R.remaining R.failures input.old input.new) result }
     ensures sized { IfOk result
         (λ o. OnSome o ((0 < length frame.new.items) × (length frame.new.items ≤ 67108864))) }
     ensures none { IfOk result (λ after. after ≡ None → frame.new.items ≡ []) }
@@ -110,8 +109,8 @@ impl<A: Allocator> AviReader<A> {
     /// `movi` comes before any; `ChunkTooLong` where its format is above 67108864 bytes; `Read`
     /// where a read failed, `OutOfMemory`.
     pub fn open<R: ByteIn>(alloc: A, input: &mut R) -> Result<AviReader<A>, AviFault>
-        ensures answer { Answers opened_at open_read (R.remaining input.old) (R.remaining input.new)
-            (R.failures input.old) (R.failures input.new) result }
+        ensures answer { Answers opened_at open_read
+            (passage R.remaining R.failures input.old input.new) result }
         ensures sound { IfOk result (λ r. r.fault ≡ None) }
     {
         let mut config = Vec::new(alloc);
@@ -153,12 +152,12 @@ impl<A: Allocator> AviReader<A> {
     ) -> Result<bool, AviFault>
         ensures answer { self.old.fault ≡ None →
             Answers (λ (more : Bool). next_of more frame.new.items self.new.left)
-            (frame_read self.old.left) (R.remaining input.old) (R.remaining input.new)
-            (R.failures input.old) (R.failures input.new) result }
+            (frame_read self.old.left) (passage R.remaining R.failures input.old input.new) result }
         ensures stands { StandsAfter self.old result self.new }
         ensures sized { IfOk result (λ more. more ≡ true → (0 < length frame.new.items)
             × (length frame.new.items ≤ 67108864)) }
-        ensures end { IfOk result (λ more. more ≡ false → (frame.new.items ≡ []) × (self.new.left ≡ 0)) }
+        ensures end { IfOk result (λ more. more ≡ false → (frame.new.items ≡ [])
+            × (self.new.left ≡ 0)) }
         ensures err { OnErr result (Leaves self.old.left (R.remaining input.old) frame.new.items) }
         ensures over { self.old.fault ≡ None → self.old.left ≡ 0 →
             (result ≡ Ok false) × (self.new ≡ self.old) × (frame.new.items ≡ [])

@@ -1,10 +1,11 @@
 //! The first stream of a file, by the chunks of its list.
 
 ghost use Rattle.std.specs.Prelude.{◌≡◌, ◌+◌, ◌*◌, ◌<◌, ◌≤◌, ℕ, List, Option, None, Some, length};
+ghost use Rattle.ffv1_wire.specs.Passage.{at_rest, passage};
 ghost use Rattle.ffv1_avi.specs.Reads.{Answers};
 ghost use Rattle.ffv1_avi.specs.Streams.{format_in, format_read, rates_in, rates_read};
 ghost use Rattle.ffv1_avi.specs.Streams.{stream_judged, stream_read, visit_field};
-ghost use Rattle.ffv1_avi.specs.Views.{came_with, format_with, head_with, known_next, known_with};
+ghost use Rattle.ffv1_avi.specs.Internal.Views.{came_with, format_with, head_with, known_next, known_with};
 
 use crate::chunk::{Entry, fill, is_name, next_entry, padded, pass, take};
 use crate::fault::AviFault;
@@ -34,8 +35,8 @@ pub(crate) struct Fields {
 
 /// The rate and the scale of a stream's header of such a size, where it is one of video.
 fn read_rates<R: ByteIn>(input: &mut R, size: u32) -> Result<Option<(u32, u32)>, AviFault>
-    ensures { Answers (λ (r : Option (ℕ × ℕ)). r) (rates_in size) (R.remaining input.old)
-        (R.remaining input.new) (R.failures input.old) (R.failures input.new) result }
+    ensures { Answers (λ (r : Option (ℕ × ℕ)). r) (rates_in size)
+        (passage R.remaining R.failures input.old input.new) result }
 {
     if size < 56 {
         pass(input, padded(size))?;
@@ -60,8 +61,7 @@ fn read_format<R: ByteIn, A: Allocator>(
     config: &mut Vec<u8, A>,
 ) -> Result<Option<(u32, u32)>, AviFault>
     ensures { Answers (λ (f : Option (ℕ × ℕ)). format_with f config.new.items) (format_in size)
-        (R.remaining input.old) (R.remaining input.new) (R.failures input.old)
-        (R.failures input.new) result }
+        (passage R.remaining R.failures input.old input.new) result }
 {
     if size < 40 {
         pass(input, padded(size))?;
@@ -84,8 +84,8 @@ fn read_format<R: ByteIn, A: Allocator>(
 fn visit_rates<R: ByteIn>(input: &mut R, fields: Fields, size: u32) -> Result<Fields, AviFault>
     ensures { (bytes : List ℕ) →
         Answers (λ (k : Fields). known_next k bytes)
-        (rates_read (known_with fields bytes) size fields.rates) (R.remaining input.old)
-        (R.remaining input.new) (R.failures input.old) (R.failures input.new) result }
+        (rates_read (known_with fields bytes) size fields.rates)
+        (passage R.remaining R.failures input.old input.new) result }
 {
     let mut fields = fields;
     if fields.rates.is_some() {
@@ -105,8 +105,8 @@ fn visit_format<R: ByteIn, A: Allocator>(
 ) -> Result<Fields, AviFault>
     ensures { Answers (λ (k : Fields). known_next k config.new.items)
         (format_read (known_with fields config.old.items) size
-        (came_with fields.format config.old.items)) (R.remaining input.old) (R.remaining input.new)
-        (R.failures input.old) (R.failures input.new) result }
+        (came_with fields.format config.old.items))
+        (passage R.remaining R.failures input.old input.new) result }
 {
     let mut fields = fields;
     if fields.format.is_some() {
@@ -129,8 +129,8 @@ fn visit_field<R: ByteIn, A: Allocator>(
     config: &mut Vec<u8, A>,
 ) -> Result<Fields, AviFault>
     ensures { Answers (λ (k : Fields). known_next k config.new.items)
-        (visit_field (known_with fields config.old.items) entry) (R.remaining input.old)
-        (R.remaining input.new) (R.failures input.old) (R.failures input.new) result }
+        (visit_field (known_with fields config.old.items) entry)
+        (passage R.remaining R.failures input.old input.new) result }
 {
     if is_name(&entry.name, b"strh") {
         return visit_rates(input, fields, entry.size);
@@ -146,8 +146,8 @@ fn visit_field<R: ByteIn, A: Allocator>(
 fn judged(fields: Fields) -> Result<Sizes, AviFault>
     ensures { (bytes : List ℕ) (text : Option (List ℕ)) (failures : ℕ) →
         Answers (λ (s : Sizes). head_with s bytes)
-        (stream_judged fields.rates
-        (came_with fields.format bytes)) text text failures failures result }
+        (stream_judged fields.rates (came_with fields.format bytes)) (at_rest text failures)
+        result }
 {
     let (Some(Some((rate, scale))), Some(Some((width, height)))) = (fields.rates, fields.format)
     else {
@@ -173,8 +173,7 @@ pub(crate) fn read_stream<R: ByteIn, A: Allocator>(
     config: &mut Vec<u8, A>,
 ) -> Result<Sizes, AviFault>
     ensures { Answers (λ (s : Sizes). head_with s config.new.items) (stream_read room)
-        (R.remaining input.old) (R.remaining input.new) (R.failures input.old)
-        (R.failures input.new) result }
+        (passage R.remaining R.failures input.old input.new) result }
 {
     let mut fields = Fields {
         rates: None,

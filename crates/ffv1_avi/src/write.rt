@@ -2,6 +2,7 @@
 
 ghost use Rattle.std.specs.Prelude.{◌≡◌, ◌+◌, ◌*◌, ◌<◌, ◌≤◌, ◌^◌, ◌++◌, ℕ, List, length, map, sum};
 ghost use Rattle.std.specs.Prelude.{flat_map, Option, None, Some, if◌then◌else◌, nat_le, nat_lt};
+ghost use Rattle.ffv1_wire.specs.Passage.{passage};
 ghost use Rattle.ffv1_avi.specs.Head.{head_of};
 ghost use Rattle.ffv1_avi.specs.Reads.{padded};
 ghost use Rattle.ffv1_avi.specs.Written.{avih, file_of, format_size, frame_chunk, frames_of, front};
@@ -63,8 +64,8 @@ fn microseconds(rate: u32, scale: u32) -> u32
 /// RIFF of such a size, and its list hdrl, where the format has such a size with its padding.
 fn put_opening<W: ByteOut>(out: &mut W, size: u32, format: u32) -> Result<(), AviFault>
     requires { format ≤ 2 ^ 31 }
-    ensures { Writes (W.contents out.old) (W.contents out.new) (W.failures out.old)
-        (W.failures out.new) (spelled (opening size format)) result }
+    ensures { Writes (passage W.contents W.failures out.old out.new)
+        (spelled (opening size format)) result }
 {
     let fields = [
         Field::Name(*b"RIFF"),
@@ -83,8 +84,8 @@ fn put_main_header<W: ByteOut, A: Allocator>(
     head: &AviHead<A>,
     count: u32,
 ) -> Result<(), AviFault>
-    ensures { Writes (W.contents out.old) (W.contents out.new) (W.failures out.old)
-        (W.failures out.new) (spelled (avih (head_of head.now) count)) result }
+    ensures { Writes (passage W.contents W.failures out.old out.new)
+        (spelled (avih (head_of head.now) count)) result }
 {
     let fields = [
         Field::Name(*b"avih"),
@@ -118,8 +119,8 @@ fn put_stream<W: ByteOut, A: Allocator>(
     requires width { head.now.width ≤ 8192 }
     requires height { head.now.height ≤ 8192 }
     requires format { format ≤ 2 ^ 31 }
-    ensures { Writes (W.contents out.old) (W.contents out.new) (W.failures out.old)
-        (W.failures out.new) (spelled (stream (head_of head.now) format count)) result }
+    ensures { Writes (passage W.contents W.failures out.old out.new)
+        (spelled (stream (head_of head.now) format count)) result }
 {
     let fields = [
         Field::Name(*b"LIST"),
@@ -153,8 +154,8 @@ fn put_format<W: ByteOut, A: Allocator>(
     size: u32,
 ) -> Result<(), AviFault>
     requires { size ≡ 40 + length head.now.config_record.items }
-    ensures { Writes (W.contents out.old) (W.contents out.new) (W.failures out.old)
-        (W.failures out.new) (spelled (strf (head_of head.now))) result }
+    ensures { Writes (passage W.contents W.failures out.old out.new)
+        (spelled (strf (head_of head.now))) result }
 {
     let fields = [
         Field::Name(*b"strf"),
@@ -176,8 +177,8 @@ fn put_format<W: ByteOut, A: Allocator>(
 /// A frame's chunk.
 fn put_frame<W: ByteOut>(out: &mut W, frame: &[u8]) -> Result<(), AviFault>
     requires { length frame.now < 2 ^ 32 }
-    ensures { Writes (W.contents out.old) (W.contents out.new) (W.failures out.old)
-        (W.failures out.new) (frame_chunk frame.now) result }
+    ensures { Writes (passage W.contents W.failures out.old out.new)
+        (frame_chunk frame.now) result }
 {
     let fields = [Field::Name(*b"00dc"), Field::Number(frame.len() as u32)];
     put_fields(out, &fields)?;
@@ -192,8 +193,7 @@ fn put_movi<W: ByteOut, A: Allocator>(
     size: u32,
 ) -> Result<(), AviFault>
     requires { movi_size (frames_of frames.now) ≤ 2147483647 }
-    ensures { Writes (W.contents out.old) (W.contents out.new) (W.failures out.old)
-        (W.failures out.new)
+    ensures { Writes (passage W.contents W.failures out.old out.new)
         (spelled (movi size) ++ flat_map frame_chunk (frames_of frames.now)) result }
 {
     let fields = [
@@ -218,8 +218,8 @@ fn put_head<W: ByteOut, A: Allocator>(
     requires width { head.now.width ≤ 8192 }
     requires height { head.now.height ≤ 8192 }
     requires short { 40 + length head.now.config_record.items ≤ 2147483647 }
-    ensures { Writes (W.contents out.old) (W.contents out.new) (W.failures out.old)
-        (W.failures out.new) (head_text (head_of head.now) count size) result }
+    ensures { Writes (passage W.contents W.failures out.old out.new)
+        (head_text (head_of head.now) count size) result }
 {
     let len = 40 + head.config_record.len();
     let format = padded(len) as u32;
@@ -255,8 +255,8 @@ pub fn write_avi<W: ByteOut, A: Allocator>(
 ) -> Result<(), AviFault>
     requires width { head.now.width ≤ 8192 }
     requires height { head.now.height ≤ 8192 }
-    ensures { WritesFile (W.contents out.old) (W.contents out.new) (W.failures out.old)
-        (W.failures out.new) (head_of head.now) (frames_of frames.now) result }
+    ensures { WritesFile (passage W.contents W.failures out.old out.new)
+        (head_of head.now) (frames_of frames.now) result }
 {
     let Some((movi, riff)) = sizes(head, frames) else {
         return Err(AviFault::TooLarge);

@@ -2,6 +2,7 @@
 use Rattle.std.specs.Prelude.{◌≡◌, ℕ, ◌*◌, ◌≤◌, if◌then◌else◌, List, [], ◌∷◌, length, Option}
 use Rattle.std.specs.Prelude.{Some, None, Result, Ok, Err, ⊤}
 use Rattle.ffv1_wire.specs.Failures.{one_more}
+use Rattle.ffv1_wire.specs.Passage.{Passage}
 use Rattle.ffv1_y4m.specs.Header.{header_of}
 use Rattle.ffv1_y4m.specs.Pictures.{picture_read}
 use Rattle.ffv1_y4m.specs.Sequence.{Outcome}
@@ -63,8 +64,8 @@ FaultsMono (Some text) (Some rest) f = mono_of text ≡ Err (f, rest)
 
 -- why a picture was not read: a read failed, which was counted; or memory was refused; or the text
 -- has this fault
-abbrev pub RefusesMono : Option (List ℕ) → Option (List ℕ) → ℕ → ℕ → Fault → Type 0
-RefusesMono old new failures after fault.Read = after ≡ one_more failures
-RefusesMono old new failures after fault.OutOfMemory = after ≡ failures
-RefusesMono old new failures after fault.Write = ⊥
-RefusesMono old new failures after f = (after ≡ failures) × FaultsMono old new f
+abbrev pub RefusesMono : Passage → Fault → Type 0
+RefusesMono p fault.Read = p.after ≡ one_more p.before
+RefusesMono p fault.OutOfMemory = p.after ≡ p.before
+RefusesMono p fault.Write = ⊥
+RefusesMono p f = (p.after ≡ p.before) × FaultsMono p.old p.new f

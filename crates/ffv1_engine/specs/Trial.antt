@@ -4,6 +4,7 @@ use Rattle.std.specs.Io.KnownBytes.{Appends, Keeps}
 use Rattle.ffv1_range.specs.Standard.{standard}
 use Rattle.ffv1_plane.specs.Quantisation.{small_set}
 use Rattle.ffv1_wire.specs.Failures.{one_more}
+use Rattle.ffv1_wire.specs.Passage.{Passage}
 use Rattle.ffv1_wire.specs.Writes.{AppendsBeginning}
 use Rattle.ffv1_engine.specs.declared.fault.Fault.{Fault}
 use Rattle.ffv1_engine.specs.declared.fault.Fault.TheVariants as fault
@@ -18,12 +19,14 @@ lines_for m = report_of (length m.samples)
     (length (plane_steps small_set m.width m.height m.samples))
     (plane_code standard small_set m.width m.height m.samples) true
 
--- the lines of the first picture were written
-pub record TrialDone (text rest written all : Option (List ℕ)) : Type 0 where
+-- the lines of the first picture were written, and nothing failed
+pub record TrialDone (input output : Passage) : Type 0 where
   pub picture : Mono
   pub mono : IsMono picture
-  pub reads : ReadsMono text rest picture
-  pub writes : Appends written all (lines_for picture)
+  pub reads : ReadsMono input.old input.new picture
+  pub writes : Appends output.old output.new (lines_for picture)
+  pub read : input.after ≡ input.before
+  pub written : output.after ≡ output.before
 
 -- a beginning of the lines of the first picture was written
 pub record TrialCut (text written all : Option (List ℕ)) : Type 0 where
@@ -34,20 +37,18 @@ pub record TrialCut (text written all : Option (List ℕ)) : Type 0 where
   pub writes : AppendsBeginning written all (lines_for picture)
 
 -- nothing was written
-pub record Silent (written all : Option (List ℕ)) (failures after : ℕ) : Type 0 where
-  pub kept : Keeps written all
-  pub same : after ≡ failures
+pub record Silent (output : Passage) : Type 0 where
+  pub kept : Keeps output.old output.new
+  pub same : output.after ≡ output.before
 
 -- why a trial is refused: a write failed, which was counted, behind a beginning of the lines; or a
 -- read failed, which was counted; or memory was refused; or the text has this fault,
 -- with this left of it
-abbrev pub TrialRefused : Option (List ℕ) → Option (List ℕ) → ℕ → ℕ → Option (List ℕ) →
-    Option (List ℕ) → ℕ → ℕ → Fault → Type 0
-TrialRefused text rest reads reads_after written all writes writes_after fault.Write =
-    TrialCut text written all × (writes_after ≡ one_more writes) × (reads_after ≡ reads)
-TrialRefused text rest reads reads_after written all writes writes_after fault.Read =
-    Silent written all writes writes_after × (reads_after ≡ one_more reads)
-TrialRefused text rest reads reads_after written all writes writes_after fault.OutOfMemory =
-    Silent written all writes writes_after × (reads_after ≡ reads)
-TrialRefused text rest reads reads_after written all writes writes_after f =
-    Silent written all writes writes_after × (reads_after ≡ reads) × FaultsMono text rest f
+abbrev pub TrialRefused : Passage → Passage → Fault → Type 0
+TrialRefused input output fault.Write =
+    TrialCut input.old output.old output.new × (output.after ≡ one_more output.before)
+    × (input.after ≡ input.before)
+TrialRefused input output fault.Read = Silent output × (input.after ≡ one_more input.before)
+TrialRefused input output fault.OutOfMemory = Silent output × (input.after ≡ input.before)
+TrialRefused input output f =
+    Silent output × (input.after ≡ input.before) × FaultsMono input.old input.new f

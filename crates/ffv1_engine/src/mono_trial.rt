@@ -1,6 +1,7 @@
 //! A mono picture is coded and decoded.
 
 ghost use Rattle.std.specs.Prelude.{◌≡◌, ◌*◌, ◌≤◌, ◌<◌, ℕ, length, replicate, IfErr, OnOk};
+ghost use Rattle.ffv1_wire.specs.Passage.{passage};
 ghost use Rattle.ffv1_engine.specs.declared.fault.Fault.TheVariants as fault;
 ghost use Rattle.ffv1_engine.specs.Trial.{TrialDone, TrialRefused};
 
@@ -35,11 +36,10 @@ pub fn trial<R: ByteIn, W: ByteOut, A: Allocator + Copy>(
     input: &mut R,
     output: &mut W,
 ) -> Result<(), Fault>
-    ensures ok { OnOk result (TrialDone (R.remaining input.old) (R.remaining input.new)
-        (W.contents output.old) (W.contents output.new)) }
-    ensures err { IfErr result (λ f. TrialRefused (R.remaining input.old) (R.remaining input.new)
-        (R.failures input.old) (R.failures input.new) (W.contents output.old)
-        (W.contents output.new) (W.failures output.old) (W.failures output.new) f) }
+    ensures ok { OnOk result (TrialDone (passage R.remaining R.failures input.old input.new)
+        (passage W.contents W.failures output.old output.new)) }
+    ensures err { IfErr result (TrialRefused (passage R.remaining R.failures input.old input.new)
+        (passage W.contents W.failures output.old output.new)) }
 {
     let mono = read_mono(alloc, input)?;
     let coded = code_plane(alloc, mono.width, mono.height, &mono.samples)?;

@@ -1,6 +1,7 @@
 //! The first picture of an input, where it is mono.
 
 ghost use Rattle.std.specs.Prelude.{◌≡◌, ◌*◌, IfOk, IfErr, OnOk};
+ghost use Rattle.ffv1_wire.specs.Passage.{passage};
 ghost use Rattle.ffv1_engine.specs.Picture.{IsMono, ReadsMono, RefusesMono, mono_of};
 
 use crate::fault::Fault;
@@ -31,8 +32,8 @@ pub(crate) fn read_mono<R: ByteIn, A: Allocator + Copy>(
       samples = m.samples.items;
     })) }
     ensures kept { OnOk result (R.failures input.new ≡ R.failures input.old) }
-    ensures err { IfErr result (λ f. RefusesMono (R.remaining input.old) (R.remaining input.new)
-        (R.failures input.old) (R.failures input.new) f) }
+    ensures err { IfErr result
+        (RefusesMono (passage R.remaining R.failures input.old input.new)) }
 {
     let mut reader = Y4mReader::open(alloc, None, input)?;
     let head = *reader.head();

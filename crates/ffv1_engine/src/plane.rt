@@ -99,8 +99,10 @@ fn code_rows<A: Allocator + Copy>(
     requires few { width * height ≤ 2 ^ 26 }
     requires fresh { states.old ≡ replicate (contexts_of set.now * 32) 128 }
     requires held { AllHeld table.now states.old }
-    ensures code { IfOk result (λ c. c.code.items ≡ plane_code table.now set.now width height samples.now) }
-    ensures decisions { IfOk result (λ c. c.decisions ≡ length (plane_steps set.now width height samples.now)) }
+    ensures code { IfOk result (λ c. c.code.items ≡ plane_code table.now set.now width height
+        samples.now) }
+    ensures decisions { IfOk result (λ c. c.decisions ≡ length (plane_steps set.now width height
+        samples.now)) }
     ensures residuals { IfOk result
         (λ c. c.decisions ≡ cell_decisions (plane_residuals set.now width height samples.now)) }
     ensures long { IfOk result
@@ -142,8 +144,10 @@ pub fn code_plane<A: Allocator + Copy>(
     requires some_high { 1 ≤ height }
     requires high { height ≤ 8192 }
     requires whole { length samples.now ≡ width * height }
-    ensures code { IfOk result (λ c. c.code.items ≡ plane_code standard small_set width height samples.now) }
-    ensures decisions { IfOk result (λ c. c.decisions ≡ length (plane_steps small_set width height samples.now)) }
+    ensures code { IfOk result (λ c. c.code.items ≡ plane_code standard small_set width height
+        samples.now) }
+    ensures decisions { IfOk result (λ c. c.decisions ≡ length (plane_steps small_set width height
+        samples.now)) }
     ensures residuals { IfOk result
         (λ c. c.decisions ≡ cell_decisions (plane_residuals small_set width height samples.now)) }
     ensures long { IfOk result

@@ -5,7 +5,7 @@ use Rattle.std.proofs.lemmas.Bool.{lt-ltb}
 use Rattle.std.proofs.Math.Nat.{pow-succ'}
 use Rattle.ffv1_range.specs.Interval.{Interval, renormalised}
 use Rattle.ffv1_range.specs.Codes.{value, AreBytes}
-use Rattle.ffv1_range.specs.Registers.{interval_from, IsWriting, IsChosen}
+use Rattle.ffv1_range.specs.Internal.Registers.{interval_from, IsWriting, IsChosen}
 use Rattle.ffv1_range.proofs.Values.{value-push}
 
 pub same_interval : (i j : Interval) → i.low ≡ j.low → i.width ≡ j.width → i.count ≡ j.count → i ≡ j

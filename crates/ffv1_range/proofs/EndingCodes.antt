@@ -10,7 +10,7 @@ use Rattle.ffv1_range.specs.Codes.{value, digits, raised, rounded_of, sentinel_o
 use Rattle.ffv1_range.proofs.Values.{value-append, value-digits, length-digits}
 use Rattle.ffv1_range.proofs.EmittedBytes.{bytes-pushed}
 use Rattle.ffv1_range.proofs.Endings.{take-digits, rounded-is}
-use Rattle.ffv1_range.specs.Registers.{interval_from}
+use Rattle.ffv1_range.specs.Internal.Registers.{interval_from}
 use Rattle.ffv1_range.proofs.Nested.{narrow-inside}
 
 -- what holds of each interval of a list

@@ -2,7 +2,7 @@
 use Rattle.std.proofs.Common.{◌≡◌, refl, ℕ, suc, ◌+◌, ◌-◌, ◌*◌, ◌/◌, ◌%◌, List, [], ◌∷◌, length, take, arith, sym, ◌∙◌}
 use Rattle.std.proofs.Math.Seq.{take-length, take-append_seam}
 use Rattle.ffv1_range.specs.Codes.{value, digits, raised, rounded_of, full_of, AreBytes}
-use Rattle.ffv1_range.specs.Registers.{interval_from}
+use Rattle.ffv1_range.specs.Internal.Registers.{interval_from}
 use Rattle.ffv1_range.proofs.Values.{digits-value, length-digits}
 
 -- bytes are the digits of their number

@@ -10,7 +10,7 @@ use Rattle.ffv1_range.specs.Symbols.{Step, raising, exponent_steps, mantissa_ste
 use Rattle.ffv1_range.specs.History.{AreBelow}
 use Rattle.ffv1_range.specs.Writing.{Writing}
 use Rattle.ffv1_range.specs.Puts.{Puts, Grows, MayBeRefused}
-use Rattle.ffv1_range.specs.Registers.{Writes}
+use Rattle.ffv1_range.specs.Internal.Registers.{Writes}
 use Rattle.ffv1_range.proofs.Nested.{narrowed-append}
 use Rattle.ffv1_range.proofs.Steps.{decided-append, raising-add-one, writes_append}
 use Rattle.ffv1_range.proofs.Windows.{part_decided}

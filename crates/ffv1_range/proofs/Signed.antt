@@ -9,7 +9,7 @@ use Rattle.ffv1_range.specs.Table.{Table}
 use Rattle.ffv1_range.specs.Reading.{Reading}
 use Rattle.ffv1_range.specs.Symbols.{exponent, exponent_steps, mantissa_steps, magnitude_steps, sized_steps, signed_steps, unsigned_steps}
 use Rattle.ffv1_range.specs.Writing.{Writing}
-use Rattle.ffv1_range.specs.Registers.{Reads, Writes}
+use Rattle.ffv1_range.specs.Internal.Registers.{Reads, Writes}
 use Rattle.ffv1_range.proofs.Steps.{reads_append, writes_append}
 
 -- the exponent of a number is where its highest bit stands

@@ -4,7 +4,7 @@ use Rattle.std.proofs.lemmas.Bool.{cases_lt, cases_eq}
 use Rattle.std.proofs.lemmas.Bool.Decides.{nat_tests}
 use Rattle.ffv1_range.specs.Standard.{default_state_transition}
 use Rattle.ffv1_range.specs.Table.{IsTable}
-use Rattle.ffv1_range.specs.Registers.{AreZeros}
+use Rattle.ffv1_range.specs.Internal.Registers.{AreZeros}
 
 -- whether a state that is held stays so
 abbrev stays : ℕ → List ℕ → ℕ → Bool

@@ -9,7 +9,7 @@ use Rattle.ffv1_range.specs.Counts.{Counts, Counted}
 use Rattle.ffv1_range.specs.Follows.{Follows}
 use Rattle.ffv1_range.specs.Writing.{Writing}
 use Rattle.ffv1_range.specs.Puts.{Puts}
-use Rattle.ffv1_range.specs.Registers.{Reads, Writes}
+use Rattle.ffv1_range.specs.Internal.Registers.{Reads, Writes}
 use Rattle.ffv1_range.proofs.Nested.{narrowed-append}
 use Rattle.ffv1_range.proofs.Counting.{counted_none, counted_append}
 

@@ -12,4 +12,4 @@ pub mod Reading
 pub mod Writing
 pub mod Follows
 pub mod Puts
-pub mod Registers
+pub mod Internal

@@ -38,7 +38,7 @@ pub struct RangeDecoder<'a> {
 
 impl<'a> Model for RangeDecoder<'a> {
     ghost use Rattle.ffv1_range.specs.Reading.{Reading};
-    ghost use Rattle.ffv1_range.specs.Registers.{IsReading};
+    ghost use Rattle.ffv1_range.specs.Internal.Registers.{IsReading};
 
     ghost Value = { Reading };
 

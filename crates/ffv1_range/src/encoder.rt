@@ -12,7 +12,7 @@ ghost use Rattle.ffv1_range.specs.Counts.{counted, total};
 ghost use Rattle.ffv1_range.specs.Symbols.{Step};
 ghost use Rattle.ffv1_range.specs.History.{AreBelow, decisions_after};
 ghost use Rattle.ffv1_range.specs.Puts.{Puts};
-ghost use Rattle.ffv1_range.specs.Registers.{interval_from, IsWriting, IsChosen};
+ghost use Rattle.ffv1_range.specs.Internal.Registers.{interval_from, IsWriting, IsChosen};
 
 use crate::fault::Fault;
 use crate::table::StateTable;
@@ -42,7 +42,7 @@ pub struct RangeEncoder<A: Allocator = Global> {
 }
 
 impl<A: Allocator> Model for RangeEncoder<A> {
-    ghost use Rattle.ffv1_range.specs.Registers.{IsWriting, interval_from};
+    ghost use Rattle.ffv1_range.specs.Internal.Registers.{IsWriting, interval_from};
     ghost use Rattle.ffv1_range.specs.Writing.{Writing};
 
     ghost Value = { Writing };

@@ -20,7 +20,7 @@ pub struct Parked {
 
 impl Model for Parked {
     ghost use Rattle.ffv1_range.specs.Reading.{Pause};
-    ghost use Rattle.ffv1_range.specs.Registers.{IsReading};
+    ghost use Rattle.ffv1_range.specs.Internal.Registers.{IsReading};
 
     ghost Value = { Pause };
 

@@ -7,7 +7,7 @@ ghost use Rattle.ffv1_range.specs.Symbols.{exponent_steps, mantissa_steps, raisi
 ghost use Rattle.ffv1_range.specs.Symbols.{unsigned_steps, too_long};
 ghost use Rattle.ffv1_range.specs.Counts.{ones_in, Counted};
 ghost use Rattle.ffv1_range.specs.Follows.{Follows};
-ghost use Rattle.ffv1_range.specs.Registers.{Reads};
+ghost use Rattle.ffv1_range.specs.Internal.Registers.{Reads};
 
 use crate::decoder::RangeDecoder;
 use crate::fault::Fault;

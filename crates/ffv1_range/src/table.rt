@@ -41,7 +41,7 @@ pub struct StateTable {
 
 impl Model for StateTable {
     ghost use Rattle.ffv1_range.specs.Table.{Table, IsTable};
-    ghost use Rattle.ffv1_range.specs.Registers.{AreZeros, AreEither};
+    ghost use Rattle.ffv1_range.specs.Internal.Registers.{AreZeros, AreEither};
 
     ghost Value = { Table };
 

@@ -7,7 +7,7 @@ ghost use Rattle.ffv1_range.specs.Symbols.{mantissa_steps, magnitude_steps, sign
 ghost use Rattle.ffv1_range.specs.Symbols.{unsigned_steps};
 ghost use Rattle.ffv1_range.specs.Counts.{ones_in, Counted};
 ghost use Rattle.ffv1_range.specs.Puts.{Puts, Grows, MayBeRefused};
-ghost use Rattle.ffv1_range.specs.Registers.{Writes, IsWriting, interval_from, standing};
+ghost use Rattle.ffv1_range.specs.Internal.Registers.{Writes, IsWriting, interval_from, standing};
 
 use crate::encoder::{RangeEncoder, Span, narrow_by};
 use crate::fault::Fault;

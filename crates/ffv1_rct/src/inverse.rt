@@ -124,7 +124,8 @@ pub fn inverse_line(
     requires r { length r.old ≡ length y.now }
     requires g { length g.old ≡ length y.now }
     requires b { length b.old ≡ length y.now }
-    ensures exact { IsErr result ↔ ((x : ℕ) × (x < length y.now) × (HasColourAt y.now cb.now cr.now x → ⊥)) }
+    ensures exact { IsErr result ↔ ((x : ℕ) × (x < length y.now)
+        × (HasColourAt y.now cb.now cr.now x → ⊥)) }
     ensures ok { OnOk result (AreOnlyColours (length y.now) y.now cb.now cr.now r.new g.new b.new) }
     ensures inside { IfErr result (λ c. c.x < length y.now) }
     ensures none { IfErr result (λ c. HasColourAt y.now cb.now cr.now c.x → ⊥) }

@@ -1,9 +1,9 @@
 //! The reversible colour transform of one line, forward and inverse (RFC 9043, 3.7.2), and the
 //! narrowing of a transparency line to bytes.
 //!
-//! An encoder transforms lines of red, green and blue by [`forward_line`]. A decoder takes the lines
-//! that it read back by [`inverse_line`], and those of transparency by [`narrow_line`]; a place that
-//! is the transform of no colour is [`NoColour`]. No call takes memory.
+//! An encoder transforms lines of red, green and blue by [`forward_line`]. A decoder takes the
+//! lines that it read back by [`inverse_line`], and those of transparency by [`narrow_line`]; a
+//! place that is the transform of no colour is [`NoColour`]. No call takes memory.
 //!
 //! ```text
 //! let (mut y, mut cb, mut cr) = ([0u16], [0u16], [0u16]);

@@ -13,7 +13,8 @@ fn narrow_block(at: usize, a: &[u16], out: &mut [u8]) -> bool
     requires at { at + 32 ≤ length a.now }
     requires out { length out.old ≡ length a.now }
     requires done { (x : ℕ) → x < at → slice_index out.old x ≡ slice_index a.now x }
-    ensures all { IsTrue result → (x : ℕ) → x < at + 32 → slice_index out.new x ≡ slice_index a.now x }
+    ensures all { IsTrue result → (x : ℕ) → x < at + 32 →
+        slice_index out.new x ≡ slice_index a.now x }
     ensures kept { IsTrue result → IsKeptFrom (at + 32) out.old out.new }
     ensures none { IsFalse result → out.new ≡ out.old }
 {
@@ -37,7 +38,8 @@ fn narrow_rest(at: usize, a: &[u16], out: &mut [u8]) -> Result<(), NoColour>
     ensures behind { IfErr result (λ c. at ≤ c.x) }
     ensures inside { IfErr result (λ c. c.x < length a.now) }
     ensures above { IfErr result (λ c. 255 < slice_index a.now c.x) }
-    ensures filled { IfErr result (λ c. (x : ℕ) → x < c.x → slice_index out.new x ≡ slice_index a.now x) }
+    ensures filled { IfErr result (λ c. (x : ℕ) → x < c.x →
+        slice_index out.new x ≡ slice_index a.now x) }
     ensures kept { IfErr result (λ c. IsKeptFrom c.x out.old out.new) }
 {
     for x in at..a.len() {
@@ -60,7 +62,8 @@ pub fn narrow_line(a: &[u16], out: &mut [u8]) -> Result<(), NoColour>
     ensures ok { OnOk result (out.new ≡ a.now) }
     ensures inside { IfErr result (λ c. c.x < length a.now) }
     ensures above { IfErr result (λ c. 255 < slice_index a.now c.x) }
-    ensures filled { IfErr result (λ c. (x : ℕ) → x < c.x → slice_index out.new x ≡ slice_index a.now x) }
+    ensures filled { IfErr result (λ c. (x : ℕ) → x < c.x →
+        slice_index out.new x ≡ slice_index a.now x) }
     ensures kept { IfErr result (λ c. IsKeptFrom c.x out.old out.new) }
 {
     let mut at = 0;

@@ -20,7 +20,7 @@ use Rattle.ffv1_range.specs.Deltas.{IsTableOf, HaveNoTable}
 use Rattle.ffv1_record.specs.declared.config.Coder.{Coder}
 use Rattle.ffv1_record.specs.declared.config.Coder.TheVariants as coder
 use Rattle.ffv1_record.proofs.Checks.{no_table}
-use Rattle.ffv1_record.specs.Given.{Source, Gives, GivesIn, IsRead}
+use Rattle.ffv1_record.specs.Internal.Given.{Source, Gives, GivesIn, IsRead}
 use Rattle.ffv1_record.proofs.ReadIsCoded.{not_both}
 use Rattle.ffv1_record.proofs.DecoderSpots.{stands_on, stands_in}
 

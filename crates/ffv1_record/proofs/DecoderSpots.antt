@@ -13,7 +13,7 @@ use Rattle.ffv1_range.proofs.HistoryLemmas.{decided_is, moved_has, others_have, 
 use Rattle.ffv1_range.proofs.Windows.{AreBelow-append}
 use Rattle.ffv1_record.specs.Record.{IsCoded}
 use Rattle.ffv1_record.specs.Reader.{Spot, behind}
-use Rattle.ffv1_record.specs.Given.{Source, Stands, StandsIn}
+use Rattle.ffv1_record.specs.Internal.Given.{Source, Stands, StandsIn}
 use Rattle.ffv1_record.proofs.Slots.{shifted_within, shifted_beside, below_beside, below_more}
 
 -- the interval of a history and of steps behind it

@@ -20,7 +20,7 @@ use Rattle.ffv1_plane.specs.Quantisation.{Set}
 use Rattle.ffv1_record.specs.Reader.{Spot}
 use Rattle.ffv1_record.specs.Record.{number_steps, signed_number_steps, truth_steps, deltas_steps, runs_steps, set_steps, sets_steps, uncoded_steps, opening_steps, planes_steps, grid_steps, tables_steps, closing_steps, record_steps, record_decisions, coded_of}
 use Rattle.ffv1_range.specs.Codes.{full_of}
-use Rattle.ffv1_record.specs.Written.{Target, Holding, HoldingIn, Wrote, WroteIn}
+use Rattle.ffv1_record.specs.Internal.Written.{Target, Holding, HoldingIn, Wrote, WroteIn}
 use Rattle.ffv1_record.proofs.Slots.{shifted_within, shifted_beside, below_beside, below_more}
 use Rattle.ffv1_record.proofs.DecoderSpots.{interval_behind}
 

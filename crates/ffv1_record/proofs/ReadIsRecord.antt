@@ -12,7 +12,7 @@ use Rattle.ffv1_record.specs.Parity.{remainder_of}
 use Rattle.ffv1_record.specs.Record.{IsRecord, IsCoded, body_of}
 use Rattle.ffv1_record.specs.Reader.{Reader, Spot}
 use Rattle.ffv1_record.specs.Reading.{parameters, beginning, IsRefused}
-use Rattle.ffv1_record.specs.Given.{Source, Stands, Gives}
+use Rattle.ffv1_record.specs.Internal.Given.{Source, Stands, Gives}
 use Rattle.ffv1_record.proofs.ReadIsCoded.{parameters_ok}
 
 stands_coded : (a : Source) (b : List ℕ) (s : Spot) → Stands a b s → IsCoded b s.past

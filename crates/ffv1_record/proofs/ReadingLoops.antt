@@ -6,7 +6,7 @@ use Rattle.ffv1_record.specs.declared.fault.RecordFault.{RecordFault}
 use Rattle.ffv1_record.specs.declared.fault.RecordFault.TheVariants as fault
 use Rattle.ffv1_record.specs.Reader.{Reader, Spot, ◌>>=◌, done, require, signed_number, truth}
 use Rattle.ffv1_record.specs.Reading.{deltas_onto, sets_onto, uncoded, set}
-use Rattle.ffv1_record.specs.Given.{Source, Stands, Gives}
+use Rattle.ffv1_record.specs.Internal.Given.{Source, Stands, Gives}
 use Rattle.ffv1_record.proofs.CallsGive.{gives_next, gives_stop, gives_done, gives_refused}
 
 -- what is read from here on is what is read from there

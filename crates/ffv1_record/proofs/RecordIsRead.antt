@@ -12,7 +12,7 @@ use Rattle.ffv1_record.specs.Accepted.{IsAccepted, IsFirst, Passes, PassesAll}
 use Rattle.ffv1_record.specs.Record.{IsRecord, IsCoded, body_of, record_steps}
 use Rattle.ffv1_record.specs.Reader.{Spot}
 use Rattle.ffv1_record.specs.Reading.{parameters, beginning}
-use Rattle.ffv1_record.specs.Given.{Source, Stands, Gives}
+use Rattle.ffv1_record.specs.Internal.Given.{Source, Stands, Gives}
 use Rattle.ffv1_record.proofs.ReadIsCoded.{ok_same, not_both}
 use Rattle.ffv1_record.proofs.CodedIsRead.{coded_front}
 use Rattle.ffv1_record.proofs.CodedRecordIsRead.{forced_parameters, ending_of, ending_past}

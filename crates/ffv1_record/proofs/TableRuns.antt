@@ -6,7 +6,7 @@ use Rattle.ffv1_record.specs.declared.fault.RecordFault.{RecordFault}
 use Rattle.ffv1_record.specs.declared.fault.RecordFault.TheVariants as fault
 use Rattle.ffv1_record.specs.Reader.{Spot, ◌>>=◌, done, next_table, number_within}
 use Rattle.ffv1_record.specs.Reading.{runs_onto, table}
-use Rattle.ffv1_record.specs.Given.{Source, Stands, StandsIn, Gives, GivesIn}
+use Rattle.ffv1_record.specs.Internal.Given.{Source, Stands, StandsIn, Gives, GivesIn}
 use Rattle.std.proofs.lemmas.Bool.{lt-ltb, le-leb}
 use Rattle.std.proofs.lemmas.Bool.Decides.{nat_tests}
 use Rattle.ffv1_record.proofs.Checks.{both}

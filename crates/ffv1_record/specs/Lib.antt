@@ -8,7 +8,6 @@ pub mod Parity
 pub mod Record
 pub mod Reader
 pub mod Reading
-pub mod Given
-pub mod Written
 pub mod Equal
 pub mod Order
+pub mod Internal

@@ -11,7 +11,7 @@ ghost use Rattle.ffv1_record.specs.Reader.{truth, number_within};
 ghost use Rattle.ffv1_record.specs.Reading.{deltas_onto, opening, depth, colour_of, planes};
 ghost use Rattle.ffv1_record.specs.Reading.{count_of, table, set, sets_onto, uncoded, tables, flag};
 ghost use Rattle.ffv1_record.specs.Reading.{before_sets, parameters, IsRefused, ReachesSets};
-ghost use Rattle.ffv1_record.specs.Given.{Gives, IsRead};
+ghost use Rattle.ffv1_record.specs.Internal.Given.{Gives, IsRead};
 ghost use Rattle.ffv1_range.specs.Table.{Table};
 ghost use Rattle.ffv1_plane.specs.Quantisation.{is_filled, are_filled, contexts_of};
 

@@ -7,7 +7,7 @@ ghost use Rattle.ffv1_range.specs.Standard.{standard};
 ghost use Rattle.ffv1_range.specs.Symbols.{AreHeld};
 ghost use Rattle.ffv1_record.specs.Reader.{number, signed_number, truth, number_within, Spot};
 ghost use Rattle.ffv1_record.specs.Reading.{beginning};
-ghost use Rattle.ffv1_record.specs.Given.{Stands, Gives, GivesIn};
+ghost use Rattle.ffv1_record.specs.Internal.Given.{Stands, Gives, GivesIn};
 
 use crate::fault::RecordFault;
 use ffv1_range::{RangeDecoder, StateTable};
@@ -25,7 +25,7 @@ impl<'a> Model for RecordReader<'a> {
     ghost use Rattle.std.specs.Prelude.{◌≡◌};
     ghost use Rattle.ffv1_range.specs.Standard.{standard};
     ghost use Rattle.ffv1_range.specs.Symbols.{AreHeld};
-    ghost use Rattle.ffv1_record.specs.Given.{Source};
+    ghost use Rattle.ffv1_record.specs.Internal.Given.{Source};
 
     ghost Value = { Source };
 

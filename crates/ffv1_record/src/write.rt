@@ -14,7 +14,7 @@ ghost use Rattle.ffv1_record.specs.Record.{number_steps, deltas_steps, coder_ste
 ghost use Rattle.ffv1_record.specs.Record.{set_steps, sets_steps, uncoded_steps, planes_steps};
 ghost use Rattle.ffv1_record.specs.Record.{grid_steps, closing_steps, coded_of, record_of};
 ghost use Rattle.ffv1_record.specs.Record.{record_decisions, IsRecord};
-ghost use Rattle.ffv1_record.specs.Written.{Wrote};
+ghost use Rattle.ffv1_record.specs.Internal.Written.{Wrote};
 
 use crate::checked::Checked;
 use crate::config::{Coder, Colour, Config};

@@ -11,7 +11,7 @@ ghost use Rattle.ffv1_record.specs.declared.fault.RecordFault.TheVariants as fau
 ghost use Rattle.ffv1_record.specs.Reader.{Spot};
 ghost use Rattle.ffv1_record.specs.Reading.{beginning};
 ghost use Rattle.ffv1_record.specs.Record.{number_steps, signed_number_steps, truth_steps};
-ghost use Rattle.ffv1_record.specs.Written.{Holding, Wrote, WroteIn};
+ghost use Rattle.ffv1_record.specs.Internal.Written.{Holding, Wrote, WroteIn};
 
 use crate::fault::RecordFault;
 use ffv1_range::{RangeEncoder, StateTable};
@@ -30,7 +30,7 @@ impl<A: Allocator> Model for RecordWriter<A> {
     ghost use Rattle.std.specs.Prelude.{◌≡◌};
     ghost use Rattle.ffv1_range.specs.Standard.{standard};
     ghost use Rattle.ffv1_range.specs.Symbols.{AreHeld};
-    ghost use Rattle.ffv1_record.specs.Written.{Target};
+    ghost use Rattle.ffv1_record.specs.Internal.Written.{Target};
 
     ghost Value = { Target };
 

@@ -17,7 +17,7 @@ use Rattle.ffv1_range.proofs.Unsigned.{unsigned_below}
 use Rattle.ffv1_slice.specs.declared.fault.SliceFault.{SliceFault}
 use Rattle.ffv1_slice.specs.declared.fault.SliceFault.TheVariants as fault
 use Rattle.ffv1_slice.specs.Head.{Rule, Meets, Stops, values_steps, indexes_of, placed, indexed, structured, unjudged, proportioned, is_aspect, index_rules}
-use Rattle.ffv1_slice.specs.Values.{Given, Gives, seen}
+use Rattle.ffv1_slice.specs.Internal.Values.{Given, Gives, seen}
 
 pub values_steps-append : (vs ws : List ℕ) → values_steps (vs ++ ws) ≡ values_steps vs ++ values_steps ws
 values_steps-append [] ws = refl

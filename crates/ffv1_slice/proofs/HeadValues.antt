@@ -15,7 +15,7 @@ use Rattle.ffv1_slice.specs.declared.head.SliceHead.{SliceHead}
 use Rattle.ffv1_slice.specs.declared.fault.SliceFault.{SliceFault}
 use Rattle.ffv1_slice.specs.Head.{Rule, Meets, Stops, head_rules, head_values, head_steps, values_steps, index_rules, info_rules, indexes_of, is_aspect, IsHead, IsThird, key_steps}
 use Rattle.ffv1_slice.specs.Coding.{ReadsAt, StandsBehind}
-use Rattle.ffv1_slice.specs.Values.{Gives}
+use Rattle.ffv1_slice.specs.Internal.Values.{Gives}
 use Rattle.ffv1_slice.proofs.Symbols.{reads_at}
 use Rattle.ffv1_slice.proofs.Giving.{values_below, stops_below}
 

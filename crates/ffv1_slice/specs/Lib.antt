@@ -4,4 +4,4 @@ pub mod Coding
 pub mod Footer
 pub mod Cutting
 pub mod Length
-pub mod Values
+pub mod Internal

@@ -8,7 +8,7 @@ ghost use Rattle.ffv1_range.specs.Follows.{Follows};
 ghost use Rattle.ffv1_range.specs.Puts.{Puts, MayBeRefused};
 ghost use Rattle.ffv1_slice.specs.Head.{placed, indexed, index_rules, info_rules, indexes_of};
 ghost use Rattle.ffv1_slice.specs.Head.{is_aspect, values_steps};
-ghost use Rattle.ffv1_slice.specs.Values.{Gives, seen};
+ghost use Rattle.ffv1_slice.specs.Internal.Values.{Gives, seen};
 
 use crate::fault::SliceFault;
 use ffv1_range::{Fault, RangeDecoder, RangeEncoder, StateTable};

@@ -4,3 +4,4 @@ pub mod Reads
 pub mod Runs
 pub mod Wrappers
 pub mod Writes
+pub mod Passage

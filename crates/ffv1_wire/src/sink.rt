@@ -43,7 +43,8 @@ pub trait LineSink {
 /// Hands over the lines in order, until one is refused, which is the last thing that happens.
 pub fn hand_over<S: LineSink>(sink: &mut S, lines: &[Line<'_>]) -> Result<(), SinkFault>
     ensures ok { OnOk result (Grows S.takes sink.old (lines_of lines.entry.now) sink.new) }
-    ensures err { OnErr result (Refuses S.takes S.refuses sink.old (lines_of lines.entry.now) sink.new) }
+    ensures err { OnErr result (Refuses S.takes S.refuses sink.old (lines_of lines.entry.now)
+        sink.new) }
     ensures counted { Counted (S.failures sink.old) (S.failures sink.new) result }
 {
     for line in lines {

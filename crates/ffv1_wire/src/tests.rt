@@ -1,9 +1,10 @@
 ghost use Rattle.std.specs.Prelude.{◌≡◌, ◌≤◌, ◌++◌, ◌+◌, ◌*◌, length, drop, IfOk};
 
-mod doubles;
+mod sinks;
 
 use super::*;
-use doubles::{FailingReader, FailingWriter, KeepRows, RowsOut, ShortWriter, keep_rows};
+use ffv1_doubles::{FailingReader, FailingWriter, ShortWriter};
+use sinks::{KeepRows, RowsOut, keep_rows};
 use std::alloc::Allocator;
 use std::io::{ErrorKind, Read, Write, repeat};
 use std::test::Fail;
@@ -165,7 +166,7 @@ fn failing_reads(rt: HostRuntime) {
     for kind in KINDS {
         for n in 0..5usize {
             let mut room = [0u8; 5];
-            let filled = fill_twice(FailingReader::new(&bytes, n, kind), &mut room, n);
+            let filled = fill_twice(FailingReader::new(&bytes, n, 1, kind), &mut room, n);
             assert_eq!(rt; filled, (Err(Failed), Ok(5 - n), 1, 6));
             assert_eq!(rt; room, *b"abcde");
         }
@@ -177,9 +178,9 @@ fn failing_skips(rt: HostRuntime) {
     let bytes = *b"abcdef";
     for kind in KINDS {
         for n in 0..5usize {
-            let skipped = skip_and_read(FailingReader::new(&bytes, n, kind), 5);
+            let skipped = skip_and_read(FailingReader::new(&bytes, n, 1, kind), 5);
             assert_eq!(rt; skipped, (Err(Failed), Ok(Some(bytes[n])), 1));
-            let read = read_twice(FailingReader::new(&bytes[n..], 0, kind));
+            let read = read_twice(FailingReader::new(&bytes[n..], 0, 1, kind));
             assert_eq!(rt; read, (Err(Failed), Ok(Some(bytes[n])), 1));
         }
     }
@@ -189,9 +190,9 @@ fn failing_skips(rt: HostRuntime) {
 fn failing_at_the_end(rt: HostRuntime) {
     for kind in KINDS {
         let mut room = [0u8; 7];
-        let filled = fill_twice(FailingReader::new(b"abcdef", 6, kind), &mut room, 6);
+        let filled = fill_twice(FailingReader::new(b"abcdef", 6, 1, kind), &mut room, 6);
         assert_eq!(rt; filled, (Err(Failed), Ok(0), 1, 8));
-        let read = read_twice(FailingReader::new(b"", 0, kind));
+        let read = read_twice(FailingReader::new(b"", 0, 1, kind));
         assert_eq!(rt; read, (Err(Failed), Ok(None), 1));
     }
 }

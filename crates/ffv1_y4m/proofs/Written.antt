@@ -7,6 +7,7 @@ use Rattle.std.specs.Io.KnownBytes.{Appends}
 use Rattle.ffv1_wire.specs.Failures.{one_more}
 use Rattle.ffv1_wire.specs.Writes.{AppendsBeginning}
 use Rattle.ffv1_y4m.specs.declared.fault.Fault.{Fault}
+use Rattle.ffv1_wire.specs.Passage.{between}
 use Rattle.ffv1_y4m.specs.Writes.{Writes}
 
 pub appends_then : (a b c : Option (List ℕ)) (xs ys : List ℕ) → Appends a b xs → Appends b c ys → Appends a c (xs ++ ys)
@@ -30,13 +31,13 @@ beginning_later a b c xs ys h k =
 
 -- the first text is written, and the next one answers
 pub writes_next : (xs ys : List ℕ) (a b c : Option (List ℕ)) (n m k : ℕ) (x : Unit {0}) (answer : Result (Unit {0}) Fault) →
-    Writes xs a b n m (Ok x) → Writes ys b c m k answer → Writes (xs ++ ys) a c n k answer
+    Writes xs (between a b n m) (Ok x) → Writes ys (between b c m k) answer → Writes (xs ++ ys) (between a c n k) answer
 writes_next xs ys a b c n m k x (Ok y) h i = (appends_then a b c xs ys h.0 i.0, i.1 ∙ h.1)
 writes_next xs ys a b c n m k x (Err f) h i = (i.0, beginning_later a b c xs ys h.0 i.1, i.2 ∙ ap one_more h.1)
 
 -- of the first text a beginning is written
 pub writes_first : (xs ys : List ℕ) (a b : Option (List ℕ)) (n m : ℕ) (f : Fault) →
-    Writes xs a b n m (Err f) → Writes (xs ++ ys) a b n m (Err f)
+    Writes xs (between a b n m) (Err f) → Writes (xs ++ ys) (between a b n m) (Err f)
 writes_first xs ys a b n m f h = (h.0, beginning_sooner a b xs ys h.1, h.2)
 
 -- one part more
@@ -52,13 +53,13 @@ parts_at text parts i d h =
     sym (ap (flat_map text) whole) ∙ flat_map-append text (take i parts) (get_or parts i d ∷ drop (i + 1) parts)
 
 pub parts_step : {A : Type 0} (text : A → List ℕ) (parts : List A) (i : ℕ) (d : A) (a b c : Option (List ℕ)) (n m k : ℕ) (x : Unit {0}) → i < length parts →
-    Appends a b (flat_map text (take i parts)) → m ≡ n → Writes (text (get_or parts i d)) b c m k (Ok x) → Appends a c (flat_map text (take (i + 1) parts)) × (k ≡ n)
+    Appends a b (flat_map text (take i parts)) → m ≡ n → Writes (text (get_or parts i d)) (between b c m k) (Ok x) → Appends a c (flat_map text (take (i + 1) parts)) × (k ≡ n)
 parts_step text parts i d a b c n m k x inside h same w =
     let P : List ℕ → Type 0 = λ z. Appends a c z in
     (subst P (sym (parts_more text parts i d inside)) (appends_then a b c _ _ h w.0), w.1 ∙ same)
 
 pub parts_stop : {A : Type 0} (text : A → List ℕ) (parts : List A) (i : ℕ) (d : A) (a b c : Option (List ℕ)) (n m k : ℕ) (f : Fault) → i < length parts →
-    Appends a b (flat_map text (take i parts)) → m ≡ n → Writes (text (get_or parts i d)) b c m k (Err f) → Writes (flat_map text parts) a c n k (Err f)
+    Appends a b (flat_map text (take i parts)) → m ≡ n → Writes (text (get_or parts i d)) (between b c m k) (Err f) → Writes (flat_map text parts) (between a c n k) (Err f)
 parts_stop text parts i d a b c n m k f inside h same w =
     let more = beginning_sooner b c (text (get_or parts i d)) (flat_map text (drop (i + 1) parts)) w.1 in
     let all = beginning_later a b c (flat_map text (take i parts)) _ h more in

@@ -22,8 +22,10 @@ use std::alloc::Allocator;
 
 /// A line is read as the head that it says, and what is read so says that head.
 pub fn header_lines()
-    ensures found { (line : List ℕ) (h : VideoHead) → IsHeaderLine line h → head_of_line line ≡ Ok h }
-    ensures only { (line : List ℕ) (h : VideoHead) → head_of_line line ≡ Ok h → IsHeaderLine line h }
+    ensures found { (line : List ℕ) (h : VideoHead) → IsHeaderLine line h →
+        head_of_line line ≡ Ok h }
+    ensures only { (line : List ℕ) (h : VideoHead) → head_of_line line ≡ Ok h →
+        IsHeaderLine line h }
 {}
 
 /// A text is read as its head and its pictures, and what is read so is such a text; the canonical
@@ -38,7 +40,8 @@ pub fn texts()
         ReadsAll h rest pictures → IsText text h pictures }
     ensures canonical { (h : VideoHead) (pictures : List (List (List ℕ))) → IsHead h →
         AllFit h pictures → IsText (canonical_text h pictures) h pictures }
-    ensures back { (h : VideoHead) (pictures : List (List (List ℕ))) → IsHead h → AllFit h pictures →
+    ensures back { (h : VideoHead) (pictures : List (List (List ℕ))) → IsHead h →
+        AllFit h pictures →
         (rest : List ℕ) × (header_of (canonical_text h pictures) ≡ Ok (h, rest))
         × ReadsAll h rest pictures }
     ensures written { (h : VideoHead) (picture : List (List ℕ)) (pictures : List (List (List ℕ))) →
@@ -72,7 +75,8 @@ pub fn image_runs<W: ByteOut>()
 /// A sink has written the text of the lines that it took, and before a refusal a beginning of the
 /// text of all.
 pub fn line_runs<W: ByteOut>()
-    ensures taken { (s t : PpmSink W) (lines : List Line) → Grows (Takes W.contents W.failures) s lines t →
+    ensures taken { (s t : PpmSink W) (lines : List Line) →
+        Grows (Takes W.contents W.failures) s lines t →
         Appends (W.contents s.out) (W.contents t.out)
         (text_of_lines s.width s.height s.kept s.row lines) }
     ensures refused { (s t : PpmSink W) (lines : List Line) →

@@ -1,4 +1,19 @@
-//! Pictures as text: YUV4MPEG2 and PPM, read and written.
+//! Pictures as text: YUV4MPEG2 and binary PPM, read and written.
+//!
+//! `Y4mReader::open` and `PpmReader::open` read a header, which `head` then tells as a `VideoHead`;
+//! each `next` reads one picture into planes, whose memory is taken once, and answers false at the
+//! end of the text. A reader holds no input, each call is lent the same one. `Y4mWriter` writes
+//! pictures as the canonical text; `PpmWriter` is a sink of lines, and owns its writer. `Fault`
+//! says why a text could not be read or written. The test `example` runs these lines:
+//!
+//! ```text
+//! let mut reader = Y4mReader::open(rt.alloc(), None, &mut input)?;
+//! let mut writer = Y4mWriter::new(*reader.head());
+//! let mut planes = Vec::new(rt.alloc());
+//! while reader.next(&mut input, &mut planes)? {
+//!     writer.picture(&mut output, &planes)?;
+//! }
+//! ```
 #![tactic(auto)]
 
 mod fault;

@@ -52,7 +52,8 @@ impl<A: Allocator + Copy> PpmReader<A> {
             (passage_from first R.remaining R.failures input.old input.new) result }
         ensures fresh { IfOk result (λ r. (r.begun ≡ true) × (r.failed ≡ None)) }
         ensures own { OnFault IsLineFault result }
-        ensures head { IfOk result (λ r. IsSized r.head × (r.head ≡ colour_head r.head.width r.head.height)) }
+        ensures head { IfOk result (λ r. IsSized r.head
+            × (r.head ≡ colour_head r.head.width r.head.height)) }
     {
         let head = read_image_header(first, input)?;
         Ok(PpmReader {
@@ -67,7 +68,8 @@ impl<A: Allocator + Copy> PpmReader<A> {
     /// unknown.
     pub fn head(&self) -> &VideoHead
         ensures value { result.now ≡ self.now.head }
-        ensures head { IsSized result.now × (result.now ≡ colour_head result.now.width result.now.height) }
+        ensures head { IsSized result.now
+            × (result.now ≡ colour_head result.now.width result.now.height) }
     {
         &self.head
     }
@@ -90,7 +92,8 @@ impl<A: Allocator + Copy> PpmReader<A> {
             (passage R.remaining R.failures input.old input.new) result }
         ensures own { self.old.failed ≡ None → OnFault IsImageFault result }
         ensures lent { Lent self.old.failed planes.old planes.new result }
-        ensures fits { IfOk result (λ more. more ≡ true → Fits self.old.head (samples_of planes.new.items)) }
+        ensures fits { IfOk result (λ more. more ≡ true →
+            Fits self.old.head (samples_of planes.new.items)) }
         ensures room { self.old.failed ≡ None →
             HasRoom (plane_sizes self.old.head) planes.old.items → NoWant result }
         ensures after { self.new ≡ record self.old {

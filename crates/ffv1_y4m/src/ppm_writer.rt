@@ -2,6 +2,7 @@
 
 ghost use Rattle.std.specs.Prelude.{◌≡◌, ℕ, ◌*◌, ◌≤◌, ◌==◌, ◌++◌, if◌then◌else◌, IfOk, IfErr, List};
 ghost use Rattle.std.specs.Prelude.{[], length, false};
+ghost use Rattle.ffv1_wire.specs.Passage.{passage};
 ghost use Rattle.ffv1_y4m.specs.declared.fault.Fault.TheVariants as fault;
 ghost use Rattle.ffv1_y4m.specs.Ppm.{image_header_text, interleaved};
 ghost use Rattle.ffv1_y4m.specs.Sink.{PpmSink, Takes, Refuses, row_text};
@@ -76,7 +77,7 @@ fn write_row<W: ByteOut>(
     text: &[u8],
 ) -> Result<(), Fault>
     ensures { Writes ((if row == 0 then image_header_text width height else []) ++ text.now)
-        (W.contents out.old) (W.contents out.new) (W.failures out.old) (W.failures out.new) result }
+        (passage W.contents W.failures out.old out.new) result }
 {
     if row == 0 {
         write_image_header(out, width, height)?;

@@ -103,7 +103,8 @@ const FRAME: [u8; 6] = *b"FRAME\n";
 /// `FrameLine` where a byte differs, behind which nothing is read; `FrameTruncated` where the input
 /// ends inside the line; `Read` where a read failed.
 pub(crate) fn read_frame_line<R: ByteIn>(input: &mut R) -> Result<bool, Fault>
-    ensures answer { Stands frame_begun Nowhere (passage R.remaining R.failures input.old input.new) result }
+    ensures answer { Stands frame_begun Nowhere
+        (passage R.remaining R.failures input.old input.new) result }
     ensures own { OnFault IsPictureFault result }
 {
     for place in 0..FRAME.len() {

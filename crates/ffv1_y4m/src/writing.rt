@@ -1,6 +1,7 @@
 //! Texts of several parts are written.
 
 ghost use Rattle.std.specs.Prelude.{◌≡◌, ℕ, List, ◌++◌, map, flat_map};
+ghost use Rattle.ffv1_wire.specs.Passage.{passage};
 ghost use Rattle.ffv1_y4m.specs.Canonical.{chroma_name, header_text, name_text, number_text};
 ghost use Rattle.ffv1_y4m.specs.Canonical.{ratio_text, sizes_text, structure_name, times_text};
 ghost use Rattle.ffv1_y4m.specs.Ppm.{image_header_text};
@@ -16,8 +17,7 @@ use std::alloc::Allocator;
 
 /// Writes all the bytes.
 pub(crate) fn write_part<W: ByteOut>(output: &mut W, part: &[u8]) -> Result<(), Fault>
-    ensures { Writes part.now (W.contents output.old) (W.contents output.new)
-        (W.failures output.old) (W.failures output.new) result }
+    ensures { Writes part.now (passage W.contents W.failures output.old output.new) result }
 {
     match write_all(output, part) {
         Ok(()) => Ok(()),
@@ -27,8 +27,8 @@ pub(crate) fn write_part<W: ByteOut>(output: &mut W, part: &[u8]) -> Result<(), 
 
 /// Writes the parts in order.
 fn write_parts<W: ByteOut>(output: &mut W, parts: &[&[u8]]) -> Result<(), Fault>
-    ensures { Writes (flat_map (λ part. part.now) parts.entry.now) (W.contents output.old)
-        (W.contents output.new) (W.failures output.old) (W.failures output.new) result }
+    ensures { Writes (flat_map (λ part. part.now) parts.entry.now)
+        (passage W.contents W.failures output.old output.new) result }
 {
     for part in parts {
         write_part(output, part)?;
@@ -69,8 +69,8 @@ fn chroma_name(head: &VideoHead) -> &'static [u8]
 /// Writes a number behind a tag's letter.
 #[tactic(auto, unfolding(crate::specs::Canonical::number_text))]
 fn write_number<W: ByteOut>(output: &mut W, tag: &[u8], n: u32) -> Result<(), Fault>
-    ensures { Writes (number_text tag.now n) (W.contents output.old) (W.contents output.new)
-        (W.failures output.old) (W.failures output.new) result }
+    ensures { Writes (number_text tag.now n)
+        (passage W.contents W.failures output.old output.new) result }
 {
     let mut number = Buffer::new();
     let parts: [&[u8]; 2] = [tag, number.format(n).as_bytes()];
@@ -81,8 +81,8 @@ fn write_number<W: ByteOut>(output: &mut W, tag: &[u8], n: u32) -> Result<(), Fa
 /// Writes two numbers and a colon between them, behind a tag's letter.
 #[tactic(auto, unfolding(crate::specs::Canonical::ratio_text))]
 fn write_ratio<W: ByteOut>(output: &mut W, tag: &[u8], n: u32, d: u32) -> Result<(), Fault>
-    ensures { Writes (ratio_text tag.now n d) (W.contents output.old) (W.contents output.new)
-        (W.failures output.old) (W.failures output.new) result }
+    ensures { Writes (ratio_text tag.now n d)
+        (passage W.contents W.failures output.old output.new) result }
 {
     let mut first = Buffer::new();
     let mut second = Buffer::new();
@@ -99,8 +99,8 @@ fn write_ratio<W: ByteOut>(output: &mut W, tag: &[u8], n: u32, d: u32) -> Result
 /// Writes a name behind a tag's letter.
 #[tactic(auto, unfolding(crate::specs::Canonical::name_text))]
 fn write_name<W: ByteOut>(output: &mut W, tag: &[u8], name: &[u8]) -> Result<(), Fault>
-    ensures { Writes (name_text tag.now name.now) (W.contents output.old) (W.contents output.new)
-        (W.failures output.old) (W.failures output.new) result }
+    ensures { Writes (name_text tag.now name.now)
+        (passage W.contents W.failures output.old output.new) result }
 {
     let parts: [&[u8]; 2] = [tag, name];
     write_parts(output, &parts)?;
@@ -110,8 +110,8 @@ fn write_name<W: ByteOut>(output: &mut W, tag: &[u8], name: &[u8]) -> Result<(),
 /// Writes the sizes of a header.
 #[tactic(auto, unfolding(crate::specs::Canonical::sizes_text))]
 fn write_sizes<W: ByteOut>(output: &mut W, head: &VideoHead) -> Result<(), Fault>
-    ensures { Writes (sizes_text head.now) (W.contents output.old) (W.contents output.new)
-        (W.failures output.old) (W.failures output.new) result }
+    ensures { Writes (sizes_text head.now)
+        (passage W.contents W.failures output.old output.new) result }
 {
     write_part(output, b"YUV4MPEG2")?;
     write_number(output, b" W", head.width)?;
@@ -122,8 +122,8 @@ fn write_sizes<W: ByteOut>(output: &mut W, head: &VideoHead) -> Result<(), Fault
 /// Writes the rate, the structure and the aspect of a header.
 #[tactic(auto, unfolding(crate::specs::Canonical::times_text))]
 fn write_times<W: ByteOut>(output: &mut W, head: &VideoHead) -> Result<(), Fault>
-    ensures { Writes (times_text head.now) (W.contents output.old) (W.contents output.new)
-        (W.failures output.old) (W.failures output.new) result }
+    ensures { Writes (times_text head.now)
+        (passage W.contents W.failures output.old output.new) result }
 {
     write_ratio(output, b" F", head.rate, head.scale)?;
     write_name(output, b" I", structure_name(head.structure))?;
@@ -139,8 +139,8 @@ fn write_times<W: ByteOut>(output: &mut W, head: &VideoHead) -> Result<(), Fault
 /// Writes the header.
 #[tactic(auto, unfolding(crate::specs::Canonical::header_text))]
 pub(crate) fn write_header<W: ByteOut>(output: &mut W, head: &VideoHead) -> Result<(), Fault>
-    ensures { Writes (header_text head.now) (W.contents output.old) (W.contents output.new)
-        (W.failures output.old) (W.failures output.new) result }
+    ensures { Writes (header_text head.now)
+        (passage W.contents W.failures output.old output.new) result }
 {
     write_sizes(output, head)?;
     write_times(output, head)?;
@@ -156,8 +156,8 @@ pub(crate) fn write_image_header<W: ByteOut>(
     width: u32,
     height: u32,
 ) -> Result<(), Fault>
-    ensures { Writes (image_header_text width height) (W.contents output.old)
-        (W.contents output.new) (W.failures output.old) (W.failures output.new) result }
+    ensures { Writes (image_header_text width height)
+        (passage W.contents W.failures output.old output.new) result }
 {
     let mut wide = Buffer::new();
     let mut high = Buffer::new();
@@ -177,8 +177,8 @@ fn write_planes<W: ByteOut, A: Allocator>(
     output: &mut W,
     planes: &[Vec<u8, A>],
 ) -> Result<(), Fault>
-    ensures { Writes (flat_map (λ plane. plane) (samples_of planes.now)) (W.contents output.old)
-        (W.contents output.new) (W.failures output.old) (W.failures output.new) result }
+    ensures { Writes (flat_map (λ plane. plane) (samples_of planes.now))
+        (passage W.contents W.failures output.old output.new) result }
 {
     for plane in planes {
         write_part(output, plane)?;
@@ -191,8 +191,8 @@ pub(crate) fn write_picture<W: ByteOut, A: Allocator>(
     output: &mut W,
     planes: &[Vec<u8, A>],
 ) -> Result<(), Fault>
-    ensures { Writes (picture_text (samples_of planes.now)) (W.contents output.old)
-        (W.contents output.new) (W.failures output.old) (W.failures output.new) result }
+    ensures { Writes (picture_text (samples_of planes.now))
+        (passage W.contents W.failures output.old output.new) result }
 {
     write_part(output, b"FRAME\n")?;
     write_planes(output, planes)?;

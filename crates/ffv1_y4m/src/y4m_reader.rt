@@ -93,7 +93,8 @@ impl<A: Allocator + Copy> Y4mReader<A> {
             (passage R.remaining R.failures input.old input.new) result }
         ensures own { self.old.failed ≡ None → OnFault IsPictureFault result }
         ensures lent { Lent self.old.failed planes.old planes.new result }
-        ensures fits { IfOk result (λ more. more ≡ true → Fits self.old.head (samples_of planes.new.items)) }
+        ensures fits { IfOk result (λ more. more ≡ true →
+            Fits self.old.head (samples_of planes.new.items)) }
         ensures room { self.old.failed ≡ None →
             HasRoom (plane_sizes self.old.head) planes.old.items → NoWant result }
         ensures after { self.new ≡ record self.old { failed = failing self.old.failed result } }

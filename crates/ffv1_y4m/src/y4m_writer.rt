@@ -1,6 +1,7 @@
 //! The writer of YUV4MPEG2.
 
 ghost use Rattle.std.specs.Prelude.{◌≡◌, ℕ, Bool, false};
+ghost use Rattle.ffv1_wire.specs.Passage.{passage};
 ghost use Rattle.ffv1_y4m.specs.Canonical.{next_text};
 ghost use Rattle.ffv1_y4m.specs.State.{samples_of};
 ghost use Rattle.ffv1_y4m.specs.Writes.{Y4mWriting, NextWrites, Writes, written_by};
@@ -62,8 +63,8 @@ impl Y4mWriter {
         planes: &[Vec<u8, A>],
     ) -> Result<(), Fault>
         ensures answer { NextWrites self.old.failed
-            (next_text self.old.head self.old.begun (samples_of planes.now)) (W.contents output.old)
-            (W.contents output.new) (W.failures output.old) (W.failures output.new) result }
+            (next_text self.old.head self.old.begun (samples_of planes.now))
+            (passage W.contents W.failures output.old output.new) result }
         ensures after { self.new ≡ written_by self.old result }
     {
         if self.failed {
@@ -85,8 +86,8 @@ fn write_next<W: ByteOut, A: Allocator>(
     output: &mut W,
     planes: &[Vec<u8, A>],
 ) -> Result<(), Fault>
-    ensures { Writes (next_text head.now begun (samples_of planes.now)) (W.contents output.old)
-        (W.contents output.new) (W.failures output.old) (W.failures output.new) result }
+    ensures { Writes (next_text head.now begun (samples_of planes.now))
+        (passage W.contents W.failures output.old output.new) result }
 {
     if begun {
         write_picture(output, planes)?;

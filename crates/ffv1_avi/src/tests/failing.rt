@@ -1,58 +1,13 @@
 //! Reads that fail, and writers with little room.
 
-ghost use Rattle.std.specs.Prelude.{Some};
-
 use super::example::EXAMPLE;
 use super::large::file_of;
 use crate::{AviFault, AviHead, AviReader, write_avi};
+use ffv1_doubles::{FailingReader, ShortWriter};
 use ffv1_wire::{FromRead, ToWrite};
-use std::alloc::{Allocator, Global};
-use std::io;
-use std::io::{Error, ErrorKind, Read, Write};
+use std::alloc::Allocator;
+use std::io::ErrorKind;
 use std::test::Fail;
-
-/// A reader that fails once, after so many calls, and gives at most 40 bytes each time.
-#[derive(Drop)]
-struct FailingReader<'a> {
-    rest: &'a [u8],
-    before: usize,
-}
-
-impl Read for FailingReader<'_> {
-    ghost remaining = { λ s. Some s.rest.now };
-
-    fn read(&mut self, buf: &mut [u8]) -> io::Result<usize> {
-        let before = self.before;
-        self.before = before.wrapping_sub(1);
-        if before == 0 {
-            return Err(Error::from(ErrorKind::Other));
-        }
-        let most = buf.len().min(40);
-        self.rest.read(&mut buf[..most])
-    }
-}
-
-/// A writer that takes so many bytes, and then none.
-#[derive(Drop)]
-struct ShortWriter<A: Allocator = Global> {
-    held: Vec<u8, A>,
-    room: usize,
-}
-
-impl<A: Allocator> Write for ShortWriter<A> {
-    ghost contents = { λ s. Some s.held.items };
-
-    fn write(&mut self, buf: &[u8]) -> io::Result<usize> {
-        let n = buf.len().min(self.room);
-        self.held.extend_from_slice(&buf[..n])?;
-        self.room -= n;
-        Ok(n)
-    }
-
-    fn flush(&mut self) -> io::Result<()> {
-        Ok(())
-    }
-}
 
 /// Reads the file's one frame, and whatever comes next twice.
 fn read_all<A: Allocator + Copy>(
@@ -66,10 +21,7 @@ fn read_all<A: Allocator + Copy>(
     ),
     AviFault,
 > {
-    let mut input = FromRead::new(FailingReader {
-        rest: &EXAMPLE,
-        before,
-    });
+    let mut input = FromRead::new(FailingReader::new(&EXAMPLE, before, 40, ErrorKind::Other));
     let mut reader = AviReader::open(alloc, &mut input)?;
     let mut frame = Vec::new(alloc);
     let first = reader.next_frame(&mut input, &mut frame);
@@ -119,7 +71,7 @@ fn failing_frame<A: Allocator + Copy>(
     ),
     AviFault,
 > {
-    let mut input = FromRead::new(FailingReader { rest: file, before });
+    let mut input = FromRead::new(FailingReader::new(file, before, 40, ErrorKind::Other));
     let mut reader = AviReader::open(alloc, &mut input)?;
     let mut frame = Vec::new(alloc);
     let first = reader.next_frame(&mut input, &mut frame);
@@ -150,10 +102,7 @@ fn short_writes(rt: HostRuntime) -> Result<(), Fail> {
     let mut frames = Vec::new(rt.alloc());
     frames.push(b"\xFE\x7B\x00\x00\x02".to_vec(rt.alloc())?)?;
     for room in 0..299usize {
-        let mut out = ToWrite::new(ShortWriter {
-            held: Vec::new(rt.alloc()),
-            room,
-        });
+        let mut out = ToWrite::new(ShortWriter::new(rt.alloc(), room, 298, None));
         let answer = write_avi(&mut out, &head, frames.as_slice());
         assert_eq!(rt; out.failures() == 0, room == 298);
         assert!(rt;
@@ -164,7 +113,7 @@ fn short_writes(rt: HostRuntime) -> Result<(), Fail> {
                     Err(AviFault::Write)
                 }
         );
-        assert_eq!(rt; out.into_inner().held.as_slice(), &EXAMPLE[..room]);
+        assert_eq!(rt; out.into_inner().held(), &EXAMPLE[..room]);
     }
     Ok(())
 }

@@ -1,7 +1,7 @@
 //! Memory that is refused to the reader of AVI, at each request.
 
-use crate::Scarce;
 use ffv1_avi::{AviFault, AviHead, AviReader, write_avi};
+use ffv1_doubles::Scarce;
 use ffv1_wire::{FromRead, ToWrite};
 use std::alloc::Allocator;
 use std::test::Fail;

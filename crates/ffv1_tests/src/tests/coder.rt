@@ -3,7 +3,7 @@
 ghost use Rattle.std.specs.Prelude.{replicate};
 ghost use Rattle.ffv1_range.specs.Symbols.{AreHeld};
 
-use crate::Scarce;
+use ffv1_doubles::Scarce;
 use ffv1_range::{Fault, RangeEncoder, StateTable};
 use std::alloc::Allocator;
 use std::process::Abort;

@@ -1,14 +1,14 @@
 //! Memory that is refused while a configuration record is written or read, at every place.
 
-use crate::Scarce;
+use ffv1_doubles::Scarce;
 use ffv1_plane::QuantSet;
 use ffv1_record::{Coder, Colour, Config, RecordFault, Sets, read_record, write_record};
 use std::alloc::Allocator;
 use std::process::Abort;
 
 /// The record of mono 1 by 1 by the small set, ec and intra 1.
-const SMALL: &[u8] =
-    b"\x56\x00\x30\x29\xE1\x4F\x76\x38\xB8\x2B\x67\xDB\x66\x4A\x1B\x2F\x41\xA0\xE7\xCD\x48\x00\xA3\x9A\xAA\x45";
+const SMALL: &[u8] = b"\x56\x00\x30\x29\xE1\x4F\x76\x38\xB8\x2B\x67\xDB\x66\x4A\x1B\x2F\
+        \x41\xA0\xE7\xCD\x48\x00\xA3\x9A\xAA\x45";
 
 /// Its configuration.
 fn mono<A: Allocator + Copy>(alloc: A) -> Result<Config<A>, RecordFault> {

@@ -1,8 +1,7 @@
 //! Memory that is refused, and reads and writes that fail, each at every place.
 
 use super::trials::trial_of;
-use crate::Scarce;
-use crate::doubles::{FailingReader, ShortWriter};
+use ffv1_doubles::{FailingReader, Scarce, ShortWriter};
 use ffv1_engine::{Fault, code_plane, trial};
 use ffv1_plane::QuantSet;
 use ffv1_wire::{FromRead, ToWrite};
@@ -80,7 +79,7 @@ fn each_request_of_a_set(rt: HostRuntime) {
 #[test]
 fn each_read(rt: HostRuntime) {
     for before in 0..TEXT.len() {
-        let mut input = FromRead::new(FailingReader::new(TEXT, before, ErrorKind::Other));
+        let mut input = FromRead::new(FailingReader::new(TEXT, before, 1, ErrorKind::Other));
         let mut output = ToWrite::new(Vec::new(rt.alloc()));
         assert!(rt; trial(rt.alloc(), &mut input, &mut output) == Err(Fault::Read));
         assert_eq!(rt; output.into_inner().len(), 0);
@@ -89,7 +88,7 @@ fn each_read(rt: HostRuntime) {
 
 #[test]
 fn nothing_behind_the_picture_is_read(rt: HostRuntime) {
-    let failing = FailingReader::new(MORE, TEXT.len(), ErrorKind::Other);
+    let failing = FailingReader::new(MORE, TEXT.len(), 1, ErrorKind::Other);
     let mut input = FromRead::new(failing);
     let mut output = ToWrite::new(Vec::new(rt.alloc()));
     assert!(rt; trial(rt.alloc(), &mut input, &mut output) == Ok(()));
@@ -100,7 +99,12 @@ fn nothing_behind_the_picture_is_read(rt: HostRuntime) {
 #[test]
 fn each_write(rt: HostRuntime) {
     for room in 0..PRINTED.len() {
-        let mut output = ToWrite::new(ShortWriter::new(rt.alloc(), room, 3));
+        let mut output = ToWrite::new(ShortWriter::new(
+            rt.alloc(),
+            room,
+            3,
+            Some(ErrorKind::Other),
+        ));
         assert!(rt; trial(rt.alloc(), &mut FromRead::new(TEXT), &mut output) == Err(Fault::Write));
         assert!(rt; output.into_inner().held() == &PRINTED[..room]);
     }

@@ -2,7 +2,7 @@
 
 ghost use Rattle.std.specs.Prelude.{◌≤◌};
 
-use ffv1_engine::{Fault, code_plane, trial};
+use ffv1_engine::{Fault, Order, code_plane, trial, words};
 use ffv1_wire::{FromRead, ToWrite};
 use std::alloc::Allocator;
 use std::process::Abort;
@@ -29,6 +29,19 @@ fn prints<A: Allocator + Copy>(
 
 fn refuses<A: Allocator + Copy>(rt: &impl Abort, alloc: A, text: &[u8], fault: Fault) {
     assert!(rt; trial_of(alloc, text).err() == Some(fault));
+}
+
+/// The lines of the example of `ffv1_engine`.
+#[test]
+fn example(rt: HostRuntime) -> Result<(), Fail> {
+    let input = b"YUV4MPEG2 W1 H1 Cmono\nFRAME\n\x80".as_slice();
+    let mut output = ToWrite::new(Vec::new(rt.alloc()));
+    let order = words(rt.alloc(), &["ffv1", "trial", "disc.y4m"]).ok();
+    assert!(rt; order == Some(Order::Trial { input: "disc.y4m" }));
+    trial(rt.alloc(), &mut FromRead::new(input), &mut output)?;
+    let lines = output.into_inner();
+    assert!(rt; lines.as_slice() == b"samples 1\ndecisions 17\ncode 7E8180\nsame yes\n".as_slice());
+    Ok(())
 }
 
 #[test]

@@ -1,7 +1,6 @@
 //! Readers and writers of YUV4MPEG2 and PPM where memory is refused, a read or a write fails.
 
-use crate::Scarce;
-use crate::doubles::{FailingReader, ShortWriter};
+use ffv1_doubles::{FailingReader, Scarce, ShortWriter};
 use ffv1_wire::{FromRead, LineSink, ToWrite};
 use ffv1_y4m::{Fault, PpmReader, PpmWriter, Y4mReader, Y4mWriter};
 use std::alloc::Allocator;
@@ -74,12 +73,17 @@ fn memory_refused(rt: HostRuntime) -> Result<(), Fail> {
 #[test]
 fn reads_failed(rt: HostRuntime) -> Result<(), Fail> {
     for before in 0..200usize {
-        let mut input = FromRead::new(FailingReader::new(PICTURES, before, ErrorKind::Other));
+        let mut input = FromRead::new(FailingReader::new(PICTURES, before, 1, ErrorKind::Other));
         match pictures(rt.alloc(), &mut input) {
             Ok(count) => assert!(rt; count == 2 && input.failures() == 0),
             Err(fault) => assert!(rt; fault == Fault::Read && input.failures() == 1),
         }
-        let mut input = FromRead::new(FailingReader::new(IMAGES, before, ErrorKind::Interrupted));
+        let mut input = FromRead::new(FailingReader::new(
+            IMAGES,
+            before,
+            1,
+            ErrorKind::Interrupted,
+        ));
         match images(rt.alloc(), &mut input) {
             Ok(count) => assert!(rt; count == 2 && input.failures() == 0),
             Err(fault) => assert!(rt; fault == Fault::Read && input.failures() == 1),
@@ -97,7 +101,12 @@ fn pictures_cut(rt: HostRuntime) -> Result<(), Fail> {
         let mut reader = Y4mReader::open(rt.alloc(), None, &mut input)?;
         let mut writer = Y4mWriter::new(*reader.head());
         let mut planes = Vec::new(rt.alloc());
-        let mut output = ToWrite::new(ShortWriter::new(rt.alloc(), room, 3));
+        let mut output = ToWrite::new(ShortWriter::new(
+            rt.alloc(),
+            room,
+            3,
+            Some(ErrorKind::Other),
+        ));
         let mut failed = false;
         for _ in 0..2 {
             assert!(rt; reader.next(&mut input, &mut planes)?);
@@ -120,7 +129,7 @@ fn pictures_cut(rt: HostRuntime) -> Result<(), Fail> {
 fn images_cut(rt: HostRuntime) -> Result<(), Fail> {
     let lines: [&[u8]; 6] = [b"ad", b"be", b"cf", b"gj", b"hk", b"il"];
     for room in 0..40usize {
-        let output = ToWrite::new(ShortWriter::new(rt.alloc(), room, 4));
+        let output = ToWrite::new(ShortWriter::new(rt.alloc(), room, 4, Some(ErrorKind::Other)));
         let mut sink = match PpmWriter::sized(rt.alloc(), output, 2, 1) {
             Ok(sink) => sink,
             Err((_, fault)) => return Err(fault.into()),
@@ -151,7 +160,7 @@ fn sink_refused(rt: HostRuntime) -> Result<(), Fail> {
     let mut refused = 0u32;
     for before in 0..6u64 {
         let heap = Scarce::new(rt.alloc(), before);
-        let output = ToWrite::new(ShortWriter::new(rt.alloc(), 9, 9));
+        let output = ToWrite::new(ShortWriter::new(rt.alloc(), 9, 9, Some(ErrorKind::Other)));
         match PpmWriter::sized(&heap, output, 2, 1) {
             Ok(sink) => assert!(rt; sink.failures() == 0),
             Err((back, fault)) => {

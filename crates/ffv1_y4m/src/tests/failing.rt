@@ -1,34 +1,14 @@
 //! Reads that fail behind bytes that were read.
 
-ghost use Rattle.std.specs.Prelude.{Some};
-
 use crate::{Fault, PpmReader, Y4mReader};
+use ffv1_doubles::BrokenReader;
 use ffv1_wire::FromRead;
 use std::alloc::Global;
-use std::io;
-use std::io::{Error, ErrorKind, Read};
 use std::test::Fail;
-
-/// A reader that gives these bytes, and fails behind them.
-#[derive(Drop)]
-struct BrokenReader<'a> {
-    rest: &'a [u8],
-}
-
-impl Read for BrokenReader<'_> {
-    ghost remaining = { λ s. Some s.rest.now };
-
-    fn read(&mut self, buf: &mut [u8]) -> io::Result<usize> {
-        if self.rest.is_empty() {
-            return Err(Error::from(ErrorKind::Other));
-        }
-        self.rest.read(buf)
-    }
-}
 
 /// The fault of opening what was read of a text of YUV4MPEG2, or else of its next picture.
 fn picture_fault(alloc: Global, text: &[u8]) -> Option<Fault> {
-    let mut input = FromRead::new(BrokenReader { rest: text });
+    let mut input = FromRead::new(BrokenReader::new(text));
     match Y4mReader::open(alloc, None, &mut input) {
         Err(fault) => Some(fault),
         Ok(mut reader) => reader.next(&mut input, &mut Vec::new(alloc)).err(),
@@ -55,7 +35,7 @@ fn failed_reads_of_pictures(rt: HostRuntime) -> Result<(), Fail> {
 
 /// The same of a text of PPM.
 fn image_fault(alloc: Global, text: &[u8]) -> Option<Fault> {
-    let mut input = FromRead::new(BrokenReader { rest: text });
+    let mut input = FromRead::new(BrokenReader::new(text));
     match PpmReader::open(alloc, None, &mut input) {
         Err(fault) => Some(fault),
         Ok(mut reader) => reader.next(&mut input, &mut Vec::new(alloc)).err(),

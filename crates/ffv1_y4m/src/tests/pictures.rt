@@ -29,6 +29,22 @@ fn becomes(alloc: Global, text: &[u8], canonical: &[u8]) -> bool {
     }
 }
 
+/// The lines of the crate's example, for a text of one picture.
+#[test]
+fn example(rt: HostRuntime) -> Result<(), Fail> {
+    let mut input = FromRead::new(b"YUV4MPEG2 W1 H1 Cmono\nFRAME\na".as_slice());
+    let mut output = ToWrite::new(Vec::new(rt.alloc()));
+    let mut reader = Y4mReader::open(rt.alloc(), None, &mut input)?;
+    let mut writer = Y4mWriter::new(*reader.head());
+    let mut planes = Vec::new(rt.alloc());
+    assert!(rt; reader.next(&mut input, &mut planes)?);
+    writer.picture(&mut output, &planes)?;
+    assert!(rt; !reader.next(&mut input, &mut planes)?);
+    let text = output.into_inner();
+    assert!(rt; text.as_slice() == b"YUV4MPEG2 W1 H1 F0:0 I? A0:0 Cmono\nFRAME\na".as_slice());
+    Ok(())
+}
+
 #[test]
 fn canonical_texts(rt: HostRuntime) -> Result<(), Fail> {
     let rows: [(&[u8], &[u8], usize); 6] = [

@@ -2,7 +2,7 @@ use Rattle.std.proofs.Common.{◌%◌, None}
 use Rattle.std.proofs.lemmas.Result.{err_from_is_err_and}
 use Rattle.ffv1_avi.specs.Files.{visit_header}
 use Rattle.ffv1_avi.specs.Reads.{given, passed}
-use Rattle.ffv1_avi.specs.Views.{found_with}
+use Rattle.ffv1_avi.specs.Internal.Views.{found_with}
 use Rattle.ffv1_avi.proofs.Reading.{goes_given, goes_read, goes_refused}
 use Rattle.ffv1_avi.proofs.Walking.{behind_chunk, goes_end, goes_entry, goes_no_entry}
 use Rattle.ffv1_avi.proofs.open.read_header.Invariants.{ended}

@@ -7,7 +7,7 @@ use Rattle.ffv1_avi.specs.declared.stream.Sizes.{Sizes}
 use Rattle.ffv1_avi.specs.Files.{begins, open_read, top_read}
 use Rattle.ffv1_avi.specs.Head.{Head}
 use Rattle.ffv1_avi.specs.Reads.{Looked, Reading, refused, taken, ◌>>=◌}
-use Rattle.ffv1_avi.specs.Views.{head_with}
+use Rattle.ffv1_avi.specs.Internal.Views.{head_with}
 use Rattle.ffv1_avi.specs.Walk.{is_name}
 use Rattle.ffv1_avi.proofs.Contents.{number_taken}
 use Rattle.ffv1_avi.proofs.Passing.{wanted_sound}

@@ -3,7 +3,7 @@ use Rattle.std.proofs.lemmas.Result.{err_from_is_err_and}
 use Rattle.ffv1_avi.specs.declared.fault.AviFault.TheVariants as fault
 use Rattle.ffv1_avi.specs.Files.{visit_top}
 use Rattle.ffv1_avi.specs.Head.{Head}
-use Rattle.ffv1_avi.specs.Views.{found_with, head_with}
+use Rattle.ffv1_avi.specs.Internal.Views.{found_with, head_with}
 use Rattle.ffv1_avi.proofs.Reading.{faults_here, goes_fault, goes_given, goes_read, goes_refused}
 use Rattle.ffv1_avi.proofs.Walking.{behind_chunk, goes_end, goes_entry, goes_no_entry}
 use Rattle.ffv1_avi.proofs.open.read_top.Invariants.{ended}

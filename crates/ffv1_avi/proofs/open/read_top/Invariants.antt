@@ -2,7 +2,7 @@ use Rattle.std.proofs.Common.{ℕ, Option}
 use Rattle.ffv1_avi.specs.Files.{opened, top_read, visit_top}
 use Rattle.ffv1_avi.specs.Head.{Head}
 use Rattle.ffv1_avi.specs.Reads.{Reading, ◌>>=◌}
-use Rattle.ffv1_avi.specs.Views.{found_with}
+use Rattle.ffv1_avi.specs.Internal.Views.{found_with}
 use Rattle.ffv1_avi.specs.Walk.{walk}
 use Rattle.ffv1_avi.proofs.Reading.{Goes}
 use Rattle.ffv1_avi.proofs.open.read_top.Given as goal

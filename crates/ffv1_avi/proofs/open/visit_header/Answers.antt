@@ -3,7 +3,7 @@ use Rattle.std.proofs.lemmas.Result.{err_from_is_err_and}
 use Rattle.ffv1_avi.specs.Files.{first_stream, list_skipped, visit_header}
 use Rattle.ffv1_avi.specs.Head.{Head}
 use Rattle.ffv1_avi.specs.Reads.{Reading, given, padded, passed, taken, ◌>>=◌}
-use Rattle.ffv1_avi.specs.Views.{found_next, found_with}
+use Rattle.ffv1_avi.specs.Internal.Views.{found_next, found_with}
 use Rattle.ffv1_avi.specs.Walk.{is_name}
 use Rattle.ffv1_avi.specs.declared.chunk.Entry.{Entry}
 use Rattle.ffv1_avi.specs.declared.stream.Sizes.{Sizes}

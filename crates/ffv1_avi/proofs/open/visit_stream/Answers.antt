@@ -4,7 +4,7 @@ use Rattle.ffv1_avi.specs.Files.{first_stream}
 use Rattle.ffv1_avi.specs.Head.{Head}
 use Rattle.ffv1_avi.specs.Reads.{Reading, given, passed, ◌>>=◌}
 use Rattle.ffv1_avi.specs.Streams.{stream_read}
-use Rattle.ffv1_avi.specs.Views.{head_with}
+use Rattle.ffv1_avi.specs.Internal.Views.{head_with}
 use Rattle.ffv1_avi.proofs.Reading.{goes_given, goes_none, goes_read, goes_refused}
 use Rattle.ffv1_avi.proofs.open.visit_stream.Goals as goal
 

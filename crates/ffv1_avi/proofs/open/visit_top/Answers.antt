@@ -4,7 +4,7 @@ use Rattle.ffv1_avi.specs.declared.fault.AviFault.TheVariants as fault
 use Rattle.ffv1_avi.specs.Files.{header_read, list_skipped, list_visited, movi_reached, visit_top}
 use Rattle.ffv1_avi.specs.Head.{Head}
 use Rattle.ffv1_avi.specs.Reads.{Reading, given, padded, passed, taken, ◌>>=◌}
-use Rattle.ffv1_avi.specs.Views.{found_with}
+use Rattle.ffv1_avi.specs.Internal.Views.{found_with}
 use Rattle.ffv1_avi.specs.Walk.{is_name}
 use Rattle.ffv1_avi.specs.declared.chunk.Entry.{Entry}
 use Rattle.ffv1_avi.proofs.Reading.{faults_here, goes_fault, goes_given, goes_none, goes_read, goes_refused, goes_same}

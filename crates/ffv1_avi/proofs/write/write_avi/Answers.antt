@@ -6,6 +6,7 @@ use Rattle.ffv1_avi.specs.declared.fault.AviFault.{AviFault}
 use Rattle.ffv1_avi.specs.declared.fault.AviFault.TheVariants as fault
 use Rattle.ffv1_avi.specs.Head.{Head, head_of}
 use Rattle.ffv1_avi.specs.Written.{file_of, frame_chunk, frames_of, head_text, most, movi, movi_size, riff_size, sizes_of, spelled}
+use Rattle.ffv1_wire.specs.Passage.{between}
 use Rattle.ffv1_avi.specs.Writes.{Writes, WritesFile}
 use Rattle.ffv1_avi.proofs.Sizes.{movi_count}
 use Rattle.ffv1_avi.proofs.Writing.{writes_stop, writes_then}
@@ -26,7 +27,7 @@ are_sizes head frames p e = by_test (nat_le (riff_size head frames) most) refl e
     by_test true t e = let h = same (movi_size frames, riff_size head frames) e in record { small = leb-true _ _ t; movi_is = h.0; riff_is = h.1 }
     by_test false t e = absurd (cc)
 
-writes_file : (old new : Option (List ℕ)) (m n : ℕ) (head : Head) (frames : List (List ℕ)) (r : Result (Unit {0}) AviFault) → riff_size head frames ≤ most → Writes old new m n (file_of head frames) r → WritesFile old new m n head frames r
+writes_file : (old new : Option (List ℕ)) (m n : ℕ) (head : Head) (frames : List (List ℕ)) (r : Result (Unit {0}) AviFault) → riff_size head frames ≤ most → Writes (between old new m n) (file_of head frames) r → WritesFile (between old new m n) head frames r
 writes_file old new m n head frames (Ok u) small w = (small, w)
 writes_file old new m n head frames (Err fault.Write) small w = (small, w)
 writes_file old new m n head frames (Err fault.OutOfMemory) small w = absurd w

@@ -1,5 +1,5 @@
 use Rattle.ffv1_range.specs.Symbols.{AreHeld, raising}
-use Rattle.ffv1_range.specs.Registers.{Reads}
+use Rattle.ffv1_range.specs.Internal.Registers.{Reads}
 use Rattle.ffv1_range.proofs.reading.get_exponent.Given as goal
 
 abbrev pub invariant-near : goal.invariant-near

@@ -1,6 +1,6 @@
 use Rattle.std.proofs.Common.{◌-◌, ◌^◌, ◌*◌, ◌<◌, ◌≤◌}
 use Rattle.ffv1_range.specs.Symbols.{AreHeld, mantissa_steps}
-use Rattle.ffv1_range.specs.Registers.{Reads}
+use Rattle.ffv1_range.specs.Internal.Registers.{Reads}
 use Rattle.ffv1_range.proofs.reading.get_far.Given as goal
 
 abbrev pub invariant-loop-place : goal.invariant-loop-place

@@ -1,5 +1,5 @@
 use Rattle.ffv1_range.specs.Symbols.{AreHeld, raising}
-use Rattle.ffv1_range.specs.Registers.{Writes, IsWriting, standing}
+use Rattle.ffv1_range.specs.Internal.Registers.{Writes, IsWriting, standing}
 use Rattle.ffv1_range.proofs.writing.put_exponent.Given as goal
 
 abbrev pub invariant-loop-k : goal.invariant-loop-k

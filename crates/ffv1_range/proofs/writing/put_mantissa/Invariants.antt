@@ -1,6 +1,6 @@
 use Rattle.std.proofs.Common.{◌-◌, ◌^◌, ◌/◌, ◌≤◌}
 use Rattle.ffv1_range.specs.Symbols.{AreHeld, mantissa_steps}
-use Rattle.ffv1_range.specs.Registers.{Writes, IsWriting, standing}
+use Rattle.ffv1_range.specs.Internal.Registers.{Writes, IsWriting, standing}
 use Rattle.ffv1_range.proofs.writing.put_mantissa.Given as goal
 
 abbrev pub invariant-loop-place : goal.invariant-loop-place

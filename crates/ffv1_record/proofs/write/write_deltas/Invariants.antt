@@ -1,7 +1,7 @@
 use Rattle.std.proofs.Common.{take}
 use Rattle.ffv1_record.specs.Record.{deltas_steps}
 use Rattle.ffv1_record.specs.Writable.{AreDeltas}
-use Rattle.ffv1_record.specs.Written.{Wrote}
+use Rattle.ffv1_record.specs.Internal.Written.{Wrote}
 use Rattle.ffv1_record.proofs.write.write_deltas.Given as goal
 
 abbrev pub invariant-loop-k : goal.invariant-loop-k

@@ -1,5 +1,5 @@
 use Rattle.ffv1_record.specs.Record.{uncoded_steps}
-use Rattle.ffv1_record.specs.Written.{Wrote}
+use Rattle.ffv1_record.specs.Internal.Written.{Wrote}
 use Rattle.ffv1_record.proofs.write.write_uncoded.Given as goal
 
 abbrev pub invariant-loop-index : goal.invariant-loop-index

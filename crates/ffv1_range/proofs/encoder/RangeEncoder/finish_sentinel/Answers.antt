@@ -2,7 +2,7 @@ use Rattle.std.proofs.Common.{arith, ap, ◌∙◌, ◌≡◌, false}
 use Rattle.ffv1_range.specs.Interval.{narrow, narrowed, start, interval_of}
 use Rattle.ffv1_range.specs.Codes.{sentinel_of}
 use Rattle.ffv1_range.specs.Writing.{Writing}
-use Rattle.ffv1_range.specs.Registers.{interval_from}
+use Rattle.ffv1_range.specs.Internal.Registers.{interval_from}
 use Rattle.ffv1_range.proofs.EndingCodes.{fit, sentinel-inside, sentinel-is}
 use Rattle.ffv1_range.proofs.HistoryLemmas.{kept_is}
 use Rattle.ffv1_range.proofs.encoder.RangeEncoder.finish_sentinel.Goals as goal

@@ -1,5 +1,4 @@
--- Internal: what ties an encoder and its states to the definition; no public clause cites it.
--- Where a writer of a record stands.
+-- What ties an encoder and its states to the definition: where a writer of a record stands.
 use Rattle.std.specs.Prelude.{◌≡◌, ℕ, ◌+◌, ◌≤◌, List, [], ◌++◌}
 use Rattle.ffv1_range.specs.Interval.{interval_of}
 use Rattle.ffv1_range.specs.Writing.{Writing}

@@ -1,5 +1,4 @@
--- Internal: what ties a decoder and its states to the readings; no public clause cites it. What a
--- call that reads gives.
+-- What ties a decoder and its states to the readings: what a call that reads gives.
 use Rattle.std.specs.Prelude.{◌≡◌, ◌⊎◌, ℕ, ◌+◌, ◌≤◌, List, [], Result, Ok, Err}
 use Rattle.ffv1_range.specs.Interval.{interval_of}
 use Rattle.ffv1_range.specs.Reading.{Reading, At}

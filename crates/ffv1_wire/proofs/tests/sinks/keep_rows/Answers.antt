@@ -1,6 +1,6 @@
 use Rattle.std.proofs.Common.{Some}
 use Rattle.ffv1_wire.specs.Lines.{lines_of}
-use Rattle.ffv1_wire.proofs.tests.doubles.keep_rows.Goals as goal
+use Rattle.ffv1_wire.proofs.tests.sinks.keep_rows.Goals as goal
 
 pub returns : goal.returns
 returns g c =

@@ -1,5 +1,4 @@
--- Internal: what reading values by rules gives, from one call to the next. No public clause cites
--- it.
+-- What reading values by rules gives, from one call to the next.
 use Rattle.std.specs.Prelude.{◌≡◌, ℕ, List, Result, Ok, Err}
 use Rattle.ffv1_range.specs.Table.{Table}
 use Rattle.ffv1_range.specs.Reading.{Reading}

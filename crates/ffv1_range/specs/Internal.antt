@@ -1,0 +1,2 @@
+-- What ties registers, arrays and types of the code to the definitions. No public clause cites it.
+pub mod Registers
