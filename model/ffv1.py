@@ -7,27 +7,30 @@ is done for speed. Each rule is one function, with the section of RFC 9043 that 
 this project's own choice says so.
 
 What there is so far: the range coder and its symbols, the configuration record, slice headers,
-slice footers, and how a frame is cut into its slices.
+slice footers, how a frame is cut into its slices, and frames, encoded and decoded.
 """
 
 # ------------------------------------------------------------------------------------------ faults
 
 FAULTS = {
-    1: "StateTable", 3: "BadStart", 4: "SymbolTooLong", 5: "Runs", 6: "Contexts", 10: "Size",
+    1: "StateTable", 3: "BadStart", 4: "SymbolTooLong", 5: "Runs", 6: "Contexts", 7: "Colour",
+    10: "Size",
     11: "Grid", 12: "ChromaEdge", 13: "Subsampling", 14: "Sets", 15: "Short", 16: "Parity",
     17: "Version", 18: "MicroVersion", 19: "Coder", 20: "ColourSpace", 21: "Depth",
     22: "CodedStates", 23: "Ec", 24: "Intra", 25: "ExtraPlane", 30: "NotKey", 31: "Place",
     32: "SetIndex", 33: "Structure", 34: "Aspect", 35: "Footer", 36: "Leftover",
-    37: "SliceParity", 38: "SliceStatus", 40: "SliceTooLong",
+    37: "SliceParity", 38: "SliceStatus", 40: "SliceTooLong", 41: "InfoDiffers",
+    42: "Sink",
 }
 
 
 class Fault(Exception):
-    """Why something is refused, by its number; with the slice that it was met in."""
+    """Why something is refused, by its number; with the slice that it was met in, and in a frame with
+    the plane, the line and the column."""
 
-    def __init__(self, number, slice=0):
+    def __init__(self, number, slice=0, plane=0, line=0, x=0):
         super().__init__(f"{number} {FAULTS[number]}")
-        self.number, self.slice = number, slice
+        self.number, self.slice, self.plane, self.line, self.x = number, slice, plane, line, x
 
 
 # ------------------------------------------------------- state transition tables (3.8.1.4 to 3.8.1.6)
@@ -439,3 +442,264 @@ def cut(config, payload):
             if payload[end + 3]:
                 raise Fault(38, slice)
     return spans
+
+
+# --------------------------------------------------------------------- planes and cells (3.2, 4.7, 4.8)
+
+def plane_count(config):
+    return 1 if not config.chroma else 4 if config.extra else 3
+
+
+def reduced(config, plane, width, height):
+    """4.2.8, 4.2.9: a width and a height in a plane: those of chroma over the factors, rounded up."""
+    if plane in (1, 2):
+        width, height = -(-width // 2 ** config.log2_h), -(-height // 2 ** config.log2_v)
+    return width, height
+
+
+def cell_of(config, slice, plane):
+    """4.7.4, 4.8.3: where the cell of a slice begins in a plane, and how wide and high it is."""
+    k, r = slice % config.columns, slice // config.columns
+    left, right = (edge(i, config.width, config.columns) for i in (k, k + 1))
+    top, bottom = (edge(i, config.height, config.rows) for i in (r, r + 1))
+    return reduced(config, plane, left, top) + reduced(config, plane, right - left, bottom - top)
+
+
+def lines_in(config, slice):
+    """4.7: the lines of a slice in the order of coding, as plane and line of its cell."""
+    planes = range(plane_count(config))
+    heights = [cell_of(config, slice, plane)[3] for plane in planes]
+    if config.rct:
+        return [(plane, y) for y in range(heights[0]) for plane in planes]
+    return [(plane, y) for plane in planes for y in range(heights[plane])]
+
+
+def forward(red, green, blue):
+    """3.7.2: Y, and Cb and Cr raised by 256."""
+    cb, cr = blue - green, red - green
+    return green + (cb + cr) // 4, cb + 256, cr + 256
+
+
+def inverse(y, cb, cr):
+    """3.7.2: red, green and blue. Own: each from 0 to 255, or none."""
+    cb, cr = cb - 256, cr - 256
+    green = y - (cb + cr) // 4
+    colour = cr + green, green, cb + green
+    return colour if all(0 <= sample <= 255 for sample in colour) else None
+
+
+def coded_planes(config, planes):
+    """The planes as they are coded; each is a list of lines."""
+    if not config.rct:
+        return planes
+    lines = [[forward(*place) for place in zip(*line)] for line in zip(*planes[:3])]
+    return [[[place[k] for place in line] for line in lines] for k in range(3)] + planes[3:]
+
+
+# ------------------------------------------------------------------------ samples (3.1 to 3.6, 3.8)
+
+def quantised(runs, scale, difference):
+    """4.1: the entry of a table for the low eight bits of a difference."""
+    index = difference & 255
+    sign, index = (1, index) if index < 128 else (-1, min(256 - index, 127))
+    value = sum(1 for k in range(len(runs)) if sum(runs[:k + 1]) <= index)
+    return sign * scale * value
+
+
+def scales_of(runs):
+    """4.1: the scale of each table: the product of how many values those before have."""
+    scales = [1]
+    for table in runs[:-1]:
+        scales.append(scales[-1] * (2 * len(table) - 1))
+    return scales
+
+
+class Cell:
+    """3.1, 3.2: the samples of a cell that are known so far, and what is seen of them."""
+
+    def __init__(self, width):
+        self.width, self.lines = width, []
+
+    def seen(self, x, y):
+        if y < 0 or x == -2:
+            return 0
+        if x == -1:
+            return self.seen(0, y - 1)
+        return self.lines[y][min(x, self.width - 1)]
+
+    def around(self, x, y):
+        places = [(-1, 0), (0, -1), (-1, -1), (1, -1), (-2, 0), (0, -2)]
+        return [self.seen(x + right, y + down) for right, down in places]
+
+
+def predicted(l, t, tl):
+    """3.3: the median of left, top, and left plus top less top left."""
+    return sorted([l, t, l + t - tl])[1]
+
+
+def context_of(runs, l, t, tl, tr, ll, tt):
+    """3.5: the context, and whether the difference is negated."""
+    differences = [l - tl, tl - t, t - tr, ll - l, tt - t]
+    context = sum(quantised(table, scale, difference)
+                  for table, scale, difference in zip(runs, scales_of(runs), differences))
+    return abs(context), context < 0
+
+
+def bits_of(config):
+    """3.8: the bits of a coded sample."""
+    return 9 if config.rct else 8
+
+
+def class_of(plane):
+    """3.6: Y, Cb with Cr, and transparency have states of their own."""
+    return [0, 1, 1, 2][plane]
+
+
+def put_line(encoder, config, runs, plane, cell, y):
+    """3.8: the residuals of a line, each folded to the bits of a sample."""
+    half = 2 ** (bits_of(config) - 1)
+    for x in range(cell.width):
+        around = cell.around(x, y)
+        context, negated = context_of(runs, *around)
+        difference = cell.lines[y][x] - predicted(*around[:3])
+        if negated:
+            difference = -difference
+        put_number(encoder, ("sample", class_of(plane), context), (difference + half) % (2 * half) - half,
+                   signed=True)
+
+
+def get_line(decoder, config, runs, plane, cell):
+    """3.8: the samples of the next line. Own: 4 at the first that has none."""
+    y = len(cell.lines)
+    cell.lines.append([])
+    for x in range(cell.width):
+        around = cell.around(x, y)
+        context, negated = context_of(runs, *around)
+        try:
+            residual = get_number(decoder, ("sample", class_of(plane), context), signed=True)
+        except Fault as fault:
+            raise Fault(fault.number, x=x)
+        residual = -residual if negated else residual
+        cell.lines[y].append((predicted(*around[:3]) + residual) % 2 ** bits_of(config))
+
+
+# ------------------------------------------------------------------------------- frames (4.4, 4.5)
+
+def encode_slice(config, coded, slice, info):
+    """The coded bytes of a slice. Own: class k takes set k, or the last one."""
+    encoder = Encoder(config.table())
+    indexes = [min(k, len(config.sets) - 1) for k in range(index_count(config))]
+    put_head(encoder, config, slice, indexes, *info)
+    cells = []
+    for plane in range(plane_count(config)):
+        left, top, width, height = cell_of(config, slice, plane)
+        cells.append(Cell(width))
+        cells[plane].lines = [line[left:left + width] for line in coded[plane][top:top + height]]
+    for plane, y in lines_in(config, slice):
+        put_line(encoder, config, config.sets[indexes[class_of(plane)]], plane, cells[plane], y)
+    return encoder.sentinel()
+
+
+def encode_frame(config, planes, info):
+    """The payload of a picture: each slice with its footer. Structure, sar_num, sar_den are the info."""
+    coded = coded_planes(config, planes)
+    slices = [encode_slice(config, coded, slice, info) for slice in range(config.slices())]
+    return b"".join(data + footer(data, config.ec) for data in slices)
+
+
+class Slice:
+    """A slice that is being decoded: its decoder, its set indexes, and its cells so far."""
+
+    def __init__(self, config, number, data):
+        self.config, self.number, self.data = config, number, data
+        self.decoder, self.indexes = None, []
+        self.cells = [Cell(cell_of(config, number, plane)[2]) for plane in range(plane_count(config))]
+
+    def open(self):
+        """The start, the key and the head, and what it says of the picture."""
+        self.decoder = Decoder(self.data, self.config.table())
+        get_key(self.decoder, self.number)
+        self.indexes, *info = get_head(self.decoder, self.config, self.number)
+        return info
+
+    def read(self, plane):
+        """The next line of a plane."""
+        runs = self.config.sets[self.indexes[class_of(plane)]]
+        get_line(self.decoder, self.config, runs, plane, self.cells[plane])
+
+
+class Decoded:
+    """What decoding a payload gives: the info, or the fault; the lines that were handed over, and how
+    many decisions were made: ones, zeros, and renormalisations."""
+
+    def __init__(self):
+        self.info, self.fault, self.lines = None, None, []
+        self.ones = self.zeros = self.renormalisations = 0
+
+    def count(self, slices):
+        for decoder in (slice.decoder for slice in slices if slice.decoder):
+            bits = [bit for slot in decoder.history.slots.values() for bit in slot]
+            self.ones += sum(bits)
+            self.zeros += len(bits) - sum(bits)
+            self.renormalisations += decoder.interval.count - 2
+
+
+def finished(config, row, planes, y):
+    """Line y of these planes as it is handed over. Own: 7 where a place has no colour."""
+    lines = [sum((slice.cells[plane].lines[y] for slice in row), []) for plane in planes]
+    if not config.rct:
+        return lines
+    colours = [inverse(*place) for place in zip(*lines[:3])]
+    for x, colour in enumerate(colours):
+        if colour is None or (config.extra and lines[3][x] > 255):
+            slice = [k for k in row if cell_of(config, k.number, 0)[0] <= x][-1]
+            raise Fault(7, slice.number, 0, cell_of(config, row[0].number, 0)[1] + y, x)
+    return [[colour[k] for colour in colours] for k in range(3)] + lines[3:]
+
+
+def decode_line(config, row, planes, y, out, room):
+    """Own: a line of these planes: in each slice from the left, then as a whole, then handed over to
+    a sink that takes so many lines."""
+    for slice in row:
+        for plane in planes:
+            try:
+                slice.read(plane)
+            except Fault as fault:
+                left, top = cell_of(config, slice.number, plane)[:2]
+                raise Fault(fault.number, slice.number, plane, top + y, left + fault.x)
+    for plane, samples in zip(planes, finished(config, row, planes, y)):
+        line = cell_of(config, row[0].number, plane)[1] + y
+        if len(out.lines) == room:
+            raise Fault(42, row[0].number, plane, line)
+        out.lines.append((plane, line, samples))
+
+
+def decode_row(config, row, out, room):
+    """Own: a row of slices: each is opened, from the left, and then its lines, side by side."""
+    for slice in row:
+        try:
+            info = slice.open()
+        except Fault as fault:
+            raise Fault(fault.number, slice.number)
+        if out.info not in (None, info):
+            raise Fault(41, slice.number)
+        out.info = info
+    planes = range(plane_count(config))
+    for series in [planes] if config.rct else [[plane] for plane in planes]:
+        for y in range(cell_of(config, row[0].number, series[0])[3]):
+            decode_line(config, row, series, y, out, room)
+
+
+def decode_frame(config, payload, room=None):
+    """What a payload decodes to, the first fault in the order of decoding; with a room, by a sink
+    that refuses the line behind so many."""
+    out, slices = Decoded(), []
+    try:
+        spans = cut(config, payload)
+        slices = [Slice(config, n, payload[begin:end]) for n, (begin, end) in enumerate(spans)]
+        for r in range(config.rows):
+            decode_row(config, slices[r * config.columns:(r + 1) * config.columns], out, room)
+    except Fault as fault:
+        out.fault = fault
+    out.count(slices)
+    return out

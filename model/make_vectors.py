@@ -119,6 +119,92 @@ def payloads(random, count):
     return lines
 
 
+def small_table(random):
+    """A quantisation table of one to four runs."""
+    cuts = sorted(random.sample(range(1, 128), random.randrange(4)))
+    return [end - begin for begin, end in zip([0] + cuts, cuts + [128])]
+
+
+def set_of(random):
+    """The small set, or one of few contexts."""
+    if random.random() < 0.5:
+        return ffv1.SMALL
+    return [small_table(random) for _ in range(3)] + [[128], small_table(random)]
+
+
+def deltas_of(random):
+    """Deltas of a table that is accepted: some states go one further or less far."""
+    while True:
+        deltas = [random.choice([0] * 30 + [-1, 1]) if 16 < state < 240 else 0
+                  for state in range(1, 256)]
+        try:
+            ffv1.table_of(deltas)
+            return deltas
+        except ffv1.Fault:
+            pass
+
+
+def config_of(random):
+    """A configuration of small pictures that is accepted, of any kind."""
+    while True:
+        kind = random.choice(["mono", "chroma", "chroma", "rct"])
+        wide = random.random() < 0.1
+        log2_h, log2_v = random.choice([(0, 0), (1, 0), (1, 1), (2, 0), (0, 2)]) if kind == "chroma" else (0, 0)
+        coder = random.choice([1, 1, 2])
+        config = ffv1.Config(
+            random.choice([32, 33, 40]) if wide else random.randrange(1, 12),
+            random.choice([1, 2, 32]) if wide else random.randrange(1, 9),
+            coder=coder, deltas=deltas_of(random) if coder == 2 else None, rct=kind == "rct",
+            chroma=kind != "mono", log2_h=log2_h, log2_v=log2_v,
+            extra=kind != "mono" and random.random() < 0.4,
+            columns=32 if wide else random.choice([1, 1, 2, 3, 4]),
+            rows=random.choice([1, 1, 2, 3]), sets=[set_of(random) for _ in range(random.choice([1, 1, 2, 3]))],
+            ec=random.randrange(2), intra=random.randrange(2))
+        try:
+            ffv1.check(config)
+            return config
+        except ffv1.Fault:
+            pass
+
+
+def picture_of(random, config):
+    """Planes of noise, of slow change, or of one value."""
+    kind, base = random.randrange(3), random.randrange(256)
+    planes = []
+    for plane in range(ffv1.plane_count(config)):
+        width, height = ffv1.reduced(config, plane, config.width, config.height)
+        planes.append([[[random.randrange(256), (base + x + 2 * y + random.randrange(3)) % 256, base][kind]
+                        for x in range(width)] for y in range(height)])
+    return planes
+
+
+def info_of(random):
+    aspect = random.choice([[0, 0], [1, 1], [random.randrange(1, 65536), random.randrange(1, 65536)]])
+    return [random.randrange(4)] + aspect
+
+
+def planes_text(planes):
+    return hexadecimal(bytes(sample for plane in planes for line in plane for sample in line))
+
+
+def pictures(random, count):
+    """A configuration, its picture, what is said of it, and the payload."""
+    for _ in range(count):
+        config = config_of(random)
+        planes, info = picture_of(random, config), info_of(random)
+        yield config, planes, info, ffv1.encode_frame(config, planes, info)
+
+
+def config_fields(config):
+    return [config.width, config.height, hexadecimal(ffv1.write_record(config))]
+
+
+def frames(random, count):
+    """width height record structure num den planes payload"""
+    return [[*config_fields(config), *info, planes_text(planes), hexadecimal(payload)]
+            for config, planes, info, payload in pictures(random, count)]
+
+
 def write(name, lines):
     os.makedirs(DATA, exist_ok=True)
     with open(os.path.join(DATA, name), "w") as out:
@@ -128,3 +214,4 @@ def write(name, lines):
 if __name__ == "__main__":
     write("heads.txt", heads(random.Random(9043), 400))
     write("payloads.txt", payloads(random.Random(9044), 2000))
+    write("frames.txt", frames(random.Random(9045), 300))
