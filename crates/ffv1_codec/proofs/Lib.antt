@@ -1,1 +1,5 @@
 pub mod CodedSamples
+pub mod Lines
+pub mod Shown
+pub mod Windows
+pub mod Classes

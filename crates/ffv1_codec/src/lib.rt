@@ -11,10 +11,15 @@
 //! ```
 #![tactic(auto)]
 
+pub mod fault;
 pub mod info;
 pub mod laws;
 pub mod picture;
+mod rows;
+mod slice;
+mod slice_encoder;
 
+pub use fault::EncodeFault;
 pub use info::Info;
 pub use picture::Picture;
 

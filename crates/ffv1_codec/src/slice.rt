@@ -1,0 +1,57 @@
+//! A slice of a picture.
+
+ghost use Rattle.std.specs.Prelude.{◌≡◌, ◌+◌, ◌*◌, ◌<◌, ◌≤◌, length, take, drop};
+ghost use Rattle.ffv1_slice.specs.Coding.{IsSlice};
+ghost use Rattle.ffv1_codec.specs.Picture.{Fits, plane_count, cell_height};
+ghost use Rattle.ffv1_codec.specs.Behind.{IsLine};
+
+use crate::info::Info;
+use crate::picture::Picture;
+use ffv1_record::Checked;
+use ffv1_record::laws::accepted;
+use ffv1_slice::laws::{divided, parts, tiling};
+use ffv1_slice::{Cell, Grid};
+use std::alloc::Allocator;
+
+/// A line of a rectangle of a plane whose lines have so many samples.
+fn line_of(samples: &[u8], width: u32, cell: Cell, y: u32) -> &[u8]
+    requires { (cell.top + y) * width + cell.left + cell.width ≤ length samples.now }
+    ensures { result.now ≡
+        take cell.width (drop ((cell.top + y) * width + cell.left) samples.entry.now) }
+{
+    let line = cell.top as usize + y as usize;
+    let start = line * width as usize + cell.left as usize;
+    &samples[start..start + cell.width as usize]
+}
+
+/// A slice that is to be coded: its picture, which fits the configuration, what is said of it, and
+/// its number in raster order.
+#[derive(Drop)]
+pub(crate) struct Slice<'a, A: Allocator, B: Allocator> {
+    pub(crate) checked: &'a Checked<A>,
+    pub(crate) picture: &'a Picture<B>,
+    pub(crate) info: Info,
+    pub(crate) number: u32,
+    ghost inside: { IsSlice checked.now number },
+    ghost fits: { Fits checked.now.configuration picture.now },
+}
+
+impl<'a, A: Allocator, B: Allocator> Slice<'a, A, B> {
+    /// The samples of a line of its cell in a plane.
+    pub(crate) fn line(&self, plane: u32, y: u32) -> &'a [u8]
+        requires plane { plane < plane_count self.now.checked.now.configuration }
+        requires inside { y <
+            cell_height self.now.checked.now.configuration self.now.number plane }
+        ensures { IsLine self.now.checked.now.configuration self.now.picture.now
+            self.now.number plane y result.now }
+    {
+        accepted();
+        divided();
+        tiling();
+        parts();
+        let grid = Grid::of(self.checked);
+        let cell = grid.cell(plane, self.number);
+        let samples = self.picture.planes()[plane as usize].as_slice();
+        line_of(samples, grid.width(plane), cell, y)
+    }
+}

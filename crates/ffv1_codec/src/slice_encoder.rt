@@ -1,0 +1,170 @@
+//! The decisions of a slice are put.
+
+ghost use Rattle.std.specs.Prelude.{◌≡◌, ◌-◌, ◌<◌, ℕ, min, IfOk, IfErr, OnOk, length, replicate, true, false};
+ghost use Rattle.std.specs.List.{flat_map, range_with_len};
+ghost use Rattle.ffv1_range.specs.Symbols.{AllHeld};
+ghost use Rattle.ffv1_range.specs.Interval.{narrow, interval_of};
+ghost use Rattle.ffv1_range.specs.History.{decisions_after};
+ghost use Rattle.ffv1_line.specs.Cell.{Cell};
+ghost use Rattle.ffv1_record.specs.Configuration.{is_rct};
+ghost use Rattle.ffv1_codec.specs.declared.fault.EncodeFault.TheVariants as fault;
+ghost use Rattle.ffv1_codec.specs.Picture.{plane_count, cell_in, cell_height};
+ghost use Rattle.ffv1_codec.specs.SliceList.{class_of, bits_of, chosen_line, chosen_body};
+ghost use Rattle.ffv1_codec.specs.SliceList.{chosen_head, chosen_index};
+ghost use Rattle.ffv1_codec.specs.SliceList.{lines_of_plane, planes_of_line, lines_in};
+ghost use Rattle.ffv1_codec.specs.Behind.{PutsBehind, Loaded, AllRolled, AllLoaded, states_in};
+
+use crate::fault::EncodeFault;
+use crate::rows::{PlaneRows, load, load_all, restart};
+use crate::slice::Slice;
+use ffv1_line::laws::{rolling, slots};
+use ffv1_line::{RollingRows, encode_line};
+use ffv1_range::RangeEncoder;
+use ffv1_range::laws::{kept_states, two_parts};
+use ffv1_record::laws::accepted;
+use ffv1_record::{Checked, Colour, Sets};
+use ffv1_slice::Grid;
+use std::alloc::Allocator;
+
+/// The class of a plane's states (RFC 9043, 3.6).
+fn class_of(plane: u32) -> usize
+    ensures { result ≡ class_of plane }
+{
+    match plane {
+        0 => 0,
+        1 => 1,
+        2 => 1,
+        _ => 2,
+    }
+}
+
+/// The set of a class of planes: that of its number, or the last one.
+fn index_of<A: Allocator>(sets: &Sets<A>, class: usize) -> usize
+    requires { 0 < length sets.now }
+    ensures value { result ≡ min class (length sets.now - 1) }
+    ensures inside { result < length sets.now }
+{
+    class.min(sets.len() - 1)
+}
+
+/// How colours are coded.
+fn is_rct(colour: Colour) -> bool
+    ensures { result ≡ is_rct colour }
+{
+    match colour {
+        Colour::YCbCr => false,
+        Colour::Rct => true,
+    }
+}
+
+/// How many bits a coded sample has.
+fn bits_of<A: Allocator>(checked: &Checked<A>) -> u8
+    ensures { result ≡ bits_of checked.now.configuration }
+{
+    if is_rct(checked.config().colour) {
+        return 9;
+    }
+    8
+}
+
+/// A row of a plane is coded, by the states of the plane's class.
+fn put_line<R: Allocator, A: Allocator, B: Allocator>(
+    encoder: &mut RangeEncoder<R>,
+    states: &mut [u8],
+    rows: &RollingRows<Vec<u16, R>>,
+    slice: &Slice<'_, A, B>,
+    plane: u32,
+) -> Result<(), EncodeFault>
+    requires plane { plane < plane_count slice.now.checked.now.configuration }
+    requires some { 0 < length rows.now.cur.items }
+    requires two_long { length rows.now.two.items ≡ length rows.now.cur.items }
+    requires one_long { length rows.now.one.items ≡ length rows.now.cur.items }
+    requires room { length states.old ≡ states_in slice.now.checked.now.configuration }
+    requires held { AllHeld slice.now.checked.now.table states.old }
+    ensures ok { OnOk result ((cell : ℕ → Cell) (y : ℕ) → Loaded (cell plane) y rows.now →
+        PutsBehind slice.now.checked.now.table encoder.old states.old encoder.new states.new
+        (chosen_line slice.now.checked.now.configuration (chosen_head slice.now.checked.now.configuration slice.now.info) cell
+        (record { plane = plane; y = y }))) }
+    ensures held { OnOk result (AllHeld slice.now.checked.now.table states.new) }
+    ensures err { IfErr result (λ f. f ≡ fault.OutOfMemory) }
+{
+    accepted();
+    kept_states();
+    two_parts();
+    slots();
+    let config = slice.checked.config();
+    let class = class_of(plane);
+    let set = config.sets.get(index_of(&config.sets, class));
+    set.bounded();
+    let at = 32 * (config.sets.most_contexts() as usize * class);
+    let count = set.contexts() as usize * 32;
+    let Ok(()) = encode_line(
+        encoder,
+        slice.checked.table(),
+        set,
+        &mut states[at..at + count],
+        &rows.two,
+        &rows.one,
+        &rows.cur,
+        bits_of(slice.checked),
+    ) else {
+        return Err(EncodeFault::OutOfMemory);
+    };
+    Ok(())
+}
+
+/// The lines of a plane are coded, one after the other.
+fn put_plane<R: Allocator, A: Allocator, B: Allocator>(
+    encoder: &mut RangeEncoder<R>,
+    states: &mut [u8],
+    rows: &mut RollingRows<Vec<u16, R>>,
+    slice: &Slice<'_, A, B>,
+    plane: u32,
+) -> Result<(), EncodeFault>
+    requires plain { is_rct slice.now.checked.now.configuration.colour ≡ false }
+    requires plane { plane < plane_count slice.now.checked.now.configuration }
+    requires room { length states.old ≡ states_in slice.now.checked.now.configuration }
+    requires held { AllHeld slice.now.checked.now.table states.old }
+    ensures ok { OnOk result (PutsBehind slice.now.checked.now.table encoder.old states.old
+        encoder.new states.new (chosen_body slice.now.checked.now.configuration
+        (chosen_head slice.now.checked.now.configuration slice.now.info)
+        (cell_in slice.now.checked.now.configuration slice.now.picture.now slice.now.number)
+        (lines_of_plane (cell_height slice.now.checked.now.configuration slice.now.number plane)
+        plane))) }
+    ensures held { OnOk result (AllHeld slice.now.checked.now.table states.new) }
+    ensures err { IfErr result (λ f. f ≡ fault.OutOfMemory) }
+{
+    rolling();
+    let cell = Grid::of(slice.checked).cell(plane, slice.number);
+    restart(rows, cell.width as usize)?;
+    for y in 0..cell.height {
+        load(rows, slice, plane, y);
+        put_line(encoder, states, rows, slice, plane)?;
+        rows.turn();
+    }
+    Ok(())
+}
+
+/// The planes of YCbCr are coded, one after the other (RFC 9043, 4.7).
+fn put_planes<R: Allocator, A: Allocator, B: Allocator>(
+    encoder: &mut RangeEncoder<R>,
+    states: &mut [u8],
+    rows: &mut RollingRows<Vec<u16, R>>,
+    slice: &Slice<'_, A, B>,
+) -> Result<(), EncodeFault>
+    requires plain { is_rct slice.now.checked.now.configuration.colour ≡ false }
+    requires room { length states.old ≡ states_in slice.now.checked.now.configuration }
+    requires held { AllHeld slice.now.checked.now.table states.old }
+    ensures ok { OnOk result (PutsBehind slice.now.checked.now.table encoder.old states.old
+        encoder.new states.new (chosen_body slice.now.checked.now.configuration
+        (chosen_head slice.now.checked.now.configuration slice.now.info)
+        (cell_in slice.now.checked.now.configuration slice.now.picture.now slice.now.number)
+        (lines_in slice.now.checked.now.configuration slice.now.number))) }
+    ensures err { IfErr result (λ f. f ≡ fault.OutOfMemory) }
+{
+    let planes = Grid::of(slice.checked).planes();
+    for plane in 0..planes {
+        put_plane(encoder, states, rows, slice, plane)?;
+    }
+    Ok(())
+}
