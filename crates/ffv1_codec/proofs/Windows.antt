@@ -10,6 +10,11 @@ use Rattle.ffv1_range.specs.History.{decisions_after, AreBelow, HasStates}
 use Rattle.ffv1_range.specs.Writing.{Writing}
 use Rattle.ffv1_range.specs.Counts.{Counts, Counted, uncounted}
 use Rattle.ffv1_range.specs.Puts.{Puts}
+use Rattle.std.specs.Prelude.{ℤ}
+use Rattle.ffv1_plane.specs.Quantisation.{Set, contexts_of}
+use Rattle.ffv1_line.specs.Cell.{Cell, Above, Shows}
+use Rattle.ffv1_line.specs.Row.{row_steps, chosen_row}
+use Rattle.ffv1_line.specs.Encoded.{Written}
 use Rattle.ffv1_codec.specs.Behind.{Behind, PutsBehind}
 
 -- the laws of states that are kept
@@ -56,7 +61,7 @@ part_held t states at count fits held = record {
 append_held : (t : Table) (xs ys : List ℕ) → AllHeld t xs → AllHeld t ys → AllHeld t (xs ++ ys)
 append_held t xs ys first second = record {
   held = λ i inside. elim (cases_lt i (length xs)) [
-    | inl here ↦ subst (Holds t) (sym (get_or_append_left xs ys i 0 here)) (first.held i here)
+    | inl here ↦ subst (Holds t) (sym (get_or_append_left xs ys 0 i here)) (first.held i here)
     | inr later ↦
         let k : ℕ = i - length xs in
         let place : i ≡ length xs + k = omega (arith, later) in
@@ -91,3 +96,20 @@ put_long states ys at count fits long =
     let b = length-drop at states in
     let d = length-drop count (drop at states) in
     omega (arith, first, second, a, b, d, long, fits)
+
+-- a row that was written by the states of its class
+pub row_puts : (t : Table) (set : Set) (old new : Writing) (states ys two one cur : List ℕ) (at wide bits : ℕ) → Kept →
+    ((c : Cell) (y x : ℕ) (qs : List ℤ) → AreBelow (row_steps set c y x qs) (contexts_of set * 32)) →
+    wide ≡ contexts_of set * 32 → at + contexts_of set * 32 ≤ length states → length ys ≡ length (take wide (drop at states)) →
+    Written t set bits old (take wide (drop at states)) new ys two one cur (length cur) →
+    (cell : Cell) (y : ℕ) → Above cell y two one → length cur ≡ cell.width → Shows cell (suc (suc y)) cur cell.width →
+    PutsBehind t old states new (take at states ++ (ys ++ drop wide (drop at states))) (shifted (33 + at) (row_steps set cell y 0 (chosen_row set bits cell y cell.width)))
+row_puts t set old new states ys two one cur at wide bits laws below is fits long written cell y above cur_long shows =
+    let fits : at + wide ≤ length states = omega (arith, fits, is) in
+    let steps : List Step = row_steps set cell y 0 (chosen_row set bits cell y cell.width) in
+    let inside : AreBelow steps wide = subst (AreBelow steps) (sym is) (below cell y 0 (chosen_row set bits cell y cell.width)) in
+    let shows : Shows cell (suc (suc y)) cur (length cur) = subst (Shows cell (suc (suc y)) cur) (sym cur_long) shows in
+    let puts : Puts t old (take wide (drop at states)) new ys steps =
+        subst (λ n. Puts t old (take wide (drop at states)) new ys (row_steps set cell y 0 (chosen_row set bits cell y n))) cur_long (written.puts cell y above shows) in
+    part_puts t old new states ys at wide steps laws fits (long ∙ window_long states at wide fits) inside puts
+

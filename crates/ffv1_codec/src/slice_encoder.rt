@@ -1,8 +1,10 @@
 //! The decisions of a slice are put.
 
-ghost use Rattle.std.specs.Prelude.{◌≡◌, ◌-◌, ◌<◌, ℕ, min, IfOk, IfErr, OnOk, length, replicate, true, false};
+ghost use Rattle.std.specs.Prelude.{◌≡◌, ◌⊎◌, ◌+◌, ◌-◌, ◌*◌, ◌<◌, ◌≤◌, ℕ, min, IfOk, IfErr, OnOk, length, replicate, true, false};
 ghost use Rattle.std.specs.List.{flat_map, range_with_len};
-ghost use Rattle.ffv1_range.specs.Symbols.{AllHeld};
+ghost use Rattle.ffv1_range.specs.Symbols.{AllHeld, shifted};
+ghost use Rattle.ffv1_plane.specs.Quantisation.{contexts_of};
+ghost use Rattle.ffv1_line.specs.Row.{row_steps, chosen_row};
 ghost use Rattle.ffv1_range.specs.Interval.{narrow, interval_of};
 ghost use Rattle.ffv1_range.specs.History.{decisions_after};
 ghost use Rattle.ffv1_line.specs.Cell.{Cell};
@@ -19,8 +21,9 @@ use crate::rows::{PlaneRows, load, load_all, restart};
 use crate::slice::Slice;
 use ffv1_line::laws::{rolling, slots};
 use ffv1_line::{RollingRows, encode_line};
-use ffv1_range::RangeEncoder;
-use ffv1_range::laws::{kept_states, two_parts};
+use ffv1_plane::QuantSet;
+use ffv1_range::laws::{counted_in_parts, kept_states, two_parts};
+use ffv1_range::{RangeEncoder, StateTable};
 use ffv1_record::laws::accepted;
 use ffv1_record::{Checked, Colour, Sets};
 use ffv1_slice::Grid;
@@ -67,7 +70,51 @@ fn bits_of<A: Allocator>(checked: &Checked<A>) -> u8
     8
 }
 
-/// A row of a plane is coded, by the states of the plane's class.
+/// A row of a cell is coded, by the states of its class, which begin at a place of all states.
+fn put_row<R: Allocator, A: Allocator>(
+    encoder: &mut RangeEncoder<R>,
+    table: &StateTable,
+    set: &QuantSet<A>,
+    states: &mut [u8],
+    at: usize,
+    rows: &RollingRows<Vec<u16, R>>,
+    bits: u8,
+) -> Result<(), EncodeFault>
+    requires bits { (bits ≡ 8) ⊎ (bits ≡ 9) }
+    requires some { 0 < length rows.now.cur.items }
+    requires two_long { length rows.now.two.items ≡ length rows.now.cur.items }
+    requires one_long { length rows.now.one.items ≡ length rows.now.cur.items }
+    requires fits { at + contexts_of set.now * 32 ≤ length states.old }
+    requires held { AllHeld table.now states.old }
+    ensures ok { OnOk result ((cell : Cell) (y : ℕ) → Loaded cell y rows.now →
+        PutsBehind table.now encoder.old states.old encoder.new states.new
+        (shifted (33 + at) (row_steps set.now cell y 0
+        (chosen_row set.now bits cell y cell.width)))) }
+    ensures held { OnOk result (AllHeld table.now states.new) }
+    ensures err { IfErr result (λ f. f ≡ fault.OutOfMemory) }
+{
+    kept_states();
+    two_parts();
+    counted_in_parts();
+    slots();
+    set.bounded();
+    let end = at + set.contexts() as usize * 32;
+    let Ok(()) = encode_line(
+        encoder,
+        table,
+        set,
+        &mut states[at..end],
+        &rows.two,
+        &rows.one,
+        &rows.cur,
+        bits,
+    ) else {
+        return Err(EncodeFault::OutOfMemory);
+    };
+    Ok(())
+}
+
+/// A row of a plane is coded, by the set and the states of the plane's class.
 fn put_line<R: Allocator, A: Allocator, B: Allocator>(
     encoder: &mut RangeEncoder<R>,
     states: &mut [u8],
@@ -83,33 +130,20 @@ fn put_line<R: Allocator, A: Allocator, B: Allocator>(
     requires held { AllHeld slice.now.checked.now.table states.old }
     ensures ok { OnOk result ((cell : ℕ → Cell) (y : ℕ) → Loaded (cell plane) y rows.now →
         PutsBehind slice.now.checked.now.table encoder.old states.old encoder.new states.new
-        (chosen_line slice.now.checked.now.configuration (chosen_head slice.now.checked.now.configuration slice.now.info) cell
+        (chosen_line slice.now.checked.now.configuration
+        (chosen_head slice.now.checked.now.configuration slice.now.info) cell
         (record { plane = plane; y = y }))) }
     ensures held { OnOk result (AllHeld slice.now.checked.now.table states.new) }
     ensures err { IfErr result (λ f. f ≡ fault.OutOfMemory) }
 {
     accepted();
-    kept_states();
-    two_parts();
-    slots();
     let config = slice.checked.config();
     let class = class_of(plane);
     let set = config.sets.get(index_of(&config.sets, class));
-    set.bounded();
     let at = 32 * (config.sets.most_contexts() as usize * class);
-    let count = set.contexts() as usize * 32;
-    let Ok(()) = encode_line(
-        encoder,
-        slice.checked.table(),
-        set,
-        &mut states[at..at + count],
-        &rows.two,
-        &rows.one,
-        &rows.cur,
-        bits_of(slice.checked),
-    ) else {
-        return Err(EncodeFault::OutOfMemory);
-    };
+    let table = slice.checked.table();
+    let bits = bits_of(slice.checked);
+    put_row(encoder, table, set, states, at, rows, bits)?;
     Ok(())
 }
 

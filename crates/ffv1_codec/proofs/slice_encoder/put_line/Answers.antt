@@ -1,16 +1,40 @@
-use Rattle.std.proofs.Common.{◌≡◌, refl, ℕ, ◌+◌, ◌-◌, ◌*◌, ◌<◌, ◌≤◌, length, take, drop, List, ◌++◌, ◌∙◌, sym, ap, subst, arith}
-use Rattle.ffv1_codec.proofs.Windows.{Kept, part_puts, part_held, put_held}
-use Rattle.ffv1_codec.proofs.Classes.{class_fits, set_chosen}
+use Rattle.std.proofs.Common.{◌≡◌, ℕ, ◌+◌, ◌*◌, ap, subst, List, ◌∙◌}
+use Rattle.ffv1_range.specs.Symbols.{Step, shifted}
+use Rattle.ffv1_plane.specs.Quantisation.{Set}
+use Rattle.ffv1_line.specs.Row.{row_steps, chosen_row}
+use Rattle.ffv1_record.specs.Configuration.{Configuration}
+use Rattle.ffv1_codec.specs.SliceList.{base_of, bits_of, chosen_line, chosen_head}
+use Rattle.ffv1_codec.specs.Behind.{PutsBehind}
+use Rattle.ffv1_codec.proofs.Classes.{Looked, looked_fits, looked_line}
 use Rattle.ffv1_codec.proofs.slice_encoder.put_line.Goals as goal
 
-pub slice_bounds-encode_line-end : goal.slice_bounds-encode_line-end
-slice_bounds-encode_line-end g c = let a = c.most_contexts in let b = c.class_of-class in let d = c.contexts in let e = c.index_of in let f = c.get-set in let h = c.config-config in ?
-
-pub encode_line-requires-clause-held : goal.encode_line-requires-clause-held
-encode_line-requires-clause-held g c = ?
+pub put_row-requires-clause-fits : goal.put_row-requires-clause-fits
+put_row-requires-clause-fits g c =
+    let conf = c.args.slice.now.checked.now.configuration in
+    let looked : Looked conf c.args.plane c.config-config.result.now.sets c.most_contexts.result c.class_of-class.result c.index_of.result c.get-set.result.now = record {
+      sets_are = ap (λ (k : Configuration). k.sets) c.config-config.ensures.value;
+      most_is = c.most_contexts.ensures.value;
+      class_is = c.class_of-class.ensures;
+      index_is = c.index_of.ensures.value;
+      index_inside = c.index_of.ensures.inside;
+      set_got = c.get-set.ensures;
+    } in
+    looked_fits conf c.args.plane _ _ _ _ _ c.args.states.now looked c.requires.plane c.requires.room
 
 pub returns-clause-ok : goal.returns-clause-ok
-returns-clause-ok g c = λ cell y loaded. let a = c.encode_line in ?
-
-pub returns-clause-held : goal.returns-clause-held
-returns-clause-held g c = ?
+returns-clause-ok g c = λ cell y loaded.
+    let slice = c.args.slice.now in
+    let conf = slice.checked.now.configuration in
+    let set = c.get-set.result.now in
+    let p = c.args.plane in
+    let looked : Looked conf c.args.plane c.config-config.result.now.sets c.most_contexts.result c.class_of-class.result c.index_of.result c.get-set.result.now = record {
+      sets_are = ap (λ (k : Configuration). k.sets) c.config-config.ensures.value;
+      most_is = c.most_contexts.ensures.value;
+      class_is = c.class_of-class.ensures;
+      index_is = c.index_of.ensures.value;
+      index_inside = c.index_of.ensures.inside;
+      set_got = c.get-set.ensures;
+    } in
+    let same = looked_line conf slice.info p y cell _ _ _ _ set c.bits_of-bits.result looked c.requires.plane c.bits_of-bits.ensures in
+    let puts = rw c.table-table.ensures.value at (c.in_ok-put_row.ensures.ok (cell p) y loaded) in
+    subst (PutsBehind slice.checked.now.table c.args.encoder.now c.args.states.now c.put_row.new.encoder c.put_row.new.states) same puts
