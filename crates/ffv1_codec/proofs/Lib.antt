@@ -3,3 +3,4 @@ pub mod Lines
 pub mod Shown
 pub mod Windows
 pub mod Classes
+pub mod Bodies

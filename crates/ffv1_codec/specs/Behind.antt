@@ -1,5 +1,5 @@
 -- Where an encoder of a slice stands, and what its rows hold.
-use Rattle.std.specs.Prelude.{◌≡◌, ℕ, ◌+◌, ◌*◌, ◌/◌, ◌%◌, ◌<◌, true, List, [], ◌++◌, length, slice_index}
+use Rattle.std.specs.Prelude.{◌≡◌, ℕ, ◌+◌, ◌*◌, ◌/◌, ◌%◌, ◌<◌, Bool, true, false, List, [], ◌∷◌, ◌++◌, length, slice_index}
 use Rattle.std.proofs.Common.{suc}
 use Rattle.std.specs.declared.vec.Vec.{Vec}
 use Rattle.ffv1_range.specs.Interval.{interval_of}
@@ -16,6 +16,7 @@ use Rattle.ffv1_record.specs.Held.{classes_of}
 use Rattle.ffv1_slice.specs.Grid.{division_of, across, down, begin_of}
 use Rattle.ffv1_codec.specs.declared.rows.PlaneRows.{PlaneRows}
 use Rattle.ffv1_codec.specs.Picture.{Planes, sample_at, cell_in}
+use Rattle.ffv1_codec.specs.SliceList.{Line}
 
 -- an encoder has put these steps of a slice, and the states of the classes, whose first slot is 33,
 -- are those behind them
@@ -33,6 +34,11 @@ pub record PutsBehind (t : Table) (old : Writing) (states : List ℕ) (new : Wri
 -- so many states there are, of all classes of planes
 abbrev pub states_in : Configuration → ℕ
 states_in c = 32 * (most_contexts c.sets * classes_of c.chroma_planes c.extra_plane)
+
+-- the line of transparency in RCT, where there is one
+abbrev pub fourth_line : Bool → ℕ → List Line
+fourth_line false y = []
+fourth_line true y = record { plane = 3; y = y } ∷ []
 
 -- the samples of line y of slice n's cell in a plane, as they are
 pub record IsLine (c : Configuration) (planes : Planes) (n p y : ℕ) (line : List ℕ)

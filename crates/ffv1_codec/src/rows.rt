@@ -1,13 +1,15 @@
 //! The rows of a slice's cells, read from its picture.
 
-ghost use Rattle.std.specs.Prelude.{◌≡◌, ◌<◌, ℕ, length, replicate, OnOk, true};
+ghost use Rattle.std.specs.Prelude.{◌≡◌, ◌+◌, ◌<◌, ℕ, length, replicate, OnOk, true};
 ghost use Rattle.ffv1_rct.specs.Lines.{AreCoded};
-ghost use Rattle.ffv1_record.specs.Configuration.{is_rct};
-ghost use Rattle.ffv1_codec.specs.Picture.{plane_count, cell_in, cell_height, coded_at, sample_at};
+ghost use Rattle.ffv1_record.specs.Configuration.{Configuration, is_rct};
+ghost use Rattle.ffv1_codec.specs.Picture.{Planes, plane_count, cell_in, cell_height, coded_at};
+ghost use Rattle.ffv1_codec.specs.Picture.{sample_at};
 ghost use Rattle.ffv1_codec.specs.Behind.{Rolled, Loaded, AllRolled, AllLoaded};
 
 use crate::slice::Slice;
 use ffv1_line::RollingRows;
+use ffv1_line::laws::rolling;
 use ffv1_rct::forward_line;
 use ffv1_record::laws::accepted_parts;
 use std::alloc::{AllocError, Allocator};
@@ -28,6 +30,20 @@ fn no_rows<A: Allocator + Copy>(alloc: A) -> RollingRows<Vec<u16, A>> {
         two: Vec::new(alloc),
         one: Vec::new(alloc),
         cur: Vec::new(alloc),
+    }
+}
+
+impl<A: Allocator> PlaneRows<A> {
+    /// Goes on to the next row of each plane.
+    pub(crate) fn turn(&mut self)
+        ensures { (c : Configuration) (planes : Planes) (n y : ℕ) →
+            AllLoaded c planes n y self.old → AllRolled c planes n (y + 1) self.new }
+    {
+        rolling();
+        self.first.turn();
+        self.second.turn();
+        self.third.turn();
+        self.fourth.turn();
     }
 }
 
@@ -64,6 +80,24 @@ pub(crate) fn restart<A: Allocator>(
     clear(&mut rows.two, width)?;
     clear(&mut rows.one, width)?;
     clear(&mut rows.cur, width)?;
+    Ok(())
+}
+
+/// The rows above the first of each plane's cell in RCT, and room for it.
+pub(crate) fn restart_all<R: Allocator, A: Allocator, B: Allocator>(
+    rows: &mut PlaneRows<R>,
+    slice: &Slice<'_, A, B>,
+) -> Result<(), AllocError>
+    ensures { OnOk result (AllRolled slice.now.checked.now.configuration slice.now.picture.now
+        slice.now.number 0 rows.new) }
+{
+    rolling();
+    restart(&mut rows.first, slice.cell(0).width as usize)?;
+    restart(&mut rows.second, slice.cell(1).width as usize)?;
+    restart(&mut rows.third, slice.cell(2).width as usize)?;
+    if slice.checked.config().extra_plane {
+        restart(&mut rows.fourth, slice.cell(3).width as usize)?;
+    }
     Ok(())
 }
 

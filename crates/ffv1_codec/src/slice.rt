@@ -2,13 +2,12 @@
 
 ghost use Rattle.std.specs.Prelude.{◌≡◌, ◌+◌, ◌*◌, ◌<◌, ◌≤◌, length, take, drop};
 ghost use Rattle.ffv1_slice.specs.Coding.{IsSlice};
-ghost use Rattle.ffv1_codec.specs.Picture.{Fits, plane_count, cell_height};
+ghost use Rattle.ffv1_codec.specs.Picture.{Fits, plane_count, cell_in, cell_height};
 ghost use Rattle.ffv1_codec.specs.Behind.{IsLine};
 
 use crate::info::Info;
 use crate::picture::Picture;
 use ffv1_record::Checked;
-use ffv1_record::laws::accepted;
 use ffv1_slice::laws::{divided, parts, tiling};
 use ffv1_slice::{Cell, Grid};
 use std::alloc::Allocator;
@@ -37,6 +36,20 @@ pub(crate) struct Slice<'a, A: Allocator, B: Allocator> {
 }
 
 impl<'a, A: Allocator, B: Allocator> Slice<'a, A, B> {
+    /// Its cell in a plane, of at least one sample.
+    pub(crate) fn cell(&self, plane: u32) -> Cell
+        ensures width { result.width ≡ (cell_in self.now.checked.now.configuration
+            self.now.picture.now self.now.number plane).width }
+        ensures height { result.height ≡
+            cell_height self.now.checked.now.configuration self.now.number plane }
+        ensures some { 0 < result.width }
+    {
+        divided();
+        tiling();
+        parts();
+        Grid::of(self.checked).cell(plane, self.number)
+    }
+
     /// The samples of a line of its cell in a plane.
     pub(crate) fn line(&self, plane: u32, y: u32) -> &'a [u8]
         requires plane { plane < plane_count self.now.checked.now.configuration }
@@ -45,7 +58,6 @@ impl<'a, A: Allocator, B: Allocator> Slice<'a, A, B> {
         ensures { IsLine self.now.checked.now.configuration self.now.picture.now
             self.now.number plane y result.now }
     {
-        accepted();
         divided();
         tiling();
         parts();

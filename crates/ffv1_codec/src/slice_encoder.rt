@@ -14,17 +14,18 @@ ghost use Rattle.ffv1_codec.specs.Picture.{plane_count, cell_in, cell_height};
 ghost use Rattle.ffv1_codec.specs.SliceList.{class_of, bits_of, chosen_line, chosen_body};
 ghost use Rattle.ffv1_codec.specs.SliceList.{chosen_head, chosen_index};
 ghost use Rattle.ffv1_codec.specs.SliceList.{lines_of_plane, planes_of_line, lines_in};
-ghost use Rattle.ffv1_codec.specs.Behind.{PutsBehind, Loaded, AllRolled, AllLoaded, states_in};
+ghost use Rattle.ffv1_codec.specs.Behind.{PutsBehind, Loaded, AllRolled, AllLoaded};
+ghost use Rattle.ffv1_codec.specs.Behind.{states_in, fourth_line};
 
 use crate::fault::EncodeFault;
-use crate::rows::{PlaneRows, load, load_all, restart};
+use crate::rows::{PlaneRows, load, load_all, restart, restart_all};
 use crate::slice::Slice;
 use ffv1_line::laws::{rolling, slots};
 use ffv1_line::{RollingRows, encode_line};
 use ffv1_plane::QuantSet;
 use ffv1_range::laws::{counted_in_parts, kept_states, two_parts};
 use ffv1_range::{RangeEncoder, StateTable};
-use ffv1_record::laws::accepted;
+use ffv1_record::laws::{accepted, accepted_parts};
 use ffv1_record::{Checked, Colour, Sets};
 use ffv1_slice::Grid;
 use std::alloc::Allocator;
@@ -169,7 +170,7 @@ fn put_plane<R: Allocator, A: Allocator, B: Allocator>(
     ensures err { IfErr result (λ f. f ≡ fault.OutOfMemory) }
 {
     rolling();
-    let cell = Grid::of(slice.checked).cell(plane, slice.number);
+    let cell = slice.cell(plane);
     restart(rows, cell.width as usize)?;
     for y in 0..cell.height {
         load(rows, slice, plane, y);
@@ -196,9 +197,120 @@ fn put_planes<R: Allocator, A: Allocator, B: Allocator>(
         (lines_in slice.now.checked.now.configuration slice.now.number))) }
     ensures err { IfErr result (λ f. f ≡ fault.OutOfMemory) }
 {
-    let planes = Grid::of(slice.checked).planes();
-    for plane in 0..planes {
+    for plane in 0..Grid::of(slice.checked).planes() {
         put_plane(encoder, states, rows, slice, plane)?;
     }
+    Ok(())
+}
+
+/// Where there is a plane of transparency, a row of it is coded.
+fn put_transparency<R: Allocator, A: Allocator, B: Allocator>(
+    encoder: &mut RangeEncoder<R>,
+    states: &mut [u8],
+    rows: &PlaneRows<R>,
+    slice: &Slice<'_, A, B>,
+    y: u32,
+) -> Result<(), EncodeFault>
+    requires loaded { AllLoaded slice.now.checked.now.configuration slice.now.picture.now
+        slice.now.number y rows.now }
+    requires room { length states.old ≡ states_in slice.now.checked.now.configuration }
+    requires held { AllHeld slice.now.checked.now.table states.old }
+    ensures ok { OnOk result (PutsBehind slice.now.checked.now.table encoder.old states.old
+        encoder.new states.new (chosen_body slice.now.checked.now.configuration
+        (chosen_head slice.now.checked.now.configuration slice.now.info)
+        (cell_in slice.now.checked.now.configuration slice.now.picture.now slice.now.number)
+        (fourth_line slice.now.checked.now.configuration.extra_plane y))) }
+    ensures held { OnOk result (AllHeld slice.now.checked.now.table states.new) }
+    ensures err { IfErr result (λ f. f ≡ fault.OutOfMemory) }
+{
+    let _cell = slice.cell(3);
+    if !slice.checked.config().extra_plane {
+        return Ok(());
+    }
+    put_line(encoder, states, &rows.fourth, slice, 3)?;
+    Ok(())
+}
+
+/// Line y of Y, Cb, Cr and transparency is coded.
+fn put_colours<R: Allocator, A: Allocator, B: Allocator>(
+    encoder: &mut RangeEncoder<R>,
+    states: &mut [u8],
+    rows: &mut PlaneRows<R>,
+    slice: &Slice<'_, A, B>,
+    y: u32,
+) -> Result<(), EncodeFault>
+    requires rct { is_rct slice.now.checked.now.configuration.colour ≡ true }
+    requires inside { y < cell_height slice.now.checked.now.configuration slice.now.number 0 }
+    requires rolled { AllRolled slice.now.checked.now.configuration slice.now.picture.now
+        slice.now.number y rows.old }
+    requires room { length states.old ≡ states_in slice.now.checked.now.configuration }
+    requires held { AllHeld slice.now.checked.now.table states.old }
+    ensures rolled { OnOk result (AllRolled slice.now.checked.now.configuration
+        slice.now.picture.now slice.now.number (y + 1) rows.new) }
+    ensures ok { OnOk result (PutsBehind slice.now.checked.now.table encoder.old states.old
+        encoder.new states.new (chosen_body slice.now.checked.now.configuration
+        (chosen_head slice.now.checked.now.configuration slice.now.info)
+        (cell_in slice.now.checked.now.configuration slice.now.picture.now slice.now.number)
+        (planes_of_line (plane_count slice.now.checked.now.configuration) y))) }
+    ensures held { OnOk result (AllHeld slice.now.checked.now.table states.new) }
+    ensures err { IfErr result (λ f. f ≡ fault.OutOfMemory) }
+{
+    accepted_parts();
+    let _config = slice.checked.config();
+    let (_y, _cb, _cr) = (slice.cell(0), slice.cell(1), slice.cell(2));
+    load_all(rows, slice, y);
+    put_line(encoder, states, &rows.first, slice, 0)?;
+    put_line(encoder, states, &rows.second, slice, 1)?;
+    put_line(encoder, states, &rows.third, slice, 2)?;
+    put_transparency(encoder, states, rows, slice, y)?;
+    rows.turn();
+    Ok(())
+}
+
+/// The lines of RCT are coded, one after the other, each plane by plane (RFC 9043, 4.7).
+fn put_lines<R: Allocator, A: Allocator, B: Allocator>(
+    encoder: &mut RangeEncoder<R>,
+    states: &mut [u8],
+    rows: &mut PlaneRows<R>,
+    slice: &Slice<'_, A, B>,
+) -> Result<(), EncodeFault>
+    requires rct { is_rct slice.now.checked.now.configuration.colour ≡ true }
+    requires room { length states.old ≡ states_in slice.now.checked.now.configuration }
+    requires held { AllHeld slice.now.checked.now.table states.old }
+    ensures ok { OnOk result (PutsBehind slice.now.checked.now.table encoder.old states.old
+        encoder.new states.new (chosen_body slice.now.checked.now.configuration
+        (chosen_head slice.now.checked.now.configuration slice.now.info)
+        (cell_in slice.now.checked.now.configuration slice.now.picture.now slice.now.number)
+        (lines_in slice.now.checked.now.configuration slice.now.number))) }
+    ensures err { IfErr result (λ f. f ≡ fault.OutOfMemory) }
+{
+    restart_all(rows, slice)?;
+    for y in 0..slice.cell(0).height {
+        put_colours(encoder, states, rows, slice, y)?;
+    }
+    Ok(())
+}
+
+/// The samples of a slice are coded.
+pub(crate) fn put_body<R: Allocator, A: Allocator, B: Allocator>(
+    encoder: &mut RangeEncoder<R>,
+    states: &mut [u8],
+    rows: &mut PlaneRows<R>,
+    slice: &Slice<'_, A, B>,
+) -> Result<(), EncodeFault>
+    requires room { length states.old ≡ states_in slice.now.checked.now.configuration }
+    requires held { AllHeld slice.now.checked.now.table states.old }
+    ensures ok { OnOk result (PutsBehind slice.now.checked.now.table encoder.old states.old
+        encoder.new states.new (chosen_body slice.now.checked.now.configuration
+        (chosen_head slice.now.checked.now.configuration slice.now.info)
+        (cell_in slice.now.checked.now.configuration slice.now.picture.now slice.now.number)
+        (lines_in slice.now.checked.now.configuration slice.now.number))) }
+    ensures err { IfErr result (λ f. f ≡ fault.OutOfMemory) }
+{
+    if is_rct(slice.checked.config().colour) {
+        put_lines(encoder, states, rows, slice)?;
+        return Ok(());
+    }
+    put_planes(encoder, states, &mut rows.first, slice)?;
     Ok(())
 }

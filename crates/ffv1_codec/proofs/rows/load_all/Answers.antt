@@ -4,7 +4,7 @@ use Rattle.ffv1_codec.proofs.Shown.{Transformed, is_colour, same_width, luma_sho
 use Rattle.ffv1_codec.proofs.rows.load_all.Goals as goal
 
 neither : (b : Bool) → b ≡ false → b ≡ true → ⊥
-neither b is yes = cc
+neither b off on = cc
 
 pub returns-then-config : goal.returns-then-config
 returns-then-config g c =
