@@ -11,6 +11,7 @@ use Rattle.ffv1_line.specs.Length.{row_decisions}
 use Rattle.ffv1_record.specs.Configuration.{Configuration}
 use Rattle.ffv1_record.specs.Accepted.{Accepted}
 use Rattle.ffv1_slice.specs.declared.head.SliceHead.{SliceHead}
+use Rattle.ffv1_codec.specs.declared.counts.FrameCounts.{FrameCounts}
 use Rattle.ffv1_codec.specs.Picture.{Planes, cell_in}
 use Rattle.ffv1_codec.specs.SliceList.{Said, Line, bits_of, set_in, lines_in, chosen_head}
 use Rattle.ffv1_codec.specs.SliceList.{chosen_slice}
@@ -51,15 +52,19 @@ slice_renormalisations a planes info n =
     (narrow (interval_of (decisions_after a.table [] (chosen_slice a.configuration planes info n)))
     129 false).count - 2
 
--- what is counted of a frame
-pub record Tally : Type 0 where
-  pub decisions : ℕ
-  pub renormalisations : ℕ
-
-abbrev pub frame_tally : Accepted → Planes → Said → Tally
-frame_tally a planes info = record {
+-- what is counted of a frame, and of none
+abbrev pub frame_counts : Accepted → Planes → Said → FrameCounts
+frame_counts a planes info = record {
   decisions = row_decisions (frame_residuals a.configuration planes info);
   renormalisations =
       sum (map (slice_renormalisations a planes info)
       (range_with_len 0 (a.configuration.columns * a.configuration.rows)));
 }
+
+abbrev pub uncounted : FrameCounts
+uncounted = record { decisions = 0; renormalisations = 0 }
+
+-- an encoder: its configuration, and what was counted of the last frame that was answered
+pub record Encoding : Type 0 where
+  pub accepted : Accepted
+  pub counts : FrameCounts

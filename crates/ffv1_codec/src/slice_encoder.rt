@@ -19,14 +19,14 @@ ghost use Rattle.ffv1_codec.specs.Behind.{states_in, fourth_line};
 
 use crate::fault::EncodeFault;
 use crate::rows::{PlaneRows, load, load_all, restart, restart_all};
-use crate::slice::Slice;
+use crate::slice::{Slice, index_of};
 use ffv1_line::laws::{rolling, slots};
 use ffv1_line::{RollingRows, encode_line};
 use ffv1_plane::QuantSet;
 use ffv1_range::laws::{counted_in_parts, kept_states, two_parts};
 use ffv1_range::{RangeEncoder, StateTable};
 use ffv1_record::laws::{accepted, accepted_parts};
-use ffv1_record::{Checked, Colour, Sets};
+use ffv1_record::{Checked, Colour};
 use ffv1_slice::Grid;
 use std::alloc::Allocator;
 
@@ -40,15 +40,6 @@ fn class_of(plane: u32) -> usize
         2 => 1,
         _ => 2,
     }
-}
-
-/// The set of a class of planes: that of its number, or the last one.
-fn index_of<A: Allocator>(sets: &Sets<A>, class: usize) -> usize
-    requires { 0 < length sets.now }
-    ensures value { result ≡ min class (length sets.now - 1) }
-    ensures inside { result < length sets.now }
-{
-    class.min(sets.len() - 1)
 }
 
 /// How colours are coded.
