@@ -4,3 +4,6 @@ pub mod Shown
 pub mod Windows
 pub mod Classes
 pub mod Bodies
+pub mod Beginnings
+pub mod Lengths
+pub mod Counted

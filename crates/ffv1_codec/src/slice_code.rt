@@ -13,11 +13,13 @@ ghost use Rattle.ffv1_codec.specs.Length.{slice_residuals, slice_renormalisation
 ghost use Rattle.ffv1_codec.specs.Behind.{Behind, states_in};
 
 use crate::fault::EncodeFault;
+use crate::laws::slice_lengths;
 use crate::rows::PlaneRows;
 use crate::slice::Slice;
 use crate::slice_encoder::put_body;
 use ffv1_range::RangeEncoder;
-use ffv1_range::laws::{counted_from_nothing, counted_in_parts, kept_states, named_states, slots};
+use ffv1_range::laws::{counted_from_nothing, counted_in_parts, kept_states, named_states};
+use ffv1_range::laws::{slots, two_parts};
 use ffv1_record::Checked;
 use ffv1_slice::{put_head, put_key};
 use std::alloc::{AllocError, Allocator};
@@ -96,6 +98,7 @@ fn put_beginning<R: Allocator, A: Allocator, B: Allocator>(
     kept_states();
     counted_in_parts();
     slots();
+    two_parts();
     let Ok(()) = put_key(encoder, slice.checked, slice.number) else {
         return Err(EncodeFault::OutOfMemory);
     };
@@ -127,7 +130,9 @@ fn put_slice<R: Allocator, A: Allocator, B: Allocator>(
 {
     named_states();
     counted_from_nothing();
+    slice_lengths();
     let _table = slice.checked.table();
+    let _structure = slice.info.structure();
     put_beginning(encoder, slice)?;
     let before = encoder.decisions();
     put_body(encoder, states, rows, slice)?;
