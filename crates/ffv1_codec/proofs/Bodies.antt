@@ -46,7 +46,7 @@ plane_next t a b d ss ts us c h cell p y first second =
     subst (PutsBehind t a ss d us) same (puts_then t a b d ss ts us _ _ first second)
 
 -- one part more
-range_more : (n : ℕ) → range_with_len 0 (n + 1) ≡ range_with_len 0 n ++ (n ∷ [])
+pub range_more : (n : ℕ) → range_with_len 0 (n + 1) ≡ range_with_len 0 n ++ (n ∷ [])
 range_more n = sym (map-id (range_with_len 0 (n + 1))) ∙ map-range_with_len_more (λ k. k) 0 n n (omega arith) ∙ ap (λ z. z ++ (n ∷ [])) (map-id (range_with_len 0 n))
 
 pub parts_next : (t : Table) (a b d : Writing) (ss ts us : List ℕ) (c : Configuration) (h : SliceHead) (cell : ℕ → Cell) (f : ℕ → List Line) (n : ℕ) →

@@ -10,6 +10,12 @@ use Rattle.ffv1_range.specs.Symbols.{Step, shifted}
 use Rattle.ffv1_range.specs.History.{decisions_after}
 use Rattle.ffv1_range.specs.Counts.{saturated}
 use Rattle.ffv1_range.specs.Table.{Table}
+use Rattle.ffv1_range.specs.Codes.{digits, raised, sentinel_of}
+use Rattle.ffv1_slice.specs.Footer.{foot_length, footer_of}
+use Rattle.ffv1_slice.specs.Cutting.{joined_of}
+use Rattle.std.specs.Prelude.{sum}
+use Rattle.std.proofs.lemmas.List.Sums.{sum_by-cons}
+use Rattle.std.proofs.lemmas.List.{length-take-le}
 use Rattle.ffv1_plane.specs.Quantisation.{Set}
 use Rattle.ffv1_line.specs.Cell.{Cell}
 use Rattle.ffv1_line.specs.Row.{row_steps, chosen_row, chosen_rows}
@@ -186,3 +192,46 @@ sealed_least t steps =
     let all = narrowed_least start (decisions_after t [] steps) in
     let last = narrow_least (interval_of (decisions_after t [] steps)) 129 false in
     omega (arith, all, last)
+
+-- the bytes of the sentinel ending
+digits_long : (count n : ℕ) → length (digits count n) ≡ count
+digits_long zero n = refl
+digits_long (suc count) n =
+    let rest = digits_long count (n / 256) in
+    omega (arith, length-append (digits count (n / 256)) (n % 256 ∷ []), rest)
+
+pub sentinel_long : (i : Interval) → length (sentinel_of i) ≡ (narrow i 129 false).count - 1
+sentinel_long i =
+    let j : Interval = narrow i 129 false in
+    length-take-le (j.count - 1) (digits j.count (raised j.low)) (omega (arith, digits_long j.count (raised j.low)))
+
+times_more : (m k : ℕ) → suc m * k ≡ m * k + k
+times_more m k = omega arith
+
+-- slices joined
+pub joined_long : (ec : Bool) (f : ℕ → List ℕ) (r : ℕ → ℕ) (ns : List ℕ) → ((n : ℕ) → length (f n) ≡ r n + 1) → ((bytes : List ℕ) → length (footer_of ec bytes) ≡ foot_length ec) →
+    length (joined_of ec (map f ns)) ≡ sum (map r ns) + length ns * (1 + foot_length ec)
+joined_long ec f r [] each foot = omega arith
+joined_long ec f r (n ∷ ns) each foot =
+    let rest = joined_long ec f r ns each foot in
+    let first = length-append (f n) (footer_of ec (f n)) in
+    let all = length-append (f n ++ footer_of ec (f n)) (joined_of ec (map f ns)) in
+    let more : length (n ∷ ns) * (1 + foot_length ec) ≡ length ns * (1 + foot_length ec) + (1 + foot_length ec) = times_more (length ns) (1 + foot_length ec) in
+    let total : sum (map r (n ∷ ns)) ≡ r n + sum (map r ns) = sum_by-cons (λ x. x) (r n) (map r ns) in
+    omega (arith, rest, first, all, each n, foot (f n), more, total)
+
+foot_few : (ec : Bool) → foot_length ec ≤ 8
+foot_few true = omega arith
+foot_few false = omega arith
+
+pub joined_most : (ec : Bool) (f : ℕ → List ℕ) (r : ℕ → ℕ) (g : ℕ → List ℤ) (most from count : ℕ) → ((n : ℕ) → length (f n) ≡ r n + 1) → ((bytes : List ℕ) → length (footer_of ec bytes) ≡ foot_length ec) →
+    ((n : ℕ) → n < from + count → r n + 9 ≤ row_decisions (g n) + most) →
+    length (joined_of ec (map f (range_with_len from count))) ≤ row_decisions (flat_map g (range_with_len from count)) + count * most
+joined_most ec f r g most from zero each foot few = omega arith
+joined_most ec f r g most from (suc count) each foot few =
+    let rest = joined_most ec f r g most (from + 1) count each foot (λ n inside. few n (omega (arith, inside))) in
+    let first = length-append (f from) (footer_of ec (f from)) in
+    let all = length-append (f from ++ footer_of ec (f from)) (joined_of ec (map f (range_with_len (from + 1) count))) in
+    let residuals = decisions_append (g from) (flat_map g (range_with_len (from + 1) count)) in
+    let here = few from (omega arith) in
+    omega (arith, rest, first, all, residuals, here, each from, foot (f from), foot_few ec)

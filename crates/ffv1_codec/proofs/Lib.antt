@@ -7,3 +7,4 @@ pub mod Bodies
 pub mod Beginnings
 pub mod Lengths
 pub mod Counted
+pub mod Frames

@@ -16,7 +16,10 @@ use Rattle.ffv1_record.specs.Held.{classes_of}
 use Rattle.ffv1_slice.specs.Grid.{division_of, across, down, begin_of}
 use Rattle.ffv1_codec.specs.declared.rows.PlaneRows.{PlaneRows}
 use Rattle.ffv1_codec.specs.Picture.{Planes, sample_at, cell_in}
-use Rattle.ffv1_codec.specs.SliceList.{Line}
+use Rattle.ffv1_codec.specs.SliceList.{Said, Line}
+use Rattle.ffv1_codec.specs.Frame.{slice_bytes}
+use Rattle.ffv1_record.specs.Accepted.{Accepted}
+use Rattle.ffv1_slice.specs.Footer.{footer_of}
 
 -- an encoder has put these steps of a slice, and the states of the classes, whose first slot is 33,
 -- are those behind them
@@ -75,3 +78,8 @@ pub record AllLoaded {A : Type 0} (c : Configuration) (planes : Planes) (n y : �
   pub second : Loaded (cell_in c planes n 1) y rows.second
   pub third : Loaded (cell_in c planes n 2) y rows.third
   pub fourth : c.extra_plane ≡ true → Loaded (cell_in c planes n 3) y rows.fourth
+
+-- the coded bytes of slice n and their footer
+abbrev pub sealed_slice : Accepted → Planes → Said → ℕ → List ℕ
+sealed_slice a planes info n =
+    slice_bytes a planes info n ++ footer_of a.configuration.ec (slice_bytes a planes info n)

@@ -52,7 +52,13 @@ slice_renormalisations a planes info n =
     (narrow (interval_of (decisions_after a.table [] (chosen_slice a.configuration planes info n)))
     129 false).count - 2
 
--- what is counted of a frame, and of none
+-- what is counted of slice n, of a frame, and of none
+abbrev pub slice_counts : Accepted → Planes → Said → ℕ → FrameCounts
+slice_counts a planes info n = record {
+  decisions = row_decisions (slice_residuals a.configuration planes info n);
+  renormalisations = slice_renormalisations a planes info n;
+}
+
 abbrev pub frame_counts : Accepted → Planes → Said → FrameCounts
 frame_counts a planes info = record {
   decisions = row_decisions (frame_residuals a.configuration planes info);

@@ -3,16 +3,18 @@
 ghost use Rattle.std.specs.Prelude.{◌≡◌, ◌⊎◌, ◌+◌, ◌*◌, ◌^◌, ◌<◌, ◌≤◌, ◌++◌, IfOk, IfErr, OnOk, OnErr};
 ghost use Rattle.std.specs.Prelude.{[], length};
 ghost use Rattle.ffv1_line.specs.Length.{row_decisions};
-ghost use Rattle.ffv1_slice.specs.Footer.{footer_of};
+ghost use Rattle.ffv1_slice.specs.Footer.{footer_of, foot_length};
 ghost use Rattle.ffv1_codec.specs.declared.fault.EncodeFault.TheVariants as fault;
 ghost use Rattle.ffv1_codec.specs.Picture.{Fits};
 ghost use Rattle.ffv1_codec.specs.Frame.{slice_bytes, frame_of, HasLongSlice};
 ghost use Rattle.ffv1_codec.specs.Length.{slice_residuals, slice_renormalisations, frame_counts};
-ghost use Rattle.ffv1_codec.specs.Length.{frame_most, uncounted};
+ghost use Rattle.ffv1_codec.specs.Length.{slice_counts, frame_most, uncounted};
+ghost use Rattle.ffv1_codec.specs.Behind.{sealed_slice};
 
 use crate::counts::FrameCounts;
 use crate::fault::EncodeFault;
 use crate::info::Info;
+use crate::laws::frame_lengths;
 use crate::picture::Picture;
 use crate::slice::Slice;
 use crate::slice_code::{Scratch, code_slice};
@@ -45,23 +47,35 @@ fn append<A: Allocator>(
     }
 }
 
-/// A slice is coded and put behind what a frame has.
-fn put_slice<R: Allocator + Copy, A: Allocator, B: Allocator>(
+/// A slice is coded and put behind what a frame has. What was counted of it.
+fn add_slice<R: Allocator + Copy, A: Allocator, B: Allocator>(
     alloc: R,
     frame: &mut Vec<u8, R>,
     scratch: &mut Scratch<R>,
     slice: &Slice<'_, A, B>,
 ) -> Result<FrameCounts, EncodeFault>
+    ensures ok { OnOk result (frame.new.items ≡ frame.old.items ++ sealed_slice
+        slice.now.checked.now slice.now.picture.now slice.now.info slice.now.number) }
+    ensures few { OnOk result (length (slice_bytes slice.now.checked.now slice.now.picture.now
+        slice.now.info slice.now.number) ≤ 16777215) }
+    ensures counts { IfOk result (λ k. k ≡ slice_counts slice.now.checked.now
+        slice.now.picture.now slice.now.info slice.now.number) }
+    ensures small { IfOk result (λ k. k.decisions < 2 ^ 40) }
+    ensures short { IfOk result (λ k. k.renormalisations ≤ 16777215) }
+    ensures err { IfErr result (λ f. (f ≡ fault.OutOfMemory)
+        ⊎ ((f ≡ fault.SliceTooLong) × (16777215 < length (slice_bytes slice.now.checked.now
+        slice.now.picture.now slice.now.info slice.now.number)))) }
 {
     let coded = code_slice(alloc, scratch, slice)?;
-    append(alloc, frame, coded.bytes.as_slice(), slice.checked.config().ec)?;
+    let bytes = coded.bytes.as_slice();
+    append(alloc, frame, bytes, slice.checked.config().ec)?;
     Ok(FrameCounts {
         decisions: coded.decisions,
-        renormalisations: coded.bytes.len() as u64 - 1,
+        renormalisations: bytes.len() as u64 - 1,
     })
 }
 
-/// All slices are coded, one behind the other.
+/// All slices are coded, one behind the other. What was counted of them.
 fn put_slices<R: Allocator + Copy, A: Allocator, B: Allocator>(
     alloc: R,
     frame: &mut Vec<u8, R>,
@@ -71,6 +85,12 @@ fn put_slices<R: Allocator + Copy, A: Allocator, B: Allocator>(
     info: Info,
 ) -> Result<FrameCounts, EncodeFault>
     requires fits { Fits checked.now.configuration picture.now }
+    requires none { frame.old.items ≡ [] }
+    ensures ok { OnOk result (frame.new.items ≡ frame_of checked.now picture.now info) }
+    ensures few { OnOk result (HasLongSlice checked.now picture.now info → ⊥) }
+    ensures counts { IfOk result (λ k. k ≡ frame_counts checked.now picture.now info) }
+    ensures err { IfErr result (λ f. (f ≡ fault.OutOfMemory)
+        ⊎ ((f ≡ fault.SliceTooLong) × HasLongSlice checked.now picture.now info)) }
 {
     let mut decisions = 0;
     let mut renormalisations = 0;
@@ -81,7 +101,7 @@ fn put_slices<R: Allocator + Copy, A: Allocator, B: Allocator>(
             info,
             number,
         };
-        let counts = put_slice(alloc, frame, scratch, &slice)?;
+        let counts = add_slice(alloc, frame, scratch, &slice)?;
         decisions += counts.decisions;
         renormalisations += counts.renormalisations;
     }
@@ -142,15 +162,38 @@ impl<A: Allocator + Copy> FrameEncoder<A> {
         self.counts
     }
 
-    /// The frame of a picture that fits the configuration (RFC 9043, 4.4 to 4.9): each slice by the
-    /// sentinel ending of its decisions, and its footer.
+    /// The frame of a picture that fits the configuration (RFC 9043, 4.4 to 4.9): each slice in
+    /// raster order, by the sentinel ending of its decisions, and its footer. Class 0 uses set 0,
+    /// class k set k, or the last one.
+    ///
+    /// Answers `SliceTooLong` only where a slice has more than 16777215 coded bytes, and there never
+    /// `Ok`; else `OutOfMemory`, where memory was refused. Either leaves the counts. Whatever was
+    /// answered, the next frame is as a new encoder's.
     pub fn encode<B: Allocator>(
         &mut self,
         picture: &Picture<B>,
         info: Info,
     ) -> Result<Vec<u8, A>, EncodeFault>
         requires { Fits self.old.accepted.configuration picture.now }
+        ensures configuration { self.new.accepted ≡ self.old.accepted }
+        ensures ok { IfOk result (λ bytes.
+            bytes.items ≡ frame_of self.old.accepted picture.now info) }
+        ensures few { OnOk result (HasLongSlice self.old.accepted picture.now info → ⊥) }
+        ensures refused { IfErr result (λ f. (f ≡ fault.OutOfMemory)
+            ⊎ ((f ≡ fault.SliceTooLong) × HasLongSlice self.old.accepted picture.now info)) }
+        ensures counts { OnOk result (self.new.counts ≡
+            frame_counts self.old.accepted picture.now info) }
+        ensures kept { OnErr result (self.new.counts ≡ self.old.counts) }
+        ensures long { IfOk result (λ bytes. length bytes.items ≡
+            (frame_counts self.old.accepted picture.now info).renormalisations
+            + self.old.accepted.configuration.columns * self.old.accepted.configuration.rows
+            * (1 + foot_length self.old.accepted.configuration.ec)) }
+        ensures most { IfOk result (λ bytes. length bytes.items ≤
+            frame_most self.old.accepted.configuration picture.now info) }
     {
+        frame_lengths();
+        let _table = self.checked.table();
+        let _structure = info.structure();
         let mut frame = Vec::new(self.alloc);
         let counts = put_slices(
             self.alloc,

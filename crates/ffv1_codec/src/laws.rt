@@ -10,8 +10,11 @@ ghost use Rattle.ffv1_codec.specs.Picture.{Planes, IsPicture, coded_at, cell_in}
 ghost use Rattle.ffv1_codec.specs.SliceList.{Said, IsBody, Line, bits_of, lines_in};
 ghost use Rattle.ffv1_codec.specs.SliceList.{chosen_head, chosen_body};
 ghost use Rattle.ffv1_codec.specs.Length.{slice_residuals, slice_most, slice_renormalisations};
+ghost use Rattle.ffv1_codec.specs.Length.{frame_counts, frame_most};
+ghost use Rattle.ffv1_slice.specs.Footer.{foot_length};
 ghost use Rattle.ffv1_codec.specs.Worked.{small_pictures, unknown};
-ghost use Rattle.ffv1_codec.specs.Frame.{IsSaid, CodesPicture, HasLongSlice, frame_of};
+ghost use Rattle.ffv1_codec.specs.Frame.{IsSaid, CodesPicture, HasLongSlice, slice_bytes};
+ghost use Rattle.ffv1_codec.specs.Frame.{frame_of};
 
 use ffv1_line::laws::{chosen, lengths};
 use ffv1_range::laws::lengths as step_lengths;
@@ -19,7 +22,7 @@ use ffv1_range::laws::{named_states, sentinel_ending};
 use ffv1_rct::laws::{lists, small};
 use ffv1_record::laws::accepted;
 use ffv1_slice::laws::lengths as head_lengths;
-use ffv1_slice::laws::{divided, joined, parts, tiling};
+use ffv1_slice::laws::{divided, footing, joined, parts, tiling};
 
 /// The coded samples of a picture have 8 bits, and 9 in RCT.
 pub fn coded_samples()
@@ -107,6 +110,8 @@ pub fn slice_lengths()
         n < a.configuration.columns * a.configuration.rows →
         length (key_steps n ++ head_steps a.configuration n
         (chosen_head a.configuration info)) + 10 ≤ slice_most a.configuration }
+    ensures coded { (a : Accepted) (planes : Planes) (info : Said) (n : ℕ) →
+        length (slice_bytes a planes info n) ≡ slice_renormalisations a planes info n + 1 }
     ensures bytes { (a : Accepted) (planes : Planes) (info : Said) (n : ℕ) →
         IsAccepted a.configuration a.table → IsSaid info →
         n < a.configuration.columns * a.configuration.rows →
@@ -122,4 +127,19 @@ pub fn slice_lengths()
     divided();
     tiling();
     parts();
+}
+
+/// How many bytes a frame has: one and the footer's for each slice, and one for each
+/// renormalisation; at most 2 n + 1 for each residual of n binary digits, and 109 for each slice,
+/// with 6 for a third set index and 2 for each place that may be above 15.
+pub fn frame_lengths()
+    ensures long { (a : Accepted) (planes : Planes) (info : Said) →
+        length (frame_of a planes info) ≡ (frame_counts a planes info).renormalisations
+        + a.configuration.columns * a.configuration.rows * (1 + foot_length a.configuration.ec) }
+    ensures most { (a : Accepted) (planes : Planes) (info : Said) →
+        IsAccepted a.configuration a.table → IsSaid info →
+        length (frame_of a planes info) ≤ frame_most a.configuration planes info }
+{
+    slice_lengths();
+    footing();
 }

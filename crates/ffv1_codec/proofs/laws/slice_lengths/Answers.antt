@@ -1,9 +1,11 @@
-use Rattle.std.proofs.Common.{◌≡◌, ℕ, ◌+◌, ◌<◌, ◌≤◌, List, ◌++◌, length, arith, length-append, Bool, true, false, if◌then◌else◌, nat_lt}
+use Rattle.std.proofs.Common.{◌≡◌, ℕ, ◌+◌, ◌<◌, ◌≤◌, List, [], ◌++◌, length, arith, length-append, Bool, true, false, if◌then◌else◌, nat_lt}
 use Rattle.ffv1_slice.specs.Head.{key_steps, head_steps}
 use Rattle.ffv1_codec.specs.Picture.{cell_in}
 use Rattle.ffv1_codec.specs.SliceList.{chosen_head, chosen_body, chosen_slice, lines_in}
 use Rattle.ffv1_codec.proofs.Lines.{Sides}
-use Rattle.ffv1_codec.proofs.Lengths.{Rows, body_long, residuals_few, key_few, sealed_most, sealed_least}
+use Rattle.ffv1_codec.proofs.Lengths.{Rows, body_long, residuals_few, key_few, sealed_most, sealed_least, sentinel_long}
+use Rattle.ffv1_range.specs.Interval.{interval_of}
+use Rattle.ffv1_range.specs.History.{decisions_after}
 use Rattle.ffv1_codec.proofs.laws.slice_lengths.Goals as goal
 
 pub returns-clause-body : goal.returns-clause-body
@@ -37,3 +39,8 @@ returns-clause-bytes c = λ a planes info n is said inside.
     let all = length-append (key_steps n) (head_steps conf n (chosen_head conf info) ++ chosen_body conf (chosen_head conf info) (cell_in conf planes n) (lines_in conf n)) in
     let most = sealed_most a.table (chosen_slice conf planes info n) in
     omega (arith, key_few n, head, body, rest, all, most)
+
+pub returns-clause-coded : goal.returns-clause-coded
+returns-clause-coded c = λ a planes info n.
+    let steps = chosen_slice a.configuration planes info n in
+    omega (arith, sentinel_long (interval_of (decisions_after a.table [] steps)), sealed_least a.table steps)
