@@ -42,7 +42,7 @@ pub plane_next : (t : Table) (a b d : Writing) (ss ts us : List ℕ) (c : Config
 plane_next t a b d ss ts us c h cell p y first second =
     let l : Line = record { plane = p; y = y } in
     let same : chosen_body c h cell (lines_of_plane y p) ++ chosen_line c h cell l ≡ chosen_body c h cell (lines_of_plane (y + 1) p) =
-        ap (λ z. chosen_body c h cell (lines_of_plane y p) ++ z) (body_one c h cell l) ∙ sym (body_append c h cell (lines_of_plane y p) (l ∷ [])) ∙ ap (chosen_body c h cell) (sym (lines_more p y)) in
+    ap (λ z. chosen_body c h cell (lines_of_plane y p) ++ z) (body_one c h cell l) ∙ sym (body_append c h cell (lines_of_plane y p) (l ∷ [])) ∙ ap (chosen_body c h cell) (sym (lines_more p y)) in
     subst (PutsBehind t a ss d us) same (puts_then t a b d ss ts us _ _ first second)
 
 -- one part more
@@ -55,9 +55,9 @@ pub parts_next : (t : Table) (a b d : Writing) (ss ts us : List ℕ) (c : Config
 parts_next t a b d ss ts us c h cell f n first second =
     let before = flat_map f (range_with_len 0 n) in
     let more : flat_map f (range_with_len 0 (n + 1)) ≡ before ++ f n =
-        ap (flat_map f) (range_more n) ∙ flat_map-append f (range_with_len 0 n) (n ∷ []) ∙ ap (λ z. before ++ z) (append-nil (f n)) in
+    ap (flat_map f) (range_more n) ∙ flat_map-append f (range_with_len 0 n) (n ∷ []) ∙ ap (λ z. before ++ z) (append-nil (f n)) in
     let same : chosen_body c h cell before ++ chosen_body c h cell (f n) ≡ chosen_body c h cell (flat_map f (range_with_len 0 (n + 1))) =
-        sym (body_append c h cell before (f n)) ∙ ap (chosen_body c h cell) (sym more) in
+    sym (body_append c h cell before (f n)) ∙ ap (chosen_body c h cell) (sym more) in
     subst (PutsBehind t a ss d us) same (puts_then t a b d ss ts us _ _ first second)
 
 -- all lines of a slice

@@ -37,7 +37,7 @@ sum_next f n total one before is =
 pub residuals_next : (f : ℕ → List ℤ) (n total one : ℕ) → total ≡ row_decisions (flat_map f (range_with_len 0 n)) → one ≡ row_decisions (f n) → total + one ≡ row_decisions (flat_map f (range_with_len 0 (n + 1)))
 residuals_next f n total one before is =
     let parts : flat_map f (range_with_len 0 (n + 1)) ≡ flat_map f (range_with_len 0 n) ++ f n =
-        ap (flat_map f) (range_more n) ∙ flat_map-append f (range_with_len 0 n) (n ∷ []) ∙ ap (λ z. flat_map f (range_with_len 0 n) ++ z) (append-nil (f n)) in
+    ap (flat_map f) (range_more n) ∙ flat_map-append f (range_with_len 0 n) (n ∷ []) ∙ ap (λ z. flat_map f (range_with_len 0 n) ++ z) (append-nil (f n)) in
     let more = ap row_decisions parts in
     let last = decisions_append (flat_map f (range_with_len 0 n)) (f n) in
     omega (arith, before, is, more, last)

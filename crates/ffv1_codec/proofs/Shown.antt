@@ -89,29 +89,29 @@ coded_cell c planes n p x y rct flat_h flat_v =
 pub luma_shows : (c : Configuration) (planes : Planes) (n y : ℕ) (r g b luma blue red : List ℕ) → Transformed c planes n y r g b luma blue red → Shows (cell_in c planes n 0) (suc (suc y)) luma (cell_in c planes n 0).width
 luma_shows c planes n y r g b luma blue red t =
     shows_cell (cell_in c planes n 0) y luma (λ x inside.
-        let in_r : x < length r = omega (arith, inside, t.first.wide) in
-        let in_g : x < length g = omega (arith, inside, t.second.wide, same_width c planes n 1 t.flat_h) in
-        let in_b : x < length b = omega (arith, inside, t.third.wide, same_width c planes n 2 t.flat_h) in
-        ap unsigned_abs (t.coded x in_r).luma
-        ∙ three (λ i j k. unsigned_abs (luma_of i j k)) _ _ _ _ _ _ (sample_here c planes n 0 y x r t.flat_h t.flat_v t.first in_r) (sample_here c planes n 1 y x g t.flat_h t.flat_v t.second in_g)
-          (sample_here c planes n 2 y x b t.flat_h t.flat_v t.third in_b)
-        ∙ coded_cell c planes n 0 x y t.rct t.flat_h t.flat_v)
+    let in_r : x < length r = omega (arith, inside, t.first.wide) in
+    let in_g : x < length g = omega (arith, inside, t.second.wide, same_width c planes n 1 t.flat_h) in
+    let in_b : x < length b = omega (arith, inside, t.third.wide, same_width c planes n 2 t.flat_h) in
+    ap unsigned_abs (t.coded x in_r).luma
+    ∙ three (λ i j k. unsigned_abs (luma_of i j k)) _ _ _ _ _ _ (sample_here c planes n 0 y x r t.flat_h t.flat_v t.first in_r) (sample_here c planes n 1 y x g t.flat_h t.flat_v t.second in_g)
+    (sample_here c planes n 2 y x b t.flat_h t.flat_v t.third in_b)
+    ∙ coded_cell c planes n 0 x y t.rct t.flat_h t.flat_v)
 
 pub blue_shows : (c : Configuration) (planes : Planes) (n y : ℕ) (r g b luma blue red : List ℕ) → Transformed c planes n y r g b luma blue red → Shows (cell_in c planes n 1) (suc (suc y)) blue (cell_in c planes n 1).width
 blue_shows c planes n y r g b luma blue red t =
     shows_cell (cell_in c planes n 1) y blue (λ x inside.
-        let in_r : x < length r = omega (arith, inside, t.first.wide, same_width c planes n 1 t.flat_h) in
-        let in_g : x < length g = omega (arith, inside, t.second.wide) in
-        let in_b : x < length b = omega (arith, inside, t.third.wide, same_width c planes n 1 t.flat_h, same_width c planes n 2 t.flat_h) in
-        ap unsigned_abs (t.coded x in_r).blue
-        ∙ three (λ i j k. unsigned_abs (chroma_of i j)) _ _ 0 _ _ 0 (sample_here c planes n 2 y x b t.flat_h t.flat_v t.third in_b) (sample_here c planes n 1 y x g t.flat_h t.flat_v t.second in_g) refl
-        ∙ coded_cell c planes n 1 x y t.rct t.flat_h t.flat_v)
+    let in_r : x < length r = omega (arith, inside, t.first.wide, same_width c planes n 1 t.flat_h) in
+    let in_g : x < length g = omega (arith, inside, t.second.wide) in
+    let in_b : x < length b = omega (arith, inside, t.third.wide, same_width c planes n 1 t.flat_h, same_width c planes n 2 t.flat_h) in
+    ap unsigned_abs (t.coded x in_r).blue
+    ∙ three (λ i j k. unsigned_abs (chroma_of i j)) _ _ 0 _ _ 0 (sample_here c planes n 2 y x b t.flat_h t.flat_v t.third in_b) (sample_here c planes n 1 y x g t.flat_h t.flat_v t.second in_g) refl
+    ∙ coded_cell c planes n 1 x y t.rct t.flat_h t.flat_v)
 
 pub red_shows : (c : Configuration) (planes : Planes) (n y : ℕ) (r g b luma blue red : List ℕ) → Transformed c planes n y r g b luma blue red → Shows (cell_in c planes n 2) (suc (suc y)) red (cell_in c planes n 2).width
 red_shows c planes n y r g b luma blue red t =
     shows_cell (cell_in c planes n 2) y red (λ x inside.
-        let in_r : x < length r = omega (arith, inside, t.first.wide, same_width c planes n 2 t.flat_h) in
-        let in_g : x < length g = omega (arith, inside, t.second.wide, same_width c planes n 1 t.flat_h, same_width c planes n 2 t.flat_h) in
-        ap unsigned_abs (t.coded x in_r).red
-        ∙ three (λ i j k. unsigned_abs (chroma_of i j)) _ _ 0 _ _ 0 (sample_here c planes n 0 y x r t.flat_h t.flat_v t.first in_r) (sample_here c planes n 1 y x g t.flat_h t.flat_v t.second in_g) refl
-        ∙ coded_cell c planes n 2 x y t.rct t.flat_h t.flat_v)
+    let in_r : x < length r = omega (arith, inside, t.first.wide, same_width c planes n 2 t.flat_h) in
+    let in_g : x < length g = omega (arith, inside, t.second.wide, same_width c planes n 1 t.flat_h, same_width c planes n 2 t.flat_h) in
+    ap unsigned_abs (t.coded x in_r).red
+    ∙ three (λ i j k. unsigned_abs (chroma_of i j)) _ _ 0 _ _ 0 (sample_here c planes n 0 y x r t.flat_h t.flat_v t.first in_r) (sample_here c planes n 1 y x g t.flat_h t.flat_v t.second in_g) refl
+    ∙ coded_cell c planes n 2 x y t.rct t.flat_h t.flat_v)

@@ -110,6 +110,5 @@ row_puts t set old new states ys two one cur at wide bits laws below is fits lon
     let inside : AreBelow steps wide = subst (AreBelow steps) (sym is) (below cell y 0 (chosen_row set bits cell y cell.width)) in
     let shows : Shows cell (suc (suc y)) cur (length cur) = subst (Shows cell (suc (suc y)) cur) (sym cur_long) shows in
     let puts : Puts t old (take wide (drop at states)) new ys steps =
-        subst (λ n. Puts t old (take wide (drop at states)) new ys (row_steps set cell y 0 (chosen_row set bits cell y n))) cur_long (written.puts cell y above shows) in
+    subst (λ n. Puts t old (take wide (drop at states)) new ys (row_steps set cell y 0 (chosen_row set bits cell y n))) cur_long (written.puts cell y above shows) in
     part_puts t old new states ys at wide steps laws fits (long ∙ window_long states at wide fits) inside puts
-

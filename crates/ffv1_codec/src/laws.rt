@@ -17,12 +17,10 @@ ghost use Rattle.ffv1_codec.specs.Frame.{IsSaid, CodesPicture, HasLongSlice, sli
 ghost use Rattle.ffv1_codec.specs.Frame.{frame_of};
 
 use ffv1_line::laws::{chosen, lengths};
-use ffv1_range::laws::lengths as step_lengths;
-use ffv1_range::laws::{named_states, sentinel_ending};
+use ffv1_range::laws::{lengths as step_lengths, named_states, sentinel_ending};
 use ffv1_rct::laws::{lists, small};
 use ffv1_record::laws::accepted;
-use ffv1_slice::laws::lengths as head_lengths;
-use ffv1_slice::laws::{divided, footing, joined, parts, tiling};
+use ffv1_slice::laws::{divided, footing, joined, lengths as head_lengths, parts, tiling};
 
 /// The coded samples of a picture have 8 bits, and 9 in RCT.
 pub fn coded_samples()

@@ -8,8 +8,8 @@ ghost use Rattle.ffv1_codec.specs.SliceList.{chosen_head};
 ghost use Rattle.ffv1_codec.specs.Behind.{IsLine};
 
 use crate::info::Info;
-use crate::picture::Picture;
 use crate::laws::chosen_slices;
+use crate::picture::Picture;
 use ffv1_record::laws::accepted;
 use ffv1_record::{Checked, Sets};
 use ffv1_slice::laws::{divided, parts, tiling};

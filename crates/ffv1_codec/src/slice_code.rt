@@ -18,8 +18,9 @@ use crate::rows::PlaneRows;
 use crate::slice::Slice;
 use crate::slice_encoder::put_body;
 use ffv1_range::RangeEncoder;
-use ffv1_range::laws::{counted_from_nothing, counted_in_parts, kept_states, named_states};
-use ffv1_range::laws::{slots, two_parts};
+use ffv1_range::laws::{
+    counted_from_nothing, counted_in_parts, kept_states, named_states, slots, two_parts,
+};
 use ffv1_record::Checked;
 use ffv1_slice::{put_head, put_key};
 use std::alloc::{AllocError, Allocator};

@@ -63,4 +63,3 @@ returns-else-config g c =
       };
       fourth = λ is. absurd (neither _ (ap (λ (k : Configuration). k.extra_plane) c.config.ensures.value ∙ c.if-config.false) is);
     }
-

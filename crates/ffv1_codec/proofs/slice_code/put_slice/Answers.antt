@@ -22,8 +22,8 @@ overflow_sub-result g c =
     let last : Behind a.table (begin ++ body) c.put_body.new.encoder c.put_body.new.states = c.in_ok-put_body.ensures.ok.behind begin first in
     let few : row_decisions (slice_residuals conf slice.picture.now slice.info n) < 2 ^ 40 = c.slice_lengths.ensures.few a slice.picture.now slice.info n c.table-table.ensures.accepted slice.inside in
     let between : (c.decisions-before.result ≤ c.decisions.result) × (c.decisions.result - c.decisions-before.result ≡ row_decisions (slice_residuals conf slice.picture.now slice.info n)) =
-        counted_between c.decisions-before.result c.decisions.result _ begin body (c.decisions-before.ensures ∙ (c.counted_from_nothing.ensures begin _ first.counts).2) (c.decisions.ensures ∙ (c.counted_from_nothing.ensures (begin ++ body) _ last.counts).2)
-        (c.slice_lengths.ensures.body a slice.picture.now slice.info n) (begin_few conf _ (c.slice_lengths.ensures.beginning a slice.info n c.table-table.ensures.accepted c.structure-structure.ensures.said slice.inside)) few in
+    counted_between c.decisions-before.result c.decisions.result _ begin body (c.decisions-before.ensures ∙ (c.counted_from_nothing.ensures begin _ first.counts).2) (c.decisions.ensures ∙ (c.counted_from_nothing.ensures (begin ++ body) _ last.counts).2)
+    (c.slice_lengths.ensures.body a slice.picture.now slice.info n) (begin_few conf _ (c.slice_lengths.ensures.beginning a slice.info n c.table-table.ensures.accepted c.structure-structure.ensures.said slice.inside)) few in
     between.0
 
 pub returns-clause-ok : goal.returns-clause-ok
@@ -51,8 +51,8 @@ returns-clause-decisions g c =
     let last : Behind a.table (begin ++ body) c.put_body.new.encoder c.put_body.new.states = c.in_ok-put_body.ensures.ok.behind begin first in
     let few : row_decisions (slice_residuals conf slice.picture.now slice.info n) < 2 ^ 40 = c.slice_lengths.ensures.few a slice.picture.now slice.info n c.table-table.ensures.accepted slice.inside in
     let between : (c.decisions-before.result ≤ c.decisions.result) × (c.decisions.result - c.decisions-before.result ≡ row_decisions (slice_residuals conf slice.picture.now slice.info n)) =
-        counted_between c.decisions-before.result c.decisions.result _ begin body (c.decisions-before.ensures ∙ (c.counted_from_nothing.ensures begin _ first.counts).2) (c.decisions.ensures ∙ (c.counted_from_nothing.ensures (begin ++ body) _ last.counts).2)
-        (c.slice_lengths.ensures.body a slice.picture.now slice.info n) (begin_few conf _ (c.slice_lengths.ensures.beginning a slice.info n c.table-table.ensures.accepted c.structure-structure.ensures.said slice.inside)) few in
+    counted_between c.decisions-before.result c.decisions.result _ begin body (c.decisions-before.ensures ∙ (c.counted_from_nothing.ensures begin _ first.counts).2) (c.decisions.ensures ∙ (c.counted_from_nothing.ensures (begin ++ body) _ last.counts).2)
+    (c.slice_lengths.ensures.body a slice.picture.now slice.info n) (begin_few conf _ (c.slice_lengths.ensures.beginning a slice.info n c.table-table.ensures.accepted c.structure-structure.ensures.said slice.inside)) few in
     between.1
 
 pub returns-clause-few : goal.returns-clause-few
@@ -68,6 +68,6 @@ returns-clause-few g c =
     let last : Behind a.table (begin ++ body) c.put_body.new.encoder c.put_body.new.states = c.in_ok-put_body.ensures.ok.behind begin first in
     let few : row_decisions (slice_residuals conf slice.picture.now slice.info n) < 2 ^ 40 = c.slice_lengths.ensures.few a slice.picture.now slice.info n c.table-table.ensures.accepted slice.inside in
     let between : (c.decisions-before.result ≤ c.decisions.result) × (c.decisions.result - c.decisions-before.result ≡ row_decisions (slice_residuals conf slice.picture.now slice.info n)) =
-        counted_between c.decisions-before.result c.decisions.result _ begin body (c.decisions-before.ensures ∙ (c.counted_from_nothing.ensures begin _ first.counts).2) (c.decisions.ensures ∙ (c.counted_from_nothing.ensures (begin ++ body) _ last.counts).2)
-        (c.slice_lengths.ensures.body a slice.picture.now slice.info n) (begin_few conf _ (c.slice_lengths.ensures.beginning a slice.info n c.table-table.ensures.accepted c.structure-structure.ensures.said slice.inside)) few in
+    counted_between c.decisions-before.result c.decisions.result _ begin body (c.decisions-before.ensures ∙ (c.counted_from_nothing.ensures begin _ first.counts).2) (c.decisions.ensures ∙ (c.counted_from_nothing.ensures (begin ++ body) _ last.counts).2)
+    (c.slice_lengths.ensures.body a slice.picture.now slice.info n) (begin_few conf _ (c.slice_lengths.ensures.beginning a slice.info n c.table-table.ensures.accepted c.structure-structure.ensures.said slice.inside)) few in
     subst (λ d. d < 2 ^ 40) (sym between.1) few

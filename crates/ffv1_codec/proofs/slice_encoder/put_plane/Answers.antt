@@ -32,4 +32,4 @@ returns-clause-ok g c =
     let conf = slice.checked.now.configuration in
     let all : c.loop-y.y ≡ cell_height conf slice.number c.args.plane = omega (arith, c.cell-cell.ensures.height) in
     subst (λ y. PutsBehind slice.checked.now.table c.args.encoder.now c.args.states.now c.loop-y.encoder c.loop-y.states
-        (chosen_body conf (chosen_head conf slice.info) (cell_in conf slice.picture.now slice.number) (lines_of_plane y c.args.plane))) all c.loop-y.invariant.puts
+    (chosen_body conf (chosen_head conf slice.info) (cell_in conf slice.picture.now slice.number) (lines_of_plane y c.args.plane))) all c.loop-y.invariant.puts
