@@ -1,11 +1,12 @@
 -- Lines of cells in their planes.
-use Rattle.std.proofs.Common.{◌≡◌, refl, ℕ, zero, suc, ◌+◌, ◌-◌, ◌*◌, ◌/◌, ◌%◌, ◌<◌, ◌≤◌, List, [], ◌∷◌, length, get_or, take, drop, map, sym, ◌∙◌, ap, arith, subst, length-drop}
+use Rattle.std.proofs.Common.{◌≡◌, refl, ℕ, zero, suc, ◌+◌, ◌-◌, ◌*◌, ◌/◌, ◌%◌, ◌<◌, ◌≤◌, List, [], ◌∷◌, length, get_or, take, drop, map, sym, ◌∙◌, ap, arith, subst, length-drop, inl, inr}
+use Rattle.std.proofs.lemmas.Bool.{cases_lt}
 use Rattle.std.proofs.Math.Nat.{mul-le-mul_left, mod-lt, div-lt_iff_lt-mul}
 use Rattle.std.proofs.lemmas.List.{length-take-le, get_or-take, get_or-drop, length-map}
 use Rattle.std.specs.declared.vec.Vec.{Vec}
 use Rattle.ffv1_record.specs.Configuration.{Configuration}
 use Rattle.ffv1_slice.specs.Grid.{Side, IsDivided, Division, IsDivision, slices_in, begin_of, length_of, whole_of, Lies, division_of, across, down}
-use Rattle.ffv1_codec.specs.Picture.{Planes, planes_of, plane, AreOf, sample_at, cell_in, plane_width}
+use Rattle.ffv1_codec.specs.Picture.{Planes, planes_of, plane, AreOf, AreSamples, sample_at, cell_in, plane_width}
 use Rattle.ffv1_codec.specs.Behind.{IsLine}
 
 -- a part ends inside its side
@@ -105,3 +106,15 @@ lent planes vs p v d samples is are inside v_is samples_is =
     let count : length vs ≡ length (planes_of vs) = sym (length-map _ _) in
     let inside : p < length vs = omega (arith, inside, count, ap length is, are.count) in
     samples_is ∙ sym (plane_of vs p v inside v_is) ∙ ap (λ ps. plane ps p) (sym is)
+
+-- behind the last plane there is none
+pub no_plane : {A : Type 0} (vs : List (Vec ℕ A)) (p i : ℕ) → length vs ≤ p → get_or (plane (planes_of vs) p) i 0 < 256
+no_plane [] p i past = omega arith
+no_plane (v ∷ vs) zero i past = absurd (omega (arith, past))
+no_plane (v ∷ vs) (suc p) i past = no_plane vs p i (omega (arith, past))
+
+pub all_planes : {A : Type 0} (vs : List (Vec ℕ A)) (count : ℕ) → length vs ≡ count → ((p i : ℕ) → p < count → get_or (plane (planes_of vs) p) i 0 < 256) → AreSamples (planes_of vs)
+all_planes vs count long below = λ p i. elim (cases_lt p count) [
+  | inl inside ↦ below p i inside
+  | inr past ↦ no_plane vs p i (omega (arith, past, long))
+]

@@ -49,10 +49,14 @@ pub record AreOf (d : Division) (planes : Planes) : Type 0 where
 abbrev pub Fits : Configuration → Planes → Type 0
 Fits c planes = AreOf (division_of c) planes
 
--- the same, each sample a byte
+-- each sample is a byte
+abbrev pub AreSamples : Planes → Type 0
+AreSamples planes = (p i : ℕ) → slice_index (plane planes p) i < 256
+
+-- the planes of a configuration, each sample a byte
 pub record IsPicture (c : Configuration) (planes : Planes) : Type 0 where
   pub fits : Fits c planes
-  pub bytes : (p i : ℕ) → slice_index (plane planes p) i < 256
+  pub bytes : AreSamples planes
 
 -- the sample of a plane in column x and line y
 abbrev pub sample_at : Configuration → Planes → ℕ → ℕ → ℕ → ℕ

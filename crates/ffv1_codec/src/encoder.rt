@@ -6,7 +6,7 @@ ghost use Rattle.ffv1_line.specs.Length.{row_decisions};
 ghost use Rattle.ffv1_slice.specs.Footer.{footer_of, foot_length};
 ghost use Rattle.ffv1_codec.specs.declared.fault.EncodeFault.TheVariants as fault;
 ghost use Rattle.ffv1_codec.specs.Picture.{Fits};
-ghost use Rattle.ffv1_codec.specs.Frame.{slice_bytes, frame_of, HasLongSlice};
+ghost use Rattle.ffv1_codec.specs.Frame.{slice_bytes, frame_of, CodesPicture, HasLongSlice};
 ghost use Rattle.ffv1_codec.specs.Length.{slice_residuals, slice_renormalisations, frame_counts};
 ghost use Rattle.ffv1_codec.specs.Length.{slice_counts, frame_most, uncounted};
 ghost use Rattle.ffv1_codec.specs.Behind.{sealed_slice};
@@ -14,7 +14,7 @@ ghost use Rattle.ffv1_codec.specs.Behind.{sealed_slice};
 use crate::counts::FrameCounts;
 use crate::fault::EncodeFault;
 use crate::info::Info;
-use crate::laws::frame_lengths;
+use crate::laws::{encoded_frame, frame_lengths};
 use crate::picture::Picture;
 use crate::slice::Slice;
 use crate::slice_code::{Scratch, code_slice};
@@ -178,6 +178,8 @@ impl<A: Allocator + Copy> FrameEncoder<A> {
         ensures configuration { self.new.accepted ≡ self.old.accepted }
         ensures ok { IfOk result (λ bytes.
             bytes.items ≡ frame_of self.old.accepted picture.now info) }
+        ensures codes { IfOk result (λ bytes.
+            CodesPicture self.old.accepted bytes.items picture.now info) }
         ensures few { OnOk result (HasLongSlice self.old.accepted picture.now info → ⊥) }
         ensures refused { IfErr result (λ f. (f ≡ fault.OutOfMemory)
             ⊎ ((f ≡ fault.SliceTooLong) × HasLongSlice self.old.accepted picture.now info)) }
@@ -191,7 +193,9 @@ impl<A: Allocator + Copy> FrameEncoder<A> {
         ensures most { IfOk result (λ bytes. length bytes.items ≤
             frame_most self.old.accepted.configuration picture.now info) }
     {
+        encoded_frame();
         frame_lengths();
+        let _planes = picture.planes();
         let _table = self.checked.table();
         let _structure = info.structure();
         let mut frame = Vec::new(self.alloc);
