@@ -1,12 +1,11 @@
 -- The key and the head of a slice, put by fresh states.
-use Rattle.std.proofs.Common.{◌≡◌, refl, ℕ, zero, suc, ◌+◌, ◌<◌, ◌≤◌, true, List, [], ◌∷◌, ◌++◌, length, replicate, sym, ◌∙◌, ap, arith, subst, inl, inr}
-use Rattle.ffv1_range.specs.Interval.{interval_of}
+use Rattle.std.proofs.Common.{◌≡◌, ℕ, zero, suc, ◌+◌, ◌<◌, List, [], ◌∷◌, ◌++◌, length, replicate, ap, arith, subst, inl}
 use Rattle.ffv1_range.specs.Table.{Table}
 use Rattle.ffv1_range.specs.Writing.{Writing, unwritten}
 use Rattle.ffv1_range.specs.Symbols.{Step, shifted, unsigned_steps}
 use Rattle.ffv1_range.specs.History.{AreBelow, AreOutside, HasStates}
-use Rattle.ffv1_range.specs.Counts.{Counts, Counted, uncounted}
-use Rattle.ffv1_slice.specs.Head.{key_steps, values_steps, head_values, head_steps}
+use Rattle.ffv1_range.specs.Counts.{Counts, Counted}
+use Rattle.ffv1_slice.specs.Head.{key_steps, values_steps}
 use Rattle.ffv1_slice.specs.Coding.{PutsAt}
 use Rattle.ffv1_codec.specs.Behind.{Behind}
 

@@ -1,14 +1,12 @@
 -- How many decisions and bytes slices take.
-use Rattle.std.proofs.Common.{◌≡◌, refl, ℕ, zero, suc, ◌+◌, ◌-◌, ◌*◌, ◌/◌, ◌%◌, ◌^◌, ◌<◌, ◌≤◌, min, Bool, true, false, if◌then◌else◌, nat_lt, List, [], ◌∷◌, ◌++◌, length, map, sym, ◌∙◌, ap, arith, subst, length-append, inl, inr}
+use Rattle.std.proofs.Common.{◌≡◌, refl, ℕ, zero, suc, ◌+◌, ◌-◌, ◌*◌, ◌/◌, ◌%◌, ◌^◌, ◌<◌, ◌≤◌, Bool, true, false, if◌then◌else◌, nat_lt, List, [], ◌∷◌, ◌++◌, length, map, ◌∙◌, ap, arith, length-append}
 use Rattle.std.specs.Prelude.{ℤ, unsigned_abs}
 use Rattle.std.specs.List.{flat_map, range_with_len}
-use Rattle.std.proofs.lemmas.Bool.{cases_lt}
 use Rattle.std.proofs.lemmas.List.FromFn.{length-map-range_with_len, length-range_with_len}
 use Rattle.std.proofs.Math.Nat.{mul-le-mul_left}
 use Rattle.ffv1_range.specs.Interval.{Interval, Decision, narrow, narrowed, interval_of, start, renormalised, part}
 use Rattle.ffv1_range.specs.Symbols.{Step, shifted}
 use Rattle.ffv1_range.specs.History.{decisions_after}
-use Rattle.ffv1_range.specs.Counts.{saturated}
 use Rattle.ffv1_range.specs.Table.{Table}
 use Rattle.ffv1_range.specs.Codes.{digits, raised, sentinel_of}
 use Rattle.ffv1_slice.specs.Footer.{foot_length, footer_of}
@@ -23,7 +21,7 @@ use Rattle.ffv1_line.specs.Length.{decisions_of, row_decisions, AreSmall, AreSma
 use Rattle.ffv1_record.specs.Configuration.{Configuration, is_rct}
 use Rattle.ffv1_slice.specs.declared.head.SliceHead.{SliceHead}
 use Rattle.ffv1_slice.specs.Head.{key_steps}
-use Rattle.ffv1_slice.specs.Grid.{Side, IsDivided, Division, IsDivision, factor_of, reduced, planes_in, slices_in, across, down, begin_of, length_of, whole_of, division_of}
+use Rattle.ffv1_slice.specs.Grid.{Division, IsDivision, factor_of, reduced, planes_in, slices_in, across, down, length_of, division_of}
 use Rattle.ffv1_codec.specs.Picture.{Planes, plane_count, cell_in, cell_height}
 use Rattle.ffv1_codec.specs.SliceList.{Line, base_of, bits_of, set_in, lines_of_plane, planes_of_line, lines_in, chosen_line, chosen_body}
 use Rattle.ffv1_codec.specs.Length.{line_residuals, body_residuals}

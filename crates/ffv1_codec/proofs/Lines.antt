@@ -1,12 +1,12 @@
 -- Lines of cells in their planes.
-use Rattle.std.proofs.Common.{◌≡◌, refl, ℕ, zero, suc, ◌+◌, ◌-◌, ◌*◌, ◌/◌, ◌%◌, ◌<◌, ◌≤◌, List, [], ◌∷◌, length, get_or, take, drop, map, sym, ◌∙◌, ap, arith, subst, length-drop, inl, inr}
+use Rattle.std.proofs.Common.{◌≡◌, ℕ, zero, suc, ◌+◌, ◌-◌, ◌*◌, ◌/◌, ◌%◌, ◌<◌, ◌≤◌, List, [], ◌∷◌, length, get_or, take, drop, sym, ◌∙◌, ap, arith, subst, length-drop, inl, inr}
 use Rattle.std.proofs.lemmas.Bool.{cases_lt}
 use Rattle.std.proofs.Math.Nat.{mul-le-mul_left, mod-lt, div-lt_iff_lt-mul}
 use Rattle.std.proofs.lemmas.List.{length-take-le, get_or-take, get_or-drop, length-map}
 use Rattle.std.specs.declared.vec.Vec.{Vec}
 use Rattle.ffv1_record.specs.Configuration.{Configuration}
 use Rattle.ffv1_slice.specs.Grid.{Side, IsDivided, Division, IsDivision, slices_in, begin_of, length_of, whole_of, Lies, division_of, across, down}
-use Rattle.ffv1_codec.specs.Picture.{Planes, planes_of, plane, AreOf, AreSamples, sample_at, cell_in, plane_width}
+use Rattle.ffv1_codec.specs.Picture.{Planes, planes_of, plane, AreOf, AreSamples}
 use Rattle.ffv1_codec.specs.Behind.{IsLine}
 
 -- a part ends inside its side

@@ -1,14 +1,13 @@
 -- Rows that were filled show the rows of their cells.
-use Rattle.std.proofs.Common.{◌≡◌, refl, ℕ, zero, suc, ◌+◌, ◌-◌, ◌*◌, ◌/◌, ◌%◌, ◌<◌, ◌≤◌, min, Bool, true, false, if◌then◌else◌, List, [], ◌∷◌, length, get_or, unsigned_abs, sym, ◌∙◌, ap, arith, subst}
-use Rattle.std.specs.Prelude.{ℤ, pos}
+use Rattle.std.proofs.Common.{◌≡◌, refl, ℕ, zero, suc, ◌+◌, ◌-◌, ◌/◌, ◌%◌, ◌<◌, min, true, if◌then◌else◌, List, length, get_or, unsigned_abs, sym, ◌∙◌, ap, arith}
 use Rattle.ffv1_line.specs.Cell.{Cell, Shows, seen}
-use Rattle.ffv1_rct.specs.Transform.{luma_of, chroma_of, IsCoded}
+use Rattle.ffv1_rct.specs.Transform.{luma_of, chroma_of}
 use Rattle.ffv1_rct.specs.Lines.{AreCoded}
 use Rattle.ffv1_record.specs.Configuration.{Configuration, is_rct}
 use Rattle.ffv1_record.specs.declared.config.Colour.{Colour}
 use Rattle.ffv1_record.specs.declared.config.Colour.TheVariants as colour
-use Rattle.ffv1_slice.specs.Grid.{Side, begin_of, length_of, division_of, across, down}
-use Rattle.ffv1_codec.specs.Picture.{Planes, plane, sample_at, coded_at, transformed_at, cell_in}
+use Rattle.ffv1_slice.specs.Grid.{begin_of, length_of, division_of, across, down}
+use Rattle.ffv1_codec.specs.Picture.{Planes, sample_at, coded_at, transformed_at, cell_in}
 use Rattle.ffv1_codec.specs.Behind.{IsLine}
 
 -- inside a cell the sample that is seen is the cell's

@@ -1,21 +1,20 @@
 -- A call on the states of one class, seen by all states of a slice.
-use Rattle.std.proofs.Common.{◌≡◌, refl, ℕ, zero, suc, ◌+◌, ◌-◌, ◌*◌, ◌<◌, ◌≤◌, min, max, Bool, true, false, List, [], ◌∷◌, ◌++◌, length, get_or, take, drop, replicate, sym, ◌∙◌, ap, arith, subst, length-drop, length-append, inl, inr, slice_get, Option, Some, None}
-use Rattle.std.proofs.Math.Nat.{mul-le-mul_left}
+use Rattle.std.proofs.Common.{◌≡◌, ℕ, suc, ◌+◌, ◌-◌, ◌*◌, ◌<◌, ◌≤◌, List, [], ◌++◌, length, get_or, take, drop, sym, ◌∙◌, ap, arith, subst, length-drop, length-append, inl, inr}
 use Rattle.std.proofs.lemmas.Bool.{cases_lt}
-use Rattle.std.proofs.lemmas.List.{length-take-le, get_or-take, get_or-drop, get_or_append_left, get_or-append-add, get_or-append_right}
+use Rattle.std.proofs.lemmas.List.{length-take-le, get_or-take, get_or-drop, get_or_append_left, get_or-append-add}
 use Rattle.ffv1_range.specs.Interval.{Interval, Decision, narrowed, interval_of, start}
 use Rattle.ffv1_range.specs.Table.{Table, Holds}
 use Rattle.ffv1_range.specs.Symbols.{Step, shifted, decided, moved_by, AllHeld}
 use Rattle.ffv1_range.specs.History.{decisions_after, AreBelow, HasStates}
 use Rattle.ffv1_range.specs.Writing.{Writing}
-use Rattle.ffv1_range.specs.Counts.{Counts, Counted, uncounted}
+use Rattle.ffv1_range.specs.Counts.{Counts, Counted}
 use Rattle.ffv1_range.specs.Puts.{Puts}
 use Rattle.std.specs.Prelude.{ℤ}
 use Rattle.ffv1_plane.specs.Quantisation.{Set, contexts_of}
 use Rattle.ffv1_line.specs.Cell.{Cell, Above, Shows}
 use Rattle.ffv1_line.specs.Row.{row_steps, chosen_row}
 use Rattle.ffv1_line.specs.Encoded.{Written}
-use Rattle.ffv1_codec.specs.Behind.{Behind, PutsBehind}
+use Rattle.ffv1_codec.specs.Behind.{PutsBehind}
 
 -- the laws of states that are kept
 pub record Kept : Type 0 where

@@ -1,5 +1,6 @@
 -- Where an encoder of a slice stands, and what its rows hold.
-use Rattle.std.specs.Prelude.{◌≡◌, ℕ, ◌+◌, ◌*◌, ◌/◌, ◌%◌, ◌<◌, Bool, true, false, List, [], ◌∷◌, ◌++◌, length, slice_index}
+use Rattle.std.specs.Prelude.{◌≡◌, ℕ, ◌+◌, ◌*◌, ◌/◌, ◌%◌, ◌<◌, Bool, true, false, List, []}
+use Rattle.std.specs.Prelude.{◌∷◌, ◌++◌, length, slice_index}
 use Rattle.std.proofs.Common.{suc}
 use Rattle.std.specs.declared.vec.Vec.{Vec}
 use Rattle.ffv1_range.specs.Interval.{interval_of}

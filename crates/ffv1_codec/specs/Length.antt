@@ -1,6 +1,6 @@
 -- The residuals that an encoder takes of a picture, how many bytes its frame has at most, and what
 -- is counted (RFC 9043, 3.8.1.2 and 4.4 to 4.9).
-use Rattle.std.specs.Prelude.{ℕ, ℤ, ◌+◌, ◌-◌, ◌*◌, nat_lt, Bool, true, false, if◌then◌else◌}
+use Rattle.std.specs.Prelude.{ℕ, ℤ, ◌+◌, ◌-◌, ◌*◌, nat_lt, false, if◌then◌else◌}
 use Rattle.std.specs.Prelude.{List, [], map, sum}
 use Rattle.std.specs.List.{flat_map, range_with_len}
 use Rattle.ffv1_range.specs.Interval.{narrow, interval_of}

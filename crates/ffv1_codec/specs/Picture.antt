@@ -1,7 +1,7 @@
 -- Pictures of a configuration, their coded samples, and the cells of their slices (RFC 9043, 3.2,
 -- 3.7, 4.7 and 4.8). Plane 0 is Y or red, 1 Cb or green, 2 Cr or blue, 3 transparency; of the coded
 -- planes of RCT 0 is Y, 1 Cb, 2 Cr.
-use Rattle.std.specs.Prelude.{◌≡◌, ℕ, ◌+◌, ◌*◌, ◌/◌, ◌%◌, ◌<◌, Bool, true, false, List, length}
+use Rattle.std.specs.Prelude.{◌≡◌, ℕ, ◌+◌, ◌*◌, ◌/◌, ◌%◌, ◌<◌, List, length}
 use Rattle.std.specs.Prelude.{slice_index, slice_get, if◌then◌else◌, unsigned_abs, Option, Some}
 use Rattle.std.specs.Prelude.{None}
 use Rattle.std.specs.Prelude.{map, []}

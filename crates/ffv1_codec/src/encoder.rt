@@ -1,13 +1,13 @@
 //! Pictures are encoded.
 
-ghost use Rattle.std.specs.Prelude.{◌≡◌, ◌⊎◌, ◌+◌, ◌*◌, ◌^◌, ◌<◌, ◌≤◌, ◌++◌, IfOk, IfErr, OnOk, OnErr};
+ghost use Rattle.std.specs.Prelude.{◌≡◌, ◌⊎◌, ◌+◌, ◌*◌, ◌^◌, ◌<◌, ◌≤◌, ◌++◌, IfOk, IfErr, OnOk};
+ghost use Rattle.std.specs.Prelude.{OnErr};
 ghost use Rattle.std.specs.Prelude.{[], length};
-ghost use Rattle.ffv1_line.specs.Length.{row_decisions};
 ghost use Rattle.ffv1_slice.specs.Footer.{footer_of, foot_length};
 ghost use Rattle.ffv1_codec.specs.declared.fault.EncodeFault.TheVariants as fault;
 ghost use Rattle.ffv1_codec.specs.Picture.{Fits};
 ghost use Rattle.ffv1_codec.specs.Frame.{slice_bytes, frame_of, CodesPicture, HasLongSlice};
-ghost use Rattle.ffv1_codec.specs.Length.{slice_residuals, slice_renormalisations, frame_counts};
+ghost use Rattle.ffv1_codec.specs.Length.{frame_counts};
 ghost use Rattle.ffv1_codec.specs.Length.{slice_counts, frame_most, uncounted};
 ghost use Rattle.ffv1_codec.specs.Behind.{sealed_slice};
 
@@ -166,9 +166,9 @@ impl<A: Allocator + Copy> FrameEncoder<A> {
     /// raster order, by the sentinel ending of its decisions, and its footer. Class 0 uses set 0,
     /// class k set k, or the last one.
     ///
-    /// Answers `SliceTooLong` only where a slice has more than 16777215 coded bytes, and there never
-    /// `Ok`; else `OutOfMemory`, where memory was refused. Either leaves the counts. Whatever was
-    /// answered, the next frame is as a new encoder's.
+    /// Answers `SliceTooLong` only where a slice has more than 16777215 coded bytes, and there
+    /// never `Ok`; else `OutOfMemory`, where memory was refused: each frame takes some. Either
+    /// leaves the counts. Whatever was answered, the next frame is as a new encoder's.
     pub fn encode<B: Allocator>(
         &mut self,
         picture: &Picture<B>,

@@ -7,7 +7,7 @@ ghost use Rattle.ffv1_record.specs.declared.config.Colour.TheVariants as colour;
 ghost use Rattle.ffv1_record.specs.Accepted.{Accepted, IsAccepted};
 ghost use Rattle.ffv1_slice.specs.Head.{IsHead, key_steps, head_steps};
 ghost use Rattle.ffv1_codec.specs.Picture.{Planes, IsPicture, coded_at, cell_in};
-ghost use Rattle.ffv1_codec.specs.SliceList.{Said, IsBody, Line, bits_of, lines_in};
+ghost use Rattle.ffv1_codec.specs.SliceList.{Said, IsBody, bits_of, lines_in};
 ghost use Rattle.ffv1_codec.specs.SliceList.{chosen_head, chosen_body};
 ghost use Rattle.ffv1_codec.specs.Length.{slice_residuals, slice_most, slice_renormalisations};
 ghost use Rattle.ffv1_codec.specs.Length.{frame_counts, frame_most};

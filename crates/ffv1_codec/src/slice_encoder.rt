@@ -1,18 +1,16 @@
 //! The decisions of a slice are put.
 
-ghost use Rattle.std.specs.Prelude.{◌≡◌, ◌⊎◌, ◌+◌, ◌-◌, ◌*◌, ◌<◌, ◌≤◌, ℕ, min, IfOk, IfErr, OnOk, length, replicate, true, false};
-ghost use Rattle.std.specs.List.{flat_map, range_with_len};
+ghost use Rattle.std.specs.Prelude.{◌≡◌, ◌⊎◌, ◌+◌, ◌*◌, ◌<◌, ◌≤◌, ℕ, IfErr, OnOk, length, true};
+ghost use Rattle.std.specs.Prelude.{false};
 ghost use Rattle.ffv1_range.specs.Symbols.{AllHeld, shifted};
 ghost use Rattle.ffv1_plane.specs.Quantisation.{contexts_of};
 ghost use Rattle.ffv1_line.specs.Row.{row_steps, chosen_row};
-ghost use Rattle.ffv1_range.specs.Interval.{narrow, interval_of};
-ghost use Rattle.ffv1_range.specs.History.{decisions_after};
 ghost use Rattle.ffv1_line.specs.Cell.{Cell};
 ghost use Rattle.ffv1_record.specs.Configuration.{is_rct};
 ghost use Rattle.ffv1_codec.specs.declared.fault.EncodeFault.TheVariants as fault;
 ghost use Rattle.ffv1_codec.specs.Picture.{plane_count, cell_in, cell_height};
 ghost use Rattle.ffv1_codec.specs.SliceList.{class_of, bits_of, chosen_line, chosen_body};
-ghost use Rattle.ffv1_codec.specs.SliceList.{chosen_head, chosen_index};
+ghost use Rattle.ffv1_codec.specs.SliceList.{chosen_head};
 ghost use Rattle.ffv1_codec.specs.SliceList.{lines_of_plane, planes_of_line, lines_in};
 ghost use Rattle.ffv1_codec.specs.Behind.{PutsBehind, Loaded, AllRolled, AllLoaded};
 ghost use Rattle.ffv1_codec.specs.Behind.{states_in, fourth_line};

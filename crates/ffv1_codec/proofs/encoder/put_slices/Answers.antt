@@ -1,14 +1,12 @@
-use Rattle.std.proofs.Common.{◌≡◌, refl, ℕ, ◌+◌, ◌*◌, ◌^◌, ◌<◌, ◌≤◌, ◌⊎◌, inl, inr, List, [], length, map, sym, ◌∙◌, ap, arith, subst}
-use Rattle.std.specs.Prelude.{sum}
+use Rattle.std.proofs.Common.{◌≡◌, refl, ℕ, ◌*◌, ◌<◌, ◌≤◌, map, ◌∙◌, ap, arith}
 use Rattle.std.proofs.lemmas.Result.{err_from_is_err_and}
-use Rattle.std.specs.List.{flat_map, range_with_len}
+use Rattle.std.specs.List.{range_with_len}
 use Rattle.ffv1_line.specs.Length.{row_decisions}
-use Rattle.ffv1_slice.specs.Grid.{Division, slices_in}
+use Rattle.ffv1_slice.specs.Grid.{slices_in}
 use Rattle.ffv1_slice.specs.Cutting.{joined_of}
 use Rattle.ffv1_codec.specs.declared.counts.FrameCounts.{FrameCounts}
-use Rattle.ffv1_codec.specs.declared.fault.EncodeFault.{EncodeFault}
 use Rattle.ffv1_codec.specs.declared.fault.EncodeFault.TheVariants as fault
-use Rattle.ffv1_codec.specs.Frame.{HasLongSlice, slice_bytes}
+use Rattle.ffv1_codec.specs.Frame.{slice_bytes}
 use Rattle.ffv1_codec.specs.Length.{slice_residuals, slice_renormalisations}
 use Rattle.ffv1_codec.proofs.Frames.{joined_next, sum_next, residuals_next, few_next, long_slice, no_long_slice, counts_are}
 use Rattle.ffv1_codec.proofs.encoder.put_slices.Goals as goal

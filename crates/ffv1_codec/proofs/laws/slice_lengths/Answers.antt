@@ -1,4 +1,4 @@
-use Rattle.std.proofs.Common.{◌≡◌, ℕ, ◌+◌, ◌<◌, ◌≤◌, List, [], ◌++◌, length, arith, length-append, Bool, true, false, if◌then◌else◌, nat_lt}
+use Rattle.std.proofs.Common.{[], ◌++◌, arith, length-append}
 use Rattle.ffv1_slice.specs.Head.{key_steps, head_steps}
 use Rattle.ffv1_codec.specs.Picture.{cell_in}
 use Rattle.ffv1_codec.specs.SliceList.{chosen_head, chosen_body, chosen_slice, lines_in}

@@ -1,4 +1,4 @@
-use Rattle.std.proofs.Common.{◌≡◌, ℕ, ◌+◌, ◌*◌, ◌<◌, List, length, get_or, true, sym, ◌∙◌, ap, arith, rules, subst}
+use Rattle.std.proofs.Common.{◌≡◌, ℕ, ◌*◌, ◌<◌, List, length, get_or, sym, ◌∙◌, ap, arith, rules, subst}
 use borrow.Author.Count.{below_more}
 use Rattle.ffv1_slice.specs.Grid.{across, down, whole_of}
 use Rattle.ffv1_codec.specs.Picture.{plane, planes_of}
@@ -12,7 +12,7 @@ loop-plane-preserved g c =
     let inside : p < length planes = omega (arith, c.if-planes.false, c.planes-plane-end.ensures, c.planes.ensures) in
     let here : plane (planes_of planes) p ≡ c.as_slice.result.now = plane_of planes p c.index-planes-plane.result inside c.index-planes-plane.is ∙ sym c.as_slice.ensures.value in
     let size : length (plane (planes_of planes) p) ≡ whole_of (across c.args.grid.now p) * whole_of (down c.args.grid.now p) =
-        ap length here ∙ c.if-not-has.ensures.yes (search rules) ∙ ap (λ w. w * c.height.result) c.width.ensures ∙ ap (λ h. whole_of (across c.args.grid.now p) * h) c.height.ensures in
+    ap length here ∙ c.if-not-has.ensures.yes (search rules) ∙ ap (λ w. w * c.height.result) c.width.ensures ∙ ap (λ h. whole_of (across c.args.grid.now p) * h) c.height.ensures in
     record {
       sizes = below_more (λ k. length (plane (planes_of planes) k) ≡ whole_of (across c.args.grid.now k) * whole_of (down c.args.grid.now k)) p c.loop-plane.invariant.sizes size;
       bytes = λ k i. below_more (λ j. get_or (plane (planes_of planes) j) i 0 < 256) p (λ j. c.loop-plane.invariant.bytes j i) (subst (λ (l : List ℕ). get_or l i 0 < 256) (sym here) (c.has.ensures.bytes i)) k;

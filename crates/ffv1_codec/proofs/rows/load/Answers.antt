@@ -1,4 +1,4 @@
-use Rattle.std.proofs.Common.{◌≡◌, ◌∙◌, ap, subst, sym, suc, length, List, ℕ}
+use Rattle.std.proofs.Common.{◌∙◌, ap, subst, sym, suc, length, List, ℕ}
 use Rattle.ffv1_line.specs.Cell.{Shows}
 use Rattle.ffv1_codec.specs.Picture.{cell_in}
 use Rattle.ffv1_codec.proofs.Shown.{plain_shows}

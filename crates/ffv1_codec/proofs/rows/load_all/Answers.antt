@@ -1,4 +1,4 @@
-use Rattle.std.proofs.Common.{◌≡◌, ◌∙◌, ap, sym, length, Bool, true, false}
+use Rattle.std.proofs.Common.{◌≡◌, ◌∙◌, ap, sym, Bool, true, false}
 use Rattle.ffv1_record.specs.Configuration.{Configuration}
 use Rattle.ffv1_codec.proofs.Shown.{Transformed, is_colour, same_width, luma_shows, blue_shows, red_shows}
 use Rattle.ffv1_codec.proofs.rows.load_all.Goals as goal

@@ -1,8 +1,8 @@
-use Rattle.std.proofs.Common.{◌≡◌, ℕ, ◌+◌, ◌-◌, ◌^◌, ◌<◌, ◌≤◌, ◌∙◌, ap, sym, subst, List, ◌++◌, replicate, length, append_assoc, arith}
+use Rattle.std.proofs.Common.{◌≡◌, ℕ, ◌-◌, ◌^◌, ◌<◌, ◌≤◌, ◌∙◌, sym, subst, List, ◌++◌, append_assoc}
 use Rattle.ffv1_range.specs.Symbols.{Step}
 use Rattle.ffv1_slice.specs.Head.{key_steps, head_steps}
 use Rattle.ffv1_codec.specs.Picture.{cell_in}
-use Rattle.ffv1_codec.specs.SliceList.{chosen_head, chosen_body, chosen_slice, lines_in}
+use Rattle.ffv1_codec.specs.SliceList.{chosen_head, chosen_body, lines_in}
 use Rattle.ffv1_codec.specs.Behind.{Behind, states_in}
 use Rattle.ffv1_line.specs.Length.{row_decisions}
 use Rattle.ffv1_codec.specs.Length.{slice_residuals}

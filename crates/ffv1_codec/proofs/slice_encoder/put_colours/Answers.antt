@@ -1,4 +1,4 @@
-use Rattle.std.proofs.Common.{◌≡◌, subst, sym}
+use Rattle.std.proofs.Common.{subst, sym}
 use Rattle.ffv1_codec.specs.Picture.{cell_in}
 use Rattle.ffv1_codec.specs.SliceList.{chosen_head, chosen_body}
 use Rattle.ffv1_codec.specs.Behind.{PutsBehind}

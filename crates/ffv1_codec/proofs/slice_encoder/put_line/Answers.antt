@@ -1,9 +1,5 @@
-use Rattle.std.proofs.Common.{◌≡◌, ℕ, ◌+◌, ◌*◌, ap, subst, List, ◌∙◌}
-use Rattle.ffv1_range.specs.Symbols.{Step, shifted}
-use Rattle.ffv1_plane.specs.Quantisation.{Set}
-use Rattle.ffv1_line.specs.Row.{row_steps, chosen_row}
+use Rattle.std.proofs.Common.{ap, subst}
 use Rattle.ffv1_record.specs.Configuration.{Configuration}
-use Rattle.ffv1_codec.specs.SliceList.{base_of, bits_of, chosen_line, chosen_head}
 use Rattle.ffv1_codec.specs.Behind.{PutsBehind}
 use Rattle.ffv1_codec.proofs.Classes.{Looked, looked_fits, looked_line}
 use Rattle.ffv1_codec.proofs.slice_encoder.put_line.Goals as goal

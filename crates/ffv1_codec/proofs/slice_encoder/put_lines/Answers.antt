@@ -1,4 +1,4 @@
-use Rattle.std.proofs.Common.{◌≡◌, ◌∙◌, ap, subst, arith}
+use Rattle.std.proofs.Common.{◌≡◌, subst, arith}
 use Rattle.std.specs.List.{flat_map, range_with_len}
 use Rattle.ffv1_codec.specs.Picture.{cell_in, cell_height, plane_count}
 use Rattle.ffv1_codec.specs.SliceList.{chosen_head, chosen_body, planes_of_line}

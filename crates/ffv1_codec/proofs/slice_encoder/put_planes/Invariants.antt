@@ -1,4 +1,3 @@
-use Rattle.std.proofs.Common.{◌≡◌, length}
 use Rattle.std.specs.List.{flat_map, range_with_len}
 use Rattle.ffv1_range.specs.Symbols.{AllHeld}
 use Rattle.ffv1_codec.specs.Picture.{cell_in, cell_height}
