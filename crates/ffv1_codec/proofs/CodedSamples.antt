@@ -1,6 +1,6 @@
 -- Coded samples have few bits.
-use Rattle.std.proofs.Common.{◌≡◌, refl, ℕ, zero, suc, ◌<◌, ◌≤◌, ◌^◌, Bool, true, false, if◌then◌else◌, List, [], ◌∷◌, length, get_or, unsigned_abs, arith, subst, sym}
-use Rattle.ffv1_rct.specs.Transform.{luma_of, chroma_of, IsCoded, IsColour}
+use Rattle.std.proofs.Common.{◌≡◌, refl, ℕ, zero, suc, ◌<◌, List, [], ◌∷◌, length, get_or, unsigned_abs, arith}
+use Rattle.ffv1_rct.specs.Transform.{luma_of, chroma_of, IsColour}
 use Rattle.ffv1_rct.specs.Lines.{AreCoded, lumas, chromas}
 
 -- the laws of one colour

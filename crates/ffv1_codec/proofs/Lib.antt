@@ -1,1 +1,10 @@
 pub mod CodedSamples
+pub mod Lines
+pub mod Shown
+pub mod Windows
+pub mod Classes
+pub mod Bodies
+pub mod Beginnings
+pub mod Lengths
+pub mod Counted
+pub mod Frames

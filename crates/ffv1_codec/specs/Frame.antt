@@ -1,5 +1,5 @@
 -- Which payloads code a picture, and which one an encoder writes (RFC 9043, 4.4 to 4.9).
-use Rattle.std.specs.Prelude.{◌≡◌, ℕ, ◌*◌, ◌<◌, ◌≤◌, List, [], map, length}
+use Rattle.std.specs.Prelude.{◌≡◌, ℕ, ◌*◌, ◌<◌, List, [], map, length}
 use Rattle.std.specs.List.{range_with_len}
 use Rattle.ffv1_range.specs.Interval.{interval_of}
 use Rattle.ffv1_range.specs.Codes.{sentinel_of}

@@ -1,4 +1,6 @@
 pub mod Picture
 pub mod SliceList
 pub mod Frame
+pub mod Length
+pub mod Behind
 pub mod Worked

@@ -1,7 +1,7 @@
 -- Pictures of a configuration, their coded samples, and the cells of their slices (RFC 9043, 3.2,
 -- 3.7, 4.7 and 4.8). Plane 0 is Y or red, 1 Cb or green, 2 Cr or blue, 3 transparency; of the coded
 -- planes of RCT 0 is Y, 1 Cb, 2 Cr.
-use Rattle.std.specs.Prelude.{◌≡◌, ℕ, ◌+◌, ◌*◌, ◌/◌, ◌%◌, ◌<◌, Bool, true, false, List, length}
+use Rattle.std.specs.Prelude.{◌≡◌, ℕ, ◌+◌, ◌*◌, ◌/◌, ◌%◌, ◌<◌, List, length}
 use Rattle.std.specs.Prelude.{slice_index, slice_get, if◌then◌else◌, unsigned_abs, Option, Some}
 use Rattle.std.specs.Prelude.{None}
 use Rattle.std.specs.Prelude.{map, []}
@@ -49,10 +49,14 @@ pub record AreOf (d : Division) (planes : Planes) : Type 0 where
 abbrev pub Fits : Configuration → Planes → Type 0
 Fits c planes = AreOf (division_of c) planes
 
--- the same, each sample a byte
+-- each sample is a byte
+abbrev pub AreSamples : Planes → Type 0
+AreSamples planes = (p i : ℕ) → slice_index (plane planes p) i < 256
+
+-- the planes of a configuration, each sample a byte
 pub record IsPicture (c : Configuration) (planes : Planes) : Type 0 where
   pub fits : Fits c planes
-  pub bytes : (p i : ℕ) → slice_index (plane planes p) i < 256
+  pub bytes : AreSamples planes
 
 -- the sample of a plane in column x and line y
 abbrev pub sample_at : Configuration → Planes → ℕ → ℕ → ℕ → ℕ

@@ -1,5 +1,5 @@
 -- Small configurations, whose frames are known from outside the program.
-use Rattle.std.specs.Prelude.{ℕ, Bool, true, List, [], ◌∷◌}
+use Rattle.std.specs.Prelude.{ℕ, Bool, true, [], ◌∷◌}
 use Rattle.ffv1_range.specs.Standard.{standard}
 use Rattle.ffv1_plane.specs.Quantisation.{small_set}
 use Rattle.ffv1_record.specs.declared.config.Colour.{Colour}

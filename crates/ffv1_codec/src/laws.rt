@@ -1,20 +1,26 @@
 //! Laws of the definitions, each the contract of a function that does nothing.
 
-ghost use Rattle.std.specs.Prelude.{◌≡◌, ℕ, ◌^◌, ◌<◌, true, false, [], ◌∷◌};
+ghost use Rattle.std.specs.Prelude.{◌≡◌, ℕ, ◌+◌, ◌*◌, ◌^◌, ◌<◌, ◌≤◌, true, false, [], ◌∷◌, ◌++◌};
+ghost use Rattle.std.specs.Prelude.{length};
+ghost use Rattle.ffv1_line.specs.Length.{row_decisions};
 ghost use Rattle.ffv1_record.specs.declared.config.Colour.TheVariants as colour;
 ghost use Rattle.ffv1_record.specs.Accepted.{Accepted, IsAccepted};
-ghost use Rattle.ffv1_slice.specs.Head.{IsHead};
+ghost use Rattle.ffv1_slice.specs.Head.{IsHead, key_steps, head_steps};
 ghost use Rattle.ffv1_codec.specs.Picture.{Planes, IsPicture, coded_at, cell_in};
-ghost use Rattle.ffv1_codec.specs.SliceList.{Said, IsBody, Line, bits_of, lines_in};
+ghost use Rattle.ffv1_codec.specs.SliceList.{Said, IsBody, bits_of, lines_in};
 ghost use Rattle.ffv1_codec.specs.SliceList.{chosen_head, chosen_body};
+ghost use Rattle.ffv1_codec.specs.Length.{slice_residuals, slice_most, slice_renormalisations};
+ghost use Rattle.ffv1_codec.specs.Length.{frame_counts, frame_most};
+ghost use Rattle.ffv1_slice.specs.Footer.{foot_length};
 ghost use Rattle.ffv1_codec.specs.Worked.{small_pictures, unknown};
-ghost use Rattle.ffv1_codec.specs.Frame.{IsSaid, CodesPicture, HasLongSlice, frame_of};
+ghost use Rattle.ffv1_codec.specs.Frame.{IsSaid, CodesPicture, HasLongSlice, slice_bytes};
+ghost use Rattle.ffv1_codec.specs.Frame.{frame_of};
 
-use ffv1_line::laws::chosen;
-use ffv1_range::laws::{named_states, sentinel_ending};
+use ffv1_line::laws::{chosen, lengths};
+use ffv1_range::laws::{lengths as step_lengths, named_states, sentinel_ending};
 use ffv1_rct::laws::{lists, small};
 use ffv1_record::laws::accepted;
-use ffv1_slice::laws::{divided, joined, parts, tiling};
+use ffv1_slice::laws::{divided, footing, joined, lengths as head_lengths, parts, tiling};
 
 /// The coded samples of a picture have 8 bits, and 9 in RCT.
 pub fn coded_samples()
@@ -85,3 +91,53 @@ pub fn worked_frames()
         ((255 ∷ []) ∷ (0 ∷ []) ∷ (0 ∷ []) ∷ []) unknown ≡
         254 ∷ 120 ∷ 223 ∷ 131 ∷ 217 ∷ 44 ∷ 0 ∷ 0 ∷ 6 ∷ [] }
 {}
+
+/// How many decisions the residuals of a slice take: 2 n + 1 for each of n binary digits, and how
+/// many bytes a slice has before its footer: one and its renormalisations, at most as many as its
+/// decisions and 101 more, with 6 for a third set index and 2 for each place that may be above 15.
+pub fn slice_lengths()
+    ensures body { (a : Accepted) (planes : Planes) (info : Said) (n : ℕ) →
+        length (chosen_body a.configuration (chosen_head a.configuration info)
+        (cell_in a.configuration planes n) (lines_in a.configuration n)) ≡
+        row_decisions (slice_residuals a.configuration planes info n) }
+    ensures few { (a : Accepted) (planes : Planes) (info : Said) (n : ℕ) →
+        IsAccepted a.configuration a.table → n < a.configuration.columns * a.configuration.rows →
+        row_decisions (slice_residuals a.configuration planes info n) < 2 ^ 40 }
+    ensures beginning { (a : Accepted) (info : Said) (n : ℕ) →
+        IsAccepted a.configuration a.table → IsSaid info →
+        n < a.configuration.columns * a.configuration.rows →
+        length (key_steps n ++ head_steps a.configuration n
+        (chosen_head a.configuration info)) + 10 ≤ slice_most a.configuration }
+    ensures coded { (a : Accepted) (planes : Planes) (info : Said) (n : ℕ) →
+        length (slice_bytes a planes info n) ≡ slice_renormalisations a planes info n + 1 }
+    ensures bytes { (a : Accepted) (planes : Planes) (info : Said) (n : ℕ) →
+        IsAccepted a.configuration a.table → IsSaid info →
+        n < a.configuration.columns * a.configuration.rows →
+        slice_renormalisations a planes info n + 9 ≤
+        row_decisions (slice_residuals a.configuration planes info n)
+        + slice_most a.configuration }
+{
+    chosen();
+    lengths();
+    step_lengths();
+    head_lengths();
+    chosen_slices();
+    divided();
+    tiling();
+    parts();
+}
+
+/// How many bytes a frame has: one and the footer's for each slice, and one for each
+/// renormalisation; at most 2 n + 1 for each residual of n binary digits, and 109 for each slice,
+/// with 6 for a third set index and 2 for each place that may be above 15.
+pub fn frame_lengths()
+    ensures long { (a : Accepted) (planes : Planes) (info : Said) →
+        length (frame_of a planes info) ≡ (frame_counts a planes info).renormalisations
+        + a.configuration.columns * a.configuration.rows * (1 + foot_length a.configuration.ec) }
+    ensures most { (a : Accepted) (planes : Planes) (info : Said) →
+        IsAccepted a.configuration a.table → IsSaid info →
+        length (frame_of a planes info) ≤ frame_most a.configuration planes info }
+{
+    slice_lengths();
+    footing();
+}

@@ -11,10 +11,20 @@
 //! ```
 #![tactic(auto)]
 
+pub mod counts;
+pub mod encoder;
+pub mod fault;
 pub mod info;
 pub mod laws;
 pub mod picture;
+mod rows;
+mod slice;
+mod slice_code;
+mod slice_encoder;
 
+pub use counts::FrameCounts;
+pub use encoder::FrameEncoder;
+pub use fault::EncodeFault;
 pub use info::Info;
 pub use picture::Picture;
 

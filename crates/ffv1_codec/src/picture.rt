@@ -1,7 +1,9 @@
 //! Pictures.
 
-ghost use Rattle.std.specs.Prelude.{◌≡◌, ◌↔◌, IfSome, IsNone, IsTrue, IsFalse};
+ghost use Rattle.std.specs.Prelude.{◌≡◌, ◌≢◌, ◌↔◌, ◌<◌, ℕ, IfSome, IsNone, IsTrue, IsFalse};
+ghost use Rattle.std.specs.Prelude.{length, slice_index};
 ghost use Rattle.ffv1_codec.specs.Picture.{Fits, AreOf, planes_of};
+ghost use Rattle.ffv1_codec.specs.Picture.{AreSamples};
 
 use ffv1_record::Checked;
 use ffv1_slice::Grid;
@@ -17,16 +19,28 @@ pub struct Picture<A: Allocator = Global> {
 }
 
 impl<A: Allocator> Model for Picture<A> {
-    ghost use Rattle.ffv1_codec.specs.Picture.{Planes, planes_of};
+    ghost use Rattle.ffv1_codec.specs.Picture.{Planes, planes_of, AreSamples};
 
     ghost Value = { Planes };
 
     ghost view = { λ p. planes_of p.planes.items };
+
+    ghost invariant = { λ p. AreSamples (planes_of p.planes.items) };
+}
+
+/// Whether a plane has so many samples, each of which is a byte.
+fn has(samples: &[u8], size: usize) -> bool
+    ensures yes { IsTrue result → length samples.now ≡ size }
+    ensures no { IsFalse result → length samples.now ≢ size }
+    ensures bytes { (i : ℕ) → slice_index samples.now i < 256 }
+{
+    samples.len() == size
 }
 
 /// Whether there are as many planes as a grid has, each of its size.
 fn fit<A: Allocator>(grid: &Grid, planes: &[Vec<u8, A>]) -> bool
     ensures yes { IsTrue result → AreOf grid.now (planes_of planes.now) }
+    ensures samples { IsTrue result → AreSamples (planes_of planes.now) }
     ensures no { IsFalse result → AreOf grid.now (planes_of planes.now) → ⊥ }
 {
     if planes.len() != grid.planes() as usize {
@@ -34,7 +48,7 @@ fn fit<A: Allocator>(grid: &Grid, planes: &[Vec<u8, A>]) -> bool
     }
     for plane in 0..grid.planes() {
         let size = grid.width(plane) as usize * grid.height(plane) as usize;
-        if planes[plane as usize].len() != size {
+        if !has(planes[plane as usize].as_slice(), size) {
             return false;
         }
     }
@@ -64,7 +78,8 @@ impl<A: Allocator> Picture<A> {
 
     /// Its planes, each of its samples, row after row.
     pub fn planes(&self) -> &[Vec<u8, A>]
-        ensures { self.now ≡ planes_of result.now }
+        ensures value { self.now ≡ planes_of result.now }
+        ensures samples { AreSamples self.now }
     {
         self.planes.as_slice()
     }

@@ -1,14 +1,13 @@
-use Rattle.std.proofs.Common.{◌≡◌, refl, ℕ, zero, suc, ◌+◌, ◌-◌, ◌*◌, ◌%◌, ◌<◌, ◌≤◌, ◌^◌, min, Bool, true, false, if◌then◌else◌, List, [], ◌∷◌, ◌++◌, length, arith, subst, sym, ap}
+use Rattle.std.proofs.Common.{◌≡◌, refl, ℕ, ◌%◌, ◌<◌, ◌≤◌, Bool, true, false, if◌then◌else◌, List, [], ◌∷◌, length, arith}
 use Rattle.ffv1_plane.specs.Quantisation.{Set}
 use Rattle.ffv1_line.specs.Cell.{Cell}
 use Rattle.ffv1_line.specs.Row.{AreSuiting, chosen_row}
 use Rattle.ffv1_record.specs.Configuration.{Configuration, is_rct}
-use Rattle.ffv1_record.specs.Accepted.{Accepted, IsAccepted}
 use Rattle.ffv1_slice.specs.declared.head.SliceHead.{SliceHead}
-use Rattle.ffv1_slice.specs.Grid.{division_of, across, length_of}
+use Rattle.ffv1_slice.specs.Grid.{division_of, across}
 use Rattle.ffv1_slice.specs.Head.{IsThird}
-use Rattle.ffv1_codec.specs.Picture.{Planes, IsPicture, cell_in}
-use Rattle.ffv1_codec.specs.SliceList.{Said, IsBody, Line, bits_of, set_in, chosen_index, chosen_line, chosen_body, lines_in, chosen_head}
+use Rattle.ffv1_codec.specs.Picture.{cell_in}
+use Rattle.ffv1_codec.specs.SliceList.{IsBody, Line, bits_of, set_in, chosen_index, chosen_body, lines_in, chosen_head}
 use Rattle.ffv1_codec.proofs.laws.chosen_slices.Goals as goal
 
 index_below : (c : Configuration) (k : ℕ) → 1 ≤ length c.sets → chosen_index c k < length c.sets

@@ -1,7 +1,6 @@
-use Rattle.std.proofs.Common.{◌≡◌, refl, ℕ, zero, suc, ◌<◌, ◌^◌, Bool, true, false, if◌then◌else◌, arith, subst, sym}
+use Rattle.std.proofs.Common.{ℕ, zero, suc, ◌<◌, ◌^◌, Bool, true, false, if◌then◌else◌, arith}
 use Rattle.ffv1_record.specs.Configuration.{Configuration, is_rct}
-use Rattle.ffv1_codec.specs.Picture.{Planes, IsPicture, sample_at, transformed_at, coded_at}
-use Rattle.ffv1_codec.specs.SliceList.{bits_of}
+use Rattle.ffv1_codec.specs.Picture.{Planes, IsPicture, sample_at, transformed_at}
 use Rattle.ffv1_codec.proofs.CodedSamples.{Small, luma_small, blue_small, red_small}
 use Rattle.ffv1_codec.proofs.laws.coded_samples.Goals as goal
 

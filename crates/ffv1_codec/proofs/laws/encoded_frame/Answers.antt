@@ -1,11 +1,11 @@
-use Rattle.std.proofs.Common.{◌≡◌, refl, ℕ, zero, suc, ◌+◌, ◌*◌, ◌<◌, ◌≤◌, Bool, List, [], ◌∷◌, ◌++◌, length, map, slice_get, Option, Some, None, arith, subst, sym, ap, ◌∙◌, inl, inr}
+use Rattle.std.proofs.Common.{◌≡◌, refl, ℕ, zero, suc, ◌+◌, ◌*◌, ◌<◌, ◌≤◌, List, [], length, map, slice_get, Some, arith, subst, sym, ap, ◌∙◌, inl, inr}
 use Rattle.std.specs.List.{range_with_len}
 use Rattle.std.proofs.lemmas.Bool.{cases_lt}
 use Rattle.std.proofs.lemmas.List.FromFn.{length-map-range_with_len}
-use Rattle.ffv1_range.specs.Codes.{AreBytes, Codes}
+use Rattle.ffv1_range.specs.Codes.{AreBytes}
 use Rattle.ffv1_range.specs.Interval.{interval_of}
 use Rattle.ffv1_range.specs.History.{decisions_after}
-use Rattle.ffv1_record.specs.Accepted.{Accepted, IsAccepted}
+use Rattle.ffv1_record.specs.Accepted.{Accepted}
 use Rattle.ffv1_slice.specs.Footer.{foot_length}
 use Rattle.ffv1_slice.specs.Cutting.{AreCodedBytes, coded_of, offset_in}
 use Rattle.ffv1_codec.specs.Picture.{Planes, cell_in}

@@ -1,0 +1,103 @@
+-- Lines of a slice that are put one after the other.
+use Rattle.std.proofs.Common.{◌≡◌, refl, ℕ, suc, ◌+◌, Bool, true, false, if◌then◌else◌, List, [], ◌∷◌, ◌++◌, length, replicate, sym, ◌∙◌, ap, arith, subst, append_assoc, append-nil, map-id}
+use Rattle.std.specs.List.{flat_map, range_with_len}
+use Rattle.std.proofs.lemmas.Grind.{flat_map-append}
+use Rattle.std.proofs.lemmas.List.{length-replicate}
+use Rattle.std.proofs.lemmas.List.FromFn.{map-range_with_len_more}
+use Rattle.std.specs.declared.vec.Vec.{Vec}
+use Rattle.ffv1_range.specs.Table.{Table}
+use Rattle.ffv1_range.specs.Writing.{Writing}
+use Rattle.ffv1_range.specs.Symbols.{Step}
+use Rattle.ffv1_line.specs.Cell.{Cell, Above, Shows}
+use Rattle.ffv1_line.specs.declared.rolling.RollingRows.{RollingRows}
+use Rattle.ffv1_record.specs.Configuration.{Configuration, is_rct}
+use Rattle.ffv1_slice.specs.declared.head.SliceHead.{SliceHead}
+use Rattle.ffv1_codec.specs.Picture.{Planes, plane_count, cell_height, coded_at, sample_at, transformed_at}
+use Rattle.ffv1_codec.specs.SliceList.{Line, lines_of_plane, planes_of_line, lines_in, chosen_line, chosen_body}
+use Rattle.ffv1_codec.specs.Behind.{Behind, PutsBehind, Rolled, Loaded, fourth_line}
+use Rattle.ffv1_slice.specs.Grid.{planes_in}
+
+pub puts_none : (t : Table) (w : Writing) (states : List ℕ) → PutsBehind t w states w states []
+puts_none t w states = record { behind = λ past behind. subst (λ ss. Behind t ss w states) (sym (append-nil past)) behind }
+
+pub puts_then : (t : Table) (a b d : Writing) (ss ts us : List ℕ) (xs ys : List Step) → PutsBehind t a ss b ts xs → PutsBehind t b ts d us ys → PutsBehind t a ss d us (xs ++ ys)
+puts_then t a b d ss ts us xs ys first second = record {
+  behind = λ past behind. subst (λ zs. Behind t zs d us) (append_assoc past xs ys) (second.behind (past ++ xs) (first.behind past behind));
+}
+
+-- the steps of lines in two parts
+pub body_append : (c : Configuration) (h : SliceHead) (cell : ℕ → Cell) (ls ms : List Line) → chosen_body c h cell (ls ++ ms) ≡ chosen_body c h cell ls ++ chosen_body c h cell ms
+body_append c h cell ls ms = flat_map-append (chosen_line c h cell) ls ms
+
+pub body_one : (c : Configuration) (h : SliceHead) (cell : ℕ → Cell) (l : Line) → chosen_line c h cell l ≡ chosen_body c h cell (l ∷ [])
+body_one c h cell l = sym (append-nil (chosen_line c h cell l))
+
+-- one line more
+pub lines_more : (p y : ℕ) → lines_of_plane (y + 1) p ≡ lines_of_plane y p ++ (record { plane = p; y = y } ∷ [])
+lines_more p y = map-range_with_len_more (λ k. let l : Line = record { plane = p; y = k } in l) 0 y y (omega arith)
+
+pub plane_next : (t : Table) (a b d : Writing) (ss ts us : List ℕ) (c : Configuration) (h : SliceHead) (cell : ℕ → Cell) (p y : ℕ) →
+    PutsBehind t a ss b ts (chosen_body c h cell (lines_of_plane y p)) → PutsBehind t b ts d us (chosen_line c h cell (record { plane = p; y = y })) →
+    PutsBehind t a ss d us (chosen_body c h cell (lines_of_plane (y + 1) p))
+plane_next t a b d ss ts us c h cell p y first second =
+    let l : Line = record { plane = p; y = y } in
+    let same : chosen_body c h cell (lines_of_plane y p) ++ chosen_line c h cell l ≡ chosen_body c h cell (lines_of_plane (y + 1) p) =
+    ap (λ z. chosen_body c h cell (lines_of_plane y p) ++ z) (body_one c h cell l) ∙ sym (body_append c h cell (lines_of_plane y p) (l ∷ [])) ∙ ap (chosen_body c h cell) (sym (lines_more p y)) in
+    subst (PutsBehind t a ss d us) same (puts_then t a b d ss ts us _ _ first second)
+
+-- one part more
+pub range_more : (n : ℕ) → range_with_len 0 (n + 1) ≡ range_with_len 0 n ++ (n ∷ [])
+range_more n = sym (map-id (range_with_len 0 (n + 1))) ∙ map-range_with_len_more (λ k. k) 0 n n (omega arith) ∙ ap (λ z. z ++ (n ∷ [])) (map-id (range_with_len 0 n))
+
+pub parts_next : (t : Table) (a b d : Writing) (ss ts us : List ℕ) (c : Configuration) (h : SliceHead) (cell : ℕ → Cell) (f : ℕ → List Line) (n : ℕ) →
+    PutsBehind t a ss b ts (chosen_body c h cell (flat_map f (range_with_len 0 n))) → PutsBehind t b ts d us (chosen_body c h cell (f n)) →
+    PutsBehind t a ss d us (chosen_body c h cell (flat_map f (range_with_len 0 (n + 1))))
+parts_next t a b d ss ts us c h cell f n first second =
+    let before = flat_map f (range_with_len 0 n) in
+    let more : flat_map f (range_with_len 0 (n + 1)) ≡ before ++ f n =
+    ap (flat_map f) (range_more n) ∙ flat_map-append f (range_with_len 0 n) (n ∷ []) ∙ ap (λ z. before ++ z) (append-nil (f n)) in
+    let same : chosen_body c h cell before ++ chosen_body c h cell (f n) ≡ chosen_body c h cell (flat_map f (range_with_len 0 (n + 1))) =
+    sym (body_append c h cell before (f n)) ∙ ap (chosen_body c h cell) (sym more) in
+    subst (PutsBehind t a ss d us) same (puts_then t a b d ss ts us _ _ first second)
+
+-- all lines of a slice
+pub planes_in_order : (c : Configuration) (n : ℕ) → is_rct c.colour ≡ false → flat_map (λ p. lines_of_plane (cell_height c n p) p) (range_with_len 0 (plane_count c)) ≡ lines_in c n
+planes_in_order c n plain =
+    ap (λ k. if k then flat_map (planes_of_line (plane_count c)) (range_with_len 0 (cell_height c n 0)) else flat_map (λ p. lines_of_plane (cell_height c n p) p) (range_with_len 0 (plane_count c))) (sym plain)
+
+pub lines_in_order : (c : Configuration) (n : ℕ) → is_rct c.colour ≡ true → flat_map (planes_of_line (plane_count c)) (range_with_len 0 (cell_height c n 0)) ≡ lines_in c n
+lines_in_order c n rct =
+    ap (λ k. if k then flat_map (planes_of_line (plane_count c)) (range_with_len 0 (cell_height c n 0)) else flat_map (λ p. lines_of_plane (cell_height c n p) p) (range_with_len 0 (plane_count c))) (sym rct)
+
+-- in YCbCr samples are coded as they are
+pub plain_at : (c : Configuration) (planes : Planes) (p u v : ℕ) → is_rct c.colour ≡ false → coded_at c planes p u v ≡ sample_at c planes p u v
+plain_at c planes p u v plain = ap (λ k. if k then transformed_at c planes p u v else sample_at c planes p u v) plain
+
+-- at a cell's top
+pub rolled_top : {A : Type 0} (c : Cell) (width : ℕ) (rows : RollingRows (Vec ℕ A)) → ((d : Cell) → Above d 0 (replicate d.width 0) (replicate d.width 0)) → width ≡ c.width →
+    rows.two.items ≡ replicate width 0 → rows.one.items ≡ replicate width 0 → rows.cur.items ≡ replicate width 0 → Rolled c 0 rows
+rolled_top c width rows top wide two one cur = record {
+  above = rw (two, one, wide) (top c);
+  two_long = ap length two ∙ length-replicate {A = ℕ} width 0 ∙ wide;
+  cur_long = ap length cur ∙ length-replicate {A = ℕ} width 0 ∙ wide;
+}
+
+-- from a row to the next
+pub rolled_next : {A : Type 0} (c : Cell) (y : ℕ) (old new : RollingRows (Vec ℕ A)) →
+    ((d : Cell) (z : ℕ) (two one cur : List ℕ) → Above d z two one → length cur ≡ d.width → Shows d (z + 2) cur d.width → Above d (z + 1) one cur) →
+    Loaded c y old → new.two ≡ old.one → new.one ≡ old.cur → new.cur ≡ old.two → Rolled c (y + 1) new
+rolled_next c y old new next loaded two one cur =
+    let more : suc (suc y) ≡ y + 2 = omega arith in
+    let shows : Shows c (y + 2) old.cur.items c.width = subst (λ k. Shows c k old.cur.items c.width) more loaded.shows in
+    rw (two, one, cur) (record {
+      above = next c y old.two.items old.one.items old.cur.items loaded.above loaded.cur_long shows;
+      two_long = loaded.above.wide;
+      cur_long = loaded.two_long;
+    })
+
+-- the planes of a line of RCT
+pub colours_of_line : (chroma extra : Bool) (y : ℕ) → chroma ≡ true →
+    planes_of_line (planes_in chroma extra) y ≡ (record { plane = 0; y = y }) ∷ (record { plane = 1; y = y }) ∷ (record { plane = 2; y = y }) ∷ fourth_line extra y
+colours_of_line true true y is = refl
+colours_of_line true false y is = refl
+colours_of_line false extra y is = cc

@@ -1,0 +1,120 @@
+-- Lines of cells in their planes.
+use Rattle.std.proofs.Common.{◌≡◌, ℕ, zero, suc, ◌+◌, ◌-◌, ◌*◌, ◌/◌, ◌%◌, ◌<◌, ◌≤◌, List, [], ◌∷◌, length, get_or, take, drop, sym, ◌∙◌, ap, arith, subst, length-drop, inl, inr}
+use Rattle.std.proofs.lemmas.Bool.{cases_lt}
+use Rattle.std.proofs.Math.Nat.{mul-le-mul_left, mod-lt, div-lt_iff_lt-mul}
+use Rattle.std.proofs.lemmas.List.{length-take-le, get_or-take, get_or-drop, length-map}
+use Rattle.std.specs.declared.vec.Vec.{Vec}
+use Rattle.ffv1_record.specs.Configuration.{Configuration}
+use Rattle.ffv1_slice.specs.Grid.{Side, IsDivided, Division, IsDivision, slices_in, begin_of, length_of, whole_of, Lies, division_of, across, down}
+use Rattle.ffv1_codec.specs.Picture.{Planes, planes_of, plane, AreOf, AreSamples}
+use Rattle.ffv1_codec.specs.Behind.{IsLine}
+
+-- a part ends inside its side
+pub ends : (s : Side) (k : ℕ) → k < s.count → 0 < length_of s k → ((x k : ℕ) → Lies s x k → x < whole_of s) → begin_of s k + length_of s k ≤ whole_of s
+ends s k inside some lies =
+    let last = lies (begin_of s k + (length_of s k - 1)) k (record { inside = inside; least = omega arith; most = omega (arith, some) }) in
+    omega (arith, last, some)
+
+-- a line of a rectangle ends inside a plane
+pub line_inside : (top y width left wide height : ℕ) → top + y < height → left + wide ≤ width → (top + y) * width + left + wide ≤ width * height
+line_inside top y width left wide height high across =
+    let more = mul-le-mul_left {m = suc (top + y)} {n = height} width high in
+    omega (arith, more, across)
+
+pub plane_of : {A : Type 0} (vs : List (Vec ℕ A)) (p : ℕ) (v : Vec ℕ A) → p < length vs → v ≡ get_or vs p v → plane (planes_of vs) p ≡ v.items
+plane_of [] p v inside is = absurd (omega (arith, inside))
+plane_of (w ∷ ws) zero v inside is = ap (λ (u : Vec ℕ _). u.items) (sym is)
+plane_of (w ∷ ws) (suc p) v inside is = plane_of ws p v (omega (arith, inside)) is
+
+pub is_line : (c : Configuration) (planes : Planes) (n p y : ℕ) (samples line : List ℕ) → samples ≡ plane planes p →
+    (let d = division_of c in let s = across d p in let k = n % c.columns in let begin = (begin_of (down d p) (n / c.columns) + y) * whole_of s + begin_of s k in
+    (begin + length_of s k ≤ length samples) → line ≡ take (length_of s k) (drop begin samples) → IsLine c planes n p y line)
+is_line c planes n p y samples line is inside same =
+    let s = across (division_of c) p in
+    let k = n % c.columns in
+    let wide : ℕ = length_of s k in
+    let start : ℕ = (begin_of (down (division_of c) p) (n / c.columns) + y) * whole_of s + begin_of s k in
+    let long : length (take wide (drop start samples)) ≡ wide = length-take-le wide (drop start samples) (let all = length-drop start samples in omega (arith, all, inside)) in
+    record {
+      wide = ap length same ∙ long;
+      each = λ x here.
+          let here : x < wide = omega (arith, here, long, ap length same) in
+          let place : start + x ≡ (begin_of (down (division_of c) p) (n / c.columns) + y) * whole_of s + (begin_of s k + x) = omega arith in
+          ap (λ (l : List ℕ). get_or l x 0) same ∙ get_or-take wide (drop start samples) x 0 here ∙ get_or-drop start samples x 0
+          ∙ ap (λ (l : List ℕ). get_or l (start + x) 0) is ∙ ap (λ m. get_or (plane planes p) m 0) place;
+    }
+
+-- the column and the row of a slice
+pub column_inside : (n columns rows : ℕ) → 0 < columns → n % columns < columns
+column_inside n columns rows some = mod-lt n some
+
+pub row_inside : (n columns rows : ℕ) → 0 < columns → n < columns * rows → n / columns < rows
+row_inside n columns rows some inside =
+    let all : n < rows * columns = omega (arith, inside) in
+    (div-lt_iff_lt-mul {k = columns} {x = n} {y = rows} some).1 all
+
+-- the laws of sides
+pub record Sides : Type 0 where
+  pub across : (d : Division) (p : ℕ) → IsDivision d → IsDivided (across d p)
+  pub down : (d : Division) (p : ℕ) → IsDivision d → IsDivided (down d p)
+  pub some : (s : Side) (k : ℕ) → IsDivided s → k < s.count → 0 < length_of s k
+  pub inside : (s : Side) (x k : ℕ) → IsDivided s → Lies s x k → x < whole_of s
+
+-- a line of a cell ends inside its plane
+pub cell_inside : (d : Division) (n p y : ℕ) → Sides → IsDivision d → n < slices_in d → y < length_of (down d p) (n / d.columns) →
+    (begin_of (down d p) (n / d.columns) + y) * whole_of (across d p) + begin_of (across d p) (n % d.columns) + length_of (across d p) (n % d.columns) ≤ whole_of (across d p) * whole_of (down d p)
+cell_inside d n p y laws is inside high =
+    let column = column_inside n d.columns d.rows is.some_columns in
+    let row = row_inside n d.columns d.rows is.some_columns inside in
+    let wide = laws.across d p is in
+    let tall = laws.down d p is in
+    let right = ends (across d p) (n % d.columns) column (laws.some (across d p) _ wide column) (λ x k. laws.inside (across d p) x k wide) in
+    let low = ends (down d p) (n / d.columns) row (laws.some (down d p) _ tall row) (λ x k. laws.inside (down d p) x k tall) in
+    line_inside (begin_of (down d p) (n / d.columns)) y (whole_of (across d p)) (begin_of (across d p) (n % d.columns)) (length_of (across d p) (n % d.columns)) (whole_of (down d p))
+    (omega (arith, high, low)) right
+
+-- where a cell lies, by a division that is a configuration's
+pub record Lay (e : Division) (n p left top wide whole : ℕ) : Type 0 where
+  pub left_is : left ≡ begin_of (across e p) (n % e.columns)
+  pub top_is : top ≡ begin_of (down e p) (n / e.columns)
+  pub wide_is : wide ≡ length_of (across e p) (n % e.columns)
+  pub whole_is : whole ≡ whole_of (across e p)
+
+-- its line ends inside its plane
+pub lay_inside : (c : Configuration) (planes : Planes) (e : Division) (n p y left top wide whole : ℕ) (samples : List ℕ) → Sides → IsDivision e → e ≡ division_of c → Lay e n p left top wide whole →
+    n < c.columns * c.rows → y < length_of (down (division_of c) p) (n / c.columns) → length (plane planes p) ≡ whole_of (across (division_of c) p) * whole_of (down (division_of c) p) → samples ≡ plane planes p →
+    (top + y) * whole + left + wide ≤ length samples
+lay_inside c planes e n p y left top wide whole samples laws is same lay inside high size samples_are =
+    let d : Division = division_of c in
+    let lay : Lay d n p left top wide whole = subst (λ f. Lay f n p left top wide whole) same lay in
+    let fits = cell_inside d n p y laws (subst IsDivision same is) inside high in
+    rw (lay.left_is, lay.top_is, lay.wide_is, lay.whole_is, samples_are, size) fits
+
+-- and is its line
+pub lay_line : (c : Configuration) (planes : Planes) (e : Division) (n p y left top wide whole : ℕ) (samples line : List ℕ) → e ≡ division_of c → Lay e n p left top wide whole → samples ≡ plane planes p →
+    (top + y) * whole + left + wide ≤ length samples → line ≡ take wide (drop ((top + y) * whole + left) samples) → IsLine c planes n p y line
+lay_line c planes e n p y left top wide whole samples line same lay samples_are inside line_is =
+    let d : Division = division_of c in
+    let lay : Lay d n p left top wide whole = subst (λ f. Lay f n p left top wide whole) same lay in
+    is_line c planes n p y samples line samples_are
+    (rw (lay.left_is, lay.top_is, lay.wide_is, lay.whole_is) at inside) (rw (lay.left_is, lay.top_is, lay.wide_is, lay.whole_is) at line_is)
+
+-- the samples of a plane that was lent
+pub lent : {A : Type 0} (planes : Planes) (vs : List (Vec ℕ A)) (p : ℕ) (v : Vec ℕ A) (d : Division) (samples : List ℕ) → planes ≡ planes_of vs → AreOf d planes → p < d.planes → v ≡ get_or vs p v → samples ≡ v.items →
+    samples ≡ plane planes p
+lent planes vs p v d samples is are inside v_is samples_is =
+    let count : length vs ≡ length (planes_of vs) = sym (length-map _ _) in
+    let inside : p < length vs = omega (arith, inside, count, ap length is, are.count) in
+    samples_is ∙ sym (plane_of vs p v inside v_is) ∙ ap (λ ps. plane ps p) (sym is)
+
+-- behind the last plane there is none
+pub no_plane : {A : Type 0} (vs : List (Vec ℕ A)) (p i : ℕ) → length vs ≤ p → get_or (plane (planes_of vs) p) i 0 < 256
+no_plane [] p i past = omega arith
+no_plane (v ∷ vs) zero i past = absurd (omega (arith, past))
+no_plane (v ∷ vs) (suc p) i past = no_plane vs p i (omega (arith, past))
+
+pub all_planes : {A : Type 0} (vs : List (Vec ℕ A)) (count : ℕ) → length vs ≡ count → ((p i : ℕ) → p < count → get_or (plane (planes_of vs) p) i 0 < 256) → AreSamples (planes_of vs)
+all_planes vs count long below = λ p i. elim (cases_lt p count) [
+  | inl inside ↦ below p i inside
+  | inr past ↦ no_plane vs p i (omega (arith, past, long))
+]

@@ -1,0 +1,15 @@
+use Rattle.ffv1_range.specs.Symbols.{AllHeld}
+use Rattle.ffv1_codec.specs.Picture.{cell_in}
+use Rattle.ffv1_codec.specs.SliceList.{lines_of_plane, chosen_head, chosen_body}
+use Rattle.ffv1_codec.specs.Behind.{PutsBehind, Rolled}
+use Rattle.ffv1_codec.proofs.slice_encoder.put_plane.Given as goal
+
+abbrev pub invariant-loop-y : goal.invariant-loop-y
+invariant-loop-y g l =
+    let conf = l.slice.checked.now.configuration in
+    let cell = cell_in conf l.slice.picture.now l.slice.number in
+    record {
+      held : AllHeld l.slice.checked.now.table l.states;
+      rolled : Rolled (cell l.plane) l.y l.rows;
+      puts : PutsBehind l.slice.checked.now.table l.fn.encoder l.fn.states l.encoder l.states (chosen_body conf (chosen_head conf l.slice.info) cell (lines_of_plane l.y l.plane));
+    }

@@ -1,0 +1,167 @@
+//! The coded bytes of a slice.
+
+ghost use Rattle.std.specs.Prelude.{◌≡◌, ◌+◌, ◌^◌, ◌<◌, ◌≤◌, ◌++◌, ℕ, IfOk, IfErr, OnOk, length};
+ghost use Rattle.std.specs.Prelude.{replicate};
+ghost use Rattle.ffv1_range.specs.Writing.{unwritten};
+ghost use Rattle.ffv1_line.specs.Length.{row_decisions};
+ghost use Rattle.ffv1_record.specs.Held.{classes_of};
+ghost use Rattle.ffv1_slice.specs.Head.{key_steps, head_steps};
+ghost use Rattle.ffv1_codec.specs.declared.fault.EncodeFault.TheVariants as fault;
+ghost use Rattle.ffv1_codec.specs.SliceList.{chosen_head, chosen_slice};
+ghost use Rattle.ffv1_codec.specs.Frame.{slice_bytes};
+ghost use Rattle.ffv1_codec.specs.Length.{slice_residuals, slice_renormalisations};
+ghost use Rattle.ffv1_codec.specs.Behind.{Behind, states_in};
+
+use crate::fault::EncodeFault;
+use crate::laws::slice_lengths;
+use crate::rows::PlaneRows;
+use crate::slice::Slice;
+use crate::slice_encoder::put_body;
+use ffv1_range::RangeEncoder;
+use ffv1_range::laws::{
+    counted_from_nothing, counted_in_parts, kept_states, named_states, slots, two_parts,
+};
+use ffv1_record::Checked;
+use ffv1_slice::{put_head, put_key};
+use std::alloc::{AllocError, Allocator};
+
+/// What is kept from a slice to the next: the memory of the states and of the rows.
+#[derive(Drop)]
+pub(crate) struct Scratch<A: Allocator> {
+    pub(crate) states: Vec<u8, A>,
+    pub(crate) rows: PlaneRows<A>,
+}
+
+impl<A: Allocator + Copy> Scratch<A> {
+    /// Nothing is kept yet. It takes no memory.
+    pub(crate) fn new(alloc: A) -> Scratch<A> {
+        Scratch {
+            states: Vec::new(alloc),
+            rows: PlaneRows::new(alloc),
+        }
+    }
+}
+
+/// A slice that was coded.
+#[derive(Drop)]
+pub(crate) struct Coded<A: Allocator> {
+    /// Its coded bytes.
+    pub(crate) bytes: Vec<u8, A>,
+    /// How many decisions its residuals took.
+    pub(crate) decisions: u64,
+}
+
+/// How many classes of planes there are.
+fn classes_of(chroma_planes: bool, extra_plane: bool) -> usize
+    ensures value { result ≡ classes_of chroma_planes extra_plane }
+    ensures few { result ≤ 3 }
+{
+    if extra_plane {
+        return 3;
+    }
+    if chroma_planes {
+        return 2;
+    }
+    1
+}
+
+/// How many states there are, of all classes.
+fn states_in<A: Allocator>(checked: &Checked<A>) -> usize
+    ensures { result ≡ states_in checked.now.configuration }
+{
+    let config = checked.config();
+    let classes = classes_of(config.chroma_planes, config.extra_plane);
+    32 * (config.sets.most_contexts() as usize * classes)
+}
+
+/// So many fresh states (RFC 9043, 3.8.1.3), in the memory that there is where they find room in
+/// it.
+fn renew<A: Allocator>(states: &mut Vec<u8, A>, count: usize) -> Result<(), AllocError>
+    ensures { OnOk result (states.new.items ≡ replicate count 128) }
+{
+    states.resize(count, 128)?;
+    states.fill(128);
+    Ok(())
+}
+
+/// The key and the head of a slice are put.
+fn put_beginning<R: Allocator, A: Allocator, B: Allocator>(
+    encoder: &mut RangeEncoder<R>,
+    slice: &Slice<'_, A, B>,
+) -> Result<(), EncodeFault>
+    requires { encoder.old ≡ unwritten }
+    ensures ok { OnOk result ((count : ℕ) → Behind slice.now.checked.now.table
+        (key_steps slice.now.number ++ head_steps slice.now.checked.now.configuration
+        slice.now.number (chosen_head slice.now.checked.now.configuration slice.now.info))
+        encoder.new (replicate count 128)) }
+    ensures err { IfErr result (λ f. f ≡ fault.OutOfMemory) }
+{
+    kept_states();
+    counted_in_parts();
+    slots();
+    two_parts();
+    let Ok(()) = put_key(encoder, slice.checked, slice.number) else {
+        return Err(EncodeFault::OutOfMemory);
+    };
+    let head = slice.head();
+    let Ok(()) = put_head(encoder, slice.checked, slice.number, &head) else {
+        return Err(EncodeFault::OutOfMemory);
+    };
+    Ok(())
+}
+
+/// The decisions of a slice are put, by fresh states: its key, its head and its residuals. How
+/// many those of its residuals were.
+fn put_slice<R: Allocator, A: Allocator, B: Allocator>(
+    encoder: &mut RangeEncoder<R>,
+    states: &mut [u8],
+    rows: &mut PlaneRows<R>,
+    slice: &Slice<'_, A, B>,
+) -> Result<u64, EncodeFault>
+    requires new { encoder.old ≡ unwritten }
+    requires fresh { states.old ≡ replicate (states_in slice.now.checked.now.configuration) 128 }
+    ensures ok { OnOk result (Behind slice.now.checked.now.table
+        (chosen_slice slice.now.checked.now.configuration slice.now.picture.now slice.now.info
+        slice.now.number) encoder.new states.new) }
+    ensures decisions { IfOk result (λ d. d ≡ row_decisions (slice_residuals
+        slice.now.checked.now.configuration slice.now.picture.now slice.now.info
+        slice.now.number)) }
+    ensures few { IfOk result (λ d. d < 2 ^ 40) }
+    ensures err { IfErr result (λ f. f ≡ fault.OutOfMemory) }
+{
+    named_states();
+    counted_from_nothing();
+    slice_lengths();
+    let _table = slice.checked.table();
+    let _structure = slice.info.structure();
+    put_beginning(encoder, slice)?;
+    let before = encoder.decisions();
+    put_body(encoder, states, rows, slice)?;
+    Ok(encoder.decisions() - before)
+}
+
+/// Codes a slice: its decisions, ended by the sentinel.
+pub(crate) fn code_slice<R: Allocator + Copy, A: Allocator, B: Allocator>(
+    alloc: R,
+    scratch: &mut Scratch<R>,
+    slice: &Slice<'_, A, B>,
+) -> Result<Coded<R>, EncodeFault>
+    ensures bytes { IfOk result (λ c. c.bytes.items ≡ slice_bytes slice.now.checked.now
+        slice.now.picture.now slice.now.info slice.now.number) }
+    ensures long { IfOk result (λ c. length c.bytes.items ≡ slice_renormalisations
+        slice.now.checked.now slice.now.picture.now slice.now.info slice.now.number + 1) }
+    ensures decisions { IfOk result (λ c. c.decisions ≡ row_decisions (slice_residuals
+        slice.now.checked.now.configuration slice.now.picture.now slice.now.info
+        slice.now.number)) }
+    ensures few { IfOk result (λ c. c.decisions < 2 ^ 40) }
+    ensures err { IfErr result (λ f. f ≡ fault.OutOfMemory) }
+{
+    renew(&mut scratch.states, states_in(slice.checked))?;
+    let mut encoder = RangeEncoder::new(alloc);
+    let states = scratch.states.as_mut_slice();
+    let decisions = put_slice(&mut encoder, states, &mut scratch.rows, slice)?;
+    let Ok(bytes) = encoder.finish_sentinel() else {
+        return Err(EncodeFault::OutOfMemory);
+    };
+    Ok(Coded { bytes, decisions })
+}
