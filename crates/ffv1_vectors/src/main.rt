@@ -4,6 +4,7 @@
 
 mod fields;
 mod files;
+mod frames;
 mod heads;
 mod payloads;
 
@@ -19,6 +20,7 @@ fn print<R: Print>(rt: &R, name: &str, count: fields::Count) -> anyhow::Result<(
 fn run<R: AllocGlobal + Files + Print>(rt: &R) -> anyhow::Result<()> {
     print(rt, "heads", heads::count(rt)?)?;
     print(rt, "payloads", payloads::count(rt)?)?;
+    print(rt, "frames", frames::count(rt)?)?;
     print(rt, "files", files::count(rt)?)?;
     Ok(())
 }
