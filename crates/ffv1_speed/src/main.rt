@@ -3,8 +3,12 @@
 //!
 //! `ffv1_speed PATH WIDTH TIMES [park]`: the plane's bytes, row by row; with TIMES of 0 nothing is
 //! timed. With `park` the decoder is parked and woken between any two rows.
+//!
+//! `ffv1_speed frame PATH FORMAT WIDTH HEIGHT COLUMNS ROWS TIMES`: a raw picture, its planes one
+//! behind the other, of the format `mono`, `420`, `444` or `rgb`, encoded as a frame with parity.
 #![tactic(auto)]
 
+mod frames;
 mod rows;
 mod times;
 

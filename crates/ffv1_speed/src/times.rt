@@ -4,11 +4,13 @@ ghost use Rattle.std.specs.Prelude.{◌≡◌, ◌*◌, ◌<◌, length, replica
 ghost use Rattle.ffv1_range.specs.Symbols.{AllHeld};
 ghost use Rattle.ffv1_plane.specs.Quantisation.{contexts_of};
 
+use crate::frames;
 use crate::rows::{decode, encode};
 use anyhow::{Context, Result, ensure};
 use ffv1_line::reset;
 use ffv1_plane::QuantSet;
 use ffv1_range::StateTable;
+use std::env::Args;
 use std::rt::{Clock, Env, Files};
 use std::time::Instant;
 use std::{env, fs};
@@ -23,10 +25,8 @@ struct Asked {
 }
 
 /// Reads the plane and the words of the command line.
-fn read<R: AllocGlobal + Files + Env>(rt: &R) -> Result<Asked> {
-    let mut words = env::args(rt)?;
-    let _ = words.next();
-    let path = words.next().context("path")?;
+fn read<R: AllocGlobal + Files + Env>(rt: &R, first: String, words: &mut Args) -> Result<Asked> {
+    let path = first;
     let width = words.next().context("width")?.parse::<usize>()?;
     let times = words.next().context("times")?.parse::<u32>()?;
     let parks = words.next().is_some();
@@ -113,7 +113,13 @@ fn time<R: AllocGlobal + Clock + Print>(
 /// Codes and decodes the plane, and prints how many bytes it takes and whether it comes back; then
 /// the least times.
 pub(crate) fn run<R: AllocGlobal + Files + Env + Clock + Print>(rt: &R) -> Result<()> {
-    let asked = read(rt)?;
+    let mut words = env::args(rt)?;
+    let _ = words.next();
+    let first = words.next().context("path")?;
+    if first.as_str() == "frame" {
+        return frames::run(rt, &mut words);
+    }
+    let asked = read(rt, first, &mut words)?;
     ensure!(asked.width > 0, "width");
     let table = StateTable::standard();
     let set = QuantSet::small(rt.alloc())?;

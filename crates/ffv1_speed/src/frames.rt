@@ -1,0 +1,128 @@
+//! Whole frames, encoded.
+
+use anyhow::{Context, Result, bail, ensure};
+use ffv1_codec::{EncodeFault, FrameEncoder, Info, Picture};
+use ffv1_plane::QuantSet;
+use ffv1_record::{Checked, Coder, Colour, Config, Sets};
+use ffv1_slice::Grid;
+use std::alloc::Global;
+use std::env::Args;
+use std::fs;
+use std::rt::{Clock, Env, Files};
+use std::time::Instant;
+
+/// The next word, as a number.
+fn number(words: &mut Args, name: &'static str) -> Result<u32> {
+    Ok(words.next().context(name)?.parse::<u32>()?)
+}
+
+/// The configuration of a format: `mono`, `420`, `444` or `rgb`.
+fn configuration(alloc: Global, format: &str, sizes: [u32; 4]) -> Result<Checked> {
+    let [width, height, columns, rows] = sizes;
+    let (colour, chroma_planes, log2) = match format {
+        "mono" => (Colour::YCbCr, false, 0),
+        "420" => (Colour::YCbCr, true, 1),
+        "444" => (Colour::YCbCr, true, 0),
+        "rgb" => (Colour::Rct, true, 0),
+        _ => bail!("no such format"),
+    };
+    let mut sets = Sets::new(alloc);
+    sets.push(QuantSet::small(alloc)?)?;
+    let config = Config {
+        width,
+        height,
+        coder: Coder::One,
+        colour,
+        chroma_planes,
+        extra_plane: false,
+        log2_h: log2,
+        log2_v: log2,
+        columns,
+        rows,
+        sets,
+        ec: true,
+        intra: true,
+    };
+    Ok(config.check()?)
+}
+
+/// The planes of a raw picture, one behind the other.
+fn planes(alloc: Global, checked: &Checked, samples: &[u8]) -> Result<Vec<Vec<u8>>> {
+    let grid = Grid::of(checked);
+    let mut planes = Vec::new(alloc);
+    let mut rest = samples;
+    for plane in 0..grid.planes() {
+        let size = grid.width(plane) as usize * grid.height(plane) as usize;
+        ensure!(size <= rest.len(), "samples are missing");
+        planes.push(rest[..size].to_vec(alloc)?)?;
+        rest = &rest[size..];
+    }
+    Ok(planes)
+}
+
+/// Encodes the picture once: its bytes, and the time.
+fn encode<R: AllocGlobal + Clock>(
+    rt: &R,
+    encoder: &mut FrameEncoder,
+    picture: &Picture,
+    info: Info,
+) -> Result<(usize, u128)> {
+    ensure!(picture.fits(encoder.config()), "another picture");
+    let start = Instant::now(rt)?;
+    match encoder.encode(picture, info) {
+        Ok(frame) => Ok((frame.len(), start.elapsed(rt)?.as_micros())),
+        Err(EncodeFault::SliceTooLong) => bail!("40 SliceTooLong"),
+        Err(EncodeFault::OutOfMemory) => bail!("2 OutOfMemory"),
+    }
+}
+
+/// Encodes the picture some times over, and prints its bytes and the least time.
+fn time<R: AllocGlobal + Clock + Print>(
+    rt: &R,
+    encoder: &mut FrameEncoder,
+    picture: &Picture,
+    info: Info,
+    times: u32,
+) -> Result<()> {
+    let mut bytes = 0;
+    let mut least = u128::MAX;
+    for _ in 0..times {
+        let (length, time) = encode(rt, encoder, picture, info)?;
+        bytes = length;
+        least = least.min(time);
+    }
+    Ok(rt.println(format_args!("bytes {bytes} encoding {least} us"))?)
+}
+
+/// The numbers of a line: width, height, columns and rows.
+fn sizes(words: &mut Args) -> Result<[u32; 4]> {
+    Ok([
+        number(words, "width")?,
+        number(words, "height")?,
+        number(words, "columns")?,
+        number(words, "rows")?,
+    ])
+}
+
+/// Encodes the picture of a line, or says why it is not encoded.
+pub(crate) fn run<R: AllocGlobal + Files + Env + Clock + Print>(
+    rt: &R,
+    words: &mut Args,
+) -> Result<()> {
+    let path = words.next().context("path")?;
+    let format = words.next().context("format")?;
+    let sizes = sizes(words)?;
+    let times = number(words, "times")?;
+    let samples = fs::read(rt, path.as_str())?;
+    let checked = configuration(rt.alloc(), format.as_str(), sizes)?;
+    let planes = planes(rt.alloc(), &checked, samples.as_slice())?;
+    let picture = Picture::new(&checked, planes).context("no such picture")?;
+    let info = Info::new(3, 1, 1).context("info")?;
+    time(
+        rt,
+        &mut FrameEncoder::new(rt.alloc(), checked),
+        &picture,
+        info,
+        times,
+    )
+}
