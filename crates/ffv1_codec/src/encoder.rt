@@ -14,7 +14,7 @@ ghost use Rattle.ffv1_codec.specs.Behind.{sealed_slice};
 use crate::counts::FrameCounts;
 use crate::fault::EncodeFault;
 use crate::info::Info;
-use crate::laws::{encoded_frame, frame_lengths};
+use crate::laws::{encoded_frame, frame_lengths, slice_lengths};
 use crate::picture::Picture;
 use crate::slice::Slice;
 use crate::slice_code::{Scratch, code_slice};
@@ -60,7 +60,6 @@ fn add_slice<R: Allocator + Copy, A: Allocator, B: Allocator>(
         slice.now.info slice.now.number) ≤ 16777215) }
     ensures counts { IfOk result (λ k. k ≡ slice_counts slice.now.checked.now
         slice.now.picture.now slice.now.info slice.now.number) }
-    ensures small { IfOk result (λ k. k.decisions < 2 ^ 40) }
     ensures short { IfOk result (λ k. k.renormalisations ≤ 16777215) }
     ensures err { IfErr result (λ f. (f ≡ fault.OutOfMemory)
         ⊎ ((f ≡ fault.SliceTooLong) × (16777215 < length (slice_bytes slice.now.checked.now
@@ -92,6 +91,8 @@ fn put_slices<R: Allocator + Copy, A: Allocator, B: Allocator>(
     ensures err { IfErr result (λ f. (f ≡ fault.OutOfMemory)
         ⊎ ((f ≡ fault.SliceTooLong) × HasLongSlice checked.now picture.now info)) }
 {
+    slice_lengths();
+    let _table = checked.table();
     let mut decisions = 0;
     let mut renormalisations = 0;
     for number in 0..Grid::of(checked).slices() {
