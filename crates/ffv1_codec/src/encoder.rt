@@ -9,7 +9,7 @@ ghost use Rattle.ffv1_codec.specs.Picture.{Fits};
 ghost use Rattle.ffv1_codec.specs.Frame.{slice_bytes, frame_of, CodesPicture, HasLongSlice};
 ghost use Rattle.ffv1_codec.specs.Length.{frame_counts};
 ghost use Rattle.ffv1_codec.specs.Length.{slice_counts, frame_most, uncounted};
-ghost use Rattle.ffv1_codec.specs.Behind.{sealed_slice};
+ghost use Rattle.ffv1_codec.specs.Frame.{sealed_slice};
 
 use crate::counts::FrameCounts;
 use crate::fault::EncodeFault;

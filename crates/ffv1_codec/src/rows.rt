@@ -5,7 +5,7 @@ ghost use Rattle.ffv1_rct.specs.Lines.{AreCoded};
 ghost use Rattle.ffv1_record.specs.Configuration.{Configuration, is_rct};
 ghost use Rattle.ffv1_codec.specs.Picture.{Planes, plane_count, cell_in, cell_height, coded_at};
 ghost use Rattle.ffv1_codec.specs.Picture.{sample_at};
-ghost use Rattle.ffv1_codec.specs.Behind.{Rolled, Loaded, AllRolled, AllLoaded};
+ghost use Rattle.ffv1_codec.specs.CellRows.{Rolled, Loaded, AllRolled, AllLoaded};
 
 use crate::slice::Slice;
 use ffv1_line::RollingRows;
