@@ -14,7 +14,8 @@ use Rattle.ffv1_record.specs.Configuration.{Configuration, is_rct}
 use Rattle.ffv1_slice.specs.declared.head.SliceHead.{SliceHead}
 use Rattle.ffv1_codec.specs.Picture.{Planes, plane_count, cell_height, coded_at, sample_at, transformed_at}
 use Rattle.ffv1_codec.specs.SliceList.{Line, lines_of_plane, planes_of_line, lines_in, chosen_line, chosen_body}
-use Rattle.ffv1_codec.specs.Behind.{Behind, PutsBehind, Rolled, Loaded, fourth_line}
+use Rattle.ffv1_codec.specs.Behind.{Behind, PutsBehind}
+use Rattle.ffv1_codec.specs.CellRows.{Rolled, Loaded, fourth_line}
 use Rattle.ffv1_slice.specs.Grid.{planes_in}
 
 pub puts_none : (t : Table) (w : Writing) (states : List ℕ) → PutsBehind t w states w states []

@@ -7,7 +7,7 @@ use Rattle.std.specs.declared.vec.Vec.{Vec}
 use Rattle.ffv1_record.specs.Configuration.{Configuration}
 use Rattle.ffv1_slice.specs.Grid.{Side, IsDivided, Division, IsDivision, slices_in, begin_of, length_of, whole_of, Lies, division_of, across, down}
 use Rattle.ffv1_codec.specs.Picture.{Planes, planes_of, plane, AreOf, AreSamples}
-use Rattle.ffv1_codec.specs.Behind.{IsLine}
+use Rattle.ffv1_codec.specs.CellRows.{IsLine}
 
 -- a part ends inside its side
 pub ends : (s : Side) (k : ℕ) → k < s.count → 0 < length_of s k → ((x k : ℕ) → Lies s x k → x < whole_of s) → begin_of s k + length_of s k ≤ whole_of s

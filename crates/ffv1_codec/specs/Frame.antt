@@ -1,12 +1,12 @@
 -- Which payloads code a picture, and which one an encoder writes (RFC 9043, 4.4 to 4.9).
-use Rattle.std.specs.Prelude.{◌≡◌, ℕ, ◌*◌, ◌<◌, List, [], map, length}
+use Rattle.std.specs.Prelude.{◌≡◌, ℕ, ◌*◌, ◌<◌, List, [], ◌++◌, map, length}
 use Rattle.std.specs.List.{range_with_len}
 use Rattle.ffv1_range.specs.Interval.{interval_of}
 use Rattle.ffv1_range.specs.Codes.{sentinel_of}
 use Rattle.ffv1_range.specs.History.{decisions_after}
 use Rattle.ffv1_record.specs.Accepted.{Accepted}
 use Rattle.ffv1_slice.specs.Head.{is_aspect}
-use Rattle.ffv1_slice.specs.Footer.{foot_length}
+use Rattle.ffv1_slice.specs.Footer.{foot_length, footer_of}
 use Rattle.ffv1_slice.specs.Cutting.{Cuts, coded_of, joined_of}
 use Rattle.ffv1_codec.specs.Picture.{Planes, IsPicture}
 use Rattle.ffv1_codec.specs.SliceList.{Said, CodesSlice, chosen_slice}
@@ -31,6 +31,11 @@ abbrev pub slice_bytes : Accepted → Planes → Said → ℕ → List ℕ
 slice_bytes a planes info n =
     sentinel_of (interval_of (decisions_after a.table []
     (chosen_slice a.configuration planes info n)))
+
+-- the coded bytes of slice n and their footer
+abbrev pub sealed_slice : Accepted → Planes → Said → ℕ → List ℕ
+sealed_slice a planes info n =
+    slice_bytes a planes info n ++ footer_of a.configuration.ec (slice_bytes a planes info n)
 
 -- those of all slices, in raster order
 abbrev pub slices_bytes : Accepted → Planes → Said → List (List ℕ)

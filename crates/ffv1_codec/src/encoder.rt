@@ -1,20 +1,19 @@
 //! Pictures are encoded.
 
-ghost use Rattle.std.specs.Prelude.{◌≡◌, ◌⊎◌, ◌+◌, ◌*◌, ◌^◌, ◌<◌, ◌≤◌, ◌++◌, IfOk, IfErr, OnOk};
-ghost use Rattle.std.specs.Prelude.{OnErr};
-ghost use Rattle.std.specs.Prelude.{[], length};
+ghost use Rattle.std.specs.Prelude.{◌≡◌, ◌⊎◌, ◌+◌, ◌*◌, ◌<◌, ◌≤◌, ◌++◌, ℕ, IfOk, IfErr, OnOk};
+ghost use Rattle.std.specs.Prelude.{OnErr, [], length};
 ghost use Rattle.ffv1_slice.specs.Footer.{footer_of, foot_length};
 ghost use Rattle.ffv1_codec.specs.declared.fault.EncodeFault.TheVariants as fault;
 ghost use Rattle.ffv1_codec.specs.Picture.{Fits};
 ghost use Rattle.ffv1_codec.specs.Frame.{slice_bytes, frame_of, CodesPicture, HasLongSlice};
-ghost use Rattle.ffv1_codec.specs.Length.{frame_counts};
-ghost use Rattle.ffv1_codec.specs.Length.{slice_counts, frame_most, uncounted};
-ghost use Rattle.ffv1_codec.specs.Behind.{sealed_slice};
+ghost use Rattle.ffv1_codec.specs.Length.{slice_counts, slice_renormalisations, frame_counts};
+ghost use Rattle.ffv1_codec.specs.Length.{frame_most, uncounted};
+ghost use Rattle.ffv1_codec.specs.Frame.{sealed_slice};
 
 use crate::counts::FrameCounts;
 use crate::fault::EncodeFault;
 use crate::info::Info;
-use crate::laws::{encoded_frame, frame_lengths};
+use crate::laws::{encoded_frame, frame_lengths, slice_lengths};
 use crate::picture::Picture;
 use crate::slice::Slice;
 use crate::slice_code::{Scratch, code_slice};
@@ -60,7 +59,6 @@ fn add_slice<R: Allocator + Copy, A: Allocator, B: Allocator>(
         slice.now.info slice.now.number) ≤ 16777215) }
     ensures counts { IfOk result (λ k. k ≡ slice_counts slice.now.checked.now
         slice.now.picture.now slice.now.info slice.now.number) }
-    ensures small { IfOk result (λ k. k.decisions < 2 ^ 40) }
     ensures short { IfOk result (λ k. k.renormalisations ≤ 16777215) }
     ensures err { IfErr result (λ f. (f ≡ fault.OutOfMemory)
         ⊎ ((f ≡ fault.SliceTooLong) × (16777215 < length (slice_bytes slice.now.checked.now
@@ -92,6 +90,8 @@ fn put_slices<R: Allocator + Copy, A: Allocator, B: Allocator>(
     ensures err { IfErr result (λ f. (f ≡ fault.OutOfMemory)
         ⊎ ((f ≡ fault.SliceTooLong) × HasLongSlice checked.now picture.now info)) }
 {
+    slice_lengths();
+    let _table = checked.table();
     let mut decisions = 0;
     let mut renormalisations = 0;
     for number in 0..Grid::of(checked).slices() {
@@ -166,6 +166,11 @@ impl<A: Allocator + Copy> FrameEncoder<A> {
     /// raster order, by the sentinel ending of its decisions, and its footer. Class 0 uses set 0,
     /// class k set k, or the last one.
     ///
+    /// It has at most `2 n + 1` bytes for each residual of n binary digits, and 109 for each slice,
+    /// with 6 more where there is a plane of transparency, 2 where there are more than 16 columns
+    /// and 2 where there are more than 16 rows. Each slice has one coded byte more than
+    /// renormalisations, that of the sentinel among them.
+    ///
     /// Answers `SliceTooLong` only where a slice has more than 16777215 coded bytes, and there
     /// never `Ok`; else `OutOfMemory`, where memory was refused: each frame takes some. Either
     /// leaves the counts. Whatever was answered, the next frame is as a new encoder's.
@@ -186,6 +191,9 @@ impl<A: Allocator + Copy> FrameEncoder<A> {
         ensures counts { OnOk result (self.new.counts ≡
             frame_counts self.old.accepted picture.now info) }
         ensures kept { OnErr result (self.new.counts ≡ self.old.counts) }
+        ensures coded { OnOk result ((n : ℕ) →
+            length (slice_bytes self.old.accepted picture.now info n) ≡
+            slice_renormalisations self.old.accepted picture.now info n + 1) }
         ensures long { IfOk result (λ bytes. length bytes.items ≡
             (frame_counts self.old.accepted picture.now info).renormalisations
             + self.old.accepted.configuration.columns * self.old.accepted.configuration.rows
@@ -194,6 +202,7 @@ impl<A: Allocator + Copy> FrameEncoder<A> {
             frame_most self.old.accepted.configuration picture.now info) }
     {
         encoded_frame();
+        slice_lengths();
         frame_lengths();
         let _planes = picture.planes();
         let _table = self.checked.table();

@@ -1,13 +1,17 @@
-//! Frames of FFV1 (RFC 9043, 4.4): which payloads code a picture, which one an encoder writes, and
-//! the pictures themselves. The encoder and the decoder are to come.
+//! Frames of FFV1 (RFC 9043, 4.4): which payloads code a picture, which one an encoder writes, the
+//! pictures themselves, and their encoder. The decoder is to come.
 //!
 //! A [`Picture`] is made of planes that fit a checked configuration, and an [`Info`] of what each
-//! of its slices says besides. The laws say that the payload which the definition gives an encoder
-//! codes its picture, and what it is for some small ones.
+//! of its slices says besides. A [`FrameEncoder`] makes the frame of a picture: the payload that
+//! the definition gives, which codes the picture. The laws say so of the definition, how long a
+//! frame is, and what it is for some small pictures.
 //!
 //! ```text
-//! let picture = Picture::new(&checked, planes)?;        // planes of the configuration's sizes
-//! let info = Info::new(3, 1, 1)?;                       // progressive, samples as wide as high
+//! let mut encoder = FrameEncoder::new(alloc, checked);
+//! let picture = Picture::new(encoder.config(), planes)?;   // planes of the configuration's sizes
+//! let info = Info::new(3, 1, 1)?;                          // progressive, samples as wide as high
+//! let frame = encoder.encode(&picture, info)?;
+//! let counts = encoder.counts();                           // residuals' decisions, and more
 //! ```
 #![tactic(auto)]
 

@@ -5,7 +5,7 @@ ghost use Rattle.ffv1_rct.specs.Lines.{AreCoded};
 ghost use Rattle.ffv1_record.specs.Configuration.{Configuration, is_rct};
 ghost use Rattle.ffv1_codec.specs.Picture.{Planes, plane_count, cell_in, cell_height, coded_at};
 ghost use Rattle.ffv1_codec.specs.Picture.{sample_at};
-ghost use Rattle.ffv1_codec.specs.Behind.{Rolled, Loaded, AllRolled, AllLoaded};
+ghost use Rattle.ffv1_codec.specs.CellRows.{Rolled, Loaded, AllRolled, AllLoaded};
 
 use crate::slice::Slice;
 use ffv1_line::RollingRows;
@@ -83,6 +83,22 @@ pub(crate) fn restart<A: Allocator>(
     Ok(())
 }
 
+/// The same of transparency, where there is such a plane.
+fn restart_transparency<R: Allocator, A: Allocator, B: Allocator>(
+    rows: &mut RollingRows<Vec<u16, R>>,
+    slice: &Slice<'_, A, B>,
+) -> Result<(), AllocError>
+    ensures { OnOk result (slice.now.checked.now.configuration.extra_plane ≡ true →
+        Rolled (cell_in slice.now.checked.now.configuration slice.now.picture.now
+        slice.now.number 3) 0 rows.new) }
+{
+    rolling();
+    if slice.checked.config().extra_plane {
+        restart(rows, slice.cell(3).width as usize)?;
+    }
+    Ok(())
+}
+
 /// The rows above the first of each plane's cell in RCT, and room for it.
 pub(crate) fn restart_all<R: Allocator, A: Allocator, B: Allocator>(
     rows: &mut PlaneRows<R>,
@@ -95,9 +111,7 @@ pub(crate) fn restart_all<R: Allocator, A: Allocator, B: Allocator>(
     restart(&mut rows.first, slice.cell(0).width as usize)?;
     restart(&mut rows.second, slice.cell(1).width as usize)?;
     restart(&mut rows.third, slice.cell(2).width as usize)?;
-    if slice.checked.config().extra_plane {
-        restart(&mut rows.fourth, slice.cell(3).width as usize)?;
-    }
+    restart_transparency(&mut rows.fourth, slice)?;
     Ok(())
 }
 
@@ -171,6 +185,25 @@ pub(crate) fn load<R: Allocator, A: Allocator, B: Allocator>(
     fill(slice.line(plane, y), &mut rows.cur);
 }
 
+/// Row y of transparency in RCT, where there is such a plane.
+fn load_transparency<R: Allocator, A: Allocator, B: Allocator>(
+    rows: &mut RollingRows<Vec<u16, R>>,
+    slice: &Slice<'_, A, B>,
+    y: u32,
+)
+    requires inside { y < cell_height slice.now.checked.now.configuration slice.now.number 0 }
+    requires rolled { slice.now.checked.now.configuration.extra_plane ≡ true →
+        Rolled (cell_in slice.now.checked.now.configuration slice.now.picture.now
+        slice.now.number 3) y rows.old }
+    ensures { slice.now.checked.now.configuration.extra_plane ≡ true →
+        Loaded (cell_in slice.now.checked.now.configuration slice.now.picture.now
+        slice.now.number 3) y rows.new }
+{
+    if slice.checked.config().extra_plane {
+        load(rows, slice, 3, y);
+    }
+}
+
 /// Row y of Y, Cb and Cr in RCT, and of transparency where there is such a plane.
 pub(crate) fn load_all<R: Allocator, A: Allocator, B: Allocator>(
     rows: &mut PlaneRows<R>,
@@ -194,7 +227,5 @@ pub(crate) fn load_all<R: Allocator, A: Allocator, B: Allocator>(
         &mut rows.second.cur,
         &mut rows.third.cur,
     );
-    if slice.checked.config().extra_plane {
-        load(&mut rows.fourth, slice, 3, y);
-    }
+    load_transparency(&mut rows.fourth, slice, y);
 }

@@ -5,7 +5,7 @@ ghost use Rattle.ffv1_slice.specs.Coding.{IsSlice};
 ghost use Rattle.ffv1_codec.specs.Picture.{Fits, plane_count, cell_in, cell_height};
 ghost use Rattle.ffv1_slice.specs.Head.{IsHead};
 ghost use Rattle.ffv1_codec.specs.SliceList.{chosen_head};
-ghost use Rattle.ffv1_codec.specs.Behind.{IsLine};
+ghost use Rattle.ffv1_codec.specs.CellRows.{IsLine};
 
 use crate::info::Info;
 use crate::laws::chosen_slices;

@@ -126,7 +126,6 @@ fn put_slice<R: Allocator, A: Allocator, B: Allocator>(
     ensures decisions { IfOk result (λ d. d ≡ row_decisions (slice_residuals
         slice.now.checked.now.configuration slice.now.picture.now slice.now.info
         slice.now.number)) }
-    ensures few { IfOk result (λ d. d < 2 ^ 40) }
     ensures err { IfErr result (λ f. f ≡ fault.OutOfMemory) }
 {
     named_states();
@@ -153,7 +152,6 @@ pub(crate) fn code_slice<R: Allocator + Copy, A: Allocator, B: Allocator>(
     ensures decisions { IfOk result (λ c. c.decisions ≡ row_decisions (slice_residuals
         slice.now.checked.now.configuration slice.now.picture.now slice.now.info
         slice.now.number)) }
-    ensures few { IfOk result (λ c. c.decisions < 2 ^ 40) }
     ensures err { IfErr result (λ f. f ≡ fault.OutOfMemory) }
 {
     renew(&mut scratch.states, states_in(slice.checked))?;

@@ -12,8 +12,10 @@ ghost use Rattle.ffv1_codec.specs.Picture.{plane_count, cell_in, cell_height};
 ghost use Rattle.ffv1_codec.specs.SliceList.{class_of, bits_of, chosen_line, chosen_body};
 ghost use Rattle.ffv1_codec.specs.SliceList.{chosen_head};
 ghost use Rattle.ffv1_codec.specs.SliceList.{lines_of_plane, planes_of_line, lines_in};
-ghost use Rattle.ffv1_codec.specs.Behind.{PutsBehind, Loaded, AllRolled, AllLoaded};
-ghost use Rattle.ffv1_codec.specs.Behind.{states_in, fourth_line};
+ghost use Rattle.ffv1_codec.specs.Behind.{PutsBehind};
+ghost use Rattle.ffv1_codec.specs.CellRows.{Loaded, AllRolled, AllLoaded};
+ghost use Rattle.ffv1_codec.specs.Behind.{states_in};
+ghost use Rattle.ffv1_codec.specs.CellRows.{fourth_line};
 
 use crate::fault::EncodeFault;
 use crate::rows::{PlaneRows, load, load_all, restart, restart_all};

@@ -30,8 +30,13 @@ returns-in_err-counts-clause-err g c =
 
 pub overflow_add-decisions : goal.overflow_add-decisions
 overflow_add-decisions g c =
-    let inside : c.loop-number.number ≤ 1024 = omega (arith, c.slices-number-end.ensures.few) in
-    omega (arith, inside, c.in_ok-counts.ensures.small, c.loop-number.invariant.decisions_few)
+    let a = c.args.checked.now in
+    let end = c.slices-number-end.ensures.value ∙ ap slices_in c.of.ensures.value in
+    let inside : c.loop-number.number < a.configuration.columns * a.configuration.rows = omega (arith, end) in
+    let few : c.loop-number.number ≤ 1024 = omega (arith, c.slices-number-end.ensures.few) in
+    let small = c.slice_lengths.ensures.few a c.args.picture.now c.args.info c.loop-number.number c.table-table.ensures.accepted inside in
+    let decisions = ap (λ (k : FrameCounts). k.decisions) c.in_ok-counts.ensures.counts in
+    omega (arith, few, small, decisions, c.loop-number.invariant.decisions_few)
 
 pub overflow_add-renormalisations : goal.overflow_add-renormalisations
 overflow_add-renormalisations g c =
@@ -45,13 +50,16 @@ loop-number-preserved g c =
     let n : ℕ = c.loop-number.number in
     let told = c.in_ok-counts.ensures in
     let decisions : c.in_ok-counts.counts.decisions ≡ row_decisions (slice_residuals a.configuration planes c.args.info n) = ap (λ (k : FrameCounts). k.decisions) told.counts in
+    let end = c.slices-number-end.ensures.value ∙ ap slices_in c.of.ensures.value in
+    let inside : n < a.configuration.columns * a.configuration.rows = omega (arith, end) in
+    let small = c.slice_lengths.ensures.few a planes c.args.info n c.table-table.ensures.accepted inside in
     let renormalisations : c.in_ok-counts.counts.renormalisations ≡ slice_renormalisations a planes c.args.info n = ap (λ (k : FrameCounts). k.renormalisations) told.counts in
     record {
       frame = joined_next a.configuration.ec (slice_bytes a planes c.args.info) n c.loop-number.frame.items c.add_slice.new.frame.items c.loop-number.invariant.frame told.ok;
       few = few_next (slice_bytes a planes c.args.info) 16777215 n c.loop-number.invariant.few told.few;
       decisions = residuals_next (slice_residuals a.configuration planes c.args.info) n _ _ c.loop-number.invariant.decisions decisions;
       renormalisations = sum_next (slice_renormalisations a planes c.args.info) n _ _ c.loop-number.invariant.renormalisations renormalisations;
-      decisions_few = omega (arith, c.loop-number.invariant.decisions_few, told.small);
+      decisions_few = omega (arith, c.loop-number.invariant.decisions_few, decisions, small);
       renormalisations_few = omega (arith, c.loop-number.invariant.renormalisations_few, told.short);
     }
 

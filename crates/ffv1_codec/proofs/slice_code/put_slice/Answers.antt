@@ -54,20 +54,3 @@ returns-clause-decisions g c =
     counted_between c.decisions-before.result c.decisions.result _ begin body (c.decisions-before.ensures ∙ (c.counted_from_nothing.ensures begin _ first.counts).2) (c.decisions.ensures ∙ (c.counted_from_nothing.ensures (begin ++ body) _ last.counts).2)
     (c.slice_lengths.ensures.body a slice.picture.now slice.info n) (begin_few conf _ (c.slice_lengths.ensures.beginning a slice.info n c.table-table.ensures.accepted c.structure-structure.ensures.said slice.inside)) few in
     between.1
-
-pub returns-clause-few : goal.returns-clause-few
-returns-clause-few g c =
-    let slice = c.args.slice.now in
-    let a = slice.checked.now in
-    let conf = a.configuration in
-    let n : ℕ = slice.number in
-    let head = chosen_head conf slice.info in
-    let begin : List Step = key_steps n ++ head_steps conf n head in
-    let body : List Step = chosen_body conf head (cell_in conf slice.picture.now n) (lines_in conf n) in
-    let first : Behind a.table begin c.put_beginning.new.encoder c.args.states.now = subst (Behind a.table begin c.put_beginning.new.encoder) (sym c.requires.fresh) (c.in_ok-put_beginning.ensures.ok (states_in conf)) in
-    let last : Behind a.table (begin ++ body) c.put_body.new.encoder c.put_body.new.states = c.in_ok-put_body.ensures.ok.behind begin first in
-    let few : row_decisions (slice_residuals conf slice.picture.now slice.info n) < 2 ^ 40 = c.slice_lengths.ensures.few a slice.picture.now slice.info n c.table-table.ensures.accepted slice.inside in
-    let between : (c.decisions-before.result ≤ c.decisions.result) × (c.decisions.result - c.decisions-before.result ≡ row_decisions (slice_residuals conf slice.picture.now slice.info n)) =
-    counted_between c.decisions-before.result c.decisions.result _ begin body (c.decisions-before.ensures ∙ (c.counted_from_nothing.ensures begin _ first.counts).2) (c.decisions.ensures ∙ (c.counted_from_nothing.ensures (begin ++ body) _ last.counts).2)
-    (c.slice_lengths.ensures.body a slice.picture.now slice.info n) (begin_few conf _ (c.slice_lengths.ensures.beginning a slice.info n c.table-table.ensures.accepted c.structure-structure.ensures.said slice.inside)) few in
-    subst (λ d. d < 2 ^ 40) (sym between.1) few

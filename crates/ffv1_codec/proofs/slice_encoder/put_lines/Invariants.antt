@@ -2,7 +2,8 @@ use Rattle.std.specs.List.{flat_map, range_with_len}
 use Rattle.ffv1_range.specs.Symbols.{AllHeld}
 use Rattle.ffv1_codec.specs.Picture.{cell_in, plane_count}
 use Rattle.ffv1_codec.specs.SliceList.{planes_of_line, chosen_head, chosen_body}
-use Rattle.ffv1_codec.specs.Behind.{PutsBehind, AllRolled}
+use Rattle.ffv1_codec.specs.Behind.{PutsBehind}
+use Rattle.ffv1_codec.specs.CellRows.{AllRolled}
 use Rattle.ffv1_codec.proofs.slice_encoder.put_lines.Given as goal
 
 abbrev pub invariant-loop-y : goal.invariant-loop-y

@@ -1,7 +1,8 @@
 use Rattle.ffv1_range.specs.Symbols.{AllHeld}
 use Rattle.ffv1_codec.specs.Picture.{cell_in}
 use Rattle.ffv1_codec.specs.SliceList.{lines_of_plane, chosen_head, chosen_body}
-use Rattle.ffv1_codec.specs.Behind.{PutsBehind, Rolled}
+use Rattle.ffv1_codec.specs.Behind.{PutsBehind}
+use Rattle.ffv1_codec.specs.CellRows.{Rolled}
 use Rattle.ffv1_codec.proofs.slice_encoder.put_plane.Given as goal
 
 abbrev pub invariant-loop-y : goal.invariant-loop-y

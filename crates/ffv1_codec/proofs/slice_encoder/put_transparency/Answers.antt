@@ -2,7 +2,8 @@ use Rattle.std.proofs.Common.{◌≡◌, ◌∙◌, ap, true, subst, sym}
 use Rattle.ffv1_record.specs.Configuration.{Configuration}
 use Rattle.ffv1_codec.specs.Picture.{cell_in}
 use Rattle.ffv1_codec.specs.SliceList.{Line, chosen_head, chosen_body}
-use Rattle.ffv1_codec.specs.Behind.{PutsBehind, fourth_line}
+use Rattle.ffv1_codec.specs.Behind.{PutsBehind}
+use Rattle.ffv1_codec.specs.CellRows.{fourth_line}
 use Rattle.ffv1_codec.proofs.Bodies.{body_one}
 use Rattle.ffv1_codec.proofs.slice_encoder.put_transparency.Goals as goal
 
