@@ -205,6 +205,105 @@ def frames(random, count):
             for config, planes, info, payload in pictures(random, count)]
 
 
+def sealed(config, slices):
+    """Slices by their coded bytes, each with its footer."""
+    return b"".join(coded + ffv1.footer(coded, config.ec) for coded in slices)
+
+
+def slices_of(config, payload):
+    return [payload[begin:end] for begin, end in ffv1.cut(config, payload)]
+
+
+def put_changed_head(random, encoder, config, slice, info):
+    """The key and the head of a slice, with one of its values changed."""
+    values = ffv1.place_of(config, slice) + [0] * ffv1.index_count(config) + info
+    kind = random.randrange(6)
+    if slice == 0:
+        encoder.put("key", int(kind != 0))
+    first = 4 + ffv1.index_count(config)
+    if kind == 1:
+        values[random.randrange(4)] += 1
+    elif kind == 2:
+        values[random.randrange(4, first)] = len(config.sets)
+    elif kind == 3:
+        values[first] = 4
+    elif kind == 4:
+        values[first + 1] = 0 if values[first + 1] else 1
+    elif kind == 5:
+        values[first] = (values[first] + 1) % 4
+    for value in values:
+        ffv1.put_number(encoder, "head", value)
+
+
+def changed_slice(random, config, slice, info):
+    """A slice that is refused: by its start, by its head, or at some sample."""
+    kind = random.randrange(5)
+    if kind == 0:
+        return bytes([255]) * random.randrange(1, 5)
+    encoder = ffv1.Encoder(config.table())
+    if kind < 3:
+        put_changed_head(random, encoder, config, slice, info)
+        return encoder.sentinel() + bytes(random.randrange(256) for _ in range(random.randrange(9)))
+    indexes = [0] * ffv1.index_count(config)
+    ffv1.put_head(encoder, config, slice, indexes, *info)
+    for _ in range(random.choice([0, 0, 1, 3])):
+        ffv1.put_number(encoder, ("sample", 0, 0), 0, signed=True)
+    put_too_long(encoder, ("sample", 0, 0))
+    return encoder.sentinel()
+
+
+def other_payload(random, config, info, payload):
+    """A payload that is damaged, or made by hand in one slice."""
+    kind = random.randrange(8)
+    if kind == 0:
+        return damaged(random, payload)
+    if kind == 1:
+        return payload[:random.randrange(len(payload))]
+    if kind == 2:
+        return bytes(random.randrange(1, 4)) + payload
+    slices = slices_of(config, payload)
+    slice = random.randrange(len(slices))
+    if kind == 3 and config.ec:
+        body = slices[-1] + len(slices[-1]).to_bytes(3, "big") + bytes([random.randrange(1, 256)])
+        return sealed(config, slices[:-1]) + body + ffv1.parity(body)
+    if kind == 4:
+        other = random.randrange(len(slices))
+        slices[slice], slices[other] = slices[other], slices[slice]
+    elif kind == 5:
+        slices[slice] = damaged(random, slices[slice])
+    else:
+        slices[slice] = changed_slice(random, config, slice, info)
+    return sealed(config, slices)
+
+
+def lines_text(lines):
+    """Lines one behind the other, each by its plane, its row and its samples."""
+    return hexadecimal(b"".join(bytes([plane, row >> 8, row & 255]) + bytes(samples)
+                                for plane, row, samples in lines))
+
+
+def decoded_line(random, config, payload):
+    """One case: a sink takes so many lines, and refuses the next."""
+    room = random.choice([100000, 100000, 100000, random.randrange(4)])
+    out = ffv1.decode_frame(config, payload, room)
+    fault = out.fault
+    place = [fault.number, fault.slice, fault.plane, fault.line, fault.x] if fault else [0] * 5
+    info = [0] * 3 if fault else out.info
+    return [*config_fields(config), hexadecimal(payload), room, *place, *info, out.ones, out.zeros,
+            out.renormalisations, lines_text(out.lines)]
+
+
+def decoded(random, count):
+    """width height record payload room fault slice plane line x structure num den ones zeros
+    renormalisations lines"""
+    lines = []
+    for config, _, info, payload in pictures(random, count):
+        lines.append(decoded_line(random, config, payload))
+        for _ in range(6):
+            lines.append(decoded_line(random, config, other_payload(random, config, info, payload)))
+    return lines
+
+
 def write(name, lines):
     os.makedirs(DATA, exist_ok=True)
     with open(os.path.join(DATA, name), "w") as out:
@@ -215,3 +314,4 @@ if __name__ == "__main__":
     write("heads.txt", heads(random.Random(9043), 400))
     write("payloads.txt", payloads(random.Random(9044), 2000))
     write("frames.txt", frames(random.Random(9045), 300))
+    write("decoded.txt", decoded(random.Random(9046), 300))

@@ -15,7 +15,7 @@ one_byte : (n : ℕ) → n < 256 → (x : ℕ) → get_or (n ∷ []) x 0 < 256
 one_byte n small zero = small
 one_byte n small (suc x) = omega arith
 
-is_colour : Small → (r g b : ℕ) → r < 256 → g < 256 → b < 256 → IsColour (unsigned_abs (luma_of r g b)) (unsigned_abs (chroma_of b g)) (unsigned_abs (chroma_of r g)) r g b
+pub is_colour : Small → (r g b : ℕ) → r < 256 → g < 256 → b < 256 → IsColour (unsigned_abs (luma_of r g b)) (unsigned_abs (chroma_of b g)) (unsigned_abs (chroma_of r g)) r g b
 is_colour laws r g b red green blue =
     let coded = laws.coded 1 (r ∷ []) (g ∷ []) (b ∷ []) refl refl refl (one_byte r red) (one_byte g green) (one_byte b blue) in
     record { red = red; green = green; blue = blue; coded = coded 0 (omega arith) }

@@ -11,7 +11,7 @@ use Rattle.ffv1_slice.specs.Footer.{footer_of}
 use Rattle.ffv1_slice.specs.Cutting.{joined_of}
 use Rattle.ffv1_record.specs.Accepted.{Accepted}
 use Rattle.ffv1_codec.specs.declared.counts.FrameCounts.{FrameCounts}
-use Rattle.ffv1_codec.specs.declared.fault.EncodeFault.{EncodeFault}
+use Rattle.ffv1_codec.specs.declared.fault.CodecFault.{CodecFault}
 use Rattle.ffv1_codec.specs.Picture.{Planes}
 use Rattle.ffv1_codec.specs.SliceList.{Said}
 use Rattle.ffv1_codec.specs.Frame.{HasLongSlice, slice_bytes}
@@ -55,7 +55,7 @@ pub no_long_slice : (a : Accepted) (planes : Planes) (info : Said) → ((n : ℕ
 no_long_slice a planes info few has = let short = few has.slice has.inside in absurd (omega (arith, short, has.long))
 
 -- why a slice is refused, of its frame
-pub long_slice : (a : Accepted) (planes : Planes) (info : Said) (n : ℕ) (f memory long : EncodeFault) → n < a.configuration.columns * a.configuration.rows → (f ≡ memory) ⊎ ((f ≡ long) × (16777215 < length (slice_bytes a planes info n))) →
+pub long_slice : (a : Accepted) (planes : Planes) (info : Said) (n : ℕ) (f memory long : CodecFault) → n < a.configuration.columns * a.configuration.rows → (f ≡ memory) ⊎ ((f ≡ long) × (16777215 < length (slice_bytes a planes info n))) →
     (f ≡ memory) ⊎ ((f ≡ long) × HasLongSlice a planes info)
 long_slice a planes info n f memory long inside (inl is) = inl is
 long_slice a planes info n f memory long inside (inr is) = inr (is.0, record { slice = n; inside = inside; long = is.1 })

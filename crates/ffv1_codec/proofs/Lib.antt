@@ -8,3 +8,60 @@ pub mod Beginnings
 pub mod Lengths
 pub mod Counted
 pub mod Frames
+mod Sizes
+mod Put
+mod Taken
+mod ClassRoom
+mod SegmentReads
+mod PartPlaces
+mod SegmentTied
+mod ColumnsOpen
+mod RunsInRow
+mod Ranges
+mod PlanesReads
+mod Hands
+mod FinishedLines
+mod LineFinished
+mod Openings
+mod RowOpenings
+mod LineEnds
+mod LineDecodes
+mod SeriesDecodes
+mod PlanesDecodes
+mod RowDecodes
+mod TalliesUp
+mod RowsDecodes
+pub mod Machines
+pub mod OneLine
+pub mod OneColour
+pub mod EventsOf
+pub mod OneEvent
+pub mod OneOpening
+pub mod FlatLists
+pub mod LinesRead
+pub mod ColumnSteps
+pub mod SliceBodies
+pub mod Groups
+pub mod Made
+pub mod RowsDone
+pub mod PlanesMade
+pub mod Keys
+pub mod JoinedLines
+pub mod Sized
+pub mod CellsShown
+pub mod PictureMade
+pub mod SlicesMade
+pub mod SlicesRead
+pub mod PictureLines
+pub mod RowsRead
+pub mod FrameRead
+pub mod FromCoded
+pub mod OnePicture
+pub mod Answered
+pub mod Totals
+pub mod FewDecisions
+pub mod FewInFrame
+pub mod KnownSlices
+mod LinesKept
+pub mod OnlyRead
+pub mod Damaged

@@ -7,7 +7,7 @@ use Rattle.ffv1_line.specs.Cell.{Cell, Above, Shows}
 use Rattle.ffv1_line.specs.declared.rolling.RollingRows.{RollingRows}
 use Rattle.ffv1_record.specs.Configuration.{Configuration}
 use Rattle.ffv1_slice.specs.Grid.{division_of, across, down, begin_of}
-use Rattle.ffv1_codec.specs.declared.rows.PlaneRows.{PlaneRows}
+use Rattle.ffv1_codec.specs.declared.cell_rows.PlaneRows.{PlaneRows}
 use Rattle.ffv1_codec.specs.Picture.{Planes, sample_at, cell_in}
 use Rattle.ffv1_codec.specs.SliceList.{Line}
 

@@ -3,7 +3,7 @@
 ghost use Rattle.std.specs.Prelude.{◌≡◌, ◌⊎◌, ◌+◌, ◌*◌, ◌<◌, ◌≤◌, ◌++◌, ℕ, IfOk, IfErr, OnOk};
 ghost use Rattle.std.specs.Prelude.{OnErr, [], length};
 ghost use Rattle.ffv1_slice.specs.Footer.{footer_of, foot_length};
-ghost use Rattle.ffv1_codec.specs.declared.fault.EncodeFault.TheVariants as fault;
+ghost use Rattle.ffv1_codec.specs.declared.fault.CodecFault.TheVariants as fault;
 ghost use Rattle.ffv1_codec.specs.Picture.{Fits};
 ghost use Rattle.ffv1_codec.specs.Frame.{slice_bytes, frame_of, CodesPicture, HasLongSlice};
 ghost use Rattle.ffv1_codec.specs.Length.{slice_counts, slice_renormalisations, frame_counts};
@@ -11,7 +11,7 @@ ghost use Rattle.ffv1_codec.specs.Length.{frame_most, uncounted};
 ghost use Rattle.ffv1_codec.specs.Frame.{sealed_slice};
 
 use crate::counts::FrameCounts;
-use crate::fault::EncodeFault;
+use crate::fault::CodecFault;
 use crate::info::Info;
 use crate::laws::{encoded_frame, frame_lengths, slice_lengths};
 use crate::picture::Picture;
@@ -28,7 +28,7 @@ fn append<A: Allocator>(
     frame: &mut Vec<u8, A>,
     coded: &[u8],
     ec: bool,
-) -> Result<(), EncodeFault>
+) -> Result<(), CodecFault>
     ensures ok { OnOk result (frame.new.items ≡
         frame.old.items ++ (coded.now ++ footer_of ec coded.now)) }
     ensures few { OnOk result (length coded.now ≤ 16777215) }
@@ -41,8 +41,8 @@ fn append<A: Allocator>(
             frame.extend_from_slice(footer.bytes())?;
             Ok(())
         }
-        Err(SliceFault::SliceTooLong) => Err(EncodeFault::SliceTooLong),
-        Err(_) => Err(EncodeFault::OutOfMemory),
+        Err(SliceFault::SliceTooLong) => Err(CodecFault::SliceTooLong),
+        Err(_) => Err(CodecFault::OutOfMemory),
     }
 }
 
@@ -52,7 +52,7 @@ fn add_slice<R: Allocator + Copy, A: Allocator, B: Allocator>(
     frame: &mut Vec<u8, R>,
     scratch: &mut Scratch<R>,
     slice: &Slice<'_, A, B>,
-) -> Result<FrameCounts, EncodeFault>
+) -> Result<FrameCounts, CodecFault>
     ensures ok { OnOk result (frame.new.items ≡ frame.old.items ++ sealed_slice
         slice.now.checked.now slice.now.picture.now slice.now.info slice.now.number) }
     ensures few { OnOk result (length (slice_bytes slice.now.checked.now slice.now.picture.now
@@ -81,7 +81,7 @@ fn put_slices<R: Allocator + Copy, A: Allocator, B: Allocator>(
     checked: &Checked<A>,
     picture: &Picture<B>,
     info: Info,
-) -> Result<FrameCounts, EncodeFault>
+) -> Result<FrameCounts, CodecFault>
     requires fits { Fits checked.now.configuration picture.now }
     requires none { frame.old.items ≡ [] }
     ensures ok { OnOk result (frame.new.items ≡ frame_of checked.now picture.now info) }
@@ -178,7 +178,7 @@ impl<A: Allocator + Copy> FrameEncoder<A> {
         &mut self,
         picture: &Picture<B>,
         info: Info,
-    ) -> Result<Vec<u8, A>, EncodeFault>
+    ) -> Result<Vec<u8, A>, CodecFault>
         requires { Fits self.old.accepted.configuration picture.now }
         ensures configuration { self.new.accepted ≡ self.old.accepted }
         ensures ok { IfOk result (λ bytes.

@@ -1,26 +1,86 @@
-//! Why a picture is not encoded.
+//! Why a frame is not encoded, or not decoded, and where.
 
 ghost use Rattle.std.specs.Prelude.{◌≡◌};
-ghost use Rattle.ffv1_codec.specs.declared.fault.EncodeFault.TheVariants as fault;
+ghost use Rattle.ffv1_codec.specs.declared.fault.CodecFault.TheVariants as fault;
 
 use std::alloc::AllocError;
 use thiserror::Error;
 
-/// Why a picture is not encoded. It displays as its number and its name.
+/// Why a frame is not encoded, or not decoded. It displays as its number and its name.
 #[derive(Clone, Copy, Debug, PartialEq, Eq, Error)]
-pub enum EncodeFault {
+pub enum CodecFault {
     /// A growth of memory was refused.
     #[error("2 OutOfMemory")]
     OutOfMemory,
+    /// The first two bytes of a slice, big end first and with zeros behind the end, are 65280 or
+    /// more.
+    #[error("3 BadStart")]
+    BadStart,
+    /// The 31st decision of an exponent is 1.
+    #[error("4 SymbolTooLong")]
+    SymbolTooLong,
+    /// A place has no red, green and blue from 0 to 255, or no transparency from 0 to 255.
+    #[error("7 Colour")]
+    Colour,
+    /// The keyframe is 0.
+    #[error("30 NotKey")]
+    NotKey,
+    /// A head's place is not that of its slice, or is not one cell.
+    #[error("31 Place")]
+    Place,
+    /// A set index is not below the number of sets.
+    #[error("32 SetIndex")]
+    SetIndex,
+    /// The picture structure is above 3.
+    #[error("33 Structure")]
+    Structure,
+    /// A number of the sample aspect is above 65535, or one of them is zero alone.
+    #[error("34 Aspect")]
+    Aspect,
+    /// Going from the end, fewer bytes are left than a footer, or fewer before the footer than its
+    /// slice_size.
+    #[error("35 Footer")]
+    Footer,
+    /// Bytes are left before the first slice.
+    #[error("36 Leftover")]
+    Leftover,
+    /// A slice's remainder is not 0.
+    #[error("37 SliceParity")]
+    SliceParity,
+    /// A slice's error_status is not 0.
+    #[error("38 SliceStatus")]
+    SliceStatus,
     /// A slice's coded bytes pass 16777215.
     #[error("40 SliceTooLong")]
     SliceTooLong,
+    /// A slice's structure or aspect differ from the first slice's.
+    #[error("41 InfoDiffers")]
+    InfoDiffers,
+    /// The sink refused a line.
+    #[error("42 Sink")]
+    Sink,
 }
 
-impl From<AllocError> for EncodeFault {
+impl From<AllocError> for CodecFault {
     ghost from_gives = { λ _ f. f ≡ fault.OutOfMemory };
 
-    fn from(_refused: AllocError) -> EncodeFault {
-        EncodeFault::OutOfMemory
+    fn from(_refused: AllocError) -> CodecFault {
+        CodecFault::OutOfMemory
     }
+}
+
+/// Why a payload is not decoded, and where. A place that a fault has none of is 0.
+#[derive(Clone, Copy, Debug, PartialEq, Eq)]
+pub struct FrameFault {
+    /// Why.
+    pub fault: CodecFault,
+    /// The number of the slice, in raster order. It is 0 for bytes before the first slice, that of
+    /// the slice which holds `x` for a colour, and that of the row's first slice for a sink.
+    pub slice: u16,
+    /// The plane of a sample's symbol, or of the line that a sink refused.
+    pub plane: u8,
+    /// The line of the plane: of a sample's symbol, a colour, or the line that a sink refused.
+    pub line: u16,
+    /// The column of the plane: of a sample's symbol, or a colour.
+    pub x: u16,
 }

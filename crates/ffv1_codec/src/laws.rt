@@ -12,6 +12,9 @@ ghost use Rattle.ffv1_codec.specs.SliceList.{chosen_head, chosen_body};
 ghost use Rattle.ffv1_codec.specs.Length.{slice_residuals, slice_most, slice_renormalisations};
 ghost use Rattle.ffv1_codec.specs.Length.{frame_counts, frame_most};
 ghost use Rattle.ffv1_slice.specs.Footer.{foot_length};
+ghost use Rattle.ffv1_range.specs.Table.{Table};
+ghost use Rattle.ffv1_record.specs.Configuration.{Configuration};
+ghost use Rattle.ffv1_codec.specs.Sides.{Sides};
 ghost use Rattle.ffv1_codec.specs.Worked.{small_pictures, unknown};
 ghost use Rattle.ffv1_codec.specs.Frame.{IsSaid, CodesPicture, HasLongSlice, slice_bytes};
 ghost use Rattle.ffv1_codec.specs.Frame.{frame_of};
@@ -19,7 +22,7 @@ ghost use Rattle.ffv1_codec.specs.Frame.{frame_of};
 use ffv1_line::laws::{chosen, lengths};
 use ffv1_range::laws::{lengths as step_lengths, named_states, sentinel_ending};
 use ffv1_rct::laws::{lists, small};
-use ffv1_record::laws::accepted;
+use ffv1_record::laws::{accepted, accepted_parts};
 use ffv1_slice::laws::{divided, footing, joined, lengths as head_lengths, parts, tiling};
 
 /// The coded samples of a picture have 8 bits, and 9 in RCT.
@@ -29,6 +32,17 @@ pub fn coded_samples()
 {
     lists();
     small();
+}
+
+/// The planes of a checked configuration are divided part by part, in RCT all alike.
+pub fn sides()
+    ensures { (c : Configuration) (t : Table) → IsAccepted c t → Sides c }
+{
+    accepted();
+    accepted_parts();
+    divided();
+    tiling();
+    parts();
 }
 
 /// What an encoder takes of a picture: a head of the profile that says what is to be said, and

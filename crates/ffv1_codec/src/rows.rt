@@ -1,231 +1,290 @@
-//! The rows of a slice's cells, read from its picture.
+//! A row of slices is decoded.
 
-ghost use Rattle.std.specs.Prelude.{◌≡◌, ◌+◌, ◌<◌, ℕ, length, replicate, OnOk, true};
-ghost use Rattle.ffv1_rct.specs.Lines.{AreCoded};
-ghost use Rattle.ffv1_record.specs.Configuration.{Configuration, is_rct};
-ghost use Rattle.ffv1_codec.specs.Picture.{Planes, plane_count, cell_in, cell_height, coded_at};
-ghost use Rattle.ffv1_codec.specs.Picture.{sample_at};
-ghost use Rattle.ffv1_codec.specs.CellRows.{Rolled, Loaded, AllRolled, AllLoaded};
+ghost use Rattle.std.specs.Prelude.{◌≡◌, ℕ, ◌+◌, ◌*◌, ◌≤◌, ◌<◌, List, None, IsSome, MatchResult};
+ghost use Rattle.std.specs.Prelude.{OnOk, length, replicate};
+ghost use Rattle.std.specs.List.{flat_map, range_with_len};
+ghost use Rattle.ffv1_range.specs.Symbols.{AllHeld};
+ghost use Rattle.ffv1_wire.specs.Runs.{Grows};
+ghost use Rattle.ffv1_record.specs.Held.{planes_of};
+ghost use Rattle.ffv1_codec.specs.Picture.{plane_count};
+ghost use Rattle.ffv1_codec.specs.Order.{lines_down, line_events, series_of, series_events};
+ghost use Rattle.ffv1_codec.specs.Decoding.{State};
+ghost use Rattle.ffv1_codec.specs.Tied.{IsFrame, AreOpen, column_at, slots_in, TiedColumns};
+ghost use Rattle.ffv1_codec.specs.Tied.{TiedPlanes};
+ghost use Rattle.ffv1_codec.specs.Opened.{IsCutOf, coded_by};
+ghost use Rattle.ffv1_codec.specs.Finished.{IsTogether};
+ghost use Rattle.ffv1_codec.specs.Progress.{CountsSink, FailsIn, LineDecoded, SeriesDecoded};
+ghost use Rattle.ffv1_codec.specs.Progress.{series_at, Decoded};
+ghost use Rattle.ffv1_codec.specs.Rows.{IsBetween, RowDecoded, open_events};
 
-use crate::slice::Slice;
-use ffv1_line::RollingRows;
-use ffv1_line::laws::rolling;
-use ffv1_rct::forward_line;
-use ffv1_record::laws::accepted_parts;
-use std::alloc::{AllocError, Allocator};
+use crate::column::Column;
+use crate::fault::FrameFault;
+use crate::finish::finish;
+use crate::frame::{CodedLine, Frame};
+use crate::hand::hand_lines;
+use crate::info::Info;
+use crate::opening::open_row;
+use crate::places::places;
+use crate::planes::read_planes;
+use ffv1_line::laws::cell_is_read;
+use ffv1_line::reset;
+use ffv1_range::laws::{counted_from_nothing, named_states};
+use ffv1_record::Colour;
+use ffv1_record::laws::{accepted, accepted_parts};
+use ffv1_slice::Spans;
+use ffv1_wire::LineSink;
+use std::alloc::Allocator;
 
-/// The rolling rows of the planes that are coded line by line together: one plane after the other
-/// in the first of them, and in RCT Y, Cb, Cr and transparency each in its own.
-#[derive(Drop)]
-pub(crate) struct PlaneRows<A: Allocator> {
-    pub(crate) first: RollingRows<Vec<u16, A>>,
-    pub(crate) second: RollingRows<Vec<u16, A>>,
-    pub(crate) third: RollingRows<Vec<u16, A>>,
-    pub(crate) fourth: RollingRows<Vec<u16, A>>,
-}
-
-/// Rows of no width. They take no memory.
-fn no_rows<A: Allocator + Copy>(alloc: A) -> RollingRows<Vec<u16, A>> {
-    RollingRows {
-        two: Vec::new(alloc),
-        one: Vec::new(alloc),
-        cur: Vec::new(alloc),
+/// Decodes a line: reads it, makes of it what is handed over, and hands it over.
+fn decode_whole_line<A: Allocator, S: LineSink>(
+    frame: &Frame<'_, A>,
+    line: &CodedLine,
+    columns: &mut [Column],
+    states: &mut [u8],
+    two: &[u16],
+    one: &[u16],
+    cur: &mut [u16],
+    out: &mut [u8],
+    sink: &mut S,
+) -> Result<(), FrameFault>
+    requires frame { IsFrame frame.now }
+    requires row { line.now.row < frame.now.checked.now.configuration.rows }
+    requires together { IsTogether frame.now.checked.now.configuration line.now.first
+        line.now.count }
+    requires planes { line.now.first + line.now.count
+        ≤ plane_count frame.now.checked.now.configuration }
+    requires some { 0 < line.now.count }
+    requires few { line.now.first + line.now.count ≤ 4 }
+    requires y { (i : ℕ) → i < line.now.count →
+        line.now.y < lines_down frame.now.checked.now.configuration (line.now.first + i)
+        line.now.row }
+    requires many { length columns.old ≡ frame.now.checked.now.configuration.columns }
+    requires open { AreOpen frame.now.payload.now frame.now.checked.now.configuration.sets
+        columns.old }
+    requires two_long { length two.now ≡ line.now.count
+        * frame.now.checked.now.configuration.width }
+    requires one_long { length one.now ≡ line.now.count
+        * frame.now.checked.now.configuration.width }
+    requires cur_long { length cur.old ≡ line.now.count
+        * frame.now.checked.now.configuration.width }
+    requires out_long { length out.old ≡ line.now.count
+        * frame.now.checked.now.configuration.width }
+    requires room { length states.old ≡ frame.now.checked.now.configuration.columns
+        * slots_in frame.now.checked.now.configuration }
+    requires held { AllHeld frame.now.checked.now.table states.old }
+    ensures exact { (coded : ℕ → List ℕ) (next : ℕ) (initial : S) (s : State) →
+        let a = frame.now.checked.now in
+        line.now.first + line.now.count ≤ next →
+        TiedColumns a coded line.now.row next frame.now.payload.now columns.old states.old s →
+        TiedPlanes a.configuration line.now.first line.now.count 0 0 line.now.y two.now one.now
+        cur.old s →
+        Grows S.takes initial s.lines sink.old →
+        MatchResult result
+        (λ _. LineDecoded S.takes S.refuses a coded initial line.now.row next frame.now.payload.now
+        line.now.first line.now.count line.now.y columns.new states.new one.now cur.new sink.new s)
+        (λ f. FailsIn S.takes S.refuses a coded initial line.now.row columns.new
+        (line_events a.configuration line.now.row (range_with_len line.now.first line.now.count)
+        line.now.y) f sink.new s) }
+    ensures counted { CountsSink (S.failures sink.old) (S.failures sink.new) result }
+    ensures open { OnOk result (AreOpen frame.now.payload.now
+        frame.now.checked.now.configuration.sets columns.new) }
+    ensures held { OnOk result (AllHeld frame.now.checked.now.table states.new) }
+{
+    places();
+    accepted();
+    counted_from_nothing();
+    match read_planes(frame, line, columns, states, two, one, cur) {
+        Ok(()) => {}
+        Err(fault) => return Err(fault),
+    }
+    match finish(frame, line, cur, out) {
+        Ok(()) => {}
+        Err(fault) => return Err(fault),
+    }
+    match hand_lines(frame, line, out, sink) {
+        Ok(()) => Ok(()),
+        Err(fault) => Err(fault),
     }
 }
 
-impl<A: Allocator> PlaneRows<A> {
-    /// Goes on to the next row of each plane.
-    pub(crate) fn turn(&mut self)
-        ensures { (c : Configuration) (planes : Planes) (n y : ℕ) →
-            AllLoaded c planes n y self.old → AllRolled c planes n (y + 1) self.new }
-    {
-        rolling();
-        self.first.turn();
-        self.second.turn();
-        self.third.turn();
-        self.fourth.turn();
-    }
+/// Sets each sample of some lines to 0, as above a slice.
+fn clear(lines: &mut [u16])
+    ensures { lines.new ≡ replicate (length lines.old) 0 }
+{
+    lines.fill(0);
 }
 
-impl<A: Allocator + Copy> PlaneRows<A> {
-    /// Rows of no width. They take no memory.
-    pub(crate) fn new(alloc: A) -> PlaneRows<A> {
-        PlaneRows {
-            first: no_rows(alloc),
-            second: no_rows(alloc),
-            third: no_rows(alloc),
-            fourth: no_rows(alloc),
+/// Decodes the lines of planes that are coded together.
+fn decode_series<A: Allocator, S: LineSink>(
+    frame: &Frame<'_, A>,
+    row: u32,
+    first: u8,
+    count: u8,
+    columns: &mut [Column],
+    states: &mut [u8],
+    lines: &mut [u16],
+    out: &mut [u8],
+    sink: &mut S,
+) -> Result<(), FrameFault>
+    requires frame { IsFrame frame.now }
+    requires row { row < frame.now.checked.now.configuration.rows }
+    requires together { IsTogether frame.now.checked.now.configuration first count }
+    requires planes { first + count ≤ plane_count frame.now.checked.now.configuration }
+    requires some { 0 < count }
+    requires few { first + count ≤ 4 }
+    requires many { length columns.old ≡ frame.now.checked.now.configuration.columns }
+    requires open { AreOpen frame.now.payload.now frame.now.checked.now.configuration.sets
+        columns.old }
+    requires lines_long { length lines.old ≡ 3 * length out.old }
+    requires out_long { length out.old ≡ count * frame.now.checked.now.configuration.width }
+    requires room { length states.old ≡ frame.now.checked.now.configuration.columns
+        * slots_in frame.now.checked.now.configuration }
+    requires held { AllHeld frame.now.checked.now.table states.old }
+    ensures exact { (coded : ℕ → List ℕ) (initial : S) (s : State) →
+        let a = frame.now.checked.now in
+        TiedColumns a coded row first frame.now.payload.now columns.old states.old s →
+        Grows S.takes initial s.lines sink.old →
+        MatchResult result
+        (λ _. SeriesDecoded S.takes S.refuses a coded initial row frame.now.payload.now first
+        count columns.new states.new sink.new s)
+        (λ f. FailsIn S.takes S.refuses a coded initial row columns.new
+        (series_events a.configuration row (series_at a.configuration row first count)) f sink.new
+        s) }
+    ensures counted { CountsSink (S.failures sink.old) (S.failures sink.new) result }
+    ensures open { OnOk result (AreOpen frame.now.payload.now
+        frame.now.checked.now.configuration.sets columns.new) }
+    ensures held { OnOk result (AllHeld frame.now.checked.now.table states.new) }
+{
+    places();
+    accepted();
+    accepted_parts();
+    cell_is_read();
+    clear(lines);
+    let size = out.len();
+    let (mut two, rest) = lines.split_at_mut(size);
+    let (mut one, mut cur) = rest.split_at_mut(size);
+    let top = frame.grid.top(first as u32, row);
+    let bottom = frame.grid.top(first as u32, row + 1);
+    for y in 0..bottom - top {
+        let line = CodedLine {
+            row,
+            first,
+            count,
+            y,
+        };
+        match decode_whole_line(frame, &line, columns, states, two, one, cur, out, sink) {
+            Ok(()) => {}
+            Err(fault) => return Err(fault),
+        }
+        let free = two;
+        two = one;
+        one = cur;
+        cur = free;
+    }
+    Ok(())
+}
+
+/// Decodes the planes of a row, one after the other, or for RCT together.
+fn decode_planes<A: Allocator, S: LineSink>(
+    frame: &Frame<'_, A>,
+    row: u32,
+    columns: &mut [Column],
+    states: &mut [u8],
+    lines: &mut [u16],
+    out: &mut [u8],
+    sink: &mut S,
+) -> Result<(), FrameFault>
+    requires frame { IsFrame frame.now }
+    requires row { row < frame.now.checked.now.configuration.rows }
+    requires many { length columns.old ≡ frame.now.checked.now.configuration.columns }
+    requires open { AreOpen frame.now.payload.now frame.now.checked.now.configuration.sets
+        columns.old }
+    requires lines_long { length lines.old ≡ 3 * length out.old }
+    requires out_long { length out.old
+        ≡ planes_of frame.now.checked.now.configuration.colour
+        frame.now.checked.now.configuration.extra_plane
+        * frame.now.checked.now.configuration.width }
+    requires room { length states.old ≡ frame.now.checked.now.configuration.columns
+        * slots_in frame.now.checked.now.configuration }
+    requires held { AllHeld frame.now.checked.now.table states.old }
+    ensures exact { (coded : ℕ → List ℕ) (initial : S) (s : State) →
+        let a = frame.now.checked.now in
+        let events = flat_map (series_events a.configuration row)
+        (series_of a.configuration row) in
+        TiedColumns a coded row 0 frame.now.payload.now columns.old states.old s →
+        Grows S.takes initial s.lines sink.old →
+        MatchResult result
+        (λ _. Decoded S.takes S.refuses a coded initial row (plane_count a.configuration)
+        frame.now.payload.now events columns.new states.new sink.new s)
+        (λ f. FailsIn S.takes S.refuses a coded initial row columns.new events f sink.new s) }
+    ensures counted { CountsSink (S.failures sink.old) (S.failures sink.new) result }
+{
+    accepted_parts();
+    let planes = frame.grid.planes() as u8;
+    match frame.checked.config().colour {
+        Colour::Rct => {
+            match decode_series(frame, row, 0, planes, columns, states, lines, out, sink) {
+                Ok(()) => Ok(()),
+                Err(fault) => Err(fault),
+            }
+        }
+        Colour::YCbCr => {
+            for plane in 0..planes {
+                match decode_series(frame, row, plane, 1, columns, states, lines, out, sink) {
+                    Ok(()) => {}
+                    Err(fault) => return Err(fault),
+                }
+            }
+            Ok(())
         }
     }
 }
 
-/// So many zeros, in the memory that a row has where they find room in it.
-fn clear<A: Allocator>(row: &mut Vec<u16, A>, width: usize) -> Result<(), AllocError>
-    ensures { OnOk result (row.new.items ≡ replicate width 0) }
+/// Decodes a row of slices.
+pub(crate) fn decode_row<A: Allocator, B: Allocator, S: LineSink>(
+    frame: &Frame<'_, A>,
+    spans: &Spans<B>,
+    row: u32,
+    columns: &mut [Column],
+    states: &mut [u8],
+    lines: &mut [u16],
+    out: &mut [u8],
+    first: &mut Option<Info>,
+    sink: &mut S,
+) -> Result<(), FrameFault>
+    requires frame { IsFrame frame.now }
+    requires row { row < frame.now.checked.now.configuration.rows }
+    requires many { length columns.old ≡ frame.now.checked.now.configuration.columns }
+    requires cut { IsCutOf frame.now.checked.now frame.now.payload.now spans.now }
+    requires closed { (k : ℕ) → k < length columns.old → (column_at columns.old k).parked ≡ None }
+    requires lines_long { length lines.old ≡ 3 * length out.old }
+    requires out_long { length out.old
+        ≡ planes_of frame.now.checked.now.configuration.colour
+        frame.now.checked.now.configuration.extra_plane
+        * frame.now.checked.now.configuration.width }
+    requires room { length states.old ≡ frame.now.checked.now.configuration.columns
+        * slots_in frame.now.checked.now.configuration }
+    ensures exact { (initial : S) (s : State) →
+        let a = frame.now.checked.now in
+        let coded : ℕ → List ℕ = coded_by a frame.now.payload.now spans.now in
+        IsBetween a.configuration first.old s → Grows S.takes initial s.lines sink.old →
+        MatchResult result
+        (λ _. RowDecoded S.takes S.refuses a coded initial row columns.new first.new sink.new s)
+        (λ f. FailsIn S.takes S.refuses a coded initial row columns.new
+        (open_events a.configuration row) f sink.new s) }
+    ensures known { OnOk result (IsSome first.new) }
+    ensures counted { CountsSink (S.failures sink.old) (S.failures sink.new) result }
 {
-    row.resize(width, 0)?;
-    row.fill(0);
-    Ok(())
-}
-
-/// The rows above the first of a cell, which are zeros (RFC 9043, 3.1), and room for it.
-pub(crate) fn restart<A: Allocator>(
-    rows: &mut RollingRows<Vec<u16, A>>,
-    width: usize,
-) -> Result<(), AllocError>
-    ensures two { OnOk result (rows.new.two.items ≡ replicate width 0) }
-    ensures one { OnOk result (rows.new.one.items ≡ replicate width 0) }
-    ensures cur { OnOk result (rows.new.cur.items ≡ replicate width 0) }
-{
-    clear(&mut rows.two, width)?;
-    clear(&mut rows.one, width)?;
-    clear(&mut rows.cur, width)?;
-    Ok(())
-}
-
-/// The same of transparency, where there is such a plane.
-fn restart_transparency<R: Allocator, A: Allocator, B: Allocator>(
-    rows: &mut RollingRows<Vec<u16, R>>,
-    slice: &Slice<'_, A, B>,
-) -> Result<(), AllocError>
-    ensures { OnOk result (slice.now.checked.now.configuration.extra_plane ≡ true →
-        Rolled (cell_in slice.now.checked.now.configuration slice.now.picture.now
-        slice.now.number 3) 0 rows.new) }
-{
-    rolling();
-    if slice.checked.config().extra_plane {
-        restart(rows, slice.cell(3).width as usize)?;
-    }
-    Ok(())
-}
-
-/// The rows above the first of each plane's cell in RCT, and room for it.
-pub(crate) fn restart_all<R: Allocator, A: Allocator, B: Allocator>(
-    rows: &mut PlaneRows<R>,
-    slice: &Slice<'_, A, B>,
-) -> Result<(), AllocError>
-    ensures { OnOk result (AllRolled slice.now.checked.now.configuration slice.now.picture.now
-        slice.now.number 0 rows.new) }
-{
-    rolling();
-    restart(&mut rows.first, slice.cell(0).width as usize)?;
-    restart(&mut rows.second, slice.cell(1).width as usize)?;
-    restart(&mut rows.third, slice.cell(2).width as usize)?;
-    restart_transparency(&mut rows.fourth, slice)?;
-    Ok(())
-}
-
-/// Samples of 8 bits as they are coded.
-fn widen(samples: &[u8], row: &mut [u16])
-    requires { length samples.now ≡ length row.old }
-    ensures { row.new ≡ samples.now }
-{
-    for x in 0..row.len() {
-        row[x] = u16::from(samples[x]);
-    }
-}
-
-/// The same into a row that is kept.
-fn fill<R: Allocator>(samples: &[u8], row: &mut Vec<u16, R>)
-    requires { length samples.now ≡ length row.old.items }
-    ensures { row.new.items ≡ samples.now }
-{
-    widen(samples, row.as_mut_slice());
-}
-
-/// The transform of lines of red, green and blue into rows that are kept.
-fn transform<R: Allocator>(
-    red: &[u8],
-    green: &[u8],
-    blue: &[u8],
-    y: &mut Vec<u16, R>,
-    cb: &mut Vec<u16, R>,
-    cr: &mut Vec<u16, R>,
-)
-    requires green { length green.now ≡ length red.now }
-    requires blue { length blue.now ≡ length red.now }
-    requires y { length y.old.items ≡ length red.now }
-    requires cb { length cb.old.items ≡ length red.now }
-    requires cr { length cr.old.items ≡ length red.now }
-    ensures coded { AreCoded (length red.now) red.now green.now blue.now y.new.items cb.new.items
-        cr.new.items }
-    ensures y { length y.new.items ≡ length red.now }
-    ensures cb { length cb.new.items ≡ length red.now }
-    ensures cr { length cr.new.items ≡ length red.now }
-{
-    forward_line(
-        red,
-        green,
-        blue,
-        y.as_mut_slice(),
-        cb.as_mut_slice(),
-        cr.as_mut_slice(),
-    );
-}
-
-/// Row y of a plane whose samples are coded as they are.
-pub(crate) fn load<R: Allocator, A: Allocator, B: Allocator>(
-    rows: &mut RollingRows<Vec<u16, R>>,
-    slice: &Slice<'_, A, B>,
-    plane: u32,
-    y: u32,
-)
-    requires plane { plane < plane_count slice.now.checked.now.configuration }
-    requires inside { y < cell_height slice.now.checked.now.configuration slice.now.number plane }
-    requires plain { (u v : ℕ) →
-        coded_at slice.now.checked.now.configuration slice.now.picture.now plane u v
-        ≡ sample_at slice.now.checked.now.configuration slice.now.picture.now plane u v }
-    requires rolled { Rolled
-        (cell_in slice.now.checked.now.configuration slice.now.picture.now slice.now.number plane) y
-        rows.old }
-    ensures { Loaded
-        (cell_in slice.now.checked.now.configuration slice.now.picture.now slice.now.number plane) y
-        rows.new }
-{
-    fill(slice.line(plane, y), &mut rows.cur);
-}
-
-/// Row y of transparency in RCT, where there is such a plane.
-fn load_transparency<R: Allocator, A: Allocator, B: Allocator>(
-    rows: &mut RollingRows<Vec<u16, R>>,
-    slice: &Slice<'_, A, B>,
-    y: u32,
-)
-    requires inside { y < cell_height slice.now.checked.now.configuration slice.now.number 0 }
-    requires rolled { slice.now.checked.now.configuration.extra_plane ≡ true →
-        Rolled (cell_in slice.now.checked.now.configuration slice.now.picture.now
-        slice.now.number 3) y rows.old }
-    ensures { slice.now.checked.now.configuration.extra_plane ≡ true →
-        Loaded (cell_in slice.now.checked.now.configuration slice.now.picture.now
-        slice.now.number 3) y rows.new }
-{
-    if slice.checked.config().extra_plane {
-        load(rows, slice, 3, y);
-    }
-}
-
-/// Row y of Y, Cb and Cr in RCT, and of transparency where there is such a plane.
-pub(crate) fn load_all<R: Allocator, A: Allocator, B: Allocator>(
-    rows: &mut PlaneRows<R>,
-    slice: &Slice<'_, A, B>,
-    y: u32,
-)
-    requires rct { is_rct slice.now.checked.now.configuration.colour ≡ true }
-    requires inside { y < cell_height slice.now.checked.now.configuration slice.now.number 0 }
-    requires rolled { AllRolled slice.now.checked.now.configuration slice.now.picture.now
-        slice.now.number y rows.old }
-    ensures { AllLoaded slice.now.checked.now.configuration slice.now.picture.now
-        slice.now.number y rows.new }
-{
+    named_states();
     accepted_parts();
-    let _config = slice.checked.config();
-    transform(
-        slice.line(0, y),
-        slice.line(1, y),
-        slice.line(2, y),
-        &mut rows.first.cur,
-        &mut rows.second.cur,
-        &mut rows.third.cur,
-    );
-    load_transparency(&mut rows.fourth, slice, y);
+    counted_from_nothing();
+    reset(states);
+    match open_row(frame, spans, row, columns, first) {
+        Ok(()) => {}
+        Err(fault) => return Err(fault),
+    }
+    match decode_planes(frame, row, columns, states, lines, out, sink) {
+        Ok(()) => Ok(()),
+        Err(fault) => Err(fault),
+    }
 }

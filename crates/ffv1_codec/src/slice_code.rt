@@ -6,15 +6,15 @@ ghost use Rattle.ffv1_range.specs.Writing.{unwritten};
 ghost use Rattle.ffv1_line.specs.Length.{row_decisions};
 ghost use Rattle.ffv1_record.specs.Held.{classes_of};
 ghost use Rattle.ffv1_slice.specs.Head.{key_steps, head_steps};
-ghost use Rattle.ffv1_codec.specs.declared.fault.EncodeFault.TheVariants as fault;
+ghost use Rattle.ffv1_codec.specs.declared.fault.CodecFault.TheVariants as fault;
 ghost use Rattle.ffv1_codec.specs.SliceList.{chosen_head, chosen_slice};
 ghost use Rattle.ffv1_codec.specs.Frame.{slice_bytes};
 ghost use Rattle.ffv1_codec.specs.Length.{slice_residuals, slice_renormalisations};
 ghost use Rattle.ffv1_codec.specs.Behind.{Behind, states_in};
 
-use crate::fault::EncodeFault;
+use crate::cell_rows::PlaneRows;
+use crate::fault::CodecFault;
 use crate::laws::slice_lengths;
-use crate::rows::PlaneRows;
 use crate::slice::Slice;
 use crate::slice_encoder::put_body;
 use ffv1_range::RangeEncoder;
@@ -88,7 +88,7 @@ fn renew<A: Allocator>(states: &mut Vec<u8, A>, count: usize) -> Result<(), Allo
 fn put_beginning<R: Allocator, A: Allocator, B: Allocator>(
     encoder: &mut RangeEncoder<R>,
     slice: &Slice<'_, A, B>,
-) -> Result<(), EncodeFault>
+) -> Result<(), CodecFault>
     requires { encoder.old ≡ unwritten }
     ensures ok { OnOk result ((count : ℕ) → Behind slice.now.checked.now.table
         (key_steps slice.now.number ++ head_steps slice.now.checked.now.configuration
@@ -101,11 +101,11 @@ fn put_beginning<R: Allocator, A: Allocator, B: Allocator>(
     slots();
     two_parts();
     let Ok(()) = put_key(encoder, slice.checked, slice.number) else {
-        return Err(EncodeFault::OutOfMemory);
+        return Err(CodecFault::OutOfMemory);
     };
     let head = slice.head();
     let Ok(()) = put_head(encoder, slice.checked, slice.number, &head) else {
-        return Err(EncodeFault::OutOfMemory);
+        return Err(CodecFault::OutOfMemory);
     };
     Ok(())
 }
@@ -117,7 +117,7 @@ fn put_slice<R: Allocator, A: Allocator, B: Allocator>(
     states: &mut [u8],
     rows: &mut PlaneRows<R>,
     slice: &Slice<'_, A, B>,
-) -> Result<u64, EncodeFault>
+) -> Result<u64, CodecFault>
     requires new { encoder.old ≡ unwritten }
     requires fresh { states.old ≡ replicate (states_in slice.now.checked.now.configuration) 128 }
     ensures ok { OnOk result (Behind slice.now.checked.now.table
@@ -144,7 +144,7 @@ pub(crate) fn code_slice<R: Allocator + Copy, A: Allocator, B: Allocator>(
     alloc: R,
     scratch: &mut Scratch<R>,
     slice: &Slice<'_, A, B>,
-) -> Result<Coded<R>, EncodeFault>
+) -> Result<Coded<R>, CodecFault>
     ensures bytes { IfOk result (λ c. c.bytes.items ≡ slice_bytes slice.now.checked.now
         slice.now.picture.now slice.now.info slice.now.number) }
     ensures long { IfOk result (λ c. length c.bytes.items ≡ slice_renormalisations
@@ -159,7 +159,7 @@ pub(crate) fn code_slice<R: Allocator + Copy, A: Allocator, B: Allocator>(
     let states = scratch.states.as_mut_slice();
     let decisions = put_slice(&mut encoder, states, &mut scratch.rows, slice)?;
     let Ok(bytes) = encoder.finish_sentinel() else {
-        return Err(EncodeFault::OutOfMemory);
+        return Err(CodecFault::OutOfMemory);
     };
     Ok(Coded { bytes, decisions })
 }

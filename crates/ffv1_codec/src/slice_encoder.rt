@@ -7,7 +7,7 @@ ghost use Rattle.ffv1_plane.specs.Quantisation.{contexts_of};
 ghost use Rattle.ffv1_line.specs.Row.{row_steps, chosen_row};
 ghost use Rattle.ffv1_line.specs.Cell.{Cell};
 ghost use Rattle.ffv1_record.specs.Configuration.{is_rct};
-ghost use Rattle.ffv1_codec.specs.declared.fault.EncodeFault.TheVariants as fault;
+ghost use Rattle.ffv1_codec.specs.declared.fault.CodecFault.TheVariants as fault;
 ghost use Rattle.ffv1_codec.specs.Picture.{plane_count, cell_in, cell_height};
 ghost use Rattle.ffv1_codec.specs.SliceList.{class_of, bits_of, chosen_line, chosen_body};
 ghost use Rattle.ffv1_codec.specs.SliceList.{chosen_head};
@@ -17,8 +17,8 @@ ghost use Rattle.ffv1_codec.specs.CellRows.{Loaded, AllRolled, AllLoaded};
 ghost use Rattle.ffv1_codec.specs.Behind.{states_in};
 ghost use Rattle.ffv1_codec.specs.CellRows.{fourth_line};
 
-use crate::fault::EncodeFault;
-use crate::rows::{PlaneRows, load, load_all, restart, restart_all};
+use crate::cell_rows::{PlaneRows, load, load_all, restart, restart_all};
+use crate::fault::CodecFault;
 use crate::slice::{Slice, index_of};
 use ffv1_line::laws::{rolling, slots};
 use ffv1_line::{RollingRows, encode_line};
@@ -71,7 +71,7 @@ fn put_row<R: Allocator, A: Allocator>(
     at: usize,
     rows: &RollingRows<Vec<u16, R>>,
     bits: u8,
-) -> Result<(), EncodeFault>
+) -> Result<(), CodecFault>
     requires bits { (bits ≡ 8) ⊎ (bits ≡ 9) }
     requires some { 0 < length rows.now.cur.items }
     requires two_long { length rows.now.two.items ≡ length rows.now.cur.items }
@@ -101,7 +101,7 @@ fn put_row<R: Allocator, A: Allocator>(
         &rows.cur,
         bits,
     ) else {
-        return Err(EncodeFault::OutOfMemory);
+        return Err(CodecFault::OutOfMemory);
     };
     Ok(())
 }
@@ -113,7 +113,7 @@ fn put_line<R: Allocator, A: Allocator, B: Allocator>(
     rows: &RollingRows<Vec<u16, R>>,
     slice: &Slice<'_, A, B>,
     plane: u32,
-) -> Result<(), EncodeFault>
+) -> Result<(), CodecFault>
     requires plane { plane < plane_count slice.now.checked.now.configuration }
     requires some { 0 < length rows.now.cur.items }
     requires two_long { length rows.now.two.items ≡ length rows.now.cur.items }
@@ -146,7 +146,7 @@ fn put_plane<R: Allocator, A: Allocator, B: Allocator>(
     rows: &mut RollingRows<Vec<u16, R>>,
     slice: &Slice<'_, A, B>,
     plane: u32,
-) -> Result<(), EncodeFault>
+) -> Result<(), CodecFault>
     requires plain { is_rct slice.now.checked.now.configuration.colour ≡ false }
     requires plane { plane < plane_count slice.now.checked.now.configuration }
     requires room { length states.old ≡ states_in slice.now.checked.now.configuration }
@@ -177,7 +177,7 @@ fn put_planes<R: Allocator, A: Allocator, B: Allocator>(
     states: &mut [u8],
     rows: &mut RollingRows<Vec<u16, R>>,
     slice: &Slice<'_, A, B>,
-) -> Result<(), EncodeFault>
+) -> Result<(), CodecFault>
     requires plain { is_rct slice.now.checked.now.configuration.colour ≡ false }
     requires room { length states.old ≡ states_in slice.now.checked.now.configuration }
     requires held { AllHeld slice.now.checked.now.table states.old }
@@ -201,7 +201,7 @@ fn put_transparency<R: Allocator, A: Allocator, B: Allocator>(
     rows: &PlaneRows<R>,
     slice: &Slice<'_, A, B>,
     y: u32,
-) -> Result<(), EncodeFault>
+) -> Result<(), CodecFault>
     requires loaded { AllLoaded slice.now.checked.now.configuration slice.now.picture.now
         slice.now.number y rows.now }
     requires room { length states.old ≡ states_in slice.now.checked.now.configuration }
@@ -229,7 +229,7 @@ fn put_colours<R: Allocator, A: Allocator, B: Allocator>(
     rows: &mut PlaneRows<R>,
     slice: &Slice<'_, A, B>,
     y: u32,
-) -> Result<(), EncodeFault>
+) -> Result<(), CodecFault>
     requires rct { is_rct slice.now.checked.now.configuration.colour ≡ true }
     requires inside { y < cell_height slice.now.checked.now.configuration slice.now.number 0 }
     requires rolled { AllRolled slice.now.checked.now.configuration slice.now.picture.now
@@ -264,7 +264,7 @@ fn put_lines<R: Allocator, A: Allocator, B: Allocator>(
     states: &mut [u8],
     rows: &mut PlaneRows<R>,
     slice: &Slice<'_, A, B>,
-) -> Result<(), EncodeFault>
+) -> Result<(), CodecFault>
     requires rct { is_rct slice.now.checked.now.configuration.colour ≡ true }
     requires room { length states.old ≡ states_in slice.now.checked.now.configuration }
     requires held { AllHeld slice.now.checked.now.table states.old }
@@ -288,7 +288,7 @@ pub(crate) fn put_body<R: Allocator, A: Allocator, B: Allocator>(
     states: &mut [u8],
     rows: &mut PlaneRows<R>,
     slice: &Slice<'_, A, B>,
-) -> Result<(), EncodeFault>
+) -> Result<(), CodecFault>
     requires room { length states.old ≡ states_in slice.now.checked.now.configuration }
     requires held { AllHeld slice.now.checked.now.table states.old }
     ensures ok { OnOk result (PutsBehind slice.now.checked.now.table encoder.old states.old

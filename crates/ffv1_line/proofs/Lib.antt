@@ -10,3 +10,4 @@ pub mod CellBack
 pub mod MostDecisions
 pub mod SamplesBelow
 pub mod RefusedRows
+pub mod Agreeing

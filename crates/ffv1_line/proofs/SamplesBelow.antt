@@ -12,7 +12,7 @@ use Rattle.ffv1_line.specs.Decoded.{Lined, Refused}
 use Rattle.ffv1_line.proofs.SameRow.{number}
 use Rattle.ffv1_line.proofs.ThreeRows.{three, seen_three, lined_suits, refused_suits}
 
-suiting_below : (set : Set) (bits : ℕ) (c : Cell) (y x k : ℕ) (qs : List ℤ) → AreSuiting set bits c y x qs → k < length qs → seen c (suc (suc (x + k))) (suc (suc y)) < 2 ^ bits
+pub suiting_below : (set : Set) (bits : ℕ) (c : Cell) (y x k : ℕ) (qs : List ℤ) → AreSuiting set bits c y x qs → k < length qs → seen c (suc (suc (x + k))) (suc (suc y)) < 2 ^ bits
 suiting_below set bits c y x k [] are h = absurd (omega (arith, h))
 suiting_below set bits c y x zero (q ∷ qs) are h =
     let made = one_made bits (predicted (around c x y)) (flip_of set (around c x y)) q in

@@ -43,6 +43,12 @@ pub record Above (c : Cell) (y : ℕ) (two one : List ℕ) : Type 0 where
 pub record BeginsWith (c : Cell) (samples : List ℕ) (n : ℕ) : Type 0 where
   pub each : (x y : ℕ) → x < c.width → y < n → slice_index samples (y * c.width + x) ≡ c.at x y
 
+-- two cells of one width have the same samples in the rows up to row y
+pub record Agree (c d : Cell) (y : ℕ) : Type 0 where
+  pub some : 0 < c.width
+  pub wide : c.width ≡ d.width
+  pub each : (x z : ℕ) → x < c.width → z < suc y → c.at x z ≡ d.at x z
+
 -- the cell of some samples, row by row
 abbrev pub cell_of : ℕ → List ℕ → Cell
 cell_of width samples = record { width = width; at = λ x y. slice_index samples (y * width + x) }

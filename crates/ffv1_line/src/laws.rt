@@ -13,7 +13,7 @@ ghost use Rattle.ffv1_range.specs.History.{AreBelow, decisions_after};
 ghost use Rattle.ffv1_plane.specs.declared.prediction.Around.{Around};
 ghost use Rattle.ffv1_plane.specs.Quantisation.{Set, contexts_of};
 ghost use Rattle.ffv1_plane.specs.Context.{size_of};
-ghost use Rattle.ffv1_line.specs.Cell.{Cell, Above, Shows, Rolls, cell_of};
+ghost use Rattle.ffv1_line.specs.Cell.{Cell, Above, Agree, Shows, Rolls, cell_of};
 ghost use Rattle.ffv1_line.specs.Row.{AreSuiting, row_steps, chosen_row, chosen_rows, cell_steps};
 ghost use Rattle.ffv1_line.specs.Length.{CountedAtMost, binary_digits, decisions_of, row_decisions};
 ghost use Rattle.ffv1_line.specs.Length.{cell_decisions, AreSmall, AreSmallRows, residuals_in};
@@ -278,4 +278,21 @@ pub fn digits()
     ensures least { (n : ℕ) → 0 < n → n < 2 ^ 32 → 2 ^ (binary_digits n - 1) ≤ n }
     ensures most { (n : ℕ) → n < 2 ^ 32 → n < 2 ^ binary_digits n }
     ensures none { binary_digits 0 ≡ 0 }
+{}
+
+/// Cells that agree on the rows up to one row have the same decisions of it, and the same residuals
+/// suit it.
+pub fn agreeing_cells()
+    ensures steps { (set : Set) (c d : Cell) (y x : ℕ) (qs : List ℤ) → Agree c d y →
+        row_steps set c y x qs ≡ row_steps set d y x qs }
+    ensures suits { (set : Set) (bits : ℕ) (c d : Cell) (y x : ℕ) (qs : List ℤ) → Agree c d y →
+        AreSuiting set bits c y x qs → AreSuiting set bits d y x qs }
+{}
+
+/// Residuals that suit a row have a symbol each, and the row's samples have `bits` bits.
+pub fn suiting_rows()
+    ensures small { (set : Set) (bits : ℕ) (c : Cell) (y x : ℕ) (qs : List ℤ) →
+        AreSuiting set bits c y x qs → AreSmall qs }
+    ensures below { (set : Set) (bits : ℕ) (c : Cell) (y x : ℕ) (qs : List ℤ) →
+        AreSuiting set bits c y 0 qs → x < length qs → x < c.width → c.at x y < 2 ^ bits }
 {}

@@ -1,7 +1,7 @@
-//! Whole frames, encoded.
+//! Whole frames, encoded and decoded.
 
 use anyhow::{Context, Result, bail, ensure};
-use ffv1_codec::{EncodeFault, FrameEncoder, Info, Picture};
+use ffv1_codec::{CodecFault, DropLines, FrameDecoder, FrameEncoder, Info, KeepLines, Picture};
 use ffv1_plane::QuantSet;
 use ffv1_record::{Checked, Coder, Colour, Config, Sets};
 use ffv1_slice::Grid;
@@ -60,38 +60,74 @@ fn planes(alloc: Global, checked: &Checked, samples: &[u8]) -> Result<Vec<Vec<u8
     Ok(planes)
 }
 
-/// Encodes the picture once: its bytes, and the time.
+/// Encodes the picture once: its frame, and the time.
 fn encode<R: AllocGlobal + Clock>(
     rt: &R,
     encoder: &mut FrameEncoder,
     picture: &Picture,
     info: Info,
-) -> Result<(usize, u128)> {
+) -> Result<(Vec<u8>, u128)> {
     ensure!(picture.fits(encoder.config()), "another picture");
     let start = Instant::now(rt)?;
     match encoder.encode(picture, info) {
-        Ok(frame) => Ok((frame.len(), start.elapsed(rt)?.as_micros())),
-        Err(EncodeFault::SliceTooLong) => bail!("40 SliceTooLong"),
-        Err(EncodeFault::OutOfMemory) => bail!("2 OutOfMemory"),
+        Ok(frame) => Ok((frame, start.elapsed(rt)?.as_micros())),
+        Err(CodecFault::SliceTooLong) => bail!("40 SliceTooLong"),
+        Err(_) => bail!("2 OutOfMemory"),
     }
 }
 
-/// Encodes the picture some times over, and prints its bytes and the least time.
+/// Decodes the frame once, and drops its lines: the time.
+fn decode<R: AllocGlobal + Clock>(
+    rt: &R,
+    decoder: &mut FrameDecoder,
+    frame: &[u8],
+) -> Result<u128> {
+    let mut sink = DropLines::new(decoder.config());
+    let start = Instant::now(rt)?;
+    match decoder.decode(frame, &mut sink) {
+        Ok(_) => Ok(start.elapsed(rt)?.as_micros()),
+        Err(_) => bail!("not decoded"),
+    }
+}
+
+/// Whether the frame is decoded to the planes of the picture.
+fn comes_back(
+    alloc: Global,
+    decoder: &mut FrameDecoder,
+    frame: &[u8],
+    picture: &Picture,
+) -> Result<bool> {
+    let Ok(mut sink) = KeepLines::new(alloc, decoder.config()) else {
+        bail!("2 OutOfMemory");
+    };
+    ensure!(decoder.decode(frame, &mut sink).is_ok(), "not decoded");
+    let mut same = sink.planes().len() == picture.planes().len();
+    for (kept, plane) in sink.planes().iter().zip(picture.planes().iter()) {
+        same = same && kept.as_slice() == plane.as_slice();
+    }
+    Ok(same)
+}
+
+/// Encodes and decodes the picture some times over, and prints its bytes and the least times.
 fn time<R: AllocGlobal + Clock + Print>(
     rt: &R,
     encoder: &mut FrameEncoder,
+    decoder: &mut FrameDecoder,
     picture: &Picture,
     info: Info,
     times: u32,
 ) -> Result<()> {
-    let mut bytes = 0;
-    let mut least = u128::MAX;
-    for _ in 0..times {
-        let (length, time) = encode(rt, encoder, picture, info)?;
-        bytes = length;
-        least = least.min(time);
+    let (frame, mut encoding) = encode(rt, encoder, picture, info)?;
+    let mut decoding = decode(rt, decoder, frame.as_slice())?;
+    for _ in 1..times {
+        encoding = encoding.min(encode(rt, encoder, picture, info)?.1);
+        decoding = decoding.min(decode(rt, decoder, frame.as_slice())?);
     }
-    Ok(rt.println(format_args!("bytes {bytes} encoding {least} us"))?)
+    let bytes = frame.len();
+    let same = comes_back(rt.alloc(), decoder, frame.as_slice(), picture)?;
+    Ok(rt.println(format_args!(
+        "bytes {bytes} encoding {encoding} us decoding {decoding} us same {same}"
+    ))?)
 }
 
 /// The numbers of a line: width, height, columns and rows.
@@ -104,7 +140,7 @@ fn sizes(words: &mut Args) -> Result<[u32; 4]> {
     ])
 }
 
-/// Encodes the picture of a line, or says why it is not encoded.
+/// Encodes and decodes the picture of a line, or says why not.
 pub(crate) fn run<R: AllocGlobal + Files + Env + Clock + Print>(
     rt: &R,
     words: &mut Args,
@@ -118,11 +154,10 @@ pub(crate) fn run<R: AllocGlobal + Files + Env + Clock + Print>(
     let planes = planes(rt.alloc(), &checked, samples.as_slice())?;
     let picture = Picture::new(&checked, planes).context("no such picture")?;
     let info = Info::new(3, 1, 1).context("info")?;
-    time(
-        rt,
-        &mut FrameEncoder::new(rt.alloc(), checked),
-        &picture,
-        info,
-        times,
-    )
+    let again = configuration(rt.alloc(), format.as_str(), sizes)?;
+    let Ok(mut decoder) = FrameDecoder::new(rt.alloc(), again) else {
+        bail!("2 OutOfMemory");
+    };
+    let mut encoder = FrameEncoder::new(rt.alloc(), checked);
+    time(rt, &mut encoder, &mut decoder, &picture, info, times)
 }

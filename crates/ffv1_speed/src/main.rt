@@ -5,7 +5,8 @@
 //! timed. With `park` the decoder is parked and woken between any two rows.
 //!
 //! `ffv1_speed frame PATH FORMAT WIDTH HEIGHT COLUMNS ROWS TIMES`: a raw picture, its planes one
-//! behind the other, of the format `mono`, `420`, `444` or `rgb`, encoded as a frame with parity.
+//! behind the other, of the format `mono`, `420`, `444` or `rgb`, encoded as a frame with parity,
+//! and decoded.
 #![tactic(auto)]
 
 mod frames;

@@ -11,7 +11,7 @@ use std::rt::Files;
 use std::str::SplitWhitespace;
 
 /// The configuration of a record, of pictures of a size.
-fn configuration(alloc: Global, fields: &mut SplitWhitespace<'_>) -> Result<Checked> {
+pub(crate) fn configuration(alloc: Global, fields: &mut SplitWhitespace<'_>) -> Result<Checked> {
     let width = number(fields)?;
     let height = number(fields)?;
     let record = bytes(alloc, fields)?;

@@ -2,6 +2,7 @@
 //! the text files in `data/` is one case. It prints how many cases of each agree.
 #![tactic(auto)]
 
+mod decoding;
 mod fields;
 mod files;
 mod frames;
@@ -21,6 +22,7 @@ fn run<R: AllocGlobal + Files + Print>(rt: &R) -> anyhow::Result<()> {
     print(rt, "heads", heads::count(rt)?)?;
     print(rt, "payloads", payloads::count(rt)?)?;
     print(rt, "frames", frames::count(rt)?)?;
+    print(rt, "decoded", decoding::count(rt)?)?;
     print(rt, "files", files::count(rt)?)?;
     Ok(())
 }

@@ -5,7 +5,7 @@ use Rattle.ffv1_line.specs.Length.{row_decisions}
 use Rattle.ffv1_slice.specs.Grid.{slices_in}
 use Rattle.ffv1_slice.specs.Cutting.{joined_of}
 use Rattle.ffv1_codec.specs.declared.counts.FrameCounts.{FrameCounts}
-use Rattle.ffv1_codec.specs.declared.fault.EncodeFault.TheVariants as fault
+use Rattle.ffv1_codec.specs.declared.fault.CodecFault.TheVariants as fault
 use Rattle.ffv1_codec.specs.Frame.{slice_bytes}
 use Rattle.ffv1_codec.specs.Length.{slice_residuals, slice_renormalisations}
 use Rattle.ffv1_codec.proofs.Frames.{joined_next, sum_next, residuals_next, few_next, long_slice, no_long_slice, counts_are}

@@ -1,0 +1,207 @@
+-- Where the lines that were made are those of a picture, the slices have read its coded samples.
+use Rattle.std.proofs.Common.{◌≡◌, refl, ℕ, ℤ, zero, suc, ◌+◌, ◌-◌, ◌*◌, ◌<◌, ◌≤◌, Bool, true, false, if◌then◌else◌, List, [], ◌∷◌, ◌++◌, map, length, get_or, inl, inr, ap, sym, subst, ◌∙◌, arith, unsigned_abs, pos}
+use Rattle.std.specs.List.{flat_map, range_with_len}
+use Rattle.std.proofs.lemmas.Bool.{cases_eq}
+use Rattle.std.proofs.lemmas.List.FromFn.{get_or-map-range_with_len}
+use Rattle.ffv1_wire.specs.Runs as wire
+use Rattle.ffv1_rct.specs.Transform.{IsCoded, luma_of, chroma_of}
+use Rattle.ffv1_record.specs.Configuration.{Configuration, is_rct}
+use Rattle.ffv1_slice.specs.Grid.{Side, begin_of, length_of, whole_of, across, down, division_of, factor_of}
+use Rattle.ffv1_codec.specs.Sides.{Alike, Tiles}
+use Rattle.ffv1_codec.specs.Picture.{Planes, plane, plane_count, plane_width, sample_at, transformed_at, coded_at}
+use Rattle.ffv1_codec.specs.SliceList.{Line}
+use Rattle.ffv1_codec.specs.Order.{numbered}
+use Rattle.ffv1_codec.specs.Decoding.{Slice, FinishesBy, width_in, left_of, row_in, top_of}
+use Rattle.ffv1_codec.proofs.Machines.{each_left, each_right, Each, each_append}
+use Rattle.ffv1_codec.proofs.OneColour.{AreFew}
+use Rattle.ffv1_codec.proofs.Groups.{Group, IsGroup, group_lines}
+use Rattle.ffv1_codec.proofs.LinesRead.{lines_at}
+use Rattle.ffv1_codec.proofs.Made.{MadeOf, handed, joined_line}
+use Rattle.ffv1_codec.proofs.Keys.{parts_from}
+use Rattle.ffv1_codec.proofs.JoinedLines.{tiled_at, row_long, row_at}
+use Rattle.ffv1_codec.proofs.Sized.{by_number, each_back}
+
+factor_zero : (p : ℕ) → factor_of 0 p ≡ 0
+factor_zero zero = refl
+factor_zero (suc zero) = refl
+factor_zero (suc (suc zero)) = refl
+factor_zero (suc (suc (suc p))) = refl
+
+pub across_alike : (c : Configuration) → Alike c → (p : ℕ) → across (division_of c) p ≡ across (division_of c) 0
+across_alike c alike p =
+    let side : ℕ → Side = λ log2. record { size = c.width; count = c.columns; log2 = log2 } in
+    ap (λ n. side (factor_of n p)) alike.h ∙ ap side (factor_zero p)
+
+pub down_alike : (c : Configuration) → Alike c → (p : ℕ) → down (division_of c) p ≡ down (division_of c) 0
+down_alike c alike p =
+    let side : ℕ → Side = λ log2. record { size = c.height; count = c.rows; log2 = log2 } in
+    ap (λ n. side (factor_of n p)) alike.v ∙ ap side (factor_zero p)
+
+-- a place of a part is a place of the side
+pub inside_side : (s : Side) → Tiles s → (k x : ℕ) → k < s.count → x < length_of s k → begin_of s k + x < whole_of s
+inside_side s tiles k x here small =
+    let rest = parts_from s tiles (suc k) (s.count - suc k) (omega (arith, here)) in
+    let end : begin_of s (suc k + (s.count - suc k)) ≡ whole_of s = ap (begin_of s) (let same : suc k + (s.count - suc k) ≡ s.count = omega (arith, here) in same) ∙ tiles.last in
+    omega (arith, tiles.next k here, rest.ends, end, small)
+
+-- of lines with their numbers the line of a number
+pub at_own : (Q : ℕ × ℕ → Type 0) (from count p : ℕ) → from ≤ p → p < from + count → Each Q (numbered from (range_with_len from count)) → Q (p, p)
+at_own Q from zero p least most all = absurd (omega (arith, least, most))
+at_own Q from (suc count) p least most all = elim (cases_eq from p) [
+  | inl same ↦ subst (λ n. Q (n, n)) same all.0
+  | inr other ↦
+      let next : suc from ≡ from + 1 = omega arith in
+      at_own Q (from + 1) count p (omega (arith, least, other)) (omega (arith, most)) (subst (λ n. Each Q (numbered n (range_with_len (from + 1) count))) next all.1)
+]
+
+absolute : (a : ℕ) (z : ℤ) → pos a ≡ z → a ≡ unsigned_abs z
+absolute a z e = ap unsigned_abs e
+
+-- what holds of the planes in RCT
+pub record InRct (c : Configuration) : Type 0 where
+  pub alike : is_rct c.colour ≡ true → Alike c
+  pub wide : is_rct c.colour ≡ true → (p : ℕ) → plane_width c p ≡ c.width
+  pub few : is_rct c.colour ≡ true → AreFew c (plane_count c)
+
+module _ (c : Configuration) (planes : Planes) where
+  -- a line of the picture
+  abbrev pub IsLine : wire.Line → Type 0
+  IsLine l = l.samples ≡ row_in (plane_width c l.plane) l.row (plane planes l.plane)
+
+  abbrev pub picture_row : ℕ → ℕ → List ℕ
+  picture_row y p = row_in (plane_width c p) y (plane planes p)
+
+  module _ (slice : ℕ → Slice) (tiles : (p : ℕ) → Tiles (across (division_of c) p)) (r : ℕ) where
+    -- what was read of a line is the picture's
+    abbrev pub Shown : Line → Type 0
+    Shown l =
+        (k x : ℕ) → k < c.columns → x < width_in c l.plane k →
+        get_or (plane (slice k).cells l.plane) (l.y * width_in c l.plane k + x) 0 ≡ coded_at c planes l.plane (left_of c l.plane k + x) (top_of c l.plane r + l.y)
+
+    abbrev pub IsThere : Line → Type 0
+    IsThere l = (k : ℕ) → k < c.columns → suc l.y * width_in c l.plane k ≤ length (plane (slice k).cells l.plane)
+
+    -- a place of the slices' line
+    pub joined_at : (y p k x : ℕ) → ((k : ℕ) → k < c.columns → suc y * width_in c p k ≤ length (plane (slice k).cells p)) → k < c.columns → x < width_in c p k →
+        get_or (joined_line c slice y p) (left_of c p k + x) 0 ≡ get_or (plane (slice k).cells p) (y * width_in c p k + x) 0
+    joined_at y p k x there inside small =
+        tiled_at (across (division_of c) p) (tiles p) (λ k. row_in (width_in c p k) y (plane (slice k).cells p))
+        (λ k inside. row_long (width_in c p k) y (plane (slice k).cells p) (there k inside)) k x inside small
+        ∙ row_at (width_in c p k) y x (plane (slice k).cells p) small
+
+    -- a place of the picture's line
+    picture_at : (y p k x : ℕ) → k < c.columns → x < width_in c p k → get_or (picture_row y p) (left_of c p k + x) 0 ≡ sample_at c planes p (left_of c p k + x) y
+    picture_at y p k x inside small = row_at (plane_width c p) y (left_of c p k + x) (plane planes p) (inside_side (across (division_of c) p) (tiles p) k x inside small)
+
+    plain_shown : (y p : ℕ) → is_rct c.colour ≡ false → ((k : ℕ) → k < c.columns → suc y * width_in c p k ≤ length (plane (slice k).cells p)) →
+        joined_line c slice y p ≡ picture_row (top_of c p r + y) p → Shown (record { plane = p; y = y })
+    plain_shown y p rct there same = λ k x inside small.
+        sym (joined_at y p k x there inside small)
+        ∙ ap (λ xs. get_or xs (left_of c p k + x) 0) same
+        ∙ picture_at (top_of c p r + y) p k x inside small
+        ∙ ap (λ b. if b then transformed_at c planes p (left_of c p k + x) (top_of c p r + y) else sample_at c planes p (left_of c p k + x) (top_of c p r + y)) (sym rct)
+
+    module _ (rct : is_rct c.colour ≡ true) (alike : Alike c) (wide : (p : ℕ) → plane_width c p ≡ c.width) (few : AreFew c (plane_count c))
+        (y : ℕ) (out : List (List ℕ)) (f : FinishesBy true c (map (joined_line c slice y) (range_with_len 0 (plane_count c))) out)
+        (own : (p : ℕ) → p < plane_count c → get_or out p [] ≡ picture_row (top_of c p r + y) p) where
+      read : List (List ℕ)
+      read = map (joined_line c slice y) (range_with_len 0 (plane_count c))
+
+      abbrev pub out_at : ℕ → ℕ → ℕ
+      out_at i x = get_or (get_or out i []) x 0
+
+      three : 2 < plane_count c
+      three = elim few [ inl is ↦ omega (arith, is) | inr is ↦ omega (arith, is.0) ]
+
+      -- what is read is the slices' line
+      read_is : (p x : ℕ) → p < plane_count c → get_or (get_or (map (joined_line c slice y) (range_with_len 0 (plane_count c))) p []) x 0 ≡ get_or (joined_line c slice y p) x 0
+      read_is p x inside = ap (λ xs. get_or xs x 0) (get_or-map-range_with_len (joined_line c slice y) 0 (plane_count c) p p [] inside (omega arith))
+
+      top_alike : (i p : ℕ) → top_of c i r ≡ top_of c p r
+      top_alike i p = ap (λ s. begin_of s r) (down_alike c alike i ∙ sym (down_alike c alike p))
+
+      -- what was made is the picture's
+      out_is : (i p x : ℕ) → i < plane_count c → x < c.width → out_at i x ≡ sample_at c planes i x (top_of c p r + y)
+      out_is i p x inside small =
+          ap (λ xs. get_or xs x 0) (own i inside)
+          ∙ row_at (plane_width c i) (top_of c i r + y) x (plane planes i) (rw (wide i) small)
+          ∙ ap (λ n. sample_at c planes i x (n + y)) (top_alike i p)
+
+      coded_there : (x : ℕ) → x < c.width →
+          IsCoded (out_at 0 x) (out_at 1 x) (out_at 2 x) (get_or (joined_line c slice y 0) x 0) (get_or (joined_line c slice y 1) x 0) (get_or (joined_line c slice y 2) x 0)
+      coded_there x small =
+          let coded = (f.2 x small).colour.coded in
+          let two = three in record {
+            luma = ap (λ n. pos n) (sym (read_is 0 x (omega (arith, two)))) ∙ coded.luma;
+            blue = ap (λ n. pos n) (sym (read_is 1 x (omega (arith, two)))) ∙ coded.blue;
+            red = ap (λ n. pos n) (sym (read_is 2 x two)) ∙ coded.red;
+          }
+
+      -- the slices' line is the transform
+      transformed : (p x : ℕ) → p < plane_count c → x < c.width → get_or (joined_line c slice y p) x 0 ≡ transformed_at c planes p x (top_of c p r + y)
+      transformed zero x inside small =
+          let two = three in
+          absolute _ _ (coded_there x small).luma
+          ∙ ap (λ n. unsigned_abs (luma_of n (out_at 1 x) (out_at 2 x))) (out_is 0 0 x inside small)
+          ∙ ap (λ n. unsigned_abs (luma_of (sample_at c planes 0 x (top_of c 0 r + y)) n (out_at 2 x))) (out_is 1 0 x (omega (arith, two)) small)
+          ∙ ap (λ n. unsigned_abs (luma_of (sample_at c planes 0 x (top_of c 0 r + y)) (sample_at c planes 1 x (top_of c 0 r + y)) n)) (out_is 2 0 x two small)
+      transformed (suc zero) x inside small =
+          let two = three in
+          absolute _ _ (coded_there x small).blue
+          ∙ ap (λ n. unsigned_abs (chroma_of n (out_at 1 x))) (out_is 2 1 x two small)
+          ∙ ap (λ n. unsigned_abs (chroma_of (sample_at c planes 2 x (top_of c 1 r + y)) n)) (out_is 1 1 x inside small)
+      transformed (suc (suc zero)) x inside small =
+          let two = three in
+          absolute _ _ (coded_there x small).red
+          ∙ ap (λ n. unsigned_abs (chroma_of n (out_at 1 x))) (out_is 0 2 x (omega (arith, two)) small)
+          ∙ ap (λ n. unsigned_abs (chroma_of (sample_at c planes 0 x (top_of c 2 r + y)) n)) (out_is 1 2 x (omega (arith, two)) small)
+      transformed (suc (suc (suc zero))) x inside small = elim few [
+        | inl is ↦ absurd (omega (arith, inside, is))
+        | inr is ↦
+            sym (read_is 3 x inside) ∙ sym (ap (λ xs. get_or xs x 0) (f.3 is.1).0) ∙ out_is 3 3 x inside small
+      ]
+      transformed (suc (suc (suc (suc p)))) x inside small = elim few [
+        | inl is ↦ absurd (omega (arith, inside, is))
+        | inr is ↦ absurd (omega (arith, inside, is.0))
+      ]
+
+      pub colours_shown : (p : ℕ) → p < plane_count c → ((k : ℕ) → k < c.columns → suc y * width_in c p k ≤ length (plane (slice k).cells p)) → Shown (record { plane = p; y = y })
+      colours_shown p inside there = λ k x here small.
+          let place : left_of c p k + x < c.width = subst (λ n. left_of c p k + x < n) (wide p) (inside_side (across (division_of c) p) (tiles p) k x here small) in
+          sym (joined_at y p k x there here small)
+          ∙ transformed p (left_of c p k + x) inside place
+          ∙ ap (λ b. if b then transformed_at c planes p (left_of c p k + x) (top_of c p r + y) else sample_at c planes p (left_of c p k + x) (top_of c p r + y)) (sym rct)
+
+    all_plain : (y i : ℕ) (out : List (List ℕ)) (ps : List ℕ) → is_rct c.colour ≡ false → Each IsThere (lines_at ps y) →
+        Each (λ (ip : ℕ × ℕ). get_or out ip.0 [] ≡ joined_line c slice y ip.1) (numbered i ps) → Each IsLine (map (handed c r y out) (numbered i ps)) → Each Shown (lines_at ps y)
+    all_plain y i out [] rct there same lines = tt
+    all_plain y i out (p ∷ ps) rct there same lines =
+        (plain_shown y p rct there.0 (sym same.0 ∙ lines.0), all_plain y (suc i) out ps rct there.1 same.1 lines.1)
+
+    all_colours : (ps : List ℕ) (y : ℕ) → Each (λ p. p < plane_count c) ps → Each IsThere (lines_at ps y) →
+        ((p : ℕ) → p < plane_count c → ((k : ℕ) → k < c.columns → suc y * width_in c p k ≤ length (plane (slice k).cells p)) → Shown (record { plane = p; y = y })) → Each Shown (lines_at ps y)
+    all_colours [] y inside there shown = tt
+    all_colours (p ∷ ps) y inside there shown = (shown p inside.0 there.0, all_colours ps y inside.1 there.1 shown)
+
+    group_shown : InRct c → (rct : Bool) → is_rct c.colour ≡ rct → (g : Group) (out : List (List ℕ)) → IsGroup c r g → Each IsThere (group_lines g) →
+        FinishesBy rct c (map (joined_line c slice g.y) g.planes) out → Each IsLine (map (handed c r g.y out) (numbered 0 g.planes)) → Each Shown (group_lines g)
+    group_shown in_rct true e g out is there f lines =
+        let own : (p : ℕ) → p < plane_count c → get_or out p [] ≡ picture_row (top_of c p r + g.y) p = λ p inside.
+        at_own (λ (ip : ℕ × ℕ). get_or out ip.0 [] ≡ picture_row (top_of c ip.1 r + g.y) ip.1) 0 (plane_count c) p (omega arith) (omega (arith, inside))
+        (each_back IsLine (handed c r g.y out) (numbered 0 (range_with_len 0 (plane_count c)))
+        (subst (λ ps. Each IsLine (map (handed c r g.y out) (numbered 0 ps))) (is.rct e) lines)) in
+        all_colours g.planes g.y is.inside there
+        (colours_shown e (in_rct.alike e) (in_rct.wide e) (in_rct.few e) g.y out (subst (λ ps. FinishesBy true c (map (joined_line c slice g.y) ps) out) (is.rct e) f) own)
+    group_shown in_rct false e g out is there f lines =
+        all_plain g.y 0 out g.planes e there
+        (subst (λ xs. Each (λ (ip : ℕ × ℕ). get_or xs ip.0 [] ≡ joined_line c slice g.y ip.1) (numbered 0 g.planes)) (sym f) (by_number (joined_line c slice g.y) [] g.planes)) lines
+
+    pub groups_shown : InRct c → (gs : List Group) (ls : List wire.Line) → Each (IsGroup c r) gs → Each IsThere (flat_map group_lines gs) → MadeOf c r slice gs ls → Each IsLine ls →
+        Each Shown (flat_map group_lines gs)
+    groups_shown in_rct [] ls are there made lines = tt
+    groups_shown in_rct (g ∷ gs) ls are there made lines =
+        let here = map (handed c r g.y made.0) (numbered 0 g.planes) in
+        let all : Each IsLine (here ++ made.1) = subst (Each IsLine) made.4 lines in
+        each_append Shown (group_lines g) (flat_map group_lines gs)
+        (group_shown in_rct (is_rct c.colour) refl g made.0 are.0 (each_left IsThere (group_lines g) (flat_map group_lines gs) there) made.2 (each_left IsLine here made.1 all))
+        (groups_shown in_rct gs made.1 are.1 (each_right IsThere (group_lines g) (flat_map group_lines gs) there) made.3 (each_right IsLine here made.1 all))

@@ -1,0 +1,160 @@
+-- What is made of a line is what its event makes of it.
+use Rattle.std.proofs.Common.{◌≡◌, refl, ℕ, zero, suc, ◌+◌, ◌*◌, ◌^◌, ◌<◌, ◌≤◌, Bool, true, false, if◌then◌else◌, List, [], ◌++◌, map, length, get_or, slice_index, take, ap, sym, subst, ◌∙◌, arith}
+use Rattle.std.specs.List.{range_with_len}
+use Rattle.std.proofs.lemmas.List.FromFn.{get_or-map-range_with_len, length-map-range_with_len}
+use Rattle.std.proofs.lemmas.List.{length-take-le}
+use Rattle.std.proofs.lemmas.Grind.{common_steps}
+use Rattle.ffv1_record.specs.Configuration.{Configuration, is_rct}
+use Rattle.ffv1_record.specs.declared.config.Colour.{Colour}
+use Rattle.ffv1_record.specs.declared.config.Colour.TheVariants as colours
+use Rattle.ffv1_slice.specs.Grid.{planes_in, factor_of, reduced}
+use Rattle.ffv1_codec.specs.Picture.{plane_count, plane_width}
+use Rattle.ffv1_codec.specs.SliceList.{bits_of}
+use Rattle.ffv1_codec.specs.Decoding.{State, FinishesBy, IsColourless, HasPlace, coded_line}
+use Rattle.ffv1_codec.specs.Stands.{window}
+use Rattle.ffv1_codec.specs.Finished.{AreMade, HasBoth, IsFirstWithout, AreTogether, IsTogether, StandRead, Finished, line_at}
+use Rattle.ffv1_codec.proofs.Put.{window_long}
+use Rattle.ffv1_codec.proofs.Sizes.{part_apart}
+use Rattle.ffv1_codec.proofs.FinishedLines.{window_front, colours_at, has_at}
+
+pub planes_least : (chroma extra : Bool) → chroma ≡ true → 3 ≤ planes_in chroma extra
+planes_least chroma true e = omega arith
+planes_least true false e = omega arith
+planes_least false false e = absurd (let no : false ≡ true = e in cc)
+
+pub planes_four : (chroma extra : Bool) → extra ≡ true → planes_in chroma extra ≡ 4
+planes_four chroma true e = refl
+planes_four chroma false e = absurd (let no : false ≡ true = e in cc)
+
+pub planes_three : (chroma extra : Bool) → chroma ≡ true → extra ≡ false → planes_in chroma extra ≡ 3
+planes_three true false a b = refl
+planes_three chroma true a b = absurd (let no : true ≡ false = b in cc)
+planes_three false false a b = absurd (let no : false ≡ true = a in cc)
+
+pub planes_most : (chroma extra : Bool) → planes_in chroma extra ≤ 4
+planes_most chroma true = omega arith
+planes_most true false = omega arith
+planes_most false false = omega arith
+
+pub factor_none : (p : ℕ) → factor_of 0 p ≡ 0
+factor_none zero = refl
+factor_none (suc zero) = refl
+factor_none (suc (suc zero)) = refl
+factor_none (suc (suc (suc p))) = refl
+
+reduced_none : (n : ℕ) → reduced 0 n ≡ n
+unfolding reduced
+reduced_none n = omega arith
+
+pub wide_none : (c : Configuration) (p : ℕ) → c.log2_h ≡ 0 → plane_width c p ≡ c.width
+wide_none c p none = ap (λ l. reduced (factor_of l p) c.width) none ∙ ap (λ l. reduced l c.width) (factor_none p) ∙ reduced_none c.width
+
+pub rct_is : (colour : Colour) → is_rct colour ≡ true → colour ≡ colours.Rct
+rct_is colours.YCbCr e = absurd (let no : false ≡ true = e in cc)
+rct_is colours.Rct e = refl
+
+pub together_one : (c : Configuration) (first count : ℕ) → is_rct c.colour ≡ false → IsTogether c first count → (count ≡ 1) × (first < plane_count c)
+together_one c first count e is = subst (λ b. AreTogether b c first count) e is
+
+pub together_all : (c : Configuration) (first count : ℕ) → is_rct c.colour ≡ true → IsTogether c first count → (first ≡ 0) × (count ≡ plane_count c)
+together_all c first count e is = subst (λ b. AreTogether b c first count) e is
+
+module _ (c : Configuration) (first count y : ℕ) (read : List ℕ) (s : State) (stand : StandRead c first count y read s) where
+  abbrev lines : List (List ℕ)
+  lines = map (coded_line c s y) (range_with_len first count)
+
+  line_is : (i : ℕ) → i < count → get_or lines i [] ≡ window (i * c.width) (plane_width c (first + i)) read
+  line_is i h = get_or-map-range_with_len (coded_line c s y) first count i (first + i) [] h refl ∙ stand.lines i h
+
+  -- samples as they are
+  module _ (no : is_rct c.colour ≡ false) (one : count ≡ 1) (wide : ℕ) (wide_is : wide ≡ plane_width c first) (fits : wide ≤ length read) where
+    first_is : coded_line c s y first ≡ take wide read
+    first_is =
+        let few : 0 < count = omega (arith, one) in
+        let at : first + 0 ≡ first = omega arith in
+        let none : 0 * c.width ≡ 0 = omega arith in
+        ap (coded_line c s y) (sym at) ∙ stand.lines 0 few ∙ ap (λ n. window n (plane_width c (first + 0)) read) none ∙ ap (λ n. take (plane_width c n) read) at ∙ ap (λ n. take n read) (sym wide_is)
+
+    pub all_small : (x : ℕ) → x < length (take wide read) → slice_index (take wide read) x < 256
+    all_small x h =
+        let few : 0 < count = omega (arith, one) in
+        let at : first + 0 ≡ first = omega arith in
+        let bits : bits_of c ≡ 8 = ap (λ (b : Bool). if b then 9 else 8) no in
+        let small : slice_index (coded_line c s y first) x < 2 ^ 8 = subst (λ n. slice_index (coded_line c s y first) x < 2 ^ n) bits (subst (λ n. slice_index (coded_line c s y n) x < 2 ^ bits_of c) at (stand.small 0 x few)) in
+        subst (λ z. slice_index z x < 256) first_is small
+
+    pub samples_finished : (copied rest : List ℕ) → copied ≡ take wide read → Finished c first count y (copied ++ rest) s
+    samples_finished copied rest is = record {
+      lines = lines;
+      finishes = subst (λ b. FinishesBy b c lines lines) (sym no) refl;
+      stands = λ i h.
+          let zero_is : i ≡ 0 = omega (arith, h, one) in
+          let none : i * c.width ≡ 0 = ap (λ n. n * c.width) zero_is ∙ (let m : 0 * c.width ≡ 0 = omega arith in m) in
+          let at : first + i ≡ first = omega (arith, zero_is) in
+          let w : plane_width c (first + i) ≡ wide = ap (plane_width c) at ∙ sym wide_is in
+          let long : length copied ≡ wide = ap (λ (z : List ℕ). length z) is ∙ length-take-le wide read fits in
+          let whole : window 0 wide (copied ++ rest) ≡ take wide read = window_front 0 wide copied rest (omega (arith, long)) ∙ ap (take wide) is ∙ (let same : take wide (take wide read) ≡ take wide read = grind (arith, common_steps) in same) in
+          get_or-map-range_with_len (coded_line c s y) first count i (first + i) [] h refl ∙ ap (coded_line c s y) at ∙ first_is ∙ sym whole
+          ∙ ap (λ n. window 0 n (copied ++ rest)) (sym w) ∙ ap (λ n. window n (plane_width c (first + i)) (copied ++ rest)) (sym none);
+    }
+
+  -- colours
+  module _ (yes : is_rct c.colour ≡ true) (narrow : c.log2_h ≡ 0) (at_first : first ≡ 0) (all : count ≡ plane_count c) (chroma : c.chroma_planes ≡ true) where
+    three : 3 ≤ count
+    three = let h = planes_least c.chroma_planes c.extra_plane chroma in omega (arith, h, all)
+
+    read_is : (i : ℕ) → i < count → get_or lines i [] ≡ line_at c.width i read
+    read_is i h = line_is i h ∙ ap (λ n. window (i * c.width) n read) (wide_none c (first + i) narrow)
+
+    fourth_in : c.extra_plane ≡ true → 3 < count
+    fourth_in e = let h = planes_four c.chroma_planes c.extra_plane e in omega (arith, h, all)
+
+    has_place : (x : ℕ) → HasBoth c.extra_plane c.width read x → HasPlace c lines x
+    has_place x both = (
+      has_at (line_at c.width 0 read) (line_at c.width 1 read) (line_at c.width 2 read) (get_or lines 0 []) (get_or lines 1 []) (get_or lines 2 []) x
+          (sym (read_is 0 (omega (arith, three)))) (sym (read_is 1 (omega (arith, three)))) (sym (read_is 2 (omega (arith, three)))) both.0,
+      λ e. subst (λ z. slice_index z x < 256) (sym (read_is 3 (fourth_in e))) (both.1 e),
+    )
+
+    has_both : (x : ℕ) → HasPlace c lines x → HasBoth c.extra_plane c.width read x
+    has_both x both = (
+      has_at (get_or lines 0 []) (get_or lines 1 []) (get_or lines 2 []) (line_at c.width 0 read) (line_at c.width 1 read) (line_at c.width 2 read) x
+          (read_is 0 (omega (arith, three))) (read_is 1 (omega (arith, three))) (read_is 2 (omega (arith, three))) both.0,
+      λ e. subst (λ z. slice_index z x < 256) (read_is 3 (fourth_in e)) (both.1 e),
+    )
+
+    pub colours_missing : (x : ℕ) → IsFirstWithout c.extra_plane c.width read x → IsColourless c lines x
+    colours_missing x without = record {
+      rct = yes;
+      inside = without.inside;
+      before = λ z h. has_place z (without.before z h);
+      none = λ has. without.none (has_both x has);
+    }
+
+    pub colours_finished : (out : List ℕ) → length out ≡ count * c.width → AreMade c.extra_plane c.width read out → Finished c first count y out s
+    colours_finished out long made =
+        let f : ℕ → List ℕ = λ i. line_at c.width i out in
+        let outs : List (List ℕ) = map f (range_with_len 0 count) in
+        let out_is : (i : ℕ) → i < count → get_or outs i [] ≡ line_at c.width i out = λ i h. get_or-map-range_with_len f 0 count i i [] h (let same : 0 + i ≡ i = omega arith in same) in
+        let lines_long : length lines ≡ count = length-map-range_with_len (coded_line c s y) first count in
+        let outs_long : length outs ≡ count = length-map-range_with_len f 0 count in
+        let finishes : FinishesBy true c lines outs = (
+          outs_long ∙ sym lines_long,
+          λ i h.
+              let few : i < count = omega (arith, h, lines_long) in
+              let fits = part_apart i count c.width few in
+              ap (λ (z : List ℕ). length z) (out_is i few) ∙ window_long (i * c.width) c.width out (omega (arith, fits, long)),
+          colours_at c.width (line_at c.width 0 read) (line_at c.width 1 read) (line_at c.width 2 read) (line_at c.width 0 out) (line_at c.width 1 out) (line_at c.width 2 out)
+              (get_or lines 0 []) (get_or lines 1 []) (get_or lines 2 []) (get_or outs 0 []) (get_or outs 1 []) (get_or outs 2 [])
+              (sym (read_is 0 (omega (arith, three)))) (sym (read_is 1 (omega (arith, three)))) (sym (read_is 2 (omega (arith, three))))
+              (sym (out_is 0 (omega (arith, three)))) (sym (out_is 1 (omega (arith, three)))) (sym (out_is 2 (omega (arith, three)))) made.colours,
+          λ e.
+              let alpha = made.transparency e in
+              let few = fourth_in e in
+              (out_is 3 few ∙ alpha.0 ∙ sym (read_is 3 few), λ x h. subst (λ z. slice_index z x < 256) (sym (read_is 3 few)) (alpha.1 x h)),
+        ) in
+        record {
+          lines = outs;
+          finishes = subst (λ b. FinishesBy b c lines outs) (sym yes) finishes;
+          stands = λ i h. out_is i h ∙ ap (λ n. window (i * c.width) n out) (sym (wide_none c (first + i) narrow));
+        }

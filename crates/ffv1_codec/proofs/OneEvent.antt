@@ -1,0 +1,103 @@
+-- At each state an event makes one step at most, or is refused in one way.
+use Rattle.std.proofs.Common.{◌≡◌, ℕ, ℤ, ◌+◌, ◌<◌, true, Some, List, map, length, ap, sym, subst, ◌∙◌}
+use Rattle.std.proofs.lemmas.List.{length-map}
+use Rattle.ffv1_range.specs.Symbols.{Step}
+use Rattle.ffv1_record.specs.Configuration.{Configuration, is_rct}
+use Rattle.ffv1_record.specs.Accepted.{Accepted}
+use Rattle.ffv1_slice.specs.declared.head.SliceHead.{SliceHead}
+use Rattle.ffv1_slice.specs.Grid.{Lies, across, division_of}
+use Rattle.ffv1_codec.specs.declared.fault.CodecFault.{CodecFault}
+use Rattle.ffv1_codec.specs.declared.fault.CodecFault.TheVariants as fault
+use Rattle.ffv1_codec.specs.declared.fault.FrameFault.{FrameFault}
+use Rattle.ffv1_codec.specs.SliceList.{said_by}
+use Rattle.ffv1_codec.specs.Order.{Event}
+use Rattle.ffv1_codec.specs.Order.Event.{Open, Read, Finish, Hand, Close}
+use Rattle.ffv1_codec.specs.Decoding.{State, StepsBy, FaultsWith, slice_at, slice_number, width_in, left_of, top_of, put_slice, opened, behind_line, behind_steps, decided_in, steps_of_line, steps_of_stop, coded_line, in_slice}
+use Rattle.ffv1_codec.proofs.Machines.{OneEach}
+use Rattle.ffv1_codec.proofs.OneLine.{RowLaws, one_line, line_or_stop, one_stop}
+use Rattle.ffv1_codec.proofs.OneColour.{AreFew, one_finish, finish_or_colourless, one_colourless}
+use Rattle.ffv1_codec.proofs.OneOpening.{HeadLaws, head_or_refusal, one_reason}
+
+-- an event of pictures of a configuration
+abbrev pub IsEvent : Configuration → Event → Type 0
+IsEvent c (Open r k) = (r < c.rows) × (k < c.columns)
+IsEvent c (Read r k p y) = k < c.columns
+IsEvent c (Finish r planes y) = is_rct c.colour ≡ true → AreFew c (length planes)
+IsEvent c (Hand r i p y) = Unit {0}
+IsEvent c Close = Unit {0}
+
+-- what is known of the coded bytes
+pub record BytesLaws (a : Accepted) (coded : ℕ → List ℕ) : Type 0 where
+  pub rows : (n : ℕ) → RowLaws (coded n) a.table
+  pub heads : (r k : ℕ) → r < a.configuration.rows → k < a.configuration.columns → HeadLaws a (coded (slice_number a.configuration r k)) (slice_number a.configuration r k)
+  pub wide : (p k : ℕ) → k < a.configuration.columns → 0 < width_in a.configuration p k
+  pub one_column : (x k j : ℕ) → x < a.configuration.width → Lies (across (division_of a.configuration) 0) x k → Lies (across (division_of a.configuration) 0) x j → k ≡ j
+
+module _ (a : Accepted) (coded : ℕ → List ℕ) (laws : BytesLaws a coded) where
+  step_same : (s x z : State) (e : Event) → IsEvent a.configuration e → StepsBy a coded s e x → StepsBy a coded s e z → x ≡ z
+  step_same s x z (Open r k) kind f g =
+      let n = slice_number a.configuration r k in
+      let after : SliceHead → State = λ h. put_slice (record s { info = Some (said_by h) }) k (opened a coded n h) in
+      f.3 ∙ ap after ((laws.heads r k kind.0 kind.1).head f.0 g.0 f.1 g.1) ∙ sym g.3
+  step_same s x z (Read r k p y) kind f g =
+      let q = slice_at s k in
+      let width = width_in a.configuration p k in
+      let same = one_line a coded (slice_number a.configuration r k) (laws.rows (slice_number a.configuration r k)) p width y (laws.wide p k kind) q f.0 g.0 f.1 g.1 f.2 g.2 in
+      let after : List ℤ → List ℕ → State = λ qs row. put_slice s k (behind_line q (steps_of_line a coded q p width y qs row) p row) in
+      f.3 ∙ ap (λ qs. after qs f.1) same.0 ∙ ap (after g.0) same.1 ∙ sym g.3
+  step_same s x z (Finish r planes y) kind f g =
+      let read = map (coded_line a.configuration s y) planes in
+      let few : is_rct a.configuration.colour ≡ true → AreFew a.configuration (length read) =
+      λ rct. subst (AreFew a.configuration) (sym (length-map planes (coded_line a.configuration s y))) (kind rct) in
+      f.2 ∙ ap (λ out. record s { out = out }) (one_finish a.configuration read few f.0 g.0 f.1 g.1) ∙ sym g.2
+  step_same s x z (Hand r i p y) kind f g = f ∙ sym g
+  step_same s x z Close kind f g = f ∙ sym g
+
+  apart : (s x z : State) (e : Event) (f : FrameFault) → IsEvent a.configuration e → StepsBy a coded s e x → FaultsWith a coded s e f z → ⊥
+  apart s x z (Open r k) f kind g h =
+      head_or_refusal a (coded (slice_number a.configuration r k)) (slice_number a.configuration r k) (laws.heads r k kind.0 kind.1) s.info g.0 f.fault h.0 g.1 g.2 h.1
+  apart s x z (Read r k p y) f kind g h =
+      line_or_stop a coded (slice_number a.configuration r k) (laws.rows (slice_number a.configuration r k)) p (width_in a.configuration p k) y (laws.wide p k kind) (slice_at s k) g.0 h.0 g.1 h.1 g.2 h.2
+  apart s x z (Finish r planes y) f kind g h =
+      finish_or_colourless a.configuration (map (coded_line a.configuration s y) planes) h.0 g.0 g.1 h.2
+  apart s x z (Hand r i p y) f kind g h = h
+  apart s x z Close f kind g h = h
+
+  fault_same : (s x z : State) (e : Event) (f g : FrameFault) → IsEvent a.configuration e → FaultsWith a coded s e f x → FaultsWith a coded s e g z → (f ≡ g) × (x ≡ z)
+  fault_same s x z (Open r k) f g kind h j =
+      let n = slice_number a.configuration r k in
+      let same = one_reason a (coded n) n (laws.heads r k kind.0 kind.1) s.info f.fault g.fault h.0 j.0 h.1 j.1 in
+      let place : CodecFault → FrameFault = λ cause. in_slice cause n in
+      let after : List Step → State = λ steps. put_slice s k (decided_in steps) in
+      (h.2 ∙ ap place same.0 ∙ sym j.2, h.3 ∙ ap after same.1 ∙ sym j.3)
+  fault_same s x z (Read r k p y) f g kind h j =
+      let n = slice_number a.configuration r k in
+      let q = slice_at s k in
+      let width = width_in a.configuration p k in
+      let same = one_stop a coded n (laws.rows n) p width y (laws.wide p k kind) q h.0 j.0 h.1 j.1 h.2 j.2 in
+      let place : List ℤ → FrameFault = λ qs. record {
+        fault = fault.SymbolTooLong;
+        slice = n;
+        plane = p;
+        line = top_of a.configuration p r + y;
+        x = left_of a.configuration p k + length qs;
+      } in
+      let after : List ℤ → List ℕ → State = λ qs row. put_slice s k (behind_steps q (steps_of_stop a coded q p width y qs row)) in
+      (h.3 ∙ ap place same.0 ∙ sym j.3, h.4 ∙ ap (λ qs. after qs h.1) same.0 ∙ ap (after j.0) same.1 ∙ sym j.4)
+  fault_same s x z (Finish r planes y) f g kind h j =
+      let read = map (coded_line a.configuration s y) planes in
+      let same_x = one_colourless a.configuration read h.0 j.0 h.2 j.2 in
+      let same_k = laws.one_column j.0 h.1 j.1 j.2.inside (subst (λ x. Lies (across (division_of a.configuration) 0) x h.1) same_x h.3) j.3 in
+      let place : ℕ → ℕ → FrameFault = λ x k. record {
+        fault = fault.Colour;
+        slice = slice_number a.configuration r k;
+        plane = 0;
+        line = top_of a.configuration 0 r + y;
+        x = x;
+      } in
+      (h.4 ∙ ap (λ x. place x h.1) same_x ∙ ap (place j.0) same_k ∙ sym j.4, h.5 ∙ sym j.5)
+  fault_same s x z (Hand r i p y) f g kind h j = absurd h
+  fault_same s x z Close f g kind h j = absurd h
+
+  pub one_each : OneEach (StepsBy a coded) (FaultsWith a coded) (IsEvent a.configuration)
+  one_each = record { step_same = step_same; apart = apart; fault_same = fault_same }

@@ -1,0 +1,71 @@
+use Rattle.std.proofs.Common.{◌≡◌, suc, ◌+◌, ◌-◌, ◌*◌, ◌≤◌, ◌<◌, ◌∙◌, ap, sym, subst, length, take, drop, arith}
+use Rattle.ffv1_record.specs.Configuration.{Configuration}
+use Rattle.ffv1_codec.specs.Picture.{plane_width}
+use Rattle.ffv1_codec.specs.Stands.{window}
+use Rattle.ffv1_codec.specs.Progress.{Handed}
+use Rattle.ffv1_codec.proofs.Sizes.{part_apart}
+use Rattle.ffv1_codec.proofs.Hands.{one_handed, one_refused}
+use Rattle.ffv1_codec.proofs.hand.hand_lines.Goals as goal
+
+pub slice_bounds-hand_line-end : goal.slice_bounds-hand_line-end
+slice_bounds-hand_line-end g c =
+    let a = c.args.frame.now.checked.now in
+    let conf = a.configuration in
+    let line = c.args.line.now in
+    let n = c.loop-index.index in
+    let plane = line.first + n in
+    let few : n < line.count = omega arith in
+    let width_is : c.config.result.now.width ≡ conf.width = ap (λ (z : Configuration). z.width) (sym c.config.ensures.value) in
+    let wide_is : c.width.result ≡ plane_width conf plane = rw c.requires.frame.grid at c.width.ensures in
+    let are = c.places.ensures.across conf a.table plane c.requires.frame.accepted in
+    let part = part_apart n line.count conf.width few in
+    let at : n * c.config.result.now.width ≡ n * conf.width = ap (λ z. n * z) width_is in
+    let fits : n * c.config.result.now.width + c.width.result ≤ length c.args.out.now = omega (arith, at, wide_is, are.fits, part, c.requires.out) in
+    fits
+
+pub returns-in-Err-clause-exact : goal.returns-in-Err-clause-exact
+returns-in-Err-clause-exact g c = λ coded initial columns s grows told stands.
+    let a = c.args.frame.now.checked.now in
+    let conf = a.configuration in
+    let line = c.args.line.now in
+    let n = c.loop-index.index in
+    let plane = line.first + n in
+    let few : n < line.count = omega arith in
+    let width_is : c.config.result.now.width ≡ conf.width = ap (λ (z : Configuration). z.width) (sym c.config.ensures.value) in
+    let wide_is : c.width.result ≡ plane_width conf plane = rw c.requires.frame.grid at c.width.ensures in
+    let thick : n * c.config.result.now.width + c.width.result - n * c.config.result.now.width ≡ c.width.result = omega arith in
+    let samples = take (n * c.config.result.now.width + c.width.result - n * c.config.result.now.width) (drop (n * c.config.result.now.width) c.args.out.now) in
+    let samples_are : window (n * conf.width) (plane_width conf plane) c.args.out.now ≡ samples =
+    sym (ap (λ z. take z (drop (n * c.config.result.now.width) c.args.out.now)) (thick ∙ wide_is) ∙ ap (λ z. take (plane_width conf plane) (drop (n * z) c.args.out.now)) width_is) in
+    let done = c.loop-index.invariant.handed coded initial s grows stands in
+    one_refused g.S.LineSink.takes g.S.LineSink.refuses a coded initial line.row line.first line.y s n c.loop-index.sink c.hand_line.new.sink samples done (stands n few ∙ samples_are) columns line.count c.in-Err.fault few told
+    c.in-Err.ensures.err.0 c.in-Err.ensures.err.1
+
+pub loop-index-preserved : goal.loop-index-preserved
+loop-index-preserved g c =
+    let a = c.args.frame.now.checked.now in
+    let conf = a.configuration in
+    let line = c.args.line.now in
+    let n = c.loop-index.index in
+    let plane = line.first + n in
+    let few : n < line.count = omega arith in
+    let width_is : c.config.result.now.width ≡ conf.width = ap (λ (z : Configuration). z.width) (sym c.config.ensures.value) in
+    let wide_is : c.width.result ≡ plane_width conf plane = rw c.requires.frame.grid at c.width.ensures in
+    let thick : n * c.config.result.now.width + c.width.result - n * c.config.result.now.width ≡ c.width.result = omega arith in
+    let samples = take (n * c.config.result.now.width + c.width.result - n * c.config.result.now.width) (drop (n * c.config.result.now.width) c.args.out.now) in
+    let samples_are : window (n * conf.width) (plane_width conf plane) c.args.out.now ≡ samples =
+    sym (ap (λ z. take z (drop (n * c.config.result.now.width) c.args.out.now)) (thick ∙ wide_is) ∙ ap (λ z. take (plane_width conf plane) (drop (n * z) c.args.out.now)) width_is) in
+    record {
+      counted = c.in-Ok.ensures.counted ∙ c.loop-index.invariant.counted;
+      handed = λ coded initial s grows stands.
+          let done = c.loop-index.invariant.handed coded initial s grows stands in
+          let next : suc n ≡ n + 1 = omega arith in
+          subst (λ z. Handed g.S.LineSink.takes g.S.LineSink.refuses a coded initial line.row line.first z line.y c.hand_line.new.sink s) next
+          (one_handed g.S.LineSink.takes g.S.LineSink.refuses a coded initial line.row line.first line.y s n c.loop-index.sink c.hand_line.new.sink samples done (stands n few ∙ samples_are) c.in-Ok.ensures.ok);
+    }
+
+pub returns-clause-exact : goal.returns-clause-exact
+returns-clause-exact g c = λ coded initial columns s grows told stands.
+    let all : c.loop-index.index ≡ c.args.line.now.count = omega arith in
+    subst (λ z. Handed g.S.LineSink.takes g.S.LineSink.refuses c.args.frame.now.checked.now coded initial c.args.line.now.row c.args.line.now.first z c.args.line.now.y c.loop-index.sink s) all
+    (c.loop-index.invariant.handed coded initial s grows stands)

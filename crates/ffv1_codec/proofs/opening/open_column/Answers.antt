@@ -1,0 +1,102 @@
+use Rattle.std.proofs.Common.{rules, ◌≡◌, ℕ, ◌+◌, ◌-◌, ◌<◌, ◌≤◌, refl, Some, length, replicate, ◌++◌, arith}
+use Rattle.ffv1_codec.specs.Stands.{window}
+use Rattle.ffv1_range.specs.Codes.{value}
+use Rattle.ffv1_range.specs.History.{HasStates}
+use Rattle.ffv1_slice.specs.Cutting.{span_of}
+use Rattle.ffv1_slice.specs.Head.{key_steps, head_steps}
+use Rattle.ffv1_codec.proofs.Openings.{span_known, begins_before, ends_inside, opening_below, fresh_has, column_opened, column_differs, column_stopped, column_bad, indexes_few}
+use Rattle.ffv1_codec.proofs.opening.open_column.Goals as goal
+
+pub slice_bounds-new-end : goal.slice_bounds-new-end
+slice_bounds-new-end g c =
+    let a = c.args.frame.now.checked.now in
+    let n = c.args.slice in
+    let begin = c.unwrap-begin.result.0 in
+    let end = c.unwrap-begin.result.1 in
+    let cut = c.args.spans.now in
+    let next : n + 1 < length cut.offsets = omega (arith, c.requires.slice, c.requires.cut.long) in
+    let found : span_of cut n ≡ Some c.unwrap-begin.result = search rules in
+    let known = span_known cut n c.unwrap-begin.result next found in
+    let inside : end ≤ length c.args.frame.now.payload.now = ends_inside a c.args.frame.now.payload.now cut n begin end c.requires.cut known.0 known.1 c.requires.slice in
+    inside
+
+pub returns-in-Err-clause-exact : goal.returns-in-Err-clause-exact
+returns-in-Err-clause-exact g c =
+    let a = c.args.frame.now.checked.now in
+    let n = c.args.slice in
+    let begin = c.unwrap-begin.result.0 in
+    let end = c.unwrap-begin.result.1 in
+    let cut = c.args.spans.now in
+    let next : n + 1 < length cut.offsets = omega (arith, c.requires.slice, c.requires.cut.long) in
+    let found : span_of cut n ≡ Some c.unwrap-begin.result = search rules in
+    let known = span_known cut n c.unwrap-begin.result next found in
+    let inside : end ≤ length c.args.frame.now.payload.now = ends_inside a c.args.frame.now.payload.now cut n begin end c.requires.cut known.0 known.1 c.requires.slice in
+    let bytes = window begin (end - begin) c.args.frame.now.payload.now in
+    let bad : 65280 ≤ value bytes 2 = c.in-Err.ensures.refused.0 refl in
+    column_bad a c.args.frame.now.payload.now cut n begin end c.requires.cut known.0 known.1 c.args.column.now c.args.first.now c.requires.closed (λ codes. let less = c.empty_list.ensures.only bytes codes in absurd (omega (arith, bad, less)))
+
+pub returns-then-agrees-clause-exact : goal.returns-then-agrees-clause-exact
+returns-then-agrees-clause-exact g c =
+    let a = c.args.frame.now.checked.now in
+    let n = c.args.slice in
+    let begin = c.unwrap-begin.result.0 in
+    let end = c.unwrap-begin.result.1 in
+    let cut = c.args.spans.now in
+    let next : n + 1 < length cut.offsets = omega (arith, c.requires.slice, c.requires.cut.long) in
+    let found : span_of cut n ≡ Some c.unwrap-begin.result = search rules in
+    let known = span_known cut n c.unwrap-begin.result next found in
+    let inside : end ≤ length c.args.frame.now.payload.now = ends_inside a c.args.frame.now.payload.now cut n begin end c.requires.cut known.0 known.1 c.requires.slice in
+    let old_is : c.in-Ok.decoder.bytes ≡ window begin (end - begin) c.args.frame.now.payload.now = c.in-Ok.ensures.bytes in
+    let below = opening_below c.two_parts.ensures.below c.slots.ensures.unsigned c.slots.ensures.shifted a.configuration n c.in-Ok-read.head in
+    let has : (slots : ℕ) → HasStates a.table (replicate slots 128) 33 (key_steps n ++ head_steps a.configuration n c.in-Ok-read.head) =
+    λ slots. fresh_has c.kept_states.ensures.fresh c.kept_states.ensures.others a.table (key_steps n ++ head_steps a.configuration n c.in-Ok-read.head) slots below in
+    let agreed = c.if-agrees.ensures.yes refl in
+    rw c.park.ensures (column_opened a c.args.frame.now.payload.now cut n begin end c.requires.cut known.0 known.1 c.in-Ok.decoder c.read_head-read.new.decoder old_is c.in-Ok-read.head.indexes c.in-Ok-read.head c.args.first.now c.agrees.new.first refl c.in-Ok-read.ensures.ok agreed.0 agreed.1 has)
+
+pub returns-then-agrees-clause-open : goal.returns-then-agrees-clause-open
+returns-then-agrees-clause-open g c =
+    let a = c.args.frame.now.checked.now in
+    let n = c.args.slice in
+    let begin = c.unwrap-begin.result.0 in
+    let end = c.unwrap-begin.result.1 in
+    let cut = c.args.spans.now in
+    let next : n + 1 < length cut.offsets = omega (arith, c.requires.slice, c.requires.cut.long) in
+    let found : span_of cut n ≡ Some c.unwrap-begin.result = search rules in
+    let known = span_known cut n c.unwrap-begin.result next found in
+    let inside : end ≤ length c.args.frame.now.payload.now = ends_inside a c.args.frame.now.payload.now cut n begin end c.requires.cut known.0 known.1 c.requires.slice in
+    let head = c.in-Ok-read.ensures.head in
+    record {
+      parked = refl;
+      rises = begins_before a c.args.frame.now.payload.now cut n begin end c.requires.cut known.0 known.1 c.requires.slice;
+      inside = inside;
+      index = indexes_few a.configuration.extra_plane (length a.configuration.sets) c.in-Ok-read.head.indexes (omega (arith, head.first)) head.first head.second head.third;
+    }
+
+pub returns-else-agrees-clause-exact : goal.returns-else-agrees-clause-exact
+returns-else-agrees-clause-exact g c =
+    let a = c.args.frame.now.checked.now in
+    let n = c.args.slice in
+    let begin = c.unwrap-begin.result.0 in
+    let end = c.unwrap-begin.result.1 in
+    let cut = c.args.spans.now in
+    let next : n + 1 < length cut.offsets = omega (arith, c.requires.slice, c.requires.cut.long) in
+    let found : span_of cut n ≡ Some c.unwrap-begin.result = search rules in
+    let known = span_known cut n c.unwrap-begin.result next found in
+    let inside : end ≤ length c.args.frame.now.payload.now = ends_inside a c.args.frame.now.payload.now cut n begin end c.requires.cut known.0 known.1 c.requires.slice in
+    let old_is : c.in-Ok.decoder.bytes ≡ window begin (end - begin) c.args.frame.now.payload.now = c.in-Ok.ensures.bytes in
+    let differs = c.if-agrees.ensures.no refl in
+    rw c.park.ensures (column_differs a c.args.frame.now.payload.now cut n begin end c.requires.cut known.0 known.1 c.in-Ok.decoder c.read_head-read.new.decoder old_is c.counted_from_nothing.ensures _ c.in-Ok-read.head c.args.first.now differs.0 refl c.in-Ok-read.ensures.ok differs.1 differs.2)
+
+pub returns-in-Err-read-clause-exact : goal.returns-in-Err-read-clause-exact
+returns-in-Err-read-clause-exact g c =
+    let a = c.args.frame.now.checked.now in
+    let n = c.args.slice in
+    let begin = c.unwrap-begin.result.0 in
+    let end = c.unwrap-begin.result.1 in
+    let cut = c.args.spans.now in
+    let next : n + 1 < length cut.offsets = omega (arith, c.requires.slice, c.requires.cut.long) in
+    let found : span_of cut n ≡ Some c.unwrap-begin.result = search rules in
+    let known = span_known cut n c.unwrap-begin.result next found in
+    let inside : end ≤ length c.args.frame.now.payload.now = ends_inside a c.args.frame.now.payload.now cut n begin end c.requires.cut known.0 known.1 c.requires.slice in
+    let old_is : c.in-Ok.decoder.bytes ≡ window begin (end - begin) c.args.frame.now.payload.now = c.in-Ok.ensures.bytes in
+    rw c.park.ensures (column_stopped a c.args.frame.now.payload.now cut n begin end c.requires.cut known.0 known.1 c.in-Ok.decoder c.read_head-read.new.decoder old_is c.counted_from_nothing.ensures _ c.args.first.now c.in-Err-read.fault refl c.in-Err-read.ensures.err)

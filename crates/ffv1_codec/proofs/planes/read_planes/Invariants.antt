@@ -1,0 +1,25 @@
+use Rattle.std.proofs.Common.{ℕ, ◌+◌, ◌≤◌, List}
+use Rattle.ffv1_range.specs.Symbols.{AllHeld}
+use Rattle.ffv1_codec.specs.Decoding.{State}
+use Rattle.ffv1_codec.specs.Tied.{AreOpen, TiedColumns, TiedPlanes, PlanesRead}
+use Rattle.ffv1_codec.proofs.planes.read_planes.Given as goal
+
+abbrev pub invariant-columns : goal.invariant-columns
+invariant-columns g l = record {
+  opened : AreOpen l.frame.payload.now l.frame.checked.now.configuration.sets l.columns;
+  held : AllHeld l.frame.checked.now.table l.states;
+  line : (coded : ℕ → List ℕ) (next : ℕ) (s : State) → l.line.first + l.line.count ≤ next →
+      TiedColumns l.frame.checked.now coded l.line.row next l.frame.payload.now l.fn.columns l.fn.states s →
+      TiedPlanes l.frame.checked.now.configuration l.line.first l.line.count 0 0 l.line.y l.two l.one l.fn.cur s →
+      PlanesRead l.frame.checked.now coded l.line.row next l.frame.payload.now l.line.first l.line.count l.line.y l.column 0 l.columns l.states l.two l.one l.cur s;
+}
+
+abbrev pub invariant-planes : goal.invariant-planes
+invariant-planes g l = record {
+  opened : AreOpen l.frame.payload.now l.frame.checked.now.configuration.sets l.columns;
+  held : AllHeld l.frame.checked.now.table l.states;
+  line : (coded : ℕ → List ℕ) (next : ℕ) (s : State) → l.line.first + l.line.count ≤ next →
+      TiedColumns l.frame.checked.now coded l.line.row next l.frame.payload.now l.fn.columns l.fn.states s →
+      TiedPlanes l.frame.checked.now.configuration l.line.first l.line.count 0 0 l.line.y l.two l.one l.fn.cur s →
+      PlanesRead l.frame.checked.now coded l.line.row next l.frame.payload.now l.line.first l.line.count l.line.y l.column l.index l.columns l.states l.two l.one l.cur s;
+}

@@ -1,0 +1,295 @@
+-- What the decoding of a frame knows, and what each event of its order does, or is refused by (RFC
+-- 9043, 3 and 4.4 to 4.8).
+use Rattle.std.specs.Prelude.{◌≡◌, ◌≢◌, ◌⊎◌, ℕ, ℤ, ◌+◌, ◌*◌, ◌<◌, Bool, true, false}
+use Rattle.std.specs.Prelude.{Option, Some, None, List, [], ◌∷◌, ◌++◌, map, length, take, drop}
+use Rattle.std.specs.Prelude.{replicate, slice_index, slice_set}
+use Rattle.std.proofs.Common.{get_or}
+use Rattle.std.specs.List.{flat_map, range_with_len}
+use Rattle.ffv1_wire.specs.Runs.{Line}
+use Rattle.ffv1_range.specs.Codes.{Codes}
+use Rattle.ffv1_range.specs.Symbols.{Step, shifted}
+use Rattle.ffv1_rct.specs.Lines.{AreOnlyColours, HasColourAt}
+use Rattle.ffv1_record.specs.Configuration.{Configuration, is_rct}
+use Rattle.ffv1_record.specs.Accepted.{Accepted}
+use Rattle.ffv1_line.specs.Cell.{Cell, cell_of}
+use Rattle.ffv1_line.specs.Row.{row_steps}
+use Rattle.ffv1_line.specs.Coded.{CodesRow, RefusesRow, refused_row_steps}
+use Rattle.ffv1_slice.specs.declared.head.SliceHead.{SliceHead}
+use Rattle.ffv1_slice.specs.declared.fault.SliceFault.{SliceFault}
+use Rattle.ffv1_slice.specs.declared.fault.SliceFault.TheVariants as slice
+use Rattle.ffv1_slice.specs.Grid.{division_of, across, down, begin_of, length_of, Lies}
+use Rattle.ffv1_slice.specs.Head.{CodesHead, RefusesHead, RefusesKey, key_steps, head_steps, no_key}
+use Rattle.ffv1_codec.specs.declared.fault.CodecFault.{CodecFault}
+use Rattle.ffv1_codec.specs.declared.fault.CodecFault.TheVariants as fault
+use Rattle.ffv1_codec.specs.declared.fault.FrameFault.{FrameFault}
+use Rattle.ffv1_codec.specs.Picture.{plane, plane_count}
+use Rattle.ffv1_codec.specs.SliceList.{Said, said_by, base_of, bits_of, set_in}
+use Rattle.ffv1_codec.specs.Order.{Event, events_of}
+use Rattle.ffv1_codec.specs.Order.Event.{Open, Read, Finish, Hand, Close}
+use Rattle.ffv1_codec.specs.Runs.{Runs, Stops}
+
+-- what is known of a slice: what was decided in it, what its head says, and for each plane the
+-- samples of its cell that were read, row after row
+pub record Slice : Type 0 where
+  pub past : List Step
+  pub head : SliceHead
+  pub cells : List (List ℕ)
+
+-- a slice of which nothing is known but what was decided in it
+abbrev pub decided_in : List Step → Slice
+decided_in steps = record {
+  past = steps;
+  head = record { indexes = 0 ∷ 0 ∷ 0 ∷ []; structure = 0; sar_num = 0; sar_den = 0 };
+  cells = [];
+}
+
+abbrev pub unread : Slice
+unread = decided_in []
+
+-- where decoding stands
+pub record State : Type 0 where
+  -- what the first slice says
+  pub info : Option Said
+  -- the slices of the rows above, and those of this row, from the left
+  pub done : List Slice
+  pub columns : List Slice
+  -- the lines that are handed over next
+  pub out : List (List ℕ)
+  -- what was handed over
+  pub lines : List Line
+
+abbrev pub at_first : Configuration → State
+at_first c = record {
+  info = None;
+  done = [];
+  columns = replicate c.columns unread;
+  out = [];
+  lines = [];
+}
+
+-- the slice of a column
+abbrev pub slice_at : State → ℕ → Slice
+slice_at s k = get_or s.columns k unread
+
+abbrev pub put_slice : State → ℕ → Slice → State
+put_slice s k q = record s { columns = slice_set s.columns k q }
+
+-- the number of the slice in row r and column k
+abbrev pub slice_number : Configuration → ℕ → ℕ → ℕ
+slice_number c r k = r * c.columns + k
+
+-- where column k begins in a plane, how wide it is, and where row r begins
+abbrev pub left_of : Configuration → ℕ → ℕ → ℕ
+left_of c p k = begin_of (across (division_of c) p) k
+
+abbrev pub width_in : Configuration → ℕ → ℕ → ℕ
+width_in c p k = length_of (across (division_of c) p) k
+
+abbrev pub top_of : Configuration → ℕ → ℕ → ℕ
+top_of c p r = begin_of (down (division_of c) p) r
+
+-- row y of a cell of some width, of its samples
+abbrev pub row_in : ℕ → ℕ → List ℕ → List ℕ
+row_in width y samples = take width (drop (y * width) samples)
+
+-- line y of the slices of a row in plane p, as it is coded
+abbrev pub coded_line : Configuration → State → ℕ → ℕ → List ℕ
+coded_line c s y p =
+    flat_map (λ k. row_in (width_in c p k) y (plane (slice_at s k).cells p))
+    (range_with_len 0 c.columns)
+
+-- the fault of a key or a head, as a fault of a frame
+abbrev pub of_slice : SliceFault → CodecFault
+of_slice slice.OutOfMemory = fault.OutOfMemory
+of_slice slice.SymbolTooLong = fault.SymbolTooLong
+of_slice slice.NotKey = fault.NotKey
+of_slice slice.Place = fault.Place
+of_slice slice.SetIndex = fault.SetIndex
+of_slice slice.Structure = fault.Structure
+of_slice slice.Aspect = fault.Aspect
+of_slice slice.Footer = fault.Footer
+of_slice slice.Leftover = fault.Leftover
+of_slice slice.SliceParity = fault.SliceParity
+of_slice slice.SliceStatus = fault.SliceStatus
+of_slice slice.SliceTooLong = fault.SliceTooLong
+
+-- a fault that has no other place than its slice
+abbrev pub in_slice : CodecFault → ℕ → FrameFault
+in_slice f n = record { fault = f; slice = n; plane = 0; line = 0; x = 0 }
+
+-- this is what the first slice said, or it is the first
+abbrev pub AgreesWith : Option Said → Said → Type 0
+AgreesWith None info = Unit {0}
+AgreesWith (Some first) info = info ≡ first
+
+-- the lines that are handed over for some that were read: the same, and for RCT the only colours
+-- that these are the transform of, with a transparency of 8 bits as it is
+abbrev pub FinishesBy : Bool → Configuration → List (List ℕ) → List (List ℕ) → Type 0
+FinishesBy false c read out = out ≡ read
+FinishesBy true c read out =
+    (length out ≡ length read)
+    × ((i : ℕ) → i < length read → length (get_or out i []) ≡ c.width)
+    × AreOnlyColours c.width (get_or read 0 []) (get_or read 1 []) (get_or read 2 [])
+    (get_or out 0 []) (get_or out 1 []) (get_or out 2 [])
+    × (c.extra_plane ≡ true → (get_or out 3 [] ≡ get_or read 3 [])
+    × ((x : ℕ) → x < c.width → slice_index (get_or read 3 []) x < 256))
+
+abbrev pub Finishes : Configuration → List (List ℕ) → List (List ℕ) → Type 0
+Finishes c read out = FinishesBy (is_rct c.colour) c read out
+
+-- place x of lines that were read has a colour, and a transparency of 8 bits
+abbrev pub HasPlace : Configuration → List (List ℕ) → ℕ → Type 0
+HasPlace c read x =
+    HasColourAt (get_or read 0 []) (get_or read 1 []) (get_or read 2 []) x
+    × (c.extra_plane ≡ true → slice_index (get_or read 3 []) x < 256)
+
+-- place x is the first that has not
+pub record IsColourless (c : Configuration) (read : List (List ℕ)) (x : ℕ) : Type 0 where
+  pub rct : is_rct c.colour ≡ true
+  pub inside : x < c.width
+  pub before : (y : ℕ) → y < x → HasPlace c read y
+  pub none : HasPlace c read x → ⊥
+
+-- the cell of the samples of plane p that were read in a slice, and of a row below them
+abbrev pub cell_with : Slice → ℕ → ℕ → List ℕ → Cell
+cell_with q p width row = cell_of width (plane q.cells p ++ row)
+
+-- the slice behind some steps of a line, and behind a whole line of plane p, with its samples
+abbrev pub behind_steps : Slice → List Step → Slice
+behind_steps q steps = record q { past = q.past ++ steps }
+
+abbrev pub behind_line : Slice → List Step → ℕ → List ℕ → Slice
+behind_line q steps p row = record q {
+  past = q.past ++ steps;
+  cells = slice_set q.cells p (plane q.cells p ++ row);
+}
+
+-- a is the configuration with its table; coded n are the coded bytes of slice n
+module _ (a : Accepted) (coded : ℕ → List ℕ) where
+  -- behind what was decided in slice n its bytes code line y of its cell in plane p, so many
+  -- samples wide, by residuals that suit the samples
+  pub record ReadsLine (n p width y : ℕ) (q : Slice) (qs : List ℤ) (row : List ℕ) : Type 0 where
+    pub above : length (plane q.cells p) ≡ y * width
+    pub long : length qs ≡ width
+    pub row_long : length row ≡ width
+    pub codes : CodesRow (coded n) a.table (base_of a.configuration p) q.past
+        (set_in a.configuration q.head p) (bits_of a.configuration) (cell_with q p width row) y qs
+
+  -- or a beginning of that line, and then a symbol that is refused
+  pub record StopsInLine (n p width y : ℕ) (q : Slice) (qs : List ℤ) (row : List ℕ) : Type 0 where
+    pub above : length (plane q.cells p) ≡ y * width
+    pub short : length qs < width
+    pub row_long : length row ≡ length qs
+    pub refuses : RefusesRow (coded n) a.table (base_of a.configuration p) q.past
+        (set_in a.configuration q.head p) (bits_of a.configuration) (cell_with q p width row) y qs
+
+  -- their decisions
+  abbrev pub steps_of_line : Slice → ℕ → ℕ → ℕ → List ℤ → List ℕ → List Step
+  steps_of_line q p width y qs row =
+      shifted (base_of a.configuration p)
+      (row_steps (set_in a.configuration q.head p) (cell_with q p width row) y 0 qs)
+
+  abbrev pub steps_of_stop : Slice → ℕ → ℕ → ℕ → List ℤ → List ℕ → List Step
+  steps_of_stop q p width y qs row =
+      shifted (base_of a.configuration p)
+      (refused_row_steps (set_in a.configuration q.head p) (cell_with q p width row) y qs)
+
+  -- why slice n is not opened, where info was said before, and the decisions up to there
+  abbrev pub RefusesOpen : Option Said → ℕ → CodecFault → List Step → Type 0
+  RefusesOpen info n f steps =
+      ((f ≡ fault.BadStart) × (Codes (coded n) [] → ⊥) × (steps ≡ []))
+      ⊎ ((f ≡ fault.NotKey) × RefusesKey (coded n) a.table n × (steps ≡ no_key))
+      ⊎ ((g : SliceFault) × (more : List Step)
+      × RefusesHead (coded n) a.table a.configuration n g more × (f ≡ of_slice g)
+      × (steps ≡ key_steps n ++ shifted 1 more))
+      ⊎ ((h : SliceHead) × (first : Said) × CodesHead (coded n) a.table a.configuration n h
+      × (info ≡ Some first) × (said_by h ≢ first) × (f ≡ fault.InfoDiffers)
+      × (steps ≡ key_steps n ++ head_steps a.configuration n h))
+
+  -- what is known once slice n is opened
+  abbrev pub opened : ℕ → SliceHead → Slice
+  opened n h = record {
+    past = key_steps n ++ head_steps a.configuration n h;
+    head = h;
+    cells = replicate (plane_count a.configuration) [];
+  }
+
+  -- the event makes its step
+  abbrev pub StepsBy : State → Event → State → Type 0
+  StepsBy s (Open r k) t =
+      let n = slice_number a.configuration r k in
+      (h : SliceHead) × CodesHead (coded n) a.table a.configuration n h
+      × AgreesWith s.info (said_by h)
+      × (t ≡ put_slice (record s { info = Some (said_by h) }) k (opened n h))
+  StepsBy s (Read r k p y) t =
+      let q = slice_at s k in
+      let width = width_in a.configuration p k in
+      (qs : List ℤ) × (row : List ℕ)
+      × ReadsLine (slice_number a.configuration r k) p width y q qs row
+      × (t ≡ put_slice s k (behind_line q (steps_of_line q p width y qs row) p row))
+  StepsBy s (Finish r planes y) t =
+      (out : List (List ℕ))
+      × Finishes a.configuration (map (coded_line a.configuration s y) planes) out
+      × (t ≡ record s { out = out })
+  StepsBy s (Hand r i p y) t =
+      t ≡ record s {
+        lines = s.lines ++ (record {
+          plane = p;
+          row = top_of a.configuration p r + y;
+          samples = get_or s.out i [];
+        } ∷ []);
+      }
+  StepsBy s Close t =
+      t ≡ record s {
+        done = s.done ++ s.columns;
+        columns = replicate a.configuration.columns unread;
+      }
+
+  -- the event is refused, with this fault and what is known then
+  abbrev pub FaultsWith : State → Event → FrameFault → State → Type 0
+  FaultsWith s (Open r k) f t =
+      let n = slice_number a.configuration r k in
+      (steps : List Step) × RefusesOpen s.info n f.fault steps × (f ≡ in_slice f.fault n)
+      × (t ≡ put_slice s k (decided_in steps))
+  FaultsWith s (Read r k p y) f t =
+      let n = slice_number a.configuration r k in
+      let q = slice_at s k in
+      let width = width_in a.configuration p k in
+      (qs : List ℤ) × (row : List ℕ) × StopsInLine n p width y q qs row
+      × (f ≡ record {
+        fault = fault.SymbolTooLong;
+        slice = n;
+        plane = p;
+        line = top_of a.configuration p r + y;
+        x = left_of a.configuration p k + length qs;
+      })
+      × (t ≡ put_slice s k (behind_steps q (steps_of_stop q p width y qs row)))
+  FaultsWith s (Finish r planes y) f t =
+      (x : ℕ) × (k : ℕ)
+      × IsColourless a.configuration (map (coded_line a.configuration s y) planes) x
+      × Lies (across (division_of a.configuration) 0) x k
+      × (f ≡ record {
+        fault = fault.Colour;
+        slice = slice_number a.configuration r k;
+        plane = 0;
+        line = top_of a.configuration 0 r + y;
+        x = x;
+      })
+      × (t ≡ s)
+  FaultsWith s (Hand r i p y) f t = ⊥
+  FaultsWith s Close f t = ⊥
+
+  -- decoding comes to its end
+  abbrev pub Decodes : State → Type 0
+  Decodes t = Runs StepsBy (at_first a.configuration) (events_of a.configuration) t
+
+  -- decoding is refused at its first fault
+  abbrev pub Refuses : FrameFault → State → Type 0
+  Refuses f t = Stops StepsBy FaultsWith (at_first a.configuration) (events_of a.configuration) f t
+
+  -- decoding comes to a line that is to be handed over next
+  pub record Offers (r i p y : ℕ) (t : State) : Type 0 where
+    pub before : List Event
+    pub after : List Event
+    pub parts : events_of a.configuration ≡ before ++ (Hand r i p y ∷ after)
+    pub runs : Runs StepsBy (at_first a.configuration) before t

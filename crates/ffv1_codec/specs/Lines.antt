@@ -1,0 +1,29 @@
+-- The lines of a picture in the order in which they are handed over: a row of slices after the
+-- other, and in it plane after plane, for RCT line by line red, green, blue and transparency.
+use Rattle.std.specs.Prelude.{ℕ, ◌+◌, List, map}
+use Rattle.std.specs.List.{flat_map, range_with_len}
+use Rattle.ffv1_wire.specs.Runs.{Line}
+use Rattle.ffv1_record.specs.Configuration.{Configuration}
+use Rattle.ffv1_codec.specs.Picture.{Planes, plane, plane_width}
+use Rattle.ffv1_codec.specs.Order.{Series, series_of}
+use Rattle.ffv1_codec.specs.Decoding.{row_in, top_of}
+
+-- line y of plane p
+abbrev pub line_in : Configuration → Planes → ℕ → ℕ → Line
+line_in c planes y p = record {
+  plane = p;
+  row = y;
+  samples = row_in (plane_width c p) y (plane planes p);
+}
+
+-- those of a series in row r of the slices
+abbrev pub lines_of_series : Configuration → Planes → ℕ → Series → List Line
+lines_of_series c planes r s =
+    flat_map (λ y. map (λ p. line_in c planes (top_of c p r + y) p) s.planes)
+    (range_with_len 0 s.height)
+
+-- all of them
+abbrev pub lines_of : Configuration → Planes → List Line
+lines_of c planes =
+    flat_map (λ r. flat_map (lines_of_series c planes r) (series_of c r))
+    (range_with_len 0 c.rows)

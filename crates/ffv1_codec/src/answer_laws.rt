@@ -1,0 +1,128 @@
+//! Laws of what a payload is answered, each the contract of a function that does nothing.
+
+ghost use Rattle.std.specs.Prelude.{◌≡◌, ℕ, ◌≤◌, Result, Ok, Err, List};
+ghost use Rattle.ffv1_wire.specs.Runs.{Grows};
+ghost use Rattle.ffv1_range.specs.declared.tally.Tally.{Tally};
+ghost use Rattle.ffv1_range.specs.Codes.{AreBytes};
+ghost use Rattle.ffv1_record.specs.Accepted.{Accepted, IsAccepted};
+ghost use Rattle.ffv1_codec.specs.declared.fault.FrameFault.{FrameFault};
+ghost use Rattle.ffv1_codec.specs.Picture.{Planes, Fits};
+ghost use Rattle.ffv1_codec.specs.SliceList.{Said};
+ghost use Rattle.ffv1_codec.specs.Frame.{CodesPicture};
+ghost use Rattle.ffv1_codec.specs.Lines.{lines_of};
+ghost use Rattle.ffv1_codec.specs.Answer.{Answers, decisions_in, decided_by, no_tally};
+ghost use Rattle.ffv1_record.specs.Held.{held_of};
+ghost use Rattle.ffv1_record.specs.declared.checked.Held.{Held};
+ghost use Rattle.ffv1_codec.specs.Bounds.{most_decisions};
+ghost use Rattle.ffv1_codec.specs.Headline.{StandsOnce, AreShort, DecodesTo, Headline};
+ghost use Rattle.ffv1_slice.specs.Cutting.{Cuts};
+ghost use Rattle.ffv1_codec.specs.declared.fault.CodecFault.TheVariants as codec_fault;
+ghost use Rattle.ffv1_codec.specs.Damage.{IsBurst};
+ghost use Rattle.ffv1_codec.specs.Decoding as decoding;
+ghost use Rattle.ffv1_codec.specs.Decoding.{State, Decodes, Offers, in_slice};
+
+use crate::decoding_laws::{decoded, is_decoded, one_end};
+use crate::laws::{encoded_frame, sides};
+use ffv1_line::laws::{lengths as line_lengths, suiting_rows};
+use ffv1_range::laws::lengths as decision_lengths;
+use ffv1_record::laws::burst;
+use ffv1_slice::laws::{cutting, lengths, one_cutting};
+use ffv1_wire::LineSink;
+
+/// The lines of a picture are each row of each plane once, of each plane from the top; and they
+/// determine its planes.
+pub fn each_line_once()
+    ensures rows { (a : Accepted) (planes : Planes) → IsAccepted a.configuration a.table →
+        StandsOnce a planes }
+    ensures planes { (a : Accepted) (planes others : Planes) → IsAccepted a.configuration a.table →
+        Fits a.configuration planes → Fits a.configuration others →
+        lines_of a.configuration planes ≡ lines_of a.configuration others → planes ≡ others }
+{
+    sides();
+}
+
+/// A payload codes one picture at most, with one structure and aspect.
+pub fn one_picture()
+    ensures { (a : Accepted) (payload : List ℕ) (planes others : Planes) (info other : Said) →
+        IsAccepted a.configuration a.table → AreBytes payload →
+        CodesPicture a payload planes info → CodesPicture a payload others other →
+        (planes ≡ others) × (info ≡ other) }
+{
+    one_cutting();
+    is_decoded();
+    one_end();
+    each_line_once();
+}
+
+/// Where the answer is Ok, the payload codes a picture, whose lines the sink took; and a payload
+/// that codes a picture is answered Ok, or the sink refused the line that came next.
+pub fn answered<S: LineSink>()
+    ensures found { (a : Accepted) (payload : List ℕ) (old new : S) (tally : Tally) (info : Said) →
+        IsAccepted a.configuration a.table →
+        Answers S.takes S.refuses a payload old new tally (Ok info) →
+        (planes : Planes) × CodesPicture a payload planes info
+        × Grows S.takes old (lines_of a.configuration planes) new }
+    ensures only { (a : Accepted) (payload : List ℕ) (planes : Planes) (info : Said) (old new : S)
+        (tally : Tally) (result : Result Said FrameFault) →
+        IsAccepted a.configuration a.table → AreBytes payload →
+        CodesPicture a payload planes info →
+        Answers S.takes S.refuses a payload old new tally result →
+        DecodesTo S.takes S.refuses a old new result planes info }
+{
+    cutting();
+    decoded();
+    is_decoded();
+    one_end();
+}
+
+/// However decoding ends, at its end, at its first fault or at a line that is handed over, few
+/// decisions were made; so a tally tells few.
+pub fn few_decisions<S: LineSink>()
+    ensures end { (a : Accepted) (coded : ℕ → List ℕ) (t : State) →
+        IsAccepted a.configuration a.table → Decodes a coded t →
+        decisions_in t ≤ most_decisions a.configuration }
+    ensures fault { (a : Accepted) (coded : ℕ → List ℕ) (f : FrameFault) (t : State) →
+        IsAccepted a.configuration a.table → decoding.Refuses a coded f t →
+        decisions_in t ≤ most_decisions a.configuration }
+    ensures offered { (a : Accepted) (coded : ℕ → List ℕ) (r i p y : ℕ) (t : State) →
+        IsAccepted a.configuration a.table → Offers a coded r i p y t →
+        decisions_in t ≤ most_decisions a.configuration }
+    ensures answer { (a : Accepted) (payload : List ℕ) (old new : S) (tally : Tally)
+        (result : Result Said FrameFault) → IsAccepted a.configuration a.table →
+        Answers S.takes S.refuses a payload old new tally result →
+        decided_by tally ≤ most_decisions a.configuration }
+{
+    suiting_rows();
+    line_lengths();
+    lengths();
+    decision_lengths();
+    sides();
+}
+
+/// With parity, a payload that differs from a good one within 32 neighbouring bits of one slice,
+/// its slice_size aside, is answered by the parity of that slice, before any line and any decision.
+pub fn damaged<S: LineSink>()
+    ensures { (a : Accepted) (sent payload : List ℕ) (spans : ℕ → ℕ) (s : ℕ) (old new : S)
+        (tally : Tally) (result : Result Said FrameFault) → AreBytes sent → AreBytes payload →
+        Cuts a.configuration sent spans → IsBurst a.configuration sent payload spans s →
+        Answers S.takes S.refuses a payload old new tally result →
+        (result ≡ Err (in_slice codec_fault.SliceParity s)) × (tally ≡ no_tally) × (new ≡ old) }
+{
+    burst();
+    cutting();
+}
+
+/// What a call of the decoder is for, from its answer, its bytes, and what it holds: one statement,
+/// whatever the payload and the sink. That encoded frames are short is the encoder's.
+pub fn headline<S: LineSink>()
+    ensures { (a : Accepted) (payload : List ℕ) (old new : S) (result : Result Said FrameFault)
+        (tally : Tally) (held : Held) → IsAccepted a.configuration a.table → AreBytes payload →
+        AreShort a → Answers S.takes S.refuses a payload old new tally result →
+        held ≡ held_of a.configuration →
+        Headline S.takes S.refuses a old new result payload tally held }
+{
+    answered::<S>();
+    each_line_once();
+    encoded_frame();
+    few_decisions::<S>();
+}

@@ -1,0 +1,148 @@
+//! Laws of decoding, each the contract of a function that does nothing.
+
+ghost use Rattle.std.specs.Prelude.{◌≡◌, ◌⊎◌, ℕ, ◌*◌, ◌<◌, ◌≤◌, ◌++◌, ◌∷◌, List, length};
+ghost use Rattle.std.specs.Prelude.{Some};
+ghost use Rattle.std.proofs.Common.{get_or};
+ghost use Rattle.std.specs.List.{sum_by, range_with_len};
+ghost use Rattle.ffv1_range.specs.Codes.{AreBytes};
+ghost use Rattle.ffv1_record.specs.Accepted.{Accepted, IsAccepted};
+ghost use Rattle.ffv1_codec.specs.declared.fault.FrameFault.{FrameFault};
+ghost use Rattle.ffv1_slice.specs.Footer.{foot_length};
+ghost use Rattle.ffv1_slice.specs.Cutting.{Cuts, coded_of};
+ghost use Rattle.ffv1_codec.specs.Picture.{Planes};
+ghost use Rattle.ffv1_codec.specs.SliceList.{Said, Line, lines_in};
+ghost use Rattle.ffv1_codec.specs.Answer.{slices_in, decisions_in};
+ghost use Rattle.ffv1_codec.specs.Known.{CodesRead, IsBegun, ShowSame, cells_of};
+ghost use Rattle.ffv1_codec.specs.Frame.{CodesPicture};
+ghost use Rattle.ffv1_codec.specs.Lines.{lines_of};
+ghost use Rattle.ffv1_codec.specs.Decoding.{State, StepsBy, FaultsWith, Decodes, Refuses};
+ghost use Rattle.ffv1_codec.specs.Decoding.{Slice, at_first, unread};
+ghost use Rattle.ffv1_codec.specs.Order.{Event, events_of};
+ghost use Rattle.ffv1_codec.specs.Runs.{Runs};
+
+use crate::laws::sides;
+use ffv1_line::laws::{agreeing_cells, cell_is_read, only_row, rolling, suiting_rows};
+use ffv1_range::laws::{beginnings, named_states, one_bit, two_parts};
+use ffv1_rct::laws::{lists, only, small};
+use ffv1_record::laws::{accepted, accepted_parts};
+use ffv1_slice::laws::{divided, one_head, parts, tiling};
+
+/// Decoding has one end at most: it comes to its end in one state, or is refused at one first
+/// fault; and behind each beginning of its order it stands in one state.
+pub fn one_end()
+    ensures end { (a : Accepted) (coded : ℕ → List ℕ) (s t : State) →
+        IsAccepted a.configuration a.table → ((n : ℕ) → AreBytes (coded n)) →
+        Decodes a coded s → Decodes a coded t → s ≡ t }
+    ensures apart { (a : Accepted) (coded : ℕ → List ℕ) (s t : State) (f : FrameFault) →
+        IsAccepted a.configuration a.table → ((n : ℕ) → AreBytes (coded n)) →
+        Decodes a coded s → Refuses a coded f t → ⊥ }
+    ensures fault { (a : Accepted) (coded : ℕ → List ℕ) (s t : State) (f g : FrameFault) →
+        IsAccepted a.configuration a.table → ((n : ℕ) → AreBytes (coded n)) →
+        Refuses a coded f s → Refuses a coded g t → (f ≡ g) × (s ≡ t) }
+    ensures beginning { (a : Accepted) (coded : ℕ → List ℕ) (before after : List Event)
+        (s t : State) →
+        IsAccepted a.configuration a.table → ((n : ℕ) → AreBytes (coded n)) →
+        events_of a.configuration ≡ before ++ after →
+        Runs (StepsBy a coded) (at_first a.configuration) before s →
+        Runs (StepsBy a coded) (at_first a.configuration) before t → s ≡ t }
+{
+    only_row();
+    cell_is_read();
+    one_head();
+    beginnings();
+    one_bit();
+    named_states();
+    accepted();
+    accepted_parts();
+    divided();
+    tiling();
+    parts();
+}
+
+/// What is decoded to its end is a picture that the payload codes: its lines were handed over, and
+/// its slices said the same.
+pub fn decoded()
+    ensures { (a : Accepted) (payload : List ℕ) (spans : ℕ → ℕ) (t : State) →
+        IsAccepted a.configuration a.table → Cuts a.configuration payload spans →
+        Decodes a (coded_of payload (foot_length a.configuration.ec) spans) t →
+        (planes : Planes) × (info : Said) × CodesPicture a payload planes info
+        × (t.info ≡ Some info) × (t.lines ≡ lines_of a.configuration planes) }
+{
+    agreeing_cells();
+    suiting_rows();
+    sides();
+}
+
+/// A payload that codes a picture is decoded to its end: its lines are handed over, and its slices
+/// say what the picture's do; wherever it is cut as it has to be.
+pub fn is_decoded()
+    ensures { (a : Accepted) (payload : List ℕ) (planes : Planes) (info : Said)
+        (codes : CodesPicture a payload planes info) (spans : ℕ → ℕ) →
+        IsAccepted a.configuration a.table → AreBytes payload →
+        ((n : ℕ) → n ≤ a.configuration.columns * a.configuration.rows → spans n ≡ codes.spans n) →
+        (t : State) × Decodes a (coded_of payload (foot_length a.configuration.ec) spans) t
+        × (t.info ≡ Some info) × (t.lines ≡ lines_of a.configuration planes) }
+{
+    agreeing_cells();
+    suiting_rows();
+    beginnings();
+    named_states();
+    two_parts();
+    lists();
+    only();
+    small();
+    sides();
+}
+
+/// Wherever decoding stands, each slice is unread, or its bytes code its key, its head and the
+/// samples of its first lines; a fault is that of one event, behind such a state; and at the end
+/// the bytes of each slice code all its lines, and what was decided is the sum of what was decided
+/// in each slice.
+pub fn known()
+    ensures begun { (a : Accepted) (coded : ℕ → List ℕ) (before after : List Event) (s : State)
+        (n : ℕ) → IsAccepted a.configuration a.table →
+        events_of a.configuration ≡ before ++ after →
+        Runs (StepsBy a coded) (at_first a.configuration) before s →
+        n < a.configuration.columns * a.configuration.rows →
+        (get_or (slices_in s) n unread ≡ unread)
+        ⊎ IsBegun a coded n (get_or (slices_in s) n unread) }
+    ensures refused { (a : Accepted) (coded : ℕ → List ℕ) (f : FrameFault) (t : State) →
+        Refuses a coded f t → (before : List Event) × (event : Event) × (after : List Event)
+        × (s : State) × (events_of a.configuration ≡ before ++ (event ∷ after))
+        × Runs (StepsBy a coded) (at_first a.configuration) before s
+        × FaultsWith a coded s event f t }
+    ensures whole { (a : Accepted) (coded : ℕ → List ℕ) (t : State) (n : ℕ) →
+        IsAccepted a.configuration a.table → Decodes a coded t →
+        n < a.configuration.columns * a.configuration.rows →
+        CodesRead a coded n (get_or t.done n unread) (lines_in a.configuration n) }
+    ensures count { (a : Accepted) (coded : ℕ → List ℕ) (t : State) →
+        IsAccepted a.configuration a.table → Decodes a coded t →
+        decisions_in t ≡ sum_by (λ n. length (get_or t.done n unread).past)
+        (range_with_len 0 (a.configuration.columns * a.configuration.rows)) }
+{
+    agreeing_cells();
+    suiting_rows();
+    sides();
+}
+
+/// What the bytes of a slice code of its first lines, no others do: one head, and one row of
+/// samples for each of the lines.
+pub fn only_read()
+    ensures { (a : Accepted) (coded : ℕ → List ℕ) (n : ℕ) (q r : Slice) (read more : List Line) →
+        IsAccepted a.configuration a.table → AreBytes (coded n) →
+        n < a.configuration.columns * a.configuration.rows →
+        lines_in a.configuration n ≡ read ++ more →
+        CodesRead a coded n q read → CodesRead a coded n r read →
+        (q.head ≡ r.head) × (q.past ≡ r.past)
+        × ShowSame (cells_of a.configuration n q) (cells_of a.configuration n r) read }
+{
+    only_row();
+    rolling();
+    agreeing_cells();
+    one_head();
+    beginnings();
+    named_states();
+    two_parts();
+    accepted();
+    sides();
+}

@@ -1,0 +1,86 @@
+//! A line of planes that are coded together is read.
+
+ghost use Rattle.std.specs.Prelude.{◌≡◌, ℕ, ◌+◌, ◌*◌, ◌≤◌, ◌<◌, List, MatchResult, IfErr, length};
+ghost use Rattle.std.specs.List.{flat_map, range_with_len};
+ghost use Rattle.ffv1_range.specs.Symbols.{AllHeld};
+ghost use Rattle.ffv1_codec.specs.Picture.{plane_count};
+ghost use Rattle.ffv1_codec.specs.Progress.{IsOwn};
+ghost use Rattle.ffv1_codec.specs.Order.{lines_down, column_events};
+ghost use Rattle.ffv1_codec.specs.Decoding.{State};
+ghost use Rattle.ffv1_codec.specs.Tied.{IsFrame, AreOpen, slots_in, TiedColumns, TiedPlanes};
+ghost use Rattle.ffv1_codec.specs.Tied.{PlanesRead, Stopped};
+
+use crate::column::Column;
+use crate::fault::FrameFault;
+use crate::frame::{CodedLine, Frame, Segment};
+use crate::places::places;
+use crate::segment::read_at;
+use std::alloc::Allocator;
+
+/// Reads a line: in each column, from the left, the segment of each plane.
+pub(crate) fn read_planes<A: Allocator>(
+    frame: &Frame<'_, A>,
+    line: &CodedLine,
+    columns: &mut [Column],
+    states: &mut [u8],
+    two: &[u16],
+    one: &[u16],
+    cur: &mut [u16],
+) -> Result<(), FrameFault>
+    requires frame { IsFrame frame.now }
+    requires row { line.now.row < frame.now.checked.now.configuration.rows }
+    requires planes { line.now.first + line.now.count
+        ≤ plane_count frame.now.checked.now.configuration }
+    requires few { line.now.first + line.now.count ≤ 4 }
+    requires y { (i : ℕ) → i < line.now.count →
+        line.now.y < lines_down frame.now.checked.now.configuration (line.now.first + i)
+        line.now.row }
+    requires many { length columns.old ≡ frame.now.checked.now.configuration.columns }
+    requires open { AreOpen frame.now.payload.now frame.now.checked.now.configuration.sets
+        columns.old }
+    requires two_long { line.now.count * frame.now.checked.now.configuration.width
+        ≤ length two.now }
+    requires one_long { line.now.count * frame.now.checked.now.configuration.width
+        ≤ length one.now }
+    requires cur_long { line.now.count * frame.now.checked.now.configuration.width
+        ≤ length cur.old }
+    requires room { length states.old ≡ frame.now.checked.now.configuration.columns
+        * slots_in frame.now.checked.now.configuration }
+    requires held { AllHeld frame.now.checked.now.table states.old }
+    ensures exact { (coded : ℕ → List ℕ) (next : ℕ) (s : State) →
+        let a = frame.now.checked.now in
+        line.now.first + line.now.count ≤ next →
+        TiedColumns a coded line.now.row next frame.now.payload.now columns.old states.old s →
+        TiedPlanes a.configuration line.now.first line.now.count 0 0 line.now.y two.now one.now
+        cur.old s →
+        MatchResult result
+        (λ _. PlanesRead a coded line.now.row next frame.now.payload.now line.now.first
+        line.now.count line.now.y a.configuration.columns 0 columns.new states.new two.now one.now
+        cur.new s)
+        (λ f. Stopped a coded columns.new
+        (flat_map (column_events line.now.row (range_with_len line.now.first line.now.count)
+        line.now.y) (range_with_len 0 a.configuration.columns)) f s) }
+    ensures own { IfErr result IsOwn }
+    ensures open { AreOpen frame.now.payload.now frame.now.checked.now.configuration.sets
+        columns.new }
+    ensures held { AllHeld frame.now.checked.now.table states.new }
+{
+    places();
+    let many = columns.len();
+    'columns: for column in 0..many {
+        'planes: for index in 0..line.count {
+            let segment = Segment {
+                row: line.row,
+                column,
+                plane: line.first + index,
+                index,
+                y: line.y,
+            };
+            match read_at(frame, &segment, columns, states, two, one, cur) {
+                Ok(()) => {}
+                Err(fault) => return Err(fault),
+            }
+        }
+    }
+    Ok(())
+}
