@@ -3,6 +3,7 @@
 mod avi;
 mod coder;
 mod faults;
+mod frames;
 mod orders;
 mod record;
 mod refusals;
