@@ -2,10 +2,11 @@
 use Rattle.std.specs.Prelude.{◌≡◌, ◌⊎◌, ℕ, ◌*◌, ◌^◌, ◌<◌, ◌≤◌, true, List, length, slice_index}
 use Rattle.std.specs.Prelude.{bit_xor}
 use Rattle.std.proofs.Common.{suc}
-use Rattle.ffv1_range.specs.Codes.{value}
+use Rattle.ffv1_range.specs.Codes.{value, AreBytes}
 use Rattle.ffv1_record.specs.Configuration.{Configuration}
+use Rattle.ffv1_record.specs.Accepted.{Accepted}
 use Rattle.ffv1_slice.specs.Footer.{foot_length}
-use Rattle.ffv1_slice.specs.Cutting.{size_before, slice_of}
+use Rattle.ffv1_slice.specs.Cutting.{Cuts, size_before, slice_of}
 
 -- a list of bytes as a number, big end first
 abbrev pub number_of : List ℕ → ℕ
@@ -28,3 +29,10 @@ pub record IsBurst (c : Configuration) (sent payload : List ℕ) (spans : ℕ �
   pub few : bits < 2 ^ 32
   pub differs : bit_xor (number_of (slice_of sent spans s)) (number_of (slice_of payload spans s))
       ≡ bits * 2 ^ place
+
+-- the payload is a good one, but for such damage
+pub record IsDamaged (a : Accepted) (sent payload : List ℕ) (spans : ℕ → ℕ) (s : ℕ)
+    : Type 0 where
+  pub bytes : AreBytes sent
+  pub good : Cuts a.configuration sent spans
+  pub burst : IsBurst a.configuration sent payload spans s

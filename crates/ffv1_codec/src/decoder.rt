@@ -1,6 +1,6 @@
 //! Frames are decoded.
 
-ghost use Rattle.std.specs.Prelude.{◌≡◌, Ok, Err, OnOk, IfOk, IfErr, length};
+ghost use Rattle.std.specs.Prelude.{◌≡◌, ℕ, List, Ok, Err, OnOk, IfOk, IfErr, length};
 ghost use Rattle.ffv1_record.specs.Held.{held_of};
 ghost use Rattle.ffv1_slice.specs.Cutting.{cut_of};
 ghost use Rattle.ffv1_slice.specs.declared.cutting.CutFault.{CutFault};
@@ -8,10 +8,12 @@ ghost use Rattle.ffv1_codec.specs.declared.fault.CodecFault.TheVariants as fault
 ghost use Rattle.ffv1_codec.specs.Answer.{Decoder, Answers, AnswersCoded, cut_fault, no_tally};
 ghost use Rattle.ffv1_codec.specs.Answer.{decided_by};
 ghost use Rattle.ffv1_codec.specs.Headline.{Headline};
+ghost use Rattle.ffv1_codec.specs.Damage.{IsDamaged};
+ghost use Rattle.ffv1_codec.specs.Decoding.{in_slice};
 ghost use Rattle.ffv1_codec.specs.Progress.{CountsSink, IsOwn};
 ghost use Rattle.ffv1_codec.specs.Opened.{IsCutOf, coded_by};
 
-use crate::answer_laws::headline;
+use crate::answer_laws::{damaged, headline};
 use crate::column::Column;
 use crate::columns::{add_up, close};
 use crate::fault::{CodecFault, FrameFault};
@@ -272,16 +274,24 @@ impl<A: Allocator> FrameDecoder<A> {
     /// where a slice is opened, `SymbolTooLong` in a sample, `Colour` in a line that was read, and
     /// `Sink` exactly where the sink refused the line that came next. The sink then has the lines
     /// before it and nothing is decided behind it; the decoder is ready for the next frame.
+    ///
+    /// With parity, a payload that differs from a good one within 32 neighbouring bits of one
+    /// slice, its slice_size aside, is `SliceParity` in that slice, before any line.
     pub fn decode<S: LineSink>(&mut self, payload: &[u8], sink: &mut S) -> Result<Info, FrameFault>
         ensures headline { Headline S.takes S.refuses self.old.accepted sink.old sink.new result
             payload.now self.new.tally self.new.held }
         ensures exact { Answers S.takes S.refuses self.old.accepted payload.now sink.old sink.new
             self.new.tally result }
         ensures counted { CountsSink (S.failures sink.old) (S.failures sink.new) result }
+        ensures damaged { (sent : List ℕ) (spans : ℕ → ℕ) (slice : ℕ) →
+            IsDamaged self.old.accepted sent payload.now spans slice →
+            (result ≡ Err (in_slice fault.SliceParity slice)) × (self.new.tally ≡ no_tally)
+            × (sink.new ≡ sink.old) }
         ensures same { self.new ≡ record self.old { tally = self.new.tally } }
     {
         headline::<S>();
         frame_lengths();
+        damaged::<S>();
         let _table = self.checked.table();
         match self.decode_held(payload, sink) {
             Ok(info) => Ok(info),

@@ -21,3 +21,13 @@ returns-in-Err-clause-headline g c =
     let holds = c.in-Err.ensures.holds ∙ ap (λ (x : Decoder). held_of x.accepted.configuration) c.in-Err.ensures.same in
     c.headline.ensures a c.args.payload.now c.args.sink.now c.decode_held.new.sink (Err c.in-Err.fault) c.decode_held.new.self.tally c.decode_held.new.self.held
     accepted (λ k. omega (arith, c.type_inv.payload k)) (λ planes info picture said. c.frame_lengths.ensures.most a planes info accepted said) c.in-Err.ensures.exact holds
+
+pub returns-in-Ok-clause-damaged : goal.returns-in-Ok-clause-damaged
+returns-in-Ok-clause-damaged g c sent spans slice is =
+    c.damaged.ensures c.args.self.now.accepted sent c.args.payload.now spans slice c.args.sink.now c.decode_held.new.sink c.decode_held.new.self.tally (Ok c.in-Ok.info)
+    is.bytes (λ k. omega (arith, c.type_inv.payload k)) is.good is.burst c.in-Ok.ensures.exact
+
+pub returns-in-Err-clause-damaged : goal.returns-in-Err-clause-damaged
+returns-in-Err-clause-damaged g c sent spans slice is =
+    c.damaged.ensures c.args.self.now.accepted sent c.args.payload.now spans slice c.args.sink.now c.decode_held.new.sink c.decode_held.new.self.tally (Err c.in-Err.fault)
+    is.bytes (λ k. omega (arith, c.type_inv.payload k)) is.good is.burst c.in-Err.ensures.exact
