@@ -11,10 +11,10 @@ use Rattle.ffv1_avi.specs.Head.{Head}
 use Rattle.ffv1_avi.specs.Reads.{EndsEarly, Kept, Looked, Reading, Want, content, given, padded, passed, read_on, refused, taken, wanted, ◌>>=◌}
 use Rattle.ffv1_avi.specs.Streams.{Format, Known, format_behind, format_in, format_rest, format_read, head_judged, limit, rates_in, rates_of, rates_read, skipped, stream_judged, stream_read, visit_field}
 use Rattle.ffv1_avi.specs.Walk.{Visit, entry_judged, entry_read, is_name, resumed, visited, walk, walk_up_to}
-use Rattle.ffv1_avi.proofs.Chunking.{cut_back, cut_front}
-use Rattle.ffv1_avi.proofs.Fills.{passed_short, wanted_short}
-use Rattle.ffv1_avi.proofs.Passing.{passed_complete, passed_sound, read_on_ok, wanted_complete, wanted_sound}
-use Rattle.ffv1_avi.proofs.Walking.{ok_is}
+use Rattle.ffv1_avi.proofs.ListWalks.{cut_back, cut_front}
+use Rattle.ffv1_avi.proofs.LoopReadings.{passed_short, wanted_short}
+use Rattle.ffv1_avi.proofs.PassedBytes.{passed_complete, passed_sound, read_on_ok, wanted_complete, wanted_sound}
+use Rattle.ffv1_avi.proofs.ChunkByChunk.{ok_is}
 
 -- the bytes that were taken
 pub record Uses {X : Type 0} (r : Reading X) (text : List ℕ) (x : X) (rest : List ℕ) : Type 0 where

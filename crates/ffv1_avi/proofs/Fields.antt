@@ -5,10 +5,10 @@ use Rattle.ffv1_avi.specs.declared.chunk.Entry.{Entry}
 use Rattle.ffv1_avi.specs.Reads.{Looked, Reading, content, given, padded, passed, read_on}
 use Rattle.ffv1_avi.specs.Streams.{Format, Known, format_in, format_of, format_read, limit, rates_in, rates_of, rates_read, skipped, visit_field}
 use Rattle.ffv1_avi.specs.Walk.{is_name}
-use Rattle.ffv1_avi.proofs.Chunking.{Complete, IsPassed, Sound, Taking}
+use Rattle.ffv1_avi.proofs.ListWalks.{Complete, IsPassed, Sound, Taking}
 use Rattle.ffv1_avi.proofs.Contents.{format_complete, format_sound, format_whole}
-use Rattle.ffv1_avi.proofs.Passing.{content_complete, content_sound, read_on_ok, skip_complete, skip_sound}
-use Rattle.ffv1_avi.proofs.Walking.{ok_is, read_on_twice}
+use Rattle.ffv1_avi.proofs.PassedBytes.{content_complete, content_sound, read_on_ok, skip_complete, skip_sound}
+use Rattle.ffv1_avi.proofs.ChunkByChunk.{ok_is, read_on_twice}
 
 -- what is known behind a header, and behind a format
 abbrev pub rates_next : Known → List ℕ → Option (Option (ℕ × ℕ)) → Known

@@ -8,8 +8,8 @@ use Rattle.ffv1_avi.specs.Reads.{given, padded, read_on, ◌>>=◌}
 use Rattle.ffv1_avi.proofs.FrameLaws.{frames_complete, frames_sound}
 use Rattle.ffv1_avi.proofs.OpenLaws.{open_complete, open_sound}
 use Rattle.ffv1_avi.proofs.PartLaws.{parts_text}
-use Rattle.ffv1_avi.proofs.Passing.{read_on_ok}
-use Rattle.ffv1_avi.proofs.Walking.{ok_is}
+use Rattle.ffv1_avi.proofs.PassedBytes.{read_on_ok}
+use Rattle.ffv1_avi.proofs.ChunkByChunk.{ok_is}
 
 pub file_sound : (file : List ℕ) (w : (Head × List (List ℕ)) × List ℕ) → file_read file ≡ Ok w → AviFile file w.0.0 w.0.1
 file_sound file w h =

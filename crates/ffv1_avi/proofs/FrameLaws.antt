@@ -9,10 +9,10 @@ use Rattle.ffv1_avi.specs.Files.{found_read, frame_found, frame_read, frames_rea
 use Rattle.ffv1_avi.specs.Reads.{Kept, Stop, content, given, padded, passed, read_on}
 use Rattle.ffv1_avi.specs.Streams.{limit}
 use Rattle.ffv1_avi.specs.Walk.{entry_read, is_name, resumed, visited, walk, walk_up_to}
-use Rattle.ffv1_avi.proofs.Chunking.{Complete, Ended, IsPassed, Run, Sound, Taking, entry_complete, walk_complete, walk_sound}
+use Rattle.ffv1_avi.proofs.ListWalks.{Complete, Ended, IsPassed, Run, Sound, Taking, entry_complete, walk_complete, walk_sound}
 use Rattle.ffv1_avi.proofs.Fields.{skipped_passed}
-use Rattle.ffv1_avi.proofs.Passing.{content_complete, content_sound, read_on_ok, skip_complete}
-use Rattle.ffv1_avi.proofs.Walking.{ok_is, some_is, walk_step}
+use Rattle.ffv1_avi.proofs.PassedBytes.{content_complete, content_sound, read_on_ok, skip_complete}
+use Rattle.ffv1_avi.proofs.ChunkByChunk.{ok_is, some_is, walk_step}
 
 -- a chunk that is no list and no frame
 abbrev pub TakesMovi : Taking (Unit {0})

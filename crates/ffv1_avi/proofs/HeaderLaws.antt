@@ -8,11 +8,11 @@ use Rattle.ffv1_avi.specs.Head.{Head}
 use Rattle.ffv1_avi.specs.Reads.{given, padded, passed, read_on, taken, ◌>>=◌}
 use Rattle.ffv1_avi.specs.Streams.{stream_read}
 use Rattle.ffv1_avi.specs.Walk.{is_name, walk, walk_up_to}
-use Rattle.ffv1_avi.proofs.Chunking.{Complete, Ended, IsPassed, Run, Sound, Taking, cut_back, cut_front, walk_complete, walk_sound}
+use Rattle.ffv1_avi.proofs.ListWalks.{Complete, Ended, IsPassed, Run, Sound, Taking, cut_back, cut_front, walk_complete, walk_sound}
 use Rattle.ffv1_avi.proofs.Fields.{skipped_passed}
-use Rattle.ffv1_avi.proofs.Passing.{IsContent, passed_complete, passed_sound, read_on_ok, skip_complete, taken_complete, taken_sound}
+use Rattle.ffv1_avi.proofs.PassedBytes.{IsContent, passed_complete, passed_sound, read_on_ok, skip_complete, taken_complete, taken_sound}
 use Rattle.ffv1_avi.proofs.StreamLaws.{stream_complete, stream_sound}
-use Rattle.ffv1_avi.proofs.Walking.{ok_is}
+use Rattle.ffv1_avi.proofs.ChunkByChunk.{ok_is}
 
 -- a stream's list of these bytes has this head
 abbrev pub StreamBytes : List ℕ → Head → Type 0

@@ -2,10 +2,10 @@ mod Writing
 mod Sizes
 mod Reading
 mod Contents
-mod Fills
-mod Walking
-pub mod Chunking
-pub mod Passing
+mod LoopReadings
+mod ChunkByChunk
+pub mod ListWalks
+pub mod PassedBytes
 pub mod Fields
 pub mod StreamLaws
 pub mod HeaderLaws

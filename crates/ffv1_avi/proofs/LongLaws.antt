@@ -10,17 +10,17 @@ use Rattle.ffv1_avi.specs.Files.{begins, first_stream, header_read, list_skipped
 use Rattle.ffv1_avi.specs.Reads.{Met, Reading, Stop, given, padded, passed, read_on, refused, taken, ◌>>=◌}
 use Rattle.ffv1_avi.specs.Streams.{Known, nothing_known, stream_judged, stream_read, visit_field}
 use Rattle.ffv1_avi.specs.Walk.{entry_read, is_name, resumed, visited, walk}
-use Rattle.ffv1_avi.proofs.Chunking.{Run, cut_back, cut_front, entry_complete, walk_complete}
+use Rattle.ffv1_avi.proofs.ListWalks.{Run, cut_back, cut_front, entry_complete, walk_complete}
 use Rattle.ffv1_avi.proofs.Contents.{number_taken}
 use Rattle.ffv1_avi.proofs.Fields.{TakesField, field_complete}
 use Rattle.ffv1_avi.proofs.FrameLaws.{those_both}
 use Rattle.ffv1_avi.proofs.HeaderLaws.{TakesHeader, header_complete, run_none, run_some}
 use Rattle.ffv1_avi.proofs.PartLaws.{chunks_of, run_part}
-use Rattle.ffv1_avi.proofs.Passing.{taken_complete}
+use Rattle.ffv1_avi.proofs.PassedBytes.{taken_complete}
 use Rattle.ffv1_avi.proofs.RefusalLaws.{entry_long}
 use Rattle.ffv1_avi.proofs.StreamLaws.{run_exists}
 use Rattle.ffv1_avi.proofs.TopLaws.{TakesTop, top_complete}
-use Rattle.ffv1_avi.proofs.Walking.{walk_step}
+use Rattle.ffv1_avi.proofs.ChunkByChunk.{walk_step}
 
 -- chunks whose streams are readable lead to a head or to none
 readable_run : (cs : List Chunk) → AreReadable (streams_of cs) → (t : Option Head) × Run TakesHeader None cs t

@@ -11,13 +11,13 @@ use Rattle.ffv1_avi.specs.Files.{begins, list_visited, open_read, opened, top_re
 use Rattle.ffv1_avi.specs.Head.{Head}
 use Rattle.ffv1_avi.specs.Reads.{padded, read_on, refused, taken}
 use Rattle.ffv1_avi.specs.Walk.{entry_read, is_name, resumed, visited, walk}
-use Rattle.ffv1_avi.proofs.Chunking.{Ended, Run, cut_back, cut_front, entry_complete, walk_complete, walk_sound}
+use Rattle.ffv1_avi.proofs.ListWalks.{Ended, Run, cut_back, cut_front, entry_complete, walk_complete, walk_sound}
 use Rattle.ffv1_avi.proofs.Contents.{drop_more, number_taken}
 use Rattle.ffv1_avi.proofs.HeaderLaws.{run_some, run_streams}
 use Rattle.ffv1_avi.proofs.PartLaws.{chunks_of, parts_of, parts_text}
-use Rattle.ffv1_avi.proofs.Passing.{read_on_ok, taken_complete, taken_sound}
+use Rattle.ffv1_avi.proofs.PassedBytes.{read_on_ok, taken_complete, taken_sound}
 use Rattle.ffv1_avi.proofs.TopLaws.{TakesTop, top_complete, top_sound, top_stop}
-use Rattle.ffv1_avi.proofs.Walking.{ok_is, walk_step}
+use Rattle.ffv1_avi.proofs.ChunkByChunk.{ok_is, walk_step}
 
 -- RIFF's chunks up to movi, where it has so many bytes for them
 pub record IsTop (room : ℕ) (text : List ℕ) (y : Head × ℕ) (rest : List ℕ) : Type 0 where

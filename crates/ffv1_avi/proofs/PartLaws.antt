@@ -5,7 +5,7 @@ use Rattle.ffv1_avi.specs.Chunks.{AreChunks, AreParts, Chunk, IsChunk, Part, chu
 pub use Rattle.ffv1_avi.specs.Begun.{parts_text}
 use Rattle.ffv1_avi.specs.Head.{Head}
 use Rattle.ffv1_avi.specs.Walk.{is_name}
-use Rattle.ffv1_avi.proofs.Chunking.{Run, Taking}
+use Rattle.ffv1_avi.proofs.ListWalks.{Run, Taking}
 use Rattle.ffv1_avi.proofs.HeaderLaws.{TakesHeader}
 use Rattle.ffv1_avi.proofs.TopLaws.{TakesTop}
 

@@ -8,14 +8,14 @@ use Rattle.ffv1_avi.specs.Chunks.{AreChunks, AreParts, Chunk, MoviBegins, Part, 
 use Rattle.ffv1_avi.specs.Files.{begins, found_read, frame_read, frame_found, list_visited, open_read, opened, top_read, visit_movi, visit_top}
 use Rattle.ffv1_avi.specs.Reads.{Met, given, padded, read_on, refused, taken}
 use Rattle.ffv1_avi.specs.Walk.{entry_read, is_name, resumed, visited, walk}
-use Rattle.ffv1_avi.proofs.Chunking.{cut_back, cut_front, entry_complete, walk_complete}
+use Rattle.ffv1_avi.proofs.ListWalks.{cut_back, cut_front, entry_complete, walk_complete}
 use Rattle.ffv1_avi.proofs.Contents.{number_taken}
 use Rattle.ffv1_avi.proofs.FrameLaws.{frame_passed}
 use Rattle.ffv1_avi.proofs.HeaderLaws.{run_none}
 use Rattle.ffv1_avi.proofs.PartLaws.{chunks_of, parts_text}
-use Rattle.ffv1_avi.proofs.Passing.{taken_complete}
+use Rattle.ffv1_avi.proofs.PassedBytes.{taken_complete}
 use Rattle.ffv1_avi.proofs.TopLaws.{TakesTop, top_complete}
-use Rattle.ffv1_avi.proofs.Walking.{walk_step}
+use Rattle.ffv1_avi.proofs.ChunkByChunk.{walk_step}
 
 top_read_none : (room : ℕ) (parts : List Part) (movi_size : List ℕ) (rest : List ℕ) → length movi_size ≡ 4 → 4 ≤ little_number 4 movi_size →
     length (parts_text parts) + (8 + padded (little_number 4 movi_size)) ≤ room → AreParts parts → streams parts ≡ [] →

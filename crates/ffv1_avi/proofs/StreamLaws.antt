@@ -6,10 +6,10 @@ use Rattle.ffv1_avi.specs.Head.{Head}
 use Rattle.ffv1_avi.specs.Reads.{read_on}
 use Rattle.ffv1_avi.specs.Streams.{Format, Known, format_of, head_judged, limit, nothing_known, rates_of, stream_judged, stream_read, visit_field}
 use Rattle.ffv1_avi.specs.Walk.{is_name, walk, walk_up_to}
-use Rattle.ffv1_avi.proofs.Chunking.{Ended, Run, walk_complete, walk_sound}
+use Rattle.ffv1_avi.proofs.ListWalks.{Ended, Run, walk_complete, walk_sound}
 use Rattle.ffv1_avi.proofs.Fields.{IsShort, TakesField, field_complete, field_sound, format_next, rates_next}
-use Rattle.ffv1_avi.proofs.Passing.{read_on_ok}
-use Rattle.ffv1_avi.proofs.Walking.{ok_is, some_is}
+use Rattle.ffv1_avi.proofs.PassedBytes.{read_on_ok}
+use Rattle.ffv1_avi.proofs.ChunkByChunk.{ok_is, some_is}
 
 -- what a chunk that may be there says
 abbrev first_says : {X : Type 0} → (List ℕ → X) → Option Chunk → Option X

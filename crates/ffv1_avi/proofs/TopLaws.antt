@@ -8,11 +8,11 @@ use Rattle.ffv1_avi.specs.Files.{header_read, list_skipped, list_visited, movi_r
 use Rattle.ffv1_avi.specs.Head.{Head}
 use Rattle.ffv1_avi.specs.Reads.{Reading, given, padded, passed, read_on, taken, ◌>>=◌}
 use Rattle.ffv1_avi.specs.Walk.{is_name}
-use Rattle.ffv1_avi.proofs.Chunking.{Complete, IsPassed, Run, Sound, Taking, cut_back, cut_front}
+use Rattle.ffv1_avi.proofs.ListWalks.{Complete, IsPassed, Run, Sound, Taking, cut_back, cut_front}
 use Rattle.ffv1_avi.proofs.Fields.{skipped_passed}
 use Rattle.ffv1_avi.proofs.HeaderLaws.{TakesHeader, header_read_complete, header_read_sound, list_skip_complete, list_skip_sound, own_taken}
-use Rattle.ffv1_avi.proofs.Passing.{read_on_ok, skip_complete, taken_sound}
-use Rattle.ffv1_avi.proofs.Walking.{ok_is, some_is}
+use Rattle.ffv1_avi.proofs.PassedBytes.{read_on_ok, skip_complete, taken_sound}
+use Rattle.ffv1_avi.proofs.ChunkByChunk.{ok_is, some_is}
 
 abbrev pub TopTakes : Bool → Bool → Bool → Option Head → List ℕ → Option Head → Type 0
 TopTakes false h m s bytes t = t ≡ s

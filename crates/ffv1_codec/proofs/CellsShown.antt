@@ -16,10 +16,10 @@ use Rattle.ffv1_codec.proofs.Machines.{each_left, each_right, Each, each_append}
 use Rattle.ffv1_codec.proofs.OneColour.{AreFew}
 use Rattle.ffv1_codec.proofs.Groups.{Group, IsGroup, group_lines}
 use Rattle.ffv1_codec.proofs.LinesRead.{lines_at}
-use Rattle.ffv1_codec.proofs.Made.{MadeOf, handed, joined_line}
+use Rattle.ffv1_codec.proofs.LinesMade.{MadeOf, handed, joined_line}
 use Rattle.ffv1_codec.proofs.Keys.{parts_from}
 use Rattle.ffv1_codec.proofs.JoinedLines.{tiled_at, row_long, row_at}
-use Rattle.ffv1_codec.proofs.Sized.{by_number, each_back}
+use Rattle.ffv1_codec.proofs.LineSizes.{by_number, each_back}
 
 factor_zero : (p : ℕ) → factor_of 0 p ≡ 0
 factor_zero zero = refl

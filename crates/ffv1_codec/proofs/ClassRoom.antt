@@ -9,7 +9,7 @@ use Rattle.ffv1_codec.specs.Picture.{plane_count}
 use Rattle.ffv1_codec.specs.SliceList.{class_of, base_of}
 use Rattle.ffv1_codec.specs.Tied.{slots_in}
 use Rattle.ffv1_codec.proofs.Sizes.{class_room}
-use Rattle.ffv1_codec.proofs.Taken.{few_contexts}
+use Rattle.ffv1_codec.proofs.ByNumber.{few_contexts}
 
 pub class_few : (chroma extra : Bool) (p : ℕ) → p < planes_in chroma extra → class_of p < classes_of chroma extra
 class_few chroma true zero h = omega arith

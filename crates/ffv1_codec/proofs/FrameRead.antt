@@ -21,7 +21,7 @@ use Rattle.ffv1_codec.specs.Decoding.{State, Slice, StepsBy, AgreesWith, Decodes
 use Rattle.ffv1_codec.proofs.Machines.{runs_append}
 use Rattle.ffv1_codec.proofs.LinesRead.{row_lines}
 use Rattle.ffv1_codec.proofs.Groups.{groups_of, group_lines, group_out, groups_are, row_by_groups, lines_by_groups, out_by_groups}
-use Rattle.ffv1_codec.proofs.Made.{AllHave}
+use Rattle.ffv1_codec.proofs.LinesMade.{AllHave}
 use Rattle.ffv1_codec.proofs.RowsDone.{opens, empty_cells}
 use Rattle.ffv1_codec.proofs.Keys.{rows_of_lines}
 use Rattle.ffv1_codec.proofs.PictureLines.{ColourLaws}

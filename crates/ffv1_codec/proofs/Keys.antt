@@ -17,7 +17,7 @@ use Rattle.ffv1_codec.proofs.Machines.{Each, each_range, each_flat}
 use Rattle.ffv1_codec.proofs.FlatLists.{flat_flat, flat_same, map_flat, flat_none, pick_one}
 use Rattle.ffv1_codec.proofs.Groups.{Group, IsGroup, groups_of, group_out, out_by_groups, groups_are, regrouped}
 use Rattle.ffv1_codec.proofs.LinesRead.{row_lines, by_colour}
-use Rattle.ffv1_codec.proofs.Made.{MadeOf, handed}
+use Rattle.ffv1_codec.proofs.LinesMade.{MadeOf, handed}
 use Rattle.ffv1_codec.proofs.PlanesMade.{key_of, row_if, rows_in}
 
 pub range_join : (a n m : ℕ) → range_with_len a n ++ range_with_len (a + n) m ≡ range_with_len a (n + m)

@@ -19,7 +19,7 @@ use Rattle.ffv1_codec.proofs.LinesRead.{read_at, reads_of, row_lines, row_reads}
 use Rattle.ffv1_codec.proofs.Groups.{groups_of, groups_are, row_by_groups}
 use Rattle.ffv1_codec.proofs.ColumnSteps.{IsOfRow, columns_kept_along}
 use Rattle.ffv1_codec.proofs.SliceBodies.{HasRead}
-use Rattle.ffv1_codec.proofs.Made.{AllHave, have_more, groups_of_row}
+use Rattle.ffv1_codec.proofs.LinesMade.{AllHave, have_more, groups_of_row}
 use Rattle.ffv1_codec.proofs.RowsDone.{opens}
 use Rattle.ffv1_codec.proofs.PictureMade.{PictureLaws, alike_lines, some_wide}
 use Rattle.ffv1_codec.proofs.FromCoded.{row_and_column}

@@ -1,6 +1,6 @@
 pub mod CodedSamples
 pub mod Lines
-pub mod Shown
+pub mod RowsShown
 pub mod Windows
 pub mod Classes
 pub mod Bodies
@@ -9,8 +9,8 @@ pub mod Lengths
 pub mod Counted
 pub mod Frames
 mod Sizes
-mod Put
-mod Taken
+mod WrittenParts
+mod ByNumber
 mod ClassRoom
 mod SegmentReads
 mod PartPlaces
@@ -19,7 +19,7 @@ mod ColumnsOpen
 mod RunsInRow
 mod Ranges
 mod PlanesReads
-mod Hands
+mod LinesHanded
 mod FinishedLines
 mod LineFinished
 mod Openings
@@ -42,12 +42,12 @@ pub mod LinesRead
 pub mod ColumnSteps
 pub mod SliceBodies
 pub mod Groups
-pub mod Made
+pub mod LinesMade
 pub mod RowsDone
 pub mod PlanesMade
 pub mod Keys
 pub mod JoinedLines
-pub mod Sized
+pub mod LineSizes
 pub mod CellsShown
 pub mod PictureMade
 pub mod SlicesMade

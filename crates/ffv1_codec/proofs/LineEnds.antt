@@ -17,7 +17,7 @@ use Rattle.ffv1_codec.specs.Decoding.{State, slice_at, left_of, width_in, row_in
 use Rattle.ffv1_codec.specs.Stands.{window}
 use Rattle.ffv1_codec.specs.Tied.{TiedColumns, TiedLine, TiedPlanes, part_of}
 use Rattle.ffv1_codec.specs.Finished.{StandRead}
-use Rattle.ffv1_codec.proofs.Put.{window_at, window_long}
+use Rattle.ffv1_codec.proofs.WrittenParts.{window_at, window_long}
 use Rattle.ffv1_codec.proofs.Ranges.{joined_more}
 use Rattle.ffv1_codec.proofs.SegmentTied.{small_both}
 

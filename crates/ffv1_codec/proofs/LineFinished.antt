@@ -13,7 +13,7 @@ use Rattle.ffv1_codec.specs.SliceList.{bits_of}
 use Rattle.ffv1_codec.specs.Decoding.{State, FinishesBy, IsColourless, HasPlace, coded_line}
 use Rattle.ffv1_codec.specs.Stands.{window}
 use Rattle.ffv1_codec.specs.Finished.{AreMade, HasBoth, IsFirstWithout, AreTogether, IsTogether, StandRead, Finished, line_at}
-use Rattle.ffv1_codec.proofs.Put.{window_long}
+use Rattle.ffv1_codec.proofs.WrittenParts.{window_long}
 use Rattle.ffv1_codec.proofs.Sizes.{part_apart}
 use Rattle.ffv1_codec.proofs.FinishedLines.{window_front, colours_at, has_at}
 

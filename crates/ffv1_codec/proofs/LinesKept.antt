@@ -9,9 +9,9 @@ use Rattle.ffv1_codec.specs.Picture.{Planes, AreOf, planes_of, plane}
 use Rattle.ffv1_codec.specs.Decoding.{row_in}
 use Rattle.ffv1_codec.specs.Stands.{window}
 use Rattle.ffv1_codec.specs.Kept.{IsLine, with_samples, with_line}
-use Rattle.ffv1_codec.proofs.Put.{put_long, put_window, put_other}
+use Rattle.ffv1_codec.proofs.WrittenParts.{put_long, put_window, put_other}
 use Rattle.ffv1_codec.proofs.Sizes.{part_apart}
-use Rattle.ffv1_codec.proofs.Taken.{plane_is}
+use Rattle.ffv1_codec.proofs.ByNumber.{plane_is}
 use Rattle.ffv1_codec.proofs.Ranges.{mapped_more}
 use Rattle.ffv1_codec.proofs.SegmentTied.{plane_now, plane_other}
 

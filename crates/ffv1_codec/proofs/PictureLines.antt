@@ -16,7 +16,7 @@ use Rattle.ffv1_codec.proofs.CodedSamples.{Small, is_colour}
 use Rattle.ffv1_codec.proofs.Machines.{Each}
 use Rattle.ffv1_codec.proofs.Groups.{Group, IsGroup, group_lines}
 use Rattle.ffv1_codec.proofs.LinesRead.{lines_at}
-use Rattle.ffv1_codec.proofs.Made.{joined_line, map_each}
+use Rattle.ffv1_codec.proofs.LinesMade.{joined_line, map_each}
 use Rattle.ffv1_codec.proofs.SlicesMade.{at_number, at_range}
 use Rattle.ffv1_codec.proofs.JoinedLines.{row_long, row_at, tiled_long}
 use Rattle.ffv1_codec.proofs.CellsShown.{InRct, down_alike, inside_side, Shown, IsThere, joined_at, picture_row}

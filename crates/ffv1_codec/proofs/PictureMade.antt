@@ -22,7 +22,7 @@ use Rattle.ffv1_codec.proofs.RowsDone.{SuitsFew, RowPart, AllRows}
 use Rattle.ffv1_codec.proofs.PlanesMade.{key_of, samples_in, samples_if, rows_in, IsRowOf, Stand, stand}
 use Rattle.ffv1_codec.proofs.Keys.{keys_of, row_keys, line_of, lines_by_keys, made_keys, rows_of_plane, keys_are}
 use Rattle.ffv1_codec.proofs.JoinedLines.{joined_small}
-use Rattle.ffv1_codec.proofs.Sized.{IsSized, IsThere, sized_groups, each_back}
+use Rattle.ffv1_codec.proofs.LineSizes.{IsSized, IsThere, sized_groups, each_back}
 use Rattle.ffv1_codec.proofs.CellsShown.{InRct, down_alike, IsLine}
 
 -- what is known of a configuration, its division and its cells

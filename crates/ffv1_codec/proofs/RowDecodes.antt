@@ -17,7 +17,7 @@ use Rattle.ffv1_codec.specs.Progress.{Decoded, FailsIn}
 use Rattle.ffv1_codec.specs.Opened.{IsOpened, RowOpened, RowRefused}
 use Rattle.ffv1_codec.specs.Rows.{RowDecoded, open_events}
 use Rattle.ffv1_codec.proofs.Sizes.{part_apart}
-use Rattle.ffv1_codec.proofs.Taken.{plane_is}
+use Rattle.ffv1_codec.proofs.ByNumber.{plane_is}
 use Rattle.ffv1_codec.proofs.RunsInRow.{runs_append, stops_sooner}
 use Rattle.ffv1_codec.proofs.SegmentReads.{Telling}
 use Rattle.ffv1_codec.proofs.SegmentTied.{tied_told}

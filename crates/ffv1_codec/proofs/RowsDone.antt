@@ -22,7 +22,7 @@ use Rattle.ffv1_codec.proofs.LinesRead.{read_at, reads_of, row_lines, row_reads}
 use Rattle.ffv1_codec.proofs.Groups.{groups_of, group_events, row_by_groups, groups_are}
 use Rattle.ffv1_codec.proofs.ColumnSteps.{IsOfRow, ReadsNext, column_runs}
 use Rattle.ffv1_codec.proofs.SliceBodies.{CellLaws, HasRead, longer, plane_is, plane_put, plane_beside}
-use Rattle.ffv1_codec.proofs.Made.{MadeOf, goes_on, AllHave, have_more, row_made, groups_of_row}
+use Rattle.ffv1_codec.proofs.LinesMade.{MadeOf, goes_on, AllHave, have_more, row_made, groups_of_row}
 
 nothing_read : (c : Configuration) (h : SliceHead) (cell : ℕ → Cell) → IsBody c h cell [] []
 unfolding IsBody

@@ -21,8 +21,8 @@ use Rattle.ffv1_codec.proofs.LinesRead.{reads_of, lines_at, columns_read}
 use Rattle.ffv1_codec.proofs.Groups.{Group, IsGroup, group_events, group_lines, group_out}
 use Rattle.ffv1_codec.proofs.ColumnSteps.{IsOfRow}
 use Rattle.ffv1_codec.proofs.SliceBodies.{CellLaws, HasRead, IsRead}
-use Rattle.ffv1_codec.proofs.Made.{IsReading, AllHave, have_more, reads_of_row}
-use Rattle.ffv1_codec.proofs.Sized.{by_number}
+use Rattle.ffv1_codec.proofs.LinesMade.{IsReading, AllHave, have_more, reads_of_row}
+use Rattle.ffv1_codec.proofs.LineSizes.{by_number}
 use Rattle.ffv1_codec.proofs.CellsShown.{InRct, Shown, IsThere, picture_row}
 use Rattle.ffv1_codec.proofs.PictureMade.{each_all}
 use Rattle.ffv1_codec.proofs.PictureLines.{ColourLaws, picture_finishes}

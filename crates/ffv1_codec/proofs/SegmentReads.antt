@@ -18,7 +18,7 @@ use Rattle.ffv1_line.specs.Row.{row_steps, refused_steps}
 use Rattle.ffv1_line.specs.Coded.{refused_row_steps}
 use Rattle.ffv1_line.specs.Decoded.{Lined, Refused}
 use Rattle.ffv1_codec.proofs.Sizes.{part_apart}
-use Rattle.ffv1_codec.proofs.Put.{put}
+use Rattle.ffv1_codec.proofs.WrittenParts.{put}
 use Rattle.ffv1_codec.specs.Stands.{Stands, SegmentRead, SegmentRefused, window, told_by, tally_behind}
 
 -- the laws of lists of decisions, and of their slots

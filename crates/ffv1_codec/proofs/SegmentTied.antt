@@ -16,9 +16,9 @@ use Rattle.ffv1_codec.specs.Order.Event.{Read}
 use Rattle.ffv1_codec.specs.Decoding.{State, Slice, StepsBy, slice_at, slice_number, put_slice, behind_line, behind_steps, steps_of_line, steps_of_stop, left_of, width_in, top_of, unread}
 use Rattle.ffv1_codec.specs.Stands.{Stands, SegmentRead, SegmentRefused, window, told_by, tally_behind}
 use Rattle.ffv1_codec.specs.Tied.{TiedColumn, TiedColumns, TiedLine, AreTold, StepMade, Stopped, SameOthers, slots_in, column_at, bytes_in, no_column, part_of}
-use Rattle.ffv1_codec.proofs.Put.{put, put_window, put_other}
+use Rattle.ffv1_codec.proofs.WrittenParts.{put, put_window, put_other}
 use Rattle.ffv1_codec.proofs.Sizes.{part_apart}
-use Rattle.ffv1_codec.proofs.Taken.{plane_is}
+use Rattle.ffv1_codec.proofs.ByNumber.{plane_is}
 use Rattle.ffv1_codec.proofs.PartPlaces.{before, inside}
 use Rattle.ffv1_codec.proofs.SegmentReads.{Telling, stands_tells}
 

@@ -17,7 +17,7 @@ use Rattle.ffv1_slice.specs.Head.{Rule, Meets, Stops, head_rules, head_values, h
 use Rattle.ffv1_slice.specs.Coding.{ReadsAt, StandsBehind}
 use Rattle.ffv1_slice.specs.Internal.Values.{Gives}
 use Rattle.ffv1_slice.proofs.Symbols.{reads_at}
-use Rattle.ffv1_slice.proofs.Giving.{values_below, stops_below}
+use Rattle.ffv1_slice.proofs.CallsGive.{values_below, stops_below}
 
 pub refused_head : (c : Configuration) (n : ℕ) (t : Table) (old new : Reading) (after : List ℕ) {f : SliceFault} (result : Result SliceHead SliceFault) → IsErrAnd result (λ g. g ≡ f) →
     Gives t (head_rules c n) old (replicate 32 128) new after (Err f) → IfErr result (λ f. (steps : List Step) × Stops (head_rules c n) 0 f steps × ReadsAt t 1 32 old new (shifted 1 steps))

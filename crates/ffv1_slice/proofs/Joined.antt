@@ -9,7 +9,7 @@ use Rattle.ffv1_record.specs.Parity.{remainder_of, parity_of}
 use Rattle.ffv1_slice.specs.Footer.{foot_length, footer_of, unsealed}
 use Rattle.ffv1_slice.specs.Cutting.{IsCutting, IsSized, IsWhole, IsSound, Cuts, size_before, slice_of, coded_of}
 use Rattle.ffv1_slice.specs.Cutting.{joined_of, offset_in, AreCodedBytes, AreCodedIn}
-use Rattle.ffv1_slice.proofs.Footing.{footer_long}
+use Rattle.ffv1_slice.proofs.WholeSlices.{footer_long}
 
 -- slice s among them
 pub record Stands (ec : Bool) (codes : List (List ℕ)) (s : ℕ) : Type 0 where

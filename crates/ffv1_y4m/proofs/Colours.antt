@@ -10,7 +10,7 @@ use Rattle.ffv1_wire.specs.Failures.{one_more}
 use Rattle.ffv1_y4m.specs.Reads.{Gathers, IsNone, Stands, Stops, Wants}
 use Rattle.ffv1_y4m.specs.Sequence.{Outcome, Reading, left}
 use Rattle.ffv1_y4m.proofs.Sequences.{consumes_none, consumes_then, moved}
-use Rattle.ffv1_y4m.proofs.Thirds.{each_third-append, colours_of, colours_short}
+use Rattle.ffv1_y4m.proofs.ColourThirds.{each_third-append, colours_of, colours_short}
 
 abbrev planes_in : Outcome (List (List ℕ)) → List (List ℕ)
 planes_in (Ok p) = p.0

@@ -10,7 +10,7 @@ use Rattle.ffv1_y4m.specs.Pictures.{bytes_read, begun_with, frame_begun, frame_l
 use Rattle.ffv1_y4m.specs.Reads.{Nowhere, Stands, Wants}
 use Rattle.ffv1_y4m.specs.Sequence.{Outcome, left}
 use Rattle.ffv1_y4m.proofs.Sequences.{Local, Stays, consumes_then, consumes_kept, moved}
-use Rattle.ffv1_y4m.proofs.Taken.{value_in, rest_in, is_fault}
+use Rattle.ffv1_y4m.proofs.AnswerParts.{value_in, rest_in, is_fault}
 
 bytes_behind : (xs ys text : List ℕ) → bytes_read (xs ++ ys) (xs ++ text) ≡ bytes_read ys text
 bytes_behind [] ys text = refl

@@ -10,7 +10,7 @@ use Rattle.ffv1_y4m.specs.declared.tags.Tags.{Tags}
 use Rattle.ffv1_y4m.specs.Sequence.{◌>>=◌}
 use Rattle.ffv1_y4m.specs.Header.{first_value, first_answer, structure_of, tagged, words_of, onto_first, all_judged, no_tags, present, head_of_tags, head_of_line, head_from, or_else, size_of, ratio_of, chroma_of, chroma_planes, is_text}
 use Rattle.ffv1_y4m.specs.HeaderLine.{is_letter, AreTags, spaced, values_of, Once, AtMostOnce, SaysSize, SaysRatio, SaysStructure, SaysChroma, chroma_in, IsHeaderLine, Without}
-use Rattle.ffv1_y4m.proofs.Taken.{is_some, some_in, is_fault}
+use Rattle.ffv1_y4m.proofs.AnswerParts.{is_some, some_in, is_fault}
 use Rattle.ffv1_y4m.proofs.CanonicalLine.{words_front, words_whole}
 use Rattle.ffv1_y4m.proofs.HeaderTags.{Moves, Moved, one_moves, by_letter, all_found}
 

@@ -4,7 +4,7 @@ use Rattle.std.proofs.lemmas.Bool.{eqb-true, false≢true}
 use Rattle.ffv1_y4m.specs.declared.tags.Tags.{Tags}
 use Rattle.ffv1_y4m.specs.Header.{tagged, judged, all_judged}
 use Rattle.ffv1_y4m.specs.HeaderLine.{is_letter, AreTags, values_of, SaysSize, SaysRatio, SaysStructure, SaysChroma}
-use Rattle.ffv1_y4m.proofs.Taken.{is_some}
+use Rattle.ffv1_y4m.proofs.AnswerParts.{is_some}
 use Rattle.ffv1_y4m.proofs.CanonicalLine.{judged_width, judged_height, judged_rate, judged_structure, judged_aspect, judged_chroma}
 
 -- what tags of one letter make of a value: at most one says it, where none did before

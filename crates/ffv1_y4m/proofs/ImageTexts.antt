@@ -10,7 +10,7 @@ use Rattle.ffv1_y4m.specs.Images.{AreColours, AllColours, samples_text, image_te
 use Rattle.ffv1_y4m.specs.VideoHead.{IsSized, colour_head}
 use Rattle.ffv1_y4m.specs.HeaderLine.{Without}
 use Rattle.ffv1_y4m.proofs.Lines.{position_found, taken_to}
-use Rattle.ffv1_y4m.proofs.Thirds.{colours_of}
+use Rattle.ffv1_y4m.proofs.ColourThirds.{colours_of}
 use Rattle.ffv1_y4m.proofs.CanonicalLine.{size_back, digits_without, without_both}
 
 length-interleaved : (rs gs bs : List ℕ) → length gs ≡ length rs → length bs ≡ length rs → length (interleaved rs gs bs) ≡ 3 * length rs

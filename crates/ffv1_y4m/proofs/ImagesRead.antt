@@ -14,9 +14,9 @@ use Rattle.ffv1_y4m.specs.Sequence.{Outcome, ◌then◌, give, refuse, where_beg
 use Rattle.ffv1_y4m.specs.Ppm.{sizes_of, sizes_at, both_sizes, sized_head, image_head, some_head, image_header, each_third, colours_read, same_sizes, image_begun, image_read, image_header_text, interleaved}
 use Rattle.ffv1_y4m.specs.Images.{AreColours, AllColours, samples_text, image_text, IsImages, ReadsImages, ReadsFrom}
 use Rattle.ffv1_y4m.specs.VideoHead.{IsSized, colour_head}
-use Rattle.ffv1_y4m.proofs.Taken.{value_in, rest_in, is_fault, is_some, some_in, parted_by}
+use Rattle.ffv1_y4m.proofs.AnswerParts.{value_in, rest_in, is_fault, is_some, some_in, parted_by}
 use Rattle.ffv1_y4m.proofs.Lines.{line_parts, line_was}
-use Rattle.ffv1_y4m.proofs.Thirds.{length-each_third}
+use Rattle.ffv1_y4m.proofs.ColourThirds.{length-each_third}
 use Rattle.ffv1_y4m.proofs.Colours.{told}
 
 -- a number that was read is spelled so

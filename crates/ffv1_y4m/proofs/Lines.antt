@@ -1,7 +1,7 @@
 -- A header line that is read byte by byte.
 use Rattle.std.proofs.Common.{◌≡◌, ℕ, ◌+◌, ◌-◌, ◌<◌, ◌≤◌, ◌==◌, nat_lt, zero, take-append-drop, drop-cons, true, false, Option, Some, None, List, [], ◌∷◌, ◌++◌, take, drop, length, get_or, Ok, Err, inl, inr, refl, sym, ◌∙◌, ap, arith, suc, add-one, append_assoc, length-take}
 use Rattle.std.proofs.lemmas.Bool.{true≢false, cases_lt, eqb-true}
-use Rattle.ffv1_y4m.proofs.Taken.{value_in, rest_in, is_fault}
+use Rattle.ffv1_y4m.proofs.AnswerParts.{value_in, rest_in, is_fault}
 use Rattle.std.proofs.lemmas.Grind.{common_steps}
 use Rattle.std.proofs.lemmas.List.{take_all, drop_all, get_or-take}
 use Rattle.std.proofs.lemmas.List.Quantifiers.{position-Some}

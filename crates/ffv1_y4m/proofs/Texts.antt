@@ -13,7 +13,7 @@ use Rattle.ffv1_y4m.specs.VideoHead.{Fits, IsHead, plane_sizes}
 use Rattle.ffv1_y4m.specs.Canonical.{header_text, canonical_text, next_text}
 use Rattle.ffv1_y4m.specs.HeaderLine.{Without}
 use Rattle.ffv1_y4m.specs.Text.{AllFit, IsText, ReadsAll}
-use Rattle.ffv1_y4m.proofs.Taken.{value_in, rest_in, is_fault, is_some, some_in, parted_by}
+use Rattle.ffv1_y4m.proofs.AnswerParts.{value_in, rest_in, is_fault, is_some, some_in, parted_by}
 use Rattle.ffv1_y4m.proofs.HeaderLines.{line_found, line_only}
 use Rattle.ffv1_y4m.proofs.CanonicalLine.{head_line, header_parts, line_back, line_single, line_short}
 use Rattle.ffv1_y4m.proofs.Lines.{line_local, line_was}

@@ -1,7 +1,7 @@
 use Rattle.std.proofs.Common.{◌≡◌, ◌+◌, ◌<◌, ◌≤◌, take, drop, length, inl, arith}
 use Rattle.std.proofs.lemmas.Grind.{common_steps}
 use Rattle.ffv1_avi.proofs.Contents.{appends_some}
-use Rattle.ffv1_avi.proofs.Fills.{append_not, append_short}
+use Rattle.ffv1_avi.proofs.LoopReadings.{append_not, append_short}
 use Rattle.ffv1_avi.proofs.chunk.append.Goals as goal
 
 pub returns-then-len-more-clause-answer : goal.returns-then-len-more-clause-answer

@@ -1,6 +1,6 @@
 use Rattle.std.proofs.Common.{◌+◌, ◌≤◌, ◌∙◌, length, arith}
 use Rattle.std.proofs.lemmas.Result.{err_from_is_err_and}
-use Rattle.ffv1_avi.proofs.Fills.{fill_begins, fill_more, fill_refused}
+use Rattle.ffv1_avi.proofs.LoopReadings.{fill_begins, fill_more, fill_refused}
 use Rattle.ffv1_avi.proofs.chunk.fill.Goals as goal
 
 pub returns-in_err-append-clause-answer : goal.returns-in_err-append-clause-answer

@@ -10,7 +10,7 @@ use Rattle.ffv1_avi.specs.Reads.{Looked, Reading, refused, taken, ◌>>=◌}
 use Rattle.ffv1_avi.specs.Internal.Views.{head_with}
 use Rattle.ffv1_avi.specs.Walk.{is_name}
 use Rattle.ffv1_avi.proofs.Contents.{number_taken}
-use Rattle.ffv1_avi.proofs.Passing.{wanted_sound}
+use Rattle.ffv1_avi.proofs.PassedBytes.{wanted_sound}
 use Rattle.ffv1_avi.proofs.Reading.{faults_here, goes_fault, goes_last, goes_none, goes_read, goes_same}
 use Rattle.ffv1_avi.proofs.open.read_opening.Goals as goal
 use Rattle.ffv1_avi.proofs.open.read_opening.Goals.{then-not-is_name-via-then-not-is_name, then-not-is_name-via-else-not-is_name+then-not-is_name-2, then-not-is_name-via-else-not-is_name+else-not-is_name-2+then-size-lt4}

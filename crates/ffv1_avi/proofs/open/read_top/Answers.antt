@@ -5,7 +5,7 @@ use Rattle.ffv1_avi.specs.Files.{visit_top}
 use Rattle.ffv1_avi.specs.Head.{Head}
 use Rattle.ffv1_avi.specs.Internal.Views.{found_with, head_with}
 use Rattle.ffv1_avi.proofs.Reading.{faults_here, goes_fault, goes_given, goes_read, goes_refused}
-use Rattle.ffv1_avi.proofs.Walking.{behind_chunk, goes_end, goes_entry, goes_no_entry}
+use Rattle.ffv1_avi.proofs.ChunkByChunk.{behind_chunk, goes_end, goes_entry, goes_no_entry}
 use Rattle.ffv1_avi.proofs.open.read_top.Invariants.{ended}
 use Rattle.ffv1_avi.proofs.open.read_top.Goals as goal
 

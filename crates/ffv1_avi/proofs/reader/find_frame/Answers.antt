@@ -3,7 +3,7 @@ use Rattle.std.proofs.lemmas.Result.{err_from_is_err_and}
 use Rattle.ffv1_avi.specs.Files.{visit_movi}
 use Rattle.ffv1_avi.specs.Reads.{Reading, given}
 use Rattle.ffv1_avi.proofs.Reading.{goes_given, goes_read, goes_refused}
-use Rattle.ffv1_avi.proofs.Walking.{behind_chunk, goes_end, goes_entry, goes_no_entry}
+use Rattle.ffv1_avi.proofs.ChunkByChunk.{behind_chunk, goes_end, goes_entry, goes_no_entry}
 use Rattle.ffv1_avi.proofs.reader.find_frame.Goals as goal
 
 abbrev found : Unit {0} × Option (ℕ × ℕ) → Reading (Option (ℕ × ℕ))

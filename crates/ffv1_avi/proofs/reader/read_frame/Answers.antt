@@ -3,10 +3,10 @@ use Rattle.std.proofs.lemmas.Result.{err_from_is_err_and}
 use Rattle.ffv1_avi.specs.Files.{found_read, frame_found, frame_read}
 use Rattle.ffv1_avi.specs.Readers.{Leaves}
 use Rattle.ffv1_avi.specs.Reads.{Begins, Kept, Read, Reading, given, passed, wanted, ◌>>=◌}
-use Rattle.ffv1_avi.proofs.Chunking.{cut_front}
-use Rattle.ffv1_avi.proofs.Passing.{wanted_sound}
+use Rattle.ffv1_avi.proofs.ListWalks.{cut_front}
+use Rattle.ffv1_avi.proofs.PassedBytes.{wanted_sound}
 use Rattle.ffv1_avi.proofs.Reading.{goes_given, goes_none, goes_read, goes_refused, goes_same}
-use Rattle.ffv1_avi.proofs.Walking.{read_on_twice}
+use Rattle.ffv1_avi.proofs.ChunkByChunk.{read_on_twice}
 use Rattle.ffv1_avi.proofs.reader.read_frame.Goals as goal
 
 abbrev framed : ℕ → List ℕ → Reading (Option (List ℕ × ℕ))

@@ -1,7 +1,7 @@
 use Rattle.std.proofs.Common.{◌∙◌, ap, subst, sym, suc, length, List, ℕ}
 use Rattle.ffv1_line.specs.Cell.{Shows}
 use Rattle.ffv1_codec.specs.Picture.{cell_in}
-use Rattle.ffv1_codec.proofs.Shown.{plain_shows}
+use Rattle.ffv1_codec.proofs.RowsShown.{plain_shows}
 use Rattle.ffv1_codec.proofs.cell_rows.load.Goals as goal
 
 pub returns : goal.returns

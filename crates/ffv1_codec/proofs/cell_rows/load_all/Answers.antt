@@ -1,5 +1,5 @@
 use Rattle.std.proofs.Common.{◌∙◌, sym}
-use Rattle.ffv1_codec.proofs.Shown.{Transformed, is_colour, same_width, luma_shows, blue_shows, red_shows}
+use Rattle.ffv1_codec.proofs.RowsShown.{Transformed, is_colour, same_width, luma_shows, blue_shows, red_shows}
 use Rattle.ffv1_codec.proofs.cell_rows.load_all.Goals as goal
 
 pub returns : goal.returns

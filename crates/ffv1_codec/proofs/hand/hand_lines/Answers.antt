@@ -4,7 +4,7 @@ use Rattle.ffv1_codec.specs.Picture.{plane_width}
 use Rattle.ffv1_codec.specs.Stands.{window}
 use Rattle.ffv1_codec.specs.Progress.{Handed}
 use Rattle.ffv1_codec.proofs.Sizes.{part_apart}
-use Rattle.ffv1_codec.proofs.Hands.{one_handed, one_refused}
+use Rattle.ffv1_codec.proofs.LinesHanded.{one_handed, one_refused}
 use Rattle.ffv1_codec.proofs.hand.hand_lines.Goals as goal
 
 pub slice_bounds-hand_line-end : goal.slice_bounds-hand_line-end

@@ -9,7 +9,7 @@ use Rattle.ffv1_codec.specs.Decoding.{slice_at, left_of, width_in}
 use Rattle.ffv1_codec.specs.Tied.{IsOpen, column_at, no_column, slots_in, bytes_in}
 use Rattle.ffv1_codec.proofs.Sizes.{slots_small, part_small, part_apart}
 use Rattle.ffv1_codec.proofs.ClassRoom.{classes_most}
-use Rattle.ffv1_codec.proofs.Put.{put_held, put_other, part_held, part_long}
+use Rattle.ffv1_codec.proofs.WrittenParts.{put_held, put_other, part_held, part_long}
 use Rattle.ffv1_codec.proofs.ColumnsOpen.{open_next}
 use Rattle.ffv1_codec.proofs.SegmentTied.{step_made, stopped, stands_here}
 use Rattle.ffv1_codec.proofs.segment.read_at.Goals as goal

@@ -3,8 +3,8 @@ use Rattle.ffv1_plane.specs.Quantisation.{contexts_of}
 use Rattle.ffv1_record.specs.Configuration.{Configuration}
 use Rattle.ffv1_codec.specs.SliceList.{class_of, base_of, bits_of, set_at}
 use Rattle.ffv1_codec.specs.Tied.{slots_in, bytes_in}
-use Rattle.ffv1_codec.proofs.Taken.{set_is}
-use Rattle.ffv1_codec.proofs.Put.{put_held, part_long}
+use Rattle.ffv1_codec.proofs.ByNumber.{set_is}
+use Rattle.ffv1_codec.proofs.WrittenParts.{put_held, part_long}
 use Rattle.ffv1_codec.proofs.ClassRoom.{room, base_here}
 use Rattle.ffv1_codec.proofs.SegmentReads.{class_stands, all_read, all_refused}
 use Rattle.ffv1_codec.proofs.segment.read_column.Goals as goal

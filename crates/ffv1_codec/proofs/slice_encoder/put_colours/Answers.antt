@@ -2,7 +2,7 @@ use Rattle.std.proofs.Common.{subst, sym}
 use Rattle.ffv1_codec.specs.Picture.{cell_in}
 use Rattle.ffv1_codec.specs.SliceList.{chosen_head, chosen_body}
 use Rattle.ffv1_codec.specs.Behind.{PutsBehind}
-use Rattle.ffv1_codec.proofs.Shown.{is_colour}
+use Rattle.ffv1_codec.proofs.RowsShown.{is_colour}
 use Rattle.ffv1_codec.proofs.Bodies.{puts_then, colours_of_line}
 use Rattle.ffv1_codec.proofs.slice_encoder.put_colours.Goals as goal
 

@@ -2,9 +2,9 @@ use Rattle.std.proofs.Common.{[], ◌∷◌, ◌++◌, ◌%◌, ◌/◌}
 use Rattle.ffv1_record.specs.Configuration.{configuration_of}
 use Rattle.ffv1_slice.specs.Head.{head_values, place_of, indexes_of, info_of, values_steps}
 use Rattle.ffv1_range.proofs.Growth.{on_err}
-use Rattle.ffv1_slice.proofs.Giving.{refused_first_of, refused_behind}
+use Rattle.ffv1_slice.proofs.CallsGive.{refused_first_of, refused_behind}
 use Rattle.ffv1_slice.proofs.Symbols.{puts_at}
-use Rattle.ffv1_slice.proofs.Giving.{and_puts, values_below}
+use Rattle.ffv1_slice.proofs.CallsGive.{and_puts, values_below}
 use Rattle.ffv1_slice.proofs.head.put_head.Goals as goal
 
 pub put_place-requires-clause-held : goal.put_place-requires-clause-held

@@ -3,7 +3,7 @@ use Rattle.ffv1_record.specs.Configuration.{configuration_of}
 use Rattle.ffv1_slice.specs.Head.{head_rules, head_values, place_rules, index_rules, info_rules, indexes_of, info_of, values_steps}
 use Rattle.ffv1_slice.specs.declared.head.SliceHead.{SliceHead}
 use Rattle.ffv1_slice.specs.Internal.Values.{Gives}
-use Rattle.ffv1_slice.proofs.Giving.{and_gives, and_stops, stops}
+use Rattle.ffv1_slice.proofs.CallsGive.{and_gives, and_stops, stops}
 use Rattle.ffv1_slice.proofs.HeadValues.{refused_head, found_head, is_head}
 use Rattle.ffv1_slice.proofs.head.read_head.Goals as goal
 

@@ -2,11 +2,11 @@ use Rattle.std.proofs.Common.{[], ◌∷◌, get_or, subst}
 use Rattle.ffv1_range.specs.Puts.{Puts}
 use Rattle.ffv1_slice.specs.Head.{values_steps}
 use Rattle.ffv1_range.proofs.Growth.{on_err}
-use Rattle.ffv1_slice.proofs.Giving.{refused_behind, indexes_first, indexes_second}
+use Rattle.ffv1_slice.proofs.CallsGive.{refused_behind, indexes_first, indexes_second}
 use Rattle.std.proofs.Common.{Bool, true, false}
 use Rattle.ffv1_slice.specs.Head.{indexes_of}
 use Rattle.ffv1_range.specs.Puts.{MayBeRefused}
-use Rattle.ffv1_slice.proofs.Giving.{and_puts}
+use Rattle.ffv1_slice.proofs.CallsGive.{and_puts}
 use Rattle.ffv1_slice.proofs.values.put_indexes.Goals as goal
 
 pub returns-in_ok-put_number-3-clause-ok : goal.returns-in_ok-put_number-3-clause-ok

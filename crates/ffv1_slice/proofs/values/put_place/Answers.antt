@@ -1,7 +1,7 @@
 use Rattle.std.proofs.Common.{[], ◌∷◌}
 use Rattle.ffv1_range.proofs.Growth.{on_err}
-use Rattle.ffv1_slice.proofs.Giving.{refused_first_of, refused_behind}
-use Rattle.ffv1_slice.proofs.Giving.{and_puts}
+use Rattle.ffv1_slice.proofs.CallsGive.{refused_first_of, refused_behind}
+use Rattle.ffv1_slice.proofs.CallsGive.{and_puts}
 use Rattle.ffv1_slice.proofs.values.put_place.Goals as goal
 
 pub returns-clause-ok : goal.returns-clause-ok

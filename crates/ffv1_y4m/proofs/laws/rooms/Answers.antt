@@ -1,5 +1,5 @@
 use Rattle.ffv1_y4m.specs.VideoHead.{plane_sizes}
-use Rattle.ffv1_y4m.proofs.Rooms.{room_left}
+use Rattle.ffv1_y4m.proofs.PlaneRooms.{room_left}
 use Rattle.ffv1_y4m.proofs.laws.rooms.Goals as goal
 
 pub returns : goal.returns

@@ -1,6 +1,6 @@
 use Rattle.std.proofs.lemmas.Result.{err_from_is_err_and}
 use Rattle.ffv1_y4m.specs.State.{samples_of}
-use Rattle.ffv1_y4m.proofs.Begun.{picture_broken, picture_full, picture_stops, picture_whole}
+use Rattle.ffv1_y4m.proofs.ImagesBegun.{picture_broken, picture_full, picture_stops, picture_whole}
 use Rattle.ffv1_y4m.proofs.planes.read_picture.Goals as goal
 
 pub returns-in_err-read_frame_line-clause-answer : goal.returns-in_err-read_frame_line-clause-answer

@@ -2,7 +2,7 @@ use Rattle.std.proofs.Common.{◌≡◌, ◌<◌, ◌≤◌, ◌∙◌, length, 
 use Rattle.std.proofs.lemmas.List.{map-set, length-map}
 use Rattle.std.proofs.lemmas.Result.{err_from_is_err_and}
 use Rattle.std.specs.Vec.{vec_capacity}
-use Rattle.ffv1_y4m.proofs.Rooms.{room_at, room_next}
+use Rattle.ffv1_y4m.proofs.PlaneRooms.{room_at, room_next}
 use Rattle.ffv1_y4m.specs.State.{samples_of}
 use Rattle.ffv1_y4m.specs.VideoHead.{plane_sizes}
 use Rattle.ffv1_y4m.proofs.PlaneByPlane.{partway_end, partway_step, partway_stop}

@@ -1,5 +1,5 @@
 use Rattle.std.proofs.Common.{arith}
-use Rattle.ffv1_y4m.proofs.Thirds.{is_third}
+use Rattle.ffv1_y4m.proofs.ColourThirds.{is_third}
 use Rattle.ffv1_y4m.proofs.ppm_reading.part.Goals as goal
 
 pub returns : goal.returns

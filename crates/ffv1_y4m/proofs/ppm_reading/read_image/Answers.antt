@@ -1,6 +1,6 @@
 use Rattle.std.proofs.lemmas.Result.{err_from_is_err_and}
 use Rattle.ffv1_y4m.specs.State.{samples_of}
-use Rattle.ffv1_y4m.proofs.Begun.{image_broken, image_stops, image_whole}
+use Rattle.ffv1_y4m.proofs.ImagesBegun.{image_broken, image_stops, image_whole}
 use Rattle.ffv1_y4m.proofs.ppm_reading.read_image.Goals as goal
 
 pub returns-in_err-read_later_header-clause-answer : goal.returns-in_err-read_later_header-clause-answer

@@ -1,7 +1,7 @@
 use Rattle.std.proofs.Common.{◌≡◌, ◌<◌, ◌+◌, ◌*◌, ◌∷◌, [], ◌++◌, length, take, get_or, arith, ◌∙◌, sym, add-one}
 use Rattle.std.proofs.lemmas.Grind.{common_steps}
 use Rattle.std.proofs.Math.Seq.{take-suc}
-use Rattle.ffv1_y4m.proofs.Thirds.{interleaved_more, three_stores}
+use Rattle.ffv1_y4m.proofs.ColourThirds.{interleaved_more, three_stores}
 use Rattle.ffv1_y4m.proofs.ppm_writer.interleave.Goals as goal
 
 pub loop-place-preserved : goal.loop-place-preserved

@@ -6,7 +6,7 @@ use Rattle.ffv1_y4m.specs.Reads.{Nowhere}
 use Rattle.ffv1_y4m.specs.Sequence.{judge}
 use Rattle.ffv1_y4m.proofs.Lines.{line_stays}
 use Rattle.ffv1_y4m.proofs.Sequences.{stands_first, stands_next}
-use Rattle.ffv1_y4m.proofs.Textual.{header_fault, shortens_line, stands_line, textual_line}
+use Rattle.ffv1_y4m.proofs.TextFaults.{header_fault, shortens_line, stands_line, textual_line}
 use Rattle.ffv1_y4m.proofs.reading.read_header.Goals as goal
 
 pub returns-in_err-end-clause-answer : goal.returns-in_err-end-clause-answer

@@ -9,7 +9,7 @@ use Rattle.ffv1_avi.specs.Reads.{Stop}
 use Rattle.ffv1_avi.specs.Chunks.{AreChunks, Chunk, IsChunk, chunk_text, chunks_text}
 use Rattle.ffv1_avi.specs.Reads.{padded, read_on}
 use Rattle.ffv1_avi.specs.Walk.{Visit, entry_judged, entry_read, is_name, resumed, visited, walk, walk_up_to}
-use Rattle.ffv1_avi.proofs.Walking.{ok_is, some_is, walk_step}
+use Rattle.ffv1_avi.proofs.ChunkByChunk.{ok_is, some_is, walk_step}
 
 -- what a state becomes by a chunk of this name and these bytes
 abbrev pub Taking : Type 0 → Type 1

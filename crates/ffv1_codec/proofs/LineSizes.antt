@@ -16,7 +16,7 @@ use Rattle.ffv1_codec.proofs.Machines.{each_left, each_right, Each, each_append}
 use Rattle.ffv1_codec.proofs.OneColour.{AreFew}
 use Rattle.ffv1_codec.proofs.Groups.{Group, IsGroup, group_lines}
 use Rattle.ffv1_codec.proofs.LinesRead.{lines_at}
-use Rattle.ffv1_codec.proofs.Made.{MadeOf, handed, joined_line}
+use Rattle.ffv1_codec.proofs.LinesMade.{MadeOf, handed, joined_line}
 use Rattle.ffv1_codec.proofs.JoinedLines.{tiled_long, flat_small, row_long, row_small}
 
 pub each_of : {A B : Type 0} (P : B → Type 0) (f : A → B) (xs : List A) → Each (λ x. P (f x)) xs → Each P (map f xs)

@@ -9,9 +9,9 @@ use Rattle.ffv1_wire.specs.Reads.{Fills, FillsBeginning, Skips, SkipsBeginning}
 use Rattle.ffv1_avi.specs.declared.fault.AviFault.{AviFault}
 use Rattle.ffv1_avi.specs.declared.fault.AviFault.TheVariants as fault
 use Rattle.ffv1_avi.specs.Reads.{AppendsSome, Begins, Faults, Kept, Lacks, Looked, Met, Read, Refused, Short, Stop, Want, Wants, appended, passed, read_on, taken, wanted}
-use Rattle.ffv1_avi.proofs.Passing.{passed_complete, wanted_complete}
+use Rattle.ffv1_avi.proofs.PassedBytes.{passed_complete, wanted_complete}
 use Rattle.ffv1_avi.proofs.Reading.{consumes_none}
-use Rattle.ffv1_avi.proofs.Walking.{ok_is}
+use Rattle.ffv1_avi.proofs.ChunkByChunk.{ok_is}
 
 -- too few bytes
 pub wanted_short : (w : Want) (n : ℕ) (bytes : List ℕ) → length bytes < n → wanted w n bytes ≡ Err (Short w)

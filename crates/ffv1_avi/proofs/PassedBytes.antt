@@ -3,8 +3,8 @@ use Rattle.std.proofs.Common.{◌≡◌, ℕ, ◌%◌, ◌≤◌, nat_lt, Bool, 
 use Rattle.std.proofs.lemmas.Bool.{le-ltb, ltb-false}
 use Rattle.std.proofs.lemmas.List.{take-append-drop}
 use Rattle.ffv1_avi.specs.Reads.{Looked, Reading, Stop, Want, content, given, padded, passed, read_on, taken, wanted, ◌>>=◌}
-use Rattle.ffv1_avi.proofs.Chunking.{cut_back, cut_front}
-use Rattle.ffv1_avi.proofs.Walking.{ok_is}
+use Rattle.ffv1_avi.proofs.ListWalks.{cut_back, cut_front}
+use Rattle.ffv1_avi.proofs.ChunkByChunk.{ok_is}
 
 -- what readings in a row answer
 pub read_on_ok : {X Y : Type 0} (z : Result (X × List ℕ) Stop) (k : X → Reading Y) (w : Y × List ℕ) → read_on z k ≡ Ok w → (p : X × List ℕ) × (z ≡ Ok p) × (k p.0 p.1 ≡ Ok w)
