@@ -1,9 +1,11 @@
 //! Frames of small pictures.
 
 use crate::counts::FrameCounts;
+use crate::decoder::FrameDecoder;
 use crate::encoder::FrameEncoder;
 use crate::info::Info;
 use crate::picture::Picture;
+use crate::sinks::KeepLines;
 use ffv1_plane::QuantSet;
 use ffv1_record::{Checked, Coder, Colour, Config, Sets};
 use std::alloc::Global;
@@ -56,6 +58,9 @@ const LINE: [u8; 184] = [
     0x7a, 0xc4, 0x76, 0x00, 0x00, 0x03, 0x7b, 0x04, 0x36, 0x00, 0x00, 0x03, 0x7b, 0x43, 0xf6, 0x00,
     0x00, 0x03, 0x7b, 0x83, 0xb6, 0x00, 0x00, 0x03,
 ];
+
+/// The frame of four samples, progressive and as wide as high.
+const PROGRESSIVE: [u8; 10] = [0xfc, 0x16, 0x51, 0xb4, 0xdd, 0x9e, 0xc2, 0x00, 0x00, 0x07];
 
 /// Pictures of one plane, in one row of slices, with the small set.
 fn mono(alloc: Global, width: u32, height: u32, columns: u32) -> Result<Config, Fail> {
@@ -111,6 +116,27 @@ fn encode(
         return Err(Fail::new("no info"));
     };
     Ok(encoder.encode(&picture, info)?)
+}
+
+#[test]
+fn example(rt: HostRuntime) -> Result<(), Fail> {
+    let alloc = rt.alloc();
+    let mut encoder = encoder(alloc, mono(alloc, 2, 2, 1)?)?;
+    let planes = planes(alloc, &[&[10, 20, 30, 40]])?;
+    let frame = encode(&mut encoder, planes, Info::new(3, 1, 1))?;
+    assert!(rt; frame.as_slice() == PROGRESSIVE.as_slice());
+    let checked = mono(alloc, 2, 2, 1)?.check()?;
+    let mut sink = KeepLines::new(alloc, &checked)?;
+    let mut decoder = FrameDecoder::new(alloc, checked)?;
+    let Ok(info) = decoder.decode(frame.as_slice(), &mut sink) else {
+        return Err(Fail::new("not decoded"));
+    };
+    assert!(rt; (info.structure(), info.sar_num(), info.sar_den()) == (3, 1, 1));
+    assert_eq!(rt; sink.planes().len(), 1);
+    for plane in sink.planes() {
+        assert!(rt; plane.as_slice() == [10, 20, 30, 40].as_slice());
+    }
+    Ok(())
 }
 
 /// Whether this is the frame of a picture of which nothing is said, by a new encoder, and so much

@@ -47,16 +47,9 @@ fn is_picture(alloc: Global, checked: &Checked, lengths: &[usize]) -> Result<boo
 }
 
 #[test]
-fn example(rt: HostRuntime) -> Result<(), Fail> {
+fn sizes(rt: HostRuntime) -> Result<(), Fail> {
     let checked = pictures(rt.alloc(), true)?;
     assert!(rt; is_picture(rt.alloc(), &checked, &[15, 6, 6])?);
-    assert!(rt; Info::new(3, 1, 1).is_some());
-    Ok(())
-}
-
-#[test]
-fn other_sizes(rt: HostRuntime) -> Result<(), Fail> {
-    let checked = pictures(rt.alloc(), true)?;
     assert!(rt; !is_picture(rt.alloc(), &checked, &[15, 6])?);
     assert!(rt; !is_picture(rt.alloc(), &checked, &[15, 6, 6, 15])?);
     assert!(rt; !is_picture(rt.alloc(), &checked, &[15, 6, 5])?);
