@@ -6,8 +6,9 @@ them. Numbers have no limit, states are found by going along the decisions of th
 is done for speed. Each rule is one function, with the section of RFC 9043 that it comes from; what is
 this project's own choice says so.
 
-What there is so far: the range coder and its symbols, the configuration record, slice headers,
-slice footers, how a frame is cut into its slices, and frames, encoded and decoded.
+Here are the range coder and its symbols, the configuration record, slice headers, slice footers, how
+a frame is cut into its slices, and frames, encoded and decoded; files are in `files.py`, and the
+program's commands in `commands.py`.
 """
 
 # ------------------------------------------------------------------------------------------ faults
@@ -20,7 +21,10 @@ FAULTS = {
     22: "CodedStates", 23: "Ec", 24: "Intra", 25: "ExtraPlane", 30: "NotKey", 31: "Place",
     32: "SetIndex", 33: "Structure", 34: "Aspect", 35: "Footer", 36: "Leftover",
     37: "SliceParity", 38: "SliceStatus", 40: "SliceTooLong", 41: "InfoDiffers",
-    42: "Sink",
+    42: "Sink", 50: "NotAvi", 51: "NoFfv1", 52: "Truncated", 53: "ChunkTooLong", 54: "EmptyFrame",
+    55: "TooLarge", 56: "Read", 57: "Write", 60: "Header", 61: "Tag", 62: "Unsupported",
+    63: "FrameLine", 64: "FrameTruncated", 70: "NoFrames", 71: "FormatChanged", 72: "NoY4mName",
+    73: "NoPpm",
 }
 
 

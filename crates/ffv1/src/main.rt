@@ -4,7 +4,7 @@
 
 ghost use Rattle.std.specs.Prelude.{◌≡◌, IsOk, IsErr};
 
-use ffv1_engine::{Fault, Order, trial, words};
+use ffv1_engine::{Choice, Fault, Order, check, pack, trial, words};
 use ffv1_wire::{FromRead, ToWrite};
 use std::alloc::Global;
 use std::process::ExitCode;
@@ -21,10 +21,56 @@ fn run_trial(rt: &(impl Files + Print), alloc: Global, input: &str) -> Result<()
     trial(alloc, &mut reader, &mut writer)
 }
 
-/// Does what the command line asks for.
-fn run(rt: &(impl Files + Print), alloc: Global, order: Order<'_>) -> Result<(), Fault> {
+/// Packs the video of a file into another one, and prints how many frames and bytes of them there
+/// are. The input is opened first, and then the output is made empty.
+fn run_pack(
+    rt: &(impl Files + Print),
+    alloc: Global,
+    input: &str,
+    output: &str,
+    choice: &Choice,
+) -> Result<(), Fault> {
+    let Ok(file) = fs::open(rt, input) else {
+        return Err(Fault::Read);
+    };
+    let Ok(made) = fs::create(rt, output) else {
+        return Err(Fault::Write);
+    };
+    let mut reader = FromRead::new(file);
+    let mut writer = ToWrite::new(made);
+    let packed = pack(alloc, &mut reader, &mut writer, choice)?;
+    if println!(rt; "frames {} bytes {}", packed.frames, packed.bytes).is_err() {
+        return Err(Fault::Write);
+    }
+    Ok(())
+}
+
+/// Decodes all frames of a file, and prints what each took, and with `place` where one is refused.
+fn run_check(
+    rt: &(impl Files + Print),
+    alloc: Global,
+    input: &str,
+    place: bool,
+) -> Result<(), Fault> {
+    let Ok(file) = fs::open(rt, input) else {
+        return Err(Fault::Read);
+    };
+    let mut reader = FromRead::new(file);
+    let mut writer = ToWrite::new(io::writer(rt));
+    check(alloc, &mut reader, &mut writer, place)
+}
+
+/// Does what an order asks for, where the command is there.
+fn run(rt: &(impl Files + Print), alloc: Global, order: Order<'_>) -> Option<Result<(), Fault>> {
     match order {
-        Order::Trial { input } => run_trial(rt, alloc, input),
+        Order::Pack {
+            input,
+            output,
+            choice,
+        } => Some(run_pack(rt, alloc, input, output, &choice)),
+        Order::Check { input, place } => Some(run_check(rt, alloc, input, place)),
+        Order::Trial { input } => Some(run_trial(rt, alloc, input)),
+        Order::Unpack { .. } | Order::Show { .. } => None,
     }
 }
 
@@ -41,7 +87,8 @@ fn status_of(done: Result<(), Fault>) -> u8
 
 /// Does what the words of the command line ask for: status 0 for success, 1 for a fault, which is
 /// one line on standard error, and 2 for a line that is refused. All of clap's text goes to
-/// standard error, that of help too, which ends with status 0.
+/// standard error, that of help too, which ends with status 0. `unpack` and `show` are not there
+/// yet: they answer status 1 and one line that says so.
 fn command(rt: &HostRuntime, alloc: Global, texts: &[&str]) -> io::Result<ExitCode> {
     match words(alloc, texts) {
         Err(error) => {
@@ -53,7 +100,10 @@ fn command(rt: &HostRuntime, alloc: Global, texts: &[&str]) -> io::Result<ExitCo
             })
         }
         Ok(order) => {
-            let done = run(rt, alloc, order);
+            let Some(done) = run(rt, alloc, order) else {
+                eprintln!(rt; "ffv1: the command is not there yet")?;
+                return Ok(ExitCode::from(1));
+            };
             if let Err(fault) = done {
                 eprintln!(rt; "ffv1: {fault}")?;
             }

@@ -135,7 +135,7 @@ frame_read_sound left text w h =
         regrouped a b c d = simp append_assoc
 
 -- movi grows shorter with each frame
-frame_less : (left : ℕ) (text : List ℕ) (p : List ℕ × ℕ) (rest : List ℕ) → frame_read left text ≡ Ok (Some p, rest) → p.1 < left
+pub frame_less : (left : ℕ) (text : List ℕ) (p : List ℕ × ℕ) (rest : List ℕ) → frame_read left text ≡ Ok (Some p, rest) → p.1 < left
 frame_less left text p rest h =
     let next = frame_read_sound left text (Some p, rest) h in
     let c = next.frame in

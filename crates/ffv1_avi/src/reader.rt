@@ -158,6 +158,7 @@ impl<A: Allocator> AviReader<A> {
             × (length frame.new.items ≤ 67108864)) }
         ensures end { IfOk result (λ more. more ≡ false → (frame.new.items ≡ [])
             × (self.new.left ≡ 0)) }
+        ensures less { IfOk result (λ more. more ≡ true → self.new.left < self.old.left) }
         ensures err { OnErr result (Leaves self.old.left (R.remaining input.old) frame.new.items) }
         ensures over { self.old.fault ≡ None → self.old.left ≡ 0 →
             (result ≡ Ok false) × (self.new ≡ self.old) × (frame.new.items ≡ [])

@@ -13,6 +13,7 @@ mod WrittenParts
 mod ByNumber
 mod ClassRoom
 mod SegmentReads
+mod Outcomes
 mod PartPlaces
 mod SegmentTied
 mod ColumnsOpen
@@ -65,3 +66,4 @@ pub mod KnownSlices
 mod LinesKept
 pub mod OnlyRead
 pub mod Damaged
+mod OfferedLines

@@ -46,6 +46,10 @@ module _ {S : Type 0} (takes refuses : LineStep S) (a : Accepted) (coded : ℕ �
       subst (λ n. Decoded takes refuses a coded initial r n payload (all_series a.configuration r) columns states now s) zero_is
       (subst (λ es. Decoded takes refuses a coded initial r (0 + plane_count a.configuration) payload es columns states now s) (sym (series_together a.configuration r e)) made)
 
+  pub together_fails : (columns : List Column) (f : FrameFault) (now : S) → is_rct a.configuration.colour ≡ true →
+      FailsIn takes refuses a coded initial r columns (series_events a.configuration r (series_at a.configuration r 0 (plane_count a.configuration))) f now s → FailsIn takes refuses a coded initial r columns (all_series a.configuration r) f now s
+  together_fails columns f now e fails = subst (λ es. FailsIn takes refuses a coded initial r columns es f now s) (sym (series_together a.configuration r e)) fails
+
   abbrev upto : ℕ → List Event
   upto p = flat_map (one_series a.configuration r) (range_with_len 0 p)
 

@@ -20,6 +20,7 @@ pub mod Opened
 pub mod Tallies
 pub mod Rows
 pub mod Bounds
+pub mod Buffers
 pub mod Headline
 pub mod Known
 pub mod Sides

@@ -7,6 +7,7 @@ ghost use Rattle.ffv1_slice.specs.declared.cutting.CutFault.{CutFault};
 ghost use Rattle.ffv1_codec.specs.declared.fault.CodecFault.TheVariants as fault;
 ghost use Rattle.ffv1_codec.specs.Answer.{Decoder, Answers, AnswersCoded, cut_fault, no_tally};
 ghost use Rattle.ffv1_codec.specs.Answer.{decided_by};
+ghost use Rattle.ffv1_codec.specs.Buffers.{KeepsLengths};
 ghost use Rattle.ffv1_codec.specs.Headline.{Headline};
 ghost use Rattle.ffv1_codec.specs.Damage.{IsDamaged};
 ghost use Rattle.ffv1_codec.specs.Decoding.{in_slice};
@@ -14,6 +15,7 @@ ghost use Rattle.ffv1_codec.specs.Progress.{CountsSink, IsOwn};
 ghost use Rattle.ffv1_codec.specs.Opened.{IsCutOf, coded_by};
 
 use crate::answer_laws::{damaged, headline};
+use crate::buffers::{Buffers, Slices};
 use crate::column::Column;
 use crate::columns::{add_up, close};
 use crate::fault::{CodecFault, FrameFault};
@@ -38,10 +40,7 @@ use std::marker::Model;
 #[derive(Drop)]
 pub struct FrameDecoder<A: Allocator = Global> {
     checked: Checked<A>,
-    states: Vec<u8, A>,
-    lines: Vec<u16, A>,
-    out: Vec<u8, A>,
-    columns: Vec<Column, A>,
+    buffers: Buffers<A>,
     spans: Spans<A>,
     tally: Tally,
 }
@@ -57,19 +56,19 @@ impl<A: Allocator> Model for FrameDecoder<A> {
       accepted = d.checked;
       tally = d.tally;
       held = record {
-        states = length d.states.items;
-        samples = length d.lines.items;
-        output = length d.out.items;
-        columns = length d.columns.items;
+        states = length d.buffers.slices.states.items;
+        samples = length d.buffers.lines.items;
+        output = length d.buffers.out.items;
+        columns = length d.buffers.slices.columns.items;
         offsets = d.spans.room;
       };
     } };
 
     ghost invariant = { λ d. held_of d.checked.configuration ≡ record {
-      states = length d.states.items;
-      samples = length d.lines.items;
-      output = length d.out.items;
-      columns = length d.columns.items;
+      states = length d.buffers.slices.states.items;
+      samples = length d.buffers.lines.items;
+      output = length d.buffers.out.items;
+      columns = length d.buffers.slices.columns.items;
       offsets = d.spans.room;
     } };
 }
@@ -106,18 +105,15 @@ fn decode_rows<A: Allocator, B: Allocator, S: LineSink>(
     checked: &Checked<A>,
     payload: &[u8],
     spans: &Spans<B>,
-    columns: &mut [Column],
-    states: &mut [u8],
-    lines: &mut [u16],
-    out: &mut [u8],
+    buffers: &mut Buffers<A>,
     tally: &mut Tally,
     sink: &mut S,
 ) -> Result<Info, FrameFault>
     requires held { held_of checked.now.configuration ≡ record {
-      states = length states.old;
-      samples = length lines.old;
-      output = length out.old;
-      columns = length columns.old;
+      states = length buffers.old.slices.states.items;
+      samples = length buffers.old.lines.items;
+      output = length buffers.old.out.items;
+      columns = length buffers.old.slices.columns.items;
       offsets = spans.now.room;
     } }
     requires cut { IsCutOf checked.now payload.now spans.now }
@@ -125,24 +121,17 @@ fn decode_rows<A: Allocator, B: Allocator, S: LineSink>(
     ensures exact { AnswersCoded S.takes S.refuses checked.now
         (coded_by checked.now payload.now spans.now) sink.old sink.new tally.new result }
     ensures counted { CountsSink (S.failures sink.old) (S.failures sink.new) result }
+    ensures same { KeepsLengths buffers.old buffers.new }
 {
     accepted();
     counts();
     let frame = Frame::new(checked, payload);
     let mut first = None;
     for row in 0..frame.grid.rows() {
-        close(columns);
-        match decode_row(
-            &frame, spans, row, columns, states, lines, out, &mut first, sink,
-        ) {
-            Ok(()) => {
-                *tally = add_up(columns, *tally);
-            }
-            Err(fault) => {
-                *tally = add_up(columns, *tally);
-                return Err(fault);
-            }
-        }
+        close(&mut buffers.slices.columns);
+        let decoded = decode_row(&frame, spans, row, buffers, &mut first, sink);
+        *tally = add_up(&buffers.slices.columns, *tally);
+        decoded?;
     }
     Ok(first.unwrap())
 }
@@ -190,16 +179,13 @@ impl<A: Allocator + Copy> FrameDecoder<A> {
         let lines = vec![in alloc; 0u16; held.samples]?;
         let out = vec![in alloc; 0u8; held.output]?;
         let columns = fresh_columns(alloc, held.columns)?;
-        let spans = match Spans::new(alloc) {
-            Ok(spans) => spans,
-            Err(_) => return Err(CodecFault::OutOfMemory),
+        let Ok(spans) = Spans::new(alloc) else {
+            return Err(CodecFault::OutOfMemory);
         };
+        let slices = Slices { columns, states };
         Ok(FrameDecoder {
             checked,
-            states,
-            lines,
-            out,
-            columns,
+            buffers: Buffers { slices, lines, out },
             spans,
             tally: no_tally(),
         })
@@ -239,24 +225,15 @@ impl<A: Allocator> FrameDecoder<A> {
         ensures holds { self.new.held ≡ held_of self.new.accepted.configuration }
     {
         self.tally = no_tally();
-        match cut_payload(&self.checked, payload, &mut self.spans) {
-            Ok(()) => {}
-            Err(fault) => return Err(fault),
-        }
-        match decode_rows(
+        cut_payload(&self.checked, payload, &mut self.spans)?;
+        decode_rows(
             &self.checked,
             payload,
             &self.spans,
-            &mut self.columns,
-            &mut self.states,
-            &mut self.lines,
-            &mut self.out,
+            &mut self.buffers,
             &mut self.tally,
             sink,
-        ) {
-            Ok(info) => Ok(info),
-            Err(fault) => Err(fault),
-        }
+        )
     }
 
     /// Decodes a frame (RFC 9043, 4.4 to 4.9), and answers what its slices say of the picture.
@@ -293,9 +270,6 @@ impl<A: Allocator> FrameDecoder<A> {
         frame_lengths();
         damaged::<S>();
         let _table = self.checked.table();
-        match self.decode_held(payload, sink) {
-            Ok(info) => Ok(info),
-            Err(fault) => Err(fault),
-        }
+        self.decode_held(payload, sink)
     }
 }

@@ -75,14 +75,11 @@ fn transparent_colours(width: usize, samples: &[u16], out: &mut [u8]) -> Result<
     let (coded, alpha) = samples.split_at(3 * width);
     let (three, fourth) = out.split_at_mut(3 * width);
     match colours(width, coded, three) {
-        Ok(()) => match transparency(alpha, fourth) {
-            Ok(()) => Ok(()),
-            Err(x) => Err(x),
-        },
-        Err(x) => match transparency(&alpha[..x], &mut fourth[..x]) {
-            Ok(()) => Err(x),
-            Err(sooner) => Err(sooner),
-        },
+        Ok(()) => transparency(alpha, fourth),
+        Err(x) => {
+            transparency(&alpha[..x], &mut fourth[..x])?;
+            Err(x)
+        }
     }
 }
 
@@ -150,15 +147,9 @@ fn finish_colours<A: Allocator>(
     let config = frame.checked.config();
     let width = config.width as usize;
     if config.extra_plane {
-        return match transparent_colours(width, samples, out) {
-            Ok(()) => Ok(()),
-            Err(x) => Err(x),
-        };
+        return transparent_colours(width, samples, out);
     }
-    match colours(width, samples, out) {
-        Ok(()) => Ok(()),
-        Err(x) => Err(x),
-    }
+    colours(width, samples, out)
 }
 
 /// Makes a line of what was read: the samples as they are, or for RCT the colours.

@@ -3,6 +3,8 @@
 ghost use Rattle.std.specs.Prelude.{◌≡◌, ◌≤◌};
 ghost use Rattle.ffv1_record.specs.Held.{classes_of};
 
+use ffv1_plane::QuantSet;
+use ffv1_range::StateTable;
 use ffv1_record::Checked;
 use ffv1_slice::Grid;
 use std::alloc::Allocator;
@@ -58,6 +60,17 @@ impl<'a, A: Allocator> Frame<'a, A> {
     }
 }
 
+/// Planes of a row of slices that are coded together.
+#[derive(Clone, Copy)]
+pub struct CodedPlanes {
+    /// The row of slices.
+    pub row: u32,
+    /// The first plane.
+    pub first: u8,
+    /// How many planes.
+    pub count: u8,
+}
+
 /// A row of slices, and in it line `y` of `count` planes from `first` on, which are coded together.
 #[derive(Clone, Copy)]
 pub struct CodedLine {
@@ -69,6 +82,19 @@ pub struct CodedLine {
     pub count: u8,
     /// The line, from the top of the row.
     pub y: u32,
+}
+
+/// How a segment is coded.
+#[derive(Drop)]
+pub struct Coding<'a, B: Allocator> {
+    /// The coded bytes of its slice.
+    pub bytes: &'a [u8],
+    /// How states move.
+    pub table: &'a StateTable,
+    /// The set of its plane.
+    pub set: &'a QuantSet<B>,
+    /// The bits of its samples, 8 or 9.
+    pub bits: u8,
 }
 
 /// The segment of a line that lies in one slice.

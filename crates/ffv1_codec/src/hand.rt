@@ -88,10 +88,7 @@ pub(crate) fn hand_lines<A: Allocator, S: LineSink>(
         let plane = line.first + index;
         let at = index as usize * width;
         let end = at + frame.grid.width(plane as u32) as usize;
-        match hand_line(frame, line, plane, &out[at..end], sink) {
-            Ok(()) => {}
-            Err(fault) => return Err(fault),
-        }
+        hand_line(frame, line, plane, &out[at..end], sink)?;
     }
     Ok(())
 }

@@ -24,6 +24,7 @@
 #![tactic(auto)]
 
 pub mod answer_laws;
+mod buffers;
 mod cell_rows;
 mod column;
 mod columns;
@@ -43,6 +44,7 @@ mod places;
 mod planes;
 mod rows;
 mod segment;
+pub mod sink_laws;
 pub mod sinks;
 mod slice;
 mod slice_code;
@@ -55,6 +57,3 @@ pub use fault::{CodecFault, FrameFault};
 pub use info::Info;
 pub use picture::Picture;
 pub use sinks::{DropLines, KeepLines};
-
-#[cfg(test)]
-mod tests;

@@ -122,24 +122,19 @@ fn open_column<A: Allocator, B: Allocator>(
     empty_list();
     counted_from_nothing();
     let (begin, end) = spans.span(slice as usize).unwrap();
-    let mut decoder = match RangeDecoder::new(&frame.payload[begin..end]) {
-        Ok(decoder) => decoder,
-        Err(_) => return Err(CodecFault::BadStart),
+    let Ok(mut decoder) = RangeDecoder::new(&frame.payload[begin..end]) else {
+        return Err(CodecFault::BadStart);
     };
     let read = read_head(&mut decoder, frame.checked, slice);
     column.parked = Some(decoder.park());
-    match read {
-        Ok(head) => {
-            column.first = begin;
-            column.last = end;
-            column.indexes = head.indexes;
-            if agrees(first, &head) {
-                return Ok(());
-            }
-            Err(CodecFault::InfoDiffers)
-        }
-        Err(fault) => Err(fault),
+    let head = read?;
+    column.first = begin;
+    column.last = end;
+    column.indexes = head.indexes;
+    if agrees(first, &head) {
+        return Ok(());
     }
+    Err(CodecFault::InfoDiffers)
 }
 
 /// Opens the slices of a row, from the left.
@@ -173,17 +168,14 @@ pub(crate) fn open_row<A: Allocator, B: Allocator>(
     counted_from_nothing();
     for k in 0..columns.len() {
         let slice = row * columns.len() as u32 + k as u32;
-        match open_column(frame, spans, slice, &mut columns[k], first) {
-            Ok(()) => {}
-            Err(fault) => {
-                return Err(FrameFault {
-                    fault,
-                    slice: slice as u16,
-                    plane: 0,
-                    line: 0,
-                    x: 0,
-                });
-            }
+        if let Err(fault) = open_column(frame, spans, slice, &mut columns[k], first) {
+            return Err(FrameFault {
+                fault,
+                slice: slice as u16,
+                plane: 0,
+                line: 0,
+                x: 0,
+            });
         }
     }
     Ok(())

@@ -83,4 +83,11 @@ impl<A: Allocator> Picture<A> {
     {
         self.planes.as_slice()
     }
+
+    /// Hands its planes back.
+    pub fn into_planes(self) -> Vec<Vec<u8, A>, A>
+        ensures { planes_of result.items ≡ self }
+    {
+        self.planes
+    }
 }

@@ -76,10 +76,7 @@ pub(crate) fn read_planes<A: Allocator>(
                 index,
                 y: line.y,
             };
-            match read_at(frame, &segment, columns, states, two, one, cur) {
-                Ok(()) => {}
-                Err(fault) => return Err(fault),
-            }
+            read_at(frame, &segment, columns, states, two, one, cur)?;
         }
     }
     Ok(())

@@ -12,15 +12,16 @@ ghost use Rattle.ffv1_codec.specs.Decoding.{State};
 ghost use Rattle.ffv1_codec.specs.Tied.{IsFrame, AreOpen, column_at, slots_in, TiedColumns};
 ghost use Rattle.ffv1_codec.specs.Tied.{TiedPlanes};
 ghost use Rattle.ffv1_codec.specs.Opened.{IsCutOf, coded_by};
+ghost use Rattle.ffv1_codec.specs.Buffers.{KeepsSlices, KeepsLengths};
 ghost use Rattle.ffv1_codec.specs.Finished.{IsTogether};
 ghost use Rattle.ffv1_codec.specs.Progress.{CountsSink, FailsIn, LineDecoded, SeriesDecoded};
 ghost use Rattle.ffv1_codec.specs.Progress.{series_at, Decoded};
 ghost use Rattle.ffv1_codec.specs.Rows.{IsBetween, RowDecoded, open_events};
 
-use crate::column::Column;
+use crate::buffers::{Above, Buffers, Slices};
 use crate::fault::FrameFault;
 use crate::finish::finish;
-use crate::frame::{CodedLine, Frame};
+use crate::frame::{CodedLine, CodedPlanes, Frame};
 use crate::hand::hand_lines;
 use crate::info::Info;
 use crate::opening::open_row;
@@ -39,10 +40,8 @@ use std::alloc::Allocator;
 fn decode_whole_line<A: Allocator, S: LineSink>(
     frame: &Frame<'_, A>,
     line: &CodedLine,
-    columns: &mut [Column],
-    states: &mut [u8],
-    two: &[u16],
-    one: &[u16],
+    slices: &mut Slices<A>,
+    above: &Above<'_>,
     cur: &mut [u16],
     out: &mut [u8],
     sink: &mut S,
@@ -58,53 +57,57 @@ fn decode_whole_line<A: Allocator, S: LineSink>(
     requires y { (i : ℕ) → i < line.now.count →
         line.now.y < lines_down frame.now.checked.now.configuration (line.now.first + i)
         line.now.row }
-    requires many { length columns.old ≡ frame.now.checked.now.configuration.columns }
+    requires many { length slices.old.columns.items ≡ frame.now.checked.now.configuration.columns }
     requires open { AreOpen frame.now.payload.now frame.now.checked.now.configuration.sets
-        columns.old }
-    requires two_long { length two.now ≡ line.now.count
+        slices.old.columns.items }
+    requires two_long { length above.now.two.now ≡ line.now.count
         * frame.now.checked.now.configuration.width }
-    requires one_long { length one.now ≡ line.now.count
+    requires one_long { length above.now.one.now ≡ line.now.count
         * frame.now.checked.now.configuration.width }
     requires cur_long { length cur.old ≡ line.now.count
         * frame.now.checked.now.configuration.width }
     requires out_long { length out.old ≡ line.now.count
         * frame.now.checked.now.configuration.width }
-    requires room { length states.old ≡ frame.now.checked.now.configuration.columns
+    requires room { length slices.old.states.items ≡ frame.now.checked.now.configuration.columns
         * slots_in frame.now.checked.now.configuration }
-    requires held { AllHeld frame.now.checked.now.table states.old }
+    requires held { AllHeld frame.now.checked.now.table slices.old.states.items }
     ensures exact { (coded : ℕ → List ℕ) (next : ℕ) (initial : S) (s : State) →
         let a = frame.now.checked.now in
         line.now.first + line.now.count ≤ next →
-        TiedColumns a coded line.now.row next frame.now.payload.now columns.old states.old s →
-        TiedPlanes a.configuration line.now.first line.now.count 0 0 line.now.y two.now one.now
+        TiedColumns a coded line.now.row next frame.now.payload.now slices.old.columns.items
+        slices.old.states.items s →
+        TiedPlanes a.configuration line.now.first line.now.count 0 0 line.now.y above.now.two.now
+        above.now.one.now
         cur.old s →
         Grows S.takes initial s.lines sink.old →
         MatchResult result
         (λ _. LineDecoded S.takes S.refuses a coded initial line.now.row next frame.now.payload.now
-        line.now.first line.now.count line.now.y columns.new states.new one.now cur.new sink.new s)
-        (λ f. FailsIn S.takes S.refuses a coded initial line.now.row columns.new
+        line.now.first line.now.count line.now.y slices.new.columns.items slices.new.states.items
+        above.now.one.now cur.new sink.new s)
+        (λ f. FailsIn S.takes S.refuses a coded initial line.now.row slices.new.columns.items
         (line_events a.configuration line.now.row (range_with_len line.now.first line.now.count)
         line.now.y) f sink.new s) }
     ensures counted { CountsSink (S.failures sink.old) (S.failures sink.new) result }
     ensures open { OnOk result (AreOpen frame.now.payload.now
-        frame.now.checked.now.configuration.sets columns.new) }
-    ensures held { OnOk result (AllHeld frame.now.checked.now.table states.new) }
+        frame.now.checked.now.configuration.sets slices.new.columns.items) }
+    ensures held { OnOk result (AllHeld frame.now.checked.now.table slices.new.states.items) }
+    ensures same { KeepsSlices slices.old slices.new }
 {
     places();
     accepted();
     counted_from_nothing();
-    match read_planes(frame, line, columns, states, two, one, cur) {
-        Ok(()) => {}
-        Err(fault) => return Err(fault),
-    }
-    match finish(frame, line, cur, out) {
-        Ok(()) => {}
-        Err(fault) => return Err(fault),
-    }
-    match hand_lines(frame, line, out, sink) {
-        Ok(()) => Ok(()),
-        Err(fault) => Err(fault),
-    }
+    let Above { two, one } = *above;
+    read_planes(
+        frame,
+        line,
+        &mut slices.columns,
+        &mut slices.states,
+        two,
+        one,
+        cur,
+    )?;
+    finish(frame, line, cur, out)?;
+    hand_lines(frame, line, out, sink)
 }
 
 /// Sets each sample of some lines to 0, as above a slice.
@@ -117,43 +120,47 @@ fn clear(lines: &mut [u16])
 /// Decodes the lines of planes that are coded together.
 fn decode_series<A: Allocator, S: LineSink>(
     frame: &Frame<'_, A>,
-    row: u32,
-    first: u8,
-    count: u8,
-    columns: &mut [Column],
-    states: &mut [u8],
+    planes: &CodedPlanes,
+    slices: &mut Slices<A>,
     lines: &mut [u16],
     out: &mut [u8],
     sink: &mut S,
 ) -> Result<(), FrameFault>
     requires frame { IsFrame frame.now }
-    requires row { row < frame.now.checked.now.configuration.rows }
-    requires together { IsTogether frame.now.checked.now.configuration first count }
-    requires planes { first + count ≤ plane_count frame.now.checked.now.configuration }
-    requires some { 0 < count }
-    requires few { first + count ≤ 4 }
-    requires many { length columns.old ≡ frame.now.checked.now.configuration.columns }
+    requires row { planes.now.row < frame.now.checked.now.configuration.rows }
+    requires together { IsTogether frame.now.checked.now.configuration planes.now.first
+        planes.now.count }
+    requires planes { planes.now.first + planes.now.count ≤ plane_count
+        frame.now.checked.now.configuration }
+    requires some { 0 < planes.now.count }
+    requires few { planes.now.first + planes.now.count ≤ 4 }
+    requires many { length slices.old.columns.items ≡ frame.now.checked.now.configuration.columns }
     requires open { AreOpen frame.now.payload.now frame.now.checked.now.configuration.sets
-        columns.old }
+        slices.old.columns.items }
     requires lines_long { length lines.old ≡ 3 * length out.old }
-    requires out_long { length out.old ≡ count * frame.now.checked.now.configuration.width }
-    requires room { length states.old ≡ frame.now.checked.now.configuration.columns
+    requires out_long { length out.old ≡ planes.now.count *
+        frame.now.checked.now.configuration.width }
+    requires room { length slices.old.states.items ≡ frame.now.checked.now.configuration.columns
         * slots_in frame.now.checked.now.configuration }
-    requires held { AllHeld frame.now.checked.now.table states.old }
+    requires held { AllHeld frame.now.checked.now.table slices.old.states.items }
     ensures exact { (coded : ℕ → List ℕ) (initial : S) (s : State) →
         let a = frame.now.checked.now in
-        TiedColumns a coded row first frame.now.payload.now columns.old states.old s →
+        TiedColumns a coded planes.now.row planes.now.first frame.now.payload.now
+        slices.old.columns.items slices.old.states.items s →
         Grows S.takes initial s.lines sink.old →
         MatchResult result
-        (λ _. SeriesDecoded S.takes S.refuses a coded initial row frame.now.payload.now first
-        count columns.new states.new sink.new s)
-        (λ f. FailsIn S.takes S.refuses a coded initial row columns.new
-        (series_events a.configuration row (series_at a.configuration row first count)) f sink.new
+        (λ _. SeriesDecoded S.takes S.refuses a coded initial planes.now.row frame.now.payload.now
+        planes.now.first planes.now.count slices.new.columns.items slices.new.states.items sink.new
+        s)
+        (λ f. FailsIn S.takes S.refuses a coded initial planes.now.row slices.new.columns.items
+        (series_events a.configuration planes.now.row (series_at a.configuration planes.now.row
+        planes.now.first planes.now.count)) f sink.new
         s) }
     ensures counted { CountsSink (S.failures sink.old) (S.failures sink.new) result }
     ensures open { OnOk result (AreOpen frame.now.payload.now
-        frame.now.checked.now.configuration.sets columns.new) }
-    ensures held { OnOk result (AllHeld frame.now.checked.now.table states.new) }
+        frame.now.checked.now.configuration.sets slices.new.columns.items) }
+    ensures held { OnOk result (AllHeld frame.now.checked.now.table slices.new.states.items) }
+    ensures same { KeepsSlices slices.old slices.new }
 {
     places();
     accepted();
@@ -163,6 +170,7 @@ fn decode_series<A: Allocator, S: LineSink>(
     let size = out.len();
     let (mut two, rest) = lines.split_at_mut(size);
     let (mut one, mut cur) = rest.split_at_mut(size);
+    let CodedPlanes { row, first, count } = *planes;
     let top = frame.grid.top(first as u32, row);
     let bottom = frame.grid.top(first as u32, row + 1);
     for y in 0..bottom - top {
@@ -172,10 +180,8 @@ fn decode_series<A: Allocator, S: LineSink>(
             count,
             y,
         };
-        match decode_whole_line(frame, &line, columns, states, two, one, cur, out, sink) {
-            Ok(()) => {}
-            Err(fault) => return Err(fault),
-        }
+        let above = Above { two, one };
+        decode_whole_line(frame, &line, slices, &above, cur, out, sink)?;
         let free = two;
         two = one;
         one = cur;
@@ -188,52 +194,58 @@ fn decode_series<A: Allocator, S: LineSink>(
 fn decode_planes<A: Allocator, S: LineSink>(
     frame: &Frame<'_, A>,
     row: u32,
-    columns: &mut [Column],
-    states: &mut [u8],
+    slices: &mut Slices<A>,
     lines: &mut [u16],
     out: &mut [u8],
     sink: &mut S,
 ) -> Result<(), FrameFault>
     requires frame { IsFrame frame.now }
     requires row { row < frame.now.checked.now.configuration.rows }
-    requires many { length columns.old ≡ frame.now.checked.now.configuration.columns }
+    requires many { length slices.old.columns.items ≡ frame.now.checked.now.configuration.columns }
     requires open { AreOpen frame.now.payload.now frame.now.checked.now.configuration.sets
-        columns.old }
+        slices.old.columns.items }
     requires lines_long { length lines.old ≡ 3 * length out.old }
     requires out_long { length out.old
         ≡ planes_of frame.now.checked.now.configuration.colour
         frame.now.checked.now.configuration.extra_plane
         * frame.now.checked.now.configuration.width }
-    requires room { length states.old ≡ frame.now.checked.now.configuration.columns
+    requires room { length slices.old.states.items ≡ frame.now.checked.now.configuration.columns
         * slots_in frame.now.checked.now.configuration }
-    requires held { AllHeld frame.now.checked.now.table states.old }
+    requires held { AllHeld frame.now.checked.now.table slices.old.states.items }
     ensures exact { (coded : ℕ → List ℕ) (initial : S) (s : State) →
         let a = frame.now.checked.now in
         let events = flat_map (series_events a.configuration row)
         (series_of a.configuration row) in
-        TiedColumns a coded row 0 frame.now.payload.now columns.old states.old s →
+        TiedColumns a coded row 0 frame.now.payload.now slices.old.columns.items
+        slices.old.states.items s →
         Grows S.takes initial s.lines sink.old →
         MatchResult result
         (λ _. Decoded S.takes S.refuses a coded initial row (plane_count a.configuration)
-        frame.now.payload.now events columns.new states.new sink.new s)
-        (λ f. FailsIn S.takes S.refuses a coded initial row columns.new events f sink.new s) }
+        frame.now.payload.now events slices.new.columns.items slices.new.states.items sink.new s)
+        (λ f. FailsIn S.takes S.refuses a coded initial row slices.new.columns.items events f
+        sink.new s) }
     ensures counted { CountsSink (S.failures sink.old) (S.failures sink.new) result }
+    ensures same { KeepsSlices slices.old slices.new }
 {
     accepted_parts();
     let planes = frame.grid.planes() as u8;
     match frame.checked.config().colour {
         Colour::Rct => {
-            match decode_series(frame, row, 0, planes, columns, states, lines, out, sink) {
-                Ok(()) => Ok(()),
-                Err(fault) => Err(fault),
-            }
+            let all = CodedPlanes {
+                row,
+                first: 0,
+                count: planes,
+            };
+            decode_series(frame, &all, slices, lines, out, sink)
         }
         Colour::YCbCr => {
             for plane in 0..planes {
-                match decode_series(frame, row, plane, 1, columns, states, lines, out, sink) {
-                    Ok(()) => {}
-                    Err(fault) => return Err(fault),
-                }
+                let one = CodedPlanes {
+                    row,
+                    first: plane,
+                    count: 1,
+                };
+                decode_series(frame, &one, slices, lines, out, sink)?;
             }
             Ok(())
         }
@@ -245,46 +257,43 @@ pub(crate) fn decode_row<A: Allocator, B: Allocator, S: LineSink>(
     frame: &Frame<'_, A>,
     spans: &Spans<B>,
     row: u32,
-    columns: &mut [Column],
-    states: &mut [u8],
-    lines: &mut [u16],
-    out: &mut [u8],
+    buffers: &mut Buffers<A>,
     first: &mut Option<Info>,
     sink: &mut S,
 ) -> Result<(), FrameFault>
     requires frame { IsFrame frame.now }
     requires row { row < frame.now.checked.now.configuration.rows }
-    requires many { length columns.old ≡ frame.now.checked.now.configuration.columns }
+    requires many { length buffers.old.slices.columns.items ≡
+        frame.now.checked.now.configuration.columns }
     requires cut { IsCutOf frame.now.checked.now frame.now.payload.now spans.now }
-    requires closed { (k : ℕ) → k < length columns.old → (column_at columns.old k).parked ≡ None }
-    requires lines_long { length lines.old ≡ 3 * length out.old }
-    requires out_long { length out.old
+    requires closed { (k : ℕ) → k < length buffers.old.slices.columns.items → (column_at
+        buffers.old.slices.columns.items k).parked ≡ None }
+    requires lines_long { length buffers.old.lines.items ≡ 3 * length buffers.old.out.items }
+    requires out_long { length buffers.old.out.items
         ≡ planes_of frame.now.checked.now.configuration.colour
         frame.now.checked.now.configuration.extra_plane
         * frame.now.checked.now.configuration.width }
-    requires room { length states.old ≡ frame.now.checked.now.configuration.columns
+    requires room { length buffers.old.slices.states.items ≡
+        frame.now.checked.now.configuration.columns
         * slots_in frame.now.checked.now.configuration }
     ensures exact { (initial : S) (s : State) →
         let a = frame.now.checked.now in
         let coded : ℕ → List ℕ = coded_by a frame.now.payload.now spans.now in
         IsBetween a.configuration first.old s → Grows S.takes initial s.lines sink.old →
         MatchResult result
-        (λ _. RowDecoded S.takes S.refuses a coded initial row columns.new first.new sink.new s)
-        (λ f. FailsIn S.takes S.refuses a coded initial row columns.new
+        (λ _. RowDecoded S.takes S.refuses a coded initial row buffers.new.slices.columns.items
+        first.new sink.new s)
+        (λ f. FailsIn S.takes S.refuses a coded initial row buffers.new.slices.columns.items
         (open_events a.configuration row) f sink.new s) }
     ensures known { OnOk result (IsSome first.new) }
     ensures counted { CountsSink (S.failures sink.old) (S.failures sink.new) result }
+    ensures same { KeepsLengths buffers.old buffers.new }
 {
     named_states();
     accepted_parts();
     counted_from_nothing();
-    reset(states);
-    match open_row(frame, spans, row, columns, first) {
-        Ok(()) => {}
-        Err(fault) => return Err(fault),
-    }
-    match decode_planes(frame, row, columns, states, lines, out, sink) {
-        Ok(()) => Ok(()),
-        Err(fault) => Err(fault),
-    }
+    reset(&mut buffers.slices.states);
+    open_row(frame, spans, row, &mut buffers.slices.columns, first)?;
+    let Buffers { slices, lines, out } = buffers;
+    decode_planes(frame, row, slices, lines, out, sink)
 }

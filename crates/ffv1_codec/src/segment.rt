@@ -19,7 +19,7 @@ ghost use Rattle.ffv1_codec.specs.Tied.{TiedColumns, TiedLine, StepMade, Stopped
 
 use crate::column::Column;
 use crate::fault::{CodecFault, FrameFault};
-use crate::frame::{Frame, Segment};
+use crate::frame::{Coding, Frame, Segment};
 use crate::places::places;
 use ffv1_line::laws::{cell_is_read, samples_below, slots};
 use ffv1_line::{TooLong, decode_line};
@@ -34,36 +34,37 @@ use std::alloc::Allocator;
 
 /// Reads a segment: wakes a decoder on the bytes of its slice, decodes a row by the states of its
 /// class, and parks.
-pub(crate) fn read_segment<B: Allocator>(
+fn read_segment<B: Allocator>(
     parked: &mut Option<Parked>,
-    bytes: &[u8],
-    table: &StateTable,
-    set: &QuantSet<B>,
+    coding: &Coding<'_, B>,
     states: &mut [u8],
     two: &[u16],
     one: &[u16],
     cur: &mut [u16],
-    bits: u8,
 ) -> Result<(), TooLong>
-    requires bits { (bits ≡ 8) ⊎ (bits ≡ 9) }
+    requires bits { (coding.now.bits ≡ 8) ⊎ (coding.now.bits ≡ 9) }
     requires open { IsSome parked.old }
     requires some { 0 < length cur.old }
     requires two_long { length two.now ≡ length cur.old }
     requires one_long { length one.now ≡ length cur.old }
-    requires rows { length states.old ≡ contexts_of set.now * 32 }
-    requires held { AllHeld table.now states.old }
+    requires rows { length states.old ≡ contexts_of coding.now.set.now * 32 }
+    requires held { AllHeld coding.now.table.now states.old }
     ensures exact { (past : List Step) (base : ℕ) (samples : List ℕ) (y : ℕ) →
-        Stands bytes.now table.now base parked.old states.old past →
+        let bytes = coding.now.bytes.now in
+        let table = coding.now.table.now in
+        let set = coding.now.set.now in
+        Stands bytes table base parked.old states.old past →
         Rolls (length cur.new) samples two.now one.now y →
         MatchResult result
-        (λ _. SegmentRead bytes.now table.now base base set.now bits past samples (length cur.new) y
+        (λ _. SegmentRead bytes table base base set coding.now.bits past samples (length cur.new) y
         parked.new states.new cur.new)
-        (λ e. SegmentRefused bytes.now table.now base base set.now bits past samples
+        (λ e. SegmentRefused bytes table base base set coding.now.bits past samples
         (length cur.new) y parked.new (take e.x cur.new) e.x) }
-    ensures small { OnOk result ((x : ℕ) → x < length cur.new → slice_index cur.new x < 2 ^ bits) }
+    ensures small { OnOk result ((x : ℕ) → x < length cur.new →
+        slice_index cur.new x < 2 ^ coding.now.bits) }
     ensures inside { IfErr result (λ e. e.x < length cur.new) }
     ensures open { IsSome parked.new }
-    ensures held { AllHeld table.now states.new }
+    ensures held { AllHeld coding.now.table.now states.new }
 {
     kept_states();
     two_parts();
@@ -73,18 +74,21 @@ pub(crate) fn read_segment<B: Allocator>(
     slots();
     coding::slots();
     samples_below();
+    let set = coding.set;
     set.bounded();
-    let mut decoder = parked.take().unwrap().wake(bytes);
-    match decode_line(&mut decoder, table, set, states, two, one, cur, bits) {
-        Ok(()) => {
-            *parked = Some(decoder.park());
-            Ok(())
-        }
-        Err(refused) => {
-            *parked = Some(decoder.park());
-            Err(refused)
-        }
-    }
+    let mut decoder = parked.take().unwrap().wake(coding.bytes);
+    let read = decode_line(
+        &mut decoder,
+        coding.table,
+        set,
+        states,
+        two,
+        one,
+        cur,
+        coding.bits,
+    );
+    *parked = Some(decoder.park());
+    read
 }
 
 /// The class of a plane's states.
@@ -156,20 +160,20 @@ fn read_column<A: Allocator>(
     let set = config.sets.get(usize::from(column.indexes[class]));
     let at = class * frame.most * 32;
     let end = at + set.contexts() as usize * 32;
-    match read_segment(
-        &mut column.parked,
-        &frame.payload[column.first..column.last],
-        frame.checked.table(),
+    let coding = Coding {
+        bytes: &frame.payload[column.first..column.last],
+        table: frame.checked.table(),
         set,
+        bits: bits_of(&config.colour),
+    };
+    read_segment(
+        &mut column.parked,
+        &coding,
         &mut states[at..end],
         two,
         one,
         cur,
-        bits_of(&config.colour),
-    ) {
-        Ok(()) => Ok(()),
-        Err(refused) => Err(refused),
-    }
+    )
 }
 
 /// Where a segment begins and ends in a rolling line.

@@ -2,7 +2,8 @@
 
 ghost use Rattle.std.specs.Prelude.{◌≡◌};
 ghost use Rattle.ffv1_engine.specs.declared.fault.Fault.TheVariants as fault;
-ghost use Rattle.ffv1_engine.specs.Faults.{of_range, of_plane, of_y4m};
+ghost use Rattle.ffv1_engine.specs.Faults.{of_range, of_plane, of_record, of_codec, of_avi};
+ghost use Rattle.ffv1_engine.specs.Faults.{of_y4m};
 
 use std::alloc::{AllocError, AllocFailed};
 use thiserror::Error;
@@ -28,13 +29,122 @@ pub enum Fault {
     /// A quantisation table set has more than 32768 contexts.
     #[error("6 Contexts")]
     Contexts,
+    /// A place has no red, green and blue from 0 to 255, or no transparency from 0 to 255.
+    #[error("7 Colour")]
+    Colour,
+    /// The width or the height is not from 1 to 8192.
+    #[error("10 Size")]
+    Size,
+    /// There are not 1 to 32 columns or rows, or more columns than the width, or more rows than the
+    /// height.
+    #[error("11 Grid")]
+    Grid,
+    /// An inner edge of the slices is no multiple of its chroma factor.
+    #[error("12 ChromaEdge")]
+    ChromaEdge,
+    /// A chroma factor is above 4; or RCT has no chroma planes; or a chroma factor is not 1 with
+    /// RCT or without chroma planes.
+    #[error("13 Subsampling")]
+    Subsampling,
+    /// There are not 1 to 8 quantisation table sets.
+    #[error("14 Sets")]
+    Sets,
+    /// A configuration record has fewer than 5 bytes.
+    #[error("15 Short")]
+    Short,
+    /// A configuration record's remainder is not 0.
+    #[error("16 Parity")]
+    Parity,
+    /// The version is not 3.
+    #[error("17 Version")]
+    Version,
+    /// The micro version is not 4.
+    #[error("18 MicroVersion")]
+    MicroVersion,
+    /// The coder type is not 1 or 2.
+    #[error("19 Coder")]
+    Coder,
+    /// The colour space type is not 0 or 1.
+    #[error("20 ColourSpace")]
+    ColourSpace,
+    /// The bits of a sample are not 0 or 8.
+    #[error("21 Depth")]
+    Depth,
+    /// The initial states of a set are coded.
+    #[error("22 CodedStates")]
+    CodedStates,
+    /// Ec is above 1.
+    #[error("23 Ec")]
+    Ec,
+    /// Intra is above 1.
+    #[error("24 Intra")]
+    Intra,
+    /// There is a plane of transparency, but no chroma planes.
+    #[error("25 ExtraPlane")]
+    ExtraPlane,
+    /// The keyframe of a frame is 0.
+    #[error("30 NotKey")]
+    NotKey,
+    /// A slice head's place is not that of its slice, or is not one cell.
+    #[error("31 Place")]
+    Place,
+    /// A set index of a slice head is not below the number of sets.
+    #[error("32 SetIndex")]
+    SetIndex,
+    /// The picture structure is above 3.
+    #[error("33 Structure")]
+    Structure,
+    /// A number of the sample aspect is above 65535, or one of them is zero alone.
+    #[error("34 Aspect")]
+    Aspect,
+    /// Going from the end of a frame, fewer bytes are left than a footer, or fewer before the
+    /// footer than its slice_size.
+    #[error("35 Footer")]
+    Footer,
+    /// Bytes of a frame are left before the first slice.
+    #[error("36 Leftover")]
+    Leftover,
+    /// A slice's remainder is not 0.
+    #[error("37 SliceParity")]
+    SliceParity,
+    /// A slice's error_status is not 0.
+    #[error("38 SliceStatus")]
+    SliceStatus,
+    /// A slice's coded bytes pass 16777215.
+    #[error("40 SliceTooLong")]
+    SliceTooLong,
+    /// A slice's structure or aspect differ from the first slice's.
+    #[error("41 InfoDiffers")]
+    InfoDiffers,
+    /// A line was refused.
+    #[error("42 Sink")]
+    Sink,
+    /// The file is no AVI: it begins otherwise, a list is too short for its own name, scale or rate
+    /// is zero alone, there is no `movi`, or a list stands in it.
+    #[error("50 NotAvi")]
+    NotAvi,
+    /// The first `strl` is no FFV1 video, or `movi` comes before any `strl`.
+    #[error("51 NoFfv1")]
+    NoFfv1,
+    /// A chunk does not fit in its list, or the input ends inside it.
+    #[error("52 Truncated")]
+    Truncated,
+    /// A frame, or the format of the first stream, is longer than 67108864 bytes.
+    #[error("53 ChunkTooLong")]
+    ChunkTooLong,
+    /// A frame has no bytes.
+    #[error("54 EmptyFrame")]
+    EmptyFrame,
+    /// The size of RIFF would pass 2147483647.
+    #[error("55 TooLarge")]
+    TooLarge,
     /// A read failed.
     #[error("56 Read")]
     Read,
     /// A write failed.
     #[error("57 Write")]
     Write,
-    /// The first line is no header of YUV4MPEG2.
+    /// The first line is no header of YUV4MPEG2, or the text is no PPM.
     #[error("60 Header")]
     Header,
     /// A tag of the header is not as it should be, or a size is missing.
@@ -52,9 +162,16 @@ pub enum Fault {
     /// The input has no picture.
     #[error("70 NoFrames")]
     NoFrames,
-    /// A later image has another size than the first.
+    /// A later image has another size than the first, or a later frame another structure or aspect
+    /// where YUV4MPEG2 is written.
     #[error("71 FormatChanged")]
     FormatChanged,
+    /// YUV4MPEG2 has no name for the chroma.
+    #[error("72 NoY4mName")]
+    NoY4mName,
+    /// PPM has no plane of transparency.
+    #[error("73 NoPpm")]
+    NoPpm,
 }
 
 impl From<ffv1_range::Fault> for Fault {
@@ -78,6 +195,80 @@ impl From<ffv1_plane::Fault> for Fault {
             ffv1_plane::Fault::OutOfMemory => Fault::OutOfMemory,
             ffv1_plane::Fault::Runs => Fault::Runs,
             ffv1_plane::Fault::Contexts => Fault::Contexts,
+        }
+    }
+}
+
+impl From<ffv1_record::RecordFault> for Fault {
+    ghost from_gives = { λ e f. f ≡ of_record e };
+
+    fn from(e: ffv1_record::RecordFault) -> Fault {
+        match e {
+            ffv1_record::RecordFault::StateTable => Fault::StateTable,
+            ffv1_record::RecordFault::OutOfMemory => Fault::OutOfMemory,
+            ffv1_record::RecordFault::BadStart => Fault::BadStart,
+            ffv1_record::RecordFault::SymbolTooLong => Fault::SymbolTooLong,
+            ffv1_record::RecordFault::Runs => Fault::Runs,
+            ffv1_record::RecordFault::Contexts => Fault::Contexts,
+            ffv1_record::RecordFault::Size => Fault::Size,
+            ffv1_record::RecordFault::Grid => Fault::Grid,
+            ffv1_record::RecordFault::ChromaEdge => Fault::ChromaEdge,
+            ffv1_record::RecordFault::Subsampling => Fault::Subsampling,
+            ffv1_record::RecordFault::Sets => Fault::Sets,
+            ffv1_record::RecordFault::Short => Fault::Short,
+            ffv1_record::RecordFault::Parity => Fault::Parity,
+            ffv1_record::RecordFault::Version => Fault::Version,
+            ffv1_record::RecordFault::MicroVersion => Fault::MicroVersion,
+            ffv1_record::RecordFault::Coder => Fault::Coder,
+            ffv1_record::RecordFault::ColourSpace => Fault::ColourSpace,
+            ffv1_record::RecordFault::Depth => Fault::Depth,
+            ffv1_record::RecordFault::CodedStates => Fault::CodedStates,
+            ffv1_record::RecordFault::Ec => Fault::Ec,
+            ffv1_record::RecordFault::Intra => Fault::Intra,
+            ffv1_record::RecordFault::ExtraPlane => Fault::ExtraPlane,
+        }
+    }
+}
+
+impl From<ffv1_codec::CodecFault> for Fault {
+    ghost from_gives = { λ e f. f ≡ of_codec e };
+
+    fn from(e: ffv1_codec::CodecFault) -> Fault {
+        match e {
+            ffv1_codec::CodecFault::OutOfMemory => Fault::OutOfMemory,
+            ffv1_codec::CodecFault::BadStart => Fault::BadStart,
+            ffv1_codec::CodecFault::SymbolTooLong => Fault::SymbolTooLong,
+            ffv1_codec::CodecFault::Colour => Fault::Colour,
+            ffv1_codec::CodecFault::NotKey => Fault::NotKey,
+            ffv1_codec::CodecFault::Place => Fault::Place,
+            ffv1_codec::CodecFault::SetIndex => Fault::SetIndex,
+            ffv1_codec::CodecFault::Structure => Fault::Structure,
+            ffv1_codec::CodecFault::Aspect => Fault::Aspect,
+            ffv1_codec::CodecFault::Footer => Fault::Footer,
+            ffv1_codec::CodecFault::Leftover => Fault::Leftover,
+            ffv1_codec::CodecFault::SliceParity => Fault::SliceParity,
+            ffv1_codec::CodecFault::SliceStatus => Fault::SliceStatus,
+            ffv1_codec::CodecFault::SliceTooLong => Fault::SliceTooLong,
+            ffv1_codec::CodecFault::InfoDiffers => Fault::InfoDiffers,
+            ffv1_codec::CodecFault::Sink => Fault::Sink,
+        }
+    }
+}
+
+impl From<ffv1_avi::AviFault> for Fault {
+    ghost from_gives = { λ e f. f ≡ of_avi e };
+
+    fn from(e: ffv1_avi::AviFault) -> Fault {
+        match e {
+            ffv1_avi::AviFault::OutOfMemory => Fault::OutOfMemory,
+            ffv1_avi::AviFault::NotAvi => Fault::NotAvi,
+            ffv1_avi::AviFault::NoFfv1 => Fault::NoFfv1,
+            ffv1_avi::AviFault::Truncated => Fault::Truncated,
+            ffv1_avi::AviFault::ChunkTooLong => Fault::ChunkTooLong,
+            ffv1_avi::AviFault::EmptyFrame => Fault::EmptyFrame,
+            ffv1_avi::AviFault::TooLarge => Fault::TooLarge,
+            ffv1_avi::AviFault::Read => Fault::Read,
+            ffv1_avi::AviFault::Write => Fault::Write,
         }
     }
 }

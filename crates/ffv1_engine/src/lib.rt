@@ -1,10 +1,12 @@
 //! The commands of the codec, as calls over any reader and writer of bytes: what the program `ffv1`
 //! does besides opening files, printing and its exit status.
 //!
-//! `words` reads a command line as an `Order`; the call of the order's name does it, over a reader
-//! and a writer of `ffv1_wire`, and answers a `Fault` that displays as its number and name. So far
-//! there is `trial`, which codes the first picture of a text and decodes it again; `code_plane`
-//! is its first half, over samples. The test `trials::example` of `ffv1_tests` runs these lines:
+//! `words` reads a command line as an `Order`, of one of five commands; the call of the order's
+//! name does it, over a reader and a writer of `ffv1_wire`, and answers a `Fault` that displays as
+//! its number and name. Of those calls there are `pack`, which codes a video into a file, `check`,
+//! which decodes all frames of one, and `trial`, which codes the first picture of a text and
+//! decodes it again; `code_plane` is its first half, over samples. The test `trials::example` of
+//! `ffv1_tests` runs these lines:
 //!
 //! ```text
 //! if let Order::Trial { .. } = words(alloc, &["ffv1", "trial", "disc.y4m"])? {
@@ -13,16 +15,28 @@
 //! ```
 #![tactic(auto)]
 
+mod checking;
 mod command_line;
 mod comparison;
+mod encoding;
 mod fault;
+pub mod frame_line;
 pub mod laws;
+mod matched;
 mod mono_trial;
+mod order;
+mod packing;
 mod picture;
 mod plane;
+pub mod player;
 mod report;
+mod telling;
+mod video;
 
-pub use command_line::{Order, words};
+pub use checking::check;
+pub use command_line::words;
 pub use fault::Fault;
 pub use mono_trial::trial;
+pub use order::{Choice, CoderChoice, Order};
+pub use packing::{Packed, pack};
 pub use plane::{Coded, code_plane};

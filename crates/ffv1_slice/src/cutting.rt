@@ -174,6 +174,7 @@ pub fn cut<A: Allocator, B: Allocator>(
         ≡ suc (checked.now.configuration.columns * checked.now.configuration.rows)) }
     ensures only { (at : ℕ → ℕ) → Cuts checked.now.configuration payload.now at → OnErr result ⊥ }
 {
+    // Both arms are written out, so that the clauses are proved by arm.
     match cut_from_end(checked, payload, spans) {
         Ok(()) => Ok(()),
         Err(fault) => Err(fault),

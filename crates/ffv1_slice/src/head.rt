@@ -144,6 +144,7 @@ pub fn get_head<A: Allocator>(
 {
     accepted();
     let _config = checked.config();
+    // Both arms are written out, so that the clauses are proved by arm.
     match read_head(decoder, checked, slice) {
         Ok(head) => Ok(head),
         Err(fault) => Err(fault),

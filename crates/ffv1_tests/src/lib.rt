@@ -1,4 +1,4 @@
-//! Tests that cross crates.
+//! Tests that cross crates, and those of frames.
 #![tactic(auto)]
 
 #[cfg(test)]

@@ -1,10 +1,15 @@
-//! Tests that cross crates.
+//! Tests that cross crates, and those of frames.
 
 mod avi;
+mod checks;
 mod coder;
+mod decoded;
+mod encoded;
 mod faults;
 mod frames;
 mod orders;
+mod packs;
+mod pictures;
 mod record;
 mod refusals;
 mod trials;

@@ -1,14 +1,448 @@
-//! Command lines.
+//! Command lines: the orders that they name, and how they are refused.
 
-use ffv1_engine::{Order, words};
+use clap::error::ErrorKind;
+use ffv1_engine::{Choice, CoderChoice, Order, words};
+use std::alloc::Global;
+use std::process::Abort;
+
+/// What `pack` does without an option.
+const DEFAULTS: Choice = Choice {
+    coder: CoderChoice::Standard,
+    large: false,
+    columns: 1,
+    rows: 1,
+    ec: true,
+    rate: 25,
+    scale: 1,
+};
+
+fn names<'a>(rt: &impl Abort, alloc: Global, line: &'a [&'a str], order: Order<'a>) {
+    assert!(rt; words(alloc, line).ok() == Some(order));
+}
+
+/// `pack` of `a` to `b` with these options, before and behind the files.
+fn packs(rt: &impl Abort, alloc: Global, option: &str, value: &str, choice: Choice) {
+    let order = Order::Pack {
+        input: "a",
+        output: "b",
+        choice,
+    };
+    names(rt, alloc, &["ffv1", "pack", option, value, "a", "b"], order);
+    names(rt, alloc, &["ffv1", "pack", "a", "b", option, value], order);
+}
+
+fn refuses(rt: &impl Abort, alloc: Global, line: &[&str], kind: ErrorKind) {
+    assert!(rt; words(alloc, line).err().is_some_and(|e| e.kind() == kind));
+}
+
+/// `pack` of `a` to `b` with this option is refused.
+fn refuses_option(rt: &impl Abort, alloc: Global, option: &str, kind: ErrorKind) {
+    refuses(rt, alloc, &["ffv1", "pack", option, "a", "b"], kind);
+}
 
 #[test]
-fn command_lines(rt: HostRuntime) {
-    assert!(rt;
-        words(rt.alloc(), &["ffv1", "trial", "a.y4m"]).ok() == Some(Order::Trial { input: "a.y4m" })
+fn each_command(rt: HostRuntime) {
+    let alloc = rt.alloc();
+    let (input, output) = ("a", "b");
+    let pack = Order::Pack {
+        input,
+        output,
+        choice: DEFAULTS,
+    };
+    names(&rt, alloc, &["ffv1", "pack", "a", "b"], pack);
+    names(
+        &rt,
+        alloc,
+        &["ffv1", "unpack", "a", "b"],
+        Order::Unpack { input, output },
     );
-    assert!(rt; words(rt.alloc(), &["ffv1"]).is_err());
-    assert!(rt; words(rt.alloc(), &["ffv1", "trial"]).is_err());
-    assert!(rt; words(rt.alloc(), &["ffv1", "trial", "a", "b"]).is_err());
-    assert!(rt; words(rt.alloc(), &["ffv1", "try", "a"]).is_err());
+    names(
+        &rt,
+        alloc,
+        &["ffv1", "check", "a"],
+        Order::Check {
+            input,
+            place: false,
+        },
+    );
+    names(
+        &rt,
+        alloc,
+        &["ffv1", "check", "a", "--place"],
+        Order::Check { input, place: true },
+    );
+    names(
+        &rt,
+        alloc,
+        &["ffv1", "check", "--place", "a"],
+        Order::Check { input, place: true },
+    );
+    names(
+        &rt,
+        alloc,
+        &["ffv1", "show", "a"],
+        Order::Show { input, cost: false },
+    );
+    names(
+        &rt,
+        alloc,
+        &["ffv1", "show", "--cost", "a"],
+        Order::Show { input, cost: true },
+    );
+    names(&rt, alloc, &["ffv1", "trial", "a"], Order::Trial { input });
+}
+
+#[test]
+fn words_behind_two_hyphens_are_files(rt: HostRuntime) {
+    let alloc = rt.alloc();
+    names(
+        &rt,
+        alloc,
+        &["ffv1", "check", "--", "--place"],
+        Order::Check {
+            input: "--place",
+            place: false,
+        },
+    );
+    names(
+        &rt,
+        alloc,
+        &["ffv1", "unpack", "--", "-a", "--"],
+        Order::Unpack {
+            input: "-a",
+            output: "--",
+        },
+    );
+}
+
+#[test]
+fn each_option(rt: HostRuntime) {
+    let alloc = rt.alloc();
+    let carried = Choice {
+        coder: CoderChoice::Carried,
+        ..DEFAULTS
+    };
+    packs(&rt, alloc, "--coder", "1", DEFAULTS);
+    packs(&rt, alloc, "--coder", "2", carried);
+    packs(&rt, alloc, "--contexts", "small", DEFAULTS);
+    packs(
+        &rt,
+        alloc,
+        "--contexts",
+        "large",
+        Choice {
+            large: true,
+            ..DEFAULTS
+        },
+    );
+    packs(
+        &rt,
+        alloc,
+        "--columns",
+        "32",
+        Choice {
+            columns: 32,
+            ..DEFAULTS
+        },
+    );
+    packs(
+        &rt,
+        alloc,
+        "--columns",
+        "+4",
+        Choice {
+            columns: 4,
+            ..DEFAULTS
+        },
+    );
+    packs(
+        &rt,
+        alloc,
+        "--rows",
+        "32",
+        Choice {
+            rows: 32,
+            ..DEFAULTS
+        },
+    );
+    packs(
+        &rt,
+        alloc,
+        "--ec",
+        "0",
+        Choice {
+            ec: false,
+            ..DEFAULTS
+        },
+    );
+    packs(&rt, alloc, "--ec", "1", DEFAULTS);
+    packs(
+        &rt,
+        alloc,
+        "--rate",
+        "4294967295",
+        Choice {
+            rate: 4294967295,
+            ..DEFAULTS
+        },
+    );
+    packs(
+        &rt,
+        alloc,
+        "--scale",
+        "1001",
+        Choice {
+            scale: 1001,
+            ..DEFAULTS
+        },
+    );
+}
+
+#[test]
+fn all_options(rt: HostRuntime) {
+    let line = [
+        "ffv1",
+        "pack",
+        "--coder=2",
+        "--contexts=large",
+        "a",
+        "--columns=3",
+        "--rows=2",
+        "--ec=-0",
+        "b",
+        "--rate=30000",
+        "--scale=1001",
+    ];
+    let choice = Choice {
+        coder: CoderChoice::Carried,
+        large: true,
+        columns: 3,
+        rows: 2,
+        ec: false,
+        rate: 30000,
+        scale: 1001,
+    };
+    names(
+        &rt,
+        rt.alloc(),
+        line.as_slice(),
+        Order::Pack {
+            input: "a",
+            output: "b",
+            choice,
+        },
+    );
+}
+
+#[test]
+fn values_out_of_range(rt: HostRuntime) {
+    for option in [
+        "--coder=0",
+        "--coder=3",
+        "--columns=0",
+        "--columns=33",
+        "--columns=-1",
+        "--columns=",
+        "--columns=four",
+        "--rows=0",
+        "--rows=33",
+        "--ec=2",
+        "--rate=0",
+        "--rate=4294967296",
+        "--rate=99999999999999999999",
+        "--scale=0",
+        "--scale=4294967296",
+        "--scale=1.5",
+    ] {
+        refuses_option(&rt, rt.alloc(), option, ErrorKind::ValueValidation);
+    }
+    refuses_option(
+        &rt,
+        rt.alloc(),
+        "--contexts=medium",
+        ErrorKind::InvalidValue,
+    );
+    refuses_option(&rt, rt.alloc(), "--contexts=", ErrorKind::InvalidValue);
+    refuses_option(&rt, rt.alloc(), "--contexts=Large", ErrorKind::InvalidValue);
+}
+
+#[test]
+fn words_missing(rt: HostRuntime) {
+    let alloc = rt.alloc();
+    for name in ["pack", "unpack", "check", "show", "trial"] {
+        refuses(
+            &rt,
+            alloc,
+            &["ffv1", name],
+            ErrorKind::MissingRequiredArgument,
+        );
+    }
+    refuses(
+        &rt,
+        alloc,
+        &["ffv1", "pack", "a"],
+        ErrorKind::MissingRequiredArgument,
+    );
+    refuses(
+        &rt,
+        alloc,
+        &["ffv1", "unpack", "a"],
+        ErrorKind::MissingRequiredArgument,
+    );
+    refuses(
+        &rt,
+        alloc,
+        &["ffv1", "pack", "a", "b", "--rows"],
+        ErrorKind::InvalidValue,
+    );
+    refuses(
+        &rt,
+        alloc,
+        &["ffv1"],
+        ErrorKind::DisplayHelpOnMissingArgumentOrSubcommand,
+    );
+}
+
+#[test]
+fn words_too_many(rt: HostRuntime) {
+    let alloc = rt.alloc();
+    for name in ["check", "show", "trial"] {
+        refuses(
+            &rt,
+            alloc,
+            &["ffv1", name, "a", "b"],
+            ErrorKind::UnknownArgument,
+        );
+    }
+    for name in ["pack", "unpack"] {
+        refuses(
+            &rt,
+            alloc,
+            &["ffv1", name, "a", "b", "c"],
+            ErrorKind::UnknownArgument,
+        );
+    }
+    let twice = ["ffv1", "pack", "a", "b", "--ec=1", "--ec=1"];
+    refuses(&rt, alloc, twice.as_slice(), ErrorKind::ArgumentConflict);
+    let twice = ["ffv1", "check", "a", "--place", "--place"];
+    refuses(&rt, alloc, twice.as_slice(), ErrorKind::ArgumentConflict);
+    refuses(
+        &rt,
+        alloc,
+        &["ffv1", "check", "a", "--place=1"],
+        ErrorKind::TooManyValues,
+    );
+}
+
+#[test]
+fn words_unknown(rt: HostRuntime) {
+    let alloc = rt.alloc();
+    refuses(
+        &rt,
+        alloc,
+        &["ffv1", "try", "a"],
+        ErrorKind::InvalidSubcommand,
+    );
+    refuses(
+        &rt,
+        alloc,
+        &["ffv1", "Pack", "a", "b"],
+        ErrorKind::InvalidSubcommand,
+    );
+    refuses(
+        &rt,
+        alloc,
+        &["ffv1", "--pack", "a"],
+        ErrorKind::UnknownArgument,
+    );
+    for name in ["unpack", "check", "show", "trial"] {
+        refuses(
+            &rt,
+            alloc,
+            &["ffv1", name, "a", "--ec=1"],
+            ErrorKind::UnknownArgument,
+        );
+    }
+    refuses(
+        &rt,
+        alloc,
+        &["ffv1", "check", "a", "--cost"],
+        ErrorKind::UnknownArgument,
+    );
+    refuses(
+        &rt,
+        alloc,
+        &["ffv1", "show", "a", "--place"],
+        ErrorKind::UnknownArgument,
+    );
+    refuses_option(&rt, alloc, "-c", ErrorKind::UnknownArgument);
+}
+
+#[test]
+fn calls_for_help(rt: HostRuntime) {
+    let alloc = rt.alloc();
+    for help in ["help", "--help", "-h"] {
+        refuses(&rt, alloc, &["ffv1", help], ErrorKind::DisplayHelp);
+    }
+    refuses(
+        &rt,
+        alloc,
+        &["ffv1", "help", "pack"],
+        ErrorKind::DisplayHelp,
+    );
+    refuses(
+        &rt,
+        alloc,
+        &["ffv1", "pack", "--help"],
+        ErrorKind::DisplayHelp,
+    );
+}
+
+#[test]
+fn files_in_conflict(rt: HostRuntime) {
+    let alloc = rt.alloc();
+    for name in ["pack", "unpack"] {
+        for (input, output) in [
+            ("a", "a"),
+            ("", ""),
+            ("/dev/stdout", "/dev/stdout"),
+            ("a", "/dev/stdout"),
+            ("a", "/dev/fd/1"),
+            ("a", "/proc/self/fd/1"),
+        ] {
+            refuses(
+                &rt,
+                alloc,
+                &["ffv1", name, input, output],
+                ErrorKind::ArgumentConflict,
+            );
+        }
+    }
+}
+
+/// Paths are compared as texts: another text is another file, and an input may be standard output.
+#[test]
+fn files_not_in_conflict(rt: HostRuntime) {
+    for (input, output) in [
+        ("a", "./a"),
+        ("/dev/stdout", "b"),
+        ("a", "/dev/fd/3"),
+        ("a", "/dev/fd/10"),
+        ("a", "/dev/stdou"),
+    ] {
+        names(
+            &rt,
+            rt.alloc(),
+            &["ffv1", "unpack", input, output],
+            Order::Unpack { input, output },
+        );
+    }
+    for input in ["/dev/stdout", "/dev/fd/1"] {
+        names(
+            &rt,
+            rt.alloc(),
+            &["ffv1", "trial", input],
+            Order::Trial { input },
+        );
+    }
 }

@@ -1,4 +1,5 @@
 use Rattle.std.proofs.Common.{◌≡◌, suc, ◌+◌, ◌-◌, ◌*◌, ◌≤◌, ◌<◌, ◌∙◌, ap, sym, subst, length, take, drop, arith}
+use Rattle.std.proofs.lemmas.Result.{err_from_is_err_and}
 use Rattle.ffv1_record.specs.Configuration.{Configuration}
 use Rattle.ffv1_codec.specs.Picture.{plane_width}
 use Rattle.ffv1_codec.specs.Stands.{window}
@@ -23,8 +24,8 @@ slice_bounds-hand_line-end g c =
     let fits : n * c.config.result.now.width + c.width.result ≤ length c.args.out.now = omega (arith, at, wide_is, are.fits, part, c.requires.out) in
     fits
 
-pub returns-in-Err-clause-exact : goal.returns-in-Err-clause-exact
-returns-in-Err-clause-exact g c = λ coded initial columns s grows told stands.
+pub returns-in_err-hand_line-clause-exact : goal.returns-in_err-hand_line-clause-exact
+returns-in_err-hand_line-clause-exact g c = λ coded initial columns s grows told stands.
     let a = c.args.frame.now.checked.now in
     let conf = a.configuration in
     let line = c.args.line.now in
@@ -38,8 +39,9 @@ returns-in-Err-clause-exact g c = λ coded initial columns s grows told stands.
     let samples_are : window (n * conf.width) (plane_width conf plane) c.args.out.now ≡ samples =
     sym (ap (λ z. take z (drop (n * c.config.result.now.width) c.args.out.now)) (thick ∙ wide_is) ∙ ap (λ z. take (plane_width conf plane) (drop (n * z) c.args.out.now)) width_is) in
     let done = c.loop-index.invariant.handed coded initial s grows stands in
-    one_refused g.S.LineSink.takes g.S.LineSink.refuses a coded initial line.row line.first line.y s n c.loop-index.sink c.hand_line.new.sink samples done (stands n few ∙ samples_are) columns line.count c.in-Err.fault few told
-    c.in-Err.ensures.err.0 c.in-Err.ensures.err.1
+    let p = err_from_is_err_and c.from_residual.result c.from_residual.ensures.1 in
+    rw (p.1, p.2) (one_refused g.S.LineSink.takes g.S.LineSink.refuses a coded initial line.row line.first line.y s n c.loop-index.sink c.hand_line.new.sink samples done (stands n few ∙ samples_are) columns line.count c.in_err-hand_line.field-0.0 few told
+    c.in_err-hand_line.ensures.err.0 c.in_err-hand_line.ensures.err.1)
 
 pub loop-index-preserved : goal.loop-index-preserved
 loop-index-preserved g c =
@@ -56,12 +58,12 @@ loop-index-preserved g c =
     let samples_are : window (n * conf.width) (plane_width conf plane) c.args.out.now ≡ samples =
     sym (ap (λ z. take z (drop (n * c.config.result.now.width) c.args.out.now)) (thick ∙ wide_is) ∙ ap (λ z. take (plane_width conf plane) (drop (n * z) c.args.out.now)) width_is) in
     record {
-      counted = c.in-Ok.ensures.counted ∙ c.loop-index.invariant.counted;
+      counted = c.in_ok-hand_line.ensures.counted ∙ c.loop-index.invariant.counted;
       handed = λ coded initial s grows stands.
           let done = c.loop-index.invariant.handed coded initial s grows stands in
           let next : suc n ≡ n + 1 = omega arith in
           subst (λ z. Handed g.S.LineSink.takes g.S.LineSink.refuses a coded initial line.row line.first z line.y c.hand_line.new.sink s) next
-          (one_handed g.S.LineSink.takes g.S.LineSink.refuses a coded initial line.row line.first line.y s n c.loop-index.sink c.hand_line.new.sink samples done (stands n few ∙ samples_are) c.in-Ok.ensures.ok);
+          (one_handed g.S.LineSink.takes g.S.LineSink.refuses a coded initial line.row line.first line.y s n c.loop-index.sink c.hand_line.new.sink samples done (stands n few ∙ samples_are) c.in_ok-hand_line.ensures.ok);
     }
 
 pub returns-clause-exact : goal.returns-clause-exact

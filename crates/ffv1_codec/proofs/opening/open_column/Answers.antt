@@ -1,4 +1,5 @@
 use Rattle.std.proofs.Common.{rules, ◌≡◌, ℕ, ◌+◌, ◌-◌, ◌<◌, ◌≤◌, refl, Some, length, replicate, ◌++◌, arith}
+use Rattle.std.proofs.lemmas.Result.{err_from_is_err_and}
 use Rattle.ffv1_codec.specs.Stands.{window}
 use Rattle.ffv1_range.specs.Codes.{value}
 use Rattle.ffv1_range.specs.History.{HasStates}
@@ -20,8 +21,8 @@ slice_bounds-new-end g c =
     let inside : end ≤ length c.args.frame.now.payload.now = ends_inside a c.args.frame.now.payload.now cut n begin end c.requires.cut known.0 known.1 c.requires.slice in
     inside
 
-pub returns-in-Err-clause-exact : goal.returns-in-Err-clause-exact
-returns-in-Err-clause-exact g c =
+pub returns-in_default-clause-exact : goal.returns-in_default-clause-exact
+returns-in_default-clause-exact g c =
     let a = c.args.frame.now.checked.now in
     let n = c.args.slice in
     let begin = c.unwrap-begin.result.0 in
@@ -32,7 +33,7 @@ returns-in-Err-clause-exact g c =
     let known = span_known cut n c.unwrap-begin.result next found in
     let inside : end ≤ length c.args.frame.now.payload.now = ends_inside a c.args.frame.now.payload.now cut n begin end c.requires.cut known.0 known.1 c.requires.slice in
     let bytes = window begin (end - begin) c.args.frame.now.payload.now in
-    let bad : 65280 ≤ value bytes 2 = c.in-Err.ensures.refused.0 refl in
+    let bad : 65280 ≤ value bytes 2 = c.in_default.ensures.refused.0 refl in
     column_bad a c.args.frame.now.payload.now cut n begin end c.requires.cut known.0 known.1 c.args.column.now c.args.first.now c.requires.closed (λ codes. let less = c.empty_list.ensures.only bytes codes in absurd (omega (arith, bad, less)))
 
 pub returns-then-agrees-clause-exact : goal.returns-then-agrees-clause-exact
@@ -47,11 +48,11 @@ returns-then-agrees-clause-exact g c =
     let known = span_known cut n c.unwrap-begin.result next found in
     let inside : end ≤ length c.args.frame.now.payload.now = ends_inside a c.args.frame.now.payload.now cut n begin end c.requires.cut known.0 known.1 c.requires.slice in
     let old_is : c.in-Ok.decoder.bytes ≡ window begin (end - begin) c.args.frame.now.payload.now = c.in-Ok.ensures.bytes in
-    let below = opening_below c.two_parts.ensures.below c.slots.ensures.unsigned c.slots.ensures.shifted a.configuration n c.in-Ok-read.head in
-    let has : (slots : ℕ) → HasStates a.table (replicate slots 128) 33 (key_steps n ++ head_steps a.configuration n c.in-Ok-read.head) =
-    λ slots. fresh_has c.kept_states.ensures.fresh c.kept_states.ensures.others a.table (key_steps n ++ head_steps a.configuration n c.in-Ok-read.head) slots below in
+    let below = opening_below c.two_parts.ensures.below c.slots.ensures.unsigned c.slots.ensures.shifted a.configuration n c.in_ok-head.head in
+    let has : (slots : ℕ) → HasStates a.table (replicate slots 128) 33 (key_steps n ++ head_steps a.configuration n c.in_ok-head.head) =
+    λ slots. fresh_has c.kept_states.ensures.fresh c.kept_states.ensures.others a.table (key_steps n ++ head_steps a.configuration n c.in_ok-head.head) slots below in
     let agreed = c.if-agrees.ensures.yes refl in
-    rw c.park.ensures (column_opened a c.args.frame.now.payload.now cut n begin end c.requires.cut known.0 known.1 c.in-Ok.decoder c.read_head-read.new.decoder old_is c.in-Ok-read.head.indexes c.in-Ok-read.head c.args.first.now c.agrees.new.first refl c.in-Ok-read.ensures.ok agreed.0 agreed.1 has)
+    rw c.park.ensures (column_opened a c.args.frame.now.payload.now cut n begin end c.requires.cut known.0 known.1 c.in-Ok.decoder c.read_head-read.new.decoder old_is c.in_ok-head.head.indexes c.in_ok-head.head c.args.first.now c.agrees.new.first refl c.in_ok-head.ensures.ok agreed.0 agreed.1 has)
 
 pub returns-then-agrees-clause-open : goal.returns-then-agrees-clause-open
 returns-then-agrees-clause-open g c =
@@ -64,16 +65,16 @@ returns-then-agrees-clause-open g c =
     let found : span_of cut n ≡ Some c.unwrap-begin.result = search rules in
     let known = span_known cut n c.unwrap-begin.result next found in
     let inside : end ≤ length c.args.frame.now.payload.now = ends_inside a c.args.frame.now.payload.now cut n begin end c.requires.cut known.0 known.1 c.requires.slice in
-    let head = c.in-Ok-read.ensures.head in
+    let head = c.in_ok-head.ensures.head in
     record {
       parked = refl;
       rises = begins_before a c.args.frame.now.payload.now cut n begin end c.requires.cut known.0 known.1 c.requires.slice;
       inside = inside;
-      index = indexes_few a.configuration.extra_plane (length a.configuration.sets) c.in-Ok-read.head.indexes (omega (arith, head.first)) head.first head.second head.third;
+      index = indexes_few a.configuration.extra_plane (length a.configuration.sets) c.in_ok-head.head.indexes (omega (arith, head.first)) head.first head.second head.third;
     }
 
-pub returns-else-agrees-clause-exact : goal.returns-else-agrees-clause-exact
-returns-else-agrees-clause-exact g c =
+pub returns-clause-exact : goal.returns-clause-exact
+returns-clause-exact g c =
     let a = c.args.frame.now.checked.now in
     let n = c.args.slice in
     let begin = c.unwrap-begin.result.0 in
@@ -85,10 +86,10 @@ returns-else-agrees-clause-exact g c =
     let inside : end ≤ length c.args.frame.now.payload.now = ends_inside a c.args.frame.now.payload.now cut n begin end c.requires.cut known.0 known.1 c.requires.slice in
     let old_is : c.in-Ok.decoder.bytes ≡ window begin (end - begin) c.args.frame.now.payload.now = c.in-Ok.ensures.bytes in
     let differs = c.if-agrees.ensures.no refl in
-    rw c.park.ensures (column_differs a c.args.frame.now.payload.now cut n begin end c.requires.cut known.0 known.1 c.in-Ok.decoder c.read_head-read.new.decoder old_is c.counted_from_nothing.ensures _ c.in-Ok-read.head c.args.first.now differs.0 refl c.in-Ok-read.ensures.ok differs.1 differs.2)
+    rw c.park.ensures (column_differs a c.args.frame.now.payload.now cut n begin end c.requires.cut known.0 known.1 c.in-Ok.decoder c.read_head-read.new.decoder old_is c.counted_from_nothing.ensures _ c.in_ok-head.head c.args.first.now differs.0 refl c.in_ok-head.ensures.ok differs.1 differs.2)
 
-pub returns-in-Err-read-clause-exact : goal.returns-in-Err-read-clause-exact
-returns-in-Err-read-clause-exact g c =
+pub returns-in_err-head-clause-exact : goal.returns-in_err-head-clause-exact
+returns-in_err-head-clause-exact g c =
     let a = c.args.frame.now.checked.now in
     let n = c.args.slice in
     let begin = c.unwrap-begin.result.0 in
@@ -99,4 +100,5 @@ returns-in-Err-read-clause-exact g c =
     let known = span_known cut n c.unwrap-begin.result next found in
     let inside : end ≤ length c.args.frame.now.payload.now = ends_inside a c.args.frame.now.payload.now cut n begin end c.requires.cut known.0 known.1 c.requires.slice in
     let old_is : c.in-Ok.decoder.bytes ≡ window begin (end - begin) c.args.frame.now.payload.now = c.in-Ok.ensures.bytes in
-    rw c.park.ensures (column_stopped a c.args.frame.now.payload.now cut n begin end c.requires.cut known.0 known.1 c.in-Ok.decoder c.read_head-read.new.decoder old_is c.counted_from_nothing.ensures _ c.args.first.now c.in-Err-read.fault refl c.in-Err-read.ensures.err)
+    let stop = err_from_is_err_and c.from_residual.result c.from_residual.ensures.1 in
+    rw (stop.1, stop.2) (rw c.park.ensures (column_stopped a c.args.frame.now.payload.now cut n begin end c.requires.cut known.0 known.1 c.in-Ok.decoder c.read_head-read.new.decoder old_is c.counted_from_nothing.ensures _ c.args.first.now c.in_err-head.field-0.0 refl c.in_err-head.ensures.err))

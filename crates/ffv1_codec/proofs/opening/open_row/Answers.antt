@@ -53,7 +53,7 @@ loop-k-preserved g c =
     let now : column_at (slice_set c.loop-k.columns n c.open_column.new.column) n ≡ c.open_column.new.column = get_or-set_same c.loop-k.columns n c.open_column.new.column no_column few in
     let other : (j : ℕ) → j ≢ n → column_at (slice_set c.loop-k.columns n c.open_column.new.column) j ≡ column_at c.loop-k.columns j =
     λ j apart. get_or-set_other c.loop-k.columns n j c.open_column.new.column no_column apart in
-    let opened = subst (λ z. ColumnOpened a coded c.args.frame.now.payload.now z c.open_column.new.column c.loop-k.first c.open_column.new.first) number c.in-Ok.ensures.exact in
+    let opened = subst (λ z. ColumnOpened a coded c.args.frame.now.payload.now z c.open_column.new.column c.loop-k.first c.open_column.new.first) number c.in_default.ensures.exact in
     record {
       closed = λ j from h.
           let apart : j ≢ n = omega (arith, from) in
@@ -61,7 +61,7 @@ loop-k-preserved g c =
           ap (λ z. z.parked) (other j apart) ∙ c.loop-k.invariant.closed j (omega (arith, from)) h;
       opened = λ j h. elim (cases_eq j n) [
         | inl here ↦ subst (λ z. IsOpen c.args.frame.now.payload.now conf.sets (column_at (slice_set c.loop-k.columns n c.open_column.new.column) z)) (sym here)
-            (subst (IsOpen c.args.frame.now.payload.now conf.sets) (sym now) c.in-Ok.ensures.open)
+            (subst (IsOpen c.args.frame.now.payload.now conf.sets) (sym now) c.in_default.ensures.open)
         | inr apart ↦ subst (IsOpen c.args.frame.now.payload.now conf.sets) (sym (other j apart)) (c.loop-k.invariant.opened j (omega (arith, h, apart)))
       ];
       known = λ h. subst IsSome (sym opened.says) refl;

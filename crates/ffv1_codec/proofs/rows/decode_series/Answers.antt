@@ -1,4 +1,5 @@
 use Rattle.std.proofs.Common.{rules, ◌≡◌, suc, ◌+◌, ◌-◌, ◌*◌, ◌<◌, ◌∙◌, ap, subst, refl, length, take, drop, replicate, arith}
+use Rattle.std.proofs.lemmas.Result.{err_from_is_err_and}
 use Rattle.std.proofs.lemmas.List.{take-replicate, drop-replicate}
 use Rattle.ffv1_codec.specs.Order.{lines_down}
 use Rattle.ffv1_codec.specs.Decoding.{top_of}
@@ -10,19 +11,19 @@ use Rattle.ffv1_codec.proofs.rows.decode_series.Goals as goal
 pub overflow_sub-y-end : goal.overflow_sub-y-end
 overflow_sub-y-end g c =
     let conf = c.args.frame.now.checked.now.configuration in
-    let p = c.args.first in
+    let p = c.args.planes.now.first in
     let are = c.places.ensures.down conf c.args.frame.now.checked.now.table p c.requires.frame.accepted in
-    let top : c.top-top.result ≡ top_of conf p c.args.row = rw c.requires.frame.grid at c.top-top.ensures in
-    let bottom : c.top-bottom.result ≡ top_of conf p (c.args.row + 1) = rw c.requires.frame.grid at c.top-bottom.ensures in
-    let bottom : c.top-bottom.result ≡ top_of conf p (suc c.args.row) = bottom ∙ ap (top_of conf p) (let same : c.args.row + 1 ≡ suc c.args.row = omega arith in same) in
-    let next = are.next c.args.row c.requires.row in
+    let top : c.top-top.result ≡ top_of conf p c.args.planes.now.row = rw c.requires.frame.grid at c.top-top.ensures in
+    let bottom : c.top-bottom.result ≡ top_of conf p (c.args.planes.now.row + 1) = rw c.requires.frame.grid at c.top-bottom.ensures in
+    let bottom : c.top-bottom.result ≡ top_of conf p (suc c.args.planes.now.row) = bottom ∙ ap (top_of conf p) (let same : c.args.planes.now.row + 1 ≡ suc c.args.planes.now.row = omega arith in same) in
+    let next = are.next c.args.planes.now.row c.requires.row in
     omega (arith, top, bottom, next)
 
 pub loop-y-init : goal.loop-y-init
 loop-y-init g c =
     let a = c.args.frame.now.checked.now in
     let conf = a.configuration in
-    let p = c.args.first in
+    let p = c.args.planes.now.first in
     let payload = c.args.frame.now.payload.now in
     let takes = g.S.LineSink.takes in
     let refuses = g.S.LineSink.refuses in
@@ -36,11 +37,12 @@ loop-y-init g c =
       two_long = search rules;
       one_long = search rules;
       cur_long = search rules;
+      same = record { columns = refl; states = refl };
       opened = c.requires.open;
       held = c.requires.held;
       counted = refl;
       lines = λ coded initial s tied grows.
-          none_decoded takes refuses a coded initial c.args.row payload p c.args.count s c.args.columns.now c.args.states.now (length c.args.out.now) c.split_at_mut-two.result.0.now c.split_at_mut-one.result.0.now c.args.sink.now
+          none_decoded takes refuses a coded initial c.args.planes.now.row payload p c.args.planes.now.count s c.args.slices.now.columns.items c.args.slices.now.states.items (length c.args.out.now) c.split_at_mut-two.result.0.now c.split_at_mut-one.result.0.now c.args.sink.now
           c.cell_is_read.ensures.top (λ q. c.places.ensures.across conf a.table q c.requires.frame.accepted) two_is one_is c.requires.out_long tied grows;
     }
 
@@ -48,46 +50,47 @@ pub decode_whole_line-requires-clause-y : goal.decode_whole_line-requires-clause
 decode_whole_line-requires-clause-y g c =
     let a = c.args.frame.now.checked.now in
     let conf = a.configuration in
-    let p = c.args.first in
+    let p = c.args.planes.now.first in
     let payload = c.args.frame.now.payload.now in
     let takes = g.S.LineSink.takes in
     let refuses = g.S.LineSink.refuses in
     let are = c.places.ensures.down conf c.args.frame.now.checked.now.table p c.requires.frame.accepted in
-    let top : c.top-top.result ≡ top_of conf p c.args.row = rw c.requires.frame.grid at c.top-top.ensures in
-    let bottom : c.top-bottom.result ≡ top_of conf p (c.args.row + 1) = rw c.requires.frame.grid at c.top-bottom.ensures in
-    let bottom : c.top-bottom.result ≡ top_of conf p (suc c.args.row) = bottom ∙ ap (top_of conf p) (let same : c.args.row + 1 ≡ suc c.args.row = omega arith in same) in
-    let next = are.next c.args.row c.requires.row in
-    let height : c.top-bottom.result - c.top-top.result ≡ lines_down conf p c.args.row = omega (arith, top, bottom, next) in
-    let inside : c.loop-y.y < lines_down conf p c.args.row = omega (arith, height) in
+    let top : c.top-top.result ≡ top_of conf p c.args.planes.now.row = rw c.requires.frame.grid at c.top-top.ensures in
+    let bottom : c.top-bottom.result ≡ top_of conf p (c.args.planes.now.row + 1) = rw c.requires.frame.grid at c.top-bottom.ensures in
+    let bottom : c.top-bottom.result ≡ top_of conf p (suc c.args.planes.now.row) = bottom ∙ ap (top_of conf p) (let same : c.args.planes.now.row + 1 ≡ suc c.args.planes.now.row = omega arith in same) in
+    let next = are.next c.args.planes.now.row c.requires.row in
+    let height : c.top-bottom.result - c.top-top.result ≡ lines_down conf p c.args.planes.now.row = omega (arith, top, bottom, next) in
+    let inside : c.loop-y.y < lines_down conf p c.args.planes.now.row = omega (arith, height) in
     λ i h.
-    let same = lines_alike conf p c.args.count i c.args.row c.requires.together (λ e. (c.accepted_parts.ensures.rct conf a.table c.requires.frame.accepted (rct_is conf.colour e)).2) h in
+    let same = lines_alike conf p c.args.planes.now.count i c.args.planes.now.row c.requires.together (λ e. (c.accepted_parts.ensures.rct conf a.table c.requires.frame.accepted (rct_is conf.colour e)).2) h in
     omega (arith, same, inside)
 
-pub returns-in-Err-clause-exact : goal.returns-in-Err-clause-exact
-returns-in-Err-clause-exact g c = λ coded initial s tied grows.
+pub returns-in_err-decode_whole_line-clause-exact : goal.returns-in_err-decode_whole_line-clause-exact
+returns-in_err-decode_whole_line-clause-exact g c = λ coded initial s tied grows.
     let a = c.args.frame.now.checked.now in
     let conf = a.configuration in
-    let p = c.args.first in
+    let p = c.args.planes.now.first in
     let payload = c.args.frame.now.payload.now in
     let takes = g.S.LineSink.takes in
     let refuses = g.S.LineSink.refuses in
     let are = c.places.ensures.down conf c.args.frame.now.checked.now.table p c.requires.frame.accepted in
-    let top : c.top-top.result ≡ top_of conf p c.args.row = rw c.requires.frame.grid at c.top-top.ensures in
-    let bottom : c.top-bottom.result ≡ top_of conf p (c.args.row + 1) = rw c.requires.frame.grid at c.top-bottom.ensures in
-    let bottom : c.top-bottom.result ≡ top_of conf p (suc c.args.row) = bottom ∙ ap (top_of conf p) (let same : c.args.row + 1 ≡ suc c.args.row = omega arith in same) in
-    let next = are.next c.args.row c.requires.row in
-    let height : c.top-bottom.result - c.top-top.result ≡ lines_down conf p c.args.row = omega (arith, top, bottom, next) in
+    let top : c.top-top.result ≡ top_of conf p c.args.planes.now.row = rw c.requires.frame.grid at c.top-top.ensures in
+    let bottom : c.top-bottom.result ≡ top_of conf p (c.args.planes.now.row + 1) = rw c.requires.frame.grid at c.top-bottom.ensures in
+    let bottom : c.top-bottom.result ≡ top_of conf p (suc c.args.planes.now.row) = bottom ∙ ap (top_of conf p) (let same : c.args.planes.now.row + 1 ≡ suc c.args.planes.now.row = omega arith in same) in
+    let next = are.next c.args.planes.now.row c.requires.row in
+    let height : c.top-bottom.result - c.top-top.result ≡ lines_down conf p c.args.planes.now.row = omega (arith, top, bottom, next) in
     let before = c.loop-y.invariant.lines coded initial s tied grows in
-    let planes = planes_any conf p c.args.count c.loop-y.y c.loop-y.two.now c.loop-y.one.now c.loop-y.one.now c.loop-y.cur.now before.state before.planes_are in
-    let made = c.in-Err.ensures.exact coded (p + c.args.count) initial before.state (omega arith) before.columns_are planes before.grows in
-    let inside : c.loop-y.y < lines_down conf p c.args.row = omega (arith, height) in
-    one_fails takes refuses a coded initial c.args.row payload p c.args.count s c.loop-y.y c.loop-y.columns c.loop-y.states c.loop-y.two.now c.loop-y.one.now c.loop-y.sink before (lines_down conf p c.args.row) c.decode_whole_line.new.columns c.in-Err.fault c.decode_whole_line.new.sink inside made
+    let planes = planes_any conf p c.args.planes.now.count c.loop-y.y c.loop-y.two.now c.loop-y.one.now c.loop-y.one.now c.loop-y.cur.now before.state before.planes_are in
+    let made = c.in_err-decode_whole_line.ensures.exact coded (p + c.args.planes.now.count) initial before.state (omega arith) before.columns_are planes before.grows in
+    let inside : c.loop-y.y < lines_down conf p c.args.planes.now.row = omega (arith, height) in
+    let stop = err_from_is_err_and c.from_residual.result c.from_residual.ensures.1 in
+    rw (stop.1, stop.2) (one_fails takes refuses a coded initial c.args.planes.now.row payload p c.args.planes.now.count s c.loop-y.y c.loop-y.slices.columns.items c.loop-y.slices.states.items c.loop-y.two.now c.loop-y.one.now c.loop-y.sink before (lines_down conf p c.args.planes.now.row) c.decode_whole_line.new.slices.columns.items c.in_err-decode_whole_line.field-0.0 c.decode_whole_line.new.sink inside made)
 
 pub loop-y-preserved : goal.loop-y-preserved
 loop-y-preserved g c =
     let a = c.args.frame.now.checked.now in
     let conf = a.configuration in
-    let p = c.args.first in
+    let p = c.args.planes.now.first in
     let payload = c.args.frame.now.payload.now in
     let takes = g.S.LineSink.takes in
     let refuses = g.S.LineSink.refuses in
@@ -95,32 +98,33 @@ loop-y-preserved g c =
       two_long = search rules;
       one_long = search rules;
       cur_long = search rules;
-      opened = c.in-Ok.ensures.open;
-      held = c.in-Ok.ensures.held;
-      counted = c.in-Ok.ensures.counted ∙ c.loop-y.invariant.counted;
+      same = record { columns = c.in_ok-decode_whole_line.ensures.same.columns ∙ c.loop-y.invariant.same.columns; states = c.in_ok-decode_whole_line.ensures.same.states ∙ c.loop-y.invariant.same.states };
+      opened = c.in_ok-decode_whole_line.ensures.open;
+      held = c.in_ok-decode_whole_line.ensures.held;
+      counted = c.in_ok-decode_whole_line.ensures.counted ∙ c.loop-y.invariant.counted;
       lines = λ coded initial s tied grows.
           let before = c.loop-y.invariant.lines coded initial s tied grows in
-          let planes = planes_any conf p c.args.count c.loop-y.y c.loop-y.two.now c.loop-y.one.now c.loop-y.one.now c.loop-y.cur.now before.state before.planes_are in
-          let made = c.in-Ok.ensures.exact coded (p + c.args.count) initial before.state (omega arith) before.columns_are planes before.grows in
+          let planes = planes_any conf p c.args.planes.now.count c.loop-y.y c.loop-y.two.now c.loop-y.one.now c.loop-y.one.now c.loop-y.cur.now before.state before.planes_are in
+          let made = c.in_ok-decode_whole_line.ensures.exact coded (p + c.args.planes.now.count) initial before.state (omega arith) before.columns_are planes before.grows in
           let next : suc c.loop-y.y ≡ c.loop-y.y + 1 = omega arith in
-          subst (λ n. LinesDecoded takes refuses a coded initial c.args.row (p + c.args.count) payload p c.args.count n c.decode_whole_line.new.columns c.decode_whole_line.new.states c.loop-y.one.now c.decode_whole_line.new.cur c.decode_whole_line.new.sink s) next
-          (one_decoded takes refuses a coded initial c.args.row payload p c.args.count s c.loop-y.y c.loop-y.columns c.loop-y.states c.loop-y.two.now c.loop-y.one.now c.loop-y.sink before c.decode_whole_line.new.columns c.decode_whole_line.new.states c.decode_whole_line.new.cur c.decode_whole_line.new.sink made);
+          subst (λ n. LinesDecoded takes refuses a coded initial c.args.planes.now.row (p + c.args.planes.now.count) payload p c.args.planes.now.count n c.decode_whole_line.new.slices.columns.items c.decode_whole_line.new.slices.states.items c.loop-y.one.now c.decode_whole_line.new.cur c.decode_whole_line.new.sink s) next
+          (one_decoded takes refuses a coded initial c.args.planes.now.row payload p c.args.planes.now.count s c.loop-y.y c.loop-y.slices.columns.items c.loop-y.slices.states.items c.loop-y.two.now c.loop-y.one.now c.loop-y.sink before c.decode_whole_line.new.slices.columns.items c.decode_whole_line.new.slices.states.items c.decode_whole_line.new.cur c.decode_whole_line.new.sink made);
     }
 
 pub returns-clause-exact : goal.returns-clause-exact
 returns-clause-exact g c = λ coded initial s tied grows.
     let a = c.args.frame.now.checked.now in
     let conf = a.configuration in
-    let p = c.args.first in
+    let p = c.args.planes.now.first in
     let payload = c.args.frame.now.payload.now in
     let takes = g.S.LineSink.takes in
     let refuses = g.S.LineSink.refuses in
     let are = c.places.ensures.down conf c.args.frame.now.checked.now.table p c.requires.frame.accepted in
-    let top : c.top-top.result ≡ top_of conf p c.args.row = rw c.requires.frame.grid at c.top-top.ensures in
-    let bottom : c.top-bottom.result ≡ top_of conf p (c.args.row + 1) = rw c.requires.frame.grid at c.top-bottom.ensures in
-    let bottom : c.top-bottom.result ≡ top_of conf p (suc c.args.row) = bottom ∙ ap (top_of conf p) (let same : c.args.row + 1 ≡ suc c.args.row = omega arith in same) in
-    let next = are.next c.args.row c.requires.row in
-    let height : c.top-bottom.result - c.top-top.result ≡ lines_down conf p c.args.row = omega (arith, top, bottom, next) in
+    let top : c.top-top.result ≡ top_of conf p c.args.planes.now.row = rw c.requires.frame.grid at c.top-top.ensures in
+    let bottom : c.top-bottom.result ≡ top_of conf p (c.args.planes.now.row + 1) = rw c.requires.frame.grid at c.top-bottom.ensures in
+    let bottom : c.top-bottom.result ≡ top_of conf p (suc c.args.planes.now.row) = bottom ∙ ap (top_of conf p) (let same : c.args.planes.now.row + 1 ≡ suc c.args.planes.now.row = omega arith in same) in
+    let next = are.next c.args.planes.now.row c.requires.row in
+    let height : c.top-bottom.result - c.top-top.result ≡ lines_down conf p c.args.planes.now.row = omega (arith, top, bottom, next) in
     let before = c.loop-y.invariant.lines coded initial s tied grows in
-    let all : c.loop-y.y ≡ lines_down conf p c.args.row = omega (arith, height) in
-    all_decoded takes refuses a coded initial c.args.row payload p c.args.count s c.loop-y.y c.loop-y.columns c.loop-y.states c.loop-y.two.now c.loop-y.one.now c.loop-y.sink before all
+    let all : c.loop-y.y ≡ lines_down conf p c.args.planes.now.row = omega (arith, height) in
+    all_decoded takes refuses a coded initial c.args.planes.now.row payload p c.args.planes.now.count s c.loop-y.y c.loop-y.slices.columns.items c.loop-y.slices.states.items c.loop-y.two.now c.loop-y.one.now c.loop-y.sink before all

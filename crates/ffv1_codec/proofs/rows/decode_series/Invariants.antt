@@ -1,6 +1,7 @@
 use Rattle.std.proofs.Common.{◌≡◌, ℕ, ◌+◌, List, length}
 use Rattle.ffv1_range.specs.Symbols.{AllHeld}
 use Rattle.ffv1_wire.specs.Runs.{Grows}
+use Rattle.ffv1_codec.specs.Buffers.{KeepsSlices}
 use Rattle.ffv1_codec.specs.Decoding.{State}
 use Rattle.ffv1_codec.specs.Tied.{AreOpen, TiedColumns}
 use Rattle.ffv1_codec.specs.Progress.{LinesDecoded}
@@ -11,10 +12,11 @@ invariant-loop-y g l = record {
   two_long : length l.two ≡ length l.out;
   one_long : length l.one ≡ length l.out;
   cur_long : length l.cur ≡ length l.out;
-  opened : AreOpen l.frame.payload.now l.frame.checked.now.configuration.sets l.columns;
-  held : AllHeld l.frame.checked.now.table l.states;
+  same : KeepsSlices l.fn.slices l.slices;
+  opened : AreOpen l.frame.payload.now l.frame.checked.now.configuration.sets l.slices.columns.items;
+  held : AllHeld l.frame.checked.now.table l.slices.states.items;
   counted : g.S.LineSink.failures l.sink ≡ g.S.LineSink.failures l.fn.sink;
-  lines : (coded : ℕ → List ℕ) (initial : _) (s : State) → TiedColumns l.frame.checked.now coded l.row l.first l.frame.payload.now l.fn.columns l.fn.states s →
+  lines : (coded : ℕ → List ℕ) (initial : _) (s : State) → TiedColumns l.frame.checked.now coded l.planes.row l.planes.first l.frame.payload.now l.fn.slices.columns.items l.fn.slices.states.items s →
       Grows g.S.LineSink.takes initial s.lines l.fn.sink →
-      LinesDecoded g.S.LineSink.takes g.S.LineSink.refuses l.frame.checked.now coded initial l.row (l.first + l.count) l.frame.payload.now l.first l.count l.y l.columns l.states l.two l.one l.sink s;
+      LinesDecoded g.S.LineSink.takes g.S.LineSink.refuses l.frame.checked.now coded initial l.planes.row (l.planes.first + l.planes.count) l.frame.payload.now l.planes.first l.planes.count l.y l.slices.columns.items l.slices.states.items l.two l.one l.sink s;
 }

@@ -1,0 +1,33 @@
+//! What a decoder of frames holds, and what of it its parts are lent.
+
+use crate::column::Column;
+use std::alloc::Allocator;
+
+/// The slices of a row, one in each column.
+#[derive(Drop)]
+pub struct Slices<A: Allocator> {
+    /// The decoder of each, and what its head says.
+    pub columns: Vec<Column, A>,
+    /// The states of each, one slice's behind the other's.
+    pub states: Vec<u8, A>,
+}
+
+/// What a frame is decoded in, whatever its height.
+#[derive(Drop)]
+pub struct Buffers<A: Allocator> {
+    /// The slices of a row.
+    pub slices: Slices<A>,
+    /// Three lines of the planes that are coded together: two that were read, and one that is.
+    pub lines: Vec<u16, A>,
+    /// A line as it is handed over.
+    pub out: Vec<u8, A>,
+}
+
+/// The two lines above one that is read.
+#[derive(Clone, Copy)]
+pub struct Above<'a> {
+    /// The upper one.
+    pub two: &'a [u16],
+    /// The lower one.
+    pub one: &'a [u16],
+}

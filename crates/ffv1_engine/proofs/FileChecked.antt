@@ -1,0 +1,254 @@
+-- A file is checked.
+use Rattle.std.proofs.Common.{◌≡◌, refl, ℕ, suc, ◌+◌, ◌<◌, ◌≤◌, Bool, Option, Some, None, Result, Ok, Err, List, [], ◌∷◌, ◌++◌, length, take, inl, inr, ap, sym, subst, ◌∙◌, arith, length-append}
+use Rattle.std.specs.Io.KnownBytes.{Appends}
+use Rattle.std.proofs.KnownBytes.{Appends-trans, Appends-kept, Keeps-refl}
+use Rattle.std.proofs.lemmas.List.{take-append-le}
+use Rattle.ffv1_range.specs.Counts.{saturated}
+use Rattle.ffv1_wire.specs.Failures.{one_more}
+use Rattle.ffv1_wire.specs.Passage.{between}
+use Rattle.ffv1_record.specs.Accepted.{Accepted}
+use Rattle.ffv1_record.specs.Configuration.{Configuration}
+use Rattle.ffv1_avi.specs.Chunks.{AviFile}
+use Rattle.ffv1_avi.specs.Files.{file_read, frame_read, frames_read, more_frames}
+use Rattle.ffv1_avi.specs.Head.{Head}
+use Rattle.ffv1_avi.specs.Readers.{Standing}
+use Rattle.ffv1_avi.specs.Reads as avi
+use Rattle.ffv1_engine.specs.declared.fault.Fault.{Fault}
+use Rattle.ffv1_engine.specs.declared.fault.Fault.TheVariants as fault
+use Rattle.ffv1_engine.specs.declared.frame_line.FrameLine.TheVariants as line
+use Rattle.ffv1_engine.specs.Check.{CheckDone, CheckLineFails, CheckPayload, CheckStops, CheckStopsBy, ChecksSome, check_text, count_line}
+use Rattle.ffv1_engine.specs.Faults.{Cause, cause_of}
+use Rattle.ffv1_engine.specs.Faults.Cause.{Reading, Writing, Memory, Content}
+use Rattle.ffv1_engine.specs.FrameLines.{frame_line, frame_lines, lines_from}
+use Rattle.ffv1_engine.specs.Opens.{LacksOpeningBy, OpensKnown, OpensStream, stream_of}
+use Rattle.ffv1_engine.specs.Play.{BeginsSome, End, EndsKnown, Played, but_last}
+use Rattle.ffv1_engine.specs.Play.End.{File, Payload, Over}
+use Rattle.ffv1_engine.specs.Stream.{AreFrames, Frame, ReadsFile, ReadsFrames, Stream, payloads}
+use Rattle.ffv1_engine.specs.Told.{EndsMovi, LineFails, PayloadStops, ReadsSome, TellingStops, TellingStopsBy, ToldAll, ToldSome, WritesFrame}
+use Rattle.ffv1_engine.proofs.FramesTold.{take_past}
+
+fewer_lines : (c : Configuration) (i : ℕ) (frames : List Frame) → length (lines_from line.Sizes c i (but_last frames)) ≤ length (lines_from line.Sizes c i frames)
+fewer_lines c i [] = omega arith
+fewer_lines c i (f ∷ []) = omega arith
+fewer_lines c i (f ∷ g ∷ gs) =
+    let here = frame_line line.Sizes c (saturated i) f.payload f.tally in
+    let fewer = length-append here (lines_from line.Sizes c (suc i) (but_last (g ∷ gs))) in
+    let all = length-append here (lines_from line.Sizes c (suc i) (g ∷ gs)) in
+    let rest = fewer_lines c (suc i) (g ∷ gs) in
+    omega (arith, fewer, all, rest)
+
+-- behind the head frames begin, or end, as they do in movi
+pub begins_some : (old mid : Option (List ℕ)) (s : Stream) (left : ℕ) (frames : List Frame) → OpensKnown old mid s.head left → ReadsSome left mid frames → BeginsSome old s frames
+begins_some None mid s left frames opens reads = tt
+begins_some (Some file) None s left frames opens reads = absurd opens
+begins_some (Some file) (Some behind) s left frames opens reads = (reads.0, reads.1, record { most = left; behind = behind; opened = opens; read = reads.2 })
+
+pub ends_known : (old mid new : Option (List ℕ)) (s : Stream) (left : ℕ) (frames : List Frame) (e : End) → OpensKnown old mid s.head left → EndsMovi left mid new frames e → EndsKnown old new s frames e
+ends_known None mid new s left frames e opens ends = tt
+ends_known (Some file) None new s left frames e opens ends = absurd opens
+ends_known (Some file) (Some behind) None s left frames e opens ends = absurd ends
+ends_known (Some file) (Some behind) (Some rest) s left frames e opens ends =
+    (ends.0, ends.1, record { most = left; behind = behind; opened = opens; read = ends.2 }, ends.3)
+
+some_of_end : (left : ℕ) (old new : Option (List ℕ)) (frames : List Frame) (e : End) → EndsMovi left old new frames e → ReadsSome left old frames
+some_of_end left None new frames e ends = tt
+some_of_end left (Some text) None frames e ends = absurd ends
+some_of_end left (Some text) (Some rest) frames e ends = (ends.0, ends.1, ends.2)
+
+module _ (next : (left : ℕ) (text : List ℕ) → frames_read left text ≡ avi.read_on (frame_read left text) (more_frames frames_read))
+    (is_file : (file : List ℕ) (head : Head) (frames : List (List ℕ)) (rest : List ℕ) → file_read file ≡ Ok ((head, frames), rest) → AviFile file head frames)
+    (is_read : (file : List ℕ) (head : Head) (frames : List (List ℕ)) (is : AviFile file head frames) → file_read file ≡ Ok ((head, frames), is.rest)) where
+  all_read : (left : ℕ) (text : List ℕ) (frames : List Frame) (least : ℕ) (at rest : List ℕ) → ReadsFrames left text (payloads frames) least at → frame_read least at ≡ Ok (None, rest) →
+      frames_read left text ≡ Ok (payloads frames, rest)
+  all_read left text [] least at rest h over =
+      let here : frame_read left text ≡ Ok (None, rest) = subst (λ l. frame_read l text ≡ Ok (None, rest)) h.0 (subst (λ t. frame_read least t ≡ Ok (None, rest)) h.1 over) in
+      next left text ∙ ap (λ z. avi.read_on z (more_frames frames_read)) here
+  all_read left text (f ∷ fs) least at rest h over =
+      next left text ∙ ap (λ z. avi.read_on z (more_frames frames_read)) h.2
+      ∙ ap (λ z. avi.read_on z (λ frames. avi.given (f.payload ∷ frames))) (all_read h.0 h.1 fs least at rest h.3 over)
+
+  same_pair : {X : Type 0} (p q : X × List ℕ) (r : Result (X × List ℕ) avi.Stop) → r ≡ Ok p → r ≡ Ok q → p ≡ q
+  same_pair p q r e f = cc
+
+  same_rest : {X : Type 0} (x y : X) (rest more : List ℕ) (r : Result (X × List ℕ) avi.Stop) → r ≡ Ok (x, rest) → r ≡ Ok (y, more) → rest ≡ more
+  same_rest {X = X} x y rest more r e f = ap (λ (z : X × List ℕ). z.1) (same_pair (x, rest) (y, more) r e f)
+
+  pub reads_file : (old mid new : Option (List ℕ)) (s : Stream) (left : ℕ) (frames : List Frame) → OpensKnown old mid s.head left → EndsMovi left mid new frames Over → ReadsFile old new s frames
+  reads_file None mid new s left frames opens ends = tt
+  reads_file (Some file) None new s left frames opens ends = absurd opens
+  reads_file (Some file) (Some behind) None s left frames opens ends = absurd ends
+  reads_file (Some file) (Some behind) (Some rest) s left frames opens ends =
+      let movi = all_read left behind frames ends.0 ends.1 rest ends.2 ends.3 in
+      let whole : file_read file ≡ Ok ((s.head, payloads frames), rest) =
+      ap (λ z. avi.read_on z (λ (p : Head × ℕ) (text : List ℕ). avi.read_on (frames_read p.1 text) (λ frames. avi.given (p.0, frames)))) opens ∙ ap (λ z. avi.read_on z (λ frames. avi.given (s.head, frames))) movi in
+      let is = is_file file s.head (payloads frames) rest whole in
+      (is, same_rest (s.head, payloads frames) (s.head, payloads frames) rest is.rest (file_read file) whole (is_read file s.head (payloads frames) is))
+
+module _ (place : Bool) (i0 i1 i2 o0 o1 o2 : Option (List ℕ)) (ib im ia ob om oa : ℕ) where
+  -- a file that is not opened
+  pub lacks_opening : (f : Fault) (why : Cause) → LacksOpeningBy (between i0 i1 ib im) f why → CheckStopsBy place (between i0 i1 ib im) (between o0 o0 ob ob) f why
+  lacks_opening f Writing h = absurd h
+  lacks_opening f Reading h = (inl (record { written = refl; none = Keeps-refl o0 }), h)
+  lacks_opening f Memory h = (inl (record { written = refl; none = Keeps-refl o0 }), h)
+  lacks_opening f Content h = (h.0, inl (record { written = refl; none = Keeps-refl o0 }, h.1))
+
+  module _ (r : Standing) (a : Accepted) (opens : OpensStream r a (between i0 i1 ib im)) where
+    played : (frames : List Frame) → AreFrames a frames → Played (stream_of r a) frames
+    played frames are = record { stream = opens.stream; decoded = are }
+
+    some : (frames : List Frame) → ToldSome line.Sizes place a r.left (between i1 i2 im ia) (between o0 o1 ob om) frames → ChecksSome place (between i0 i2 ib ia) (between o0 o1 ob om) (stream_of r a) frames
+    some frames told = record {
+      played = played frames told.are;
+      begins = begins_some i0 i1 (stream_of r a) r.left frames opens.known told.begins;
+      written = told.written;
+      writes = told.writes;
+    }
+
+    -- writing stopped within the lines
+    short_text : (frames : List Frame) (k : ℕ) → k < length (frame_lines line.Sizes a.configuration frames) →
+        take k (frame_lines line.Sizes a.configuration frames) ≡ take k (check_text a.configuration frames)
+    short_text frames k short =
+        let most : k ≤ length (frame_lines line.Sizes a.configuration frames) = omega (arith, short) in
+        sym (take-append-le k (frame_lines line.Sizes a.configuration frames) (count_line (saturated (length frames))) most)
+
+    line_fails : (frames : List Frame) → LineFails line.Sizes place a r.left (between i1 i2 im ia) (between o0 o1 ob om) frames → CheckLineFails place (between i0 i2 ib ia) (between o0 o1 ob om)
+    line_fails frames h =
+        let lines = frame_lines line.Sizes a.configuration frames in
+        let long : length (lines ++ count_line (saturated (length frames))) ≡ length lines + length (count_line (saturated (length frames))) = length-append lines (count_line (saturated (length frames))) in
+        record {
+          stream = stream_of r a;
+          frames = frames;
+          played = played frames h.are;
+          begins = begins_some i0 i1 (stream_of r a) r.left frames opens.known h.begins;
+          kept = h.kept ∙ opens.kept;
+          written = h.written;
+          writes = record {
+            count = h.writes.count;
+            enough = h.writes.enough;
+            short = omega (arith, h.writes.short, long);
+            writes = subst (Appends o0 o1) (short_text frames h.writes.count h.writes.short) h.writes.writes;
+          };
+        }
+
+    stops_by : (f : Fault) (why : Cause) → TellingStopsBy line.Sizes place a r.left (between i1 i2 im ia) (between o0 o1 ob om) f why → CheckStopsBy place (between i0 i2 ib ia) (between o0 o1 ob om) f why
+    stops_by f Writing h = line_fails h.0 h.1
+    stops_by f Reading h = (inr (stream_of r a, h.0, some h.0 h.1), h.2 ∙ ap one_more opens.kept)
+    stops_by f Memory h = (inr (stream_of r a, h.0, some h.0 h.1), h.2 ∙ opens.kept)
+    stops_by f Content h = (
+      h.2 ∙ opens.kept,
+      inr (record {
+        stream = stream_of r a;
+        frames = h.0;
+        end = File f;
+        checks = some h.0 h.1;
+        ends = ends_known i0 i1 i2 (stream_of r a) r.left h.0 (File f) opens.known h.3;
+        is = refl;
+      }),
+    )
+
+    payload_stops : (f : Fault) → PayloadStops line.Sizes place a r.left (between i1 i2 im ia) (between o0 o1 ob om) f → CheckPayload place (between i0 i2 ib ia) (between o0 o1 ob om) f
+    payload_stops f h = record {
+      stream = stream_of r a;
+      frames = h.frames;
+      payload = h.payload;
+      fault = h.fault;
+      tally = h.tally;
+      played = played h.frames h.are;
+      ends = ends_known i0 i1 i2 (stream_of r a) r.left h.frames (Payload h.payload h.fault h.tally) opens.known h.ends;
+      faulty = h.faulty;
+      is = h.is;
+      kept = h.kept ∙ opens.kept;
+      writes = h.writes;
+    }
+
+    pub telling_stops : (f : Fault) → TellingStops line.Sizes place a r.left (between i1 i2 im ia) (between o0 o1 ob om) f → CheckStops place (between i0 i2 ib ia) (between o0 o1 ob om) f
+    telling_stops f h = elim h [
+      | inl payload ↦ inl (payload_stops f payload)
+      | inr other ↦ inr (stops_by f (cause_of f) other)
+    ]
+
+    module _ (frames : List Frame) (count : ℕ) (is : count ≡ saturated (length frames)) (told : ToldAll line.Sizes place a r.left (between i1 i2 im ia) (between o0 o1 ob om) frames) where
+      all_some : ChecksSome place (between i0 i2 ib ia) (between o0 o1 ob om) (stream_of r a) frames
+      all_some = record {
+        played = played frames told.are;
+        begins = begins_some i0 i1 (stream_of r a) r.left frames opens.known (some_of_end r.left i1 i2 frames Over told.ends);
+        written = told.written;
+        writes = told.writes;
+      }
+
+      pub no_frames : count ≡ 0 → CheckStops place (between i0 i2 ib ia) (between o0 o1 ob om) fault.NoFrames
+      no_frames none = inr (
+        told.kept ∙ opens.kept,
+        inr (record {
+          stream = stream_of r a;
+          frames = frames;
+          end = Over;
+          checks = all_some;
+          ends = ends_known i0 i1 i2 (stream_of r a) r.left frames Over opens.known told.ends;
+          is = (empty frames (let few : length frames ≡ 0 = omega (arith, is, none) in few), refl);
+        }),
+      )
+        where
+          empty : (fs : List Frame) → length fs ≡ 0 → fs ≡ []
+          empty [] e = refl
+          empty (f ∷ fs) e = absurd (omega (arith, e))
+
+      pub done : (count ≡ 0 → ⊥) → ReadsFile i0 i2 (stream_of r a) frames → oa ≡ om → Appends o1 o2 (count_line count) → CheckDone place (between i0 i2 ib ia) (between o0 o2 ob oa)
+      done some_frames reads kept writes = record {
+        stream = stream_of r a;
+        frames = frames;
+        some = positive frames (λ none. some_frames (let zero_is : count ≡ 0 = omega (arith, is, none) in zero_is));
+        played = played frames told.are;
+        reads = reads;
+        kept = told.kept ∙ opens.kept;
+        written = kept ∙ told.written;
+        writes =
+            subst (λ n. Appends o0 o2 (frame_lines line.Sizes a.configuration frames ++ count_line n)) is
+            (Appends-trans o0 o1 o2 (frame_lines line.Sizes a.configuration frames) (count_line count) told.writes writes);
+      }
+        where
+          positive : (fs : List Frame) → (length fs ≡ 0 → ⊥) → 0 < length fs
+          positive [] none = absurd (none refl)
+          positive (f ∷ fs) none = omega arith
+
+      count_fails : (k : ℕ) → k < length (count_line count) → oa ≡ one_more om → Appends o1 o2 (take k (count_line count)) → CheckLineFails place (between i0 i2 ib ia) (between o0 o2 ob oa)
+      count_fails k short counted writes =
+          let lines = frame_lines line.Sizes a.configuration frames in
+          let long : length (lines ++ count_line count) ≡ length lines + length (count_line count) = length-append lines (count_line count) in
+          let fewer : length (frame_lines line.Sizes a.configuration (but_last frames)) ≤ length lines = fewer_lines a.configuration 0 frames in
+          record {
+            stream = stream_of r a;
+            frames = frames;
+            played = played frames told.are;
+            begins = all_some.begins;
+            kept = told.kept ∙ opens.kept;
+            written = counted ∙ ap one_more told.written;
+            writes = record {
+              count = length lines + k;
+              enough = omega (arith, fewer);
+              short = subst (λ n. length lines + k < length (lines ++ count_line n)) is (omega (arith, short, long));
+              writes =
+                  subst (λ n. Appends o0 o2 (take (length lines + k) (lines ++ count_line n))) is
+                  (subst (Appends o0 o2) (sym (take_past lines (count_line count) k)) (Appends-trans o0 o1 o2 lines (take k (count_line count)) told.writes writes));
+            };
+          }
+
+      pub count_stops : (f : Fault) → WritesFrame (count_line count) (between o1 o2 om oa) (Err f) → CheckStops place (between i0 i2 ib ia) (between o0 o2 ob oa) f
+      count_stops f h = elim h [
+        | inl write ↦
+            inr (subst (λ z. CheckStopsBy place (between i0 i2 ib ia) (between o0 o2 ob oa) z (cause_of z)) (sym write.0) (count_fails write.2.0 write.2.1 write.1 write.2.2))
+        | inr none ↦
+            inr (subst (λ z. CheckStopsBy place (between i0 i2 ib ia) (between o0 o2 ob oa) z (cause_of z)) (sym none.0) (
+              inr (
+                stream_of r a,
+                frames,
+                record {
+                  played = played frames told.are;
+                  begins = all_some.begins;
+                  written = none.1 ∙ told.written;
+                  writes = Appends-kept o0 o1 o2 (frame_lines line.Sizes a.configuration frames) told.writes none.2;
+                },
+              ),
+              told.kept ∙ opens.kept,
+            ))
+      ]

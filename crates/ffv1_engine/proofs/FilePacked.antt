@@ -1,0 +1,81 @@
+-- The file of a video that was encoded.
+use Rattle.std.specs.Prelude.{◌≡◌, ◌≤◌, ◌<◌, ℕ, List, [], ◌∷◌, length, map, Option, Some, None, Ok, Err}
+use Rattle.std.proofs.Common.{refl, ◌∙◌, ap, subst, inr, suc}
+use Rattle.std.specs.Io.KnownBytes.{Appends}
+use Rattle.ffv1_wire.specs.Passage.{Passage}
+use Rattle.ffv1_wire.specs.Writes.{AppendsBeginning}
+use Rattle.ffv1_codec.specs.Frame.{frame_of}
+use Rattle.ffv1_record.specs.Accepted.{Accepted}
+use Rattle.ffv1_avi.specs.Head.{Head}
+use Rattle.ffv1_avi.specs.Written.{file_of, most, riff_size}
+use Rattle.ffv1_avi.specs.Writes.{WritesFile}
+use Rattle.ffv1_avi.specs.declared.fault.AviFault.{AviFault}
+use Rattle.ffv1_avi.specs.declared.fault.AviFault.TheVariants as avi
+use Rattle.ffv1_engine.specs.declared.order.Choice.{Choice}
+use Rattle.ffv1_engine.specs.declared.packing.Packed.{Packed}
+use Rattle.ffv1_engine.specs.declared.fault.Fault.TheVariants as fault
+use Rattle.ffv1_engine.specs.Faults.{of_avi}
+use Rattle.ffv1_engine.specs.Pack.{EncodesVideo, EndsVideo, FaultsPacked, IsPackable, Packs, RefusesPack}
+use Rattle.ffv1_engine.specs.Packing.{AllShort, IsFor, bytes_in, packed_file, packed_frames, packed_head, said_for}
+use Rattle.ffv1_engine.specs.Video.{Video}
+
+too_large : (old new : Option (List ℕ)) (choice : Choice) (v : Video) (a : Accepted) → IsFor choice v.ppm v.head a → AllShort a v.head v.pictures → 0 < length v.pictures → most < riff_size (packed_head choice v a) (packed_frames v a) → EndsVideo old new v → FaultsPacked choice old new fault.TooLarge
+too_large None new choice v a for short some large e = tt
+too_large (Some text) None choice v a for short some large e = e
+too_large (Some text) (Some rest) choice v a for short some large (left, begins, end) = inr (inr (record {
+  video = v;
+  accepted = a;
+  left = left;
+  begins = begins;
+  for = for;
+  short = short;
+  ends = inr (inr (end, inr (some, large, refl)));
+}))
+
+long : {X Y : Type 0} (f : X → Y) (xs : List X) → length (map f xs) ≡ length xs
+long f [] = refl
+long f (x ∷ xs) = ap suc (long f xs)
+
+module _ (choice : Choice) (i o : Passage) (head : Head) (frames : List (List ℕ)) (e : EncodesVideo choice i head frames) where
+  riff : riff_size head frames ≡ riff_size (packed_head choice e.video e.accepted) (packed_frames e.video e.accepted)
+  riff = ap (λ h. riff_size h frames) e.head_is ∙ ap (λ f. riff_size (packed_head choice e.video e.accepted) f) e.frames_are
+
+  file : file_of head frames ≡ packed_file choice e.video e.accepted
+  file = ap (λ h. file_of h frames) e.head_is ∙ ap (λ f. file_of (packed_head choice e.video e.accepted) f) e.frames_are
+
+  packable : riff_size head frames ≤ most → IsPackable choice e.video e.accepted
+  packable small = record { for = e.for; some = e.some; short = e.short; small = subst (λ n. n ≤ most) riff small }
+
+  pub file_refused : (f : AviFault) → WritesFile o head frames (Err f) → RefusesPack choice i o (of_avi f)
+  file_refused avi.TooLarge w = (record { kept = w.2; same = w.1 }, e.kept, too_large i.old i.new choice e.video e.accepted e.for e.short e.some (subst (λ n. most < n) riff w.0) e.ends)
+  file_refused avi.Write w = (
+    record {
+      video = e.video;
+      accepted = e.accepted;
+      reads = e.reads;
+      packable = packable w.0;
+      writes = subst (λ bytes. AppendsBeginning o.old o.new bytes) file w.1.1;
+    },
+    w.1.0,
+    e.kept,
+  )
+  file_refused avi.OutOfMemory w = absurd w.1
+  file_refused avi.NotAvi w = absurd w.1
+  file_refused avi.NoFfv1 w = absurd w.1
+  file_refused avi.Truncated w = absurd w.1
+  file_refused avi.ChunkTooLong w = absurd w.1
+  file_refused avi.EmptyFrame w = absurd w.1
+  file_refused avi.Read w = absurd w.1
+
+  pub file_written : (u : Unit {0}) (packed : Packed) → WritesFile o head frames (Ok u) → packed.frames ≡ length frames → packed.bytes ≡ bytes_in frames → Packs choice i o packed
+  file_written u packed w many bytes = record {
+    video = e.video;
+    accepted = e.accepted;
+    reads = e.reads;
+    packable = packable w.0;
+    writes = subst (λ bytes. Appends o.old o.new bytes) file w.1.1;
+    frames = many ∙ (ap (λ f. length f) e.frames_are ∙ long (λ planes. frame_of e.accepted planes (said_for e.video.head)) e.video.pictures);
+    bytes = bytes ∙ ap bytes_in e.frames_are;
+    read = e.kept;
+    written = w.1.0;
+  }

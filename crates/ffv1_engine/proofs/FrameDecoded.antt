@@ -1,0 +1,64 @@
+-- What a frame's decoding answers, and the line that is written of it.
+use Rattle.std.proofs.Common.{◌≡◌, ◌≢◌, ◌⊎◌, refl, ℕ, ◌<◌, Bool, Result, Ok, Err, List, [], length, inl, inr, ap, sym, subst, arith}
+use Rattle.std.proofs.KnownBytes.{Appends-nil, Appends-kept}
+use Rattle.ffv1_range.specs.declared.tally.Tally.{Tally}
+use Rattle.ffv1_wire.specs.Passage.{Passage}
+use Rattle.ffv1_wire.specs.Runs.{LineStep}
+use Rattle.ffv1_record.specs.Accepted.{Accepted}
+use Rattle.ffv1_slice.specs.Cutting.{cut_of}
+use Rattle.ffv1_slice.specs.declared.cutting.CutFault.{CutFault}
+use Rattle.ffv1_codec.specs.Answer.{AnswersCut, Answers, cut_fault}
+use Rattle.ffv1_codec.specs.SliceList.{Said}
+use Rattle.ffv1_codec.specs.declared.fault.CodecFault.TheVariants as codec_fault
+use Rattle.ffv1_codec.specs.declared.fault.FrameFault.{FrameFault}
+use Rattle.ffv1_engine.specs.declared.fault.Fault.{Fault}
+use Rattle.ffv1_engine.specs.declared.frame_line.FrameLine.{FrameLine}
+use Rattle.ffv1_engine.specs.Faults.{cause_of}
+use Rattle.ffv1_engine.specs.FrameLines.{frame_line, place_line}
+use Rattle.ffv1_engine.specs.Stream.{Decided, FaultsFrame, Frame}
+use Rattle.ffv1_engine.specs.Told.{FrameStops, FrameStopsBy, ToldFrame, WritesFrame, WritesLine}
+
+not_both : (info : Said) (f : FrameFault) (r : Result Said FrameFault) → r ≡ Ok info → r ≡ Err f → ⊥
+not_both info f r e g = cc
+
+same_fault : (f g : FrameFault) (r : Result Said FrameFault) → r ≡ Err f → r ≡ Err g → f ≡ g
+same_fault f g r e h = cc
+
+module _ {S : Type 0} (takes refuses : LineStep S) (a : Accepted) (payload : List ℕ) (old new : S) (tally : Tally) where
+  decided_by_cut : (info : Said) (cut : Result (List ℕ) CutFault) → cut_of a.configuration payload ≡ cut → AnswersCut takes refuses a payload old new tally (Ok info) cut → Decided a payload tally
+  decided_by_cut info (Err f) is answer = absurd (not_both info (cut_fault f) (Ok info) refl answer.0)
+  decided_by_cut info (Ok os) is answer = record { offsets = os; cut = is; state = answer.state; decodes = answer.decodes; decided = answer.decided }
+
+  pub is_decided : (info : Said) → Answers takes refuses a payload old new tally (Ok info) → Decided a payload tally
+  is_decided info answer = decided_by_cut info (cut_of a.configuration payload) refl answer
+
+  faults_by_cut : (f : FrameFault) (cut : Result (List ℕ) CutFault) → cut_of a.configuration payload ≡ cut → f.fault ≢ codec_fault.Sink →
+      AnswersCut takes refuses a payload old new tally (Err f) cut → FaultsFrame a payload f tally
+  faults_by_cut f (Err g) is own answer = inl (g, is, same_fault f (cut_fault g) (Err f) refl answer.0, answer.1)
+  faults_by_cut f (Ok os) is own answer = elim answer [
+    | inl faults ↦ inr (record { offsets = os; cut = is; state = faults.state; refused = faults.refused; decided = faults.decided })
+    | inr sink ↦ absurd (own (ap (λ (z : FrameFault). z.fault) sink.is))
+  ]
+
+  pub is_faulty : (f : FrameFault) → f.fault ≢ codec_fault.Sink → Answers takes refuses a payload old new tally (Err f) → FaultsFrame a payload f tally
+  is_faulty f own answer = faults_by_cut f (cut_of a.configuration payload) refl own answer
+
+pub place_some : (i : ℕ) (f : FrameFault) (decisions : ℕ) → 0 < length (place_line i f decisions)
+unfolding place_line
+place_some i f decisions = omega arith
+
+-- a line that was written, or not, where that is not told
+pub line_written : (line : List ℕ) (p : Passage) (r : Result (Unit {0}) Fault) → 0 < length line → WritesFrame line p r → WritesLine [] line p
+line_written line p (Ok done) some h = inl (h.0, h.1)
+line_written line p (Err f) some h = elim h [
+  | inl write ↦ inr (inl (write.1, write.2.0, write.2.1, write.2.2))
+  | inr none ↦ inr (inr (some, none.1, Appends-kept p.old p.old p.new [] (Appends-nil p.old) none.2))
+]
+
+pub frame_fails : (kind : FrameLine) (place : Bool) (a : Accepted) (i left least : ℕ) (input output : Passage) (frame : Frame) (f : Fault) → ToldFrame kind place a i left least input output frame →
+    WritesFrame (frame_line kind a.configuration i frame.payload frame.tally) output (Err f) →
+    FrameStops kind place a i left least input output f ⊎ FrameStopsBy kind place a i left least input output f (cause_of f)
+frame_fails kind place a i left least input output frame f told h = elim h [
+  | inl write ↦ inr (subst (λ z. FrameStopsBy kind place a i left least input output z (cause_of z)) (sym write.0) (frame, told, write.1, write.2))
+  | inr none ↦ inr (subst (λ z. FrameStopsBy kind place a i left least input output z (cause_of z)) (sym none.0) (record { written = none.1; none = none.2 }, told.reads.kept))
+]

@@ -1,0 +1,211 @@
+-- Frames are told one after the other.
+use Rattle.std.proofs.Common.{◌≡◌, refl, ℕ, suc, ◌+◌, ◌<◌, Bool, Option, Some, None, Ok, List, [], ◌∷◌, ◌++◌, length, take, inl, inr, ap, sym, subst, ◌∙◌, arith, append-nil, append_assoc, length-append, ◌⊎◌}
+use Rattle.std.specs.Io.KnownBytes.{Appends}
+use Rattle.std.proofs.KnownBytes.{Appends-nil, Appends-trans, Appends-kept}
+use Rattle.ffv1_range.specs.Counts.{saturated}
+use Rattle.ffv1_range.specs.declared.tally.Tally.{Tally}
+use Rattle.ffv1_wire.specs.Failures.{one_more}
+use Rattle.ffv1_wire.specs.Passage.{Passage, between}
+use Rattle.ffv1_record.specs.Configuration.{Configuration}
+use Rattle.ffv1_record.specs.Accepted.{Accepted}
+use Rattle.ffv1_codec.specs.declared.fault.FrameFault.{FrameFault}
+use Rattle.ffv1_avi.specs.Files.{frame_read}
+use Rattle.ffv1_engine.specs.declared.fault.Fault.{Fault}
+use Rattle.ffv1_engine.specs.declared.frame_line.FrameLine.{FrameLine}
+use Rattle.ffv1_engine.specs.Faults.{Cause, cause_of}
+use Rattle.ffv1_engine.specs.Faults.Cause.{Reading, Writing, Memory, Content}
+use Rattle.ffv1_engine.specs.Stream.{AreFrames, Frame, IsFrame, ReadsFrames, payloads}
+use Rattle.ffv1_engine.specs.Play.{but_last}
+use Rattle.ffv1_engine.specs.Play.End.{File, Payload, Over}
+use Rattle.ffv1_engine.specs.FrameLines.{frame_line, frame_lines, lines_from, place_text}
+use Rattle.ffv1_engine.specs.Told.{NextIs, FaultsKnown, ReadsKnown, ReadsSome, EndsMovi, WritesLine, Told, ToldAll, ToldSome, LineFails, PayloadStops, TellingStopsBy, TellingStops, ToldFrame, FrameStops, FrameStopsBy, ReadsEnd, Silent}
+
+pub take_past : (xs ys : List ℕ) (k : ℕ) → take (length xs + k) (xs ++ ys) ≡ xs ++ take k ys
+take_past [] ys k =
+    let same : 0 + k ≡ k = omega arith in
+    ap (λ n. take n ys) same
+take_past (x ∷ xs) ys k =
+    let same : suc (length xs) + k ≡ suc (length xs + k) = omega arith in
+    ap (λ n. take n (x ∷ (xs ++ ys))) same ∙ ap (λ z. x ∷ z) (take_past xs ys k)
+
+but_last_more : (frames : List Frame) (f : Frame) → but_last (frames ++ (f ∷ [])) ≡ frames
+but_last_more [] f = refl
+but_last_more (g ∷ []) f = refl
+but_last_more (g ∷ h ∷ gs) f = ap (λ z. g ∷ z) (but_last_more (h ∷ gs) f)
+
+are_more : (a : Accepted) (frames : List Frame) (f : Frame) → AreFrames a frames → IsFrame a f → AreFrames a (frames ++ (f ∷ []))
+are_more a [] f are is = (is, tt)
+are_more a (g ∷ gs) f are is = (are.0, are_more a gs f are.1 is)
+
+lines_more : (kind : FrameLine) (c : Configuration) (i : ℕ) (frames : List Frame) (f : Frame) →
+    lines_from kind c i (frames ++ (f ∷ [])) ≡ lines_from kind c i frames ++ frame_line kind c (saturated (i + length frames)) f.payload f.tally
+lines_more kind c i [] f =
+    let same : i ≡ i + 0 = omega arith in
+    append-nil (frame_line kind c (saturated i) f.payload f.tally) ∙ ap (λ n. frame_line kind c (saturated n) f.payload f.tally) same
+lines_more kind c i (g ∷ gs) f =
+    let here = frame_line kind c (saturated i) g.payload g.tally in
+    let same : suc i + length gs ≡ i + suc (length gs) = omega arith in
+    ap (λ z. here ++ z) (lines_more kind c (suc i) gs f)
+    ∙ sym (append_assoc here (lines_from kind c (suc i) gs) (frame_line kind c (saturated (suc i + length gs)) f.payload f.tally))
+    ∙ ap (λ n. (here ++ lines_from kind c (suc i) gs) ++ frame_line kind c (saturated n) f.payload f.tally) same
+
+pub all_lines : (kind : FrameLine) (c : Configuration) (number : ℕ) (frames : List Frame) (f : Frame) → number ≡ saturated (length frames) →
+    frame_lines kind c (frames ++ (f ∷ [])) ≡ frame_lines kind c frames ++ frame_line kind c number f.payload f.tally
+all_lines kind c number frames f is =
+    let same : 0 + length frames ≡ length frames = omega arith in
+    lines_more kind c 0 frames f
+    ∙ ap (λ n. frame_lines kind c frames ++ frame_line kind c (saturated n) f.payload f.tally) same
+    ∙ ap (λ n. frame_lines kind c frames ++ frame_line kind c n f.payload f.tally) (sym is)
+
+pub counted_more : (frames : List Frame) (f : Frame) → suc (length frames) ≡ length (frames ++ (f ∷ []))
+counted_more [] f = refl
+counted_more (g ∷ gs) f = ap suc (counted_more gs f)
+
+frames_more : (left : ℕ) (text : List ℕ) (frames : List Frame) (least : ℕ) (at : List ℕ) (f : Frame) (last : ℕ) (rest : List ℕ) →
+    ReadsFrames left text (payloads frames) least at → frame_read least at ≡ Ok (Some (f.payload, last), rest) → ReadsFrames left text (payloads (frames ++ (f ∷ []))) last rest
+frames_more left text [] least at f last rest h next = (
+  last,
+  rest,
+  subst (λ l. frame_read l text ≡ Ok (Some (f.payload, last), rest)) h.0 (subst (λ t. frame_read least t ≡ Ok (Some (f.payload, last), rest)) h.1 next),
+  (refl, refl),
+)
+frames_more left text (g ∷ gs) least at f last rest h next = (h.0, h.1, h.2, frames_more h.0 h.1 gs least at f last rest h.3 next)
+
+pub reads_none : (left : ℕ) (o : Option (List ℕ)) → ReadsKnown left o o [] left
+reads_none left None = tt
+reads_none left (Some text) = (refl, refl)
+
+reads_more : (left least last : ℕ) (o m n : Option (List ℕ)) (frames : List Frame) (f : Frame) → ReadsKnown left o m frames least → NextIs least m n (Some (f.payload, last)) →
+    ReadsKnown left o n (frames ++ (f ∷ [])) last
+reads_more left least last None m n frames f h next = tt
+reads_more left least last (Some text) None n frames f h next = absurd h
+reads_more left least last (Some text) (Some at) None frames f h next = absurd next
+reads_more left least last (Some text) (Some at) (Some rest) frames f h next = frames_more left text frames least at f last rest h next
+
+reads_some : (left least : ℕ) (o m : Option (List ℕ)) (frames : List Frame) → ReadsKnown left o m frames least → ReadsSome left o frames
+reads_some left least None m frames h = tt
+reads_some left least (Some text) None frames h = absurd h
+reads_some left least (Some text) (Some at) frames h = (least, at, h)
+
+ends_over : (left least : ℕ) (o m n : Option (List ℕ)) (frames : List Frame) → ReadsKnown left o m frames least → NextIs least m n None → EndsMovi left o n frames Over
+ends_over left least None m n frames h next = tt
+ends_over left least (Some text) None n frames h next = absurd h
+ends_over left least (Some text) (Some at) None frames h next = absurd next
+ends_over left least (Some text) (Some at) (Some rest) frames h next = (least, at, h, next)
+
+ends_payload : (left least last : ℕ) (o m n : Option (List ℕ)) (frames : List Frame) (payload : List ℕ) (f : FrameFault) (t : Tally) → ReadsKnown left o m frames least →
+    NextIs least m n (Some (payload, last)) → EndsMovi left o n frames (Payload payload f t)
+ends_payload left least last None m n frames payload f t h next = tt
+ends_payload left least last (Some text) None n frames payload f t h next = absurd h
+ends_payload left least last (Some text) (Some at) None frames payload f t h next = absurd next
+ends_payload left least last (Some text) (Some at) (Some rest) frames payload f t h next = (least, at, h, (last, next))
+
+ends_file : (left least : ℕ) (o m n : Option (List ℕ)) (frames : List Frame) (f : Fault) → ReadsKnown left o m frames least → FaultsKnown (frame_read least) m n f → EndsMovi left o n frames (File f)
+ends_file left least None m n frames f h next = tt
+ends_file left least (Some text) None n frames f h next = absurd h
+ends_file left least (Some text) (Some at) None frames f h next = absurd next
+ends_file left least (Some text) (Some at) (Some rest) frames f h next = (least, at, h, next)
+
+-- behind lines that were written a further one is
+pub line_behind : (o m n : Option (List ℕ)) (b c a : ℕ) (lines last : List ℕ) → c ≡ b → Appends o m lines → WritesLine [] last (between m n c a) → WritesLine lines last (between o n b a)
+line_behind o m n b c a lines last same first next = elim next [
+  | inl whole ↦ inl (whole.0 ∙ same, Appends-trans o m n lines last first whole.1)
+  | inr more ↦ elim more [
+    | inl part ↦ inr (inl (part.0 ∙ ap one_more same, part.1, part.2, Appends-trans o m n lines (take part.1 last) first part.3))
+    | inr none ↦ inr (inr (none.0, none.1 ∙ same, subst (Appends o n) (append-nil lines) (Appends-trans o m n lines [] first none.2)))
+  ]
+]
+
+module _ (kind : FrameLine) (place : Bool) (a : Accepted) (left : ℕ) where
+  pub told_none : (i o : Option (List ℕ)) (ib ob : ℕ) → Told kind place a left (between i i ib ib) (between o o ob ob) [] left
+  told_none i o ib ob = record { are = tt; read = reads_none left i; kept = refl; written = refl; writes = Appends-nil o }
+
+  module _ (least last number : ℕ) (i0 i1 i2 o0 o1 o2 : Option (List ℕ)) (ib im ia ob om oa : ℕ) (frames : List Frame) (is : number ≡ saturated (length frames))
+      (told : Told kind place a left (between i0 i1 ib im) (between o0 o1 ob om) frames least) where
+    pub told_more : (f : Frame) → ToldFrame kind place a number least last (between i1 i2 im ia) (between o1 o2 om oa) f → oa ≡ om →
+        Appends o1 o2 (frame_line kind a.configuration number f.payload f.tally) → Told kind place a left (between i0 i2 ib ia) (between o0 o2 ob oa) (frames ++ (f ∷ [])) last
+    told_more f here same writes = record {
+      are = are_more a frames f told.are here.is;
+      read = reads_more left least last i0 i1 i2 frames f told.read here.reads.next;
+      kept = here.reads.kept ∙ told.kept;
+      written = same ∙ told.written;
+      writes =
+          subst (Appends o0 o2) (sym (all_lines kind a.configuration number frames f is))
+          (Appends-trans o0 o1 o2 (frame_lines kind a.configuration frames) (frame_line kind a.configuration number f.payload f.tally) told.writes writes);
+    }
+
+    pub told_over : ReadsEnd least (between i1 i2 im ia) → Silent kind place a number least last (between i1 i2 im ia) (between o1 o2 om oa) →
+        ToldAll kind place a left (between i0 i2 ib ia) (between o0 o2 ob oa) frames
+    told_over over silent = record {
+      are = told.are;
+      ends = ends_over left least i0 i1 i2 frames told.read over.over;
+      kept = over.kept ∙ told.kept;
+      written = silent.written ∙ told.written;
+      writes = Appends-kept o0 o1 o2 (frame_lines kind a.configuration frames) told.writes silent.none;
+    }
+
+    some : Silent kind place a number least last (between i1 i2 im ia) (between o1 o2 om oa) → ToldSome kind place a left (between i0 i2 ib ia) (between o0 o2 ob oa) frames
+    some silent = record {
+      are = told.are;
+      begins = reads_some left least i0 i1 frames told.read;
+      written = silent.written ∙ told.written;
+      writes = Appends-kept o0 o1 o2 (frame_lines kind a.configuration frames) told.writes silent.none;
+    }
+
+    line_fails : (f : Frame) → ToldFrame kind place a number least last (between i1 i2 im ia) (between o1 o2 om oa) f → oa ≡ one_more om →
+        (k : ℕ) → k < length (frame_line kind a.configuration number f.payload f.tally) → Appends o1 o2 (take k (frame_line kind a.configuration number f.payload f.tally)) →
+        LineFails kind place a left (between i0 i2 ib ia) (between o0 o2 ob oa) (frames ++ (f ∷ []))
+    line_fails f here counted k short writes =
+        let c = a.configuration in
+        let lines = frame_lines kind c frames in
+        let last_line = frame_line kind c number f.payload f.tally in
+        let all = all_lines kind c number frames f is in
+        let long : length (lines ++ last_line) ≡ length lines + length last_line = length-append lines last_line in
+        record {
+          are = are_more a frames f told.are here.is;
+          begins = reads_some left last i0 i2 (frames ++ (f ∷ [])) (reads_more left least last i0 i1 i2 frames f told.read here.reads.next);
+          kept = here.reads.kept ∙ told.kept;
+          written = counted ∙ ap one_more told.written;
+          writes = record {
+            count = length lines + k;
+            enough = rw (but_last_more frames f) (omega arith);
+            short = rw all (omega (arith, long, short));
+            writes = rw all (subst (Appends o0 o2) (sym (take_past lines last_line k)) (Appends-trans o0 o1 o2 lines (take k last_line) told.writes writes));
+          };
+        }
+
+    pub stops_by : (f : Fault) (why : Cause) → FrameStopsBy kind place a number least last (between i1 i2 im ia) (between o1 o2 om oa) f why →
+        TellingStopsBy kind place a left (between i0 i2 ib ia) (between o0 o2 ob oa) f why
+    stops_by f Writing h = (frames ++ (h.0 ∷ []), line_fails h.0 h.1 h.2 h.3.0 h.3.1 h.3.2)
+    stops_by f Reading h = (frames, some h.0, h.1 ∙ ap one_more told.kept)
+    stops_by f Memory h = (frames, some h.0, h.1 ∙ told.kept)
+    stops_by f Content h = (frames, some h.0, h.1 ∙ told.kept, ends_file left least i0 i1 i2 frames f told.read h.2)
+
+    payload_stops : (f : Fault) → FrameStops kind place a number least last (between i1 i2 im ia) (between o1 o2 om oa) f → PayloadStops kind place a left (between i0 i2 ib ia) (between o0 o2 ob oa) f
+    payload_stops f h = record {
+      frames = frames;
+      are = told.are;
+      payload = h.payload;
+      fault = h.fault;
+      tally = h.tally;
+      ends = ends_payload left least last i0 i1 i2 frames h.payload h.fault h.tally told.read h.reads.next;
+      faulty = h.faulty;
+      is = h.is;
+      kept = h.reads.kept ∙ told.kept;
+      writes =
+          subst (λ n. WritesLine (frame_lines kind a.configuration frames) (place_text place n h.fault h.tally) (between o0 o2 ob oa)) is
+          (line_behind o0 o1 o2 ob om oa (frame_lines kind a.configuration frames) (place_text place number h.fault h.tally) told.written told.writes h.writes);
+    }
+
+    pub telling_stops : (f : Fault) → FrameStops kind place a number least last (between i1 i2 im ia) (between o1 o2 om oa) f ⊎
+        FrameStopsBy kind place a number least last (between i1 i2 im ia) (between o1 o2 om oa) f (cause_of f) → TellingStops kind place a left (between i0 i2 ib ia) (between o0 o2 ob oa) f
+    telling_stops f h = elim h [
+      | inl payload ↦ inl (payload_stops f payload)
+      | inr other ↦ inr (stops_by f (cause_of f) other)
+    ]
+
+-- so many frames were told
+pub record ToldSo (kind : FrameLine) (place : Bool) (a : Accepted) (left : ℕ) (input output : Passage) (count least : ℕ) : Type 0 where
+  pub frames : List Frame
+  pub is : count ≡ saturated (length frames)
+  pub told : Told kind place a left input output frames least

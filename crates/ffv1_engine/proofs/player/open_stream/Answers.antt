@@ -1,0 +1,28 @@
+use Rattle.std.proofs.Common.{◌≡◌, ◌⊎◌, subst}
+use Rattle.std.proofs.lemmas.Result.{err_from_is_err_and}
+use Rattle.ffv1_wire.specs.Passage.{passage}
+use Rattle.ffv1_record.specs.Reading.{IsRefused}
+use Rattle.ffv1_record.specs.declared.fault.RecordFault.TheVariants as record_fault
+use Rattle.ffv1_avi.specs.Head.{Head}
+use Rattle.ffv1_engine.specs.Stream.{IsStream}
+use Rattle.ffv1_engine.proofs.Openings.{lacks_record, opens_known}
+use Rattle.ffv1_engine.proofs.player.open_stream.Goals as goal
+
+pub returns-in_err-checked-clause-err : goal.returns-in_err-checked-clause-err
+returns-in_err-checked-clause-err g c =
+    let p = err_from_is_err_and c.from_residual-in_err-checked.result c.from_residual-in_err-checked.ensures.1 in
+    let f = c.in_err-checked.field-0.0 in
+    rw (p.1, p.2)
+    (lacks_record (passage g.R.ByteIn.remaining g.R.ByteIn.failures c.args.input.now c.open.new.input) c.in_ok-reader.reader.head c.in_ok-reader.reader.left f
+    c.in_ok-reader.ensures.answer.0 c.in_ok-reader.ensures.answer.1
+    (subst (λ (z : Head). (f ≡ record_fault.OutOfMemory) ⊎ IsRefused z.config_record z.width z.height f) c.head.ensures c.in_err-checked.ensures.err))
+
+pub returns-clause-ok : goal.returns-clause-ok
+returns-clause-ok g c = record {
+  stream = subst (λ (z : Head). IsStream (record { head = z; accepted = c.in_ok-checked.checked })) c.head.ensures c.in_ok-checked.ensures.ok;
+  known =
+      opens_known (g.R.ByteIn.remaining c.args.input.now) (g.R.ByteIn.remaining c.open.new.input) c.in_ok-reader.reader.head c.in_ok-reader.reader.left
+      c.in_ok-reader.ensures.answer.1;
+  sound = c.in_ok-reader.ensures.sound;
+  kept = c.in_ok-reader.ensures.answer.0;
+}

@@ -1,0 +1,12 @@
+use Rattle.ffv1_engine.proofs.player.read_head.Goals as goal
+
+pub returns-in-Ok-clause-ok : goal.returns-in-Ok-clause-ok
+returns-in-Ok-clause-ok g c = record {
+  coded = rw c.deref.ensures.value at c.in-Ok.ensures.found;
+  width = c.in-Ok.ensures.width;
+  height = c.in-Ok.ensures.height;
+  accepted = c.in-Ok.ensures.accepted;
+}
+
+pub returns-in-Err-clause-err : goal.returns-in-Err-clause-err
+returns-in-Err-clause-err g c = rw c.deref.ensures.value at c.in-Err.ensures.exact

@@ -1,0 +1,78 @@
+use Rattle.std.proofs.Common.{◌≡◌, refl, Ok, subst, ◌∙◌, [], ◌∷◌, ◌++◌, length, arith}
+use Rattle.std.proofs.lemmas.Result.{err_from_is_err_and}
+use Rattle.ffv1_range.specs.Counts.{saturated}
+use Rattle.ffv1_wire.specs.Passage.{passage}
+use Rattle.ffv1_engine.specs.Told.{FrameAnswers}
+use Rattle.ffv1_engine.proofs.FramesTold.{counted_more, told_more, told_none, told_over, telling_stops}
+use Rattle.ffv1_engine.proofs.telling.tell_frames.Goals as goal
+
+pub loop-text-init : goal.loop-text-init
+loop-text-init g c =
+    let none : 0 ≡ saturated 0 = omega arith in (
+      c.requires.sound,
+      refl,
+      record {
+        frames = [];
+        is = none;
+        told = told_none c.args.kind c.args.place c.args.player.now.decoder.accepted c.args.player.now.reader.left (g.R.ByteIn.remaining c.args.input.now) (g.W.ByteOut.contents c.args.output.now)
+            (g.R.ByteIn.failures c.args.input.now) (g.W.ByteOut.failures c.args.output.now);
+      },
+    )
+
+pub returns-in_err-tell_frame-clause-err : goal.returns-in_err-tell_frame-clause-err
+returns-in_err-tell_frame-clause-err g c =
+    let p = err_from_is_err_and c.from_residual.result c.from_residual.ensures.1 in
+    let same = c.loop-text.invariant.1 in
+    let so = c.loop-text.invariant.2 in
+    rw (p.1, p.2)
+    (telling_stops c.args.kind c.args.place c.args.player.now.decoder.accepted c.args.player.now.reader.left c.loop-text.player.reader.left c.tell_frame.new.player.reader.left c.loop-text.count
+    (g.R.ByteIn.remaining c.args.input.now) (g.R.ByteIn.remaining c.loop-text.input) (g.R.ByteIn.remaining c.tell_frame.new.input)
+    (g.W.ByteOut.contents c.args.output.now) (g.W.ByteOut.contents c.loop-text.output) (g.W.ByteOut.contents c.tell_frame.new.output)
+    (g.R.ByteIn.failures c.args.input.now) (g.R.ByteIn.failures c.loop-text.input) (g.R.ByteIn.failures c.tell_frame.new.input)
+    (g.W.ByteOut.failures c.args.output.now) (g.W.ByteOut.failures c.loop-text.output) (g.W.ByteOut.failures c.tell_frame.new.output)
+    so.frames so.is so.told c.in_err-tell_frame.field-0.0 (rw same at c.in_err-tell_frame.ensures.answer))
+
+pub loop-text-preserved : goal.loop-text-preserved
+loop-text-preserved g c =
+    let same = c.loop-text.invariant.1 in
+    let so = c.loop-text.invariant.2 in
+    let reading = passage g.R.ByteIn.remaining g.R.ByteIn.failures c.loop-text.input c.tell_frame.new.input in
+    let writing = passage g.W.ByteOut.contents g.W.ByteOut.failures c.loop-text.output c.tell_frame.new.output in
+    let answer = subst (λ b. FrameAnswers c.args.kind c.args.place c.args.player.now.decoder.accepted c.loop-text.count c.loop-text.player.reader.left c.tell_frame.new.player.reader.left reading writing (Ok b)) c.if-branch.true
+    (subst (λ z. FrameAnswers c.args.kind c.args.place z c.loop-text.count c.loop-text.player.reader.left c.tell_frame.new.player.reader.left reading writing (Ok c.in_ok-tell_frame.field-0)) same
+    c.in_ok-tell_frame.ensures.answer) in
+    let f = answer.0 in
+    let next : c.saturating_add-count.result ≡ saturated (length (so.frames ++ (f ∷ []))) = omega (arith, c.saturating_add-count.ensures, so.is, counted_more so.frames f) in (
+      c.in_ok-tell_frame.ensures.sound,
+      c.in_ok-tell_frame.ensures.same ∙ same,
+      record {
+        frames = so.frames ++ (f ∷ []);
+        is = next;
+        told =
+            told_more c.args.kind c.args.place c.args.player.now.decoder.accepted c.args.player.now.reader.left c.loop-text.player.reader.left c.tell_frame.new.player.reader.left
+            c.loop-text.count (g.R.ByteIn.remaining c.args.input.now) (g.R.ByteIn.remaining c.loop-text.input) (g.R.ByteIn.remaining c.tell_frame.new.input)
+            (g.W.ByteOut.contents c.args.output.now) (g.W.ByteOut.contents c.loop-text.output) (g.W.ByteOut.contents c.tell_frame.new.output)
+            (g.R.ByteIn.failures c.args.input.now) (g.R.ByteIn.failures c.loop-text.input) (g.R.ByteIn.failures c.tell_frame.new.input)
+            (g.W.ByteOut.failures c.args.output.now) (g.W.ByteOut.failures c.loop-text.output) (g.W.ByteOut.failures c.tell_frame.new.output)
+            so.frames so.is so.told f answer.1 answer.2 answer.3;
+      },
+    )
+
+pub returns-clause-ok : goal.returns-clause-ok
+returns-clause-ok g c =
+    let same = c.loop-text.invariant.1 in
+    let so = c.loop-text.invariant.2 in
+    let reading = passage g.R.ByteIn.remaining g.R.ByteIn.failures c.loop-text.input c.tell_frame.new.input in
+    let writing = passage g.W.ByteOut.contents g.W.ByteOut.failures c.loop-text.output c.tell_frame.new.output in
+    let answer = subst (λ b. FrameAnswers c.args.kind c.args.place c.args.player.now.decoder.accepted c.loop-text.count c.loop-text.player.reader.left c.tell_frame.new.player.reader.left reading writing (Ok b)) c.if-branch.false
+    (subst (λ z. FrameAnswers c.args.kind c.args.place z c.loop-text.count c.loop-text.player.reader.left c.tell_frame.new.player.reader.left reading writing (Ok c.in_ok-tell_frame.field-0)) same
+    c.in_ok-tell_frame.ensures.answer) in (
+      so.frames,
+      so.is,
+      told_over c.args.kind c.args.place c.args.player.now.decoder.accepted c.args.player.now.reader.left c.loop-text.player.reader.left c.tell_frame.new.player.reader.left
+          c.loop-text.count (g.R.ByteIn.remaining c.args.input.now) (g.R.ByteIn.remaining c.loop-text.input) (g.R.ByteIn.remaining c.tell_frame.new.input)
+          (g.W.ByteOut.contents c.args.output.now) (g.W.ByteOut.contents c.loop-text.output) (g.W.ByteOut.contents c.tell_frame.new.output)
+          (g.R.ByteIn.failures c.args.input.now) (g.R.ByteIn.failures c.loop-text.input) (g.R.ByteIn.failures c.tell_frame.new.input)
+          (g.W.ByteOut.failures c.args.output.now) (g.W.ByteOut.failures c.loop-text.output) (g.W.ByteOut.failures c.tell_frame.new.output)
+          so.frames so.is so.told answer.0 answer.1,
+    )

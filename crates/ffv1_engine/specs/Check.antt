@@ -1,0 +1,106 @@
+-- What `check` writes, and why it is refused.
+use Rattle.std.specs.Prelude.{◌≡◌, ◌⊎◌, ℕ, ◌<◌, Bool, List, ◌++◌, length, codes, decimal}
+use Rattle.std.specs.Io.KnownBytes.{Appends, Keeps}
+use Rattle.ffv1_range.specs.Counts.{saturated}
+use Rattle.ffv1_range.specs.declared.tally.Tally.{Tally}
+use Rattle.ffv1_wire.specs.Failures.{one_more}
+use Rattle.ffv1_wire.specs.Passage.{Passage}
+use Rattle.ffv1_record.specs.Configuration.{Configuration}
+use Rattle.ffv1_codec.specs.declared.fault.FrameFault.{FrameFault}
+use Rattle.ffv1_engine.specs.declared.fault.Fault.{Fault}
+use Rattle.ffv1_engine.specs.declared.frame_line.FrameLine.TheVariants as line
+use Rattle.ffv1_engine.specs.Faults.{Cause, cause_of, of_codec}
+use Rattle.ffv1_engine.specs.Faults.Cause.{Reading, Writing, Memory, Content}
+use Rattle.ffv1_engine.specs.Stream.{FaultsFrame, Frame, ReadsFile, Stream}
+use Rattle.ffv1_engine.specs.Play.{BeginsSome, End, EndsKnown, EndsWith, LacksStream, Played}
+use Rattle.ffv1_engine.specs.Play.{WritesUpTo, but_last}
+use Rattle.ffv1_engine.specs.Play.End.{Payload}
+use Rattle.ffv1_engine.specs.FrameLines.{frame_lines, place_text}
+use Rattle.ffv1_engine.specs.Told.{WritesLine}
+
+-- how many frames there were
+unfoldable pub count_line : ℕ → List ℕ
+count_line n = codes "frames " ++ decimal n ++ codes "\n"
+
+-- a line for each frame, and how many there were
+abbrev pub check_text : Configuration → List Frame → List ℕ
+check_text c frames = frame_lines line.Sizes c frames ++ count_line (saturated (length frames))
+
+module _ (place : Bool) (input output : Passage) where
+  -- all frames of the file, at least one, were decoded, and the text of them was written
+  pub record CheckDone : Type 0 where
+    pub stream : Stream
+    pub frames : List Frame
+    pub some : 0 < length frames
+    pub played : Played stream frames
+    pub reads : ReadsFile input.old input.new stream frames
+    pub kept : input.after ≡ input.before
+    pub written : output.after ≡ output.before
+    pub writes : Appends output.old output.new (check_text stream.accepted.configuration frames)
+
+  -- nothing was written
+  pub record Unwritten : Type 0 where
+    pub written : output.after ≡ output.before
+    pub none : Keeps output.old output.new
+
+  -- the file begins with these frames, and their lines were written
+  pub record ChecksSome (stream : Stream) (frames : List Frame) : Type 0 where
+    pub played : Played stream frames
+    pub begins : BeginsSome input.old stream frames
+    pub written : output.after ≡ output.before
+    pub writes : Appends output.old output.new
+        (frame_lines line.Sizes stream.accepted.configuration frames)
+
+  abbrev pub ChecksUpTo : Type 0
+  ChecksUpTo = Unwritten ⊎ ((s : Stream) × (frames : List Frame) × ChecksSome s frames)
+
+  -- the line of the last of these frames, or that behind it, was not written whole
+  pub record CheckLineFails : Type 0 where
+    pub stream : Stream
+    pub frames : List Frame
+    pub played : Played stream frames
+    pub begins : BeginsSome input.old stream frames
+    pub kept : input.after ≡ input.before
+    pub written : output.after ≡ one_more output.before
+    pub writes : WritesUpTo output.old output.new
+        (length (frame_lines line.Sizes stream.accepted.configuration (but_last frames)))
+        (check_text stream.accepted.configuration frames)
+
+  -- behind these frames the file ends so
+  pub record CheckEnds (f : Fault) : Type 0 where
+    pub stream : Stream
+    pub frames : List Frame
+    pub end : End
+    pub checks : ChecksSome stream frames
+    pub ends : EndsKnown input.old input.new stream frames end
+    pub is : EndsWith frames end f
+
+  -- the payload behind these frames has its first fault
+  pub record CheckPayload (f : Fault) : Type 0 where
+    pub stream : Stream
+    pub frames : List Frame
+    pub payload : List ℕ
+    pub fault : FrameFault
+    pub tally : Tally
+    pub played : Played stream frames
+    pub ends : EndsKnown input.old input.new stream frames (Payload payload fault tally)
+    pub faulty : FaultsFrame stream.accepted payload fault tally
+    pub is : f ≡ of_codec fault.fault
+    pub kept : input.after ≡ input.before
+    pub writes : WritesLine (frame_lines line.Sizes stream.accepted.configuration frames)
+        (place_text place (saturated (length frames)) fault tally) output
+
+  -- why a check ends, but for a payload's fault, by the cause: a write failed, which was counted; a
+  -- read failed, which was counted; memory was refused; or the file has no stream, or this fault
+  -- behind its first frames, or no frame
+  abbrev pub CheckStopsBy : Fault → Cause → Type 0
+  CheckStopsBy f Writing = CheckLineFails
+  CheckStopsBy f Reading = ChecksUpTo × (input.after ≡ one_more input.before)
+  CheckStopsBy f Memory = ChecksUpTo × (input.after ≡ input.before)
+  CheckStopsBy f Content =
+      (input.after ≡ input.before)
+      × ((Unwritten × LacksStream input.old input.new f) ⊎ CheckEnds f)
+
+  -- why it is refused
+  abbrev pub CheckStops : Fault → Type 0
+  CheckStops f = CheckPayload f ⊎ CheckStopsBy f (cause_of f)

@@ -1,0 +1,54 @@
+-- The lines that are written of the frames of a file.
+use Rattle.std.specs.Prelude.{ℕ, ◌*◌, Bool, true, false, List, [], ◌∷◌, ◌++◌, length, codes}
+use Rattle.std.specs.Prelude.{decimal}
+use Rattle.std.proofs.Common.{suc}
+use Rattle.ffv1_range.specs.declared.tally.Tally.{Tally}
+use Rattle.ffv1_range.specs.Counts.{saturated}
+use Rattle.ffv1_record.specs.Configuration.{Configuration}
+use Rattle.ffv1_codec.specs.Answer.{decided_by}
+use Rattle.ffv1_codec.specs.declared.fault.FrameFault.{FrameFault}
+use Rattle.ffv1_engine.specs.declared.frame_line.FrameLine.{FrameLine}
+use Rattle.ffv1_engine.specs.declared.frame_line.FrameLine.TheVariants as line
+use Rattle.ffv1_engine.specs.Stream.{Frame}
+
+-- the number of a frame, the length of its payload in bytes, its slices and its decisions
+unfoldable pub sizes_line : ℕ → ℕ → ℕ → ℕ → List ℕ
+sizes_line i bytes slices decisions =
+    codes "frame " ++ decimal i ++ codes ": " ++ decimal bytes ++ codes " bytes, " ++ decimal slices
+    ++ codes " slices, " ++ decimal decisions ++ codes " decisions\n"
+
+-- the number of a frame, how many of its decisions were 1 and how many 0, and how often its coders
+-- renormalised
+unfoldable pub cost_line : ℕ → Tally → List ℕ
+cost_line i tally =
+    codes "cost frame " ++ decimal i ++ codes ": ones " ++ decimal tally.ones ++ codes " zeros "
+    ++ decimal tally.zeros ++ codes " renormalisations " ++ decimal tally.renormalisations
+    ++ codes "\n"
+
+-- the line of a frame by its number, its payload, and what was decided in it
+abbrev pub frame_line : FrameLine → Configuration → ℕ → List ℕ → Tally → List ℕ
+frame_line line.Sizes c i payload tally =
+    sizes_line i (length payload) (c.columns * c.rows) (decided_by tally)
+frame_line line.Cost c i payload tally = cost_line i tally
+
+-- the lines of frames from a number on
+abbrev pub lines_from : FrameLine → Configuration → ℕ → List Frame → List ℕ
+lines_from kind c i [] = []
+lines_from kind c i (f ∷ fs) =
+    frame_line kind c (saturated i) f.payload f.tally ++ lines_from kind c (suc i) fs
+
+-- the lines of all frames
+abbrev pub frame_lines : FrameLine → Configuration → List Frame → List ℕ
+frame_lines kind c frames = lines_from kind c 0 frames
+
+-- where a frame is refused, and what was decided before
+unfoldable pub place_line : ℕ → FrameFault → ℕ → List ℕ
+place_line i f decisions =
+    codes "fault frame " ++ decimal i ++ codes " slice " ++ decimal f.slice ++ codes " plane "
+    ++ decimal f.plane ++ codes " line " ++ decimal f.line ++ codes " x " ++ decimal f.x
+    ++ codes " decisions " ++ decimal decisions ++ codes "\n"
+
+-- it is written where the place is asked for
+abbrev pub place_text : Bool → ℕ → FrameFault → Tally → List ℕ
+place_text false i f tally = []
+place_text true i f tally = place_line i f (decided_by tally)

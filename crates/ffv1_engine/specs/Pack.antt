@@ -1,0 +1,169 @@
+-- What packing a video answers, writes, and is refused by.
+use Rattle.std.specs.Prelude.{◌≡◌, ◌⊎◌, ℕ, ◌<◌, ◌≤◌, Bool, true, false, List, [], length, Option}
+use Rattle.std.specs.Prelude.{Some, None, Ok, Err, ⊤}
+use Rattle.std.specs.Io.KnownBytes.{Appends}
+use Rattle.ffv1_wire.specs.Failures.{one_more}
+use Rattle.ffv1_wire.specs.Passage.{Passage}
+use Rattle.ffv1_wire.specs.Writes.{AppendsBeginning}
+use Rattle.ffv1_record.specs.Accepted.{Accepted, IsFirst, checks}
+use Rattle.ffv1_record.specs.declared.fault.RecordFault.{RecordFault}
+use Rattle.ffv1_codec.specs.Picture.{Planes}
+use Rattle.ffv1_codec.specs.Frame.{HasLongSlice}
+use Rattle.ffv1_avi.specs.Head.{Head}
+use Rattle.ffv1_avi.specs.Written.{most, riff_size}
+use Rattle.ffv1_y4m.specs.declared.fault.Fault.{Fault as Y4mFault}
+use Rattle.ffv1_y4m.specs.declared.head.VideoHead.{VideoHead}
+use Rattle.ffv1_engine.specs.declared.fault.Fault.{Fault}
+use Rattle.ffv1_engine.specs.declared.fault.Fault.TheVariants as fault
+use Rattle.ffv1_engine.specs.declared.order.Choice.{Choice}
+use Rattle.ffv1_engine.specs.declared.packing.Packed.{Packed}
+use Rattle.ffv1_engine.specs.Faults.{Cause, cause_of, of_y4m, of_record}
+use Rattle.ffv1_engine.specs.Faults.Cause.{Reading, Writing, Memory, Content}
+use Rattle.ffv1_engine.specs.Trial.{Silent}
+use Rattle.ffv1_engine.specs.Video.{Video, Begins, ReadsVideo, at_first, is_ppm, picture_next}
+use Rattle.ffv1_engine.specs.Video.{video_head}
+use Rattle.ffv1_engine.specs.Packing.{AllShort, IsFor, bytes_in, configuration_for, packed_file}
+use Rattle.ffv1_engine.specs.Packing.{packed_frames, packed_head, said_for}
+
+-- a video of at least one picture whose file may be written: each frame, and the file, is short
+-- enough
+pub record IsPackable (choice : Choice) (v : Video) (a : Accepted) : Type 0 where
+  pub for : IsFor choice v.ppm v.head a
+  pub some : 0 < length v.pictures
+  pub short : AllShort a v.head v.pictures
+  pub small : riff_size (packed_head choice v a) (packed_frames v a) ≤ most
+
+-- the video was read, its file was written, and what was counted
+pub record Packs (choice : Choice) (input output : Passage) (packed : Packed) : Type 0 where
+  pub video : Video
+  pub accepted : Accepted
+  pub reads : ReadsVideo input.old input.new video
+  pub packable : IsPackable choice video accepted
+  pub writes : Appends output.old output.new (packed_file choice video accepted)
+  pub frames : packed.frames ≡ length video.pictures
+  pub bytes : packed.bytes ≡ bytes_in (packed_frames video accepted)
+  pub read : input.after ≡ input.before
+  pub written : output.after ≡ output.before
+
+-- the video was read, and a beginning of its file was written
+pub record PacksBeginning (choice : Choice) (input output : Passage) : Type 0 where
+  pub video : Video
+  pub accepted : Accepted
+  pub reads : ReadsVideo input.old input.new video
+  pub packable : IsPackable choice video accepted
+  pub writes : AppendsBeginning output.old output.new (packed_file choice video accepted)
+
+-- the text has no head: this is its fault, and this is left
+abbrev pub LacksHead : List ℕ → List ℕ → Fault → Type 0
+LacksHead text rest f =
+    (g : Y4mFault) × (video_head text ≡ Err (g, rest)) × (f ≡ of_y4m g)
+
+-- its head asks for a configuration that is not accepted
+pub record IsRejected (choice : Choice) (text rest : List ℕ) (f : Fault) : Type 0 where
+  pub head : VideoHead
+  pub read : video_head text ≡ Ok (head, rest)
+  pub refusal : RecordFault
+  pub first : IsFirst checks (configuration_for choice (is_ppm text) head) refusal
+  pub is : f ≡ of_record refusal
+
+-- why packing ends behind the pictures of a video: the next one has a fault, or a slice that is too
+-- long; or there is no more, and there was none, or their file would be too large
+abbrev pub EndsBehind : Choice → Video → Accepted → List ℕ → List ℕ → Fault → Type 0
+EndsBehind choice v a left rest f =
+    ((g : Y4mFault) × (picture_next v.ppm v.head (at_first v.pictures) left ≡ Err (g, rest))
+    × (f ≡ of_y4m g))
+    ⊎ ((p : Planes) × (picture_next v.ppm v.head (at_first v.pictures) left ≡ Ok (Some p, rest))
+    × HasLongSlice a p (said_for v.head) × (f ≡ fault.SliceTooLong))
+    ⊎ ((picture_next v.ppm v.head (at_first v.pictures) left ≡ Ok (None, rest))
+    × (((v.pictures ≡ []) × (f ≡ fault.NoFrames))
+    ⊎ ((0 < length v.pictures)
+    × (most < riff_size (packed_head choice v a) (packed_frames v a)) × (f ≡ fault.TooLarge))))
+
+-- its first pictures are encoded, and then packing ends
+pub record Ends (choice : Choice) (text rest : List ℕ) (f : Fault) : Type 0 where
+  pub video : Video
+  pub accepted : Accepted
+  pub left : List ℕ
+  pub begins : Begins text video left
+  pub for : IsFor choice video.ppm video.head accepted
+  pub short : AllShort accepted video.head video.pictures
+  pub ends : EndsBehind choice video accepted left rest f
+
+-- the first fault of a text that is packed, where that is known, with this left
+abbrev pub FaultsPacked : Choice → Option (List ℕ) → Option (List ℕ) → Fault → Type 0
+FaultsPacked choice None new f = ⊤
+FaultsPacked choice (Some text) None f = ⊥
+FaultsPacked choice (Some text) (Some rest) f =
+    LacksHead text rest f ⊎ IsRejected choice text rest f ⊎ Ends choice text rest f
+
+-- a text, where it is known, has a head
+abbrev pub HasHead : Option (List ℕ) → Type 0
+HasHead None = ⊤
+HasHead (Some text) = (h : VideoHead) × (rest : List ℕ) × (video_head text ≡ Ok (h, rest))
+
+-- why packing is refused, by what the fault comes from: a write that failed, which was counted,
+-- behind a beginning of the file; and else with nothing written a read that failed, which was
+-- counted, memory behind a head, or the first fault of the text
+abbrev pub RefusesBy : Cause → Choice → Passage → Passage → Fault → Type 0
+RefusesBy Writing choice input output f =
+    PacksBeginning choice input output × (output.after ≡ one_more output.before)
+    × (input.after ≡ input.before)
+RefusesBy Reading choice input output f =
+    Silent output × (input.after ≡ one_more input.before)
+RefusesBy Memory choice input output f =
+    Silent output × (input.after ≡ input.before) × HasHead input.old
+RefusesBy Content choice input output f =
+    Silent output × (input.after ≡ input.before) × FaultsPacked choice input.old input.new f
+
+abbrev pub RefusesPack : Choice → Passage → Passage → Fault → Type 0
+RefusesPack choice input output f = RefusesBy (cause_of f) choice input output f
+
+-- the faults that packing has
+abbrev pub is_pack_fault : Fault → Bool
+is_pack_fault fault.OutOfMemory = true
+is_pack_fault fault.Grid = true
+is_pack_fault fault.ChromaEdge = true
+is_pack_fault fault.SliceTooLong = true
+is_pack_fault fault.TooLarge = true
+is_pack_fault fault.Read = true
+is_pack_fault fault.Write = true
+is_pack_fault fault.Header = true
+is_pack_fault fault.Tag = true
+is_pack_fault fault.Unsupported = true
+is_pack_fault fault.FrameLine = true
+is_pack_fault fault.FrameTruncated = true
+is_pack_fault fault.NoFrames = true
+is_pack_fault fault.FormatChanged = true
+is_pack_fault f = false
+
+-- where the text is known, it begins with the video, and no picture is behind it
+abbrev pub EndsVideo : Option (List ℕ) → Option (List ℕ) → Video → Type 0
+EndsVideo None new v = ⊤
+EndsVideo (Some text) None v = ⊥
+EndsVideo (Some text) (Some rest) v =
+    (left : List ℕ) × Begins text v left
+    × (picture_next v.ppm v.head (at_first v.pictures) left ≡ Ok (None, rest))
+
+-- a video was read, at least one picture of it, and its file has this head and these frames
+pub record EncodesVideo (choice : Choice) (p : Passage) (head : Head) (frames : List (List ℕ))
+    : Type 0 where
+  pub video : Video
+  pub accepted : Accepted
+  pub reads : ReadsVideo p.old p.new video
+  pub ends : EndsVideo p.old p.new video
+  pub for : IsFor choice video.ppm video.head accepted
+  pub some : 0 < length video.pictures
+  pub short : AllShort accepted video.head video.pictures
+  pub head_is : head ≡ packed_head choice video accepted
+  pub frames_are : frames ≡ packed_frames video accepted
+  pub kept : p.after ≡ p.before
+
+-- why none was encoded
+abbrev pub StopsVideoBy : Cause → Choice → Passage → Fault → Type 0
+StopsVideoBy Reading choice p f = p.after ≡ one_more p.before
+StopsVideoBy Writing choice p f = ⊥
+StopsVideoBy Memory choice p f = (p.after ≡ p.before) × HasHead p.old
+StopsVideoBy Content choice p f = (p.after ≡ p.before) × FaultsPacked choice p.old p.new f
+
+abbrev pub StopsVideo : Choice → Passage → Fault → Type 0
+StopsVideo choice p f = StopsVideoBy (cause_of f) choice p f

@@ -1,0 +1,107 @@
+-- The stream of a file: what its head says, its configuration, and its frames, decoded one after
+-- the other.
+use Rattle.std.specs.Prelude.{◌≡◌, ◌⊎◌, ℕ, List, [], ◌∷◌, map, slice_index, Option, Some, None}
+use Rattle.std.specs.Prelude.{Ok, Err, ⊤}
+use Rattle.ffv1_range.specs.declared.tally.Tally.{Tally}
+use Rattle.ffv1_record.specs.Accepted.{Accepted, IsAccepted}
+use Rattle.ffv1_record.specs.Record.{IsRecord}
+use Rattle.ffv1_slice.specs.Cutting.{coded_of, cut_of}
+use Rattle.ffv1_slice.specs.Footer.{foot_length}
+use Rattle.ffv1_slice.specs.declared.cutting.CutFault.{CutFault}
+use Rattle.ffv1_codec.specs.Answer.{HasDecided, cut_fault, no_tally}
+use Rattle.ffv1_codec.specs.Decoding.{State, Decodes, Refuses}
+use Rattle.ffv1_codec.specs.Frame.{CodesPicture}
+use Rattle.ffv1_codec.specs.Picture.{Planes}
+use Rattle.ffv1_codec.specs.SliceList.{Said}
+use Rattle.ffv1_codec.specs.declared.fault.FrameFault.{FrameFault}
+use Rattle.ffv1_avi.specs.Chunks.{AviFile}
+use Rattle.ffv1_avi.specs.Files.{frame_read, open_read}
+use Rattle.ffv1_avi.specs.Head.{Head}
+
+-- the head of a file, and the configuration of its frames
+pub record Stream : Type 0 where
+  pub head : Head
+  pub accepted : Accepted
+
+-- the head's record is of that configuration, for pictures of the head's size
+pub record IsStream (s : Stream) : Type 0 where
+  pub coded : IsRecord s.head.config_record s.accepted.configuration
+  pub width : s.accepted.configuration.width ≡ s.head.width
+  pub height : s.accepted.configuration.height ≡ s.head.height
+  pub accepted : IsAccepted s.accepted.configuration s.accepted.table
+
+-- a frame: its payload, the picture that it codes, what it says of it, and what was decided
+pub record Frame : Type 0 where
+  pub payload : List ℕ
+  pub planes : Planes
+  pub said : Said
+  pub tally : Tally
+
+-- what is decided where a payload is decoded to its end
+pub record Decided (a : Accepted) (payload : List ℕ) (tally : Tally) : Type 0 where
+  pub offsets : List ℕ
+  pub cut : cut_of a.configuration payload ≡ Ok offsets
+  pub state : State
+  pub decodes : Decodes a
+      (coded_of payload (foot_length a.configuration.ec) (slice_index offsets)) state
+  pub decided : HasDecided a.table state tally
+
+-- a frame of a configuration
+pub record IsFrame (a : Accepted) (f : Frame) : Type 0 where
+  pub codes : CodesPicture a f.payload f.planes f.said
+  pub decided : Decided a f.payload f.tally
+
+abbrev pub AreFrames : Accepted → List Frame → Type 0
+AreFrames a [] = Unit {0}
+AreFrames a (f ∷ fs) = IsFrame a f × AreFrames a fs
+
+abbrev pub payloads : List Frame → List (List ℕ)
+payloads frames = map (λ (f : Frame). f.payload) frames
+
+-- a payload that is cut has this first fault, and so much was decided
+pub record FaultsBehindCut (a : Accepted) (payload : List ℕ) (f : FrameFault) (tally : Tally)
+    : Type 0 where
+  pub offsets : List ℕ
+  pub cut : cut_of a.configuration payload ≡ Ok offsets
+  pub state : State
+  pub refused : Refuses a
+      (coded_of payload (foot_length a.configuration.ec) (slice_index offsets)) f state
+  pub decided : HasDecided a.table state tally
+
+-- a payload has this first fault, and so much was decided
+abbrev pub FaultsFrame : Accepted → List ℕ → FrameFault → Tally → Type 0
+FaultsFrame a payload f tally =
+    ((g : CutFault) × (cut_of a.configuration payload ≡ Err g) × (f ≡ cut_fault g)
+    × (tally ≡ no_tally))
+    ⊎ FaultsBehindCut a payload f tally
+
+-- movi has so many bytes left, and this text begins with these frames; so many are left then, and
+-- this text
+abbrev pub ReadsFrames : ℕ → List ℕ → List (List ℕ) → ℕ → List ℕ → Type 0
+ReadsFrames left text [] least rest = (least ≡ left) × (rest ≡ text)
+ReadsFrames left text (frame ∷ frames) least rest =
+    (most : ℕ) × (behind : List ℕ) × (frame_read left text ≡ Ok (Some (frame, most), behind))
+    × ReadsFrames most behind frames least rest
+
+-- a file begins with the head of a stream and these frames; movi has so many bytes left then, and
+-- this is left of the file
+pub record Begins (file : List ℕ) (s : Stream) (frames : List Frame) (left : ℕ) (rest : List ℕ)
+    : Type 0 where
+  pub most : ℕ
+  pub behind : List ℕ
+  pub opened : open_read file ≡ Ok ((s.head, most), behind)
+  pub read : ReadsFrames most behind (payloads frames) left rest
+
+-- where the file is known, so it begins, and this is left of it
+abbrev pub BeginsKnown : Option (List ℕ) → Option (List ℕ) → Stream → List Frame → Type 0
+BeginsKnown None new s frames = ⊤
+BeginsKnown (Some file) None s frames = ⊥
+BeginsKnown (Some file) (Some rest) s frames = (left : ℕ) × Begins file s frames left rest
+
+-- where the file is known, it is one of this head and these frames, by its chunks, and what stands
+-- behind them is left
+abbrev pub ReadsFile : Option (List ℕ) → Option (List ℕ) → Stream → List Frame → Type 0
+ReadsFile None new s frames = ⊤
+ReadsFile (Some file) None s frames = ⊥
+ReadsFile (Some file) (Some rest) s frames =
+    (is : AviFile file s.head (payloads frames)) × (rest ≡ is.rest)

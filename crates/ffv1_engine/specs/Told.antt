@@ -1,0 +1,220 @@
+-- The frames of movi are decoded one after the other, and a line is written of each at once: how
+-- far that goes, and why it goes no further.
+use Rattle.std.specs.Prelude.{◌≡◌, ◌⊎◌, ℕ, ◌<◌, Bool, true, false, List, [], ◌++◌, length, take}
+use Rattle.std.specs.Prelude.{Option, Some, None, Result, Ok, Err, ⊤}
+use Rattle.std.specs.Io.KnownBytes.{Appends, Keeps}
+use Rattle.ffv1_range.specs.declared.tally.Tally.{Tally}
+use Rattle.ffv1_range.specs.Counts.{saturated}
+use Rattle.ffv1_wire.specs.Failures.{one_more}
+use Rattle.ffv1_wire.specs.Passage.{Passage}
+use Rattle.ffv1_wire.specs.Runs.{LineStep}
+use Rattle.ffv1_wire.specs.Writes.{AppendsBeginning}
+use Rattle.ffv1_record.specs.Accepted.{Accepted}
+use Rattle.ffv1_codec.specs.Answer.{Answers}
+use Rattle.ffv1_codec.specs.SliceList.{Said}
+use Rattle.ffv1_codec.specs.declared.fault.FrameFault.{FrameFault}
+use Rattle.ffv1_avi.specs.Files.{frame_read}
+use Rattle.ffv1_avi.specs.Reads as avi
+use Rattle.ffv1_engine.specs.declared.fault.Fault.{Fault}
+use Rattle.ffv1_engine.specs.declared.fault.Fault.TheVariants as fault
+use Rattle.ffv1_engine.specs.declared.player.Stop.{Stop}
+use Rattle.ffv1_engine.specs.declared.player.Stop.TheVariants as stop
+use Rattle.ffv1_engine.specs.declared.frame_line.FrameLine.{FrameLine}
+use Rattle.ffv1_engine.specs.Faults.{Cause, cause_of, of_avi, of_codec}
+use Rattle.ffv1_engine.specs.Faults.Cause.{Reading, Writing, Memory, Content}
+use Rattle.ffv1_engine.specs.Stream.{AreFrames, FaultsFrame, Frame, IsFrame, ReadsFrames, payloads}
+use Rattle.ffv1_engine.specs.Play.{End, EndsReading, FaultsRead, WritesUpTo, but_last}
+use Rattle.ffv1_engine.specs.Play.End.{File, Payload, Over}
+use Rattle.ffv1_engine.specs.FrameLines.{frame_line, frame_lines, place_text}
+
+-- where the text is known, movi with so many bytes left reads so
+abbrev pub NextIs : ℕ → Option (List ℕ) → Option (List ℕ) → Option (List ℕ × ℕ) → Type 0
+NextIs left None new next = ⊤
+NextIs left (Some text) None next = ⊥
+NextIs left (Some text) (Some rest) next = frame_read left text ≡ Ok (next, rest)
+
+-- where the text is known, it has this fault
+abbrev pub FaultsKnown : {X : Type 0} → avi.Reading X → Option (List ℕ) → Option (List ℕ) → Fault →
+    Type 0
+FaultsKnown reading None new f = ⊤
+FaultsKnown reading (Some text) None f = ⊥
+FaultsKnown reading (Some text) (Some rest) f = FaultsRead reading text rest f
+
+-- why a file is not read on, by the cause: a read failed, which was counted; memory was refused; or
+-- what was read has this fault
+abbrev pub FileStopsBy : {X : Type 0} → avi.Reading X → Passage → Fault → Cause → Type 0
+FileStopsBy reading p f Reading = p.after ≡ one_more p.before
+FileStopsBy reading p f Writing = ⊥
+FileStopsBy reading p f Memory = p.after ≡ p.before
+FileStopsBy reading p f Content =
+    (p.after ≡ p.before) × FaultsKnown reading p.old p.new f
+
+abbrev pub FileStops : {X : Type 0} → avi.Reading X → Passage → Fault → Type 0
+FileStops reading p f = FileStopsBy reading p f (cause_of f)
+
+-- nothing failed, and movi with so many bytes left reads as this payload, with so many left behind
+pub record ReadsPayload (left least : ℕ) (payload : List ℕ) (p : Passage) : Type 0 where
+  pub kept : p.after ≡ p.before
+  pub next : NextIs left p.old p.new (Some (payload, least))
+
+-- nothing failed, and movi has ended
+pub record ReadsEnd (left : ℕ) (p : Passage) : Type 0 where
+  pub kept : p.after ≡ p.before
+  pub over : NextIs left p.old p.new None
+
+-- a payload was read, and decoding answers so
+abbrev pub StepAnswers : {S : Type 0} → LineStep S → LineStep S → Accepted → ℕ → ℕ → List ℕ →
+    Tally → Passage → S → S → Result (Option Said) Stop → Type 0
+StepAnswers takes refuses a left least payload tally p old new (Ok None) =
+    ReadsEnd left p × (new ≡ old)
+StepAnswers takes refuses a left least payload tally p old new (Ok (Some info)) =
+    ReadsPayload left least payload p × Answers takes refuses a payload old new tally (Ok info)
+StepAnswers takes refuses a left least payload tally p old new (Err (stop.File f)) =
+    FileStops (frame_read left) p (of_avi f) × (new ≡ old)
+StepAnswers takes refuses a left least payload tally p old new (Err (stop.Payload f)) =
+    ReadsPayload left least payload p × Answers takes refuses a payload old new tally (Err f)
+
+-- where the text is known, movi with so many bytes left begins with these frames
+abbrev pub ReadsKnown : ℕ → Option (List ℕ) → Option (List ℕ) → List Frame → ℕ → Type 0
+ReadsKnown left None new frames least = ⊤
+ReadsKnown left (Some text) None frames least = ⊥
+ReadsKnown left (Some text) (Some rest) frames least =
+    ReadsFrames left text (payloads frames) least rest
+
+-- the same of some of its beginning
+abbrev pub ReadsSome : ℕ → Option (List ℕ) → List Frame → Type 0
+ReadsSome left None frames = ⊤
+ReadsSome left (Some text) frames =
+    (least : ℕ) × (at : List ℕ) × ReadsFrames left text (payloads frames) least at
+
+-- where the text is known, movi ends so behind these frames
+abbrev pub EndsMovi : ℕ → Option (List ℕ) → Option (List ℕ) → List Frame → End → Type 0
+EndsMovi left None new frames e = ⊤
+EndsMovi left (Some text) None frames e = ⊥
+EndsMovi left (Some text) (Some rest) frames e =
+    (least : ℕ) × (at : List ℕ) × ReadsFrames left text (payloads frames) least at
+    × EndsReading least at rest e
+
+-- behind other lines this line was written; or a write failed, which was counted, behind a
+-- beginning of it; or memory for it was refused
+abbrev pub WritesLine : List ℕ → List ℕ → Passage → Type 0
+WritesLine lines last p =
+    ((p.after ≡ p.before) × Appends p.old p.new (lines ++ last))
+    ⊎ ((p.after ≡ one_more p.before) × (k : ℕ) × (k < length last)
+    × Appends p.old p.new (lines ++ take k last))
+    ⊎ ((0 < length last) × (p.after ≡ p.before) × Appends p.old p.new lines)
+
+module _ (kind : FrameLine) (place : Bool) (a : Accepted) (left : ℕ) (input output : Passage) where
+  -- these frames were decoded, and their lines written
+  pub record Told (frames : List Frame) (least : ℕ) : Type 0 where
+    pub are : AreFrames a frames
+    pub read : ReadsKnown left input.old input.new frames least
+    pub kept : input.after ≡ input.before
+    pub written : output.after ≡ output.before
+    pub writes : Appends output.old output.new (frame_lines kind a.configuration frames)
+
+  -- they are all
+  pub record ToldAll (frames : List Frame) : Type 0 where
+    pub are : AreFrames a frames
+    pub ends : EndsMovi left input.old input.new frames Over
+    pub kept : input.after ≡ input.before
+    pub written : output.after ≡ output.before
+    pub writes : Appends output.old output.new (frame_lines kind a.configuration frames)
+
+  -- behind these frames nothing was written
+  pub record ToldSome (frames : List Frame) : Type 0 where
+    pub are : AreFrames a frames
+    pub begins : ReadsSome left input.old frames
+    pub written : output.after ≡ output.before
+    pub writes : Appends output.old output.new (frame_lines kind a.configuration frames)
+
+  -- the line of the last of these frames was not written whole
+  pub record LineFails (frames : List Frame) : Type 0 where
+    pub are : AreFrames a frames
+    pub begins : ReadsSome left input.old frames
+    pub kept : input.after ≡ input.before
+    pub written : output.after ≡ one_more output.before
+    pub writes : WritesUpTo output.old output.new
+        (length (frame_lines kind a.configuration (but_last frames)))
+        (frame_lines kind a.configuration frames)
+
+  -- the payload behind these frames has its first fault
+  pub record PayloadStops (f : Fault) : Type 0 where
+    pub frames : List Frame
+    pub are : AreFrames a frames
+    pub payload : List ℕ
+    pub fault : FrameFault
+    pub tally : Tally
+    pub ends : EndsMovi left input.old input.new frames (Payload payload fault tally)
+    pub faulty : FaultsFrame a payload fault tally
+    pub is : f ≡ of_codec fault.fault
+    pub kept : input.after ≡ input.before
+    pub writes : WritesLine (frame_lines kind a.configuration frames)
+        (place_text place (saturated (length frames)) fault tally) output
+
+  -- or why there is no further frame, by the cause: a write failed; a read failed, which was
+  -- counted; memory was refused; or the file has this fault
+  abbrev pub TellingStopsBy : Fault → Cause → Type 0
+  TellingStopsBy f Writing = (frames : List Frame) × LineFails frames
+  TellingStopsBy f Reading =
+      (frames : List Frame) × ToldSome frames × (input.after ≡ one_more input.before)
+  TellingStopsBy f Memory =
+      (frames : List Frame) × ToldSome frames × (input.after ≡ input.before)
+  TellingStopsBy f Content =
+      (frames : List Frame) × ToldSome frames × (input.after ≡ input.before)
+      × EndsMovi left input.old input.new frames (File f)
+
+  abbrev pub TellingStops : Fault → Type 0
+  TellingStops f = PayloadStops f ⊎ TellingStopsBy f (cause_of f)
+
+-- of the frame with this number
+module _ (kind : FrameLine) (place : Bool) (a : Accepted) (i left least : ℕ)
+    (input output : Passage) where
+  -- it was read and decoded
+  pub record ToldFrame (f : Frame) : Type 0 where
+    pub is : IsFrame a f
+    pub reads : ReadsPayload left least f.payload input
+
+  -- it has its first fault
+  pub record FrameStops (f : Fault) : Type 0 where
+    pub payload : List ℕ
+    pub fault : FrameFault
+    pub tally : Tally
+    pub reads : ReadsPayload left least payload input
+    pub faulty : FaultsFrame a payload fault tally
+    pub is : f ≡ of_codec fault.fault
+    pub writes : WritesLine [] (place_text place i fault tally) output
+
+  -- nothing was written
+  pub record Silent : Type 0 where
+    pub written : output.after ≡ output.before
+    pub none : Keeps output.old output.new
+
+  -- or why there is none, or it is not told, by the cause
+  abbrev pub FrameStopsBy : Fault → Cause → Type 0
+  FrameStopsBy f Writing =
+      (frame : Frame) × ToldFrame frame × (output.after ≡ one_more output.before)
+      × AppendsBeginning output.old output.new
+      (frame_line kind a.configuration i frame.payload frame.tally)
+  FrameStopsBy f Reading = Silent × (input.after ≡ one_more input.before)
+  FrameStopsBy f Memory = Silent × (input.after ≡ input.before)
+  FrameStopsBy f Content =
+      Silent × (input.after ≡ input.before)
+      × FaultsKnown (frame_read left) input.old input.new f
+
+  -- what telling a frame answers: that it was told, that there is none, or why it was not
+  abbrev pub FrameAnswers : Result Bool Fault → Type 0
+  FrameAnswers (Ok true) =
+      (frame : Frame) × ToldFrame frame × (output.after ≡ output.before)
+      × Appends output.old output.new
+      (frame_line kind a.configuration i frame.payload frame.tally)
+  FrameAnswers (Ok false) = ReadsEnd left input × Silent
+  FrameAnswers (Err f) = FrameStops f ⊎ FrameStopsBy f (cause_of f)
+
+-- a line was written; or a write failed, which was counted, behind a beginning of it; or memory for
+-- it was refused
+abbrev pub WritesFrame : List ℕ → Passage → Result (Unit {0}) Fault → Type 0
+WritesFrame line p (Ok done) = (p.after ≡ p.before) × Appends p.old p.new line
+WritesFrame line p (Err f) =
+    ((f ≡ fault.Write) × (p.after ≡ one_more p.before) × AppendsBeginning p.old p.new line)
+    ⊎ ((f ≡ fault.OutOfMemory) × (p.after ≡ p.before) × Keeps p.old p.new)

@@ -1,0 +1,101 @@
+-- What a reader of a video knows, and what its calls answer.
+use Rattle.std.specs.Prelude.{◌≡◌, ℕ, Bool, true, false, List, Option, Some, None, Ok, Err, ⊤}
+use Rattle.ffv1_wire.specs.Failures.{one_more}
+use Rattle.ffv1_wire.specs.Passage.{Passage}
+use Rattle.ffv1_y4m.specs.VideoHead.{IsHead, IsSized, colour_head}
+use Rattle.ffv1_y4m.specs.declared.fault.Fault.{Fault as Y4mFault}
+use Rattle.ffv1_y4m.specs.declared.head.VideoHead.{VideoHead}
+use Rattle.ffv1_codec.specs.Picture.{Planes}
+use Rattle.ffv1_engine.specs.declared.fault.Fault.{Fault}
+use Rattle.ffv1_engine.specs.declared.video.VideoReader.{VideoReader}
+use Rattle.ffv1_engine.specs.declared.video.VideoReader.TheVariants as reader
+use Rattle.ffv1_engine.specs.Faults.{Cause, cause_of, of_y4m}
+use Rattle.ffv1_engine.specs.Faults.Cause.{Reading, Writing, Memory, Content}
+use Rattle.ffv1_engine.specs.Video.{is_ppm, picture_next, video_head}
+
+-- whether it is PPM, the head, whether the samples of the first image come next, and the fault that
+-- it met
+pub record VideoReading : Type 0 where
+  pub ppm : Bool
+  pub head : VideoHead
+  pub begun : Bool
+  pub failed : Option Y4mFault
+
+abbrev pub reading_of : {A : Type 0} → VideoReader A → VideoReading
+reading_of (reader.Y4m r) =
+    record { ppm = false; head = r.head; begun = true; failed = r.failed }
+reading_of (reader.Ppm r) =
+    record { ppm = true; head = r.head; begun = r.begun; failed = r.failed }
+
+-- the head as readers give it
+abbrev pub IsHeadBy : Bool → VideoHead → Type 0
+IsHeadBy true h = IsSized h × (h ≡ colour_head h.width h.height)
+IsHeadBy false h = IsHead h
+
+abbrev pub IsHeadOf : VideoReading → Type 0
+IsHeadOf r = IsHeadBy r.ppm r.head
+
+-- where the text is known, it begins with this head
+abbrev pub HeadKnown : Option (List ℕ) → Option (List ℕ) → Bool → VideoHead → Type 0
+HeadKnown None new ppm h = ⊤
+HeadKnown (Some text) None ppm h = ⊥
+HeadKnown (Some text) (Some rest) ppm h =
+    (ppm ≡ is_ppm text) × (video_head text ≡ Ok (h, rest))
+
+-- a head was read
+pub record HeadRead (p : Passage) (r : VideoReading) : Type 0 where
+  pub known : HeadKnown p.old p.new r.ppm r.head
+  pub kept : p.after ≡ p.before
+  pub fresh : r.failed ≡ None
+  pub begun : r.begun ≡ true
+
+-- where the text is known, it has no head, by this fault
+abbrev pub LacksKnown : Option (List ℕ) → Option (List ℕ) → Fault → Type 0
+LacksKnown None new f = ⊤
+LacksKnown (Some text) None f = ⊥
+LacksKnown (Some text) (Some rest) f =
+    (g : Y4mFault) × (video_head text ≡ Err (g, rest)) × (f ≡ of_y4m g)
+
+-- why no head was read
+abbrev pub HeadRefusedBy : Cause → Passage → Fault → Type 0
+HeadRefusedBy Reading p f = p.after ≡ one_more p.before
+HeadRefusedBy Writing p f = ⊥
+HeadRefusedBy Memory p f = ⊥
+HeadRefusedBy Content p f = (p.after ≡ p.before) × LacksKnown p.old p.new f
+
+abbrev pub HeadRefused : Passage → Fault → Type 0
+HeadRefused p f = HeadRefusedBy (cause_of f) p f
+
+-- where the text is known, so it goes on
+abbrev pub NextKnown : Option (List ℕ) → Option (List ℕ) → VideoReading → Option Planes → Type 0
+NextKnown None new r picture = ⊤
+NextKnown (Some text) None r picture = ⊥
+NextKnown (Some text) (Some rest) r picture =
+    picture_next r.ppm r.head r.begun text ≡ Ok (picture, rest)
+
+-- the next picture was read, or the end was
+pub record NextRead (p : Passage) (r : VideoReading) (picture : Option Planes) (s : VideoReading)
+    : Type 0 where
+  pub known : NextKnown p.old p.new r picture
+  pub kept : p.after ≡ p.before
+  pub ppm : s.ppm ≡ r.ppm
+  pub head : s.head ≡ r.head
+  pub failed : s.failed ≡ None
+  pub begun : s.ppm ≡ true → s.begun ≡ false
+
+-- where the text is known, so it goes on, by this fault
+abbrev pub StopsKnown : Option (List ℕ) → Option (List ℕ) → VideoReading → Fault → Type 0
+StopsKnown None new r f = ⊤
+StopsKnown (Some text) None r f = ⊥
+StopsKnown (Some text) (Some rest) r f =
+    (g : Y4mFault) × (picture_next r.ppm r.head r.begun text ≡ Err (g, rest)) × (f ≡ of_y4m g)
+
+-- why no picture was read
+abbrev pub NextRefusedBy : Cause → Passage → VideoReading → Fault → Type 0
+NextRefusedBy Reading p r f = p.after ≡ one_more p.before
+NextRefusedBy Writing p r f = ⊥
+NextRefusedBy Memory p r f = p.after ≡ p.before
+NextRefusedBy Content p r f = (p.after ≡ p.before) × StopsKnown p.old p.new r f
+
+abbrev pub NextRefused : Passage → VideoReading → Fault → Type 0
+NextRefused p r f = NextRefusedBy (cause_of f) p r f

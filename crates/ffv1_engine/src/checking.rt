@@ -1,0 +1,76 @@
+//! All frames of a file are decoded, and told.
+
+ghost use Rattle.std.specs.Prelude.{IfErr, OnOk};
+ghost use Rattle.ffv1_wire.specs.Passage.{passage};
+ghost use Rattle.ffv1_engine.specs.Check.{CheckDone, CheckStops, count_line};
+ghost use Rattle.ffv1_engine.specs.Told.{WritesFrame};
+
+use crate::fault::Fault;
+use crate::frame_line::{FrameLine, put_count};
+use crate::player::open_player;
+use crate::telling::tell_frames;
+use ffv1_avi::laws::{file_is_read, frames_in_turn, read_is_file};
+use ffv1_wire::{ByteIn, ByteOut, write_all};
+use std::alloc::Allocator;
+
+/// Writes how many frames there were.
+fn write_count<W: ByteOut, A: Allocator + Copy>(
+    alloc: A,
+    output: &mut W,
+    count: u64,
+) -> Result<(), Fault>
+    ensures { WritesFrame (count_line count)
+        (passage W.contents W.failures output.old output.new) result }
+{
+    let mut text = Vec::new(alloc);
+    put_count(&mut text, count)?;
+    if write_all(output, &text).is_err() {
+        return Err(Fault::Write);
+    }
+    Ok(())
+}
+
+/// Decodes all frames of a file, and writes a line of each as soon as it is decoded, and at the end
+/// how many there were:
+///
+/// ```text
+/// frame {i}: {length} bytes, {slices} slices, {decisions} decisions
+/// frames {n}
+/// ```
+///
+/// Frames are counted from 0; a count of 64 bits stays at its greatest value. Beside what the
+/// decoder holds, one payload and one line are held.
+///
+/// The first fault ends it, behind the lines of the frames before: those of the file up to its
+/// first frame (`NotAvi`, `NoFfv1`, `Truncated`, `ChunkTooLong`), of its record, of `movi`
+/// (`EmptyFrame`, too), of a payload; `NoFrames` at the end where there was none; `Read`,
+/// `OutOfMemory` and `Write` as they come. With `place`, where a payload is refused, and only
+/// there, one line more is written, and where that cannot be, the fault stays the payload's:
+///
+/// ```text
+/// fault frame {i} slice {s} plane {p} line {l} x {x} decisions {d}
+/// ```
+pub fn check<R: ByteIn, W: ByteOut, A: Allocator + Copy>(
+    alloc: A,
+    input: &mut R,
+    output: &mut W,
+    place: bool,
+) -> Result<(), Fault>
+    ensures ok { OnOk result (CheckDone place
+        (passage R.remaining R.failures input.old input.new)
+        (passage W.contents W.failures output.old output.new)) }
+    ensures err { IfErr result (CheckStops place
+        (passage R.remaining R.failures input.old input.new)
+        (passage W.contents W.failures output.old output.new)) }
+{
+    frames_in_turn();
+    read_is_file();
+    file_is_read();
+    let mut player = open_player(alloc, input)?;
+    let count = tell_frames(alloc, &mut player, input, output, FrameLine::Sizes, place)?;
+    if count == 0 {
+        return Err(Fault::NoFrames);
+    }
+    write_count(alloc, output, count)?;
+    Ok(())
+}

@@ -1,0 +1,197 @@
+//! The pictures of a video are encoded.
+
+ghost use Rattle.std.specs.Prelude.{◌≡◌, ◌⊎◌, Bool, IfOk, IfErr, OnOk, None, true, [], ◌∷◌};
+ghost use Rattle.ffv1_wire.specs.Passage.{passage};
+ghost use Rattle.ffv1_record.specs.Accepted.{IsFirst, checks};
+ghost use Rattle.ffv1_record.specs.Configuration.{configuration_of};
+ghost use Rattle.ffv1_record.specs.declared.fault.RecordFault.{RecordFault};
+ghost use Rattle.ffv1_avi.specs.Head.{head_of};
+ghost use Rattle.ffv1_avi.specs.Written.{frames_of};
+ghost use Rattle.ffv1_engine.specs.declared.fault.Fault.TheVariants as fault;
+ghost use Rattle.ffv1_engine.specs.Faults.{of_record};
+ghost use Rattle.ffv1_engine.specs.Encoding.{EncodesAll, EncodesNext, StopsEncoding};
+ghost use Rattle.ffv1_engine.specs.Encoding.{StopsNext};
+ghost use Rattle.ffv1_engine.specs.Pack.{is_pack_fault};
+ghost use Rattle.ffv1_engine.specs.Packing.{IsFor, coder_for, colour_for, configuration_for};
+ghost use Rattle.ffv1_engine.specs.Packing.{head_for, said_for, set_for};
+ghost use Rattle.ffv1_engine.specs.VideoReads.{IsHeadBy, reading_of};
+
+use crate::fault::Fault;
+use crate::order::{Choice, CoderChoice};
+use crate::video::VideoReader;
+use ffv1_avi::AviHead;
+use ffv1_codec::{FrameEncoder, Info, Picture};
+use ffv1_plane::QuantSet;
+use ffv1_range::laws::one_table;
+use ffv1_record::{Checked, Coder, Colour, Config, Sets, write_record};
+use ffv1_wire::ByteIn;
+use ffv1_y4m::VideoHead;
+use std::alloc::Allocator;
+use std::mem;
+
+/// The one set of a choice.
+fn sets_for<A: Allocator + Copy>(alloc: A, large: bool) -> Result<Sets<A>, Fault>
+    ensures ok { IfOk result (λ s. s ≡ set_for large ∷ []) }
+    ensures err { IfErr result (λ f. f ≡ fault.OutOfMemory) }
+{
+    let mut sets = Sets::new(alloc);
+    let set = if large {
+        QuantSet::large(alloc)?
+    } else {
+        QuantSet::small(alloc)?
+    };
+    sets.push(set)?;
+    Ok(sets)
+}
+
+/// The coder of a choice.
+fn coder_for(coder: CoderChoice) -> Coder
+    ensures { result ≡ coder_for coder }
+{
+    match coder {
+        CoderChoice::Standard => Coder::One,
+        CoderChoice::Carried => Coder::Two([0; 255]),
+    }
+}
+
+/// PPM is coded by the colour transform.
+fn colour_for(ppm: bool) -> Colour
+    ensures { result ≡ colour_for ppm }
+{
+    if ppm { Colour::Rct } else { Colour::YCbCr }
+}
+
+/// The configuration of a video.
+fn config_for<A: Allocator + Copy>(
+    alloc: A,
+    choice: &Choice,
+    ppm: bool,
+    head: &VideoHead,
+) -> Result<Config<A>, Fault>
+    ensures ok { IfOk result (λ c.
+        configuration_of c ≡ configuration_for choice.now ppm head.now) }
+    ensures err { IfErr result (λ f. f ≡ fault.OutOfMemory) }
+{
+    let sets = sets_for(alloc, choice.large)?;
+    Ok(Config {
+        width: head.width,
+        height: head.height,
+        coder: coder_for(choice.coder),
+        colour: colour_for(ppm),
+        chroma_planes: head.chroma_planes,
+        extra_plane: head.extra_plane,
+        log2_h: u32::from(head.log2_h),
+        log2_v: u32::from(head.log2_v),
+        columns: choice.columns,
+        rows: choice.rows,
+        sets,
+        ec: choice.ec,
+        intra: true,
+    })
+}
+
+/// The same, checked.
+pub(crate) fn checked_for<A: Allocator + Copy>(
+    alloc: A,
+    choice: &Choice,
+    ppm: bool,
+    head: &VideoHead,
+) -> Result<Checked<A>, Fault>
+    requires { IsHeadBy ppm head.now }
+    ensures ok { IfOk result (IsFor choice.now ppm head.now) }
+    ensures err { IfErr result (λ f. (f ≡ fault.OutOfMemory)
+        ⊎ ((g : RecordFault) × IsFirst checks (configuration_for choice.now ppm head.now) g
+        × (f ≡ of_record g))) }
+    ensures own { IfErr result (λ f. is_pack_fault f ≡ true) }
+{
+    one_table();
+    let config = config_for(alloc, choice, ppm, head)?;
+    Ok(config.check()?)
+}
+
+/// The head of the file of a video.
+pub(crate) fn file_head<A: Allocator + Copy>(
+    alloc: A,
+    choice: &Choice,
+    ppm: bool,
+    head: &VideoHead,
+    checked: &Checked<A>,
+) -> Result<AviHead<A>, Fault>
+    ensures ok { IfOk result (λ h.
+        head_of h ≡ head_for choice.now ppm head.now checked.now.configuration) }
+    ensures err { IfErr result (λ f. f ≡ fault.OutOfMemory) }
+{
+    let config_record = write_record(alloc, checked)?;
+    Ok(AviHead {
+        width: head.width,
+        height: head.height,
+        rate: if ppm { choice.rate } else { head.rate },
+        scale: if ppm { choice.scale } else { head.scale },
+        config_record,
+    })
+}
+
+/// What each frame of a video says of its picture.
+fn info_for(head: &VideoHead, ppm: bool) -> Info
+    requires { IsHeadBy ppm head.now }
+    ensures { result ≡ said_for head.now }
+{
+    Info::new(head.structure, head.sar_num, head.sar_den).unwrap()
+}
+
+/// Encodes the next picture, whose frame comes behind the others; false at the end. The planes lend
+/// their memory.
+fn encode_next<R: ByteIn, A: Allocator + Copy>(
+    alloc: A,
+    reader: &mut VideoReader<A>,
+    input: &mut R,
+    encoder: &mut FrameEncoder<A>,
+    planes: &mut Vec<Vec<u8, A>, A>,
+    frames: &mut Vec<Vec<u8, A>, A>,
+) -> Result<bool, Fault>
+    requires working { (reading_of reader.old).failed ≡ None }
+    requires suits { (choice : Choice) × IsFor choice (reading_of reader.old).ppm
+        (reading_of reader.old).head encoder.old.accepted }
+    ensures same { encoder.new.accepted ≡ encoder.old.accepted }
+    ensures ok { IfOk result (EncodesNext (passage R.remaining R.failures input.old input.new)
+        encoder.old.accepted (reading_of reader.old) (reading_of reader.new)
+        (frames_of frames.old.items) (frames_of frames.new.items)) }
+    ensures err { IfErr result (StopsNext (passage R.remaining R.failures input.old input.new)
+        encoder.old.accepted (reading_of reader.old)) }
+    ensures own { IfErr result (λ f. is_pack_fault f ≡ true) }
+{
+    let info = info_for(reader.head(), reader.is_ppm());
+    if !reader.next(input, planes)? {
+        return Ok(false);
+    }
+    let lent = mem::replace(planes, Vec::new(alloc));
+    let picture = Picture::new(encoder.config(), lent).unwrap();
+    let frame = encoder.encode(&picture, info)?;
+    frames.push(frame)?;
+    *planes = picture.into_planes();
+    Ok(true)
+}
+
+/// Encodes all pictures.
+pub(crate) fn encode_pictures<R: ByteIn, A: Allocator + Copy>(
+    alloc: A,
+    reader: &mut VideoReader<A>,
+    input: &mut R,
+    encoder: &mut FrameEncoder<A>,
+    frames: &mut Vec<Vec<u8, A>, A>,
+) -> Result<(), Fault>
+    requires working { (reading_of reader.old).failed ≡ None }
+    requires begun { (reading_of reader.old).begun ≡ true }
+    requires suits { (choice : Choice) × IsFor choice (reading_of reader.old).ppm
+        (reading_of reader.old).head encoder.old.accepted }
+    requires none { frames.old.items ≡ [] }
+    ensures ok { OnOk result (EncodesAll (passage R.remaining R.failures input.old input.new)
+        encoder.old.accepted (reading_of reader.old) (frames_of frames.new.items)) }
+    ensures err { IfErr result (StopsEncoding (passage R.remaining R.failures input.old input.new)
+        encoder.old.accepted (reading_of reader.old)) }
+    ensures own { IfErr result (λ f. is_pack_fault f ≡ true) }
+{
+    let mut planes = Vec::new(alloc);
+    while encode_next(alloc, reader, input, encoder, &mut planes, frames)? {}
+    Ok(())
+}

@@ -1,0 +1,112 @@
+//! A video is packed.
+
+ghost use Rattle.std.specs.Prelude.{◌≡◌, ◌≤◌, IfOk, IfErr, true};
+ghost use Rattle.ffv1_wire.specs.Passage.{passage};
+ghost use Rattle.ffv1_avi.specs.Head.{head_of};
+ghost use Rattle.ffv1_avi.specs.Written.{frames_of};
+ghost use Rattle.ffv1_engine.specs.Pack.{EncodesVideo, Packs, RefusesPack, StopsVideo};
+ghost use Rattle.ffv1_engine.specs.Pack.{is_pack_fault};
+ghost use Rattle.ffv1_engine.specs.Packing.{bytes_in};
+
+use crate::encoding::{checked_for, encode_pictures, file_head};
+use crate::fault::Fault;
+use crate::order::Choice;
+use crate::video::VideoReader;
+use ffv1_avi::{AviHead, write_avi};
+use ffv1_codec::FrameEncoder;
+use ffv1_wire::{ByteIn, ByteOut};
+use ffv1_y4m::laws::{images, texts};
+use std::alloc::{Allocator, Global};
+
+/// What was packed.
+#[derive(Clone, Copy, Debug, PartialEq, Eq)]
+pub struct Packed {
+    /// How many frames there are, at least 1.
+    pub frames: u64,
+    /// How many bytes the frames have, without what the file adds to them.
+    pub bytes: u64,
+}
+
+/// The head and the frames of a file.
+#[derive(Drop)]
+struct Stream<A: Allocator = Global> {
+    head: AviHead<A>,
+    frames: Vec<Vec<u8, A>, A>,
+}
+
+/// Reads a video and encodes it.
+fn encode_video<R: ByteIn, A: Allocator + Copy>(
+    alloc: A,
+    input: &mut R,
+    choice: &Choice,
+) -> Result<Stream<A>, Fault>
+    ensures ok { IfOk result (λ s. EncodesVideo choice.now
+        (passage R.remaining R.failures input.old input.new) (head_of s.head)
+        (frames_of s.frames.items)) }
+    ensures err { IfErr result (StopsVideo choice.now
+        (passage R.remaining R.failures input.old input.new)) }
+    ensures own { IfErr result (λ f. is_pack_fault f ≡ true) }
+{
+    texts();
+    images();
+    let mut reader = VideoReader::open(alloc, input)?;
+    let ppm = reader.is_ppm();
+    let checked = checked_for(alloc, choice, ppm, reader.head())?;
+    let head = file_head(alloc, choice, ppm, reader.head(), &checked)?;
+    let mut encoder = FrameEncoder::new(alloc, checked);
+    let mut frames = Vec::new(alloc);
+    encode_pictures(alloc, &mut reader, input, &mut encoder, &mut frames)?;
+    if frames.is_empty() {
+        return Err(Fault::NoFrames);
+    }
+    Ok(Stream { head, frames })
+}
+
+/// How many bytes frames have.
+fn bytes_in<A: Allocator>(frames: &[Vec<u8, A>]) -> u64
+    requires { bytes_in (frames_of frames.now) ≤ 2147483647 }
+    ensures { result ≡ bytes_in (frames_of frames.now) }
+{
+    let mut bytes = 0;
+    for frame in 0..frames.len() {
+        bytes += frames[frame].as_slice().len() as u64;
+    }
+    bytes
+}
+
+/// Packs a video: YUV4MPEG2 or, where the first byte is `P`, binary PPM is read, each picture is
+/// encoded, and an AVI of the frames is written (RFC 9043, 4.3.3).
+///
+/// The file's configuration record has one quantisation table set, and says that all frames are key
+/// frames. The frames of YUV4MPEG2 say its structure and aspect, and the file its rate and scale;
+/// PPM is coded by the colour transform, with structure and aspect unknown, and the rate and scale
+/// of the choice. All frames are encoded before the first byte is written.
+///
+/// The first fault is answered in this order. `Header`, `Tag` and `Unsupported` where the text has
+/// no head; `Grid` and `ChromaEdge` where the choice does not suit its sizes; for each picture
+/// `FrameLine`, `FrameTruncated`, for a later image `Header` and `FormatChanged`, and
+/// `SliceTooLong` where a slice takes more than 16777215 bytes; `NoFrames` where there is no
+/// picture; `TooLarge` where the size of RIFF would pass 2147483647. `Read` where a read failed,
+/// and `OutOfMemory`, which comes behind the head alone. Nothing is written then. `Write` where a
+/// write failed: a beginning of the file is then written, and not all of it.
+pub fn pack<R: ByteIn, W: ByteOut, A: Allocator + Copy>(
+    alloc: A,
+    input: &mut R,
+    output: &mut W,
+    choice: &Choice,
+) -> Result<Packed, Fault>
+    ensures ok { IfOk result (Packs choice.now
+        (passage R.remaining R.failures input.old input.new)
+        (passage W.contents W.failures output.old output.new)) }
+    ensures err { IfErr result (RefusesPack choice.now
+        (passage R.remaining R.failures input.old input.new)
+        (passage W.contents W.failures output.old output.new)) }
+    ensures own { IfErr result (λ f. is_pack_fault f ≡ true) }
+{
+    let stream = encode_video(alloc, input, choice)?;
+    write_avi(output, &stream.head, &stream.frames)?;
+    Ok(Packed {
+        frames: stream.frames.len() as u64,
+        bytes: bytes_in(&stream.frames),
+    })
+}

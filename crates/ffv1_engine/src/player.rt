@@ -1,0 +1,127 @@
+//! The frames of a file, one after the other.
+
+ghost use Rattle.std.specs.Prelude.{◌≡◌, ◌⊎◌, ◌<◌, IfErr, IfOk, IfSome, None, OnOk, Some};
+ghost use Rattle.ffv1_wire.specs.Passage.{passage};
+ghost use Rattle.ffv1_avi.specs.Head.{head_of};
+ghost use Rattle.ffv1_record.specs.Reading.{IsRefused};
+ghost use Rattle.ffv1_record.specs.declared.fault.RecordFault.TheVariants as record_fault;
+ghost use Rattle.ffv1_engine.specs.declared.fault.Fault.TheVariants as fault;
+ghost use Rattle.ffv1_engine.specs.Opens.{OpensStream, LacksOpening};
+ghost use Rattle.ffv1_engine.specs.Stream.{IsStream};
+ghost use Rattle.ffv1_engine.specs.Told.{StepAnswers};
+
+use crate::fault::Fault;
+use ffv1_avi::{AviFault, AviHead, AviReader};
+use ffv1_codec::{FrameDecoder, FrameFault, Info};
+use ffv1_record::{Checked, RecordFault, read_record};
+use ffv1_wire::{ByteIn, LineSink};
+use std::alloc::{Allocator, Global};
+
+/// Why a file is not played on.
+#[derive(Clone, Copy, Debug)]
+pub enum Stop {
+    /// The file has no further frame that can be read.
+    File(AviFault),
+    /// The payload that was read does not decode to its end.
+    Payload(FrameFault),
+}
+
+/// The configuration of a head's record, for pictures of the head's size.
+fn read_head<A: Allocator + Copy>(alloc: A, head: &AviHead<A>) -> Result<Checked<A>, RecordFault>
+    ensures ok { IfOk result (λ c. IsStream (record { head = head_of head.now; accepted = c })) }
+    ensures err { IfErr result (λ f. (f ≡ record_fault.OutOfMemory)
+        ⊎ IsRefused head.now.config_record.items head.now.width head.now.height f) }
+{
+    // Both arms are written out, so that the clauses are proved by arm.
+    match read_record(alloc, &head.config_record, head.width, head.height) {
+        Ok(checked) => Ok(checked),
+        Err(fault) => Err(fault),
+    }
+}
+
+/// Opens a file, and reads the configuration of its frames. The faults are those of the file up to
+/// `movi`, then those of its record; `Read` and `OutOfMemory` as they come.
+pub(crate) fn open_stream<R: ByteIn, A: Allocator + Copy>(
+    alloc: A,
+    input: &mut R,
+) -> Result<(AviReader<A>, Checked<A>), Fault>
+    ensures ok { IfOk result (λ p. OpensStream p.0 p.1
+        (passage R.remaining R.failures input.old input.new)) }
+    ensures err { IfErr result (LacksOpening
+        (passage R.remaining R.failures input.old input.new)) }
+{
+    let reader = AviReader::open(alloc, input)?;
+    let checked = read_head(alloc, reader.head())?;
+    Ok((reader, checked))
+}
+
+/// A file that is played: its reader, the decoder of its frames, and the payload that was read
+/// last. Both vectors that it needs are reused for each frame.
+#[derive(Drop)]
+pub struct Player<A: Allocator = Global> {
+    pub(crate) reader: AviReader<A>,
+    pub(crate) decoder: FrameDecoder<A>,
+    pub(crate) payload: Vec<u8, A>,
+}
+
+/// A player of a file that was opened. Refuses with `OutOfMemory` where the decoder is refused its
+/// memory.
+pub(crate) fn player_of<A: Allocator + Copy>(
+    alloc: A,
+    reader: AviReader<A>,
+    checked: Checked<A>,
+) -> Result<Player<A>, Fault>
+    ensures reader { IfOk result (λ p. p.reader ≡ reader) }
+    ensures decoder { IfOk result (λ p. p.decoder.accepted ≡ checked) }
+    ensures err { IfErr result (λ f. f ≡ fault.OutOfMemory) }
+{
+    let decoder = FrameDecoder::new(alloc, checked)?;
+    Ok(Player {
+        reader,
+        decoder,
+        payload: Vec::new(alloc),
+    })
+}
+
+/// Opens a file, and makes the decoder of its frames. The faults are those of `open_stream`, and
+/// `OutOfMemory` where the decoder is refused its memory.
+pub(crate) fn open_player<R: ByteIn, A: Allocator + Copy>(
+    alloc: A,
+    input: &mut R,
+) -> Result<Player<A>, Fault>
+    ensures ok { IfOk result (λ p. OpensStream p.reader p.decoder.accepted
+        (passage R.remaining R.failures input.old input.new)) }
+    ensures err { IfErr result (LacksOpening
+        (passage R.remaining R.failures input.old input.new)) }
+{
+    let (reader, checked) = open_stream(alloc, input)?;
+    let player = player_of(alloc, reader, checked)?;
+    Ok(player)
+}
+
+/// Reads the next frame and decodes it into a sink, and answers what it says of its picture; None
+/// at the end of the file.
+pub(crate) fn play<R: ByteIn, S: LineSink, A: Allocator>(
+    player: &mut Player<A>,
+    input: &mut R,
+    sink: &mut S,
+) -> Result<Option<Info>, Stop>
+    requires sound { player.old.reader.fault ≡ None }
+    ensures answer { StepAnswers S.takes S.refuses player.old.decoder.accepted
+        player.old.reader.left player.new.reader.left player.new.payload.items
+        player.new.decoder.tally (passage R.remaining R.failures input.old input.new)
+        sink.old sink.new result }
+    ensures sound { OnOk result (player.new.reader.fault ≡ None) }
+    ensures less { IfOk result (λ o. IfSome o (λ _.
+        player.new.reader.left < player.old.reader.left)) }
+    ensures same { player.new.decoder.accepted ≡ player.old.decoder.accepted }
+{
+    match player.reader.next_frame(input, &mut player.payload) {
+        Ok(false) => Ok(None),
+        Ok(true) => match player.decoder.decode(&player.payload, sink) {
+            Ok(info) => Ok(Some(info)),
+            Err(fault) => Err(Stop::Payload(fault)),
+        },
+        Err(fault) => Err(Stop::File(fault)),
+    }
+}

@@ -1,0 +1,175 @@
+//! Frames are decoded one after the other, and a line is written of each at once.
+
+ghost use Rattle.std.specs.Prelude.{◌≡◌, ◌<◌, IfErr, IfOk, None, OnOk, true, length, List, []};
+ghost use Rattle.ffv1_wire.specs.Passage.{passage};
+ghost use Rattle.ffv1_range.specs.Counts.{saturated};
+ghost use Rattle.ffv1_record.specs.Accepted.{IsAccepted};
+ghost use Rattle.ffv1_codec.specs.Answer.{decided_by};
+ghost use Rattle.ffv1_engine.specs.FrameLines.{frame_line, place_line, place_text};
+ghost use Rattle.ffv1_engine.specs.Stream.{Frame};
+ghost use Rattle.ffv1_engine.specs.Told.{FrameAnswers, TellingStops, ToldAll, WritesFrame};
+ghost use Rattle.ffv1_engine.specs.Told.{WritesLine};
+
+use crate::fault::Fault;
+use crate::frame_line::{FrameLine, put_cost, put_place, put_sizes};
+use crate::player::{Player, Stop, play};
+use ffv1_codec::answer_laws::answered;
+use ffv1_codec::sink_laws::taken_lines;
+use ffv1_codec::{DropLines, FrameDecoder, FrameFault};
+use ffv1_wire::{ByteIn, ByteOut, write_all};
+use std::alloc::{AllocError, Allocator};
+
+/// The line of a frame that was decoded last, in place of what the text has.
+fn put_line<A: Allocator>(
+    text: &mut Vec<u8, A>,
+    kind: FrameLine,
+    number: u64,
+    payload: &[u8],
+    decoder: &FrameDecoder<A>,
+) -> Result<(), AllocError>
+    ensures { OnOk result (text.new.items ≡ frame_line kind decoder.now.accepted.configuration
+        number payload.now decoder.now.tally) }
+{
+    match kind {
+        FrameLine::Sizes => {
+            let config = decoder.config().config();
+            let slices = u64::from(config.columns) * u64::from(config.rows);
+            put_sizes(
+                text,
+                number,
+                payload.len() as u64,
+                slices,
+                decoder.decisions(),
+            )?;
+            Ok(())
+        }
+        FrameLine::Cost => {
+            put_cost(text, number, decoder.tally())?;
+            Ok(())
+        }
+    }
+}
+
+/// Writes the line of the frame that was decoded last.
+fn write_line<W: ByteOut, A: Allocator>(
+    output: &mut W,
+    text: &mut Vec<u8, A>,
+    kind: FrameLine,
+    number: u64,
+    payload: &[u8],
+    decoder: &FrameDecoder<A>,
+) -> Result<(), Fault>
+    ensures { WritesFrame (frame_line kind decoder.now.accepted.configuration number payload.now
+        decoder.now.tally) (passage W.contents W.failures output.old output.new) result }
+{
+    put_line(text, kind, number, payload, decoder)?;
+    if write_all(output, text).is_err() {
+        return Err(Fault::Write);
+    }
+    Ok(())
+}
+
+/// Writes the line of the place where a frame is refused.
+fn write_place<W: ByteOut, A: Allocator>(
+    output: &mut W,
+    text: &mut Vec<u8, A>,
+    number: u64,
+    fault: FrameFault,
+    decoder: &FrameDecoder<A>,
+) -> Result<(), Fault>
+    ensures { WritesFrame (place_line number fault (decided_by decoder.now.tally))
+        (passage W.contents W.failures output.old output.new) result }
+{
+    put_place(text, number, fault, decoder.decisions())?;
+    if write_all(output, text).is_err() {
+        return Err(Fault::Write);
+    }
+    Ok(())
+}
+
+/// Writes that line where it is asked for. Where it cannot be written, that is not told.
+fn tell_place<W: ByteOut, A: Allocator>(
+    output: &mut W,
+    text: &mut Vec<u8, A>,
+    place: bool,
+    number: u64,
+    fault: FrameFault,
+    decoder: &FrameDecoder<A>,
+)
+    ensures { WritesLine [] (place_text place number fault decoder.now.tally)
+        (passage W.contents W.failures output.old output.new) }
+{
+    if !place {
+        return;
+    }
+    let _told = write_place(output, text, number, fault, decoder);
+}
+
+/// Reads the next frame, decodes it, and writes its line, or with `place` that of the place where
+/// it is refused. Answers false where there is none.
+fn tell_frame<R: ByteIn, W: ByteOut, A: Allocator>(
+    player: &mut Player<A>,
+    input: &mut R,
+    output: &mut W,
+    text: &mut Vec<u8, A>,
+    kind: FrameLine,
+    place: bool,
+    number: u64,
+) -> Result<bool, Fault>
+    requires sound { player.old.reader.fault ≡ None }
+    requires accepted { IsAccepted player.old.decoder.accepted.configuration
+        player.old.decoder.accepted.table }
+    ensures answer { FrameAnswers kind place player.old.decoder.accepted number
+        player.old.reader.left player.new.reader.left
+        (passage R.remaining R.failures input.old input.new)
+        (passage W.contents W.failures output.old output.new) result }
+    ensures sound { OnOk result (player.new.reader.fault ≡ None) }
+    ensures less { IfOk result (λ more. more ≡ true →
+        player.new.reader.left < player.old.reader.left) }
+    ensures same { player.new.decoder.accepted ≡ player.old.decoder.accepted }
+{
+    answered::<DropLines>();
+    taken_lines();
+    let mut sink = DropLines::new(player.decoder.config());
+    match play(player, input, &mut sink) {
+        Ok(None) => Ok(false),
+        Ok(Some(_info)) => {
+            write_line(output, text, kind, number, &player.payload, &player.decoder)?;
+            Ok(true)
+        }
+        Err(Stop::File(fault)) => Err(Fault::from(fault)),
+        Err(Stop::Payload(fault)) => {
+            tell_place(output, text, place, number, fault, &player.decoder);
+            Err(Fault::from(fault.fault))
+        }
+    }
+}
+
+/// Decodes all frames that are left, and writes the line of each as soon as it is decoded. Answers
+/// how many there were, at most 2^64 - 1.
+pub(crate) fn tell_frames<R: ByteIn, W: ByteOut, A: Allocator + Copy>(
+    alloc: A,
+    player: &mut Player<A>,
+    input: &mut R,
+    output: &mut W,
+    kind: FrameLine,
+    place: bool,
+) -> Result<u64, Fault>
+    requires sound { player.old.reader.fault ≡ None }
+    requires accepted { IsAccepted player.old.decoder.accepted.configuration
+        player.old.decoder.accepted.table }
+    ensures ok { IfOk result (λ n. (frames : List Frame) × (n ≡ saturated (length frames))
+        × ToldAll kind place player.old.decoder.accepted player.old.reader.left
+        (passage R.remaining R.failures input.old input.new)
+        (passage W.contents W.failures output.old output.new) frames) }
+    ensures err { IfErr result (TellingStops kind place player.old.decoder.accepted
+        player.old.reader.left (passage R.remaining R.failures input.old input.new)
+        (passage W.contents W.failures output.old output.new)) }
+{
+    let mut text = Vec::new(alloc);
+    let mut count = 0u64;
+    while tell_frame(player, input, output, &mut text, kind, place, count)? {
+        count = count.saturating_add(1);
+    }
+    Ok(count)
+}

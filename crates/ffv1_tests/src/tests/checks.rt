@@ -1,0 +1,124 @@
+//! What `check` writes of files over memory, and its faults.
+
+use ffv1_avi::{AviHead, write_avi};
+use ffv1_engine::{Fault, check};
+use ffv1_plane::QuantSet;
+use ffv1_record::{Checked, Coder, Colour, Config, RecordFault, Sets, write_record};
+use ffv1_wire::{FromRead, ToWrite};
+use std::alloc::Allocator;
+use std::process::Abort;
+use std::test::Fail;
+
+/// Mono pictures of one line in so many columns, a sample in each, without parity.
+fn mono<A: Allocator + Copy>(alloc: A, columns: u32) -> Result<Checked<A>, RecordFault> {
+    let mut sets = Sets::new(alloc);
+    sets.push(QuantSet::small(alloc)?)?;
+    let config = Config {
+        width: columns,
+        height: 1,
+        coder: Coder::One,
+        colour: Colour::YCbCr,
+        chroma_planes: false,
+        extra_plane: false,
+        log2_h: 0,
+        log2_v: 0,
+        columns,
+        rows: 1,
+        sets,
+        ec: false,
+        intra: true,
+    };
+    config.check()
+}
+
+/// A file of so many of these frames.
+fn file_of<A: Allocator + Copy>(
+    alloc: A,
+    columns: u32,
+    frame: &[u8],
+    count: usize,
+) -> Result<Vec<u8, A>, Fault> {
+    let head = AviHead {
+        width: columns,
+        height: 1,
+        rate: 25,
+        scale: 1,
+        config_record: write_record(alloc, &mono(alloc, columns)?)?,
+    };
+    let mut frames = Vec::new(alloc);
+    for _frame in 0..count {
+        frames.push(Vec::from_slice(alloc, frame)?)?;
+    }
+    let mut out = ToWrite::new(Vec::new(alloc));
+    if columns > 8192 {
+        return Err(Fault::Size);
+    }
+    write_avi(&mut out, &head, frames.as_slice())?;
+    Ok(out.into_inner())
+}
+
+/// What a check of a file answers, and writes.
+fn checked<A: Allocator + Copy>(
+    alloc: A,
+    file: &[u8],
+    place: bool,
+) -> (Result<(), Fault>, Vec<u8, A>) {
+    let mut output = ToWrite::new(Vec::new(alloc));
+    let answer = check(alloc, &mut FromRead::new(file), &mut output, place);
+    (answer, output.into_inner())
+}
+
+/// A check of so many frames answers so, and writes this.
+fn comes_to<A: Allocator + Copy>(
+    rt: &impl Abort,
+    alloc: A,
+    frames: (u32, &[u8], usize),
+    place: bool,
+    answer: Result<(), Fault>,
+    text: &[u8],
+) -> Result<(), Fault> {
+    let file = file_of(alloc, frames.0, frames.1, frames.2)?;
+    let (found, written) = checked(alloc, &file, place);
+    assert!(rt; found == answer);
+    assert!(rt; written.as_slice() == text);
+    Ok(())
+}
+
+#[test]
+fn one_frame(rt: HostRuntime) -> Result<(), Fail> {
+    comes_to(
+        &rt,
+        rt.alloc(),
+        (1, b"\xFE\x7B\x00\x00\x02", 1),
+        false,
+        Ok(()),
+        b"frame 0: 5 bytes, 1 slices, 11 decisions\nframes 1\n",
+    )?;
+    Ok(())
+}
+
+#[test]
+fn no_frame(rt: HostRuntime) -> Result<(), Fail> {
+    comes_to(
+        &rt,
+        rt.alloc(),
+        (1, b"", 0),
+        true,
+        Err(Fault::NoFrames),
+        b"",
+    )?;
+    Ok(())
+}
+
+#[test]
+fn the_place_of_a_fault(rt: HostRuntime) -> Result<(), Fail> {
+    comes_to(
+        &rt,
+        rt.alloc(),
+        (2, b"\xFE\x7B\x00\x00\x02\xFE\x7B\x00\x00\x02", 1),
+        true,
+        Err(Fault::Place),
+        b"fault frame 0 slice 1 plane 0 line 0 x 0 decisions 11\n",
+    )?;
+    Ok(())
+}

@@ -1,0 +1,222 @@
+//! Videos that are packed, with files and frames computed outside the program, and their faults.
+
+use ffv1_doubles::{Scarce, ShortWriter};
+use ffv1_engine::{Choice, CoderChoice, Fault, Packed, pack};
+use ffv1_wire::{FromRead, ToWrite};
+use std::alloc::Allocator;
+use std::io::ErrorKind;
+use std::process::Abort;
+use std::test::Fail;
+
+const PLAIN: Choice = Choice {
+    coder: CoderChoice::Standard,
+    large: false,
+    columns: 1,
+    rows: 1,
+    ec: false,
+    rate: 25,
+    scale: 1,
+};
+
+/// A text of 4:2:0 with one picture of 2 by 2.
+const TEXT: &[u8] = b"YUV4MPEG2 W2 H2 F25:1 C420mpeg2 Xa\nFRAME\n\x01\x02\x03\x04\x05\x06";
+
+/// A red image of 1 by 1.
+const IMAGE: &[u8] = b"P6\n1 1\n255\n\xFF\x00\x00";
+
+/// What was packed of a text, and the file.
+fn packed<A: Allocator + Copy>(
+    alloc: A,
+    text: &[u8],
+    choice: &Choice,
+) -> Result<(Packed, Vec<u8, A>), Fault> {
+    let mut input = FromRead::new(text);
+    let mut output = ToWrite::new(Vec::new(alloc));
+    let packed = pack(alloc, &mut input, &mut output, choice)?;
+    Ok((packed, output.into_inner()))
+}
+
+/// Compares how many frames and bytes of them there are, how long the file is, and its end.
+fn packs<A: Allocator + Copy>(
+    rt: &impl Abort,
+    alloc: A,
+    text: &[u8],
+    choice: &Choice,
+    want: Packed,
+    end: &[u8],
+) -> Result<(), Fault> {
+    let (done, file) = packed(alloc, text, choice)?;
+    assert!(rt; done == want);
+    assert!(rt; file.as_slice().starts_with(b"RIFF".as_slice()));
+    assert!(rt; file.as_slice().ends_with(end));
+    Ok(())
+}
+
+/// A refused text: its fault, and that nothing is written.
+fn refuses<A: Allocator + Copy>(
+    rt: &impl Abort,
+    alloc: A,
+    text: &[u8],
+    choice: &Choice,
+    fault: Fault,
+) {
+    let mut output = ToWrite::new(Vec::new(alloc));
+    assert!(rt; pack(alloc, &mut FromRead::new(text), &mut output, choice) == Err(fault));
+    assert!(rt; output.into_inner().is_empty());
+}
+
+#[test]
+fn one_frame(rt: HostRuntime) -> Result<(), Fail> {
+    packs(
+        &rt,
+        rt.alloc(),
+        b"YUV4MPEG2 W1 H1 Cmono\nFRAME\n\x00",
+        &PLAIN,
+        Packed {
+            frames: 1,
+            bytes: 5,
+        },
+        b"00dc\x05\x00\x00\x00\xFE\x7B\x00\x00\x02\x00",
+    )?;
+    packs(
+        &rt,
+        rt.alloc(),
+        b"YUV4MPEG2 W1 H1 Cmono\nFRAME\n\x00",
+        &Choice { ec: true, ..PLAIN },
+        Packed {
+            frames: 1,
+            bytes: 10,
+        },
+        b"00dc\x0A\x00\x00\x00\xFE\x7B\x00\x00\x02\x00\x94\x8C\x13\x3C",
+    )?;
+    packs(
+        &rt,
+        rt.alloc(),
+        IMAGE,
+        &PLAIN,
+        Packed {
+            frames: 1,
+            bytes: 9,
+        },
+        b"00dc\x09\x00\x00\x00\xFE\x78\xDF\x83\xD9\x2C\x00\x00\x06\x00",
+    )?;
+    Ok(())
+}
+
+#[test]
+fn more_frames(rt: HostRuntime) -> Result<(), Fail> {
+    packs(
+        &rt,
+        rt.alloc(),
+        b"YUV4MPEG2 W1 H1 Cmono\nFRAME\n\x00FRAME\n\xFF",
+        &PLAIN,
+        Packed {
+            frames: 2,
+            bytes: 10,
+        },
+        b"\xFE\x7B\x00\x00\x02\x0000dc\x05\x00\x00\x00\xFE\x18\x00\x00\x02\x00",
+    )?;
+    packs(
+        &rt,
+        rt.alloc(),
+        b"YUV4MPEG2 W2 H1 Cmono\nFRAME\n\x00\x00",
+        &Choice {
+            columns: 2,
+            ..PLAIN
+        },
+        Packed {
+            frames: 1,
+            bytes: 10,
+        },
+        b"\xFE\x7B\x00\x00\x02\x3F\x76\x00\x00\x02",
+    )?;
+    Ok(())
+}
+
+#[test]
+fn faults(rt: HostRuntime) {
+    for (text, fault) in [
+        (b"".as_slice(), Fault::Header),
+        (b"YUV4MPEG2 W2 H2\n", Fault::NoFrames),
+        (b"YUV4MPEG2 W2 H2 C420p10\n", Fault::Unsupported),
+        (b"YUV4MPEG2 W2\n", Fault::Tag),
+        (b"YUV4MPEG2 W1 H1 Cmono\nFRAME Ip\n\x00", Fault::FrameLine),
+        (b"YUV4MPEG2 W1 H1 Cmono\nFRAME\n", Fault::FrameTruncated),
+        (
+            b"P6\n1 1\n255\n\xFF\x00\x00P6\n2 1\n255\n\x00\x00\x00\x00\x00\x00",
+            Fault::FormatChanged,
+        ),
+        (b"P5\n1 1\n255\n\xFF", Fault::Header),
+    ] {
+        refuses(&rt, rt.alloc(), text, &PLAIN, fault);
+    }
+}
+
+#[test]
+fn choices_that_do_not_suit(rt: HostRuntime) {
+    refuses(
+        &rt,
+        rt.alloc(),
+        TEXT,
+        &Choice {
+            columns: 3,
+            ..PLAIN
+        },
+        Fault::Grid,
+    );
+    refuses(
+        &rt,
+        rt.alloc(),
+        TEXT,
+        &Choice { rows: 0, ..PLAIN },
+        Fault::Grid,
+    );
+    refuses(
+        &rt,
+        rt.alloc(),
+        TEXT,
+        &Choice {
+            columns: 2,
+            ..PLAIN
+        },
+        Fault::ChromaEdge,
+    );
+}
+
+/// How many requests for memory were refused, one in each try, before a text was packed.
+#[test]
+fn each_request(rt: HostRuntime) {
+    let mut refused = 0u8;
+    for before in 0..80u64 {
+        let heap = Scarce::new(rt.alloc(), before);
+        let mut output = ToWrite::new(Vec::new(rt.alloc()));
+        match pack(&heap, &mut FromRead::new(TEXT), &mut output, &PLAIN) {
+            Ok(done) => assert!(rt; done.frames == 1),
+            Err(fault) => {
+                assert!(rt; fault == Fault::OutOfMemory);
+                assert!(rt; output.into_inner().is_empty());
+                refused = refused.saturating_add(1);
+            }
+        }
+    }
+    assert!(rt; refused > 8);
+    assert!(rt; refused < 80);
+}
+
+/// A writer that takes so many bytes holds the beginning of the file.
+fn cut<A: Allocator + Copy>(rt: &impl Abort, alloc: A, file: &[u8], room: usize) {
+    let mut output = ToWrite::new(ShortWriter::new(alloc, room, 7, Some(ErrorKind::Other)));
+    let answer = pack(alloc, &mut FromRead::new(IMAGE), &mut output, &PLAIN);
+    assert!(rt; answer == Err(Fault::Write));
+    let writer = output.into_inner();
+    assert!(rt; writer.held() == &file[..room.min(file.len())]);
+}
+
+#[test]
+fn each_beginning(rt: HostRuntime) -> Result<(), Fail> {
+    let (_, file) = packed(rt.alloc(), IMAGE, &PLAIN)?;
+    for room in 0..file.len() {
+        cut(&rt, rt.alloc(), file.as_slice(), room);
+    }
+    Ok(())
+}

@@ -1,0 +1,410 @@
+#!/usr/bin/env python3
+"""The program `ffv1` in plain Python: its command line, and its commands over codec and files.
+
+    python3 model/commands.py pack in.y4m out.avi
+
+The words, the printed lines, the faults on standard error, the exit status and what is left in OUT
+are those of the program; the text of clap, for help and for a line that is refused, is not.
+"""
+import os
+import re
+import sys
+
+sys.dont_write_bytecode = True
+
+import ffv1
+import files
+from ffv1 import Fault
+
+
+# --------------------------------------------------------------------------------- the command line
+
+class Refused(Exception):
+    """A command line that is refused: status 2."""
+
+
+class Help(Exception):
+    """A command line that asks for help: status 0."""
+
+
+def number(least, most):
+    """The reading of a value: a number from the least to the most, as Rust reads one: a sign and
+    leading zeros may stand before it."""
+    def read(text):
+        if not re.fullmatch("[+-]?[0-9]+", text, re.ASCII) or not least <= int(text) <= most:
+            raise Refused(text)
+        return int(text)
+    return read
+
+
+def one_of(*names):
+    """The reading of a value: one of these words."""
+    def read(text):
+        if text not in names:
+            raise Refused(text)
+        return text
+    return read
+
+
+class Level:
+    """What a command takes: how many files, its options by their readings, with their defaults, and
+    its flags."""
+
+    def __init__(self, files, options=None, flags=()):
+        self.files, self.options, self.flags = files, options or {}, flags
+
+
+COMMANDS = {
+    "pack": Level(2, {
+        "coder": (number(1, 2), 1), "contexts": (one_of("small", "large"), "small"),
+        "columns": (number(1, 32), 1), "rows": (number(1, 32), 1), "ec": (number(0, 1), 1),
+        "rate": (number(1, 2 ** 32 - 1), 25), "scale": (number(1, 2 ** 32 - 1), 1),
+    }),
+    "unpack": Level(2),
+    "check": Level(1, flags=["place"]),
+    "show": Level(1, flags=["cost"]),
+    "trial": Level(1),
+}
+STANDARD_OUTPUT = ["/dev/stdout", "/dev/fd/1", "/proc/self/fd/1"]
+
+
+class Order:
+    """What a command line asks for: the command, its files, and its options and flags by name."""
+
+    def __init__(self, command, files, choice):
+        self.command, self.files, self.choice = command, files, choice
+
+
+def is_plain(word):
+    """Whether a word is a file or a value, and no option."""
+    return word == "-" or not word.startswith("-")
+
+
+def is_help(word):
+    return word == "--help" or word.startswith("-h")
+
+
+def take_option(level, found, word):
+    """A word that begins with a hyphen; the option's name where the next word is its value."""
+    if is_help(word):
+        raise Help(word)
+    name, equals, value = word[2:].partition("=")
+    if not word.startswith("--") or name in found:
+        raise Refused(word)
+    if name in level.flags and not equals:
+        found[name] = True
+    elif name in level.options and equals:
+        found[name] = level.options[name][0](value)
+    elif name in level.options:
+        return name
+    else:
+        raise Refused(word)
+    return None
+
+
+def taken(level, words):
+    """The files, and the options and flags, that the words behind a command name."""
+    paths, found, waiting, ended = [], {}, None, False
+    for word in words:
+        if waiting:
+            if not is_plain(word):
+                raise Refused(word)
+            found[waiting], waiting = level.options[waiting][0](word), None
+        elif ended or is_plain(word):
+            paths.append(word)
+            if len(paths) > level.files:
+                raise Refused(word)
+        elif word == "--":
+            ended = True
+        else:
+            waiting = take_option(level, found, word)
+    if waiting or len(paths) < level.files:
+        raise Refused("more is wanted")
+    return paths, found
+
+
+def words(line):
+    """The order that the words of a command line, without the program's name, ask for."""
+    name, *rest = line or [""]
+    if name == "help" and (not rest or rest in [[known] for known in [*COMMANDS, "help"]]):
+        raise Help(name)
+    if is_help(name):
+        raise Help(name)
+    if name not in COMMANDS:
+        raise Refused(name)
+    level = COMMANDS[name]
+    paths, found = taken(level, rest)
+    if len(paths) == 2 and (paths[0] == paths[1] or paths[1] in STANDARD_OUTPUT):
+        raise Refused(paths[1])
+    choice = {name: default for name, (_, default) in level.options.items()}
+    return Order(name, paths, {**choice, **dict.fromkeys(level.flags, False), **found})
+
+
+# --------------------------------------------------------------------------------------------- pack
+
+def config_of(head, choice):
+    """The configuration of pictures with this head. Own: one set, and intra 1."""
+    return ffv1.Config(
+        head.width, head.height, coder=choice["coder"], rct=head.rct, chroma=head.chroma,
+        log2_h=head.log2_h, log2_v=head.log2_v, extra=head.extra, columns=choice["columns"],
+        rows=choice["rows"], sets=[ffv1.LARGE if choice["contexts"] == "large" else ffv1.SMALL],
+        ec=choice["ec"], intra=1)
+
+
+def pack(source, out, choice):
+    """A text of pictures becomes a file, when all its frames are encoded."""
+    first = source.some(1)
+    if first == b"P":
+        head, pictures = files.open_ppm(source, first), files.ppm_pictures
+        head.rate, head.scale = choice["rate"], choice["scale"]
+    else:
+        head, pictures = files.open_y4m(source, first), files.y4m_pictures
+    config = config_of(head, choice)
+    ffv1.check(config)
+    info = [head.structure, *head.aspect]
+    frames = [ffv1.encode_frame(config, planes, info) for planes in pictures(source, head)]
+    if not frames:
+        raise Fault(70)
+    record = ffv1.write_record(config)
+    avi = files.AviHead(head.width, head.height, head.rate, head.scale, record)
+    out(files.write_avi(avi, frames))
+    return f"frames {len(frames)} bytes {sum(map(len, frames))}\n"
+
+
+# --------------------------------------------------------------------------- unpack, check and show
+
+def opened(source):
+    """The head of a file, its configuration, and its frames."""
+    head, left = files.open_avi(source)
+    config = ffv1.read_record(head.record, head.width, head.height)
+    return head, config, files.avi_frames(source, left)
+
+
+def planes_of(config, lines):
+    """The planes of lines that were handed over."""
+    planes = [[] for _ in range(ffv1.plane_count(config))]
+    for plane, _, samples in lines:
+        planes[plane].append(samples)
+    return planes
+
+
+def unpack_y4m(head, config, frames, out):
+    """The canonical text of a file; own: 71 where a frame's structure or aspect is another."""
+    planes = (config.chroma, config.log2_h, config.log2_v, config.extra)
+    if files.name_of(planes) is None:
+        raise Fault(72)
+    count, first = 0, None
+    for payload in frames:
+        decoded = ffv1.decode_frame(config, payload)
+        if decoded.fault:
+            raise decoded.fault
+        if first is None:
+            first = decoded.info
+            video = files.VideoHead(config.width, config.height, head.rate, head.scale, first[0],
+                                    first[1:], planes)
+            out(files.y4m_header(video))
+        elif decoded.info != first:
+            raise Fault(71)
+        out(files.y4m_picture(planes_of(config, decoded.lines)))
+        count += 1
+    return count
+
+
+def unpack_ppm(config, frames, out):
+    """The images of a file, of a frame at fault the rows before the fault."""
+    if config.extra:
+        raise Fault(73)
+    count = 0
+    for payload in frames:
+        decoded = ffv1.decode_frame(config, payload)
+        rows = list(zip(*planes_of(config, decoded.lines)))
+        if rows:
+            out(files.ppm_header(config.width, config.height))
+        for row in rows:
+            out(files.ppm_line(*row))
+        if decoded.fault:
+            raise decoded.fault
+        count += 1
+    return count
+
+
+def unpack(source, out):
+    head, config, frames = opened(source)
+    if config.rct:
+        count = unpack_ppm(config, frames, out)
+    else:
+        count = unpack_y4m(head, config, frames, out)
+    if count == 0:
+        raise Fault(70)
+    return f"frames {count}\n"
+
+
+def place_line(number, decoded):
+    f = decoded.fault
+    return (f"fault frame {number} slice {f.slice} plane {f.plane} line {f.line} x {f.x} "
+            f"decisions {decoded.ones + decoded.zeros}\n")
+
+
+def check(source, out, place):
+    """A line for each frame; own: where a place is asked for, one more where decoding is refused,
+    whether or not that can be written."""
+    _, config, frames = opened(source)
+    count = 0
+    for payload in frames:
+        decoded = ffv1.decode_frame(config, payload)
+        if decoded.fault:
+            try:
+                out(place_line(count, decoded) if place else "")
+            except Fault:
+                pass
+            raise decoded.fault
+        out(f"frame {count}: {len(payload)} bytes, {config.slices()} slices, "
+            f"{decoded.ones + decoded.zeros} decisions\n")
+        count += 1
+    if count == 0:
+        raise Fault(70)
+    out(f"frames {count}\n")
+
+
+def held(config):
+    """Own: what a decoder holds: states, coded samples, output, and slices of a row."""
+    classes = 3 if config.extra else 2 if config.chroma else 1
+    contexts = max(ffv1.contexts_of(runs) for runs in config.sets)
+    planes = ffv1.plane_count(config) if config.rct else 1
+    states = 32 * config.columns * classes * contexts
+    return states, 3 * planes * config.width, planes * config.width, config.columns
+
+
+def shown(head, config):
+    """What a file says, a line each."""
+    chroma = f"{config.log2_h},{config.log2_v}" if config.chroma else "mono"
+    states, samples, output, columns = held(config)
+    return [
+        f"size {config.width}x{config.height}", f"coder {config.coder}",
+        f"colour {'RCT' if config.rct else 'YCbCr'}", f"chroma {chroma}",
+        *["extra 1"] * config.extra, f"slices {config.columns}x{config.rows}",
+        " ".join(["contexts", *(str(ffv1.contexts_of(runs)) for runs in config.sets)]),
+        f"ec {config.ec}", f"intra {config.intra}", f"rate {head.rate}/{head.scale}",
+        f"held states {states} samples {samples} output {output} columns {columns} offsets 1025",
+    ]
+
+
+def show(source, out, cost):
+    """What a file says, and what its frames cost."""
+    head, config, frames = opened(source)
+    for line in shown(head, config):
+        out(line + "\n")
+    for number, payload in enumerate(frames if cost else []):
+        decoded = ffv1.decode_frame(config, payload)
+        if decoded.fault:
+            raise decoded.fault
+        out(f"cost frame {number}: ones {decoded.ones} zeros {decoded.zeros} "
+            f"renormalisations {decoded.renormalisations}\n")
+
+
+# -------------------------------------------------------------------------------------------- trial
+
+def code_of(config, plane):
+    """The samples of a mono picture as the content of one slice: its decisions and its bytes."""
+    encoder, cell = ffv1.Encoder(), ffv1.Cell(config.width)
+    cell.lines = plane
+    for y in range(config.height):
+        ffv1.put_line(encoder, config, ffv1.SMALL, 0, cell, y)
+    return encoder.history.count, encoder.sentinel()
+
+
+def is_coded(config, plane, code):
+    """Whether bytes are decoded to a plane."""
+    decoder, cell = ffv1.Decoder(code), ffv1.Cell(config.width)
+    for _ in range(config.height):
+        ffv1.get_line(decoder, config, ffv1.SMALL, 0, cell)
+    return cell.lines == plane
+
+
+def trial(source, out):
+    """The first picture of a text, which is to be mono, coded and decoded."""
+    head = files.open_y4m(source, source.some(1))
+    if head.chroma:
+        raise Fault(62)
+    planes = next(files.y4m_pictures(source, head), None)
+    if planes is None:
+        raise Fault(70)
+    config = ffv1.Config(head.width, head.height)
+    decisions, code = code_of(config, planes[0])
+    assert is_coded(config, planes[0], code)
+    out(f"samples {head.width * head.height}\ndecisions {decisions}\ncode {code.hex().upper()}\n"
+        "same yes\n")
+
+
+# -------------------------------------------------------------------------------------- the program
+
+def opened_file(path, flags, number):
+    """A file's descriptor; the fault where it cannot be opened."""
+    try:
+        return os.open(path, flags, 0o666)
+    except OSError:
+        raise Fault(number)
+
+
+def writer(descriptor):
+    """Writes all bytes to a file; a write that failed is 57."""
+    def write(data):
+        data = data.encode() if isinstance(data, str) else data
+        try:
+            while data:
+                data = data[os.write(descriptor, data):]
+        except OSError:
+            raise Fault(57)
+    return write
+
+
+def perform(order, output):
+    """Does what a command line asks for, and prints by `output`: IN is opened, then OUT is made
+    empty."""
+    descriptors = [opened_file(order.files[0], os.O_RDONLY, 56)]
+    try:
+        source = files.Source(lambda count: os.read(descriptors[0], count))
+        if order.command in ("pack", "unpack"):
+            flags = os.O_WRONLY | os.O_CREAT | os.O_TRUNC
+            descriptors.append(opened_file(order.files[1], flags, 57))
+            out = writer(descriptors[1])
+            is_pack = order.command == "pack"
+            output(pack(source, out, order.choice) if is_pack else unpack(source, out))
+        elif order.command == "check":
+            check(source, output, order.choice["place"])
+        elif order.command == "show":
+            show(source, output, order.choice["cost"])
+        else:
+            trial(source, output)
+    finally:
+        for descriptor in descriptors:
+            os.close(descriptor)
+
+
+def run(line, output):
+    """The exit status of a command line, and the line on standard error; none for clap's text."""
+    try:
+        perform(words(line), output)
+    except Refused:
+        return 2, None
+    except Help:
+        return 0, None
+    except Fault as fault:
+        return 1, f"ffv1: {fault}\n"
+    return 0, ""
+
+
+def main(line):
+    """Runs a command line as the program does."""
+    try:
+        "".join(line).encode()
+    except UnicodeEncodeError:
+        status, errors = 2, "ffv1: an argument is not UTF-8\n"
+    else:
+        status, errors = run(line, writer(1))
+    os.write(2, (errors if errors is not None else "Usage: ffv1 <COMMAND>\n").encode())
+    return status
+
+
+if __name__ == "__main__":
+    sys.exit(main(sys.argv[1:]))

@@ -1,0 +1,356 @@
+"""AVI, YUV4MPEG2 and binary PPM, read and written, in plain Python: the formats in small.
+
+It is written from the formats: AVI RIFF File Reference (Microsoft), yuv4mpeg(5) of MJPEG Tools, and
+ppm(5) of Netpbm; what is this project's own choice says so. A picture is a list of planes, a plane
+a list of lines, and a line a list of samples.
+"""
+import re
+import struct
+
+from ffv1 import Fault
+
+LIMIT = 64 << 20            # own: the most bytes of a frame, and of a format, that are read
+MOST = 2 ** 31 - 1          # own: the greatest size of RIFF that is written
+PIECE = 1 << 16
+
+
+# ------------------------------------------------------------------------------ bytes that are read
+
+class Source:
+    """Bytes that are read from the left. `read` answers at most so many of them, and none at the
+    end; a read that failed is 56."""
+
+    def __init__(self, read):
+        self.read = read
+
+    def some(self, count):
+        """So many bytes, or fewer where the input ends before."""
+        parts = []
+        while count:
+            try:
+                part = self.read(min(count, PIECE))
+            except OSError:
+                raise Fault(56)
+            if not part:
+                break
+            parts.append(part)
+            count -= len(part)
+        return b"".join(parts)
+
+    def exactly(self, count, number):
+        """So many bytes; this fault where the input ends before."""
+        data = self.some(count)
+        if len(data) < count:
+            raise Fault(number)
+        return data
+
+    def skip(self, count, number):
+        """So many bytes are passed."""
+        while count:
+            count -= len(self.exactly(min(count, PIECE), number))
+
+
+def decimal(text, least, most):
+    """The number that digits say, without sign and leading zeros, from the least to the most; none
+    where it is not one."""
+    if not re.fullmatch(b"0|[1-9][0-9]*", text) or not least <= int(text) <= most:
+        return None
+    return int(text)
+
+
+# -------------------------------------------------------------------------------------------- heads
+
+class VideoHead:
+    """What a text of pictures says of them: a YUV4MPEG2 header, or a PPM, which is RCT."""
+
+    def __init__(self, width, height, rate=0, scale=0, structure=0, aspect=(0, 0),
+                 planes=(True, 0, 0, False), rct=False):
+        self.width, self.height, self.rate, self.scale = width, height, rate, scale
+        self.structure, self.aspect, self.rct = structure, aspect, rct
+        self.chroma, self.log2_h, self.log2_v, self.extra = planes
+
+    def sizes(self):
+        """The width and height of each plane: those of chroma are rounded up."""
+        whole = (self.width, self.height)
+        reduced = (-(-self.width // 2 ** self.log2_h), -(-self.height // 2 ** self.log2_v))
+        return [whole] + [reduced] * 2 * self.chroma + [whole] * self.extra
+
+
+def get_plane(source, width, height):
+    """The lines of a plane."""
+    return [list(source.exactly(width, 64)) for _ in range(height)]
+
+
+# ---------------------------------------------------------------------------------------- YUV4MPEG2
+
+# the names of chroma: whether there are chroma planes, log2 of their factors, and transparency
+PLANES = {
+    b"420jpeg": (True, 1, 1, False), b"420mpeg2": (True, 1, 1, False),
+    b"420paldv": (True, 1, 1, False), b"422": (True, 1, 0, False), b"444": (True, 0, 0, False),
+    b"411": (True, 2, 0, False), b"mono": (False, 0, 0, False), b"444alpha": (True, 0, 0, True),
+}
+STRUCTURES = {b"?": 0, b"t": 1, b"b": 2, b"p": 3}
+
+
+def name_of(planes):
+    """The name of chroma that is written, or none."""
+    return next((name for name, named in PLANES.items() if named == planes), None)
+
+
+def header_line(source, first):
+    """The line of a header, without its line feed, at most 1024 bytes, whose first byte is read."""
+    line = first
+    while line and len(line) <= 1024 and not line.endswith(b"\n"):
+        line += source.exactly(1, 60)
+    if not line.endswith(b"\n") or not re.match(b"YUV4MPEG2[ \n]", line):
+        raise Fault(60)
+    return line[:-1]
+
+
+def ratio(text, most):
+    """Two numbers with a colon between them, both zero or neither."""
+    parts = text.split(b":")
+    if len(parts) != 2:
+        return None
+    num, den = (decimal(part, 0, most) for part in parts)
+    return None if num is None or den is None or (num == 0) != (den == 0) else (num, den)
+
+
+def tag_value(letter, text):
+    """What a tag says; 61 where it is not one, 62 where it is left out here."""
+    if letter == b"X":
+        return text
+    if letter == b"C" and text not in PLANES or letter == b"I" and text == b"m":
+        raise Fault(62)
+    value = {
+        b"W": lambda: decimal(text, 1, 8192), b"H": lambda: decimal(text, 1, 8192),
+        b"F": lambda: ratio(text, 2 ** 32 - 1), b"A": lambda: ratio(text, 65535),
+        b"I": lambda: STRUCTURES.get(text), b"C": lambda: PLANES[text],
+    }.get(letter, lambda: None)()
+    if value is None:
+        raise Fault(61)
+    return value
+
+
+def open_y4m(source, first):
+    """The header of a text whose first byte is read, if it has one."""
+    tags = {}
+    for tag in header_line(source, first).split(b" ")[1:]:
+        letter, text = tag[:1], tag[1:]
+        if letter != b"X" and letter in tags:
+            raise Fault(61)
+        tags[letter] = tag_value(letter, text)
+    if b"W" not in tags or b"H" not in tags:
+        raise Fault(61)
+    return VideoHead(tags[b"W"], tags[b"H"], *tags.get(b"F", (0, 0)), tags.get(b"I", 0),
+                     tags.get(b"A", (0, 0)), tags.get(b"C", PLANES[b"420jpeg"]))
+
+
+def y4m_pictures(source, head):
+    """The pictures behind a header, in turn. An end where one would begin is the end."""
+    while byte := source.some(1):
+        for wanted in b"FRAME\n":
+            byte = byte or source.exactly(1, 64)
+            if byte != bytes([wanted]):
+                raise Fault(63)
+            byte = b""
+        yield [get_plane(source, *size) for size in head.sizes()]
+
+
+def y4m_header(head):
+    """The header that is written: the tags W H F I A C."""
+    letter = next(letter for letter, value in STRUCTURES.items() if value == head.structure)
+    name = name_of((head.chroma, head.log2_h, head.log2_v, head.extra))
+    return b"YUV4MPEG2 W%d H%d F%d:%d I%s A%d:%d C%s\n" % (
+        head.width, head.height, head.rate, head.scale, letter, *head.aspect, name)
+
+
+def y4m_picture(planes):
+    return b"FRAME\n" + b"".join(bytes(line) for plane in planes for line in plane)
+
+
+# ---------------------------------------------------------------------------------------------- PPM
+
+def ppm_number(source, end):
+    """A width or height, up to this byte behind it."""
+    text = b""
+    while len(text) <= 4 and not text.endswith(end):
+        text += source.exactly(1, 60)
+    size = decimal(text[:-1], 1, 8192) if text.endswith(end) else None
+    if size is None:
+        raise Fault(60)
+    return size
+
+
+def ppm_size(source, first):
+    """The header of an image whose first byte is read: its width and height. Own: no comments, and
+    no other maximum value."""
+    if first + source.exactly(2, 60) != b"P6\n":
+        raise Fault(60)
+    width, height = ppm_number(source, b" "), ppm_number(source, b"\n")
+    if source.exactly(4, 60) != b"255\n":
+        raise Fault(60)
+    return width, height
+
+
+def open_ppm(source, first):
+    """The first image's header. Own: structure and aspect are not known."""
+    return VideoHead(*ppm_size(source, first), rct=True)
+
+
+def ppm_pictures(source, head):
+    """The images one behind the other, as planes of red, green and blue. Own: all have one size."""
+    while True:
+        lines = get_plane(source, 3 * head.width, head.height)
+        yield [[line[k::3] for line in lines] for k in range(3)]
+        first = source.some(1)
+        if not first:
+            return
+        if ppm_size(source, first) != (head.width, head.height):
+            raise Fault(71)
+
+
+def ppm_header(width, height):
+    return b"P6\n%d %d\n255\n" % (width, height)
+
+
+def ppm_line(red, green, blue):
+    return bytes(sample for place in zip(red, green, blue) for sample in place)
+
+
+# ---------------------------------------------------------------------------------------------- AVI
+
+class AviHead:
+    """The head of a file: the size of the pictures, rate and scale, of which rate / scale is the
+    pictures a second, and the configuration record."""
+
+    def __init__(self, width, height, rate, scale, record):
+        self.width, self.height, self.rate, self.scale = width, height, rate, scale
+        self.record = record
+
+
+def numbers(*values):
+    """Numbers of four bytes, little end first."""
+    return struct.pack(f"<{len(values)}I", *values)
+
+
+def chunk(name, data):
+    """A name, a size, the bytes, and one more where they are odd."""
+    return name + numbers(len(data)) + data + bytes(len(data) % 2)
+
+
+def chunk_list(own, data):
+    return chunk(b"LIST", own + data)
+
+
+def padded(size):
+    return size + size % 2
+
+
+def riff_size(record_length, lengths):
+    """The size of RIFF, of a record and frames of so many bytes."""
+    return 172 + padded(40 + record_length) + 4 + sum(8 + padded(length) for length in lengths)
+
+
+def write_avi(head, frames):
+    """The file of these frames. Own: 55 where it is too large; 0 microseconds a frame where there
+    is no rate."""
+    if riff_size(len(head.record), map(len, frames)) > MOST:
+        raise Fault(55)
+    microseconds = min(1000000 * head.scale // head.rate, 2 ** 32 - 1) if head.rate else 0
+    size = head.width, head.height
+    avih = numbers(microseconds, 0, 0, 0, len(frames), 0, 1, 0, *size, 0, 0, 0, 0)
+    strh = b"vidsFFV1" + numbers(0, 0, 0, head.scale, head.rate, 0, len(frames), 0, 0, 0) \
+        + struct.pack("<4H", 0, 0, *size)
+    strf = numbers(40, *size) + struct.pack("<2H", 1, 24) + b"FFV1" + numbers(0, 0, 0, 0, 0)
+    strl = chunk_list(b"strl", chunk(b"strh", strh) + chunk(b"strf", strf + head.record))
+    movi = chunk_list(b"movi", b"".join(chunk(b"00dc", frame) for frame in frames))
+    return chunk(b"RIFF", b"AVI " + chunk_list(b"hdrl", chunk(b"avih", avih) + strl) + movi)
+
+
+def chunks(source, left):
+    """The name and the size of each chunk of a list with so many bytes left, in turn; who asks for
+    the next has passed this one, with its padding. Own: a list has room for its own name."""
+    while left:
+        if left < 8:
+            raise Fault(52)
+        header = source.exactly(8, 52)
+        name, size = header[:4], struct.unpack("<I", header[4:])[0]
+        if left < 8 + padded(size):
+            raise Fault(52)
+        if name == b"LIST" and size < 4:
+            raise Fault(50)
+        left -= 8 + padded(size)
+        yield name, size
+
+
+def get_chunk(source, size):
+    """The bytes of a chunk, with which its padding is read."""
+    return source.exactly(padded(size), 52)[:size]
+
+
+def get_stream(source, left):
+    """The head that a stream says: its first header and its first format count."""
+    fields = {}
+    for name, size in chunks(source, left):
+        if name not in (b"strh", b"strf") or name in fields:
+            source.skip(padded(size), 52)
+            continue
+        if name == b"strf" and size > LIMIT:
+            raise Fault(53)
+        fields[name] = get_chunk(source, size)
+    strh, strf = fields.get(b"strh", b""), fields.get(b"strf", b"")
+    if len(strh) < 56 or strh[:4] != b"vids" or len(strf) < 40 or strf[16:20] != b"FFV1":
+        raise Fault(51)
+    scale, rate = struct.unpack("<2I", strh[20:28])
+    if (scale == 0) != (rate == 0):
+        raise Fault(50)
+    return AviHead(*struct.unpack("<2I", strf[4:12]), rate, scale, strf[40:])
+
+
+def get_header(source, left, head):
+    """The chunks of a list hdrl; the first stream of the file counts."""
+    for name, size in chunks(source, left):
+        own = source.exactly(4, 52) if name == b"LIST" else b""
+        if own == b"strl" and head is None:
+            head = get_stream(source, size - 4)
+            source.skip(size % 2, 52)
+        else:
+            source.skip(padded(size) - len(own), 52)
+    return head
+
+
+def open_avi(source):
+    """The head of a file, up to its first list movi, and how many bytes that has."""
+    first = source.exactly(12, 52)
+    size = struct.unpack("<I", first[4:8])[0]
+    if first[:4] != b"RIFF" or first[8:] != b"AVI " or size < 4:
+        raise Fault(50)
+    head = None
+    for name, size in chunks(source, size - 4):
+        own = source.exactly(4, 52) if name == b"LIST" else b""
+        if own == b"movi":
+            if head is None:
+                raise Fault(51)
+            return head, size - 4
+        if own == b"hdrl":
+            head = get_header(source, size - 4, head)
+            source.skip(size % 2, 52)
+        else:
+            source.skip(padded(size) - len(own), 52)
+    raise Fault(50)
+
+
+def avi_frames(source, left):
+    """The frames of movi, in turn."""
+    for name, size in chunks(source, left):
+        if name == b"LIST":
+            raise Fault(50)
+        if name != b"00dc":
+            source.skip(padded(size), 52)
+            continue
+        if size > LIMIT:
+            raise Fault(53)
+        if size == 0:
+            raise Fault(54)
+        yield get_chunk(source, size)

@@ -1,0 +1,96 @@
+"""What a known answer is, and the texts, files and payloads that they are about."""
+import ffv1
+import files
+
+ANY = None      # an output that is not compared
+
+
+class Step:
+    """One command line: its standard output, and the fault on standard error; or status 2, and
+    clap's text there."""
+
+    def __init__(self, words, output="", fault="", status=None):
+        self.words, self.output = words, output
+        self.status = status if status is not None else 1 if fault else 0
+        self.errors = f"ffv1: {fault}\n" if fault else ANY if status is not None else ""
+
+
+def helped(words):
+    """A command line that asks for help, which is clap's text on standard error."""
+    return Step(words, status=0)
+
+
+class Case:
+    """Steps one after the other, in a folder of these files, and what files hold then; one that is
+    None is not there."""
+
+    def __init__(self, name, given, steps, left=None):
+        self.name, self.given, self.steps, self.left = name, given, steps, left or {}
+
+
+# -------------------------------------------------------------------------------------------- texts
+
+def y4m(tags, *pictures):
+    return b"YUV4MPEG2 " + tags.encode() + b"\n" + b"".join(b"FRAME\n" + p for p in pictures)
+
+
+def ppm(width, height, samples):
+    return b"P6\n%d %d\n255\n" % (width, height) + samples
+
+
+def mono(width, height, samples):
+    """The canonical text of a mono picture."""
+    return y4m(f"W{width} H{height} F0:0 I? A0:0 Cmono", bytes(samples))
+
+
+MONO = mono(1, 1, [0])
+RED = ppm(1, 1, b"\xff\0\0")
+
+
+# -------------------------------------------------------------------------------------------- files
+
+FRAME = bytes.fromhex("FE7B000002")     # the picture MONO, without parity
+
+
+def avi(config, payloads, rate=25, scale=1):
+    """The file of frames with these payloads."""
+    record = ffv1.write_record(config)
+    head = files.AviHead(config.width, config.height, rate, scale, record)
+    return files.write_avi(head, payloads)
+
+
+def one(**changes):
+    """The configuration of mono pictures of 1 by 1 without parity, so changed."""
+    return ffv1.Config(**{"width": 1, "height": 1, "ec": 0, **changes})
+
+
+def sealed(config, *slices):
+    """A payload of these coded bytes, each with its footer."""
+    return b"".join(coded + ffv1.footer(coded, config.ec) for coded in slices)
+
+
+def coded(config, slice, residuals, too_long=False, head=None):
+    """The coded bytes of a slice, decision by decision: its head and these residuals, all by the
+    context 0; and behind them, where it is so, a symbol of 31 exponent ones."""
+    encoder = ffv1.Encoder(config.table())
+    if slice == 0:
+        encoder.put("key", 1)
+    for value in head or ffv1.place_of(config, slice) + [0] * (ffv1.index_count(config) + 3):
+        ffv1.put_number(encoder, "head", value)
+    for residual in residuals:
+        ffv1.put_number(encoder, ("sample", 0, 0), residual, signed=True)
+    if too_long:
+        put_too_long(encoder, ("sample", 0, 0))
+    return encoder.sentinel()
+
+
+def put_too_long(encoder, base):
+    """A symbol that is refused: 31 exponent ones."""
+    encoder.put((base, 0), 0)
+    for k in range(31):
+        encoder.put((base, 1 + min(k, 9)), 1)
+
+
+def checked(name, file, output, fault=""):
+    """A file that is checked."""
+    return Case(name, {"in": file}, [Step(["check", "in"], output, fault)], {"in": file})

@@ -1,0 +1,132 @@
+"""Command lines, taken and refused, and paths."""
+from known_answers.case import FRAME, MONO, RED, Case, Step, avi, helped, one, y4m
+
+WITHOUT, WITH = "frames 1 bytes 5\n", "frames 1 bytes 10\n"     # without parity, and with it
+PACKS = [
+    ("pack in out", WITH), ("pack --ec 0 in out", WITHOUT), ("pack in --ec 0 out", WITHOUT),
+    ("pack in out --ec 0", WITHOUT), ("pack in out --ec=0", WITHOUT), ("pack --ec=1 in out", WITH),
+    ("pack in --ec=00 -- out", WITHOUT), ("pack --ec +0 in out", WITHOUT),
+    ("pack -- in out", WITH), ("pack -- --ec out", WITH), ("pack --ec 0 -- --ec out", WITHOUT),
+    ("pack - out", WITH), ("pack trial out", WITH), ("pack in -- out", WITH),
+    ("pack --columns 1 --rows 1 --coder 1 --contexts small in out --ec 0", WITHOUT),
+    ("pack --rate 4294967295 --scale 4294967295 --ec 0 in out", WITHOUT),
+]
+CHECKS = ["check out", "check --place out", "check out --place", "check -- out"]
+HELPS = [
+    "-h", "--help", "help", "-hx", "help pack", "help unpack", "help check", "help show",
+    "help trial", "pack --help", "pack -h", "unpack in --help", "check --help out in", "show -h",
+    "trial --help", "pack --ec 0 in out -h", "pack in in --help", "--help pack in out",
+]
+
+
+def taken_lines():
+    """Command lines that are taken, however they are written."""
+    given = {"in": MONO, "--ec": MONO, "-": MONO, "trial": MONO}
+    for line, output in PACKS:
+        yield Case(line, given, [Step(line.split(), output)])
+    lines = "frame 0: 5 bytes, 1 slices, 11 decisions\nframes 1\n"
+    for line in CHECKS:
+        yield Case(line, {"out": avi(one(), [FRAME])}, [Step(line.split(), lines)])
+    for line in HELPS:
+        yield Case(line, given, [helped(line.split())], {"in": MONO, "out": None})
+
+
+REFUSED = [
+    "", "code", "pac in out", "-x", "--version", "help code", "help pack in", "-- pack in out",
+    "--ec 0 pack in out", "pack", "pack in", "pack in out more", "unpack in", "unpack in out x",
+    "check", "check in out", "show", "show in out", "trial", "trial in out",
+    "pack --deep in out", "pack -e 0 in out", "pack in out -1", "unpack --ec 0 in out",
+    "check --cost in", "show --place in", "trial --place in", "pack --place in out",
+    "pack --coder 0 in out", "pack --coder 3 in out", "pack --coder x in out",
+    "pack --contexts medium in out", "pack --contexts Small in out", "pack --contexts= in out",
+    "pack --columns 0 in out", "pack --columns 33 in out", "pack --columns=-1 in out",
+    "pack --columns -1 in out", "pack --columns= in out", "pack --columns 1.5 in out",
+    "pack --rows 0 in out", "pack --rows 33 in out", "pack --rows 0x2 in out",
+    "pack --ec 2 in out", "pack --ec no in out", "pack --rate 0 in out",
+    "pack --rate 4294967296 in out", "pack --scale 0 in out", "pack --scale 4294967296 in out",
+    "pack --scale 99999999999999999999 in out", "pack in out --ec", "pack in out --columns",
+    "pack --ec -- 0 in out", "pack --ec 1 --ec 1 in out", "pack --ec=0 in out --ec=1",
+    "pack --columns 2 --columns=2 in out", "check --place --place in", "show --cost in --cost",
+    "check --place=true in", "show --cost=1 in", "pack --columns 99 --help",
+    "pack --columns --help", "pack --help=1 in out", "pack in out x --help", "-x --help", "--help=",
+]
+# one file twice, and standard output as OUT
+CONFLICTS = [
+    "pack in in", "unpack in in", "pack in /dev/stdout", "pack in /dev/fd/1",
+    "pack in /proc/self/fd/1", "unpack in /dev/stdout", "unpack in /dev/fd/1",
+    "unpack in -- /proc/self/fd/1", "pack no no",
+]
+
+
+def refused_lines():
+    """Command lines that are refused; no file is touched."""
+    given = {"in": MONO, "out": b"kept"}
+    for line in REFUSED + CONFLICTS:
+        yield Case(line or "no words", given, [Step(line.split(), status=2)], given)
+
+
+# -------------------------------------------------------------------------------------------- paths
+
+UNOPENED = [
+    ("pack no out", "56 Read"), ("unpack no out", "56 Read"), ("check no", "56 Read"),
+    ("show no", "56 Read"), ("trial no", "56 Read"), ("pack no no/out", "56 Read"),
+    ("pack in no/out", "57 Write"), ("pack in .", "57 Write"), ("unpack in /", "57 Write"),
+    ("check .", "56 Read"), ("show .", "56 Read"), ("pack in /dev/full", "57 Write"),
+    ("check /dev/null", "52 Truncated"),
+]
+
+
+def unopened_files():
+    """Files that cannot be opened, read or written; all others stay."""
+    given = {"in": MONO, "out": b"kept"}
+    for line, fault in UNOPENED:
+        yield Case(line, given, [Step(line.split(), "", fault)], given)
+    for words, fault in [(["check", ""], "56 Read"), (["pack", "", "out"], "56 Read"),
+                         (["pack", "in", ""], "57 Write")]:
+        yield Case(f"an empty word in {words}", given, [Step(words, "", fault)], given)
+
+
+def emptied_files():
+    """OUT is made empty once IN is open, whatever comes then."""
+    given = {"in": MONO, "out": b"gone"}
+    for line, fault in [("pack . out", "56 Read"), ("unpack . out", "56 Read"),
+                        ("unpack in out", "50 NotAvi"), ("pack out in", "60 Header"),
+                        ("pack in ./in", "60 Header"), ("unpack ./in in", "52 Truncated")]:
+        words = line.split()
+        left = {**given, words[2].removeprefix("./"): b""}
+        yield Case(line, given, [Step(words, "", fault)], left)
+    text = b"a longer text, which is gone" * 20
+    yield Case("a shorter text than before", {"in": avi(one(), [FRAME]), "out": text},
+               [Step(["unpack", "in", "out"], "frames 1\n")],
+               {"out": y4m("W1 H1 F25:1 I? A0:0 Cmono", b"\0")})
+
+
+def faults_in_turn():
+    """A write and another fault: the one that comes first is told."""
+    file = avi(one(), [FRAME, b"\1"])
+    yield Case("a write before a fault", {"in": file},
+               [Step(["unpack", "in", "/dev/full"], "", "57 Write")], {"in": file})
+    config = one(chroma=True, rct=True)
+    file = avi(config, [bytes.fromhex("FE78DF83D92C000006"), b"\1"])
+    yield Case("an image's write before a fault", {"in": file},
+               [Step(["unpack", "in", "/dev/full"], "", "57 Write")], {"in": file})
+    for name, file, fault in [("a fault", avi(one(), [b"\1", FRAME]), "35 Footer"),
+                              ("no frame", avi(one(), []), "70 NoFrames")]:
+        yield Case(f"{name} before a write", {"in": file},
+                   [Step(["unpack", "in", "/dev/full"], "", fault)], {"in": file})
+    yield Case("a text's fault before a write", {"in": b""},
+               [Step(["pack", "in", "/dev/full"], "", "60 Header")])
+
+
+def trials():
+    """A trial of the first picture."""
+    text = y4m("W2 H2 Cmono", bytes([10, 20, 30, 40]))
+    yield Case("trial", {"in": text}, [Step(["trial", "in"], "samples 4\ndecisions 38\n"
+                                            "code 71C6E52D49\nsame yes\n")])
+    for name, text, fault in [("an image", RED, "60 Header"),
+                              ("chroma", y4m("W1 H1 C444", bytes(3)), "62 Unsupported"),
+                              ("transparency", y4m("W1 H1 C444alpha", bytes(4)), "62 Unsupported")]:
+        yield Case(f"trial of {name}", {"in": text}, [Step(["trial", "in"], "", fault)])
+
+
+CASES = [taken_lines, refused_lines, unopened_files, emptied_files, faults_in_turn, trials]

@@ -1,0 +1,128 @@
+"""Frames that are decoded, or refused at a known place."""
+import ffv1
+from known_answers.case import ANY, FRAME, Case, Step, avi, checked, coded, mono, one, sealed
+
+PARITY = bytes.fromhex("FE7B00000200948C133C")      # FRAME with parity
+NOWHERE = (0, 0, 0, 0)
+
+
+def at(fault, place, decisions, lines="", frame=0):
+    """What `check` prints with the place of a fault, and the fault."""
+    slice, plane, line, x = place
+    return (f"{lines}fault frame {frame} slice {slice} plane {plane} line {line} x {x} "
+            f"decisions {decisions}\n", fault)
+
+
+def placed(name, config, payload, output, fault):
+    """A frame that is checked, with the place of its fault and without."""
+    file = avi(config, [payload])
+    return Case(name, {"in": file}, [Step(["check", "--place", "in"], output, fault),
+                                     Step(["check", "in"], "", fault)], {"in": file})
+
+
+def flipped_bits():
+    """A frame with parity, each of its bits flipped."""
+    for bit in range(80):
+        data = bytearray(PARITY)
+        data[bit // 8] ^= 128 >> bit % 8
+        size = int.from_bytes(data[2:5], "big")
+        fault = "37 SliceParity" if size == 2 else "36 Leftover" if size < 2 else "35 Footer"
+        yield placed(f"bit {bit}", one(ec=1), bytes(data), *at(fault, NOWHERE, 0))
+
+
+def cut_payloads():
+    """Payloads that are cut off, and one of no bytes, which is no frame of a file."""
+    for ec, payload in [(0, FRAME), (1, PARITY)]:
+        for length in range(1, len(payload)):
+            yield placed(f"{length} bytes with ec {ec}", one(ec=ec), payload[:length],
+                         *at("35 Footer", NOWHERE, 0))
+        yield placed(f"no bytes with ec {ec}", one(ec=ec), b"", "", "54 EmptyFrame")
+
+
+# name, parity, columns, payload, fault, its place, decisions before it
+DAMAGED = [
+    ("a start inverted", 1, 1, "018400000200948C133C", "37 SliceParity", NOWHERE, 0),
+    ("a last byte changed", 1, 1, "FE7B00000200948C133D", "37 SliceParity", NOWHERE, 0),
+    ("a status", 1, 1, "FE7B00000201904D0E8B", "38 SliceStatus", NOWHERE, 0),
+    ("a byte in front", 0, 1, "00FE7B000002", "36 Leftover", NOWHERE, 0),
+    ("an empty slice", 0, 1, "000000", "30 NotKey", NOWHERE, 1),
+    ("a start too great", 0, 1, "FF00000002", "3 BadStart", NOWHERE, 0),
+    ("a slice twice", 0, 2, "FE7B000002FE7B000002", "31 Place", (1, 0, 0, 0), 11),
+    ("slices exchanged", 0, 2, "3F76000002FE7B000002", "30 NotKey", NOWHERE, 1),
+]
+# the values of a head, fault
+HEADS = [
+    ([1] + [0] * 8, "31 Place"), ([0, 0, 1] + [0] * 6, "31 Place"),
+    ([0] * 4 + [1] + [0] * 4, "32 SetIndex"), ([0] * 6 + [4, 0, 0], "33 Structure"),
+    ([0] * 7 + [65536, 1], "34 Aspect"), ([0] * 7 + [0, 1], "34 Aspect"),
+]
+
+
+def damaged_payloads():
+    """Payloads that are refused, each with the place of its fault."""
+    for name, ec, columns, payload, *fault in DAMAGED:
+        config = one(width=columns, columns=columns, ec=ec)
+        yield placed(name, config, bytes.fromhex(payload), *at(*fault))
+    yield placed("31 exponent ones", one(), sealed(one(), coded(one(), 0, [], True)),
+                 *at("4 SymbolTooLong", NOWHERE, 42))
+    wide = coded(one(), 0, [], head=[2 ** 31 - 1] + [0] * 8)
+    yield placed("a place far out", one(), sealed(one(), wide), *at("31 Place", NOWHERE, 63))
+    for values, fault in HEADS:
+        payload = sealed(one(), coded(one(), 0, [], head=values))
+        yield checked(f"head {values}", avi(one(), [payload]), "", fault)
+    config = one(width=2, columns=2)
+    slices = [coded(config, 0, [0]), coded(config, 1, [0], head=[1, 0, 0, 0, 0, 0, 1, 0, 0])]
+    yield checked("another structure in a slice", avi(config, [sealed(config, *slices)]), "",
+                  "41 InfoDiffers")
+
+
+def columns_side_by_side():
+    """Faults of slices that are decoded side by side."""
+    config = one(width=2, height=2, columns=2)
+    first, good = coded(config, 0, [0], True), coded(config, 1, [0, 0])
+    payload = sealed(config, first, coded(config, 1, [], True))
+    yield placed("the second slice's first line", config, payload,
+                 *at("4 SymbolTooLong", (1, 0, 0, 1), 53))
+    yield placed("the first slice's second line", config, sealed(config, first, good),
+                 *at("4 SymbolTooLong", (0, 0, 1, 0), 54))
+    config = one(width=32, columns=32)
+    payload = ffv1.encode_frame(config, [[[0] * 32]], [0, 0, 0])
+    yield checked("32 columns", avi(config, [payload]),
+                  f"frame 0: {len(payload)} bytes, 32 slices, 548 decisions\nframes 1\n")
+
+
+def later_frames():
+    """Faults behind frames that are good."""
+    file = avi(one(), [FRAME, FRAME, bytes(3), FRAME])
+    lines = "".join(f"frame {k}: 5 bytes, 1 slices, 11 decisions\n" for k in range(2))
+    yield Case("a third frame", {"in": file}, [
+        Step(["check", "--place", "in"], *at("30 NotKey", NOWHERE, 1, lines, 2)),
+        Step(["check", "in"], lines, "30 NotKey")])
+    yield Case("a chunk has no place", {"in": avi(one(), [FRAME, b""])},
+               [Step(["check", "--place", "in"], "frame 0: 5 bytes, 1 slices, 11 decisions\n",
+                     "54 EmptyFrame")])
+    first = ffv1.encode_frame(one(), [[[9]]], [3, 5, 4])
+    file = avi(one(), [first, ffv1.encode_frame(one(), [[[9]]], [3, 5, 3])])
+    yield Case("another aspect is checked", {"in": file}, [Step(["check", "in"], ANY)])
+
+
+def strange_payloads():
+    """Payloads that no encoder writes, and that are decoded all the same."""
+    for residual, sample in [(2 ** 30, 0), (-(2 ** 31 - 1), 1)]:
+        payload = sealed(one(), coded(one(), 0, [residual]))
+        yield Case(f"residual {residual}", {"in": avi(one(), [payload], 0, 0)}, [
+            Step(["check", "in"], f"frame 0: {len(payload)} bytes, 1 slices, 73 decisions\n"
+                 "frames 1\n"),
+            Step(["unpack", "in", "out"], "frames 1\n")], {"out": mono(1, 1, [sample])})
+    config, payload = one(width=2, height=2), b"\xfe" + b"\xff" * 63 + b"\0\0\x40"
+    yield Case("all bytes 255", {"in": avi(config, [payload], 0, 0)}, [
+        Step(["check", "in"], "frame 0: 67 bytes, 1 slices, 14 decisions\nframes 1\n"),
+        Step(["unpack", "in", "out"], "frames 1\n")], {"out": mono(2, 2, bytes(4))})
+    for byte in range(0, 256, 15):
+        payload = sealed(one(), bytes([0xFE, 0x7B, byte]))
+        yield checked(f"a byte {byte} behind the slice", avi(one(), [payload]),
+                      "frame 0: 6 bytes, 1 slices, 11 decisions\nframes 1\n")
+
+
+CASES = [flipped_bits, cut_payloads, damaged_payloads, columns_side_by_side, later_frames,
+         strange_payloads]

@@ -1,0 +1,149 @@
+"""Texts that are packed: frames whose bytes are known, texts that come back in their canonical
+form, and texts that are refused."""
+from known_answers.case import ANY, MONO, RED, Case, Step, avi, mono, one, ppm, y4m
+
+# name, text, options of pack, configuration, payload, decisions
+FRAMES = [
+    ("sample 0", MONO, "--ec 0", one(), "FE7B000002", 11),
+    ("sample 0 with parity", MONO, "", one(ec=1), "FE7B00000200948C133C", 11),
+    ("sample 255", mono(1, 1, [255]), "--ec=0", one(), "FE18000002", 13),
+    ("sample 128", mono(1, 1, [128]), "--ec 0", one(), "FE79F685000004", 27),
+    ("four samples", mono(2, 2, [10, 20, 30, 40]), "--ec 0", one(width=2, height=2),
+     "FE6CAF597A88000006", 48),
+    ("two columns", mono(2, 1, [0, 0]), "--ec 0 --columns 2", one(width=2, columns=2),
+     "FE7B0000023F76000002", 22),
+    ("chroma", y4m("W1 H1 F0:0 I? A0:0 C444", bytes(3)), "--ec 0", one(chroma=True),
+     "FEDE000002", 13),
+    ("transparency", y4m("W1 H1 F0:0 I? A0:0 C444alpha", bytes(4)), "--ec 0",
+     one(chroma=True, extra=True), "FEF5000002", 15),
+    ("red", RED, "--ec 0", one(chroma=True, rct=True), "FE78DF83D92C000006", 45),
+    ("a table in the record", mono(2, 2, [10, 20, 30, 40]), "--ec 0 --coder 2",
+     one(width=2, height=2, coder=2), "FE6CAF597A88000006", 48),
+]
+
+
+def known_frames():
+    """Each is packed, checked and unpacked."""
+    for name, text, options, config, payload, decisions in FRAMES:
+        payload = bytes.fromhex(payload)
+        rate = (25, 1) if config.rct else (0, 0)
+        lines = (f"frame 0: {len(payload)} bytes, {config.slices()} slices, {decisions} decisions\n"
+                 "frames 1\n")
+        steps = [
+            Step(["pack", *options.split(), "in", "out"], f"frames 1 bytes {len(payload)}\n"),
+            Step(["check", "out"], lines),
+            Step(["check", "--place", "out"], lines),
+            Step(["unpack", "out", "back"], "frames 1\n"),
+        ]
+        yield Case(name, {"in": text}, steps,
+                   {"in": text, "out": avi(config, [payload], *rate), "back": text})
+
+
+# ---------------------------------------------------------------------------------- canonical texts
+
+def round_trip(name, text, words, canonical, frames=1):
+    """A text is packed and unpacked."""
+    steps = [Step(["pack", *words.split(), "in", "out"], ANY),
+             Step(["unpack", "out", "back"], f"frames {frames}\n")]
+    return Case(name, {"in": text}, steps, {"in": text, "back": canonical})
+
+
+SIX = bytes([1, 2, 3, 4, 250, 6])
+CANONICAL = "W2 H2 F25:1 I? A0:0 C420jpeg"
+HEADER = b"YUV4MPEG2 W2 H2 C420jpeg X"
+LONGEST = HEADER + b"x" * (1024 - len(HEADER))
+
+
+def tagged_texts():
+    """The tags of a header."""
+    yield round_trip("chroma by a name", y4m("W2 H2 F25:1 C420mpeg2 Xa", SIX), "",
+                     y4m(CANONICAL, SIX))
+    yield round_trip("no tag C", y4m("H2 W2 F25:1", SIX), "", y4m(CANONICAL, SIX))
+    yield round_trip("all tags", y4m("Xa A59:54 C422 F30000:1001 Ib Xb H1 W3", bytes(range(7))),
+                     "--contexts large", y4m("W3 H1 F30000:1001 Ib A59:54 C422", bytes(range(7))))
+    yield round_trip("a header of 1024 bytes", LONGEST + b"\nFRAME\n" + SIX, "",
+                     y4m("W2 H2 F0:0 I? A0:0 C420jpeg", SIX))
+    yield round_trip("rates of a text stay", mono(1, 1, [7]), "--rate 5 --scale 6",
+                     mono(1, 1, [7]))
+    for letter in "ptb?":
+        text = y4m(f"W1 H1 F1:4294967295 I{letter} A65535:1 Cmono", b"\x07")
+        yield round_trip(f"interlacing {letter}", text, "", text)
+    for name, length in [("411", 6 + 2 * 2), ("444", 18), ("422", 6 + 2 * 4), ("420paldv", 10),
+                         ("444alpha", 24)]:
+        samples = bytes(range(length))
+        written = "420jpeg" if name == "420paldv" else name
+        yield round_trip(f"chroma {name}", y4m(f"W3 H2 C{name}", samples), "",
+                         y4m(f"W3 H2 F0:0 I? A0:0 C{written}", samples))
+
+
+def several_pictures():
+    """Texts of more than one picture."""
+    text = y4m(CANONICAL, SIX, SIX[::-1])
+    yield round_trip("two pictures", text, "--rows 1 --coder 2", text, 2)
+    images = ppm(2, 2, bytes(range(12))) + ppm(2, 2, bytes(range(90, 102)))
+    yield round_trip("two images", images, "--columns 2 --rows 2", images, 2)
+
+
+# ------------------------------------------------------------------------------------ refused texts
+
+def refused(name, text, fault, words=""):
+    """A text that is not packed: nothing is written."""
+    return Case(name, {"in": text}, [Step(["pack", *words.split(), "in", "out"], "", fault)],
+                {"in": text, "out": b""})
+
+
+# tags, fault
+TAGS = [
+    ("W2 H2 C420p10", "62 Unsupported"), ("W2", "61 Tag"), ("W2 W2 H2", "61 Tag"),
+    ("W02 H2", "61 Tag"), ("W2 H2 Im Q1", "62 Unsupported"), ("W2 H2 Q1 Im", "61 Tag"),
+    ("W2 H8193", "61 Tag"), ("W0 H2", "61 Tag"), ("W2 H2 ", "61 Tag"), ("W2 H2 F25", "61 Tag"),
+    ("W2 H2 F0:1", "61 Tag"), ("W2 H2 A1:65536", "61 Tag"), ("W2 H2 A1:0", "61 Tag"),
+    ("W2 H2 Ix", "61 Tag"), ("W2 H2 C444 C9", "61 Tag"), ("W2 H2 F4294967296:1", "61 Tag"),
+    ("H+2 W2", "61 Tag"), ("W2 H2\r", "61 Tag"),
+]
+IMAGE_HEADERS = [
+    b"P5\n1 1\n255\n", b"P6 1 1\n255\n", b"P6\n01 1\n255\n", b"P6\n1 8193\n255\n",
+    b"P6\n1 1\n65535\n", b"P6\n#c\n1 1\n255\n", b"P6\n1\n1\n255\n", b"P6\n1 0\n255\n",
+    b"P6\n1 1\n25",
+]
+
+
+def refused_headers():
+    """Headers that are refused."""
+    yield refused("no bytes", b"", "60 Header")
+    yield refused("a header alone", y4m("W2 H2 F25:1 C420mpeg2 Xa"), "70 NoFrames")
+    yield refused("a header of 1025 bytes", LONGEST + b"x\nFRAME\n" + SIX, "60 Header")
+    yield refused("a header without its end", b"YUV4MPEG2 W2 H2", "60 Header")
+    yield refused("another format", b"YUV4MPEG3 W2 H2\nFRAME\n" + SIX, "60 Header")
+    for tags, fault in TAGS:
+        yield refused(f"tags {tags!r}", y4m(tags, SIX), fault)
+    for header in IMAGE_HEADERS:
+        yield refused(f"header {header!r}", header + bytes(3), "60 Header")
+
+
+def refused_pictures():
+    """Pictures that are refused, behind headers that are not."""
+    yield refused("parameters of a picture", y4m("W2 H2") + b"FRAME Ip\n" + SIX, "63 FrameLine")
+    yield refused("a second line that is none", y4m("W2 H2", SIX) + b"FRAMF\n" + SIX,
+                  "63 FrameLine")
+    yield refused("a line cut off", y4m("W2 H2") + b"FRAM", "64 FrameTruncated")
+    yield refused("a sample too few", y4m("W2 H2", SIX, SIX[:5]), "64 FrameTruncated")
+    yield refused("a byte behind a picture", y4m("W2 H2", SIX) + b"\n", "63 FrameLine")
+    yield refused("an image cut off", RED[:-1], "64 FrameTruncated")
+    yield refused("a second image of another size", RED + ppm(2, 1, bytes(6)), "71 FormatChanged")
+    yield refused("a second image that is none", RED + b"\n", "60 Header")
+    yield refused("a second image cut off in its header", RED + b"P6\n2", "60 Header")
+
+
+def refused_grids():
+    """Grids that a picture does not have."""
+    yield refused("three columns of two samples", y4m("W2 H2", SIX), "11 Grid", "--columns 3")
+    yield refused("a grid is judged before pictures", y4m("W2 H2"), "11 Grid", "--rows 3")
+    yield refused("32 columns of 31 samples", mono(31, 1, bytes(31)), "11 Grid", "--columns 32")
+    yield refused("an edge within chroma", y4m("W7 H1", bytes(15)), "12 ChromaEdge", "--columns 2")
+    yield round_trip("an edge between chroma", y4m("W5 H1", bytes(range(11))), "--columns 2",
+                     y4m("W5 H1 F0:0 I? A0:0 C420jpeg", bytes(range(11))))
+
+
+CASES = [known_frames, tagged_texts, several_pictures, refused_headers, refused_pictures,
+         refused_grids]
