@@ -7,10 +7,10 @@ use Rattle.ffv1_range.specs.Codes.{AreBytes}
 use Rattle.ffv1_line.specs.Cell.{Cell}
 use Rattle.ffv1_record.specs.Configuration.{Configuration, is_rct}
 use Rattle.ffv1_record.specs.Accepted.{Accepted}
-use Rattle.ffv1_slice.specs.Grid.{length_of, across, division_of, reduced, whole_of}
+use Rattle.ffv1_slice.specs.Grid.{length_of, across, division_of, whole_of}
 use Rattle.ffv1_slice.specs.Cutting.{coded_of}
 use Rattle.ffv1_codec.specs.Sides.{Alike, HasPart, Sides}
-use Rattle.ffv1_codec.specs.Picture.{Planes, IsPicture, plane_width, coded_at}
+use Rattle.ffv1_codec.specs.Picture.{Planes, IsPicture, plane_width, plane_height, coded_at}
 use Rattle.ffv1_codec.specs.SliceList.{Said, CodesSlice, IsBody}
 use Rattle.ffv1_codec.specs.Order.{lines_down}
 use Rattle.ffv1_codec.specs.Decoding.{slice_number, width_in, left_of, top_of}
@@ -20,15 +20,18 @@ use Rattle.ffv1_codec.proofs.SliceBodies.{CellLaws}
 use Rattle.ffv1_codec.proofs.RowsDone.{SuitsFew}
 use Rattle.ffv1_codec.proofs.JoinedLines.{take_small}
 use Rattle.ffv1_codec.proofs.CellsShown.{across_alike, down_alike}
+use Rattle.ffv1_codec.proofs.LineFinished.{reduced_none}
 use Rattle.ffv1_codec.proofs.PictureLines.{ColourLaws}
 use Rattle.ffv1_codec.proofs.PictureMade.{PictureLaws}
 use Rattle.ffv1_codec.proofs.SlicesMade.{column_inside, number_is}
 use Rattle.ffv1_codec.proofs.SlicesRead.{FrontLaws}
 use Rattle.ffv1_codec.proofs.FrameRead.{Known, FrameGoes, frame_goes}
 
-wide_in_rct : (c : Configuration) → Alike c → (p : ℕ) → plane_width c p ≡ c.width
-unfolding reduced
-wide_in_rct c alike p = ap whole_of (across_alike c alike p) ∙ (let same : (c.width + (1 - 1)) / 1 ≡ c.width = omega arith in same)
+pub wide_in_rct : (c : Configuration) → Alike c → (p : ℕ) → plane_width c p ≡ c.width
+wide_in_rct c alike p = ap whole_of (across_alike c alike p) ∙ reduced_none c.width
+
+pub high_in_rct : (c : Configuration) → Alike c → (p : ℕ) → plane_height c p ≡ c.height
+high_in_rct c alike p = ap whole_of (down_alike c alike p) ∙ reduced_none c.height
 
 -- in RCT all planes have as many lines
 pub lines_alike : (c : Configuration) → Sides c → is_rct c.colour ≡ true → (p r : ℕ) → lines_down c p r ≡ lines_down c 0 r

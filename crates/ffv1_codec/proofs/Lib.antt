@@ -67,3 +67,7 @@ mod LinesKept
 pub mod OnlyRead
 pub mod Damaged
 mod OfferedLines
+pub mod KeptPicture
+pub mod LinePlaces
+pub mod DecodeFaults
+mod SinkFaults

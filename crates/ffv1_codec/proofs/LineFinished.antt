@@ -42,7 +42,7 @@ factor_none (suc zero) = refl
 factor_none (suc (suc zero)) = refl
 factor_none (suc (suc (suc p))) = refl
 
-reduced_none : (n : ℕ) → reduced 0 n ≡ n
+pub reduced_none : (n : ℕ) → reduced 0 n ≡ n
 unfolding reduced
 reduced_none n = omega arith
 

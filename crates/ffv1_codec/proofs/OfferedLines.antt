@@ -204,7 +204,7 @@ module _ (a : Accepted) (coded : ℕ → List ℕ) (laws : PictureLaws a) where
       (subst (Good (at_first a.configuration)) o.parts (rows_good 0 a.configuration.rows (at_first a.configuration) (omega arith) refl)) o.runs
 
 -- decoding has no fault of the sink
-slice_own : (g : SliceFault) → of_slice g ≢ fault.Sink
+pub slice_own : (g : SliceFault) → of_slice g ≢ fault.Sink
 slice_own slice.OutOfMemory = λ e. cc
 slice_own slice.SymbolTooLong = λ e. cc
 slice_own slice.NotKey = λ e. cc
@@ -218,7 +218,7 @@ slice_own slice.SliceParity = λ e. cc
 slice_own slice.SliceStatus = λ e. cc
 slice_own slice.SliceTooLong = λ e. cc
 
-other_fault : (f g : CodecFault) → f ≡ g → g ≢ fault.Sink → f ≢ fault.Sink
+pub other_fault : (f g : CodecFault) → f ≡ g → g ≢ fault.Sink → f ≢ fault.Sink
 other_fault f g same other = λ sink. other (sym same ∙ sink)
 
 not_sink : (g : CodecFault) → (g ≡ fault.BadStart) → g ≢ fault.Sink

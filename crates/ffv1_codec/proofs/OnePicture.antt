@@ -51,20 +51,25 @@ rows_joined width xs from (suc count) =
     ∙ sym (take-add width (count * width) ys)
     ∙ ap (λ n. take n ys) more
 
+-- a plane is its rows
+pub plane_by_rows : (c : Configuration) (planes : Planes) → Fits c planes → (p : ℕ) → p < plane_count c → flat_map (row c planes p) (range_with_len 0 (plane_height c p)) ≡ plane planes p
+plane_by_rows c planes fits p inside =
+    let width = plane_width c p in
+    let height = plane_height c p in
+    let xs = plane planes p in
+    let long : length xs ≡ height * width = fits.sizes p inside ∙ (let turned : width * height ≡ height * width = omega arith in turned) in
+    rows_joined width xs 0 height
+    ∙ ap (λ n. take (height * width) (drop n xs)) (let none : 0 * width ≡ 0 = omega arith in none)
+    ∙ take_all (height * width) xs (omega (arith, long))
+
 module _ (c : Configuration) (tiles : (p : ℕ) → Tiles (down (division_of c) p)) (same_lines : is_rct c.colour ≡ true → (p r : ℕ) → lines_down c p r ≡ lines_down c 0 r) where
   -- a plane is the samples of its lines
   plane_of_lines : (planes : Planes) → Fits c planes → (p : ℕ) → p < plane_count c → samples_in p (lines_of c planes) ≡ plane planes p
   plane_of_lines planes fits p inside =
-      let width = plane_width c p in
-      let height = plane_height c p in
-      let xs = plane planes p in
-      let long : length xs ≡ height * width = fits.sizes p inside ∙ (let turned : width * height ≡ height * width = omega arith in turned) in
       ap (samples_in p) (lines_by_keys c planes)
       ∙ rows_are c planes p (keys_of c)
-      ∙ ap (flat_map (λ y. row_in width y xs)) (rows_of_plane c p inside (tiles p) (λ rct r. same_lines rct p r))
-      ∙ rows_joined width xs 0 height
-      ∙ ap (λ n. take (height * width) (drop n xs)) (let none : 0 * width ≡ 0 = omega arith in none)
-      ∙ take_all (height * width) xs (omega (arith, long))
+      ∙ ap (flat_map (row c planes p)) (rows_of_plane c p inside (tiles p) (λ rct r. same_lines rct p r))
+      ∙ plane_by_rows c planes fits p inside
 
   -- planes with the same lines are the same
   pub one_of_lines : (planes others : Planes) → Fits c planes → Fits c others → lines_of c planes ≡ lines_of c others → planes ≡ others

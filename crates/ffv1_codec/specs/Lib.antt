@@ -25,3 +25,5 @@ pub mod Headline
 pub mod Known
 pub mod Sides
 pub mod Damage
+pub mod DecodeFaults
+pub mod Turns

@@ -27,3 +27,12 @@ abbrev pub lines_of : Configuration → Planes → List Line
 lines_of c planes =
     flat_map (λ r. flat_map (lines_of_series c planes r) (series_of c r))
     (range_with_len 0 c.rows)
+
+-- where the lines of a picture stand, in the same order: those of a series, and all of them
+abbrev pub places_of_series : Configuration → ℕ → Series → List (ℕ × ℕ)
+places_of_series c r s =
+    flat_map (λ y. map (λ p. (p, top_of c p r + y)) s.planes) (range_with_len 0 s.height)
+
+abbrev pub places_of : Configuration → List (ℕ × ℕ)
+places_of c =
+    flat_map (λ r. flat_map (places_of_series c r) (series_of c r)) (range_with_len 0 c.rows)

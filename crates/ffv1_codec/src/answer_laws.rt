@@ -1,6 +1,6 @@
 //! Laws of what a payload is answered, each the contract of a function that does nothing.
 
-ghost use Rattle.std.specs.Prelude.{◌≡◌, ℕ, ◌≤◌, Result, Ok, Err, List};
+ghost use Rattle.std.specs.Prelude.{◌≡◌, ℕ, ◌≤◌, true, Result, Ok, Err, List};
 ghost use Rattle.ffv1_wire.specs.Runs.{Grows};
 ghost use Rattle.ffv1_range.specs.declared.tally.Tally.{Tally};
 ghost use Rattle.ffv1_range.specs.Codes.{AreBytes};
@@ -18,6 +18,7 @@ ghost use Rattle.ffv1_codec.specs.Headline.{StandsOnce, AreShort, DecodesTo, Hea
 ghost use Rattle.ffv1_slice.specs.Cutting.{Cuts};
 ghost use Rattle.ffv1_codec.specs.declared.fault.CodecFault.TheVariants as codec_fault;
 ghost use Rattle.ffv1_codec.specs.Damage.{IsBurst};
+ghost use Rattle.ffv1_codec.specs.DecodeFaults.{is_decode_fault};
 ghost use Rattle.ffv1_codec.specs.Decoding as decoding;
 ghost use Rattle.ffv1_codec.specs.Decoding.{State, Decodes, Offers, in_slice};
 
@@ -97,6 +98,16 @@ pub fn few_decisions<S: LineSink>()
     lengths();
     decision_lengths();
     sides();
+}
+
+/// Whatever the payload and the sink, a fault that is answered is one of decoding: of cutting it,
+/// of a slice's start, key or head, of a symbol or a colour, or the sink's.
+pub fn decode_faults<S: LineSink>()
+    ensures { (a : Accepted) (payload : List ℕ) (old new : S) (tally : Tally) (f : FrameFault) →
+        Answers S.takes S.refuses a payload old new tally (Err f) →
+        is_decode_fault f.fault ≡ true }
+{
+    cutting();
 }
 
 /// With parity, a payload that differs from a good one within 32 neighbouring bits of one slice,

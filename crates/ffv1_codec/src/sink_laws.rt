@@ -1,18 +1,28 @@
 //! Laws of what a decoder hands to a sink, each the contract of a function that does nothing.
 
-ghost use Rattle.std.specs.Prelude.{◌≡◌, ◌≢◌, ℕ, ◌+◌, Err, List, []};
+ghost use Rattle.std.specs.Prelude.{◌≡◌, ◌≢◌, ℕ, ◌+◌, true, false, Err, List, [], ◌∷◌, ◌++◌, map};
+ghost use Rattle.std.specs.List.{flat_map, range_with_len};
 ghost use Rattle.std.proofs.Common.{get_or};
+ghost use Rattle.ffv1_wire.specs.Runs.{Grows, Line, places_in};
 ghost use Rattle.ffv1_range.specs.declared.tally.Tally.{Tally};
 ghost use Rattle.ffv1_record.specs.Accepted.{Accepted, IsAccepted};
+ghost use Rattle.ffv1_record.specs.Configuration.{is_rct};
 ghost use Rattle.ffv1_slice.specs.Grid.{division_of};
 ghost use Rattle.ffv1_codec.specs.declared.fault.CodecFault.TheVariants as fault;
 ghost use Rattle.ffv1_codec.specs.declared.fault.FrameFault.{FrameFault};
+ghost use Rattle.ffv1_codec.specs.Picture.{AreOf, Fits, Planes, plane_height, plane_width};
+ghost use Rattle.ffv1_codec.specs.Lines.{line_in, lines_of, places_of};
+ghost use Rattle.ffv1_codec.specs.Order.{Event, events_of};
+ghost use Rattle.ffv1_codec.specs.Runs.{Runs};
 ghost use Rattle.ffv1_codec.specs.Answer.{Answers};
-ghost use Rattle.ffv1_codec.specs.Decoding.{Offers, State, top_of};
+ghost use Rattle.ffv1_codec.specs.Decoding as decoding;
+ghost use Rattle.ffv1_codec.specs.Decoding.{Decodes, Offers, State, StepsBy, at_first, top_of};
+ghost use Rattle.ffv1_codec.specs.Turns.{RefusesInTurn, TakesInTurn};
 ghost use Rattle.ffv1_codec.specs.Kept.{Dropped, Drops, DropsNot, IsLine, Keeps, KeepsNot, Kept};
 
 use crate::laws::sides;
 use ffv1_line::laws::{agreeing_cells, suiting_rows};
+use ffv1_wire::LineSink;
 
 /// A line that decoding comes to, and that is handed over next, is a line of the configuration: it
 /// is of one of its planes, inside its height, and as long as the plane is wide.
@@ -38,6 +48,82 @@ pub fn taken_lines()
         (f : FrameFault) → IsAccepted a.configuration a.table →
         Answers Drops DropsNot a payload old new tally (Err f) →
         old.grid ≡ division_of a.configuration → f.fault ≢ fault.Sink }
+{
+    offered_lines();
+}
+
+/// A sink of the configuration's own lines that kept those of a picture has its planes; and
+/// whatever lines it kept, its grid, the sizes of its planes and its count are as they were.
+pub fn kept_picture()
+    ensures picture { (a : Accepted) (planes : Planes) (old new : Kept) →
+        IsAccepted a.configuration a.table → Fits a.configuration planes →
+        old.grid ≡ division_of a.configuration → AreOf old.grid old.planes →
+        Grows Keeps old (lines_of a.configuration planes) new →
+        (new.planes ≡ planes) × (new.grid ≡ old.grid) × (new.failures ≡ old.failures) }
+    ensures lines { (old new : Kept) (lines : List Line) → AreOf old.grid old.planes →
+        Grows Keeps old lines new →
+        (new.grid ≡ old.grid) × AreOf new.grid new.planes × (new.failures ≡ old.failures) }
+{
+    sides();
+}
+
+/// Where the lines stand that are handed over, and in which order, is the configuration's alone:
+/// the planes and rows of the lines of any picture. Whatever the bytes say, the lines so far are a
+/// beginning of that order, and the line that is handed over next is the next of it; at the end
+/// they are all. For RCT without transparency the order is red, green and blue of each row, the
+/// rows from the top.
+pub fn lines_in_turn()
+    ensures lines { (a : Accepted) (planes : Planes) →
+        lines_of a.configuration planes
+        ≡ map (λ (k : ℕ × ℕ). line_in a.configuration planes k.1 k.0) (places_of a.configuration) }
+    ensures picture { (a : Accepted) (planes : Planes) →
+        places_in (lines_of a.configuration planes) ≡ places_of a.configuration }
+    ensures begun { (a : Accepted) (coded : ℕ → List ℕ) (before after : List Event) (t : State) →
+        events_of a.configuration ≡ before ++ after →
+        Runs (StepsBy a coded) (at_first a.configuration) before t →
+        (rest : List (ℕ × ℕ)) × (places_in t.lines ++ rest ≡ places_of a.configuration) }
+    ensures offered { (a : Accepted) (coded : ℕ → List ℕ) (r i p y : ℕ) (t : State) →
+        Offers a coded r i p y t → (rest : List (ℕ × ℕ))
+        × (places_in t.lines ++ ((p, top_of a.configuration p r + y) ∷ rest)
+        ≡ places_of a.configuration) }
+    ensures refused { (a : Accepted) (coded : ℕ → List ℕ) (f : FrameFault) (t : State) →
+        decoding.Refuses a coded f t → (rest : List (ℕ × ℕ))
+        × (places_in t.lines ++ rest ≡ places_of a.configuration) }
+    ensures decoded { (a : Accepted) (coded : ℕ → List ℕ) (t : State) → Decodes a coded t →
+        places_in t.lines ≡ places_of a.configuration }
+    ensures colours { (a : Accepted) → IsAccepted a.configuration a.table →
+        is_rct a.configuration.colour ≡ true → a.configuration.extra_plane ≡ false →
+        places_of a.configuration
+        ≡ flat_map (λ y. (0, y) ∷ (1, y) ∷ (2, y) ∷ [])
+        (range_with_len 0 a.configuration.height) }
+{
+    sides();
+}
+
+/// For RCT each plane is as wide and as high as the picture.
+pub fn colour_planes()
+    ensures wide { (a : Accepted) (p : ℕ) → IsAccepted a.configuration a.table →
+        is_rct a.configuration.colour ≡ true →
+        plane_width a.configuration p ≡ a.configuration.width }
+    ensures high { (a : Accepted) (p : ℕ) → IsAccepted a.configuration a.table →
+        is_rct a.configuration.colour ≡ true →
+        plane_height a.configuration p ≡ a.configuration.height }
+{
+    sides();
+}
+
+/// Whatever the payload, a fault that is answered is the sink's exactly where the sink refused a
+/// line: behind a beginning of the lines it refused the one that came next, a line of the
+/// configuration, and the fault names its plane and its row. Behind any other fault it took a
+/// beginning of the lines, and refused none.
+pub fn sink_faults<S: LineSink>()
+    ensures sink { (a : Accepted) (payload : List ℕ) (old new : S) (tally : Tally)
+        (f : FrameFault) → IsAccepted a.configuration a.table →
+        Answers S.takes S.refuses a payload old new tally (Err f) → f.fault ≡ fault.Sink →
+        RefusesInTurn S.takes S.refuses a.configuration old new f.plane f.line }
+    ensures other { (a : Accepted) (payload : List ℕ) (old new : S) (tally : Tally)
+        (f : FrameFault) → Answers S.takes S.refuses a payload old new tally (Err f) →
+        f.fault ≢ fault.Sink → TakesInTurn S.takes a.configuration old new }
 {
     offered_lines();
 }

@@ -9,7 +9,7 @@ use Rattle.ffv1_y4m.specs.Images.{image_lines, AtImage, image_text}
 use Rattle.ffv1_y4m.proofs.Written.{appends_then}
 
 -- the text of rows, from this one on
-abbrev rows_text : ℕ → ℕ → ℕ → ℕ → List ℕ → List ℕ → List ℕ → List ℕ
+abbrev pub rows_text : ℕ → ℕ → ℕ → ℕ → List ℕ → List ℕ → List ℕ → List ℕ
 rows_text w h y zero r g b = []
 rows_text w h y (suc n) r g b = row_text w h y (take w r) (take w g) (take w b) ++ rows_text w h (suc y) n (drop w r) (drop w g) (drop w b)
 
@@ -64,7 +64,7 @@ last_row h y e =
     let past : nat_lt (y + 1) h ≡ false = le-ltb _ _ (omega (arith, e)) in
     rw past refl
 
-next_row : (h y n : ℕ) → y + suc (suc n) ≡ h → row_behind h y ≡ suc y
+pub next_row : (h y n : ℕ) → y + suc (suc n) ≡ h → row_behind h y ≡ suc y
 next_row h y n e =
     let inside : nat_lt (y + 1) h ≡ true = lt-ltb _ _ (omega (arith, e)) in
     rw inside (omega arith)
@@ -109,7 +109,7 @@ later_rows w h y (suc n) r g b long =
     let later : (suc y == 0) ≡ false = ne_eqb (suc y) 0 (λ e. absurd (omega (arith, e))) in
     rw later (ap (λ z. interleaved (take w r) (take w g) (take w b) ++ z) (later_rows w h (suc y) n (drop w r) (drop w g) (drop w b) less) ∙ interleaved_parts w r g b)
 
-image_rows : (w h n : ℕ) (r g b : List ℕ) → length r ≡ suc n * w → rows_text w h 0 (suc n) r g b ≡ image_header_text w h ++ interleaved r g b
+pub image_rows : (w h n : ℕ) (r g b : List ℕ) → length r ≡ suc n * w → rows_text w h 0 (suc n) r g b ≡ image_header_text w h ++ interleaved r g b
 image_rows w h n r g b long =
     let less : length (drop w r) ≡ n * w = length-drop w r ∙ (omega (arith, long)) in
     append_assoc (image_header_text w h) (interleaved (take w r) (take w g) (take w b)) (rows_text w h 1 n (drop w r) (drop w g) (drop w b))

@@ -21,4 +21,5 @@ mod ImagesRead
 mod HeaderTags
 mod HeaderLines
 mod LineRuns
+pub mod NextLines
 mod PlaneRooms

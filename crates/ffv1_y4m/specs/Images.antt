@@ -1,6 +1,7 @@
 -- The text of a stream of PPM: images of one size, one behind the other.
 use Rattle.std.specs.Prelude.{◌≡◌, ℕ, zero, suc, take, drop, ◌*◌, true, false, List, [], ◌∷◌, ◌++◌}
 use Rattle.std.specs.Prelude.{length, flat_map, Some, None, Ok}
+use Rattle.std.specs.List.{range_with_len}
 use Rattle.ffv1_y4m.specs.Ppm.{image_header_text, image_read, interleaved}
 use Rattle.ffv1_wire.specs.Runs.{Line}
 use Rattle.ffv1_y4m.specs.Sink.{PpmSink, text_with, kept_behind, row_with}
@@ -72,3 +73,8 @@ text_of_lines width height kept row [] = []
 text_of_lines width height kept row (l ∷ ls) =
     text_with width height row kept l.samples
     ++ text_of_lines width height (kept_behind kept l.samples) (row_with height row kept) ls
+
+-- where the lines of an image stand: red, green and blue of each row
+abbrev pub image_places : ℕ → List (ℕ × ℕ)
+image_places height =
+    flat_map (λ y. (0, y) ∷ (1, y) ∷ (2, y) ∷ []) (range_with_len 0 height)

@@ -11,9 +11,11 @@ ghost use Rattle.ffv1_y4m.specs.VideoHead.{Fits, IsHead, colour_head, plane_size
 ghost use Rattle.ffv1_y4m.specs.State.{HasRoom, samples_of};
 ghost use Rattle.std.specs.declared.vec.Vec.{Vec};
 ghost use Rattle.ffv1_y4m.specs.Images.{AtImage, image_lines, image_text, IsImages, ReadsFrom};
-ghost use Rattle.ffv1_y4m.specs.Images.{text_of_lines};
-ghost use Rattle.ffv1_y4m.specs.Sink.{PpmSink, Refuses, Takes, WritesPart};
-ghost use Rattle.ffv1_wire.specs.Runs.{Grows, Line, Refuses as RunRefuses};
+ghost use Rattle.ffv1_y4m.specs.Images.{image_places, text_of_lines};
+ghost use Rattle.ffv1_y4m.specs.Sink.{IsNext, PpmSink, Refuses, Takes, WritesPart, line_text};
+ghost use Rattle.ffv1_wire.specs.Failures.{one_more};
+ghost use Rattle.ffv1_wire.specs.Runs.{Grows, Line, Refuses as RunRefuses, places_in};
+ghost use Rattle.ffv1_wire.specs.Writes.{AppendsBeginning};
 ghost use Rattle.std.specs.Io.KnownBytes.{Appends};
 ghost use Rattle.ffv1_y4m.specs.Ppm.{image_header};
 
@@ -83,6 +85,34 @@ pub fn line_runs<W: ByteOut>()
         RunRefuses (Takes W.contents W.failures) (Refuses W.contents W.failures) s lines t →
         WritesPart (W.contents s.out) (W.contents t.out)
         (text_of_lines s.width s.height s.kept s.row lines) }
+{}
+
+/// A sink that has taken whole images and then a beginning of the lines of one more, each in its
+/// place, takes the line that comes next there, or its write fails: a beginning of the row's text
+/// is written then, and the writer counts one failure more.
+pub fn next_lines<W: ByteOut>()
+    ensures next { (s t : PpmSink W) (lines : List Line) (p y : ℕ) (samples : List ℕ)
+        (rest : List (ℕ × ℕ)) → AtImage s → Grows (Takes W.contents W.failures) s lines t →
+        places_in lines ++ ((p, y) ∷ rest) ≡ image_places s.height → length samples ≡ s.width →
+        IsNext t p y samples × (t.width ≡ s.width) × (t.height ≡ s.height) }
+    ensures refused { (s t u : PpmSink W) (lines : List Line) (p y : ℕ) (samples : List ℕ)
+        (rest : List (ℕ × ℕ)) → AtImage s → Grows (Takes W.contents W.failures) s lines t →
+        places_in lines ++ ((p, y) ∷ rest) ≡ image_places s.height → length samples ≡ s.width →
+        Refuses W.contents W.failures t p y samples u →
+        AppendsBeginning (W.contents t.out) (W.contents u.out) (line_text t samples)
+        × (W.failures u.out ≡ one_more (W.failures t.out)) }
+    ensures taken { (s t : PpmSink W) (lines : List Line) →
+        Grows (Takes W.contents W.failures) s lines t → W.failures t.out ≡ W.failures s.out }
+{}
+
+/// The lines of an image stand in its order, and what they make a sink write is its text.
+pub fn lines_of_images()
+    ensures places { (width height : ℕ) (red green blue : List ℕ) →
+        places_in (image_lines width 0 height red green blue) ≡ image_places height }
+    ensures text { (width height : ℕ) (red green blue : List ℕ) → 1 ≤ height →
+        length red ≡ height * width →
+        text_of_lines width height [] 0 (image_lines width 0 height red green blue)
+        ≡ image_text width height (red ∷ green ∷ blue ∷ []) }
 {}
 
 /// Planes that were read have room for planes of the same sizes.
