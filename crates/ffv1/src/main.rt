@@ -4,7 +4,7 @@
 
 ghost use Rattle.std.specs.Prelude.{◌≡◌, IsOk, IsErr};
 
-use ffv1_engine::{Choice, Fault, Order, check, pack, trial, words};
+use ffv1_engine::{Choice, Fault, Order, check, pack, show, trial, unpack, words};
 use ffv1_wire::{FromRead, ToWrite};
 use std::alloc::Global;
 use std::process::ExitCode;
@@ -45,6 +45,29 @@ fn run_pack(
     Ok(())
 }
 
+/// Unpacks a file into a text of its pictures, and prints how many there are. The input is opened
+/// first, and then the output is made empty.
+fn run_unpack(
+    rt: &(impl Files + Print),
+    alloc: Global,
+    input: &str,
+    output: &str,
+) -> Result<(), Fault> {
+    let Ok(file) = fs::open(rt, input) else {
+        return Err(Fault::Read);
+    };
+    let Ok(made) = fs::create(rt, output) else {
+        return Err(Fault::Write);
+    };
+    let mut reader = FromRead::new(file);
+    let (_written, answer) = unpack(alloc, &mut reader, ToWrite::new(made));
+    let frames = answer?;
+    if println!(rt; "frames {frames}").is_err() {
+        return Err(Fault::Write);
+    }
+    Ok(())
+}
+
 /// Decodes all frames of a file, and prints what each took, and with `place` where one is refused.
 fn run_check(
     rt: &(impl Files + Print),
@@ -60,17 +83,33 @@ fn run_check(
     check(alloc, &mut reader, &mut writer, place)
 }
 
-/// Does what an order asks for, where the command is there.
-fn run(rt: &(impl Files + Print), alloc: Global, order: Order<'_>) -> Option<Result<(), Fault>> {
+/// Prints what a file says, and with `cost` what its frames cost.
+fn run_show(
+    rt: &(impl Files + Print),
+    alloc: Global,
+    input: &str,
+    cost: bool,
+) -> Result<(), Fault> {
+    let Ok(file) = fs::open(rt, input) else {
+        return Err(Fault::Read);
+    };
+    let mut reader = FromRead::new(file);
+    let mut writer = ToWrite::new(io::writer(rt));
+    show(alloc, &mut reader, &mut writer, cost)
+}
+
+/// Does what an order asks for.
+fn run(rt: &(impl Files + Print), alloc: Global, order: Order<'_>) -> Result<(), Fault> {
     match order {
         Order::Pack {
             input,
             output,
             choice,
-        } => Some(run_pack(rt, alloc, input, output, &choice)),
-        Order::Check { input, place } => Some(run_check(rt, alloc, input, place)),
-        Order::Trial { input } => Some(run_trial(rt, alloc, input)),
-        Order::Unpack { .. } | Order::Show { .. } => None,
+        } => run_pack(rt, alloc, input, output, &choice),
+        Order::Unpack { input, output } => run_unpack(rt, alloc, input, output),
+        Order::Check { input, place } => run_check(rt, alloc, input, place),
+        Order::Show { input, cost } => run_show(rt, alloc, input, cost),
+        Order::Trial { input } => run_trial(rt, alloc, input),
     }
 }
 
@@ -87,8 +126,7 @@ fn status_of(done: Result<(), Fault>) -> u8
 
 /// Does what the words of the command line ask for: status 0 for success, 1 for a fault, which is
 /// one line on standard error, and 2 for a line that is refused. All of clap's text goes to
-/// standard error, that of help too, which ends with status 0. `unpack` and `show` are not there
-/// yet: they answer status 1 and one line that says so.
+/// standard error, that of help too, which ends with status 0.
 fn command(rt: &HostRuntime, alloc: Global, texts: &[&str]) -> io::Result<ExitCode> {
     match words(alloc, texts) {
         Err(error) => {
@@ -100,10 +138,7 @@ fn command(rt: &HostRuntime, alloc: Global, texts: &[&str]) -> io::Result<ExitCo
             })
         }
         Ok(order) => {
-            let Some(done) = run(rt, alloc, order) else {
-                eprintln!(rt; "ffv1: the command is not there yet")?;
-                return Ok(ExitCode::from(1));
-            };
+            let done = run(rt, alloc, order);
             if let Err(fault) = done {
                 eprintln!(rt; "ffv1: {fault}")?;
             }

@@ -23,8 +23,8 @@ use Rattle.ffv1_engine.specs.FrameLines.{frame_line, frame_lines, lines_from}
 use Rattle.ffv1_engine.specs.Opens.{LacksOpeningBy, OpensKnown, OpensStream, stream_of}
 use Rattle.ffv1_engine.specs.Play.{BeginsSome, End, EndsKnown, Played, but_last}
 use Rattle.ffv1_engine.specs.Play.End.{File, Payload, Over}
-use Rattle.ffv1_engine.specs.Stream.{AreFrames, Frame, ReadsFile, ReadsFrames, Stream, payloads}
-use Rattle.ffv1_engine.specs.Told.{EndsMovi, LineFails, PayloadStops, ReadsSome, TellingStops, TellingStopsBy, ToldAll, ToldSome, WritesFrame}
+use Rattle.ffv1_engine.specs.Stream.{AreFrames, BeginsKnown, Frame, ReadsFile, ReadsFrames, Stream, payloads}
+use Rattle.ffv1_engine.specs.Told.{EndsMovi, LineFails, PayloadStops, ReadsKnown, ReadsSome, TellingStops, TellingStopsBy, ToldAll, ToldSome, WritesFrame}
 use Rattle.ffv1_engine.proofs.FramesTold.{take_past}
 
 fewer_lines : (c : Configuration) (i : ℕ) (frames : List Frame) → length (lines_from line.Sizes c i (but_last frames)) ≤ length (lines_from line.Sizes c i frames)
@@ -37,11 +37,25 @@ fewer_lines c i (f ∷ g ∷ gs) =
     let rest = fewer_lines c (suc i) (g ∷ gs) in
     omega (arith, fewer, all, rest)
 
+pub no_frame : (frames : List Frame) → length frames ≡ 0 → frames ≡ []
+no_frame [] e = refl
+no_frame (f ∷ fs) e = absurd (omega (arith, e))
+
+pub positive : (frames : List Frame) → (length frames ≡ 0 → ⊥) → 0 < length frames
+positive [] none = absurd (none refl)
+positive (f ∷ fs) none = omega arith
+
 -- behind the head frames begin, or end, as they do in movi
 pub begins_some : (old mid : Option (List ℕ)) (s : Stream) (left : ℕ) (frames : List Frame) → OpensKnown old mid s.head left → ReadsSome left mid frames → BeginsSome old s frames
 begins_some None mid s left frames opens reads = tt
 begins_some (Some file) None s left frames opens reads = absurd opens
 begins_some (Some file) (Some behind) s left frames opens reads = (reads.0, reads.1, record { most = left; behind = behind; opened = opens; read = reads.2 })
+
+pub begins_known : (old mid new : Option (List ℕ)) (s : Stream) (left least : ℕ) (frames : List Frame) → OpensKnown old mid s.head left → ReadsKnown left mid new frames least → BeginsKnown old new s frames
+begins_known None mid new s left least frames opens reads = tt
+begins_known (Some file) None new s left least frames opens reads = absurd opens
+begins_known (Some file) (Some behind) None s left least frames opens reads = absurd reads
+begins_known (Some file) (Some behind) (Some rest) s left least frames opens reads = (least, record { most = left; behind = behind; opened = opens; read = reads })
 
 pub ends_known : (old mid new : Option (List ℕ)) (s : Stream) (left : ℕ) (frames : List Frame) (e : End) → OpensKnown old mid s.head left → EndsMovi left mid new frames e → EndsKnown old new s frames e
 ends_known None mid new s left frames e opens ends = tt
@@ -50,7 +64,7 @@ ends_known (Some file) (Some behind) None s left frames e opens ends = absurd en
 ends_known (Some file) (Some behind) (Some rest) s left frames e opens ends =
     (ends.0, ends.1, record { most = left; behind = behind; opened = opens; read = ends.2 }, ends.3)
 
-some_of_end : (left : ℕ) (old new : Option (List ℕ)) (frames : List Frame) (e : End) → EndsMovi left old new frames e → ReadsSome left old frames
+pub some_of_end : (left : ℕ) (old new : Option (List ℕ)) (frames : List Frame) (e : End) → EndsMovi left old new frames e → ReadsSome left old frames
 some_of_end left None new frames e ends = tt
 some_of_end left (Some text) None frames e ends = absurd ends
 some_of_end left (Some text) (Some rest) frames e ends = (ends.0, ends.1, ends.2)
@@ -140,6 +154,7 @@ module _ (place : Bool) (i0 i1 i2 o0 o1 o2 : Option (List ℕ)) (ib im ia ob om 
         stream = stream_of r a;
         frames = h.0;
         end = File f;
+        file = tt;
         checks = some h.0 h.1;
         ends = ends_known i0 i1 i2 (stream_of r a) r.left h.0 (File f) opens.known h.3;
         is = refl;
@@ -183,15 +198,12 @@ module _ (place : Bool) (i0 i1 i2 o0 o1 o2 : Option (List ℕ)) (ib im ia ob om 
           stream = stream_of r a;
           frames = frames;
           end = Over;
+          file = tt;
           checks = all_some;
           ends = ends_known i0 i1 i2 (stream_of r a) r.left frames Over opens.known told.ends;
-          is = (empty frames (let few : length frames ≡ 0 = omega (arith, is, none) in few), refl);
+          is = (no_frame frames (let few : length frames ≡ 0 = omega (arith, is, none) in few), refl);
         }),
       )
-        where
-          empty : (fs : List Frame) → length fs ≡ 0 → fs ≡ []
-          empty [] e = refl
-          empty (f ∷ fs) e = absurd (omega (arith, e))
 
       pub done : (count ≡ 0 → ⊥) → ReadsFile i0 i2 (stream_of r a) frames → oa ≡ om → Appends o1 o2 (count_line count) → CheckDone place (between i0 i2 ib ia) (between o0 o2 ob oa)
       done some_frames reads kept writes = record {
@@ -206,10 +218,6 @@ module _ (place : Bool) (i0 i1 i2 o0 o1 o2 : Option (List ℕ)) (ib im ia ob om 
             subst (λ n. Appends o0 o2 (frame_lines line.Sizes a.configuration frames ++ count_line n)) is
             (Appends-trans o0 o1 o2 (frame_lines line.Sizes a.configuration frames) (count_line count) told.writes writes);
       }
-        where
-          positive : (fs : List Frame) → (length fs ≡ 0 → ⊥) → 0 < length fs
-          positive [] none = absurd (none refl)
-          positive (f ∷ fs) none = omega arith
 
       count_fails : (k : ℕ) → k < length (count_line count) → oa ≡ one_more om → Appends o1 o2 (take k (count_line count)) → CheckLineFails place (between i0 i2 ib ia) (between o0 o2 ob oa)
       count_fails k short counted writes =

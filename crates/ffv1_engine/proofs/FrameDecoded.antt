@@ -16,12 +16,12 @@ use Rattle.ffv1_engine.specs.declared.frame_line.FrameLine.{FrameLine}
 use Rattle.ffv1_engine.specs.Faults.{cause_of}
 use Rattle.ffv1_engine.specs.FrameLines.{frame_line, place_line}
 use Rattle.ffv1_engine.specs.Stream.{Decided, FaultsFrame, Frame}
-use Rattle.ffv1_engine.specs.Told.{FrameStops, FrameStopsBy, ToldFrame, WritesFrame, WritesLine}
+use Rattle.ffv1_engine.specs.Told.{FrameStops, FrameStopsBy, PlaysFrame, WritesFrame, WritesLine}
 
 not_both : (info : Said) (f : FrameFault) (r : Result Said FrameFault) → r ≡ Ok info → r ≡ Err f → ⊥
 not_both info f r e g = cc
 
-same_fault : (f g : FrameFault) (r : Result Said FrameFault) → r ≡ Err f → r ≡ Err g → f ≡ g
+pub same_fault : (f g : FrameFault) (r : Result Said FrameFault) → r ≡ Err f → r ≡ Err g → f ≡ g
 same_fault f g r e h = cc
 
 module _ {S : Type 0} (takes refuses : LineStep S) (a : Accepted) (payload : List ℕ) (old new : S) (tally : Tally) where
@@ -55,7 +55,7 @@ line_written line p (Err f) some h = elim h [
   | inr none ↦ inr (inr (some, none.1, Appends-kept p.old p.old p.new [] (Appends-nil p.old) none.2))
 ]
 
-pub frame_fails : (kind : FrameLine) (place : Bool) (a : Accepted) (i left least : ℕ) (input output : Passage) (frame : Frame) (f : Fault) → ToldFrame kind place a i left least input output frame →
+pub frame_fails : (kind : FrameLine) (place : Bool) (a : Accepted) (i left least : ℕ) (input output : Passage) (frame : Frame) (f : Fault) → PlaysFrame a left least input frame →
     WritesFrame (frame_line kind a.configuration i frame.payload frame.tally) output (Err f) →
     FrameStops kind place a i left least input output f ⊎ FrameStopsBy kind place a i left least input output f (cause_of f)
 frame_fails kind place a i left least input output frame f told h = elim h [

@@ -18,7 +18,7 @@ use Rattle.ffv1_engine.specs.Stream.{AreFrames, Frame, IsFrame, ReadsFrames, pay
 use Rattle.ffv1_engine.specs.Play.{but_last}
 use Rattle.ffv1_engine.specs.Play.End.{File, Payload, Over}
 use Rattle.ffv1_engine.specs.FrameLines.{frame_line, frame_lines, lines_from, place_text}
-use Rattle.ffv1_engine.specs.Told.{NextIs, FaultsKnown, ReadsKnown, ReadsSome, EndsMovi, WritesLine, Told, ToldAll, ToldSome, LineFails, PayloadStops, TellingStopsBy, TellingStops, ToldFrame, FrameStops, FrameStopsBy, ReadsEnd, Silent}
+use Rattle.ffv1_engine.specs.Told.{NextIs, FaultsKnown, ReadsKnown, ReadsSome, EndsMovi, WritesLine, Told, ToldAll, ToldSome, LineFails, PayloadStops, TellingStopsBy, TellingStops, PlaysFrame, FrameStops, FrameStopsBy, ReadsEnd, Silent}
 
 pub take_past : (xs ys : List ℕ) (k : ℕ) → take (length xs + k) (xs ++ ys) ≡ xs ++ take k ys
 take_past [] ys k =
@@ -28,12 +28,12 @@ take_past (x ∷ xs) ys k =
     let same : suc (length xs) + k ≡ suc (length xs + k) = omega arith in
     ap (λ n. take n (x ∷ (xs ++ ys))) same ∙ ap (λ z. x ∷ z) (take_past xs ys k)
 
-but_last_more : (frames : List Frame) (f : Frame) → but_last (frames ++ (f ∷ [])) ≡ frames
+pub but_last_more : (frames : List Frame) (f : Frame) → but_last (frames ++ (f ∷ [])) ≡ frames
 but_last_more [] f = refl
 but_last_more (g ∷ []) f = refl
 but_last_more (g ∷ h ∷ gs) f = ap (λ z. g ∷ z) (but_last_more (h ∷ gs) f)
 
-are_more : (a : Accepted) (frames : List Frame) (f : Frame) → AreFrames a frames → IsFrame a f → AreFrames a (frames ++ (f ∷ []))
+pub are_more : (a : Accepted) (frames : List Frame) (f : Frame) → AreFrames a frames → IsFrame a f → AreFrames a (frames ++ (f ∷ []))
 are_more a [] f are is = (is, tt)
 are_more a (g ∷ gs) f are is = (are.0, are_more a gs f are.1 is)
 
@@ -75,32 +75,32 @@ pub reads_none : (left : ℕ) (o : Option (List ℕ)) → ReadsKnown left o o []
 reads_none left None = tt
 reads_none left (Some text) = (refl, refl)
 
-reads_more : (left least last : ℕ) (o m n : Option (List ℕ)) (frames : List Frame) (f : Frame) → ReadsKnown left o m frames least → NextIs least m n (Some (f.payload, last)) →
+pub reads_more : (left least last : ℕ) (o m n : Option (List ℕ)) (frames : List Frame) (f : Frame) → ReadsKnown left o m frames least → NextIs least m n (Some (f.payload, last)) →
     ReadsKnown left o n (frames ++ (f ∷ [])) last
 reads_more left least last None m n frames f h next = tt
 reads_more left least last (Some text) None n frames f h next = absurd h
 reads_more left least last (Some text) (Some at) None frames f h next = absurd next
 reads_more left least last (Some text) (Some at) (Some rest) frames f h next = frames_more left text frames least at f last rest h next
 
-reads_some : (left least : ℕ) (o m : Option (List ℕ)) (frames : List Frame) → ReadsKnown left o m frames least → ReadsSome left o frames
+pub reads_some : (left least : ℕ) (o m : Option (List ℕ)) (frames : List Frame) → ReadsKnown left o m frames least → ReadsSome left o frames
 reads_some left least None m frames h = tt
 reads_some left least (Some text) None frames h = absurd h
 reads_some left least (Some text) (Some at) frames h = (least, at, h)
 
-ends_over : (left least : ℕ) (o m n : Option (List ℕ)) (frames : List Frame) → ReadsKnown left o m frames least → NextIs least m n None → EndsMovi left o n frames Over
+pub ends_over : (left least : ℕ) (o m n : Option (List ℕ)) (frames : List Frame) → ReadsKnown left o m frames least → NextIs least m n None → EndsMovi left o n frames Over
 ends_over left least None m n frames h next = tt
 ends_over left least (Some text) None n frames h next = absurd h
 ends_over left least (Some text) (Some at) None frames h next = absurd next
 ends_over left least (Some text) (Some at) (Some rest) frames h next = (least, at, h, next)
 
-ends_payload : (left least last : ℕ) (o m n : Option (List ℕ)) (frames : List Frame) (payload : List ℕ) (f : FrameFault) (t : Tally) → ReadsKnown left o m frames least →
+pub ends_payload : (left least last : ℕ) (o m n : Option (List ℕ)) (frames : List Frame) (payload : List ℕ) (f : FrameFault) (t : Tally) → ReadsKnown left o m frames least →
     NextIs least m n (Some (payload, last)) → EndsMovi left o n frames (Payload payload f t)
 ends_payload left least last None m n frames payload f t h next = tt
 ends_payload left least last (Some text) None n frames payload f t h next = absurd h
 ends_payload left least last (Some text) (Some at) None frames payload f t h next = absurd next
 ends_payload left least last (Some text) (Some at) (Some rest) frames payload f t h next = (least, at, h, (last, next))
 
-ends_file : (left least : ℕ) (o m n : Option (List ℕ)) (frames : List Frame) (f : Fault) → ReadsKnown left o m frames least → FaultsKnown (frame_read least) m n f → EndsMovi left o n frames (File f)
+pub ends_file : (left least : ℕ) (o m n : Option (List ℕ)) (frames : List Frame) (f : Fault) → ReadsKnown left o m frames least → FaultsKnown (frame_read least) m n f → EndsMovi left o n frames (File f)
 ends_file left least None m n frames f h next = tt
 ends_file left least (Some text) None n frames f h next = absurd h
 ends_file left least (Some text) (Some at) None frames f h next = absurd next
@@ -122,7 +122,7 @@ module _ (kind : FrameLine) (place : Bool) (a : Accepted) (left : ℕ) where
 
   module _ (least last number : ℕ) (i0 i1 i2 o0 o1 o2 : Option (List ℕ)) (ib im ia ob om oa : ℕ) (frames : List Frame) (is : number ≡ saturated (length frames))
       (told : Told kind place a left (between i0 i1 ib im) (between o0 o1 ob om) frames least) where
-    pub told_more : (f : Frame) → ToldFrame kind place a number least last (between i1 i2 im ia) (between o1 o2 om oa) f → oa ≡ om →
+    pub told_more : (f : Frame) → PlaysFrame a least last (between i1 i2 im ia) f → oa ≡ om →
         Appends o1 o2 (frame_line kind a.configuration number f.payload f.tally) → Told kind place a left (between i0 i2 ib ia) (between o0 o2 ob oa) (frames ++ (f ∷ [])) last
     told_more f here same writes = record {
       are = are_more a frames f told.are here.is;
@@ -152,7 +152,7 @@ module _ (kind : FrameLine) (place : Bool) (a : Accepted) (left : ℕ) where
       writes = Appends-kept o0 o1 o2 (frame_lines kind a.configuration frames) told.writes silent.none;
     }
 
-    line_fails : (f : Frame) → ToldFrame kind place a number least last (between i1 i2 im ia) (between o1 o2 om oa) f → oa ≡ one_more om →
+    line_fails : (f : Frame) → PlaysFrame a least last (between i1 i2 im ia) f → oa ≡ one_more om →
         (k : ℕ) → k < length (frame_line kind a.configuration number f.payload f.tally) → Appends o1 o2 (take k (frame_line kind a.configuration number f.payload f.tally)) →
         LineFails kind place a left (between i0 i2 ib ia) (between o0 o2 ob oa) (frames ++ (f ∷ []))
     line_fails f here counted k short writes =

@@ -22,3 +22,12 @@ mod FramesTold
 mod Openings
 mod FrameDecoded
 mod FileChecked
+mod PicturesWritten
+mod FileUnpacked
+mod ImageLines
+mod ImagesWritten
+mod ImagesSoFar
+mod StreamText
+mod FileShown
+mod ReadingFaults
+mod OwnFaults

@@ -1,5 +1,5 @@
 -- What `check` writes, and why it is refused.
-use Rattle.std.specs.Prelude.{◌≡◌, ◌⊎◌, ℕ, ◌<◌, Bool, List, ◌++◌, length, codes, decimal}
+use Rattle.std.specs.Prelude.{◌≡◌, ◌⊎◌, ℕ, ◌<◌, Bool, true, List, ◌++◌, length, codes, decimal}
 use Rattle.std.specs.Io.KnownBytes.{Appends, Keeps}
 use Rattle.ffv1_range.specs.Counts.{saturated}
 use Rattle.ffv1_range.specs.declared.tally.Tally.{Tally}
@@ -8,15 +8,17 @@ use Rattle.ffv1_wire.specs.Passage.{Passage}
 use Rattle.ffv1_record.specs.Configuration.{Configuration}
 use Rattle.ffv1_codec.specs.declared.fault.FrameFault.{FrameFault}
 use Rattle.ffv1_engine.specs.declared.fault.Fault.{Fault}
+use Rattle.ffv1_engine.specs.declared.fault.Fault.TheVariants as fault
 use Rattle.ffv1_engine.specs.declared.frame_line.FrameLine.TheVariants as line
 use Rattle.ffv1_engine.specs.Faults.{Cause, cause_of, of_codec}
 use Rattle.ffv1_engine.specs.Faults.Cause.{Reading, Writing, Memory, Content}
+use Rattle.ffv1_engine.specs.Opens.{is_opening_fault}
 use Rattle.ffv1_engine.specs.Stream.{FaultsFrame, Frame, ReadsFile, Stream}
-use Rattle.ffv1_engine.specs.Play.{BeginsSome, End, EndsKnown, EndsWith, LacksStream, Played}
-use Rattle.ffv1_engine.specs.Play.{WritesUpTo, but_last}
+use Rattle.ffv1_engine.specs.Play.{BeginsSome, End, EndsKnown, EndsWith, IsOfFile, LacksStream}
+use Rattle.ffv1_engine.specs.Play.{Played, WritesUpTo, but_last}
 use Rattle.ffv1_engine.specs.Play.End.{Payload}
 use Rattle.ffv1_engine.specs.FrameLines.{frame_lines, place_text}
-use Rattle.ffv1_engine.specs.Told.{WritesLine}
+use Rattle.ffv1_engine.specs.Told.{WritesLine, is_telling_fault}
 
 -- how many frames there were
 unfoldable pub count_line : ℕ → List ℕ
@@ -71,6 +73,7 @@ module _ (place : Bool) (input output : Passage) where
     pub stream : Stream
     pub frames : List Frame
     pub end : End
+    pub file : IsOfFile end
     pub checks : ChecksSome stream frames
     pub ends : EndsKnown input.old input.new stream frames end
     pub is : EndsWith frames end f
@@ -104,3 +107,9 @@ module _ (place : Bool) (input output : Passage) where
   -- why it is refused
   abbrev pub CheckStops : Fault → Type 0
   CheckStops f = CheckPayload f ⊎ CheckStopsBy f (cause_of f)
+
+-- the faults that a check has, whatever the file: those of opening it and of telling its frames, and
+-- that there is none
+abbrev pub IsCheckFault : Fault → Type 0
+IsCheckFault f =
+    (is_opening_fault f ≡ true) ⊎ (is_telling_fault f ≡ true) ⊎ (f ≡ fault.NoFrames)

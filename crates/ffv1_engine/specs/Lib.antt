@@ -16,3 +16,10 @@ pub mod FrameLines
 pub mod Opens
 pub mod Told
 pub mod Check
+pub mod Unpacked
+pub mod Unpacking
+pub mod PicturesOut
+pub mod Unpack
+pub mod ImagesOut
+pub mod StreamLines
+pub mod Show

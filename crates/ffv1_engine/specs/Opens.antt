@@ -1,5 +1,5 @@
 -- A file is opened: what is known then of its head and its configuration, or why it is not.
-use Rattle.std.specs.Prelude.{◌≡◌, ℕ, List, Option, Some, None, Ok, ⊤}
+use Rattle.std.specs.Prelude.{◌≡◌, ℕ, Bool, true, false, List, Option, Some, None, Ok, ⊤}
 use Rattle.ffv1_wire.specs.Failures.{one_more}
 use Rattle.ffv1_wire.specs.Passage.{Passage}
 use Rattle.ffv1_record.specs.Accepted.{Accepted}
@@ -7,6 +7,7 @@ use Rattle.ffv1_avi.specs.Files.{open_read}
 use Rattle.ffv1_avi.specs.Head.{Head}
 use Rattle.ffv1_avi.specs.Readers.{Standing}
 use Rattle.ffv1_engine.specs.declared.fault.Fault.{Fault}
+use Rattle.ffv1_engine.specs.declared.fault.Fault.TheVariants as fault
 use Rattle.ffv1_engine.specs.Faults.{Cause, cause_of}
 use Rattle.ffv1_engine.specs.Faults.Cause.{Reading, Writing, Memory, Content}
 use Rattle.ffv1_engine.specs.Stream.{IsStream, Stream}
@@ -38,3 +39,35 @@ LacksOpeningBy p f Content = (p.after ≡ p.before) × LacksStream p.old p.new f
 
 abbrev pub LacksOpening : Passage → Fault → Type 0
 LacksOpening p f = LacksOpeningBy p f (cause_of f)
+
+-- the faults that opening has, whatever the file: those of its chunks before the first frame, and
+-- those of its record
+abbrev pub is_opening_fault : Fault → Bool
+is_opening_fault fault.OutOfMemory = true
+is_opening_fault fault.NotAvi = true
+is_opening_fault fault.NoFfv1 = true
+is_opening_fault fault.Truncated = true
+is_opening_fault fault.ChunkTooLong = true
+is_opening_fault fault.Read = true
+is_opening_fault fault.StateTable = true
+is_opening_fault fault.BadStart = true
+is_opening_fault fault.SymbolTooLong = true
+is_opening_fault fault.Runs = true
+is_opening_fault fault.Contexts = true
+is_opening_fault fault.Size = true
+is_opening_fault fault.Grid = true
+is_opening_fault fault.ChromaEdge = true
+is_opening_fault fault.Subsampling = true
+is_opening_fault fault.Sets = true
+is_opening_fault fault.Short = true
+is_opening_fault fault.Parity = true
+is_opening_fault fault.Version = true
+is_opening_fault fault.MicroVersion = true
+is_opening_fault fault.Coder = true
+is_opening_fault fault.ColourSpace = true
+is_opening_fault fault.Depth = true
+is_opening_fault fault.CodedStates = true
+is_opening_fault fault.Ec = true
+is_opening_fault fault.Intra = true
+is_opening_fault fault.ExtraPlane = true
+is_opening_fault f = false

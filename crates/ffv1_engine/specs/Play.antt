@@ -47,6 +47,12 @@ pub data End : Type 0 where
   Payload : List ℕ → FrameFault → Tally → End
   Over : End
 
+-- an end that is no payload's
+abbrev pub IsOfFile : End → Type 0
+IsOfFile (File f) = ⊤
+IsOfFile (Payload payload f tally) = ⊥
+IsOfFile Over = ⊤
+
 -- so the reading ends of a text where movi has so many bytes left, and this is left of it
 abbrev pub EndsReading : ℕ → List ℕ → List ℕ → End → Type 0
 EndsReading left text rest (File f) = FaultsRead (frame_read left) text rest f

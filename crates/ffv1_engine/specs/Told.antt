@@ -167,14 +167,14 @@ module _ (kind : FrameLine) (place : Bool) (a : Accepted) (left : ℕ) (input ou
   abbrev pub TellingStops : Fault → Type 0
   TellingStops f = PayloadStops f ⊎ TellingStopsBy f (cause_of f)
 
+-- a frame was read and decoded
+pub record PlaysFrame (a : Accepted) (left least : ℕ) (input : Passage) (f : Frame) : Type 0 where
+  pub is : IsFrame a f
+  pub reads : ReadsPayload left least f.payload input
+
 -- of the frame with this number
 module _ (kind : FrameLine) (place : Bool) (a : Accepted) (i left least : ℕ)
     (input output : Passage) where
-  -- it was read and decoded
-  pub record ToldFrame (f : Frame) : Type 0 where
-    pub is : IsFrame a f
-    pub reads : ReadsPayload left least f.payload input
-
   -- it has its first fault
   pub record FrameStops (f : Fault) : Type 0 where
     pub payload : List ℕ
@@ -193,7 +193,8 @@ module _ (kind : FrameLine) (place : Bool) (a : Accepted) (i left least : ℕ)
   -- or why there is none, or it is not told, by the cause
   abbrev pub FrameStopsBy : Fault → Cause → Type 0
   FrameStopsBy f Writing =
-      (frame : Frame) × ToldFrame frame × (output.after ≡ one_more output.before)
+      (frame : Frame) × PlaysFrame a left least input frame
+      × (output.after ≡ one_more output.before)
       × AppendsBeginning output.old output.new
       (frame_line kind a.configuration i frame.payload frame.tally)
   FrameStopsBy f Reading = Silent × (input.after ≡ one_more input.before)
@@ -205,7 +206,7 @@ module _ (kind : FrameLine) (place : Bool) (a : Accepted) (i left least : ℕ)
   -- what telling a frame answers: that it was told, that there is none, or why it was not
   abbrev pub FrameAnswers : Result Bool Fault → Type 0
   FrameAnswers (Ok true) =
-      (frame : Frame) × ToldFrame frame × (output.after ≡ output.before)
+      (frame : Frame) × PlaysFrame a left least input frame × (output.after ≡ output.before)
       × Appends output.old output.new
       (frame_line kind a.configuration i frame.payload frame.tally)
   FrameAnswers (Ok false) = ReadsEnd left input × Silent
@@ -218,3 +219,33 @@ WritesFrame line p (Ok done) = (p.after ≡ p.before) × Appends p.old p.new lin
 WritesFrame line p (Err f) =
     ((f ≡ fault.Write) × (p.after ≡ one_more p.before) × AppendsBeginning p.old p.new line)
     ⊎ ((f ≡ fault.OutOfMemory) × (p.after ≡ p.before) × Keeps p.old p.new)
+
+-- the faults that telling frames has, whatever the file: those of reading a frame, of decoding it, and
+-- of writing its line
+abbrev pub is_telling_fault : Fault → Bool
+is_telling_fault fault.OutOfMemory = true
+is_telling_fault fault.Read = true
+is_telling_fault fault.Write = true
+is_telling_fault fault.NotAvi = true
+is_telling_fault fault.Truncated = true
+is_telling_fault fault.ChunkTooLong = true
+is_telling_fault fault.EmptyFrame = true
+is_telling_fault fault.BadStart = true
+is_telling_fault fault.SymbolTooLong = true
+is_telling_fault fault.Colour = true
+is_telling_fault fault.NotKey = true
+is_telling_fault fault.Place = true
+is_telling_fault fault.SetIndex = true
+is_telling_fault fault.Structure = true
+is_telling_fault fault.Aspect = true
+is_telling_fault fault.Footer = true
+is_telling_fault fault.Leftover = true
+is_telling_fault fault.SliceParity = true
+is_telling_fault fault.SliceStatus = true
+is_telling_fault fault.InfoDiffers = true
+is_telling_fault f = false
+
+-- where reading a frame ends, it is by one of those
+abbrev pub IsOwnStop : Stop → Type 0
+IsOwnStop (stop.File f) = is_telling_fault (of_avi f) ≡ true
+IsOwnStop (stop.Payload f) = ⊤

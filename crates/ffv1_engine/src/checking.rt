@@ -2,7 +2,7 @@
 
 ghost use Rattle.std.specs.Prelude.{IfErr, OnOk};
 ghost use Rattle.ffv1_wire.specs.Passage.{passage};
-ghost use Rattle.ffv1_engine.specs.Check.{CheckDone, CheckStops, count_line};
+ghost use Rattle.ffv1_engine.specs.Check.{CheckDone, CheckStops, IsCheckFault, count_line};
 ghost use Rattle.ffv1_engine.specs.Told.{WritesFrame};
 
 use crate::fault::Fault;
@@ -62,6 +62,7 @@ pub fn check<R: ByteIn, W: ByteOut, A: Allocator + Copy>(
     ensures err { IfErr result (CheckStops place
         (passage R.remaining R.failures input.old input.new)
         (passage W.contents W.failures output.old output.new)) }
+    ensures own { IfErr result IsCheckFault }
 {
     frames_in_turn();
     read_is_file();

@@ -3,10 +3,10 @@
 //!
 //! `words` reads a command line as an `Order`, of one of five commands; the call of the order's
 //! name does it, over a reader and a writer of `ffv1_wire`, and answers a `Fault` that displays as
-//! its number and name. Of those calls there are `pack`, which codes a video into a file, `check`,
-//! which decodes all frames of one, and `trial`, which codes the first picture of a text and
-//! decodes it again; `code_plane` is its first half, over samples. The test `trials::example` of
-//! `ffv1_tests` runs these lines:
+//! its number and name. `pack` codes a video into a file, `unpack` decodes one into a text again,
+//! `check` decodes all its frames, `show` tells what it says, and `trial` codes the first picture
+//! of a text and decodes it again; `code_plane` is its first half, over samples. The test
+//! `trials::example` of `ffv1_tests` runs these lines:
 //!
 //! ```text
 //! if let Order::Trial { .. } = words(alloc, &["ffv1", "trial", "disc.y4m"])? {
@@ -21,16 +21,21 @@ mod comparison;
 mod encoding;
 mod fault;
 pub mod frame_line;
+mod images_out;
 pub mod laws;
 mod matched;
 mod mono_trial;
 mod order;
 mod packing;
 mod picture;
+mod pictures_out;
 mod plane;
 pub mod player;
 mod report;
+mod showing;
+mod stream_lines;
 mod telling;
+mod unpacking;
 mod video;
 
 pub use checking::check;
@@ -40,3 +45,5 @@ pub use mono_trial::trial;
 pub use order::{Choice, CoderChoice, Order};
 pub use packing::{Packed, pack};
 pub use plane::{Coded, code_plane};
+pub use showing::show;
+pub use unpacking::unpack;

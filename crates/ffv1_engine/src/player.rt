@@ -1,14 +1,14 @@
 //! The frames of a file, one after the other.
 
-ghost use Rattle.std.specs.Prelude.{◌≡◌, ◌⊎◌, ◌<◌, IfErr, IfOk, IfSome, None, OnOk, Some};
+ghost use Rattle.std.specs.Prelude.{◌≡◌, ◌⊎◌, ◌<◌, IfErr, IfOk, IfSome, None, OnOk, Some, true};
 ghost use Rattle.ffv1_wire.specs.Passage.{passage};
 ghost use Rattle.ffv1_avi.specs.Head.{head_of};
 ghost use Rattle.ffv1_record.specs.Reading.{IsRefused};
 ghost use Rattle.ffv1_record.specs.declared.fault.RecordFault.TheVariants as record_fault;
 ghost use Rattle.ffv1_engine.specs.declared.fault.Fault.TheVariants as fault;
-ghost use Rattle.ffv1_engine.specs.Opens.{OpensStream, LacksOpening};
+ghost use Rattle.ffv1_engine.specs.Opens.{OpensStream, LacksOpening, is_opening_fault};
 ghost use Rattle.ffv1_engine.specs.Stream.{IsStream};
-ghost use Rattle.ffv1_engine.specs.Told.{StepAnswers};
+ghost use Rattle.ffv1_engine.specs.Told.{IsOwnStop, StepAnswers};
 
 use crate::fault::Fault;
 use ffv1_avi::{AviFault, AviHead, AviReader};
@@ -49,6 +49,7 @@ pub(crate) fn open_stream<R: ByteIn, A: Allocator + Copy>(
         (passage R.remaining R.failures input.old input.new)) }
     ensures err { IfErr result (LacksOpening
         (passage R.remaining R.failures input.old input.new)) }
+    ensures own { IfErr result (λ f. is_opening_fault f ≡ true) }
 {
     let reader = AviReader::open(alloc, input)?;
     let checked = read_head(alloc, reader.head())?;
@@ -93,6 +94,7 @@ pub(crate) fn open_player<R: ByteIn, A: Allocator + Copy>(
         (passage R.remaining R.failures input.old input.new)) }
     ensures err { IfErr result (LacksOpening
         (passage R.remaining R.failures input.old input.new)) }
+    ensures own { IfErr result (λ f. is_opening_fault f ≡ true) }
 {
     let (reader, checked) = open_stream(alloc, input)?;
     let player = player_of(alloc, reader, checked)?;
@@ -115,6 +117,7 @@ pub(crate) fn play<R: ByteIn, S: LineSink, A: Allocator>(
     ensures less { IfOk result (λ o. IfSome o (λ _.
         player.new.reader.left < player.old.reader.left)) }
     ensures same { player.new.decoder.accepted ≡ player.old.decoder.accepted }
+    ensures own { IfErr result IsOwnStop }
 {
     match player.reader.next_frame(input, &mut player.payload) {
         Ok(false) => Ok(None),

@@ -8,12 +8,12 @@ ghost use Rattle.ffv1_codec.specs.Answer.{decided_by};
 ghost use Rattle.ffv1_engine.specs.FrameLines.{frame_line, place_line, place_text};
 ghost use Rattle.ffv1_engine.specs.Stream.{Frame};
 ghost use Rattle.ffv1_engine.specs.Told.{FrameAnswers, TellingStops, ToldAll, WritesFrame};
-ghost use Rattle.ffv1_engine.specs.Told.{WritesLine};
+ghost use Rattle.ffv1_engine.specs.Told.{WritesLine, is_telling_fault};
 
 use crate::fault::Fault;
 use crate::frame_line::{FrameLine, put_cost, put_place, put_sizes};
 use crate::player::{Player, Stop, play};
-use ffv1_codec::answer_laws::answered;
+use ffv1_codec::answer_laws::{answered, decode_faults};
 use ffv1_codec::sink_laws::taken_lines;
 use ffv1_codec::{DropLines, FrameDecoder, FrameFault};
 use ffv1_wire::{ByteIn, ByteOut, write_all};
@@ -127,8 +127,10 @@ fn tell_frame<R: ByteIn, W: ByteOut, A: Allocator>(
     ensures less { IfOk result (λ more. more ≡ true →
         player.new.reader.left < player.old.reader.left) }
     ensures same { player.new.decoder.accepted ≡ player.old.decoder.accepted }
+    ensures own { IfErr result (λ f. is_telling_fault f ≡ true) }
 {
     answered::<DropLines>();
+    decode_faults::<DropLines>();
     taken_lines();
     let mut sink = DropLines::new(player.decoder.config());
     match play(player, input, &mut sink) {
@@ -165,6 +167,7 @@ pub(crate) fn tell_frames<R: ByteIn, W: ByteOut, A: Allocator + Copy>(
     ensures err { IfErr result (TellingStops kind place player.old.decoder.accepted
         player.old.reader.left (passage R.remaining R.failures input.old input.new)
         (passage W.contents W.failures output.old output.new)) }
+    ensures own { IfErr result (λ f. is_telling_fault f ≡ true) }
 {
     let mut text = Vec::new(alloc);
     let mut count = 0u64;

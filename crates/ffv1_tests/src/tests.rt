@@ -12,5 +12,7 @@ mod packs;
 mod pictures;
 mod record;
 mod refusals;
+mod shows;
 mod trials;
+mod unpacks;
 mod y4m;

@@ -6,6 +6,7 @@ use Rattle.ffv1_record.specs.declared.fault.RecordFault.TheVariants as record_fa
 use Rattle.ffv1_avi.specs.Head.{Head}
 use Rattle.ffv1_engine.specs.Stream.{IsStream}
 use Rattle.ffv1_engine.proofs.Openings.{lacks_record, opens_known}
+use Rattle.ffv1_engine.proofs.OwnFaults.{file_opens, record_opens}
 use Rattle.ffv1_engine.proofs.player.open_stream.Goals as goal
 
 pub returns-in_err-checked-clause-err : goal.returns-in_err-checked-clause-err
@@ -16,6 +17,16 @@ returns-in_err-checked-clause-err g c =
     (lacks_record (passage g.R.ByteIn.remaining g.R.ByteIn.failures c.args.input.now c.open.new.input) c.in_ok-reader.reader.head c.in_ok-reader.reader.left f
     c.in_ok-reader.ensures.answer.0 c.in_ok-reader.ensures.answer.1
     (subst (λ (z : Head). (f ≡ record_fault.OutOfMemory) ⊎ IsRefused z.config_record z.width z.height f) c.head.ensures c.in_err-checked.ensures.err))
+
+pub returns-in_err-checked-clause-own : goal.returns-in_err-checked-clause-own
+returns-in_err-checked-clause-own g c =
+    let p = err_from_is_err_and c.from_residual-in_err-checked.result c.from_residual-in_err-checked.ensures.1 in
+    rw (p.1, p.2) (record_opens c.in_err-checked.field-0.0)
+
+pub returns-in_err-reader-clause-own : goal.returns-in_err-reader-clause-own
+returns-in_err-reader-clause-own g c =
+    let p = err_from_is_err_and c.from_residual.result c.from_residual.ensures.1 in
+    rw (p.1, p.2) (file_opens (g.R.ByteIn.remaining c.args.input.now) (g.R.ByteIn.remaining c.open.new.input) (g.R.ByteIn.failures c.args.input.now) (g.R.ByteIn.failures c.open.new.input) c.in_err-reader.field-0.0 c.in_err-reader.ensures.answer)
 
 pub returns-clause-ok : goal.returns-clause-ok
 returns-clause-ok g c = record {

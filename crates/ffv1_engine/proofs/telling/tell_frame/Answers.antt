@@ -1,11 +1,13 @@
-use Rattle.std.proofs.Common.{inl, ap, ◌∙◌}
+use Rattle.std.proofs.Common.{◌≡◌, true, inl, ap, sym, subst, ◌∙◌}
 use Rattle.std.proofs.lemmas.Result.{err_from_is_err_and}
 use Rattle.ffv1_wire.specs.Passage.{passage}
 use Rattle.ffv1_record.specs.Accepted.{Accepted}
 use Rattle.ffv1_slice.specs.Grid.{division_of}
 use Rattle.ffv1_codec.specs.Kept.{Dropped, Drops, DropsNot}
 use Rattle.ffv1_engine.specs.Stream.{Frame}
+use Rattle.ffv1_engine.specs.Told.{is_telling_fault}
 use Rattle.ffv1_engine.proofs.FrameDecoded.{frame_fails, is_decided, is_faulty}
+use Rattle.ffv1_engine.proofs.OwnFaults.{payload_tells}
 use Rattle.ffv1_engine.proofs.telling.tell_frame.Goals as goal
 
 pub returns-in_err-write_line-in-Ok-Some-clause-answer :
@@ -59,3 +61,16 @@ returns-in-Err-Payload-clause-answer g c =
       is = rw c.in-Err-Payload.field-0-is at c.from-in-Err-Payload.ensures;
       writes = rw c.in-Err-Payload.field-0-is at c.tell_place.ensures;
     })
+
+pub returns-in-Err-Payload-clause-own : goal.returns-in-Err-Payload-clause-own
+returns-in-Err-Payload-clause-own g c =
+    let a = c.args.player.now.decoder.accepted in
+    let payload = c.play.new.player.payload.items in
+    let tally = c.play.new.player.decoder.tally in
+    let f = c.in-Err-Payload.fault in
+    let answer = rw c.in-Err-Payload.field-0-is at c.in-Err-Payload.ensures.answer in
+    let grid = ap (λ (z : Dropped). z.grid) c.new-sink.ensures ∙ ap (λ (z : Accepted). division_of z.configuration) c.config.ensures in
+    let own = c.taken_lines.ensures.dropped a payload c.new-sink.result c.play.new.sink tally f c.requires.accepted answer.1 grid in
+    let decode = c.decode_faults.ensures a payload c.new-sink.result c.play.new.sink tally f answer.1 in
+    let is = rw c.in-Err-Payload.field-0-is at c.from-in-Err-Payload.ensures in
+    subst (λ z. is_telling_fault z ≡ true) (sym is) (payload_tells f.fault decode own)

@@ -1,0 +1,163 @@
+-- A file is shown.
+use Rattle.std.proofs.Common.{◌≡◌, refl, ℕ, ◌+◌, ◌<◌, Bool, true, false, Option, Err, List, [], ◌++◌, length, take, inl, inr, ap, sym, subst, ◌∙◌, arith, append-nil, length-append}
+use Rattle.std.specs.Io.KnownBytes.{Appends}
+use Rattle.std.proofs.KnownBytes.{Appends-nil, Appends-trans, Keeps-refl}
+use Rattle.ffv1_wire.specs.Failures.{one_more}
+use Rattle.ffv1_wire.specs.Passage.{Passage, between}
+use Rattle.ffv1_record.specs.Accepted.{Accepted}
+use Rattle.ffv1_avi.specs.Readers.{Standing}
+use Rattle.ffv1_engine.specs.declared.fault.Fault.{Fault}
+use Rattle.ffv1_engine.specs.declared.fault.Fault.TheVariants as fault
+use Rattle.ffv1_engine.specs.declared.frame_line.FrameLine.TheVariants as line
+use Rattle.ffv1_engine.specs.Faults.{Cause, cause_of}
+use Rattle.ffv1_engine.specs.Faults.Cause.{Reading, Writing, Memory, Content}
+use Rattle.ffv1_engine.specs.FrameLines.{frame_lines}
+use Rattle.ffv1_engine.specs.Opens.{LacksOpeningBy, OpensStream, stream_of}
+use Rattle.ffv1_engine.specs.Play.{but_last}
+use Rattle.ffv1_engine.specs.Play.End.{File, Payload}
+use Rattle.ffv1_engine.specs.Show.{CostFails, CostPayload, CostStops, CostStopsBy, CostsSome, ShowStops, ShowsCosts, ShowsStream, StreamStopsBy}
+use Rattle.ffv1_engine.specs.Stream.{Frame, ReadsFile}
+use Rattle.ffv1_engine.specs.StreamLines.{show_text}
+use Rattle.ffv1_engine.specs.Told.{LineFails, PayloadStops, TellingStops, TellingStopsBy, ToldAll, ToldSome, WritesFrame, WritesLine}
+use Rattle.ffv1_engine.proofs.FileChecked.{begins_some, ends_known, some_of_end}
+use Rattle.ffv1_engine.proofs.FramesTold.{reads_none, reads_some, take_past}
+
+-- where the lines of the stream were not written, it does not matter whether costs were asked for
+pub before_costs : (input output : Passage) (cost : Bool) (f : Fault) → StreamStopsBy input output f (cause_of f) → ShowStops input output cost f
+before_costs input output false f h = h
+before_costs input output true f h = inl h
+
+-- a decoder that was refused its memory
+pub no_player : (a : Accepted) (left : ℕ) (i o : Option (List ℕ)) (ib ob : ℕ) → TellingStops line.Cost false a left (between i i ib ib) (between o o ob ob) fault.OutOfMemory
+no_player a left i o ib ob = inr ([], record { are = tt; begins = reads_some left left i i [] (reads_none left i); written = refl; writes = Appends-nil o }, refl)
+
+-- an empty line behind others
+nothing_behind : (lines : List ℕ) (p : Passage) → WritesLine lines [] p → (p.after ≡ p.before) × Appends p.old p.new lines
+nothing_behind lines p h = elim h [
+  | inl whole ↦ (whole.0, subst (Appends p.old p.new) (append-nil lines) whole.1)
+  | inr more ↦ elim more [
+    | inl part ↦ absurd (let none : part.1 < 0 = part.2 in omega (arith, none))
+    | inr none ↦ (none.1, none.2)
+  ]
+]
+
+module _ (i0 i1 o0 o1 : Option (List ℕ)) (ib im ob om : ℕ) where
+  -- a file that is not opened
+  pub lacks_stream : (f : Fault) (why : Cause) → LacksOpeningBy (between i0 i1 ib im) f why → StreamStopsBy (between i0 i1 ib im) (between o0 o0 ob ob) f why
+  lacks_stream f Writing h = absurd h
+  lacks_stream f Reading h = (record { kept = Keeps-refl o0; same = refl }, h)
+  lacks_stream f Memory h = (record { kept = Keeps-refl o0; same = refl }, h)
+  lacks_stream f Content h = (record { kept = Keeps-refl o0; same = refl }, h.0, h.1)
+
+  module _ (r : Standing) (a : Accepted) (opens : OpensStream r a (between i0 i1 ib im)) where
+    -- its lines are written, or not
+    pub shows : om ≡ ob → Appends o0 o1 (show_text (stream_of r a)) → ShowsStream (between i0 i1 ib im) (between o0 o1 ob om)
+    shows same writes = record {
+      stream = stream_of r a;
+      is = opens.stream;
+      left = r.left;
+      opens = opens.known;
+      kept = opens.kept;
+      written = same;
+      writes = writes;
+    }
+
+    pub text_stops : (f : Fault) → WritesFrame (show_text (stream_of r a)) (between o0 o1 ob om) (Err f) → StreamStopsBy (between i0 i1 ib im) (between o0 o1 ob om) f (cause_of f)
+    text_stops f h = elim h [
+      | inl write ↦
+          subst (λ z. StreamStopsBy (between i0 i1 ib im) (between o0 o1 ob om) z (cause_of z)) (sym write.0) (record {
+            stream = stream_of r a;
+            is = opens.stream;
+            left = r.left;
+            opens = opens.known;
+            kept = opens.kept;
+            written = write.1;
+            writes = write.2;
+          })
+      | inr none ↦ subst (λ z. StreamStopsBy (between i0 i1 ib im) (between o0 o1 ob om) z (cause_of z)) (sym none.0) (record { kept = none.2; same = none.1 }, opens.kept)
+    ]
+
+module _ (i0 i1 i2 o0 o1 o2 : Option (List ℕ)) (ib im ia ob om oa : ℕ) (r : Standing) (a : Accepted) (opens : OpensStream r a (between i0 i1 ib im)) (same : om ≡ ob)
+    (writes : Appends o0 o1 (show_text (stream_of r a))) where
+  behind : (lines : List ℕ) → Appends o1 o2 lines → Appends o0 o2 (show_text (stream_of r a) ++ lines)
+  behind lines more = Appends-trans o0 o1 o2 (show_text (stream_of r a)) lines writes more
+
+  some : (frames : List Frame) → ToldSome line.Cost false a r.left (between i1 i2 im ia) (between o1 o2 om oa) frames → CostsSome (between i0 i2 ib ia) (between o0 o2 ob oa) (stream_of r a) frames
+  some frames told = record {
+    played = record { stream = opens.stream; decoded = told.are };
+    begins = begins_some i0 i1 (stream_of r a) r.left frames opens.known told.begins;
+    written = told.written ∙ same;
+    writes = behind (frame_lines line.Cost a.configuration frames) told.writes;
+  }
+
+  line_fails : (frames : List Frame) → LineFails line.Cost false a r.left (between i1 i2 im ia) (between o1 o2 om oa) frames → CostFails (between i0 i2 ib ia) (between o0 o2 ob oa)
+  line_fails frames h =
+      let text = show_text (stream_of r a) in
+      let lines = frame_lines line.Cost a.configuration frames in
+      let fewer = frame_lines line.Cost a.configuration (but_last frames) in
+      let long : length (text ++ lines) ≡ length text + length lines = length-append text lines in
+      let short : length (text ++ fewer) ≡ length text + length fewer = length-append text fewer in
+      record {
+        stream = stream_of r a;
+        frames = frames;
+        played = record { stream = opens.stream; decoded = h.are };
+        begins = begins_some i0 i1 (stream_of r a) r.left frames opens.known h.begins;
+        kept = h.kept ∙ opens.kept;
+        written = h.written ∙ ap one_more same;
+        writes = record {
+          count = length text + h.writes.count;
+          enough = omega (arith, short, h.writes.enough);
+          short = omega (arith, long, h.writes.short);
+          writes = subst (Appends o0 o2) (sym (take_past text lines h.writes.count)) (behind (take h.writes.count lines) h.writes.writes);
+        };
+      }
+
+  stops_by : (f : Fault) (why : Cause) → TellingStopsBy line.Cost false a r.left (between i1 i2 im ia) (between o1 o2 om oa) f why → CostStopsBy (between i0 i2 ib ia) (between o0 o2 ob oa) f why
+  stops_by f Writing h = line_fails h.0 h.1
+  stops_by f Reading h = ((stream_of r a, h.0, some h.0 h.1), h.2 ∙ ap one_more opens.kept)
+  stops_by f Memory h = ((stream_of r a, h.0, some h.0 h.1), h.2 ∙ opens.kept)
+  stops_by f Content h = record {
+    stream = stream_of r a;
+    frames = h.0;
+    costs = some h.0 h.1;
+    kept = h.2 ∙ opens.kept;
+    ends = ends_known i0 i1 i2 (stream_of r a) r.left h.0 (File f) opens.known h.3;
+  }
+
+  payload_stops : (f : Fault) → PayloadStops line.Cost false a r.left (between i1 i2 im ia) (between o1 o2 om oa) f → CostPayload (between i0 i2 ib ia) (between o0 o2 ob oa) f
+  payload_stops f h =
+      let silent = nothing_behind (frame_lines line.Cost a.configuration h.frames) (between o1 o2 om oa) h.writes in
+      record {
+        stream = stream_of r a;
+        frames = h.frames;
+        costs = some h.frames (record {
+          are = h.are;
+          begins = some_of_end r.left i1 i2 h.frames (Payload h.payload h.fault h.tally) h.ends;
+          written = silent.0;
+          writes = silent.1;
+        });
+        kept = h.kept ∙ opens.kept;
+        payload = h.payload;
+        fault = h.fault;
+        tally = h.tally;
+        ends = ends_known i0 i1 i2 (stream_of r a) r.left h.frames (Payload h.payload h.fault h.tally) opens.known h.ends;
+        faulty = h.faulty;
+        is = h.is;
+      }
+
+  pub costs_stop : (f : Fault) → TellingStops line.Cost false a r.left (between i1 i2 im ia) (between o1 o2 om oa) f → CostStops (between i0 i2 ib ia) (between o0 o2 ob oa) f
+  costs_stop f h = elim h [
+    | inl payload ↦ inl (payload_stops f payload)
+    | inr other ↦ inr (stops_by f (cause_of f) other)
+  ]
+
+  pub shows_costs : (frames : List Frame) → ToldAll line.Cost false a r.left (between i1 i2 im ia) (between o1 o2 om oa) frames → ReadsFile i0 i2 (stream_of r a) frames → ShowsCosts (between i0 i2 ib ia) (between o0 o2 ob oa)
+  shows_costs frames told reads = record {
+    stream = stream_of r a;
+    frames = frames;
+    played = record { stream = opens.stream; decoded = told.are };
+    reads = reads;
+    kept = told.kept ∙ opens.kept;
+    written = told.written ∙ same;
+    writes = behind (frame_lines line.Cost a.configuration frames) told.writes;
+  }

@@ -1,0 +1,224 @@
+-- A file is unpacked.
+use Rattle.std.proofs.Common.{◌≡◌, ◌⊎◌, refl, ℕ, ◌<◌, Bool, true, false, Option, Some, None, List, [], ◌∷◌, ◌++◌, length, inl, inr, ap, sym, subst, ◌∙◌, arith}
+use Rattle.ffv1_range.specs.Counts.{saturated}
+use Rattle.ffv1_wire.specs.Failures.{one_more}
+use Rattle.ffv1_wire.specs.Passage.{Passage, at_rest, between}
+use Rattle.ffv1_record.specs.Accepted.{Accepted}
+use Rattle.ffv1_record.specs.Configuration.{Configuration}
+use Rattle.ffv1_avi.specs.Readers.{Standing}
+use Rattle.ffv1_engine.specs.declared.fault.Fault.{Fault}
+use Rattle.ffv1_engine.specs.declared.fault.Fault.TheVariants as fault
+use Rattle.ffv1_engine.specs.Faults.{Cause, cause_of}
+use Rattle.ffv1_engine.specs.Faults.Cause.{Reading, Writing, Memory, Content}
+use Rattle.ffv1_engine.specs.Opens.{LacksOpening, LacksOpeningBy, OpensKnown, OpensStream, stream_of}
+use Rattle.ffv1_engine.specs.Play.{Played}
+use Rattle.ffv1_engine.specs.Play.End.{File, Payload, Over}
+use Rattle.ffv1_engine.specs.Stream.{AreFrames, BeginsKnown, Frame, ReadsFile, Stream}
+use Rattle.ffv1_engine.specs.Told.{ReadsKnown}
+use Rattle.ffv1_engine.specs.Unpack.{IsUnpackFault, LacksUnpacking, LacksUnpackingBy, UnpackChanges, UnpackDone, UnpackEnds, UnpackPayload, UnpackPictureFails, UnpackRowFails, UnpackStops, UnpackStopsBy, UnpacksSome}
+use Rattle.ffv1_engine.specs.Unpacked.{HasText, HasTextBy, LacksTextBy, is_ppm_stream}
+use Rattle.ffv1_engine.specs.Unpacking.{FileFaults, FormatChanges, PayloadFaults, PictureFails, RowFails, UnpackedAll, UnpackedSome, UnpackingStops, UnpackingStopsBy}
+use Rattle.ffv1_engine.proofs.FramesTold.{reads_none, reads_some}
+use Rattle.ffv1_engine.proofs.PicturesWritten.{silent}
+use Rattle.ffv1_engine.proofs.FileChecked.{begins_known, begins_some, ends_known, no_frame, positive, some_of_end}
+
+-- a file that is not opened
+lacks_opening_by : (p : Passage) (f : Fault) (why : Cause) → LacksOpeningBy p f why → LacksUnpackingBy p f why
+lacks_opening_by p f Reading h = h
+lacks_opening_by p f Writing h = h
+lacks_opening_by p f Memory h = h
+lacks_opening_by p f Content h = (h.0, inl h.1)
+
+pub lacks_opening : (p : Passage) (f : Fault) → LacksOpening p f → LacksUnpacking p f
+lacks_opening p f h = lacks_opening_by p f (cause_of f) h
+
+-- or whose pictures have no text
+fault_of_text : (ppm : Bool) (c : Configuration) (f : Fault) → LacksTextBy ppm c f → cause_of f ≡ Content
+fault_of_text false c f lacks = ap cause_of lacks.1
+fault_of_text true c f lacks = ap cause_of lacks.1
+
+pub text_own : (ppm : Bool) (c : Configuration) (f : Fault) → LacksTextBy ppm c f → IsUnpackFault f
+text_own false c f lacks = inr (inr (inr (inr (inl lacks.1))))
+text_own true c f lacks = inr (inr (inr (inr (inr lacks.1))))
+
+pub lacks_text : (i0 i1 : Option (List ℕ)) (ib im : ℕ) (r : Standing) (a : Accepted) (f : Fault) → OpensStream r a (between i0 i1 ib im) →
+    LacksTextBy (is_ppm_stream (stream_of r a)) a.configuration f → LacksUnpacking (between i0 i1 ib im) f
+lacks_text i0 i1 ib im r a f opens lacks =
+    subst (LacksUnpackingBy (between i0 i1 ib im) f) (sym (fault_of_text (is_ppm_stream (stream_of r a)) a.configuration f lacks)) (
+      opens.kept,
+      inr (record {
+        stream = stream_of r a;
+        is = opens.stream;
+        begins = begins_some i0 i1 (stream_of r a) r.left [] opens.known (reads_some r.left r.left i1 i1 [] (reads_none r.left i1));
+        lacks = lacks;
+      }),
+    )
+
+module _ (i0 i1 i2 o0 o1 : Option (List ℕ)) (ib im ia ob om : ℕ) where
+  lacks_by : (f : Fault) (why : Cause) → LacksUnpackingBy (between i0 i1 ib im) f why → UnpackStopsBy (between i0 i1 ib im) (between o0 o0 ob ob) f why
+  lacks_by f Reading h = (inl (silent o0 ob), h)
+  lacks_by f Writing h = absurd h
+  lacks_by f Memory h = (inl (silent o0 ob), h)
+  lacks_by f Content h = (
+    h.0,
+    elim h.1 [
+      | inl stream ↦ inl (silent o0 ob, stream)
+      | inr text ↦ inr (inl (silent o0 ob, text))
+    ],
+  )
+
+  pub lacks_unpacking : (f : Fault) → LacksUnpacking (between i0 i1 ib im) f → UnpackStops (between i0 i1 ib im) (between o0 o0 ob ob) f
+  lacks_unpacking f h = lacks_by f (cause_of f) h
+
+  module _ (r : Standing) (a : Accepted) (opens : OpensStream r a (between i0 i1 ib im)) (text : HasText (stream_of r a)) where
+    played : (frames : List Frame) → AreFrames a frames → Played (stream_of r a) frames
+    played frames are = record { stream = opens.stream; decoded = are }
+
+    some : (frames : List Frame) → UnpackedSome (stream_of r a) r.left (between i1 i2 im ia) (between o0 o1 ob om) frames →
+        UnpacksSome (between i0 i2 ib ia) (between o0 o1 ob om) (stream_of r a) frames
+    some frames h = record {
+      text = text;
+      played = played frames h.are;
+      alike = h.alike;
+      begins = begins_some i0 i1 (stream_of r a) r.left frames opens.known h.begins;
+      written = h.written;
+      writes = h.writes;
+    }
+
+    picture_fails : PictureFails (stream_of r a) r.left (between i1 i2 im ia) (between o0 o1 ob om) → UnpackPictureFails (between i0 i2 ib ia) (between o0 o1 ob om)
+    picture_fails h = record {
+      stream = stream_of r a;
+      frames = h.frames;
+      text = text;
+      played = played h.frames h.are;
+      alike = h.alike;
+      begins = begins_known i0 i1 i2 (stream_of r a) r.left h.least h.frames opens.known h.read;
+      kept = h.kept ∙ opens.kept;
+      written = h.written;
+      writes = h.writes;
+    }
+
+    row_fails : RowFails (stream_of r a) r.left (between i1 i2 im ia) (between o0 o1 ob om) → UnpackRowFails (between i0 i2 ib ia) (between o0 o1 ob om)
+    row_fails h = record {
+      stream = stream_of r a;
+      frames = h.frames;
+      text = text;
+      played = played h.frames h.are;
+      ppm = h.ppm;
+      payload = h.payload;
+      fault = h.fault;
+      tally = h.tally;
+      lines = h.lines;
+      next = h.next;
+      ends = ends_known i0 i1 i2 (stream_of r a) r.left h.frames (Payload h.payload h.fault h.tally) opens.known h.ends;
+      hands = h.hands;
+      kept = h.kept ∙ opens.kept;
+      written = h.written;
+      writes = h.writes;
+    }
+
+    payload_faults : (f : Fault) → PayloadFaults (stream_of r a) r.left (between i1 i2 im ia) (between o0 o1 ob om) f → UnpackPayload (between i0 i2 ib ia) (between o0 o1 ob om) f
+    payload_faults f h = record {
+      stream = stream_of r a;
+      frames = h.frames;
+      payload = h.payload;
+      fault = h.fault;
+      tally = h.tally;
+      text = text;
+      played = played h.frames h.are;
+      alike = h.alike;
+      ends = ends_known i0 i1 i2 (stream_of r a) r.left h.frames (Payload h.payload h.fault h.tally) opens.known h.ends;
+      faulty = h.faulty;
+      is = h.is;
+      written = h.written;
+      writes = h.writes;
+    }
+
+    format_changes : (f : Fault) → FormatChanges (stream_of r a) r.left (between i1 i2 im ia) (between o0 o1 ob om) f → UnpackChanges (between i0 i2 ib ia) (between o0 o1 ob om) f
+    format_changes f h = record {
+      stream = stream_of r a;
+      frames = h.frames;
+      last = h.last;
+      text = text;
+      played = played (h.frames ++ (h.last ∷ [])) h.are;
+      alike = h.alike;
+      changed = h.changed;
+      begins = begins_known i0 i1 i2 (stream_of r a) r.left h.least (h.frames ++ (h.last ∷ [])) opens.known h.read;
+      is = h.is;
+      written = h.written;
+      writes = h.writes;
+    }
+
+    file_faults : (f : Fault) → FileFaults (stream_of r a) r.left (between i1 i2 im ia) (between o0 o1 ob om) f → UnpackEnds (between i0 i2 ib ia) (between o0 o1 ob om) f
+    file_faults f h = record {
+      stream = stream_of r a;
+      frames = h.frames;
+      end = File f;
+      some = some h.frames h.some;
+      ends = ends_known i0 i1 i2 (stream_of r a) r.left h.frames (File f) opens.known h.ends;
+      file = tt;
+      is = refl;
+    }
+
+    stops_by : (f : Fault) (why : Cause) → UnpackingStopsBy (stream_of r a) r.left (between i1 i2 im ia) (between o0 o1 ob om) f why →
+        UnpackStopsBy (between i0 i2 ib ia) (between o0 o1 ob om) f why
+    stops_by f Writing h = elim h [
+      | inl picture ↦ inl (picture_fails picture)
+      | inr row ↦ inr (row_fails row)
+    ]
+    stops_by f Reading h = (inr (stream_of r a, h.0, some h.0 h.1), h.2 ∙ ap one_more opens.kept)
+    stops_by f Memory h = (inr (stream_of r a, h.0, some h.0 h.1), h.2 ∙ opens.kept)
+    stops_by f Content h = (
+      h.0 ∙ opens.kept,
+      elim h.1 [
+        | inl file ↦ inr (inr (inl (file_faults f file)))
+        | inr more ↦ elim more [
+          | inl payload ↦ inr (inr (inr (inl (payload_faults f payload))))
+          | inr changes ↦ inr (inr (inr (inr (format_changes f changes))))
+        ]
+      ],
+    )
+
+    pub unpack_stops : (f : Fault) → UnpackingStops (stream_of r a) r.left (between i1 i2 im ia) (between o0 o1 ob om) f → UnpackStops (between i0 i2 ib ia) (between o0 o1 ob om) f
+    unpack_stops f h = stops_by f (cause_of f) h
+
+    module _ (frames : List Frame) (count : ℕ) (is : count ≡ saturated (length frames))
+        (all : UnpackedAll (stream_of r a) r.left (between i1 i2 im ia) (between o0 o1 ob om) frames) where
+      all_some : UnpacksSome (between i0 i2 ib ia) (between o0 o1 ob om) (stream_of r a) frames
+      all_some = record {
+        text = text;
+        played = played frames all.are;
+        alike = all.alike;
+        begins = begins_some i0 i1 (stream_of r a) r.left frames opens.known (some_of_end r.left i1 i2 frames Over all.ends);
+        written = all.written;
+        writes = all.writes;
+      }
+
+      pub no_frames : count ≡ 0 → UnpackStops (between i0 i2 ib ia) (between o0 o1 ob om) fault.NoFrames
+      no_frames none = (
+        all.kept ∙ opens.kept,
+        inr (inr (inl (record {
+          stream = stream_of r a;
+          frames = frames;
+          end = Over;
+          some = all_some;
+          ends = ends_known i0 i1 i2 (stream_of r a) r.left frames Over opens.known all.ends;
+          file = tt;
+          is = (no_frame frames (let few : length frames ≡ 0 = omega (arith, is, none) in few), refl);
+        }))),
+      )
+
+      pub done : (count ≡ 0 → ⊥) → ReadsFile i0 i2 (stream_of r a) frames → UnpackDone (between i0 i2 ib ia) (between o0 o1 ob om) count
+      done some_frames reads = record {
+        stream = stream_of r a;
+        frames = frames;
+        some = positive frames (λ none. some_frames (let zero_is : count ≡ 0 = omega (arith, is, none) in zero_is));
+        counted = is;
+        text = text;
+        played = played frames all.are;
+        alike = all.alike;
+        reads = reads;
+        kept = all.kept ∙ opens.kept;
+        written = all.written;
+        writes = all.writes;
+      }

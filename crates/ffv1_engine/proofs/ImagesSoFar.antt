@@ -1,0 +1,165 @@
+-- Images are written one behind the other.
+use Rattle.std.proofs.Common.{◌≡◌, refl, ℕ, ◌+◌, ◌<◌, ◌≤◌, true, Option, List, [], ◌∷◌, ◌++◌, length, take, inl, inr, ap, sym, subst, ◌∙◌, arith, append-nil, append_assoc, length-append}
+use Rattle.std.specs.Io.KnownBytes.{Appends}
+use Rattle.std.proofs.KnownBytes.{Appends-nil, Appends-trans, Appends-kept}
+use Rattle.ffv1_range.specs.Counts.{saturated}
+use Rattle.ffv1_wire.specs.Failures.{one_more}
+use Rattle.ffv1_wire.specs.Passage.{Passage, between}
+use Rattle.ffv1_wire.specs.Runs.{Line}
+use Rattle.ffv1_codec.specs.Answer.{no_tally}
+use Rattle.ffv1_codec.specs.Decoding.{in_slice}
+use Rattle.ffv1_codec.specs.declared.fault.CodecFault.TheVariants as codec_fault
+use Rattle.ffv1_avi.specs.Files.{frame_read}
+use Rattle.ffv1_y4m.specs.Images.{image_text}
+use Rattle.ffv1_engine.specs.declared.fault.Fault.{Fault}
+use Rattle.ffv1_engine.specs.Faults.{Cause}
+use Rattle.ffv1_engine.specs.Faults.Cause.{Reading, Writing, Memory, Content}
+use Rattle.ffv1_engine.specs.ImagesOut.{ImageFaults, ImageStopsBy, RowCut, rows_so_far}
+use Rattle.ffv1_engine.specs.Stream.{Frame, Stream}
+use Rattle.ffv1_engine.specs.Told.{FaultsKnown, PlaysFrame, ReadsEnd}
+use Rattle.ffv1_engine.specs.Trial.{Silent}
+use Rattle.ffv1_engine.specs.Unpacked.{AlikeBy, is_ppm_stream, lines_before, ppm_text, rows_by, text_by}
+use Rattle.ffv1_engine.specs.Unpacking.{FileFaults, PayloadFaults, RowFails, Unpacked, UnpackedAll, UnpackedSome, UnpackingStopsBy}
+use Rattle.ffv1_engine.proofs.FramesTold.{are_more, ends_file, ends_over, ends_payload, reads_more, reads_none, reads_some, take_past}
+
+-- the text grows by the next image
+text_more : (s : Stream) (frames : List Frame) (f : Frame) →
+    ppm_text s (frames ++ (f ∷ [])) ≡ ppm_text s frames ++ image_text s.accepted.configuration.width s.accepted.configuration.height f.planes
+text_more s [] f = append-nil (image_text s.accepted.configuration.width s.accepted.configuration.height f.planes)
+text_more s (g ∷ gs) f =
+    let image = image_text s.accepted.configuration.width s.accepted.configuration.height in
+    ap (λ z. image g.planes ++ z) (text_more s gs f) ∙ sym (append_assoc (image g.planes) (ppm_text s gs) (image f.planes))
+
+module _ (s : Stream) (ppm : is_ppm_stream s ≡ true) (left : ℕ) where
+  all_alike : (frames : List Frame) → AlikeBy (is_ppm_stream s) frames
+  all_alike frames = subst (λ b. AlikeBy b frames) (sym ppm) tt
+
+  images_text : (frames : List Frame) → text_by (is_ppm_stream s) s frames ≡ ppm_text s frames
+  images_text frames = ap (λ b. text_by b s frames) ppm
+
+  rows_text : (lines : List Line) → rows_so_far s.accepted.configuration lines ≡ rows_by (is_ppm_stream s) s lines
+  rows_text lines = sym (ap (λ b. rows_by b s lines) ppm)
+
+  whole_text : (frames : List Frame) (f : Frame) →
+      text_by (is_ppm_stream s) s (frames ++ (f ∷ [])) ≡ text_by (is_ppm_stream s) s frames ++ image_text s.accepted.configuration.width s.accepted.configuration.height f.planes
+  whole_text frames f =
+      images_text (frames ++ (f ∷ [])) ∙ text_more s frames f
+      ∙ ap (λ z. z ++ image_text s.accepted.configuration.width s.accepted.configuration.height f.planes) (sym (images_text frames))
+
+  pub images_none : (i o : Option (List ℕ)) (ib ob : ℕ) → Unpacked s left (between i i ib ib) (between o o ob ob) [] left
+  images_none i o ib ob = record {
+    are = tt;
+    alike = all_alike [];
+    read = reads_none left i;
+    kept = refl;
+    written = refl;
+    writes = subst (Appends o o) (sym (images_text [])) (Appends-nil o);
+  }
+
+  module _ (least last : ℕ) (i0 i1 i2 o0 o1 o2 : Option (List ℕ)) (ib im ia ob om oa : ℕ) (frames : List Frame)
+      (un : Unpacked s left (between i0 i1 ib im) (between o0 o1 ob om) frames least) where
+    pub images_more : (f : Frame) → PlaysFrame s.accepted least last (between i1 i2 im ia) f → oa ≡ om →
+        Appends o1 o2 (image_text s.accepted.configuration.width s.accepted.configuration.height f.planes) →
+        Unpacked s left (between i0 i2 ib ia) (between o0 o2 ob oa) (frames ++ (f ∷ [])) last
+    images_more f plays same writes = record {
+      are = are_more s.accepted frames f un.are plays.is;
+      alike = all_alike (frames ++ (f ∷ []));
+      read = reads_more left least last i0 i1 i2 frames f un.read plays.reads.next;
+      kept = plays.reads.kept ∙ un.kept;
+      written = same ∙ un.written;
+      writes =
+          subst (Appends o0 o2) (sym (whole_text frames f))
+          (Appends-trans o0 o1 o2 (text_by (is_ppm_stream s) s frames) (image_text s.accepted.configuration.width s.accepted.configuration.height f.planes) un.writes writes);
+    }
+
+    pub images_over : ReadsEnd least (between i1 i2 im ia) → Silent (between o1 o2 om oa) → UnpackedAll s left (between i0 i2 ib ia) (between o0 o2 ob oa) frames
+    images_over over silent = record {
+      are = un.are;
+      alike = un.alike;
+      ends = ends_over left least i0 i1 i2 frames un.read over.over;
+      kept = over.kept ∙ un.kept;
+      written = silent.same ∙ un.written;
+      writes = Appends-kept o0 o1 o2 (text_by (is_ppm_stream s) s frames) un.writes silent.kept;
+    }
+
+    some : Silent (between o1 o2 om oa) → UnpackedSome s left (between i0 i2 ib ia) (between o0 o2 ob oa) frames
+    some silent = record {
+      are = un.are;
+      alike = un.alike;
+      begins = reads_some left least i0 i1 frames un.read;
+      written = silent.same ∙ un.written;
+      writes = Appends-kept o0 o1 o2 (text_by (is_ppm_stream s) s frames) un.writes silent.kept;
+    }
+
+    row_fails : RowCut s.accepted least last (between i1 i2 im ia) (between o1 o2 om oa) → RowFails s left (between i0 i2 ib ia) (between o0 o2 ob oa)
+    row_fails p =
+        let text = text_by (is_ppm_stream s) s frames in
+        let before = rows_so_far s.accepted.configuration p.lines in
+        let all = rows_so_far s.accepted.configuration (p.lines ++ (p.next ∷ [])) in
+        let fault = in_slice codec_fault.Sink 0 in
+        let count = length text + p.writes.count in
+        let least_long : length (text ++ before) ≡ length text + length before = length-append text before in
+        let all_long : length (text ++ all) ≡ length text + length all = length-append text all in
+        let enough : length (text ++ before) ≤ count = omega (arith, least_long, p.writes.enough) in
+        let short : count < length (text ++ all) = omega (arith, all_long, p.writes.short) in
+        let writes = subst (Appends o0 o2) (sym (take_past text all p.writes.count)) (Appends-trans o0 o1 o2 text (take p.writes.count all) un.writes p.writes.writes) in
+        record {
+          frames = frames;
+          are = un.are;
+          ppm = ppm;
+          payload = p.payload;
+          fault = fault;
+          tally = no_tally;
+          lines = p.lines;
+          next = p.next;
+          ends = ends_payload left least last i0 i1 i2 frames p.payload fault no_tally un.read p.reads.next;
+          hands = p.hands s.head;
+          kept = p.reads.kept ∙ un.kept;
+          written = p.written ∙ ap one_more un.written;
+          writes = record {
+            count = count;
+            enough = subst (λ t. length (text ++ t) ≤ count) (rows_text p.lines) enough;
+            short = subst (λ t. count < length (text ++ t)) (rows_text (p.lines ++ (p.next ∷ []))) short;
+            writes = subst (λ t. Appends o0 o2 (take count (text ++ t))) (rows_text (p.lines ++ (p.next ∷ []))) writes;
+          };
+        }
+
+    payload_faults : (f : Fault) → ImageFaults s.accepted least last (between i1 i2 im ia) (between o1 o2 om oa) f → PayloadFaults s left (between i0 i2 ib ia) (between o0 o2 ob oa) f
+    payload_faults f p =
+        let text = text_by (is_ppm_stream s) s frames in
+        let rows = rows_so_far s.accepted.configuration (lines_before p.faulty) in
+        record {
+          frames = frames;
+          are = un.are;
+          alike = un.alike;
+          payload = p.payload;
+          fault = p.fault;
+          tally = p.tally;
+          ends = ends_payload left least last i0 i1 i2 frames p.payload p.fault p.tally un.read p.reads.next;
+          faulty = p.faulty;
+          is = p.is;
+          written = p.written ∙ un.written;
+          writes = subst (λ t. Appends o0 o2 (text ++ t)) (rows_text (lines_before p.faulty)) (Appends-trans o0 o1 o2 text rows un.writes p.writes);
+        }
+
+    file_faults : (f : Fault) → Silent (between o1 o2 om oa) → FaultsKnown (frame_read least) i1 i2 f → FileFaults s left (between i0 i2 ib ia) (between o0 o2 ob oa) f
+    file_faults f silent h = record { frames = frames; some = some silent; ends = ends_file left least i0 i1 i2 frames f un.read h }
+
+    pub images_stop : (f : Fault) (why : Cause) → ImageStopsBy s.accepted least last (between i1 i2 im ia) (between o1 o2 om oa) f why →
+        UnpackingStopsBy s left (between i0 i2 ib ia) (between o0 o2 ob oa) f why
+    images_stop f Writing p = inr (row_fails p)
+    images_stop f Reading p = (frames, some p.0, p.1 ∙ ap one_more un.kept)
+    images_stop f Memory p = (frames, some p.0, p.1 ∙ un.kept)
+    images_stop f Content p = (
+      p.0 ∙ un.kept,
+      elim p.1 [
+        | inl file ↦ inl (file_faults f file.0 file.1)
+        | inr faults ↦ inr (inl (payload_faults f faults))
+      ],
+    )
+
+-- so many images were written
+pub record ImagesSo (s : Stream) (left : ℕ) (input output : Passage) (count least : ℕ) : Type 0 where
+  pub frames : List Frame
+  pub is : count ≡ saturated (length frames)
+  pub un : Unpacked s left input output frames least

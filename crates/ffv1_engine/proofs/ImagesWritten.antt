@@ -1,0 +1,184 @@
+-- Images are written row by row.
+use Rattle.std.proofs.Common.{◌≡◌, ◌⊎◌, refl, ℕ, ◌+◌, ◌*◌, ◌<◌, ◌≤◌, Option, Result, Ok, Err, List, [], ◌∷◌, ◌++◌, length, take, inl, inr, ap, ap₂, sym, subst, ◌∙◌, arith, append-nil, append_assoc, length-append, get_or}
+use Rattle.std.specs.Prelude.{slice_index}
+use Rattle.std.specs.Io.KnownBytes.{Appends}
+use Rattle.std.proofs.KnownBytes.{Appends-trans}
+use Rattle.ffv1_range.specs.declared.tally.Tally.{Tally}
+use Rattle.ffv1_wire.specs.Failures.{one_more}
+use Rattle.ffv1_wire.specs.Passage.{Passage, between}
+use Rattle.ffv1_wire.specs.Runs.{Grows, Line, LineStep}
+use Rattle.ffv1_wire.specs.Writes.{AppendsBeginning}
+use Rattle.ffv1_record.specs.Accepted.{Accepted}
+use Rattle.ffv1_record.specs.Configuration.{Configuration}
+use Rattle.ffv1_slice.specs.Cutting.{coded_of, cut_of}
+use Rattle.ffv1_slice.specs.Footer.{foot_length}
+use Rattle.ffv1_slice.specs.Grid.{division_of}
+use Rattle.ffv1_slice.specs.declared.cutting.CutFault.{CutFault}
+use Rattle.ffv1_codec.specs.Answer.{Answers, AnswersCut, SinkRefuses, cut_fault}
+use Rattle.ffv1_codec.specs.Decoding.{top_of}
+use Rattle.ffv1_codec.specs.Kept.{IsLine}
+use Rattle.ffv1_codec.specs.Lines.{lines_of}
+use Rattle.ffv1_codec.specs.Picture.{Planes, plane_width}
+use Rattle.ffv1_codec.specs.declared.fault.CodecFault.{CodecFault}
+use Rattle.ffv1_codec.specs.declared.fault.CodecFault.TheVariants as codec_fault
+use Rattle.ffv1_codec.specs.declared.fault.FrameFault.{FrameFault}
+use Rattle.ffv1_y4m.specs.Images.{AtImage, image_lines, image_text, text_of_lines}
+use Rattle.ffv1_y4m.specs.Sink.{PpmSink, Takes, Refuses, kept_behind, line_text, row_with, text_with}
+use Rattle.ffv1_engine.specs.Faults.{cause_of, of_codec}
+use Rattle.ffv1_engine.specs.Faults.Cause.{Content}
+use Rattle.ffv1_engine.specs.ImagesOut.{ImageFaults, ImageStopsBy, IsSinkFor, RowCut, rows_so_far}
+use Rattle.ffv1_engine.specs.Stream.{FaultsFrame}
+use Rattle.ffv1_engine.specs.Told.{ReadsPayload}
+use Rattle.ffv1_engine.specs.Unpacked.{lines_before}
+use Rattle.ffv1_engine.proofs.ImageLines.{IsImage}
+use Rattle.ffv1_engine.proofs.FrameDecoded.{same_fault}
+use Rattle.ffv1_engine.proofs.FramesTold.{take_past}
+
+-- a count that is one more is another
+not_more : (n : ℕ) → one_more n ≡ n → ⊥
+not_more n e = omega (arith, e)
+
+pub counted : (first then last : ℕ) → last ≡ one_more then → then ≡ first → last ≡ first → ⊥
+counted first then last more before after = not_more first (ap one_more (sym before) ∙ sym more ∙ after)
+
+-- what a fault that is answered has made of a sink
+module _ {S : Type 0} (takes refuses : LineStep S) (a : Accepted) (payload : List ℕ) (old new : S) (tally : Tally) (f : FrameFault) where
+  -- the payload has a fault, and the sink took the lines before it
+  pub record Faulty : Type 0 where
+    pub faulty : FaultsFrame a payload f tally
+    pub grows : Grows takes old (lines_before faulty) new
+
+  -- or the sink refused the line that came next
+  pub record Refused : Type 0 where
+    pub offsets : List ℕ
+    pub cut : cut_of a.configuration payload ≡ Ok offsets
+    pub sink : SinkRefuses takes refuses a (coded_of payload (foot_length a.configuration.ec) (slice_index offsets)) old new tally f
+
+  either_by : (cut : Result (List ℕ) CutFault) → cut_of a.configuration payload ≡ cut → AnswersCut takes refuses a payload old new tally (Err f) cut → Faulty ⊎ Refused
+  either_by (Err g) is answer = inl (record { faulty = inl (g, is, same_fault f (cut_fault g) (Err f) refl answer.0, answer.1); grows = answer.2 })
+  either_by (Ok os) is answer = elim answer [
+    | inl faults ↦ inl (record { faulty = inr (record { offsets = os; cut = is; state = faults.state; refused = faults.refused; decided = faults.decided }); grows = faults.grows })
+    | inr sink ↦ inr (record { offsets = os; cut = is; sink = sink })
+  ]
+
+  pub either : Answers takes refuses a payload old new tally (Err f) → Faulty ⊎ Refused
+  either answer = either_by (cut_of a.configuration payload) refl answer
+
+  pub sinks_own : Refused → f.fault ≡ codec_fault.Sink
+  sinks_own r = ap (λ (z : FrameFault). z.fault) r.sink.is
+
+-- lines that a sink of images takes
+module _ {W : Type 0} (contents : W → Option (List ℕ)) (failed : W → ℕ) where
+  abbrev taking : LineStep (PpmSink W)
+  taking = Takes contents failed
+
+  pub sizes_stay : (s t : PpmSink W) (ls : List Line) → Grows taking s ls t → (t.width ≡ s.width) × (t.height ≡ s.height)
+  sizes_stay s t [] h = (ap (λ z. z.width) h, ap (λ z. z.height) h)
+  sizes_stay s t (l ∷ ls) (m, step, more) =
+      let rest = sizes_stay m t ls more in
+      (rest.0 ∙ ap (λ z. z.width) step.sink, rest.1 ∙ ap (λ z. z.height) step.sink)
+
+  abbrev sink_text : PpmSink W → List Line → List ℕ
+  sink_text s ls = text_of_lines s.width s.height s.kept s.row ls
+
+  text_behind : (s m : PpmSink W) (l : Line) (ls : List Line) → taking s l.plane l.row l.samples m →
+      sink_text m ls ≡ text_of_lines s.width s.height (kept_behind s.kept l.samples) (row_with s.height s.row s.kept) ls
+  text_behind s m l ls t = ap (λ z. sink_text z ls) t.sink
+
+  -- the text of one line more
+  line_more : (s t : PpmSink W) (ls : List Line) (next : Line) → Grows taking s ls t → sink_text s (ls ++ (next ∷ [])) ≡ sink_text s ls ++ line_text t next.samples
+  line_more s t [] next h = append-nil (line_text s next.samples) ∙ ap (λ z. line_text z next.samples) (sym h)
+  line_more s t (l ∷ ls) next (m, step, more) =
+      let first = text_with s.width s.height s.row s.kept l.samples in
+      let last = line_text t next.samples in
+      ap (λ z. first ++ z) (sym (text_behind s m l (ls ++ (next ∷ [])) step) ∙ (line_more m t ls next more ∙ ap (λ z. z ++ last) (text_behind s m l ls step)))
+      ∙ sym (append_assoc first (text_of_lines s.width s.height (kept_behind s.kept l.samples) (row_with s.height s.row s.kept) ls) last)
+
+  -- of a sink that has taken whole images
+  rows_are : (c : Configuration) (s : PpmSink W) (ls : List Line) → IsSinkFor c s → sink_text s ls ≡ rows_so_far c ls
+  rows_are c s ls is =
+      ap₂ (λ w h. text_of_lines w h s.kept s.row ls) is.width is.height ∙ ap₂ (λ k r. text_of_lines c.width c.height k r ls) is.at.kept is.at.row
+
+  -- a line of the configuration is as long as the sink's rows
+  pub line_long : (c : Configuration) (s : PpmSink W) (p y : ℕ) (samples : List ℕ) → IsSinkFor c s → plane_width c p ≡ c.width → IsLine (division_of c) p y samples → length samples ≡ s.width
+  line_long c s p y samples is wide line = line.long ∙ wide ∙ sym is.width
+
+  module _ (a : Accepted) (left least : ℕ) (input : Passage) (payload : List ℕ) (reads : ReadsPayload left least payload input) (s u : PpmSink W) (tally : Tally) (f : FrameFault) (is : IsSinkFor a.configuration s) where
+    pub image_faults : (h : Faulty taking (Refuses contents failed) a payload s u tally f) → Appends (contents s.out) (contents u.out) (sink_text s (lines_before h.faulty)) → failed u.out ≡ failed s.out →
+        ImageFaults a left least input (between (contents s.out) (contents u.out) (failed s.out) (failed u.out)) (of_codec f.fault)
+    image_faults h writes same = record {
+      payload = payload;
+      fault = f;
+      tally = tally;
+      reads = reads;
+      faulty = h.faulty;
+      is = refl;
+      written = same;
+      writes = subst (Appends (contents s.out) (contents u.out)) (rows_are a.configuration s (lines_before h.faulty) is) writes;
+    }
+
+    module _ (r : Refused taking (Refuses contents failed) a payload s u tally f) where
+      abbrev pub next_line : Line
+      next_line = record { plane = r.sink.plane; row = top_of a.configuration r.sink.plane r.sink.row + r.sink.line; samples = get_or r.sink.state.out r.sink.number [] }
+
+      pub row_cut : Appends (contents s.out) (contents r.sink.between.out) (sink_text s r.sink.state.lines) → failed r.sink.between.out ≡ failed s.out →
+          AppendsBeginning (contents r.sink.between.out) (contents u.out) (line_text r.sink.between (get_or r.sink.state.out r.sink.number [])) → failed u.out ≡ one_more (failed r.sink.between.out) →
+          RowCut a left least input (between (contents s.out) (contents u.out) (failed s.out) (failed u.out))
+      row_cut before same cut fails =
+          let c = a.configuration in
+          let lines = r.sink.state.lines in
+          let o = contents s.out in
+          let n = contents u.out in
+          let rows = rows_so_far c lines in
+          let last = line_text r.sink.between (get_or r.sink.state.out r.sink.number []) in
+          let all : rows_so_far c (lines ++ (next_line ∷ [])) ≡ rows ++ last = sym (rows_are c s (lines ++ (next_line ∷ [])) is) ∙ line_more s r.sink.between lines next_line r.sink.grows ∙ ap (λ z. z ++ last) (rows_are c s lines is) in
+          let whole : length (rows ++ last) ≡ length rows + length last = length-append rows last in
+          let few : length rows + cut.0 < length (rows ++ last) = omega (arith, whole, cut.1) in
+          let enough : length rows ≤ length rows + cut.0 = omega arith in
+          let first = subst (Appends o (contents r.sink.between.out)) (rows_are c s lines is) before in
+          record {
+            payload = payload;
+            lines = lines;
+            next = next_line;
+            reads = reads;
+            hands = λ head. record {
+              offsets = r.offsets;
+              cut = r.cut;
+              state = r.sink.state;
+              row = r.sink.row;
+              number = r.sink.number;
+              plane = r.sink.plane;
+              line = r.sink.line;
+              offers = r.sink.offers;
+              lines_are = refl;
+              next_is = refl;
+            };
+            written = fails ∙ ap one_more same;
+            writes = record {
+              count = length rows + cut.0;
+              enough = enough;
+              short = subst (λ t. length rows + cut.0 < length t) (sym all) few;
+              writes =
+                  subst (λ t. Appends o n (take (length rows + cut.0) t)) (sym all)
+                  (subst (Appends o n) (sym (take_past rows last cut.0)) (Appends-trans o (contents r.sink.between.out) n rows (take cut.0 last) first cut.2));
+            };
+          }
+
+  -- a whole image
+  pub image_written : (c : Configuration) (s t : PpmSink W) (planes : Planes) → IsSinkFor c s → IsImage c planes → 1 ≤ c.height →
+      ((red green blue : List ℕ) (x y : PpmSink W) → 1 ≤ x.height → AtImage x → length red ≡ x.height * x.width → Grows taking x (image_lines x.width 0 x.height red green blue) y →
+      Appends (contents x.out) (contents y.out) (image_text x.width x.height (red ∷ green ∷ blue ∷ [])) × AtImage y × (y.failures ≡ x.failures)) →
+      Grows taking s (lines_of c planes) t → Appends (contents s.out) (contents t.out) (image_text c.width c.height planes) × IsSinkFor c t
+  image_written c s t planes is image some law grows =
+      let lines = image.lines ∙ sym (ap₂ (λ w h. image_lines w 0 h image.red image.green image.blue) is.width is.height) in
+      let long = image.long ∙ sym (ap₂ (λ h w. h * w) is.height is.width) in
+      let whole = law image.red image.green image.blue s t (subst (λ h. 1 ≤ h) (sym is.height) some) is.at long (subst (λ ls. Grows taking s ls t) lines grows) in
+      let text = ap₂ (λ w h. image_text w h (image.red ∷ image.green ∷ image.blue ∷ [])) is.width is.height ∙ ap (image_text c.width c.height) (sym image.are) in
+      let sizes = sizes_stay s t (lines_of c planes) grows in
+      (subst (Appends (contents s.out) (contents t.out)) text whole.0, record { at = whole.1; width = sizes.0 ∙ is.width; height = sizes.1 ∙ is.height })
+
+-- a payload's fault
+pub payload_stops : (a : Accepted) (left least : ℕ) (input output : Passage) (f : CodecFault) → ImageFaults a left least input output (of_codec f) → cause_of (of_codec f) ≡ Content →
+    ImageStopsBy a left least input output (of_codec f) (cause_of (of_codec f))
+payload_stops a left least input output f faults content =
+    subst (ImageStopsBy a left least input output (of_codec f)) (sym content) (faults.reads.kept, inr faults)

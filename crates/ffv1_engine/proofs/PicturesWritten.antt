@@ -1,0 +1,322 @@
+-- Pictures are written one behind the other.
+use Rattle.std.proofs.Common.{rules, ◌≡◌, ◌≢◌, ◌⊎◌, refl, ℕ, suc, ◌+◌, ◌*◌, ◌<◌, ◌≤◌, Bool, true, false, Option, Some, None, Err, List, get_or, replicate, [], ◌∷◌, ◌++◌, length, take, map, inl, inr, ap, sym, subst, ◌∙◌, arith, append-nil, append_assoc, length-append}
+use Rattle.std.specs.List.{flat_map, range_with_len, slice_get}
+use Rattle.std.proofs.lemmas.List.{length-replicate}
+use Rattle.std.proofs.lemmas.List.FromFn.{get_or-map-range_with_len, length-map-range_with_len}
+use Rattle.std.proofs.lemmas.Option.{slice_get-get_or}
+use Rattle.std.specs.Io.KnownBytes.{Appends}
+use Rattle.std.proofs.KnownBytes.{Appends-nil, Appends-trans, Appends-kept, Keeps-refl}
+use Rattle.ffv1_range.specs.Counts.{saturated}
+use Rattle.ffv1_wire.specs.Failures.{one_more}
+use Rattle.ffv1_wire.specs.Passage.{Passage, between}
+use Rattle.ffv1_range.specs.declared.tally.Tally.{Tally}
+use Rattle.ffv1_record.specs.Accepted.{Accepted}
+use Rattle.ffv1_slice.specs.Grid.{Division, across, division_of, down, whole_of}
+use Rattle.ffv1_codec.specs.DecodeFaults.{is_decode_fault}
+use Rattle.ffv1_codec.specs.Kept.{Kept, zeros_of}
+use Rattle.ffv1_codec.specs.Picture.{AreOf, samples_in}
+use Rattle.ffv1_codec.specs.SliceList.{Said}
+use Rattle.ffv1_codec.specs.declared.fault.CodecFault.{CodecFault}
+use Rattle.ffv1_codec.specs.declared.fault.CodecFault.TheVariants as codec_fault
+use Rattle.ffv1_codec.specs.declared.fault.FrameFault.{FrameFault}
+use Rattle.ffv1_y4m.specs.Canonical.{header_text}
+use Rattle.ffv1_y4m.specs.Pictures.{picture_text}
+use Rattle.ffv1_y4m.specs.declared.head.VideoHead.{VideoHead}
+use Rattle.ffv1_avi.specs.Files.{frame_read}
+use Rattle.ffv1_avi.specs.Head.{Head}
+use Rattle.ffv1_engine.specs.declared.fault.Fault.{Fault}
+use Rattle.ffv1_engine.specs.Faults.{Cause, cause_of, of_codec}
+use Rattle.ffv1_engine.specs.Faults.Cause.{Reading, Writing, Memory, Content}
+use Rattle.ffv1_engine.specs.PicturesOut.{Begun, FrameChanges, IsBegun, IsKeptFor, NextStopsBy, PayloadRefused, SaysAgain, WritesPicture, head_saying, said_in, text_behind, writer_behind}
+use Rattle.ffv1_engine.specs.Stream.{FaultsFrame, Frame, Stream}
+use Rattle.ffv1_engine.specs.Told.{FaultsKnown, FileStopsBy, PlaysFrame, ReadsEnd, ReadsPayload}
+use Rattle.ffv1_engine.specs.Trial.{Silent}
+use Rattle.ffv1_engine.specs.Unpacked.{AlikeBy, AllSay, is_ppm_stream, lines_before, pictures, rows_by, text_by, video_of, y4m_text}
+use Rattle.ffv1_engine.specs.Unpacking.{FileFaults, FormatChanges, PayloadFaults, PictureFails, Unpacked, UnpackedAll, UnpackedSome, UnpackingStops, UnpackingStopsBy}
+use Rattle.ffv1_engine.proofs.FramesTold.{are_more, but_last_more, ends_file, ends_over, ends_payload, reads_more, reads_none, reads_some, take_past}
+
+pub silent : (o : Option (List ℕ)) (n : ℕ) → Silent (between o o n n)
+silent o n = record { kept = Keeps-refl o; same = refl }
+
+-- the writer behind the pictures of frames
+abbrev pub begun_behind : VideoHead → List Frame → Begun
+begun_behind h [] = None
+begun_behind h (f ∷ fs) = Some (f.said, writer_behind h f.said)
+
+pub is_begun : (h : VideoHead) (frames : List Frame) → IsBegun h (begun_behind h frames)
+is_begun h [] = tt
+is_begun h (f ∷ fs) = refl
+
+pub begun_more : (h : VideoHead) (frames : List Frame) (f : Frame) → SaysAgain (said_in (begun_behind h frames)) f.said →
+    Some (f.said, writer_behind h f.said) ≡ begun_behind h (frames ++ (f ∷ []))
+begun_more h [] f again = refl
+begun_more h (g ∷ gs) f again = ap (λ said. Some (said, writer_behind h said)) again
+
+all_say_more : (said : Said) (frames : List Frame) (f : Frame) → AllSay said frames → f.said ≡ said → AllSay said (frames ++ (f ∷ []))
+all_say_more said [] f all same = (same, tt)
+all_say_more said (g ∷ gs) f all same = (all.0, all_say_more said gs f all.1 same)
+
+alike_more : (h : VideoHead) (frames : List Frame) (f : Frame) → AlikeBy false frames → SaysAgain (said_in (begun_behind h frames)) f.said → AlikeBy false (frames ++ (f ∷ []))
+alike_more h [] f alike again = tt
+alike_more h (g ∷ gs) f alike again = all_say_more g.said gs f alike again
+
+last_says : (said : Said) (frames : List Frame) (f : Frame) → AllSay said (frames ++ (f ∷ [])) → f.said ≡ said
+last_says said [] f all = all.0
+last_says said (g ∷ gs) f all = last_says said gs f all.1
+
+last_alike : (h : VideoHead) (frames : List Frame) (f : Frame) → AlikeBy false (frames ++ (f ∷ [])) → SaysAgain (said_in (begun_behind h frames)) f.said
+last_alike h [] f alike = tt
+last_alike h (g ∷ gs) f alike = last_says g.said gs f alike
+
+texts_more : (frames : List Frame) (f : Frame) → flat_map picture_text (pictures (frames ++ (f ∷ []))) ≡ flat_map picture_text (pictures frames) ++ picture_text f.planes
+texts_more [] f = append-nil (picture_text f.planes)
+texts_more (g ∷ gs) f =
+    ap (λ z. picture_text g.planes ++ z) (texts_more gs f) ∙ sym (append_assoc (picture_text g.planes) (flat_map picture_text (pictures gs)) (picture_text f.planes))
+
+-- the text grows by that of the next picture
+text_more : (s : Stream) (h : VideoHead) (frames : List Frame) (f : Frame) → ((said : Said) → head_saying h said ≡ video_of s said) →
+    y4m_text s (frames ++ (f ∷ [])) ≡ y4m_text s frames ++ text_behind h (said_in (begun_behind h frames)) f.said f.planes
+text_more s h [] f heads =
+    ap (λ z. header_text (video_of s f.said) ++ z) (append-nil (picture_text f.planes)) ∙ ap (λ z. header_text z ++ picture_text f.planes) (sym (heads f.said))
+text_more s h (g ∷ gs) f heads =
+    ap (λ z. header_text (video_of s g.said) ++ z) (texts_more (g ∷ gs) f)
+    ∙ sym (append_assoc (header_text (video_of s g.said)) (flat_map picture_text (pictures (g ∷ gs))) (picture_text f.planes))
+
+module _ (s : Stream) (h : VideoHead) (heads : (said : Said) → head_saying h said ≡ video_of s said) (plain : is_ppm_stream s ≡ false) (left : ℕ) where
+  plain_alike : (frames : List Frame) → AlikeBy false frames → AlikeBy (is_ppm_stream s) frames
+  plain_alike frames alike = subst (λ b. AlikeBy b frames) (sym plain) alike
+
+  alike_plain : (frames : List Frame) → AlikeBy (is_ppm_stream s) frames → AlikeBy false frames
+  alike_plain frames alike = subst (λ b. AlikeBy b frames) plain alike
+
+  plain_text : (frames : List Frame) → text_by (is_ppm_stream s) s frames ≡ y4m_text s frames
+  plain_text frames = ap (λ b. text_by b s frames) plain
+
+  -- the text of a frame more
+  whole_text : (frames : List Frame) (f : Frame) →
+      text_by (is_ppm_stream s) s (frames ++ (f ∷ [])) ≡ text_by (is_ppm_stream s) s frames ++ text_behind h (said_in (begun_behind h frames)) f.said f.planes
+  whole_text frames f =
+      let behind = text_behind h (said_in (begun_behind h frames)) f.said f.planes in
+      plain_text (frames ++ (f ∷ [])) ∙ text_more s h frames f heads ∙ ap (λ z. z ++ behind) (sym (plain_text frames))
+
+  pub unpacked_none : (i o : Option (List ℕ)) (ib ob : ℕ) → Unpacked s left (between i i ib ib) (between o o ob ob) [] left
+  unpacked_none i o ib ob = record {
+    are = tt;
+    alike = plain_alike [] tt;
+    read = reads_none left i;
+    kept = refl;
+    written = refl;
+    writes = subst (Appends o o) (sym (plain_text [])) (Appends-nil o);
+  }
+
+  module _ (least last : ℕ) (i0 i1 i2 o0 o1 o2 : Option (List ℕ)) (ib im ia ob om oa : ℕ) (frames : List Frame)
+      (un : Unpacked s left (between i0 i1 ib im) (between o0 o1 ob om) frames least) where
+    more_alike : (f : Frame) → SaysAgain (said_in (begun_behind h frames)) f.said → AlikeBy (is_ppm_stream s) (frames ++ (f ∷ []))
+    more_alike f again = plain_alike (frames ++ (f ∷ [])) (alike_more h frames f (alike_plain frames un.alike) again)
+
+    pub unpacked_more : (f : Frame) → PlaysFrame s.accepted least last (between i1 i2 im ia) f → SaysAgain (said_in (begun_behind h frames)) f.said → oa ≡ om →
+        Appends o1 o2 (text_behind h (said_in (begun_behind h frames)) f.said f.planes) → Unpacked s left (between i0 i2 ib ia) (between o0 o2 ob oa) (frames ++ (f ∷ [])) last
+    unpacked_more f plays again same writes = record {
+      are = are_more s.accepted frames f un.are plays.is;
+      alike = more_alike f again;
+      read = reads_more left least last i0 i1 i2 frames f un.read plays.reads.next;
+      kept = plays.reads.kept ∙ un.kept;
+      written = same ∙ un.written;
+      writes =
+          subst (Appends o0 o2) (sym (whole_text frames f))
+          (Appends-trans o0 o1 o2 (text_by (is_ppm_stream s) s frames) (text_behind h (said_in (begun_behind h frames)) f.said f.planes) un.writes writes);
+    }
+
+    pub unpacked_over : ReadsEnd least (between i1 i2 im ia) → Silent (between o1 o2 om oa) → UnpackedAll s left (between i0 i2 ib ia) (between o0 o2 ob oa) frames
+    unpacked_over over silent = record {
+      are = un.are;
+      alike = un.alike;
+      ends = ends_over left least i0 i1 i2 frames un.read over.over;
+      kept = over.kept ∙ un.kept;
+      written = silent.same ∙ un.written;
+      writes = Appends-kept o0 o1 o2 (text_by (is_ppm_stream s) s frames) un.writes silent.kept;
+    }
+
+    some : Silent (between o1 o2 om oa) → UnpackedSome s left (between i0 i2 ib ia) (between o0 o2 ob oa) frames
+    some silent = record {
+      are = un.are;
+      alike = un.alike;
+      begins = reads_some left least i0 i1 frames un.read;
+      written = silent.same ∙ un.written;
+      writes = Appends-kept o0 o1 o2 (text_by (is_ppm_stream s) s frames) un.writes silent.kept;
+    }
+
+    picture_fails : (f : Frame) → PlaysFrame s.accepted least last (between i1 i2 im ia) f → SaysAgain (said_in (begun_behind h frames)) f.said → oa ≡ one_more om →
+        (k : ℕ) → k < length (text_behind h (said_in (begun_behind h frames)) f.said f.planes) → Appends o1 o2 (take k (text_behind h (said_in (begun_behind h frames)) f.said f.planes)) →
+        PictureFails s left (between i0 i2 ib ia) (between o0 o2 ob oa)
+    picture_fails f plays again counted k short writes =
+        let text = text_by (is_ppm_stream s) s frames in
+        let behind = text_behind h (said_in (begun_behind h frames)) f.said f.planes in
+        let long : length (text ++ behind) ≡ length text + length behind = length-append text behind in
+        let enough : length text ≤ length text + k = omega arith in
+        let few : length text + k < length (text ++ behind) = omega (arith, long, short) in
+        record {
+          frames = frames ++ (f ∷ []);
+          least = last;
+          are = are_more s.accepted frames f un.are plays.is;
+          alike = more_alike f again;
+          read = reads_more left least last i0 i1 i2 frames f un.read plays.reads.next;
+          kept = plays.reads.kept ∙ un.kept;
+          written = counted ∙ ap one_more un.written;
+          writes = record {
+            count = length text + k;
+            enough = subst (λ fs. length (text_by (is_ppm_stream s) s fs) ≤ length text + k) (sym (but_last_more frames f)) enough;
+            short = subst (λ t. length text + k < length t) (sym (whole_text frames f)) few;
+            writes =
+                subst (λ t. Appends o0 o2 (take (length text + k) t)) (sym (whole_text frames f))
+                (subst (Appends o0 o2) (sym (take_past text behind k)) (Appends-trans o0 o1 o2 text (take k behind) un.writes writes));
+          };
+        }
+
+    payload_faults : (f : Fault) → Silent (between o1 o2 om oa) → PayloadRefused s.accepted h (said_in (begun_behind h frames)) least last (between i1 i2 im ia) (between o1 o2 om oa) f →
+        PayloadFaults s left (between i0 i2 ib ia) (between o0 o2 ob oa) f
+    payload_faults f silent p =
+        let text = text_by (is_ppm_stream s) s frames in
+        let rows : text ++ rows_by (is_ppm_stream s) s (lines_before p.faulty) ≡ text = ap (λ b. text ++ rows_by b s (lines_before p.faulty)) plain ∙ append-nil text in
+        record {
+          frames = frames;
+          are = un.are;
+          alike = un.alike;
+          payload = p.payload;
+          fault = p.fault;
+          tally = p.tally;
+          ends = ends_payload left least last i0 i1 i2 frames p.payload p.fault p.tally un.read p.reads.next;
+          faulty = p.faulty;
+          is = p.is;
+          written = silent.same ∙ un.written;
+          writes = subst (Appends o0 o2) (sym rows) (Appends-kept o0 o1 o2 text un.writes silent.kept);
+        }
+
+    format_changes : (f : Fault) → Silent (between o1 o2 om oa) → FrameChanges s.accepted h (said_in (begun_behind h frames)) least last (between i1 i2 im ia) (between o1 o2 om oa) f →
+        FormatChanges s left (between i0 i2 ib ia) (between o0 o2 ob oa) f
+    format_changes f silent p = record {
+      frames = frames;
+      last = p.frame;
+      least = last;
+      are = are_more s.accepted frames p.frame un.are p.plays.is;
+      alike = un.alike;
+      changed = λ alike. p.changed (last_alike h frames p.frame (alike_plain (frames ++ (p.frame ∷ [])) alike));
+      read = reads_more left least last i0 i1 i2 frames p.frame un.read p.plays.reads.next;
+      is = p.is;
+      written = silent.same ∙ un.written;
+      writes = Appends-kept o0 o1 o2 (text_by (is_ppm_stream s) s frames) un.writes silent.kept;
+    }
+
+    file_faults : (f : Fault) → Silent (between o1 o2 om oa) → FaultsKnown (frame_read least) i1 i2 f → FileFaults s left (between i0 i2 ib ia) (between o0 o2 ob oa) f
+    file_faults f silent h = record { frames = frames; some = some silent; ends = ends_file left least i0 i1 i2 frames f un.read h }
+
+    pub unpacking_stops : (f : Fault) (why : Cause) → NextStopsBy s.accepted h (said_in (begun_behind h frames)) least last (between i1 i2 im ia) (between o1 o2 om oa) f why →
+        UnpackingStopsBy s left (between i0 i2 ib ia) (between o0 o2 ob oa) f why
+    unpacking_stops f Writing p = inl (picture_fails p.0 p.1 p.2 p.3 p.4.0 p.4.1 p.4.2)
+    unpacking_stops f Reading p = (frames, some p.0, p.1 ∙ ap one_more un.kept)
+    unpacking_stops f Memory p = (frames, some p.0, p.1 ∙ un.kept)
+    unpacking_stops f Content p = (
+      p.1 ∙ un.kept,
+      elim p.2 [
+        | inl file ↦ inl (file_faults f p.0 file)
+        | inr more ↦ elim more [
+          | inl payload ↦ inr (inl (payload_faults f p.0 payload))
+          | inr changes ↦ inr (inr (format_changes f p.0 changes))
+        ]
+      ],
+    )
+
+-- a fault of decoding that is not the sink's comes from what was read
+pub decode_cause : (f : CodecFault) → is_decode_fault f ≡ true → f ≢ codec_fault.Sink → cause_of (of_codec f) ≡ Content
+decode_cause codec_fault.OutOfMemory is own = absurd (search rules)
+decode_cause codec_fault.BadStart is own = refl
+decode_cause codec_fault.SymbolTooLong is own = refl
+decode_cause codec_fault.Colour is own = refl
+decode_cause codec_fault.NotKey is own = refl
+decode_cause codec_fault.Place is own = refl
+decode_cause codec_fault.SetIndex is own = refl
+decode_cause codec_fault.Structure is own = refl
+decode_cause codec_fault.Aspect is own = refl
+decode_cause codec_fault.Footer is own = refl
+decode_cause codec_fault.Leftover is own = refl
+decode_cause codec_fault.SliceParity is own = refl
+decode_cause codec_fault.SliceStatus is own = refl
+decode_cause codec_fault.SliceTooLong is own = absurd (search rules)
+decode_cause codec_fault.InfoDiffers is own = refl
+decode_cause codec_fault.Sink is own = absurd (own refl)
+
+-- planes of zeros are planes
+pub zeros_are : (d : Division) → AreOf d (zeros_of d)
+zeros_are d =
+    let f : ℕ → List ℕ = λ p. replicate (whole_of (across d p) * whole_of (down d p)) 0 in
+    let many : length (zeros_of d) ≡ d.planes = length-map-range_with_len f 0 d.planes in
+    record {
+      count = many;
+      sizes = λ p inside.
+          let within : p < length (zeros_of d) = omega (arith, many, inside) in
+          let none : 0 + p ≡ p = omega arith in
+          let item : get_or (zeros_of d) p [] ≡ f p = get_or-map-range_with_len f 0 d.planes p p [] inside none in
+          ap (λ (o : Option (List ℕ)). length (samples_in o)) (slice_get-get_or (zeros_of d) p [] within ∙ ap Some item) ∙ length-replicate (whole_of (across d p) * whole_of (down d p)) 0;
+    }
+
+-- a sink that is new keeps the lines of its pictures
+pub zeros_kept : (a b : Accepted) (kept : Kept) → b ≡ a →
+    kept ≡ record { grid = division_of b.configuration; planes = zeros_of (division_of b.configuration); failures = 0 } → IsKeptFor a kept
+zeros_kept a b kept same is =
+    subst (λ z. IsKeptFor z kept) same (subst (IsKeptFor b) (sym is) (record { grid = refl; planes = zeros_are (division_of b.configuration) }))
+
+-- the head of a text is that of its stream
+pub heads_of : (x y : Head) (b a : Accepted) (h : VideoHead) → x ≡ y → b ≡ a → ((said : Said) → head_saying h said ≡ video_of (record { head = x; accepted = b }) said) →
+    (said : Said) → head_saying h said ≡ video_of (record { head = y; accepted = a }) said
+heads_of x y b a h head same heads =
+    subst (λ z. (said : Said) → head_saying h said ≡ video_of (record { head = y; accepted = z }) said) same
+    (subst (λ z. (said : Said) → head_saying h said ≡ video_of (record { head = z; accepted = b }) said) head heads)
+
+-- memory for the sink was refused
+pub wants_memory : (s : Stream) (left : ℕ) (i o : Option (List ℕ)) (ib ob : ℕ) (f : CodecFault) → is_ppm_stream s ≡ false → f ≡ codec_fault.OutOfMemory →
+    UnpackingStops s left (between i i ib ib) (between o o ob ob) (of_codec f)
+wants_memory s left i o ib ob f plain is =
+    subst (λ z. UnpackingStops s left (between i i ib ib) (between o o ob ob) (of_codec z)) (sym is) (
+      [],
+      record {
+        are = tt;
+        alike = subst (λ b. AlikeBy b []) (sym plain) tt;
+        begins = reads_some left left i i [] (reads_none left i);
+        written = refl;
+        writes = subst (λ b. Appends o o (text_by b s [])) (sym plain) (Appends-nil o);
+      },
+      refl,
+    )
+
+module _ (a : Accepted) (h : VideoHead) (first : Option Said) (left least : ℕ) (input : Passage) where
+  -- a frame was decoded, and its picture was not written
+  pub picture_stops : (output : Passage) (after : Begun) (frame : Frame) (f : Fault) → PlaysFrame a left least input frame → WritesPicture h first frame.said frame.planes output after (Err f) →
+      NextStopsBy a h first left least input output f (cause_of f)
+  picture_stops output after frame f plays answer = elim answer [
+    | inl write ↦
+        subst (λ z. NextStopsBy a h first left least input output z (cause_of z)) (sym write.0) (frame, plays, write.1, write.2, write.3)
+    | inr other ↦
+        subst (λ z. NextStopsBy a h first left least input output z (cause_of z)) (sym other.0)
+        (other.2, plays.reads.kept, inr (inr (record { frame = frame; plays = plays; changed = other.1; is = refl })))
+  ]
+
+  -- there is none
+  pub file_stops : (o : Option (List ℕ)) (n : ℕ) (f : Fault) (why : Cause) → FileStopsBy (frame_read left) input f why → NextStopsBy a h first left least input (between o o n n) f why
+  file_stops o n f Reading stops = (silent o n, stops)
+  file_stops o n f Writing stops = absurd stops
+  file_stops o n f Memory stops = (silent o n, stops)
+  file_stops o n f Content stops = (silent o n, stops.0, inl stops.1)
+
+  -- its payload has a fault
+  pub payload_stops : (o : Option (List ℕ)) (n : ℕ) (payload : List ℕ) (f : FrameFault) (tally : Tally) → ReadsPayload left least payload input → FaultsFrame a payload f tally →
+      cause_of (of_codec f.fault) ≡ Content → NextStopsBy a h first left least input (between o o n n) (of_codec f.fault) (cause_of (of_codec f.fault))
+  payload_stops o n payload f tally reads faulty content =
+      subst (NextStopsBy a h first left least input (between o o n n) (of_codec f.fault)) (sym content)
+      (silent o n, reads.kept, inr (inl (record { payload = payload; fault = f; tally = tally; reads = reads; faulty = faulty; is = refl })))
+
+-- so many frames were unpacked
+pub record UnpackedSo (s : Stream) (h : VideoHead) (left : ℕ) (input output : Passage) (begun : Begun) (count least : ℕ) : Type 0 where
+  pub frames : List Frame
+  pub is : count ≡ saturated (length frames)
+  pub un : Unpacked s left input output frames least
+  pub begun_is : begun ≡ begun_behind h frames

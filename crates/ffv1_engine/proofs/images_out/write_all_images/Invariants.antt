@@ -1,0 +1,17 @@
+use Rattle.std.proofs.Common.{◌≡◌, None}
+use Rattle.ffv1_wire.specs.Passage.{passage}
+use Rattle.ffv1_engine.specs.ImagesOut.{IsSinkFor}
+use Rattle.ffv1_engine.specs.Opens.{stream_of}
+use Rattle.ffv1_engine.proofs.ImagesSoFar.{ImagesSo}
+use Rattle.ffv1_engine.proofs.images_out.write_all_images.Given as goal
+
+abbrev pub invariant-loop-count : goal.invariant-loop-count
+invariant-loop-count g l =
+    (l.player.reader.fault ≡ None) × (l.player.decoder.accepted ≡ l.fn.player.decoder.accepted)
+    × IsSinkFor l.fn.player.decoder.accepted.configuration l.sink
+    × ImagesSo (stream_of l.fn.player.reader l.fn.player.decoder.accepted) l.fn.player.reader.left
+    (passage g.R.ByteIn.remaining g.R.ByteIn.failures l.initial.input l.input)
+    (passage g.W.ByteOut.contents g.W.ByteOut.failures l.initial.sink.out l.sink.out) l.count l.player.reader.left
+
+abbrev pub decreases-loop-count : goal.decreases-loop-count
+decreases-loop-count g l = l.player.reader.left

@@ -1,0 +1,138 @@
+-- What `show` writes, and why it is refused.
+use Rattle.std.specs.Prelude.{◌≡◌, ◌⊎◌, ℕ, Bool, true, false, ◌||◌, List, ◌++◌, length}
+use Rattle.std.specs.Io.KnownBytes.{Appends}
+use Rattle.ffv1_range.specs.declared.tally.Tally.{Tally}
+use Rattle.ffv1_wire.specs.Failures.{one_more}
+use Rattle.ffv1_wire.specs.Passage.{Passage}
+use Rattle.ffv1_wire.specs.Writes.{AppendsBeginning}
+use Rattle.ffv1_codec.specs.declared.fault.FrameFault.{FrameFault}
+use Rattle.ffv1_engine.specs.declared.fault.Fault.{Fault}
+use Rattle.ffv1_engine.specs.declared.fault.Fault.TheVariants as fault
+use Rattle.ffv1_engine.specs.declared.frame_line.FrameLine.TheVariants as line
+use Rattle.ffv1_engine.specs.Faults.{Cause, cause_of, of_codec}
+use Rattle.ffv1_engine.specs.Faults.Cause.{Reading, Writing, Memory, Content}
+use Rattle.ffv1_engine.specs.FrameLines.{frame_lines}
+use Rattle.ffv1_engine.specs.Opens.{OpensKnown, is_opening_fault}
+use Rattle.ffv1_engine.specs.Play.{BeginsSome, EndsKnown, LacksStream, Played, WritesUpTo, but_last}
+use Rattle.ffv1_engine.specs.Play.End.{File, Payload}
+use Rattle.ffv1_engine.specs.Stream.{FaultsFrame, Frame, IsStream, ReadsFile, Stream}
+use Rattle.ffv1_engine.specs.StreamLines.{show_text}
+use Rattle.ffv1_engine.specs.Told.{is_telling_fault}
+use Rattle.ffv1_engine.specs.Trial.{Silent}
+
+-- the lines of a stream, and behind them what each frame cost
+abbrev pub cost_text : Stream → List Frame → List ℕ
+cost_text s frames = show_text s ++ frame_lines line.Cost s.accepted.configuration frames
+
+module _ (input output : Passage) where
+  -- the file begins with the head of a stream, and the lines of that were written
+  pub record ShowsStream : Type 0 where
+    pub stream : Stream
+    pub is : IsStream stream
+    pub left : ℕ
+    pub opens : OpensKnown input.old input.new stream.head left
+    pub kept : input.after ≡ input.before
+    pub written : output.after ≡ output.before
+    pub writes : Appends output.old output.new (show_text stream)
+
+  -- all frames of the file were decoded, and what each cost was written behind those lines
+  pub record ShowsCosts : Type 0 where
+    pub stream : Stream
+    pub frames : List Frame
+    pub played : Played stream frames
+    pub reads : ReadsFile input.old input.new stream frames
+    pub kept : input.after ≡ input.before
+    pub written : output.after ≡ output.before
+    pub writes : Appends output.old output.new (cost_text stream frames)
+
+  -- by whether the costs are asked for
+  abbrev pub ShowDone : Bool → Type 0
+  ShowDone false = ShowsStream
+  ShowDone true = ShowsCosts
+
+  -- the lines of the stream were not written whole
+  pub record StreamFails : Type 0 where
+    pub stream : Stream
+    pub is : IsStream stream
+    pub left : ℕ
+    pub opens : OpensKnown input.old input.new stream.head left
+    pub kept : input.after ≡ input.before
+    pub written : output.after ≡ one_more output.before
+    pub writes : AppendsBeginning output.old output.new (show_text stream)
+
+  -- why the lines of the stream were not written, by the cause: a write failed, which was counted;
+  -- and else with nothing written a read failed, which was counted; memory was refused; or the file
+  -- has no stream
+  abbrev pub StreamStopsBy : Fault → Cause → Type 0
+  StreamStopsBy f Writing = StreamFails
+  StreamStopsBy f Reading = Silent output × (input.after ≡ one_more input.before)
+  StreamStopsBy f Memory = Silent output × (input.after ≡ input.before)
+  StreamStopsBy f Content =
+      Silent output × (input.after ≡ input.before) × LacksStream input.old input.new f
+
+  -- the file begins with these frames, and what each cost was written behind those lines
+  pub record CostsSome (stream : Stream) (frames : List Frame) : Type 0 where
+    pub played : Played stream frames
+    pub begins : BeginsSome input.old stream frames
+    pub written : output.after ≡ output.before
+    pub writes : Appends output.old output.new (cost_text stream frames)
+
+  -- the line of the last of these frames was not written whole
+  pub record CostFails : Type 0 where
+    pub stream : Stream
+    pub frames : List Frame
+    pub played : Played stream frames
+    pub begins : BeginsSome input.old stream frames
+    pub kept : input.after ≡ input.before
+    pub written : output.after ≡ one_more output.before
+    pub writes : WritesUpTo output.old output.new (length (cost_text stream (but_last frames)))
+        (cost_text stream frames)
+
+  -- behind these frames the file has this fault
+  pub record CostEnds (f : Fault) : Type 0 where
+    pub stream : Stream
+    pub frames : List Frame
+    pub costs : CostsSome stream frames
+    pub kept : input.after ≡ input.before
+    pub ends : EndsKnown input.old input.new stream frames (File f)
+
+  -- the payload behind these frames has its first fault
+  pub record CostPayload (f : Fault) : Type 0 where
+    pub stream : Stream
+    pub frames : List Frame
+    pub costs : CostsSome stream frames
+    pub kept : input.after ≡ input.before
+    pub payload : List ℕ
+    pub fault : FrameFault
+    pub tally : Tally
+    pub ends : EndsKnown input.old input.new stream frames (Payload payload fault tally)
+    pub faulty : FaultsFrame stream.accepted payload fault tally
+    pub is : f ≡ of_codec fault.fault
+
+  -- why what the frames cost is told no further, but for a payload's fault, by the cause: a write
+  -- failed, which was counted; a read failed, which was counted; memory was refused; or the file
+  -- has this fault
+  abbrev pub CostStopsBy : Fault → Cause → Type 0
+  CostStopsBy f Writing = CostFails
+  CostStopsBy f Reading = ((s : Stream) × (frames : List Frame) × CostsSome s frames)
+      × (input.after ≡ one_more input.before)
+  CostStopsBy f Memory = ((s : Stream) × (frames : List Frame) × CostsSome s frames)
+      × (input.after ≡ input.before)
+  CostStopsBy f Content = CostEnds f
+
+  abbrev pub CostStops : Fault → Type 0
+  CostStops f = CostPayload f ⊎ CostStopsBy f (cause_of f)
+
+  -- why it is refused, by whether the costs are asked for
+  abbrev pub ShowStops : Bool → Fault → Type 0
+  ShowStops false f = StreamStopsBy f (cause_of f)
+  ShowStops true f = StreamStopsBy f (cause_of f) ⊎ CostStops f
+
+abbrev pub is_write : Fault → Bool
+is_write fault.Write = true
+is_write f = false
+
+-- the faults that it has, by whether the costs are asked for
+abbrev pub is_show_fault : Bool → Fault → Bool
+is_show_fault false f = is_opening_fault f || is_write f
+is_show_fault true f = is_opening_fault f || is_telling_fault f

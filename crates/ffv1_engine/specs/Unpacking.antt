@@ -1,0 +1,149 @@
+-- The frames of movi are decoded one after the other, and each picture is written: how far that
+-- goes, and why it goes no further.
+use Rattle.std.specs.Prelude.{◌≡◌, ◌⊎◌, ◌+◌, ℕ, List, [], ◌∷◌, ◌++◌, length, Option, slice_index}
+use Rattle.std.specs.Prelude.{Ok}
+use Rattle.std.specs.Io.KnownBytes.{Appends}
+use Rattle.std.proofs.Common.{get_or}
+use Rattle.ffv1_range.specs.declared.tally.Tally.{Tally}
+use Rattle.ffv1_wire.specs.Failures.{one_more}
+use Rattle.ffv1_wire.specs.Passage.{Passage}
+use Rattle.ffv1_wire.specs.Runs.{Line}
+use Rattle.ffv1_slice.specs.Cutting.{coded_of, cut_of}
+use Rattle.ffv1_slice.specs.Footer.{foot_length}
+use Rattle.ffv1_codec.specs.Decoding.{Offers, State, top_of}
+use Rattle.ffv1_codec.specs.SliceList.{Said}
+use Rattle.ffv1_codec.specs.declared.fault.FrameFault.{FrameFault}
+use Rattle.ffv1_engine.specs.declared.fault.Fault.{Fault}
+use Rattle.ffv1_engine.specs.declared.fault.Fault.TheVariants as fault
+use Rattle.ffv1_engine.specs.Faults.{Cause, cause_of, of_codec}
+use Rattle.ffv1_engine.specs.Faults.Cause.{Reading, Writing, Memory, Content}
+use Rattle.ffv1_engine.specs.Stream.{AreFrames, FaultsFrame, Frame, Stream}
+use Rattle.ffv1_engine.specs.Play.{WritesUpTo, but_last}
+use Rattle.ffv1_engine.specs.Play.End.{File, Payload, Over}
+use Rattle.ffv1_engine.specs.Told.{EndsMovi, ReadsKnown, ReadsSome}
+use Rattle.ffv1_engine.specs.Unpacked.{AreAlike, is_ppm_stream, lines_before, rows_of, text_of}
+use Rattle.std.specs.Prelude.{true}
+
+-- decoding of a payload came to a line that is handed over next, behind these
+pub record HandsOver (s : Stream) (payload : List ℕ) (lines : List Line) (next : Line) : Type 0 where
+  pub offsets : List ℕ
+  pub cut : cut_of s.accepted.configuration payload ≡ Ok offsets
+  pub state : State
+  pub row : ℕ
+  pub number : ℕ
+  pub plane : ℕ
+  pub line : ℕ
+  pub offers : Offers s.accepted
+      (coded_of payload (foot_length s.accepted.configuration.ec) (slice_index offsets))
+      row number plane line state
+  pub lines_are : lines ≡ state.lines
+  pub next_is : next ≡ record {
+    plane = plane;
+    row = top_of s.accepted.configuration plane row + line;
+    samples = get_or state.out number [];
+  }
+
+module _ (s : Stream) (left : ℕ) (input output : Passage) where
+  -- these frames were decoded, and their text was written
+  pub record Unpacked (frames : List Frame) (least : ℕ) : Type 0 where
+    pub are : AreFrames s.accepted frames
+    pub alike : AreAlike s frames
+    pub read : ReadsKnown left input.old input.new frames least
+    pub kept : input.after ≡ input.before
+    pub written : output.after ≡ output.before
+    pub writes : Appends output.old output.new (text_of s frames)
+
+  -- they are all
+  pub record UnpackedAll (frames : List Frame) : Type 0 where
+    pub are : AreFrames s.accepted frames
+    pub alike : AreAlike s frames
+    pub ends : EndsMovi left input.old input.new frames Over
+    pub kept : input.after ≡ input.before
+    pub written : output.after ≡ output.before
+    pub writes : Appends output.old output.new (text_of s frames)
+
+  -- behind these frames nothing was written
+  pub record UnpackedSome (frames : List Frame) : Type 0 where
+    pub are : AreFrames s.accepted frames
+    pub alike : AreAlike s frames
+    pub begins : ReadsSome left input.old frames
+    pub written : output.after ≡ output.before
+    pub writes : Appends output.old output.new (text_of s frames)
+
+  -- the picture of the last of these frames was not written whole
+  pub record PictureFails : Type 0 where
+    pub frames : List Frame
+    pub least : ℕ
+    pub are : AreFrames s.accepted frames
+    pub alike : AreAlike s frames
+    pub read : ReadsKnown left input.old input.new frames least
+    pub kept : input.after ≡ input.before
+    pub written : output.after ≡ one_more output.before
+    pub writes : WritesUpTo output.old output.new (length (text_of s (but_last frames)))
+        (text_of s frames)
+
+  -- of the image behind these frames a row was not written whole, which a line was to bring
+  pub record RowFails : Type 0 where
+    pub frames : List Frame
+    pub are : AreFrames s.accepted frames
+    pub ppm : is_ppm_stream s ≡ true
+    pub payload : List ℕ
+    pub fault : FrameFault
+    pub tally : Tally
+    pub lines : List Line
+    pub next : Line
+    pub ends : EndsMovi left input.old input.new frames (Payload payload fault tally)
+    pub hands : HandsOver s payload lines next
+    pub kept : input.after ≡ input.before
+    pub written : output.after ≡ one_more output.before
+    pub writes : WritesUpTo output.old output.new
+        (length (text_of s frames ++ rows_of s lines))
+        (text_of s frames ++ rows_of s (lines ++ (next ∷ [])))
+
+  -- the payload behind these frames has its first fault
+  pub record PayloadFaults (f : Fault) : Type 0 where
+    pub frames : List Frame
+    pub are : AreFrames s.accepted frames
+    pub alike : AreAlike s frames
+    pub payload : List ℕ
+    pub fault : FrameFault
+    pub tally : Tally
+    pub ends : EndsMovi left input.old input.new frames (Payload payload fault tally)
+    pub faulty : FaultsFrame s.accepted payload fault tally
+    pub is : f ≡ of_codec fault.fault
+    pub written : output.after ≡ output.before
+    pub writes : Appends output.old output.new
+        (text_of s frames ++ rows_of s (lines_before faulty))
+
+  -- the last of these frames says something else than those before
+  pub record FormatChanges (f : Fault) : Type 0 where
+    pub frames : List Frame
+    pub last : Frame
+    pub least : ℕ
+    pub are : AreFrames s.accepted (frames ++ (last ∷ []))
+    pub alike : AreAlike s frames
+    pub changed : AreAlike s (frames ++ (last ∷ [])) → ⊥
+    pub read : ReadsKnown left input.old input.new (frames ++ (last ∷ [])) least
+    pub is : f ≡ fault.FormatChanged
+    pub written : output.after ≡ output.before
+    pub writes : Appends output.old output.new (text_of s frames)
+
+  -- the file has its fault behind these frames
+  pub record FileFaults (f : Fault) : Type 0 where
+    pub frames : List Frame
+    pub some : UnpackedSome frames
+    pub ends : EndsMovi left input.old input.new frames (File f)
+
+  -- why no further picture is written, by the cause: a write failed, which was counted; a read
+  -- failed, which was counted; memory was refused; or the file has this fault
+  abbrev pub UnpackingStopsBy : Fault → Cause → Type 0
+  UnpackingStopsBy f Writing = PictureFails ⊎ RowFails
+  UnpackingStopsBy f Reading =
+      (frames : List Frame) × UnpackedSome frames × (input.after ≡ one_more input.before)
+  UnpackingStopsBy f Memory =
+      (frames : List Frame) × UnpackedSome frames × (input.after ≡ input.before)
+  UnpackingStopsBy f Content =
+      (input.after ≡ input.before) × (FileFaults f ⊎ PayloadFaults f ⊎ FormatChanges f)
+
+  abbrev pub UnpackingStops : Fault → Type 0
+  UnpackingStops f = UnpackingStopsBy f (cause_of f)

@@ -1,0 +1,131 @@
+//! The pictures of a file are written as PPM, each row when it is decoded.
+
+ghost use Rattle.std.specs.Prelude.{◌≡◌, ◌<◌, ℕ, IfErr, IfOk, List, length, None, OnOk, false};
+ghost use Rattle.std.specs.Prelude.{true};
+ghost use Rattle.ffv1_wire.specs.Passage.{passage};
+ghost use Rattle.ffv1_range.specs.Counts.{saturated};
+ghost use Rattle.ffv1_record.specs.Accepted.{IsAccepted};
+ghost use Rattle.ffv1_record.specs.Configuration.{is_rct};
+ghost use Rattle.ffv1_engine.specs.ImagesOut.{IsSinkFor, WritesImage};
+ghost use Rattle.ffv1_engine.specs.Opens.{stream_of};
+ghost use Rattle.ffv1_engine.specs.Stream.{Frame};
+ghost use Rattle.ffv1_engine.specs.Unpack.{IsUnpackFault};
+ghost use Rattle.ffv1_engine.specs.Unpacking.{UnpackedAll, UnpackingStops};
+
+use crate::fault::Fault;
+use crate::player::{Player, Stop, play};
+use ffv1_codec::CodecFault;
+use ffv1_codec::answer_laws::{answered, decode_faults};
+use ffv1_codec::sink_laws::{colour_planes, lines_in_turn, offered_lines, sink_faults};
+use ffv1_record::laws::{accepted, accepted_parts};
+use ffv1_wire::{ByteIn, ByteOut};
+use ffv1_y4m::PpmWriter;
+use ffv1_y4m::laws::{image_runs, line_runs, next_lines};
+use std::alloc::Allocator;
+
+/// Reads the next frame, and decodes it into an image. Answers false where there is none.
+fn write_next<R: ByteIn, W: ByteOut, A: Allocator>(
+    player: &mut Player<A>,
+    input: &mut R,
+    sink: &mut PpmWriter<W, A>,
+) -> Result<bool, Fault>
+    requires sound { player.old.reader.fault ≡ None }
+    requires accepted { IsAccepted player.old.decoder.accepted.configuration
+        player.old.decoder.accepted.table }
+    requires colour { is_rct player.old.decoder.accepted.configuration.colour ≡ true }
+    requires opaque { player.old.decoder.accepted.configuration.extra_plane ≡ false }
+    requires sink { IsSinkFor player.old.decoder.accepted.configuration sink.old }
+    ensures answer { WritesImage player.old.decoder.accepted player.old.reader.left
+        player.new.reader.left (passage R.remaining R.failures input.old input.new)
+        (passage W.contents W.failures sink.old.out sink.new.out) result }
+    ensures sink { OnOk result (IsSinkFor player.old.decoder.accepted.configuration sink.new) }
+    ensures sound { OnOk result (player.new.reader.fault ≡ None) }
+    ensures less { IfOk result (λ more. more ≡ true →
+        player.new.reader.left < player.old.reader.left) }
+    ensures same { player.new.decoder.accepted ≡ player.old.decoder.accepted }
+    ensures own { IfErr result IsUnpackFault }
+{
+    answered::<PpmWriter<W, A>>();
+    decode_faults::<PpmWriter<W, A>>();
+    sink_faults::<PpmWriter<W, A>>();
+    offered_lines();
+    lines_in_turn();
+    colour_planes();
+    accepted();
+    accepted_parts();
+    image_runs::<W>();
+    line_runs::<W>();
+    next_lines::<W>();
+    match play(player, input, sink) {
+        Ok(None) => Ok(false),
+        Ok(Some(_info)) => Ok(true),
+        Err(Stop::File(fault)) => Err(Fault::from(fault)),
+        Err(Stop::Payload(fault)) => match fault.fault {
+            // The sink refuses no line of the pictures but one whose row cannot be written.
+            CodecFault::Sink => Err(Fault::Write),
+            fault => Err(Fault::from(fault)),
+        },
+    }
+}
+
+/// Decodes all frames that are left into images. Answers how many there were, at most 2^64 - 1.
+fn write_all_images<R: ByteIn, W: ByteOut, A: Allocator>(
+    player: &mut Player<A>,
+    input: &mut R,
+    sink: &mut PpmWriter<W, A>,
+) -> Result<u64, Fault>
+    requires sound { player.old.reader.fault ≡ None }
+    requires accepted { IsAccepted player.old.decoder.accepted.configuration
+        player.old.decoder.accepted.table }
+    requires colour { is_rct player.old.decoder.accepted.configuration.colour ≡ true }
+    requires opaque { player.old.decoder.accepted.configuration.extra_plane ≡ false }
+    requires sink { IsSinkFor player.old.decoder.accepted.configuration sink.old }
+    ensures ok { IfOk result (λ n. (frames : List Frame) × (n ≡ saturated (length frames))
+        × UnpackedAll (stream_of player.old.reader player.old.decoder.accepted)
+        player.old.reader.left (passage R.remaining R.failures input.old input.new)
+        (passage W.contents W.failures sink.old.out sink.new.out) frames) }
+    ensures err { IfErr result (UnpackingStops
+        (stream_of player.old.reader player.old.decoder.accepted) player.old.reader.left
+        (passage R.remaining R.failures input.old input.new)
+        (passage W.contents W.failures sink.old.out sink.new.out)) }
+    ensures own { IfErr result IsUnpackFault }
+{
+    let mut count = 0u64;
+    while write_next(player, input, sink)? {
+        count = count.saturating_add(1);
+    }
+    Ok(count)
+}
+
+/// Decodes all frames that are left into images, which are written row by row. Answers how many
+/// there were, at most 2^64 - 1, and hands the writer back.
+pub(crate) fn write_images<R: ByteIn, W: ByteOut, A: Allocator + Copy>(
+    alloc: A,
+    player: &mut Player<A>,
+    input: &mut R,
+    output: W,
+) -> (W, Result<u64, Fault>)
+    requires sound { player.old.reader.fault ≡ None }
+    requires accepted { IsAccepted player.old.decoder.accepted.configuration
+        player.old.decoder.accepted.table }
+    requires colour { is_rct player.old.decoder.accepted.configuration.colour ≡ true }
+    requires opaque { player.old.decoder.accepted.configuration.extra_plane ≡ false }
+    ensures ok { IfOk result.1 (λ n. (frames : List Frame) × (n ≡ saturated (length frames))
+        × UnpackedAll (stream_of player.old.reader player.old.decoder.accepted)
+        player.old.reader.left (passage R.remaining R.failures input.old input.new)
+        (passage W.contents W.failures output result.0) frames) }
+    ensures err { IfErr result.1 (UnpackingStops
+        (stream_of player.old.reader player.old.decoder.accepted) player.old.reader.left
+        (passage R.remaining R.failures input.old input.new)
+        (passage W.contents W.failures output result.0)) }
+    ensures own { IfErr result.1 IsUnpackFault }
+{
+    let config = player.decoder.config().config();
+    match PpmWriter::sized(alloc, output, config.width, config.height) {
+        Err((output, fault)) => (output, Err(Fault::from(fault))),
+        Ok(mut sink) => {
+            let count = write_all_images(player, input, &mut sink);
+            (sink.into_inner(), count)
+        }
+    }
+}

@@ -1,0 +1,121 @@
+//! What a file says is told, and what its frames cost.
+
+ghost use Rattle.std.specs.Prelude.{◌≡◌, IfErr, List, None, OnOk, false, true};
+ghost use Rattle.ffv1_wire.specs.Passage.{passage};
+ghost use Rattle.ffv1_avi.specs.Head.{head_of};
+ghost use Rattle.ffv1_record.specs.Accepted.{IsAccepted};
+ghost use Rattle.ffv1_engine.specs.declared.frame_line.FrameLine.TheVariants as line;
+ghost use Rattle.ffv1_engine.specs.Show.{ShowDone, ShowStops, is_show_fault};
+ghost use Rattle.ffv1_engine.specs.Stream.{Frame};
+ghost use Rattle.ffv1_engine.specs.StreamLines.{show_text};
+ghost use Rattle.ffv1_engine.specs.Told.{TellingStops, ToldAll, WritesFrame, is_telling_fault};
+
+use crate::fault::Fault;
+use crate::frame_line::FrameLine;
+use crate::player::{open_stream, player_of};
+use crate::stream_lines::show_text;
+use crate::telling::tell_frames;
+use ffv1_avi::laws::{file_is_read, frames_in_turn, read_is_file};
+use ffv1_avi::{AviHead, AviReader};
+use ffv1_record::Checked;
+use ffv1_wire::{ByteIn, ByteOut, write_all};
+use std::alloc::Allocator;
+
+/// Writes the lines of a file's head and of the configuration of its frames, in one piece.
+fn write_stream<W: ByteOut, A: Allocator + Copy>(
+    alloc: A,
+    output: &mut W,
+    head: &AviHead<A>,
+    checked: &Checked<A>,
+) -> Result<(), Fault>
+    ensures { WritesFrame (show_text (record { head = head_of head.now; accepted = checked.now }))
+        (passage W.contents W.failures output.old output.new) result }
+{
+    let text = show_text(alloc, head, checked)?;
+    if write_all(output, &text).is_err() {
+        return Err(Fault::Write);
+    }
+    Ok(())
+}
+
+/// Decodes all frames of a file that was opened, and writes what each cost.
+fn tell_costs<R: ByteIn, W: ByteOut, A: Allocator + Copy>(
+    alloc: A,
+    reader: AviReader<A>,
+    checked: Checked<A>,
+    input: &mut R,
+    output: &mut W,
+) -> Result<(), Fault>
+    requires sound { reader.fault ≡ None }
+    requires accepted { IsAccepted checked.configuration checked.table }
+    ensures ok { OnOk result ((frames : List Frame)
+        × ToldAll line.Cost false checked reader.left
+        (passage R.remaining R.failures input.old input.new)
+        (passage W.contents W.failures output.old output.new) frames) }
+    ensures err { IfErr result (TellingStops line.Cost false checked reader.left
+        (passage R.remaining R.failures input.old input.new)
+        (passage W.contents W.failures output.old output.new)) }
+    ensures own { IfErr result (λ f. is_telling_fault f ≡ true) }
+{
+    let mut player = player_of(alloc, reader, checked)?;
+    tell_frames(alloc, &mut player, input, output, FrameLine::Cost, false)?;
+    Ok(())
+}
+
+/// Writes what a file's head and its record say, and how much a decoder of its frames holds:
+///
+/// ```text
+/// size {width}x{height}
+/// coder {1, or 2 with deltas}
+/// colour {YCbCr or RCT}
+/// chroma {mono, or the binary logarithms of its factors, joined by a comma}
+/// extra 1
+/// slices {columns}x{rows}
+/// contexts {of each set}
+/// ec {0 or 1}
+/// intra {0 or 1}
+/// rate {rate}/{scale}
+/// held states {n} samples {n} output {n} columns {n} offsets {n}
+/// ```
+///
+/// The line `extra 1` is there where there is a plane of transparency. What is held is told as
+/// `Checked::held` says it. A file without frames is none the worse. With `cost` all frames are
+/// then decoded, and a line of each is written as soon as it is decoded:
+///
+/// ```text
+/// cost frame {i}: ones {n} zeros {n} renormalisations {n}
+/// ```
+///
+/// Frames are counted from 0; a count of 64 bits stays at its greatest value. Without `cost`
+/// nothing behind the header of `movi` is read, and no decoder is made; with it, beside what the
+/// decoder holds, one payload and one line are held.
+///
+/// The faults are those of the file up to its first frame (`NotAvi`, `NoFfv1`, `Truncated`,
+/// `ChunkTooLong`) and of its record, with nothing written; with `cost` then those of `movi`
+/// (`EmptyFrame`, too) and of a payload, behind the lines of the stream and of the frames before.
+/// `Read`, `OutOfMemory` and `Write` come as they come; where a write failed, a beginning of what
+/// was to be written is.
+pub fn show<R: ByteIn, W: ByteOut, A: Allocator + Copy>(
+    alloc: A,
+    input: &mut R,
+    output: &mut W,
+    cost: bool,
+) -> Result<(), Fault>
+    ensures ok { OnOk result (ShowDone
+        (passage R.remaining R.failures input.old input.new)
+        (passage W.contents W.failures output.old output.new) cost) }
+    ensures err { IfErr result (ShowStops
+        (passage R.remaining R.failures input.old input.new)
+        (passage W.contents W.failures output.old output.new) cost) }
+    ensures own { IfErr result (λ f. is_show_fault cost f ≡ true) }
+{
+    frames_in_turn();
+    read_is_file();
+    file_is_read();
+    let (reader, checked) = open_stream(alloc, input)?;
+    write_stream(alloc, output, reader.head(), &checked)?;
+    if cost {
+        tell_costs(alloc, reader, checked, input, output)?;
+    }
+    Ok(())
+}

@@ -1,0 +1,136 @@
+//! The frames of a file become pictures again.
+
+ghost use Rattle.std.specs.Prelude.{◌≡◌, ◌⊎◌, ℕ, IfErr, IfOk, IfSome, List, length, None};
+ghost use Rattle.ffv1_wire.specs.Passage.{passage};
+ghost use Rattle.ffv1_range.specs.Counts.{saturated};
+ghost use Rattle.ffv1_record.specs.Accepted.{IsAccepted};
+ghost use Rattle.ffv1_record.specs.Configuration.{configuration_of, is_rct};
+ghost use Rattle.ffv1_engine.specs.Opens.{OpensStream, stream_of};
+ghost use Rattle.ffv1_engine.specs.Stream.{Frame};
+ghost use Rattle.ffv1_engine.specs.Unpack.{IsUnpackFault, LacksUnpacking, UnpackDone, UnpackStops};
+ghost use Rattle.ffv1_engine.specs.Unpacked.{HasText, HasTextBy, LacksTextBy};
+ghost use Rattle.ffv1_engine.specs.Unpacking.{UnpackedAll, UnpackingStops};
+
+use crate::fault::Fault;
+use crate::images_out::write_images;
+use crate::pictures_out::write_pictures;
+use crate::player::{Player, open_stream, player_of};
+use ffv1_avi::laws::{file_is_read, frames_in_turn, read_is_file};
+use ffv1_record::{Checked, Colour};
+use ffv1_wire::{ByteIn, ByteOut};
+use std::alloc::Allocator;
+
+/// Whether pictures of a configuration have a text: YUV4MPEG2 names six kinds of chroma, and PPM
+/// has no transparency. Refuses with `NoY4mName` or `NoPpm`.
+fn check_text<A: Allocator>(checked: &Checked<A>) -> Result<(), Fault>
+    ensures ok { IfOk result (λ _. HasTextBy (is_rct checked.now.configuration.colour)
+        checked.now.configuration) }
+    ensures err { IfErr result (LacksTextBy (is_rct checked.now.configuration.colour)
+        checked.now.configuration) }
+{
+    let config = checked.config();
+    if config.colour == Colour::Rct {
+        if config.extra_plane {
+            return Err(Fault::NoPpm);
+        }
+        return Ok(());
+    }
+    let named = match (config.chroma_planes, config.log2_h, config.log2_v) {
+        (true, 0, 0) => true,
+        (true, 1, 1) | (true, 1, 0) | (true, 2, 0) | (false, 0, 0) => !config.extra_plane,
+        _ => false,
+    };
+    if named { Ok(()) } else { Err(Fault::NoY4mName) }
+}
+
+/// Opens a file whose pictures have a text, and makes the decoder of its frames.
+fn open_unpacking<R: ByteIn, A: Allocator + Copy>(
+    alloc: A,
+    input: &mut R,
+) -> Result<Player<A>, Fault>
+    ensures ok { IfOk result (λ p. OpensStream p.reader p.decoder.accepted
+        (passage R.remaining R.failures input.old input.new)) }
+    ensures text { IfOk result (λ p. HasText (stream_of p.reader p.decoder.accepted)) }
+    ensures err { IfErr result (LacksUnpacking
+        (passage R.remaining R.failures input.old input.new)) }
+    ensures own { IfErr result IsUnpackFault }
+{
+    let (reader, checked) = open_stream(alloc, input)?;
+    check_text(&checked)?;
+    let player = player_of(alloc, reader, checked)?;
+    Ok(player)
+}
+
+/// Writes the pictures of all frames that are left, and hands the writer back.
+fn write_frames<R: ByteIn, W: ByteOut, A: Allocator + Copy>(
+    alloc: A,
+    player: &mut Player<A>,
+    input: &mut R,
+    mut output: W,
+) -> (W, Result<u64, Fault>)
+    requires sound { player.old.reader.fault ≡ None }
+    requires accepted { IsAccepted player.old.decoder.accepted.configuration
+        player.old.decoder.accepted.table }
+    requires text { HasText (stream_of player.old.reader player.old.decoder.accepted) }
+    ensures ok { IfOk result.1 (λ n. (frames : List Frame) × (n ≡ saturated (length frames))
+        × UnpackedAll (stream_of player.old.reader player.old.decoder.accepted)
+        player.old.reader.left (passage R.remaining R.failures input.old input.new)
+        (passage W.contents W.failures output result.0) frames) }
+    ensures err { IfErr result.1 (UnpackingStops
+        (stream_of player.old.reader player.old.decoder.accepted) player.old.reader.left
+        (passage R.remaining R.failures input.old input.new)
+        (passage W.contents W.failures output result.0)) }
+    ensures own { IfErr result.1 IsUnpackFault }
+{
+    match player.decoder.config().config().colour {
+        Colour::YCbCr => {
+            let answer = write_pictures(alloc, player, input, &mut output);
+            (output, answer)
+        }
+        Colour::Rct => write_images(alloc, player, input, output),
+    }
+}
+
+/// Decodes all frames of a file, and writes their pictures: those of YCbCr as YUV4MPEG2 in its
+/// canonical form, and those of RCT as PPM, one image behind the other. It answers how many frames
+/// there were, at most 2^64 - 1, and hands the writer back.
+///
+/// A picture of YCbCr is written when it is decoded, the header before the first one; a row of an
+/// image as soon as it is decoded. Beside what the decoder holds, one payload and one picture are
+/// held, for PPM three lines.
+///
+/// The first fault ends it. Nothing is written where it is one of the file up to its first frame
+/// (`NotAvi`, `NoFfv1`, `Truncated`, `ChunkTooLong`) or of its record, or `NoY4mName` where
+/// YUV4MPEG2 has no name for the chroma, or `NoPpm` for RCT with transparency. Then come those of
+/// `movi` (`EmptyFrame`, too), of a payload, `FormatChanged` where a later frame's structure or
+/// aspect are not those of the header, and `NoFrames` at the end where there was none; `Read`,
+/// `OutOfMemory` and `Write` as they come. What is written then is the text of the frames before,
+/// and of an image the rows before the fault; behind `Write` a beginning of the next picture or
+/// row, too.
+pub fn unpack<R: ByteIn, W: ByteOut, A: Allocator + Copy>(
+    alloc: A,
+    input: &mut R,
+    output: W,
+) -> (W, Result<u64, Fault>)
+    ensures ok { IfOk result.1 (UnpackDone (passage R.remaining R.failures input.old input.new)
+        (passage W.contents W.failures output result.0)) }
+    ensures err { IfErr result.1 (UnpackStops
+        (passage R.remaining R.failures input.old input.new)
+        (passage W.contents W.failures output result.0)) }
+    ensures own { IfErr result.1 IsUnpackFault }
+{
+    frames_in_turn();
+    read_is_file();
+    file_is_read();
+    match open_unpacking(alloc, input) {
+        Err(fault) => (output, Err(fault)),
+        Ok(mut player) => {
+            let (output, answer) = write_frames(alloc, &mut player, input, output);
+            match answer {
+                Ok(0) => (output, Err(Fault::NoFrames)),
+                Ok(count) => (output, Ok(count)),
+                Err(fault) => (output, Err(fault)),
+            }
+        }
+    }
+}

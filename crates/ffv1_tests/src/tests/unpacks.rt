@@ -1,0 +1,282 @@
+//! Files that are unpacked, with texts computed outside the program, and their faults.
+
+use ffv1_avi::{AviHead, write_avi};
+use ffv1_doubles::{Scarce, ShortWriter};
+use ffv1_engine::{Choice, CoderChoice, Fault, pack, unpack};
+use ffv1_plane::QuantSet;
+use ffv1_record::{Coder, Colour, Config, Sets, write_record};
+use ffv1_wire::{FromRead, ToWrite};
+use std::alloc::Allocator;
+use std::io::ErrorKind;
+use std::process::Abort;
+use std::test::Fail;
+
+/// Without parity.
+const PLAIN: Choice = Choice {
+    coder: CoderChoice::Standard,
+    large: false,
+    columns: 1,
+    rows: 1,
+    ec: false,
+    rate: 25,
+    scale: 1,
+};
+
+/// A text of 4:2:0 with one picture of 2 by 2, and what comes back of it.
+const TEXT: &[u8] = b"YUV4MPEG2 W2 H2 F25:1 C420mpeg2 Xa\nFRAME\n\x01\x02\x03\x04\x05\x06";
+
+const CANONICAL: &[u8] = b"YUV4MPEG2 W2 H2 F25:1 I? A0:0 C420jpeg\nFRAME\n\x01\x02\x03\x04\x05\x06";
+
+/// A red image of 1 by 1.
+const IMAGE: &[u8] = b"P6\n1 1\n255\n\xFF\x00\x00";
+
+/// The file of a text.
+fn file_of<A: Allocator + Copy>(
+    alloc: A,
+    text: &[u8],
+    choice: &Choice,
+) -> Result<Vec<u8, A>, Fault> {
+    let mut input = FromRead::new(text);
+    let mut output = ToWrite::new(Vec::new(alloc));
+    pack(alloc, &mut input, &mut output, choice)?;
+    Ok(output.into_inner())
+}
+
+/// Unpacking a file answers so, and writes this.
+fn comes_to<A: Allocator + Copy>(
+    rt: &impl Abort,
+    alloc: A,
+    file: &[u8],
+    answer: Result<u64, Fault>,
+    text: &[u8],
+) {
+    let output = ToWrite::new(Vec::new(alloc));
+    let (written, found) = unpack(alloc, &mut FromRead::new(file), output);
+    assert!(rt; found == answer);
+    assert!(rt; written.into_inner().as_slice() == text);
+}
+
+/// A text that is packed and unpacked is this one.
+fn comes_back<A: Allocator + Copy>(
+    rt: &impl Abort,
+    alloc: A,
+    text: &[u8],
+    count: u64,
+    back: &[u8],
+) -> Result<(), Fault> {
+    let file = file_of(alloc, text, &PLAIN)?;
+    comes_to(rt, alloc, &file, Ok(count), back);
+    Ok(())
+}
+
+#[test]
+fn pictures(rt: HostRuntime) -> Result<(), Fail> {
+    assert!(&rt; CANONICAL.len() == 51);
+    comes_back(&rt, rt.alloc(), TEXT, 1, CANONICAL)?;
+    comes_back(
+        &rt,
+        rt.alloc(),
+        b"YUV4MPEG2 W1 H1 C444alpha\nFRAME\n\x01\x02\x03\x04",
+        1,
+        b"YUV4MPEG2 W1 H1 F0:0 I? A0:0 C444alpha\nFRAME\n\x01\x02\x03\x04",
+    )?;
+    comes_back(
+        &rt,
+        rt.alloc(),
+        b"YUV4MPEG2 H1 W1 F30000:1001 It A4:3 Cmono\nFRAME\n\x07FRAME\n\x08",
+        2,
+        b"YUV4MPEG2 W1 H1 F30000:1001 It A4:3 Cmono\nFRAME\n\x07FRAME\n\x08",
+    )?;
+    Ok(())
+}
+
+#[test]
+fn images(rt: HostRuntime) -> Result<(), Fail> {
+    comes_back(&rt, rt.alloc(), IMAGE, 1, IMAGE)?;
+    comes_back(
+        &rt,
+        rt.alloc(),
+        b"P6\n2 1\n255\n\x01\x02\x03\x04\x05\x06P6\n2 1\n255\n\x11\x12\x13\x14\x15\x16",
+        2,
+        b"P6\n2 1\n255\n\x01\x02\x03\x04\x05\x06P6\n2 1\n255\n\x11\x12\x13\x14\x15\x16",
+    )?;
+    Ok(())
+}
+
+/// Pictures of one slice, without parity.
+fn config_of<A: Allocator + Copy>(
+    alloc: A,
+    size: (u32, u32),
+    colour: Colour,
+    planes: (bool, bool),
+    log2: (u32, u32),
+) -> Result<Config<A>, Fault> {
+    let mut sets = Sets::new(alloc);
+    sets.push(QuantSet::small(alloc)?)?;
+    Ok(Config {
+        width: size.0,
+        height: size.1,
+        coder: Coder::One,
+        colour,
+        chroma_planes: planes.0,
+        extra_plane: planes.1,
+        log2_h: log2.0,
+        log2_v: log2.1,
+        columns: 1,
+        rows: 1,
+        sets,
+        ec: false,
+        intra: true,
+    })
+}
+
+/// A file of this configuration and these frames.
+fn file_with<A: Allocator + Copy>(
+    alloc: A,
+    config: Config<A>,
+    frames: &[Vec<u8, A>],
+) -> Result<Vec<u8, A>, Fault> {
+    let (width, height) = (config.width, config.height);
+    if width > 8192 || height > 8192 {
+        return Err(Fault::Size);
+    }
+    let head = AviHead {
+        width,
+        height,
+        rate: 25,
+        scale: 1,
+        config_record: write_record(alloc, &config.check()?)?,
+    };
+    let mut out = ToWrite::new(Vec::new(alloc));
+    write_avi(&mut out, &head, frames)?;
+    Ok(out.into_inner())
+}
+
+/// A file without frames, of pictures of 2 by 2, is refused so, and nothing is written.
+fn refuses<A: Allocator + Copy>(
+    rt: &impl Abort,
+    alloc: A,
+    colour: Colour,
+    planes: (bool, bool),
+    log2: (u32, u32),
+    fault: Fault,
+) -> Result<(), Fault> {
+    let config = config_of(alloc, (2, 2), colour, planes, log2)?;
+    let frames = Vec::new(alloc);
+    let file = file_with(alloc, config, frames.as_slice())?;
+    comes_to(rt, alloc, &file, Err(fault), b"");
+    Ok(())
+}
+
+#[test]
+fn no_text(rt: HostRuntime) -> Result<(), Fail> {
+    let alloc = rt.alloc();
+    let no_name = Fault::NoY4mName;
+    refuses(&rt, alloc, Colour::YCbCr, (true, false), (0, 1), no_name)?;
+    refuses(&rt, alloc, Colour::YCbCr, (true, true), (1, 1), no_name)?;
+    refuses(&rt, alloc, Colour::YCbCr, (true, false), (2, 2), no_name)?;
+    refuses(&rt, alloc, Colour::Rct, (true, true), (0, 0), Fault::NoPpm)?;
+    Ok(())
+}
+
+#[test]
+fn no_frames(rt: HostRuntime) -> Result<(), Fail> {
+    let alloc = rt.alloc();
+    let none = Fault::NoFrames;
+    refuses(&rt, alloc, Colour::YCbCr, (true, false), (1, 1), none)?;
+    refuses(&rt, alloc, Colour::Rct, (true, false), (0, 0), none)?;
+    comes_to(&rt, alloc, b"RIFX", Err(Fault::Truncated), b"");
+    comes_to(&rt, alloc, b"RIFX\0\0\0\0AVI ", Err(Fault::NotAvi), b"");
+    Ok(())
+}
+
+/// Two frames of one sample 0, the second as wide as high.
+fn other_aspect<A: Allocator + Copy>(rt: &impl Abort, alloc: A) -> Result<(), Fault> {
+    let config = config_of(alloc, (1, 1), Colour::YCbCr, (false, false), (0, 0))?;
+    let mut frames = Vec::new(alloc);
+    frames.push(Vec::from_slice(alloc, b"\xFE\x7B\x00\x00\x02")?)?;
+    frames.push(Vec::from_slice(alloc, b"\xFC\xA6\x00\x00\x02")?)?;
+    let file = file_with(alloc, config, frames.as_slice())?;
+    let text = b"YUV4MPEG2 W1 H1 F25:1 I? A0:0 Cmono\nFRAME\n\x00";
+    comes_to(rt, alloc, &file, Err(Fault::FormatChanged), text);
+    Ok(())
+}
+
+#[test]
+fn another_aspect(rt: HostRuntime) -> Result<(), Fail> {
+    other_aspect(&rt, rt.alloc())?;
+    Ok(())
+}
+
+/// Two images, the second damaged: its first byte that is decided by no sample.
+fn damaged<A: Allocator + Copy>(rt: &impl Abort, alloc: A) -> Result<(), Fault> {
+    let images = b"P6\n1 2\n255\n\x01\x02\x03\x04\x05\x06P6\n1 2\n255\n\x11\x12\x13\x14\x15\x16";
+    let mut file = file_of(alloc, images, &Choice { ec: true, ..PLAIN })?;
+    if let Some(place) = file.len().checked_sub(3) {
+        file[place] ^= 1;
+    }
+    comes_to(rt, alloc, &file, Err(Fault::SliceParity), &images[..17]);
+    Ok(())
+}
+
+#[test]
+fn a_damaged_image(rt: HostRuntime) -> Result<(), Fail> {
+    damaged(&rt, rt.alloc())?;
+    Ok(())
+}
+
+/// How many requests for memory were refused, one in each try, before a file was unpacked.
+fn requests<A: Allocator + Copy>(rt: &impl Abort, alloc: A, file: &[u8]) -> u8 {
+    let mut refused = 0u8;
+    for before in 0..80u64 {
+        let heap = Scarce::new(alloc, before);
+        let output = ToWrite::new(Vec::new(alloc));
+        let (written, answer) = unpack(&heap, &mut FromRead::new(file), output);
+        if answer.is_ok() {
+            assert!(rt; answer == Ok(1));
+        } else {
+            assert!(rt; answer == Err(Fault::OutOfMemory));
+            assert!(rt; written.into_inner().is_empty());
+            refused = refused.saturating_add(1);
+        }
+    }
+    refused
+}
+
+#[test]
+fn each_request(rt: HostRuntime) -> Result<(), Fail> {
+    for text in [TEXT, IMAGE] {
+        let file = file_of(rt.alloc(), text, &PLAIN)?;
+        let refused = requests(&rt, rt.alloc(), file.as_slice());
+        assert!(&rt; refused > 8);
+        assert!(&rt; refused < 80);
+    }
+    Ok(())
+}
+
+/// A writer that takes so many bytes holds the beginning of the text.
+fn cut<A: Allocator + Copy>(rt: &impl Abort, alloc: A, file: &[u8], text: &[u8], room: usize) {
+    let output = ToWrite::new(ShortWriter::new(alloc, room, 7, Some(ErrorKind::Other)));
+    let (written, answer) = unpack(alloc, &mut FromRead::new(file), output);
+    assert!(rt; answer == Err(Fault::Write));
+    let writer = written.into_inner();
+    assert!(rt; writer.held() == &text[..room.min(text.len())]);
+}
+
+#[test]
+fn each_beginning(rt: HostRuntime) -> Result<(), Fail> {
+    let file = file_of(rt.alloc(), TEXT, &PLAIN)?;
+    for room in 0..CANONICAL.len() {
+        cut(&rt, rt.alloc(), file.as_slice(), CANONICAL, room);
+    }
+    Ok(())
+}
+
+#[test]
+fn each_beginning_of_an_image(rt: HostRuntime) -> Result<(), Fail> {
+    let file = file_of(rt.alloc(), IMAGE, &PLAIN)?;
+    for room in 0..IMAGE.len() {
+        cut(&rt, rt.alloc(), file.as_slice(), IMAGE, room);
+    }
+    Ok(())
+}
