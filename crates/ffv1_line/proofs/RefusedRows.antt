@@ -1,5 +1,5 @@
 -- Why memory may be refused to an encoder in a row.
-use Rattle.std.proofs.Common.{◌≡◌, refl, ℕ, zero, suc, ◌+◌, ◌-◌, ◌<◌, ◌≤◌, min, IsTrue, inl, List, length, get_or, arith, ap, sym, subst, ◌∙◌}
+use Rattle.std.proofs.Common.{◌≡◌, ℕ, zero, suc, ◌+◌, ◌-◌, ◌<◌, min, IsTrue, inl, List, length, get_or, arith, subst}
 use Rattle.ffv1_range.specs.Table.{Table}
 use Rattle.ffv1_range.specs.Writing.{Writing}
 use Rattle.ffv1_range.specs.Puts.{MayBeRefused}
@@ -11,7 +11,8 @@ use Rattle.ffv1_plane.specs.Residual.{chosen_of}
 use Rattle.ffv1_line.specs.Cell.{Cell, Shows, seen, around}
 use Rattle.ffv1_line.specs.Row.{chosen_at, chosen_row, row_steps, sample_steps}
 use Rattle.ffv1_line.specs.Encoded.{Written, MayBeRefusedRow}
-use Rattle.ffv1_line.proofs.Rows.{Stands, around_is, stands-shows, scalars, row_steps-append, chosen-more, length-chosen}
+use Rattle.ffv1_line.specs.Internal.Along.{Stands}
+use Rattle.ffv1_line.proofs.Rows.{around_is, stands-shows, scalars, row_steps-append, chosen-more, length-chosen}
 
 pub refused_failed : (t : Table) (set : Set) (bits : ℕ) (old : Writing) (states two one cur : List ℕ) (n : ℕ) → IsTrue old.failed → MayBeRefusedRow t set bits old states two one cur n
 refused_failed t set bits old states two one cur n failed = record { may = λ c y above shows. inl failed }

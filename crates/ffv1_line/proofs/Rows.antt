@@ -7,6 +7,7 @@ use Rattle.ffv1_range.proofs.Steps.{follows_append, follows_none}
 use Rattle.ffv1_plane.specs.declared.prediction.Around.{Around}
 use Rattle.ffv1_plane.specs.Quantisation.{Set}
 use Rattle.ffv1_line.specs.Cell.{Cell, seen, around, Shows, Above}
+use Rattle.ffv1_line.specs.Internal.Along.{Left, Stands}
 use Rattle.ffv1_range.specs.Writing.{Writing}
 use Rattle.ffv1_range.specs.Puts.{Puts}
 use Rattle.ffv1_range.proofs.Steps.{puts_append, puts_none}
@@ -17,17 +18,6 @@ use Rattle.ffv1_line.specs.Row.{chosen_at, chosen_row}
 use Rattle.ffv1_line.specs.Encoded.{Written}
 use Rattle.ffv1_line.specs.Row.{SuitsAt, AreSuiting, sample_steps, refused_steps, row_steps}
 use Rattle.ffv1_line.specs.Decoded.{Sampled, Lined, Refused, SameFrom}
-
--- what the scalars along a row are, at place x
-pub record Left (c : Cell) (y x ll l tl t : ℕ) : Type 0 where
-  pub ll_is : ll ≡ seen c x (suc (suc y))
-  pub l_is : l ≡ seen c (suc x) (suc (suc y))
-  pub tl_is : tl ≡ seen c (suc x) (suc y)
-  pub t_is : t ≡ seen c (suc (suc x)) (suc y)
-
--- the same, whatever the cell
-pub record Stands (two one cur : List ℕ) (x ll l tl t : ℕ) : Type 0 where
-  pub each : (c : Cell) (y : ℕ) → Above c y two one → Shows c (suc (suc y)) cur x → Left c y x ll l tl t
 
 -- right of the cell stands its rightmost sample
 pub seen_clamped : (c : Cell) (x y : ℕ) → seen c (suc (suc (min x (c.width - 1)))) y ≡ seen c (suc (suc x)) y

@@ -4,3 +4,4 @@ pub mod Decoded
 pub mod Encoded
 pub mod Length
 pub mod Coded
+pub mod Internal

@@ -1,6 +1,25 @@
-//! The neighbours of a place in a row.
+//! The neighbours of a place in a row, and their context.
 
-ghost use Rattle.std.specs.Prelude.{◌≡◌, ◌+◌, ◌≤◌, length, min, slice_index};
+ghost use Rattle.std.specs.Prelude.{◌≡◌, ◌+◌, ◌≤◌, ◌<◌, IsTrue, length, min, slice_index};
+ghost use Rattle.ffv1_plane.specs.Quantisation.{IsNear, contexts_of};
+ghost use Rattle.ffv1_plane.specs.Context.{size_of, flip_of};
+
+use ffv1_plane::{Around, QuantSet, context, context_near};
+use std::alloc::Allocator;
+
+/// How many places of a row are coded before their decisions, at most 63 a place, are counted by
+/// the coder.
+pub(crate) const BLOCK: usize = 65536;
+
+/// What is carried from place to place along a row: the samples two to the left, to the left, above
+/// to the left and above.
+#[derive(Clone, Copy)]
+pub(crate) struct Along {
+    pub(crate) ll: u16,
+    pub(crate) l: u16,
+    pub(crate) tl: u16,
+    pub(crate) t: u16,
+}
 
 /// The sample to the right above a place, whose sample above is `t`: behind the end of a row stands
 /// its last sample (RFC 9043, 3.1).
@@ -15,4 +34,23 @@ pub(crate) fn right_above(one: &[u16], x: usize, last: usize, t: u16) -> u16
         return t;
     }
     one[x + 1]
+}
+
+/// The context of a place. `near` may be said of a set whose fourth and fifth tables have one
+/// level: then these are not looked up.
+#[inline(always)]
+pub(crate) fn context_by<A: Allocator>(
+    set: &QuantSet<A>,
+    around: &Around,
+    near: bool,
+) -> (u32, bool)
+    requires { IsTrue near → IsNear set.now }
+    ensures size { result.0 ≡ size_of set.now around.now }
+    ensures flip { result.1 ≡ flip_of set.now around.now }
+    ensures below { result.0 < contexts_of set.now }
+{
+    if near {
+        return context_near(set, around);
+    }
+    context(set, around)
 }

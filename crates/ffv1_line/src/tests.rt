@@ -420,11 +420,11 @@ fn comes_back(
     decodes_to(rt, table, set, bytes.as_slice(), row.as_slice(), bits)
 }
 
-/// Whether rows of 1, 2, 3 and 8192 samples come back, of 8 and of 9 bits.
+/// Whether rows of 1, 2, 3, 8192 and 65539 samples come back, of 8 and of 9 bits.
 fn all_come_back(rt: &HostRuntime, table: &StateTable, set: &QuantSet) -> Result<bool, Fail>
     requires fresh { AreHeld table.now (replicate 32 128) }
 {
-    for width in [1usize, 2, 3, 8192] {
+    for width in [1usize, 2, 3, 8192, 65539] {
         if !comes_back(rt, table, set, width, 8)? || !comes_back(rt, table, set, width, 9)? {
             return Ok(false);
         }

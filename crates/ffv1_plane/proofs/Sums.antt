@@ -1,10 +1,12 @@
 -- The sum of five raised entries.
-use Rattle.std.proofs.Common.{◌≡◌, refl, ap, ◌∙◌, ℕ, ◌+◌, ◌-◌, ◌<◌, ◌≤◌, true, false, [], ◌∷◌, take, arith, ℤ, pos, negsuc, ◌+ℤ◌, ◌-ℤ◌}
+use Rattle.std.proofs.Common.{◌≡◌, refl, ap, ◌∙◌, ℕ, ◌+◌, ◌-◌, ◌*◌, ◌<◌, ◌≤◌, length, unsigned_abs, true, false, [], ◌∷◌, take, arith, ℤ, pos, negsuc, ◌+ℤ◌, ◌-ℤ◌}
 use Rattle.std.proofs.lemmas.Int.{ints}
 use Rattle.ffv1_plane.specs.declared.prediction.Around.{Around}
-use Rattle.ffv1_plane.specs.Quantisation.{Set, entry_of, entry, scale_behind}
+use Rattle.ffv1_plane.specs.Quantisation.{Set, IsNear, is_filled, entry_of, entry, scale_behind}
 use Rattle.ffv1_plane.specs.Raised.{RaisedTable, AreRaised, half_of}
 use Rattle.ffv1_plane.specs.Context.{low, context_of, size_of, flip_of}
+use Rattle.ffv1_plane.proofs.Bounds.{entry_size}
+use Rattle.ffv1_plane.proofs.Scales.{each_filled}
 
 abbrev pub set_of : RaisedTable → RaisedTable → RaisedTable → RaisedTable → RaisedTable → Set
 set_of first second third fourth fifth = first.runs ∷ second.runs ∷ third.runs ∷ fourth.runs ∷ fifth.runs ∷ []
@@ -33,6 +35,25 @@ context_is first second third fourth fifth half r1 r2 r3 r4 r5 a is p q r s t =
     (at_scale fourth (scale_behind 1 (take 3 set)) (low a.ll a.l) r4 is.fourth_scale s)
     (at_scale fifth (scale_behind 1 (take 4 set)) (low a.tt a.t) r5 is.fifth_scale t)
     is.halves
+
+-- the entries of a table of one level are zeros
+level_one : (t : RaisedTable) (k : ℕ) → is_filled t.runs ≡ true → length t.runs ≡ 1 → pos 0 ≡ entry_of t.runs t.scale k +ℤ pos (half_of t)
+level_one t k filled one =
+    let none : length t.runs - 1 ≡ 0 = omega arith in
+    let size : unsigned_abs (entry_of t.runs t.scale k) ≤ t.scale * 0 = rw none at (entry_size t.runs t.scale k filled) in
+    rw none (omega (arith, ints))
+
+pub near_is : (first second third fourth fifth : RaisedTable) (half r1 r2 r3 : ℕ) (a : Around) → AreRaised first second third fourth fifth half →
+    IsNear (set_of first second third fourth fifth) →
+    pos r1 ≡ entry_of first.runs first.scale (low a.l a.tl) +ℤ pos (half_of first) →
+    pos r2 ≡ entry_of second.runs second.scale (low a.tl a.t) +ℤ pos (half_of second) →
+    pos r3 ≡ entry_of third.runs third.scale (low a.t a.tr) +ℤ pos (half_of third) →
+    context_of (set_of first second third fourth fifth) a ≡ pos (r1 + (r2 + r3)) -ℤ pos half
+near_is first second third fourth fifth half r1 r2 r3 a is near p q r =
+    let each = each_filled first.runs second.runs third.runs fourth.runs fifth.runs is.set.filled in
+    let sum : r1 + (0 + (r2 + r3 + 0)) ≡ r1 + (r2 + r3) = omega arith in
+    rw (← sum) (context_is first second third fourth fifth half r1 r2 r3 0 0 a is p q r
+    (level_one fourth (low a.ll a.l) each.fourth near.fourth) (level_one fifth (low a.tt a.t) each.fifth near.fifth))
 
 negative_is : (v : ℤ) (a b : ℕ) → v ≡ pos a -ℤ pos b → a < b → v ≡ negsuc (b - a - 1)
 negative_is v a b e h = omega (arith, ints)

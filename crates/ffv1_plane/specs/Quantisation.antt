@@ -48,6 +48,12 @@ pub record IsSet (set : Set) : Type 0 where
   pub filled : IsTrue (are_filled set)
   pub few : contexts_of set ≤ 32768
 
+-- the fourth and the fifth table have one level, so that the differences to the samples two to the
+-- left and two above count for nothing
+pub record IsNear (set : Set) : Type 0 where
+  pub fourth : length (slice_index_or set 3 []) ≡ 1
+  pub fifth : length (slice_index_or set 4 []) ≡ 1
+
 -- three tables of eleven levels and two of one, in the form of RFC 9043, 4.1: a set of this codec's
 -- own, of 666 contexts, whose differences to the samples two to the left and two above count for
 -- nothing

@@ -24,7 +24,7 @@ mod table;
 
 pub use fault::Fault;
 pub use prediction::{Around, predict};
-pub use quantisation::{QuantSet, context};
+pub use quantisation::{QuantSet, context, context_near};
 pub use residual::{fold, residual_of, sample_from, unfold};
 
 #[cfg(test)]

@@ -1,11 +1,11 @@
 //! Quantisation table sets, and the contexts of places by them.
 
 ghost use Rattle.std.specs.Prelude.{◌≡◌, ℕ, ◌+◌, ◌*◌, ◌<◌, ◌≤◌, ◌↔◌, IfOk, IsErrOf, IsOkUnless};
-ghost use Rattle.std.specs.Prelude.{IsTrue, IsFalse, length, map, slice_index_or, [], ◌∷◌};
+ghost use Rattle.std.specs.Prelude.{IsTrue, IsFalse, length, map, slice_index_or, [], ◌∷◌, pos, ◌-ℤ◌};
 ghost use Rattle.ffv1_plane.specs.declared.prediction.Around.{Around};
 ghost use Rattle.ffv1_plane.specs.Quantisation.{Set, IsSet, are_filled, contexts_of, small_set};
-ghost use Rattle.ffv1_plane.specs.Quantisation.{large_set};
-ghost use Rattle.ffv1_plane.specs.Context.{size_of, flip_of};
+ghost use Rattle.ffv1_plane.specs.Quantisation.{large_set, IsNear};
+ghost use Rattle.ffv1_plane.specs.Context.{size_of, flip_of, context_of};
 ghost use Rattle.ffv1_plane.specs.Raised.{AreRaised, table_of};
 
 use crate::fault::Fault;
@@ -203,6 +203,14 @@ impl<A: Allocator> QuantSet<A> {
         }
     }
 
+    /// Whether the samples two to the left and two above count for nothing: whether the fourth and
+    /// the fifth table have one level.
+    pub fn is_near(&self) -> bool
+        ensures { IsTrue result ↔ IsNear self.now }
+    {
+        self.fourth.runs().len() == 1 && self.fifth.runs().len() == 1
+    }
+
     /// A law of each set: it is five filled tables with at most 32768 contexts, and the number of
     /// each place's context is below the number of contexts.
     pub fn bounded(&self)
@@ -210,6 +218,23 @@ impl<A: Allocator> QuantSet<A> {
         ensures below { (a : Around) → size_of self.now a < contexts_of self.now }
     {
         let _half = self.half;
+    }
+}
+
+/// The context of a sum of raised entries: its number, which is how far the sum lies from `half`,
+/// the sum of the greatest entries, and whether it lies below.
+#[inline(always)]
+fn unraised(sum: u32, half: u32) -> (u32, bool)
+    ensures size { (set : Set) (a : Around) → context_of set a ≡ pos sum -ℤ pos half →
+        result.0 ≡ size_of set a }
+    ensures flip { (set : Set) (a : Around) → context_of set a ≡ pos sum -ℤ pos half →
+        result.1 ≡ flip_of set a }
+    ensures below { sum ≤ 2 * half → result.0 ≤ half }
+{
+    if sum < half {
+        (half - sum, true)
+    } else {
+        (sum - half, false)
     }
 }
 
@@ -227,11 +252,20 @@ pub fn context<A: Allocator>(set: &QuantSet<A>, around: &Around) -> (u32, bool)
         + set.fifth.raised(around.tt, around.t);
     let sum = set.first.raised(around.l, around.tl)
         + (set.fourth.raised(around.ll, around.l) + early);
-    if sum < set.half {
-        (set.half - sum, true)
-    } else {
-        (sum - set.half, false)
-    }
+    unraised(sum, set.half)
+}
+
+/// The same in a set whose fourth and fifth tables have one level, without a look-up in them.
+#[inline(always)]
+pub fn context_near<A: Allocator>(set: &QuantSet<A>, around: &Around) -> (u32, bool)
+    requires { IsNear set.now }
+    ensures size { result.0 ≡ size_of set.now around.now }
+    ensures flip { result.1 ≡ flip_of set.now around.now }
+    ensures below { result.0 < contexts_of set.now }
+{
+    let early = set.second.raised(around.tl, around.t) + set.third.raised(around.t, around.tr);
+    let sum = set.first.raised(around.l, around.tl) + early;
+    unraised(sum, set.half)
 }
 
 /// Two sets are equal where their tables have the same runs, and so the same entries.

@@ -1,7 +1,9 @@
 //! Values computed outside the program from the standard's text, and plain slow programs beside the
 //! fast ones.
 
-use crate::{Around, Fault, QuantSet, context, fold, predict, residual_of, sample_from, unfold};
+use crate::{
+    Around, Fault, QuantSet, context, context_near, fold, predict, residual_of, sample_from, unfold,
+};
 use std::alloc::Allocator;
 use std::process::Abort;
 use std::test::Fail;
@@ -370,6 +372,7 @@ fn entry(runs: &[u8], scale: i32, k: u32) -> i32 {
 
 /// Each entry of each table, looked up alone, is that of the plain program.
 fn compare<A: Allocator>(rt: &impl Abort, set: &QuantSet<A>) {
+    let near = set.is_near();
     let mut scale = 1i32;
     for table in 0..5usize {
         for k in 0..256u16 {
@@ -394,10 +397,23 @@ fn compare<A: Allocator>(rt: &impl Abort, set: &QuantSet<A>) {
                 size == expected.unsigned_abs() && flip == (expected < 0),
                 "table {table}, difference {k}"
             );
+            if near {
+                assert_eq!(rt; context_near(set, &around), (size, flip));
+            }
         }
         let levels = set.runs(table).len() as i64;
         scale = scale.wrapping_mul((levels % 256) as i32 * 2 - 1);
     }
+}
+
+#[test]
+fn tells_sets_without_far_samples(rt: HostRuntime) -> Result<(), Fail> {
+    let (one, five) = (ONE.as_slice(), FIVE.as_slice());
+    assert!(rt; QuantSet::small(rt.alloc())?.is_near());
+    assert!(rt; !QuantSet::large(rt.alloc())?.is_near());
+    assert!(rt; !QuantSet::from_runs(rt.alloc(), &[one, one, one, five, one])?.is_near());
+    assert!(rt; !QuantSet::from_runs(rt.alloc(), &[one, one, one, one, five])?.is_near());
+    Ok(())
 }
 
 #[test]

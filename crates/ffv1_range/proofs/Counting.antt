@@ -2,6 +2,7 @@
 use Rattle.std.proofs.Common.{◌≡◌, refl, ℕ, zero, suc, ◌+◌, ◌-◌, ◌*◌, ◌/◌, ◌≤◌, Bool, true, false, List, [], ◌∷◌, ◌++◌, length, min, arith, ap, ◌∙◌, length-append}
 use Rattle.ffv1_range.specs.Weight.{one_if, ones, zeros}
 use Rattle.ffv1_range.specs.Table.{Table}
+use Rattle.ffv1_range.specs.declared.tally.Sums.{Sums}
 use Rattle.ffv1_range.specs.History.{decisions_after}
 use Rattle.ffv1_range.specs.Symbols.{Step, raising, exponent, exponent_steps, mantissa_steps, magnitude_steps, sized_steps, too_long, shifted, decided, stepped}
 use Rattle.ffv1_range.specs.Counts.{Counts, saturated, total, uncounted, ones_in, zeros_in, GoesOn, Counted}
@@ -45,6 +46,17 @@ pub counted_by : (a b : Counts) (ss : List Step) (u z : ℕ) → a.ones ≤ 1844
     b.ones ≡ saturated (a.ones + u) → b.zeros ≡ saturated (a.zeros + z) → u ≡ ones_in ss → u + z ≡ length ss → Counted a ss b
 counted_by a b ss u z fits_ones fits_zeros of_ones of_zeros ones all =
     let sum = steps_counted ss in
+    record { of_ones = λ n h. omega arith; of_zeros = λ n h. omega arith; of_all = λ n h. omega arith }
+
+-- counts that stay as they were, with sums that go on by the steps
+pub summed_counts : (a b : Counts) (before after : Sums) (ss : List Step) (u z : ℕ) → b ≡ a →
+    after.ones ≡ before.ones + u → after.zeros ≡ before.zeros + z → u ≡ ones_in ss → u + z ≡ length ss →
+    Counted (record { ones = saturated (a.ones + before.ones); zeros = saturated (a.zeros + before.zeros) }) ss
+    (record { ones = saturated (b.ones + after.ones); zeros = saturated (b.zeros + after.zeros) })
+summed_counts a b before after ss u z same of_ones of_zeros ones all =
+    let sum = steps_counted ss in
+    let one : b.ones ≡ a.ones = ap (λ (c : Counts). c.ones) same in
+    let zero : b.zeros ≡ a.zeros = ap (λ (c : Counts). c.zeros) same in
     record { of_ones = λ n h. omega arith; of_zeros = λ n h. omega arith; of_all = λ n h. omega arith }
 
 pub shifted_ones : (base : ℕ) (ss : List Step) → ones_in (shifted base ss) ≡ ones_in ss

@@ -1,17 +1,18 @@
 -- Steps one after another.
-use Rattle.std.proofs.Common.{◌≡◌, refl, ℕ, ◌+◌, List, [], ◌∷◌, ◌++◌, min, ap, sym, subst, ◌∙◌, add-one, true}
+use Rattle.std.proofs.Common.{◌≡◌, refl, ℕ, ◌+◌, List, [], ◌∷◌, ◌++◌, length, min, ap, sym, subst, ◌∙◌, add-one, true}
 use Rattle.ffv1_range.specs.Interval.{Decision, narrowed, start, interval_of}
 use Rattle.ffv1_range.specs.Codes.{AreStates}
 use Rattle.ffv1_range.specs.Table.{Table}
-use Rattle.ffv1_range.specs.Reading.{Reading, At}
+use Rattle.ffv1_range.specs.Reading.{Reading, At, summed}
+use Rattle.ffv1_range.specs.declared.tally.Sums.{Sums}
 use Rattle.ffv1_range.specs.Symbols.{Step, raising, stepped, moved_by, decided}
-use Rattle.ffv1_range.specs.Counts.{Counts, Counted}
+use Rattle.ffv1_range.specs.Counts.{Counts, Counted, ones_in}
 use Rattle.ffv1_range.specs.Follows.{Follows}
-use Rattle.ffv1_range.specs.Writing.{Writing}
+use Rattle.ffv1_range.specs.Writing.{Writing, summed_writing}
 use Rattle.ffv1_range.specs.Puts.{Puts}
 use Rattle.ffv1_range.specs.Internal.Registers.{Reads, Writes}
 use Rattle.ffv1_range.proofs.Nested.{narrowed-append}
-use Rattle.ffv1_range.proofs.Counting.{counted_none, counted_append}
+use Rattle.ffv1_range.proofs.Counting.{counted_none, counted_append, summed_counts}
 
 pub moved_by-append : (t : Table) (states : List ℕ) (xs ys : List Step) → moved_by t states (xs ++ ys) ≡ moved_by t (moved_by t states xs) ys
 moved_by-append t states [] ys = refl
@@ -71,6 +72,19 @@ reads_counted t a b c ss ts xs reads same counts = record {
   named = reads.named;
 }
 
+-- the same by sums, which are added to the counts of either side
+pub reads_summed : (t : Table) (a b : Reading) (ss ts : List ℕ) (xs : List Step) (before after : Sums) (u z : ℕ) → Reads t a ss b ts xs →
+    after ≡ record { ones = before.ones + u; zeros = before.zeros + z } → u ≡ ones_in xs → u + z ≡ length xs → Follows t (summed a before) ss (summed b after) ts xs
+reads_summed t a b ss ts xs before after u z reads goes_on ones all = record {
+  bytes = reads.bytes;
+  at = λ i h.
+      let now = reads.at i (record { inside = h.inside; width = h.width; gap = h.gap; renormalisations = h.renormalisations }) in
+      record { inside = now.inside; width = now.width; gap = now.gap; renormalisations = now.renormalisations };
+  counts = summed_counts a.counts b.counts before after xs u z reads.counts (ap (λ (s : Sums). s.ones) goes_on) (ap (λ (s : Sums). s.zeros) goes_on) ones all;
+  moves = reads.moves;
+  named = reads.named;
+}
+
 pub raising-add-one : (k : ℕ) → raising (k + 1) ≡ raising k ++ (record { slot = 1 + min k 9; bit = true } ∷ [])
 unfolding raising
 raising-add-one k = rw add-one refl
@@ -111,6 +125,18 @@ pub writes_counted : (t : Table) (a b c d : Writing) (ss ts : List ℕ) (xs : Li
 writes_counted t a b c d ss ts xs writes before after failed counts = record {
   interval = after ∙ writes.interval ∙ ap (λ i. narrowed i (decided t ss xs)) before;
   counts = counts;
+  failed = failed;
+  moves = writes.moves;
+  named = writes.named;
+}
+
+-- the same by sums, which are added to the counts of either side
+pub writes_summed : (t : Table) (a b c d : Writing) (ss ts : List ℕ) (xs : List Step) (before after : Sums) (u z : ℕ) →
+    Writes t a ss b ts xs → a.interval ≡ c.interval → d.interval ≡ b.interval → d.failed ≡ c.failed → d.counts ≡ c.counts →
+    after ≡ record { ones = before.ones + u; zeros = before.zeros + z } → u ≡ ones_in xs → u + z ≡ length xs → Puts t (summed_writing c before) ss (summed_writing d after) ts xs
+writes_summed t a b c d ss ts xs before after u z writes first last failed counts goes_on ones all = record {
+  interval = last ∙ writes.interval ∙ ap (λ i. narrowed i (decided t ss xs)) first;
+  counts = summed_counts c.counts d.counts before after xs u z counts (ap (λ (s : Sums). s.ones) goes_on) (ap (λ (s : Sums). s.zeros) goes_on) ones all;
   failed = failed;
   moves = writes.moves;
   named = writes.named;

@@ -2,7 +2,8 @@
 use Rattle.std.specs.Prelude.{◌≡◌, ℕ, ◌+◌, ◌^◌, min, List}
 use Rattle.ffv1_range.specs.Interval.{Interval}
 use Rattle.ffv1_range.specs.Codes.{value, Inside}
-use Rattle.ffv1_range.specs.Counts.{Counts}
+use Rattle.ffv1_range.specs.Counts.{Counts, saturated}
+use Rattle.ffv1_range.specs.declared.tally.Sums.{Sums}
 
 -- what a decoder holds: the bytes, the width of its interval, how far the upper end of the interval
 -- lies above the number of the bytes, how often it renormalised, and what it decided
@@ -44,4 +45,17 @@ resumed p bytes = record {
   gap = p.gap;
   renormalisations = p.renormalisations;
   counts = p.counts;
+}
+
+-- a decoder whose counts go on by sums
+abbrev pub summed : Reading → Sums → Reading
+summed r s = record {
+  bytes = r.bytes;
+  width = r.width;
+  gap = r.gap;
+  renormalisations = r.renormalisations;
+  counts = record {
+    ones = saturated (r.counts.ones + s.ones);
+    zeros = saturated (r.counts.zeros + s.zeros);
+  };
 }

@@ -5,7 +5,7 @@ ghost use Rattle.std.specs.Prelude.{slice_index, slice_set, List, [], ◌∷◌,
 ghost use Rattle.ffv1_range.specs.Interval.{Interval, narrow, renormalised, start};
 ghost use Rattle.ffv1_range.specs.Codes.{value};
 ghost use Rattle.ffv1_range.specs.Table.{moved, Holds};
-ghost use Rattle.ffv1_range.specs.Reading.{At, paused};
+ghost use Rattle.ffv1_range.specs.Reading.{At, paused, summed};
 ghost use Rattle.ffv1_range.specs.Follows.{Follows};
 ghost use Rattle.ffv1_range.specs.Counts.{uncounted, counted, saturated, total};
 
@@ -13,7 +13,7 @@ use crate::encoder::FIRST_WIDTH;
 use crate::fault::Fault;
 use crate::parked::Parked;
 use crate::table::StateTable;
-use crate::tally::Tally;
+use crate::tally::{Sums, Tally};
 use std::alloc::AllocError;
 use std::marker::Model;
 
@@ -129,6 +129,25 @@ impl<'a> RangeDecoder<'a> {
             ones: self.ones,
             zeros: self.zeros,
         }
+    }
+
+    /// Sums of nothing, by which its counts stay as they are.
+    #[inline(always)]
+    pub fn sums(&self) -> Sums
+        ensures none { result ≡ record { ones = 0; zeros = 0 } }
+        ensures stays { summed self.now result ≡ self.now }
+    {
+        let (_ones, _zeros) = (self.ones, self.zeros);
+        Sums { ones: 0, zeros: 0 }
+    }
+
+    /// Its counts go on by sums.
+    #[inline(always)]
+    pub fn count_all(&mut self, sums: &Sums)
+        ensures { self.new ≡ summed self.old sums.now }
+    {
+        self.ones = self.ones.saturating_add(u64::from(sums.ones));
+        self.zeros = self.zeros.saturating_add(u64::from(sums.zeros));
     }
 
     /// The next decision, by a state that the table holds. The state moves by the decision.

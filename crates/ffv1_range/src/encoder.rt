@@ -7,7 +7,7 @@ ghost use Rattle.ffv1_range.specs.Interval.{Decision, narrow, part, renormalised
 ghost use Rattle.ffv1_range.specs.Codes.{value, sentinel_of, full_of, rounded_of, AreBytes};
 ghost use Rattle.ffv1_range.specs.Codes.{AreStates, Codes};
 ghost use Rattle.ffv1_range.specs.Table.{Table, moved, Holds};
-ghost use Rattle.ffv1_range.specs.Writing.{unwritten};
+ghost use Rattle.ffv1_range.specs.Writing.{unwritten, summed_writing};
 ghost use Rattle.ffv1_range.specs.Counts.{counted, total};
 ghost use Rattle.ffv1_range.specs.Symbols.{Step};
 ghost use Rattle.ffv1_range.specs.History.{AreBelow, decisions_after};
@@ -16,7 +16,7 @@ ghost use Rattle.ffv1_range.specs.Internal.Registers.{interval_from, IsWriting, 
 
 use crate::fault::Fault;
 use crate::table::StateTable;
-use crate::tally::Tally;
+use crate::tally::{Sums, Tally};
 use std::alloc::{AllocError, Allocator, Global};
 use std::marker::Model;
 
@@ -117,6 +117,25 @@ impl<A: Allocator> RangeEncoder<A> {
         ensures { result ≡ self.now.failed }
     {
         self.failed
+    }
+
+    /// Sums of nothing, by which its counts stay as they are.
+    #[inline(always)]
+    pub fn sums(&self) -> Sums
+        ensures none { result ≡ record { ones = 0; zeros = 0 } }
+        ensures stays { summed_writing self.now result ≡ self.now }
+    {
+        let (_ones, _zeros) = (self.ones, self.zeros);
+        Sums { ones: 0, zeros: 0 }
+    }
+
+    /// Its counts go on by sums.
+    #[inline(always)]
+    pub fn count_all(&mut self, sums: &Sums)
+        ensures { self.new ≡ summed_writing self.old sums.now }
+    {
+        self.ones = self.ones.saturating_add(u64::from(sums.ones));
+        self.zeros = self.zeros.saturating_add(u64::from(sums.zeros));
     }
 
     /// How many decisions were put, at most 2^64 - 1.

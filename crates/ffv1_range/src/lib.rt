@@ -36,7 +36,7 @@ pub use encoder::RangeEncoder;
 pub use fault::Fault;
 pub use parked::Parked;
 pub use table::StateTable;
-pub use tally::Tally;
+pub use tally::{Sums, Tally};
 
 #[cfg(test)]
 mod tests;

@@ -7,11 +7,13 @@ ghost use Rattle.ffv1_range.specs.Symbols.{exponent_steps, mantissa_steps, raisi
 ghost use Rattle.ffv1_range.specs.Symbols.{unsigned_steps, too_long};
 ghost use Rattle.ffv1_range.specs.Counts.{ones_in, Counted};
 ghost use Rattle.ffv1_range.specs.Follows.{Follows};
+ghost use Rattle.ffv1_range.specs.Reading.{summed};
 ghost use Rattle.ffv1_range.specs.Internal.Registers.{Reads};
 
 use crate::decoder::RangeDecoder;
 use crate::fault::Fault;
 use crate::table::StateTable;
+use crate::tally::Sums;
 
 /// The slot of the decision whether a number is zero.
 pub(crate) const ZERO: usize = 0;
@@ -206,19 +208,45 @@ impl RangeDecoder<'_> {
             Follows table.now self.old states.old self.new states.new too_long) }
         ensures held { AreHeld table.now states.new }
     {
+        let mut sums = self.sums();
+        let read = self.sum_signed(&mut sums, table, states);
+        self.count_all(&sums);
+        read
+    }
+
+    /// The same, but that its decisions are counted in `sums` and not yet in the decoder's counts.
+    /// Sums below 2^32 - 63 have room for them.
+    #[inline(always)]
+    fn sum_signed(
+        &mut self,
+        sums: &mut Sums,
+        table: &StateTable,
+        states: &mut [u8],
+    ) -> Result<i32, Fault>
+        requires held { AreHeld table.now states.old }
+        requires room { sums.old.ones + sums.old.zeros + 63 < 2 ^ 32 }
+        ensures follows { IfOk result (λ v. Follows table.now (summed self.old sums.old) states.old
+            (summed self.new sums.new) states.new (signed_steps v)) }
+        ensures size { IfOk result (λ v. unsigned_abs v < 2 ^ 31) }
+        ensures refused { IfErr result (λ f. (f ≡ Fault.SymbolTooLong) ×
+            Follows table.now (summed self.old sums.old) states.old (summed self.new sums.new)
+            states.new too_long) }
+        ensures few { sums.new.ones + sums.new.zeros ≤ sums.old.ones + sums.old.zeros + 63 }
+        ensures held { AreHeld table.now states.new }
+    {
         if decide_slot(self, table, states, ZERO) {
-            self.count(1, 0);
+            sums.count(1, 0);
             return Ok(0);
         }
         let Ok(exponent) = get_exponent(self, table, states) else {
-            self.count(31, 1);
+            sums.count(31, 1);
             return Err(Fault::SymbolTooLong);
         };
         let number = get_mantissa(self, table, states, exponent);
         let ones = ones_below(number);
         let negative = choose_slot(self, table, states, sign_slot(exponent));
         let ones = exponent + ones + u32::from(negative);
-        self.count(ones, 2 * exponent + 3 - ones);
+        sums.count(ones, 2 * exponent + 3 - ones);
         if negative {
             return Ok(-(number as i32));
         }
@@ -274,6 +302,36 @@ impl RangeDecoder<'_> {
         let base = row * 32;
         // By arms: what each outcome says of the row is lifted to all states in its own arm.
         match self.get_signed(table, &mut states[base..base + 32]) {
+            Ok(number) => Ok(number),
+            Err(refused) => Err(refused),
+        }
+    }
+
+    /// The same, but that its decisions are counted in `sums` and not yet in the decoder's counts.
+    /// Sums below 2^32 - 63 have room for them.
+    #[inline(always)]
+    pub fn sum_signed_in_row(
+        &mut self,
+        sums: &mut Sums,
+        table: &StateTable,
+        states: &mut [u8],
+        row: usize,
+    ) -> Result<i32, Fault>
+        requires rows { row * 32 + 32 ≤ length states.old }
+        requires held { AllHeld table.now states.old }
+        requires room { sums.old.ones + sums.old.zeros + 63 < 2 ^ 32 }
+        ensures follows { IfOk result (λ v. Follows table.now (summed self.old sums.old) states.old
+            (summed self.new sums.new) states.new (shifted (row * 32) (signed_steps v))) }
+        ensures size { IfOk result (λ v. unsigned_abs v < 2 ^ 31) }
+        ensures refused { IfErr result (λ f. (f ≡ Fault.SymbolTooLong) ×
+            Follows table.now (summed self.old sums.old) states.old (summed self.new sums.new)
+            states.new (shifted (row * 32) too_long)) }
+        ensures few { sums.new.ones + sums.new.zeros ≤ sums.old.ones + sums.old.zeros + 63 }
+        ensures held { AllHeld table.now states.new }
+    {
+        let base = row * 32;
+        // By arms: what each outcome says of the row is lifted to all states in its own arm.
+        match self.sum_signed(sums, table, &mut states[base..base + 32]) {
             Ok(number) => Ok(number),
             Err(refused) => Err(refused),
         }

@@ -7,12 +7,14 @@ ghost use Rattle.ffv1_range.specs.Symbols.{mantissa_steps, magnitude_steps, sign
 ghost use Rattle.ffv1_range.specs.Symbols.{unsigned_steps};
 ghost use Rattle.ffv1_range.specs.Counts.{ones_in, Counted};
 ghost use Rattle.ffv1_range.specs.Puts.{Puts, Grows, MayBeRefused};
+ghost use Rattle.ffv1_range.specs.Writing.{summed_writing};
 ghost use Rattle.ffv1_range.specs.Internal.Registers.{Writes, IsWriting, interval_from, standing};
 
 use crate::encoder::{RangeEncoder, Span, narrow_by};
 use crate::fault::Fault;
 use crate::reading::{EXPONENT, MANTISSA, ZERO, ones_below, sign_slot};
 use crate::table::StateTable;
+use crate::tally::Sums;
 use std::alloc::{AllocError, Allocator};
 
 /// A decision at a slot.
@@ -262,6 +264,34 @@ impl<A: Allocator> RangeEncoder<A> {
         ensures held { AreHeld table.now states.new }
         ensures err { IfErr result (λ f. (f ≡ Fault.OutOfMemory) × IsTrue self.new.failed) }
     {
+        let mut sums = self.sums();
+        let written = self.sum_signed(&mut sums, table, states, value);
+        self.count_all(&sums);
+        written
+    }
+
+    /// The same, but that its decisions are counted in `sums` and not yet in the encoder's counts.
+    /// Sums below 2^32 - 63 have room for them.
+    #[inline(always)]
+    fn sum_signed(
+        &mut self,
+        sums: &mut Sums,
+        table: &StateTable,
+        states: &mut [u8],
+        value: i32,
+    ) -> Result<(), Fault>
+        requires sound { self.old.failed ≡ false }
+        requires held { AreHeld table.now states.old }
+        requires size { unsigned_abs value < 2 ^ 31 }
+        requires room { sums.old.ones + sums.old.zeros + 63 < 2 ^ 32 }
+        ensures ok { OnOk result (Puts table.now (summed_writing self.old sums.old) states.old
+            (summed_writing self.new sums.new) states.new (signed_steps value)) }
+        ensures refused { OnErr result (MayBeRefused table.now self.old states.old
+            (signed_steps value)) }
+        ensures few { sums.new.ones + sums.new.zeros ≤ sums.old.ones + sums.old.zeros + 63 }
+        ensures held { AreHeld table.now states.new }
+        ensures err { IfErr result (λ f. (f ≡ Fault.OutOfMemory) × IsTrue self.new.failed) }
+    {
         let mut span = Span {
             low: self.low,
             width: self.width,
@@ -275,12 +305,12 @@ impl<A: Allocator> RangeEncoder<A> {
         };
         let number = value.unsigned_abs();
         if number == 0 {
-            self.count(1, 0);
+            sums.count(1, 0);
             return Ok(());
         }
         let exponent = 31 - number.leading_zeros();
         let ones = exponent + ones_below(number) + u32::from(value < 0);
-        self.count(ones, 2 * exponent + 3 - ones);
+        sums.count(ones, 2 * exponent + 3 - ones);
         Ok(())
     }
 
@@ -352,6 +382,39 @@ impl<A: Allocator> RangeEncoder<A> {
         let base = row * 32;
         // By arms: what each outcome says of the row is lifted to all states in its own arm.
         match self.write_signed(table, &mut states[base..base + 32], value) {
+            Ok(()) => Ok(()),
+            Err(refused) => Err(refused),
+        }
+    }
+
+    /// The same, but that its decisions are counted in `sums` and not yet in the encoder's counts.
+    /// Sums below 2^32 - 63 have room for them.
+    #[inline(always)]
+    pub fn sum_signed_in_row(
+        &mut self,
+        sums: &mut Sums,
+        table: &StateTable,
+        states: &mut [u8],
+        row: usize,
+        value: i32,
+    ) -> Result<(), Fault>
+        requires sound { self.old.failed ≡ false }
+        requires rows { row * 32 + 32 ≤ length states.old }
+        requires held { AllHeld table.now states.old }
+        requires size { unsigned_abs value < 2 ^ 31 }
+        requires room { sums.old.ones + sums.old.zeros + 63 < 2 ^ 32 }
+        ensures ok { OnOk result (Puts table.now (summed_writing self.old sums.old) states.old
+            (summed_writing self.new sums.new) states.new
+            (shifted (row * 32) (signed_steps value))) }
+        ensures refused { OnErr result (MayBeRefused table.now self.old states.old
+            (shifted (row * 32) (signed_steps value))) }
+        ensures few { sums.new.ones + sums.new.zeros ≤ sums.old.ones + sums.old.zeros + 63 }
+        ensures held { AllHeld table.now states.new }
+        ensures err { IfErr result (λ f. (f ≡ Fault.OutOfMemory) × IsTrue self.new.failed) }
+    {
+        let base = row * 32;
+        // By arms: what each outcome says of the row is lifted to all states in its own arm.
+        match self.sum_signed(sums, table, &mut states[base..base + 32], value) {
             Ok(()) => Ok(()),
             Err(refused) => Err(refused),
         }

@@ -6,19 +6,19 @@ use Rattle.std.specs.Int.{w32}
 use mir.Val.{to_z, of_z}
 use Rattle.std.proofs.Math.Pow.{pow_pos}
 use Rattle.ffv1_range.proofs.Signed.{exponent_is, sized_reads, positive_steps, negative_steps}
-use Rattle.ffv1_range.proofs.Steps.{reads_counted, reads_append}
+use Rattle.ffv1_range.proofs.Steps.{reads_summed, reads_append}
 use Rattle.ffv1_range.proofs.Counting.{symbol_ones, symbol_length, too_long_ones, too_long_length}
-use Rattle.ffv1_range.proofs.decoder.RangeDecoder.get_signed.Goals as goal
+use Rattle.ffv1_range.proofs.decoder.RangeDecoder.sum_signed.Goals as goal
 
 pub returns-then-decide_slot-clause-follows : goal.returns-then-decide_slot-clause-follows
 returns-then-decide_slot-clause-follows c =
-    reads_counted _ _ _ _ _ _ _ c.if-decide_slot.ensures.reads c.count.ensures.rest (c.count.ensures.counts _ refl refl)
+    reads_summed _ _ _ _ _ _ _ _ 1 0 c.if-decide_slot.ensures.reads c.count.ensures refl refl
 
 pub returns-in_default-clause-refused : goal.returns-in_default-clause-refused
 returns-in_default-clause-refused c = (
   refl,
-  reads_counted _ _ _ _ _ _ _ (reads_append _ _ _ _ _ _ _ _ _ c.if-decide_slot.ensures.reads c.in_default.ensures.refused) c.count-in_default.ensures.rest
-      (c.count-in_default.ensures.counts _ (sym too_long_ones) (sym too_long_length)),
+  reads_summed _ _ _ _ _ _ _ _ 31 1 (reads_append _ _ _ _ _ _ _ _ _ c.if-decide_slot.ensures.reads c.in_default.ensures.refused) c.count-in_default.ensures
+      (sym too_long_ones) (sym too_long_length),
 )
 
 pub returns-then-negative-clause-follows : goal.returns-then-negative-clause-follows
@@ -35,7 +35,7 @@ returns-then-negative-clause-follows c =
     let reads = sized_reads _ _ _ _ _ _ _ _ _ _ _ c.in-Ok.exponent _ _ c.in-Ok.ensures.small c.get_mantissa-number.ensures.least c.get_mantissa-number.ensures.most
     c.if-decide_slot.ensures.reads c.in-Ok.ensures.reads c.get_mantissa-number.ensures.reads last in
     rw (is, negative_steps)
-    (reads_counted _ _ _ _ _ _ _ reads c.count-2.ensures.rest (c.count-2.ensures.counts _ (omega arith) (omega arith)))
+    (reads_summed _ _ _ _ _ _ _ _ _ _ reads c.count-2.ensures (omega arith) (omega arith))
 
 pub returns-clause-follows : goal.returns-clause-follows
 returns-clause-follows c =
@@ -51,7 +51,7 @@ returns-clause-follows c =
     let reads = sized_reads _ _ _ _ _ _ _ _ _ _ _ c.in-Ok.exponent _ _ c.in-Ok.ensures.small c.get_mantissa-number.ensures.least c.get_mantissa-number.ensures.most
     c.if-decide_slot.ensures.reads c.in-Ok.ensures.reads c.get_mantissa-number.ensures.reads last in
     rw (is, positive_steps)
-    (reads_counted _ _ _ _ _ _ _ reads c.count-2.ensures.rest (c.count-2.ensures.counts _ (omega arith) (omega arith)))
+    (reads_summed _ _ _ _ _ _ _ _ _ _ reads c.count-2.ensures (omega arith) (omega arith))
 
 pub overflow_sub-exponent : goal.overflow_sub-exponent
 overflow_sub-exponent c =

@@ -1,0 +1,2 @@
+-- What ties variables of the code to the definitions. No public clause cites it.
+pub mod Along
