@@ -24,7 +24,7 @@ class Refused(Exception):
 
 
 class Help(Exception):
-    """A command line that asks for help: status 0."""
+    """A command line that asks for help or the version: status 0."""
 
 
 def number(least, most):
@@ -59,9 +59,9 @@ COMMANDS = {
         "coder": (number(1, 2), 1), "contexts": (one_of("small", "large"), "small"),
         "columns": (number(1, 32), 1), "rows": (number(1, 32), 1), "ec": (number(0, 1), 1),
         "rate": (number(1, 2 ** 32 - 1), 25), "scale": (number(1, 2 ** 32 - 1), 1),
-    }),
-    "unpack": Level(2),
-    "check": Level(1, flags=["place"]),
+    }, flags=["progress"]),
+    "unpack": Level(2, flags=["progress"]),
+    "check": Level(1, flags=["place", "progress"]),
     "show": Level(1, flags=["cost"]),
     "trial": Level(1),
 }
@@ -128,7 +128,7 @@ def words(line):
     name, *rest = line or [""]
     if name == "help" and (not rest or rest in [[known] for known in [*COMMANDS, "help"]]):
         raise Help(name)
-    if is_help(name):
+    if is_help(name) or name == "--version" or name.startswith("-V"):
         raise Help(name)
     if name not in COMMANDS:
         raise Refused(name)
@@ -284,6 +284,8 @@ def shown(head, config):
         f"colour {'RCT' if config.rct else 'YCbCr'}", f"chroma {chroma}",
         *["extra 1"] * config.extra, f"slices {config.columns}x{config.rows}",
         " ".join(["contexts", *(str(ffv1.contexts_of(runs)) for runs in config.sets)]),
+        *["note other programs refuse sets of more than 16384 contexts"]
+        * any(ffv1.contexts_of(runs) > 16384 for runs in config.sets),
         f"ec {config.ec}", f"intra {config.intra}", f"rate {head.rate}/{head.scale}",
         f"held states {states} samples {samples} output {output} columns {columns} offsets 1025",
     ]

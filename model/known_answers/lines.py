@@ -10,12 +10,18 @@ PACKS = [
     ("pack - out", WITH), ("pack trial out", WITH), ("pack in -- out", WITH),
     ("pack --columns 1 --rows 1 --coder 1 --contexts small in out --ec 0", WITHOUT),
     ("pack --rate 4294967295 --scale 4294967295 --ec 0 in out", WITHOUT),
+    ("pack --progress in out", WITH), ("pack in out --progress --ec 0", WITHOUT),
+    ("pack -- in --progress", WITH),
 ]
-CHECKS = ["check out", "check --place out", "check out --place", "check -- out"]
+CHECKS = [
+    "check out", "check --place out", "check out --place", "check -- out", "check --progress out",
+    "check out --place --progress",
+]
 HELPS = [
     "-h", "--help", "help", "-hx", "help pack", "help unpack", "help check", "help show",
     "help trial", "pack --help", "pack -h", "unpack in --help", "check --help out in", "show -h",
     "trial --help", "pack --ec 0 in out -h", "pack in in --help", "--help pack in out",
+    "--version", "-V", "-Vx", "--version pack in out",
 ]
 
 
@@ -32,11 +38,12 @@ def taken_lines():
 
 
 REFUSED = [
-    "", "code", "pac in out", "-x", "--version", "help code", "help pack in", "-- pack in out",
+    "", "code", "pac in out", "-x", "pack --version", "help code", "help pack in", "-- pack in out",
     "--ec 0 pack in out", "pack", "pack in", "pack in out more", "unpack in", "unpack in out x",
     "check", "check in out", "show", "show in out", "trial", "trial in out",
     "pack --deep in out", "pack -e 0 in out", "pack in out -1", "unpack --ec 0 in out",
-    "check --cost in", "show --place in", "trial --place in", "pack --place in out",
+    "check --cost in", "show --place in", "show --progress in", "trial --progress in",
+    "--progress check in", "check --progress --progress in", "unpack --progress=1 in out", "trial --place in", "pack --place in out",
     "pack --coder 0 in out", "pack --coder 3 in out", "pack --coder x in out",
     "pack --contexts medium in out", "pack --contexts Small in out", "pack --contexts= in out",
     "pack --columns 0 in out", "pack --columns 33 in out", "pack --columns=-1 in out",

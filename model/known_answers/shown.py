@@ -30,6 +30,7 @@ colour RCT
 chroma 0,0
 slices 2x3
 contexts 16638
+note other programs refuse sets of more than 16384 contexts
 ec 0
 intra 1
 rate 30000/1001
@@ -87,6 +88,7 @@ colour RCT
 chroma 0,0
 slices 4x1
 contexts 666 16638
+note other programs refuse sets of more than 16384 contexts
 ec 1
 intra 1
 rate 0/0

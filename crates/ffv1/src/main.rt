@@ -4,11 +4,16 @@
 
 ghost use Rattle.std.specs.Prelude.{◌≡◌, IsOk, IsErr};
 
+mod progress;
+
 use ffv1_engine::{Choice, Fault, Order, check, pack, show, trial, unpack, words};
 use ffv1_wire::{FromRead, ToWrite};
+use progress::Watched;
 use std::alloc::Global;
+use std::fs::OpenFile;
 use std::process::ExitCode;
 use std::rt::Files;
+use std::time::Clock;
 use std::{env, fs, io};
 
 /// Codes and decodes the mono picture of a file, and prints what it found.
@@ -21,22 +26,36 @@ fn run_trial(rt: &(impl Files + Print), alloc: Global, input: &str) -> Result<()
     trial(alloc, &mut reader, &mut writer)
 }
 
+/// Opens a file whose reader tells how much was read, where that is asked for.
+fn open_watched<'a, H: Files + Eprint + Clock>(
+    rt: &'a H,
+    input: &str,
+    progress: bool,
+) -> Result<Watched<'a, FromRead<H::File>, H>, Fault> {
+    let Ok(file) = fs::open(rt, input) else {
+        return Err(Fault::Read);
+    };
+    let size = match file.metadata() {
+        Ok(metadata) if metadata.is_file() => Some(metadata.len()),
+        _ => None,
+    };
+    Ok(Watched::new(rt, FromRead::new(file), size, progress))
+}
+
 /// Packs the video of a file into another one, and prints how many frames and bytes of them there
 /// are. The input is opened first, and then the output is made empty.
 fn run_pack(
-    rt: &(impl Files + Print),
+    rt: &(impl Files + Print + Eprint + Clock),
     alloc: Global,
     input: &str,
     output: &str,
     choice: &Choice,
+    progress: bool,
 ) -> Result<(), Fault> {
-    let Ok(file) = fs::open(rt, input) else {
-        return Err(Fault::Read);
-    };
+    let mut reader = open_watched(rt, input, progress)?;
     let Ok(made) = fs::create(rt, output) else {
         return Err(Fault::Write);
     };
-    let mut reader = FromRead::new(file);
     let mut writer = ToWrite::new(made);
     let packed = pack(alloc, &mut reader, &mut writer, choice)?;
     if println!(rt; "frames {} bytes {}", packed.frames, packed.bytes).is_err() {
@@ -48,18 +67,16 @@ fn run_pack(
 /// Unpacks a file into a text of its pictures, and prints how many there are. The input is opened
 /// first, and then the output is made empty.
 fn run_unpack(
-    rt: &(impl Files + Print),
+    rt: &(impl Files + Print + Eprint + Clock),
     alloc: Global,
     input: &str,
     output: &str,
+    progress: bool,
 ) -> Result<(), Fault> {
-    let Ok(file) = fs::open(rt, input) else {
-        return Err(Fault::Read);
-    };
+    let mut reader = open_watched(rt, input, progress)?;
     let Ok(made) = fs::create(rt, output) else {
         return Err(Fault::Write);
     };
-    let mut reader = FromRead::new(file);
     let (_written, answer) = unpack(alloc, &mut reader, ToWrite::new(made));
     let frames = answer?;
     if println!(rt; "frames {frames}").is_err() {
@@ -70,15 +87,13 @@ fn run_unpack(
 
 /// Decodes all frames of a file, and prints what each took, and with `place` where one is refused.
 fn run_check(
-    rt: &(impl Files + Print),
+    rt: &(impl Files + Print + Eprint + Clock),
     alloc: Global,
     input: &str,
     place: bool,
+    progress: bool,
 ) -> Result<(), Fault> {
-    let Ok(file) = fs::open(rt, input) else {
-        return Err(Fault::Read);
-    };
-    let mut reader = FromRead::new(file);
+    let mut reader = open_watched(rt, input, progress)?;
     let mut writer = ToWrite::new(io::writer(rt));
     check(alloc, &mut reader, &mut writer, place)
 }
@@ -99,15 +114,28 @@ fn run_show(
 }
 
 /// Does what an order asks for.
-fn run(rt: &(impl Files + Print), alloc: Global, order: Order<'_>) -> Result<(), Fault> {
+fn run(
+    rt: &(impl Files + Print + Eprint + Clock),
+    alloc: Global,
+    order: Order<'_>,
+) -> Result<(), Fault> {
     match order {
         Order::Pack {
             input,
             output,
             choice,
-        } => run_pack(rt, alloc, input, output, &choice),
-        Order::Unpack { input, output } => run_unpack(rt, alloc, input, output),
-        Order::Check { input, place } => run_check(rt, alloc, input, place),
+            progress,
+        } => run_pack(rt, alloc, input, output, &choice, progress),
+        Order::Unpack {
+            input,
+            output,
+            progress,
+        } => run_unpack(rt, alloc, input, output, progress),
+        Order::Check {
+            input,
+            place,
+            progress,
+        } => run_check(rt, alloc, input, place, progress),
         Order::Show { input, cost } => run_show(rt, alloc, input, cost),
         Order::Trial { input } => run_trial(rt, alloc, input),
     }

@@ -31,3 +31,10 @@ mod StreamText
 mod FileShown
 mod ReadingFaults
 mod OwnFaults
+mod ByteLists
+mod RecordShort
+mod PackedPictures
+mod FileTurns
+mod PackedFrames
+mod PackedText
+mod PackedIsUnpacked

@@ -100,7 +100,9 @@ module _ (contexts : Words) (are : AreContexts contexts) where
       let input = value_left pack rest (rule_at pack 0) refl refl (inl refl) refl e in
       let output = value_left pack rest (rule_at pack 1) refl refl (inr (inl refl)) refl e in
       let choice = pack_choice rest e in
-      (order.Pack (path input.text) (path output.text) choice.0, (refl, input.is, output.is, choice.1))
+      let told = value_left pack rest (rule_at pack 9) refl refl (inr (inr (inr (inr (inr (inr (inr (inr (inr (inl refl)))))))))) refl e in
+      let progress = flag_named (rows_after pack.rules [] rest) (codes "progress") told.text told.is told.passes in
+      (order.Pack (path input.text) (path output.text) choice.0 progress.0, (refl, input.is, output.is, choice.1, progress.1))
 
   -- ---- the others
 
@@ -112,7 +114,9 @@ module _ (contexts : Words) (are : AreContexts contexts) where
   unpack_named rest e =
       let input = value_left unpack rest (rule_at unpack 0) refl refl (inl refl) refl e in
       let output = value_left unpack rest (rule_at unpack 1) refl refl (inr (inl refl)) refl e in
-      (order.Unpack (path input.text) (path output.text), (refl, input.is, output.is))
+      let told = value_left unpack rest (rule_at unpack 2) refl refl (inr (inr (inl refl))) refl e in
+      let progress = flag_named (rows_after unpack.rules [] rest) (codes "progress") told.text told.is told.passes in
+      (order.Unpack (path input.text) (path output.text) progress.0, (refl, input.is, output.is, progress.1))
 
   abbrev check : Shape
   check = command 2
@@ -123,7 +127,9 @@ module _ (contexts : Words) (are : AreContexts contexts) where
       let input = value_left check rest (rule_at check 0) refl refl (inl refl) refl e in
       let place = value_left check rest (rule_at check 1) refl refl (inr (inl refl)) refl e in
       let flag = flag_named (rows_after check.rules [] rest) (codes "place") place.text place.is place.passes in
-      (order.Check (path input.text) flag.0, (refl, input.is, flag.1))
+      let told = value_left check rest (rule_at check 2) refl refl (inr (inr (inl refl))) refl e in
+      let progress = flag_named (rows_after check.rules [] rest) (codes "progress") told.text told.is told.passes in
+      (order.Check (path input.text) flag.0 progress.0, (refl, input.is, flag.1, progress.1))
 
   abbrev show : Shape
   show = command 3

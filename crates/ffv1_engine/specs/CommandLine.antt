@@ -58,19 +58,29 @@ abbrev pub with_pace : App → App
 with_pace a = with_rule (with_rule a (number_rule (codes "rate") 1 4294967295 (codes "25")))
     (number_rule (codes "scale") 1 4294967295 (codes "1"))
 
+-- how much is read is told
+abbrev pub with_progress : App → App
+with_progress a = with_rule a (flag_rule (codes "progress"))
+
 abbrev pub pack_app : Words → App
-pack_app words = with_pace (with_slices (with_model words (two_files (codes "pack"))))
+pack_app words =
+    with_progress (with_pace (with_slices (with_model words (two_files (codes "pack")))))
+
+abbrev pub unpack_app : App
+unpack_app = with_progress (two_files (codes "unpack"))
 
 abbrev pub check_app : App
-check_app = with_rule (one_file (codes "check")) (flag_rule (codes "place"))
+check_app = with_progress (with_rule (one_file (codes "check")) (flag_rule (codes "place")))
 
 abbrev pub show_app : App
 show_app = with_rule (one_file (codes "show")) (flag_rule (codes "cost"))
 
--- the program, which wants a command, and answers with its help where there are no words
+-- the program, which has a version, wants a command, and answers with its help where there are no
+-- words
 abbrev pub top_app : App
 top_app = record (new_app (codes "ffv1")) {
   top = record (new_app (codes "ffv1")).top {
+    has_version = true;
     subcommand_required = true;
     arg_required_else_help = true;
   };
@@ -79,7 +89,7 @@ top_app = record (new_app (codes "ffv1")) {
 -- the program with the commands that make a file
 abbrev pub files_app : Words → App
 files_app words =
-    with_subcommand (with_subcommand top_app (pack_app words).top) (two_files (codes "unpack")).top
+    with_subcommand (with_subcommand top_app (pack_app words).top) unpack_app.top
 
 -- the whole line, by the words that `--contexts` takes
 abbrev pub line_app : Words → App

@@ -23,3 +23,4 @@ pub mod Unpack
 pub mod ImagesOut
 pub mod StreamLines
 pub mod Show
+pub mod RoundTrip

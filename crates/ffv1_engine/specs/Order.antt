@@ -57,12 +57,15 @@ pub record NamesChoice (rows : List Row) (c : Choice) : Type 0 where
 -- the order is what the line's subcommand and its rows name
 abbrev pub Names : Order → Option (Text × List Row) → Type 0
 Names o None = ⊥
-Names (order.Pack i w c) (Some p) = (p.0 ≡ codes "pack") × NamesFile p.1 (codes "IN") i.now
-    × NamesFile p.1 (codes "OUT") w.now × NamesChoice p.1 c
-Names (order.Unpack i w) (Some p) = (p.0 ≡ codes "unpack") × NamesFile p.1 (codes "IN") i.now
-    × NamesFile p.1 (codes "OUT") w.now
-Names (order.Check i place) (Some p) = (p.0 ≡ codes "check") × NamesFile p.1 (codes "IN") i.now
-    × NamesFlag p.1 (codes "place") place
+Names (order.Pack i w c progress) (Some p) = (p.0 ≡ codes "pack")
+    × NamesFile p.1 (codes "IN") i.now × NamesFile p.1 (codes "OUT") w.now × NamesChoice p.1 c
+    × NamesFlag p.1 (codes "progress") progress
+Names (order.Unpack i w progress) (Some p) = (p.0 ≡ codes "unpack")
+    × NamesFile p.1 (codes "IN") i.now × NamesFile p.1 (codes "OUT") w.now
+    × NamesFlag p.1 (codes "progress") progress
+Names (order.Check i place progress) (Some p) = (p.0 ≡ codes "check")
+    × NamesFile p.1 (codes "IN") i.now × NamesFlag p.1 (codes "place") place
+    × NamesFlag p.1 (codes "progress") progress
 Names (order.Show i cost) (Some p) = (p.0 ≡ codes "show") × NamesFile p.1 (codes "IN") i.now
     × NamesFlag p.1 (codes "cost") cost
 Names (order.Trial i) (Some p) = (p.0 ≡ codes "trial") × NamesFile p.1 (codes "IN") i.now
@@ -82,9 +85,9 @@ abbrev pub is_conflict : Text → Text → Bool
 is_conflict input output = bytes_eq input output || is_standard_output output
 
 abbrev pub is_in_conflict : Order → Bool
-is_in_conflict (order.Pack i w c) = is_conflict i.now w.now
-is_in_conflict (order.Unpack i w) = is_conflict i.now w.now
-is_in_conflict (order.Check i place) = false
+is_in_conflict (order.Pack i w c progress) = is_conflict i.now w.now
+is_in_conflict (order.Unpack i w progress) = is_conflict i.now w.now
+is_in_conflict (order.Check i place progress) = false
 is_in_conflict (order.Show i cost) = false
 is_in_conflict (order.Trial i) = false
 

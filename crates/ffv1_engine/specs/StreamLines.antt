@@ -1,5 +1,7 @@
 -- The lines that are written of a file's head and of the configuration of its frames.
 use Rattle.std.specs.Prelude.{ℕ, Bool, true, false, List, [], ◌++◌, codes, decimal, flat_map}
+use Rattle.std.specs.Prelude.{if◌then◌else◌, nat_lt}
+use Rattle.std.specs.List.{list_any}
 use Rattle.ffv1_range.specs.Weight.{one_if}
 use Rattle.ffv1_plane.specs.Quantisation.{Set, contexts_of}
 use Rattle.ffv1_record.specs.declared.checked.Held.{Held}
@@ -43,6 +45,18 @@ unfoldable pub contexts_line : List Set → List ℕ
 contexts_line sets =
     codes "contexts" ++ flat_map (λ set. codes " " ++ decimal (contexts_of set)) sets ++ codes "\n"
 
+-- a set that FFmpeg refuses, as do programs that decode by it: its tables' numbers of values, each of
+-- them odd, make a product above 32768
+abbrev pub is_wide : Set → Bool
+is_wide set = nat_lt 16384 (contexts_of set)
+
+-- a line where there is one
+abbrev pub note_line : List Set → List ℕ
+note_line sets =
+    if list_any is_wide sets
+    then codes "note other programs refuse sets of more than 16384 contexts\n"
+    else []
+
 -- how much a decoder holds
 unfoldable pub held_line : Held → List ℕ
 held_line held =
@@ -61,6 +75,7 @@ show_text s =
     ++ extra_line c.extra_plane
     ++ pair_line (codes "slices ") c.columns (codes "x") c.rows
     ++ contexts_line c.sets
+    ++ note_line c.sets
     ++ number_line (codes "ec ") (one_if c.ec)
     ++ number_line (codes "intra ") (one_if c.intra)
     ++ pair_line (codes "rate ") s.head.rate (codes "/") s.head.scale

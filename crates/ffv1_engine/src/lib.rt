@@ -32,6 +32,7 @@ mod pictures_out;
 mod plane;
 pub mod player;
 mod report;
+pub mod round_trip;
 mod showing;
 mod stream_lines;
 mod telling;

@@ -113,10 +113,12 @@ fn pack_order<'a>(rows: &ArgMatches<'a>) -> Option<Order<'a>>
     let input = path(rows, "IN")?;
     let output = path(rows, "OUT")?;
     let choice = choice(rows)?;
+    let progress = flag(rows, "progress")?;
     Some(Order::Pack {
         input,
         output,
         choice,
+        progress,
     })
 }
 
@@ -127,7 +129,12 @@ fn unpack_order<'a>(rows: &ArgMatches<'a>) -> Option<Order<'a>>
 {
     let input = path(rows, "IN")?;
     let output = path(rows, "OUT")?;
-    Some(Order::Unpack { input, output })
+    let progress = flag(rows, "progress")?;
+    Some(Order::Unpack {
+        input,
+        output,
+        progress,
+    })
 }
 
 fn check_order<'a>(rows: &ArgMatches<'a>) -> Option<Order<'a>>
@@ -137,7 +144,12 @@ fn check_order<'a>(rows: &ArgMatches<'a>) -> Option<Order<'a>>
 {
     let input = path(rows, "IN")?;
     let place = flag(rows, "place")?;
-    Some(Order::Check { input, place })
+    let progress = flag(rows, "progress")?;
+    Some(Order::Check {
+        input,
+        place,
+        progress,
+    })
 }
 
 fn show_order<'a>(rows: &ArgMatches<'a>) -> Option<Order<'a>>

@@ -42,6 +42,8 @@ pub enum Order<'a> {
         output: &'a str,
         /// How it is coded.
         choice: Choice,
+        /// Whether it is told how much of the video is read.
+        progress: bool,
     },
     /// The video of an AVI file is decoded.
     Unpack {
@@ -49,6 +51,8 @@ pub enum Order<'a> {
         input: &'a str,
         /// The path of the video.
         output: &'a str,
+        /// Whether it is told how much of the file is read.
+        progress: bool,
     },
     /// The video of an AVI file is decoded, and what its frames hold is told.
     Check {
@@ -56,6 +60,8 @@ pub enum Order<'a> {
         input: &'a str,
         /// Whether the place of a fault is told too.
         place: bool,
+        /// Whether it is told how much of the file is read.
+        progress: bool,
     },
     /// The configuration of an AVI file is told.
     Show {
@@ -95,7 +101,7 @@ impl<'a> Order<'a> {
         ensures { is_some result ≡ is_in_conflict self.entry }
     {
         match self {
-            Order::Pack { input, output, .. } | Order::Unpack { input, output } => {
+            Order::Pack { input, output, .. } | Order::Unpack { input, output, .. } => {
                 conflict_of(input, output)
             }
             Order::Check { .. } | Order::Show { .. } | Order::Trial { .. } => None,

@@ -1,14 +1,16 @@
 //! The lines that are written of a file's head and of the configuration of its frames.
 
 ghost use Rattle.std.specs.Prelude.{◌≡◌, ◌++◌, codes, decimal, flat_map, IfOk, OnOk};
+ghost use Rattle.std.specs.List.{list_any};
 ghost use Rattle.ffv1_plane.specs.Quantisation.{contexts_of};
 ghost use Rattle.ffv1_avi.specs.Head.{head_of};
 ghost use Rattle.ffv1_engine.specs.StreamLines.{chroma_line, coder_type, colour_line};
 ghost use Rattle.ffv1_engine.specs.StreamLines.{contexts_line, extra_line, held_line, number_line};
-ghost use Rattle.ffv1_engine.specs.StreamLines.{pair_line, show_text};
+ghost use Rattle.ffv1_engine.specs.StreamLines.{is_wide, note_line, pair_line, show_text};
 
 use crate::frame_line::push_number;
 use ffv1_avi::AviHead;
+use ffv1_plane::QuantSet;
 use ffv1_record::{Checked, Coder, Colour, Held, Sets};
 use std::alloc::{AllocError, Allocator};
 
@@ -117,6 +119,28 @@ fn push_contexts<A: Allocator, B: Allocator>(
     Ok(())
 }
 
+/// Whether a set has more contexts than other programs take.
+fn has_wide_set<A: Allocator>(sets: &[QuantSet<A>]) -> bool
+    ensures { result ≡ list_any is_wide sets.now }
+{
+    let mut wide = false;
+    for set in sets {
+        wide = wide || set.contexts() > 16384;
+    }
+    wide
+}
+
+/// The line that says that other programs refuse the sets, nothing where they do not.
+fn note_line<A: Allocator>(sets: &[QuantSet<A>]) -> &'static [u8]
+    ensures { result.now ≡ note_line sets.now }
+{
+    if has_wide_set(sets) {
+        b"note other programs refuse sets of more than 16384 contexts\n"
+    } else {
+        b""
+    }
+}
+
 /// Appends the line of how much a decoder holds.
 #[tactic(auto, unfolding(crate::specs::StreamLines::held_line))]
 fn push_held<A: Allocator>(text: &mut Vec<u8, A>, held: Held) -> Result<(), AllocError>
@@ -154,6 +178,7 @@ pub(crate) fn show_text<A: Allocator>(
     text.extend_from_slice(extra_line(config.extra_plane))?;
     push_pair(&mut text, b"slices ", config.columns, b"x", config.rows)?;
     push_contexts(&mut text, &config.sets)?;
+    text.extend_from_slice(note_line(config.sets.as_slice()))?;
     push_line(&mut text, b"ec ", u64::from(config.ec))?;
     push_line(&mut text, b"intra ", u64::from(config.intra))?;
     push_pair(&mut text, b"rate ", head.rate, b"/", head.scale)?;

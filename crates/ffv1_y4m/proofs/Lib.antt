@@ -20,6 +20,7 @@ mod ImageRuns
 mod ImagesRead
 mod HeaderTags
 mod HeaderLines
+mod SaidHeads
 mod LineRuns
 pub mod NextLines
 mod PlaneRooms

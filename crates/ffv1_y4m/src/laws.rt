@@ -30,6 +30,11 @@ pub fn header_lines()
         IsHeaderLine line h }
 {}
 
+/// A head that a line says has sizes, numbers and chroma that are read here.
+pub fn said_heads()
+    ensures { (line : List ℕ) (h : VideoHead) → IsHeaderLine line h → IsHead h }
+{}
+
 /// A text is read as its head and its pictures, and what is read so is such a text; the canonical
 /// text of a head and of pictures that fit it is one, so it reads back as them, and it is what a
 /// writer writes of them, picture by picture.

@@ -26,6 +26,7 @@ fn packs(rt: &impl Abort, alloc: Global, option: &str, value: &str, choice: Choi
         input: "a",
         output: "b",
         choice,
+        progress: false,
     };
     names(rt, alloc, &["ffv1", "pack", option, value, "a", "b"], order);
     names(rt, alloc, &["ffv1", "pack", "a", "b", option, value], order);
@@ -40,56 +41,91 @@ fn refuses_option(rt: &impl Abort, alloc: Global, option: &str, kind: ErrorKind)
     refuses(rt, alloc, &["ffv1", "pack", option, "a", "b"], kind);
 }
 
+/// A `check` of a file, with what is told of it.
+fn check(input: &str, place: bool, progress: bool) -> Order<'_> {
+    Order::Check {
+        input,
+        place,
+        progress,
+    }
+}
+
+/// An `unpack`, with what is told of it.
+fn unpack<'a>(input: &'a str, output: &'a str, progress: bool) -> Order<'a> {
+    Order::Unpack {
+        input,
+        output,
+        progress,
+    }
+}
+
 #[test]
 fn each_command(rt: HostRuntime) {
     let alloc = rt.alloc();
-    let (input, output) = ("a", "b");
+    let input = "a";
     let pack = Order::Pack {
         input,
-        output,
+        output: "b",
         choice: DEFAULTS,
+        progress: false,
     };
+    let show = Order::Show { input, cost: false };
     names(&rt, alloc, &["ffv1", "pack", "a", "b"], pack);
     names(
         &rt,
         alloc,
         &["ffv1", "unpack", "a", "b"],
-        Order::Unpack { input, output },
+        unpack("a", "b", false),
     );
     names(
         &rt,
         alloc,
         &["ffv1", "check", "a"],
-        Order::Check {
-            input,
-            place: false,
-        },
+        check("a", false, false),
+    );
+    names(&rt, alloc, &["ffv1", "show", "a"], show);
+    names(&rt, alloc, &["ffv1", "trial", "a"], Order::Trial { input });
+}
+
+#[test]
+fn flags(rt: HostRuntime) {
+    let alloc = rt.alloc();
+    let pack = Order::Pack {
+        input: "a",
+        output: "b",
+        choice: DEFAULTS,
+        progress: true,
+    };
+    let show = Order::Show {
+        input: "a",
+        cost: true,
+    };
+    names(&rt, alloc, &["ffv1", "pack", "--progress", "a", "b"], pack);
+    names(
+        &rt,
+        alloc,
+        &["ffv1", "unpack", "a", "--progress", "b"],
+        unpack("a", "b", true),
     );
     names(
         &rt,
         alloc,
         &["ffv1", "check", "a", "--place"],
-        Order::Check { input, place: true },
+        check("a", true, false),
     );
     names(
         &rt,
         alloc,
-        &["ffv1", "check", "--place", "a"],
-        Order::Check { input, place: true },
+        &["ffv1", "check", "--progress", "a"],
+        check("a", false, true),
     );
     names(
         &rt,
         alloc,
-        &["ffv1", "show", "a"],
-        Order::Show { input, cost: false },
+        &["ffv1", "check", "--progress", "--place", "a"],
+        check("a", true, true),
     );
-    names(
-        &rt,
-        alloc,
-        &["ffv1", "show", "--cost", "a"],
-        Order::Show { input, cost: true },
-    );
-    names(&rt, alloc, &["ffv1", "trial", "a"], Order::Trial { input });
+    names(&rt, alloc, &["ffv1", "show", "--cost", "a"], show);
 }
 
 #[test]
@@ -99,19 +135,13 @@ fn words_behind_two_hyphens_are_files(rt: HostRuntime) {
         &rt,
         alloc,
         &["ffv1", "check", "--", "--place"],
-        Order::Check {
-            input: "--place",
-            place: false,
-        },
+        check("--place", false, false),
     );
     names(
         &rt,
         alloc,
         &["ffv1", "unpack", "--", "-a", "--"],
-        Order::Unpack {
-            input: "-a",
-            output: "--",
-        },
+        unpack("-a", "--", false),
     );
 }
 
@@ -230,6 +260,7 @@ fn all_options(rt: HostRuntime) {
             input: "a",
             output: "b",
             choice,
+            progress: false,
         },
     );
 }
@@ -381,6 +412,12 @@ fn words_unknown(rt: HostRuntime) {
 #[test]
 fn calls_for_help(rt: HostRuntime) {
     let alloc = rt.alloc();
+    refuses(
+        &rt,
+        alloc,
+        &["ffv1", "--version"],
+        ErrorKind::DisplayVersion,
+    );
     for help in ["help", "--help", "-h"] {
         refuses(&rt, alloc, &["ffv1", help], ErrorKind::DisplayHelp);
     }
@@ -434,7 +471,7 @@ fn files_not_in_conflict(rt: HostRuntime) {
             &rt,
             rt.alloc(),
             &["ffv1", "unpack", input, output],
-            Order::Unpack { input, output },
+            unpack(input, output, false),
         );
     }
     for input in ["/dev/stdout", "/dev/fd/1"] {

@@ -29,7 +29,8 @@ const WIDE: &[u8] = b"size 352x2\ncoder 1\ncolour RCT\nchroma 0,0\nextra 1\nslic
 
 /// Those of 4:2:0 with deltas, of 4 by 6 in two columns and three rows, of the large set.
 const CHROMA: &[u8] = b"size 4x6\ncoder 2\ncolour YCbCr\nchroma 1,0\nslices 2x3\n\
-        contexts 16638\nec 0\nintra 1\nrate 0/0\n\
+        contexts 16638\nnote other programs refuse sets of more than 16384 contexts\nec 0\n\
+        intra 1\nrate 0/0\n\
         held states 2129664 samples 12 output 4 columns 2 offsets 1025\n";
 
 /// A frame of a mono picture of 1 by 1, and the line of what it costs.

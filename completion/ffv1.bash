@@ -1,0 +1,37 @@
+# Completion of ffv1 for bash.
+
+_ffv1() {
+    local word="${COMP_WORDS[COMP_CWORD]}" before="${COMP_WORDS[COMP_CWORD - 1]}"
+    local command="" words="" i
+    for ((i = 1; i < COMP_CWORD; i++)); do
+        case "${COMP_WORDS[i]}" in
+            -*) ;;
+            *) command="${COMP_WORDS[i]}"; break ;;
+        esac
+    done
+    COMPREPLY=()
+    case "$before" in
+        --coder) words="1 2" ;;
+        --contexts) words="small large" ;;
+        --ec) words="0 1" ;;
+        --columns | --rows | --rate | --scale) return ;;
+    esac
+    if [ -z "$words" ]; then
+        case "$command" in
+            "") words="pack unpack check show trial help --help --version" ;;
+            help) words="pack unpack check show trial" ;;
+            pack) words="--coder --contexts --columns --rows --ec --rate --scale --progress --help" ;;
+            unpack) words="--progress --help" ;;
+            check) words="--place --progress --help" ;;
+            show) words="--cost --help" ;;
+            trial) words="--help" ;;
+        esac
+        case "$command $word" in
+            " "* | "help "* | *" -"*) ;;
+            *) mapfile -t COMPREPLY < <(compgen -f -- "$word"); return ;;
+        esac
+    fi
+    mapfile -t COMPREPLY < <(compgen -W "$words" -- "$word")
+}
+
+complete -o filenames -F _ffv1 ffv1

@@ -1,0 +1,27 @@
+# Completion of ffv1 for fish.
+
+set -l commands pack unpack check show trial help
+complete -c ffv1 -n "not __fish_seen_subcommand_from $commands" -f
+complete -c ffv1 -n "not __fish_seen_subcommand_from $commands" -l version -d "Tell the version"
+complete -c ffv1 -l help -d "Tell what it takes"
+
+complete -c ffv1 -n "not __fish_seen_subcommand_from $commands" -a pack -d "Code a video as FFV1 in AVI"
+complete -c ffv1 -n "not __fish_seen_subcommand_from $commands" -a unpack -d "Decode a file into a video"
+complete -c ffv1 -n "not __fish_seen_subcommand_from $commands" -a check -d "Decode all frames of a file"
+complete -c ffv1 -n "not __fish_seen_subcommand_from $commands" -a show -d "Tell what a file says"
+complete -c ffv1 -n "not __fish_seen_subcommand_from $commands" -a trial -d "Code and decode a picture"
+complete -c ffv1 -n "not __fish_seen_subcommand_from $commands" -a help -d "Tell what a command takes"
+complete -c ffv1 -n "__fish_seen_subcommand_from help" -f -a "pack unpack check show trial"
+
+complete -c ffv1 -n "__fish_seen_subcommand_from pack" -l coder -x -a "1 2" -d "State transition table"
+complete -c ffv1 -n "__fish_seen_subcommand_from pack" -l contexts -x -a "small large" -d "Contexts"
+complete -c ffv1 -n "__fish_seen_subcommand_from pack" -l columns -x -d "Columns of slices, 1 to 32"
+complete -c ffv1 -n "__fish_seen_subcommand_from pack" -l rows -x -d "Rows of slices, 1 to 32"
+complete -c ffv1 -n "__fish_seen_subcommand_from pack" -l ec -x -a "0 1" -d "Parity of slices"
+complete -c ffv1 -n "__fish_seen_subcommand_from pack" -l rate -x -d "Frames of PPM in --scale seconds"
+complete -c ffv1 -n "__fish_seen_subcommand_from pack" -l scale -x -d "Seconds of --rate frames"
+complete -c ffv1 -n "__fish_seen_subcommand_from pack" -l progress -d "Say how much is read"
+complete -c ffv1 -n "__fish_seen_subcommand_from unpack" -l progress -d "Say how much is read"
+complete -c ffv1 -n "__fish_seen_subcommand_from check" -l place -d "Tell where a frame is refused"
+complete -c ffv1 -n "__fish_seen_subcommand_from check" -l progress -d "Say how much is read"
+complete -c ffv1 -n "__fish_seen_subcommand_from show" -l cost -d "Tell what each frame costs"

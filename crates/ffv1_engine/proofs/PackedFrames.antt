@@ -1,0 +1,208 @@
+-- The frames of a video that was packed: each codes its picture, and no others have their payloads.
+use Rattle.std.proofs.Common.{◌≡◌, refl, ℕ, suc, ◌+◌, ◌*◌, ◌<◌, ◌≤◌, Bool, true, false, Result, Ok, Err, inl, inr, List, [], ◌∷◌, ◌++◌, length, map, slice_index, Some, ap, sym, subst, ◌∙◌, arith, mul-pos}
+use Rattle.std.specs.List.{range_with_len, sum_by}
+use Rattle.std.proofs.lemmas.List.Sums.{sum_by-cons}
+use Rattle.ffv1_range.specs.Codes.{AreBytes, digits, sentinel_of}
+use Rattle.ffv1_range.specs.Counts.{ones_in, saturated, zeros_in}
+use Rattle.ffv1_range.specs.History.{decisions_after}
+use Rattle.ffv1_range.specs.Interval.{Interval, interval_of}
+use Rattle.ffv1_range.specs.Symbols.{Step}
+use Rattle.ffv1_range.specs.declared.tally.Tally.{Tally}
+use Rattle.ffv1_range.proofs.EndingCodes.{bytes-digits}
+use Rattle.ffv1_record.specs.Accepted.{Accepted, IsAccepted}
+use Rattle.ffv1_record.specs.Configuration.{Configuration}
+use Rattle.ffv1_record.specs.Parity.{parity_of}
+use Rattle.ffv1_slice.specs.Cutting.{Cuts, coded_of, cut_of, joined_of}
+use Rattle.ffv1_slice.specs.Footer.{foot_length, footer_of, unsealed}
+use Rattle.ffv1_codec.specs.Answer.{slices_in, tally_of}
+use Rattle.ffv1_codec.specs.Decoding.{Decodes, Refuses, Slice, State}
+use Rattle.ffv1_codec.specs.Frame.{CodesPicture, HasLongSlice, IsSaid, frame_of, slice_bytes}
+use Rattle.ffv1_codec.specs.Length.{frame_counts}
+use Rattle.ffv1_codec.specs.Lines.{lines_of}
+use Rattle.ffv1_codec.specs.Picture.{IsPicture, Planes}
+use Rattle.ffv1_codec.specs.SliceList.{Said, chosen_slice}
+use Rattle.ffv1_codec.specs.declared.fault.FrameFault.{FrameFault}
+use Rattle.ffv1_codec.proofs.FromCoded.{coded_bytes}
+use Rattle.ffv1_y4m.specs.declared.head.VideoHead.{VideoHead}
+use Rattle.ffv1_engine.specs.declared.order.Choice.{Choice}
+use Rattle.ffv1_engine.specs.Packing.{AllShort, configuration_for, said_for}
+use Rattle.ffv1_engine.specs.Stream.{AreFrames, Decided, FaultsFrame, Frame, payloads}
+use Rattle.ffv1_engine.specs.Unpacked.{AllSay, pictures}
+use Rattle.ffv1_engine.specs.VideoReads.{IsHeadBy}
+use Rattle.ffv1_engine.proofs.ByteLists.{bytes_joined, bytes_pushed, no_bytes}
+use Rattle.ffv1_engine.proofs.PackedPictures.{AllFitting, picture_given}
+
+-- what is known of payloads
+pub record FrameLaws : Type 0 where
+  pub encoded : (a : Accepted) (planes : Planes) (info : Said) → IsAccepted a.configuration a.table → IsPicture a.configuration planes → IsSaid info → (HasLongSlice a planes info → ⊥) →
+      CodesPicture a (frame_of a planes info) planes info
+  pub one : (a : Accepted) (payload : List ℕ) (planes others : Planes) (info other : Said) → IsAccepted a.configuration a.table → AreBytes payload → CodesPicture a payload planes info →
+      CodesPicture a payload others other → (planes ≡ others) × (info ≡ other)
+  pub decoded : (a : Accepted) (payload : List ℕ) (planes : Planes) (info : Said) (codes : CodesPicture a payload planes info) (spans : ℕ → ℕ) → IsAccepted a.configuration a.table → AreBytes payload →
+      ((n : ℕ) → n ≤ a.configuration.columns * a.configuration.rows → spans n ≡ codes.spans n) →
+      (t : State) × Decodes a (coded_of payload (foot_length a.configuration.ec) spans) t × (t.info ≡ Some info) × (t.lines ≡ lines_of a.configuration planes)
+  pub apart : (a : Accepted) (coded : ℕ → List ℕ) (s t : State) (f : FrameFault) → IsAccepted a.configuration a.table → ((n : ℕ) → AreBytes (coded n)) → Decodes a coded s → Refuses a coded f t → ⊥
+  pub cut : (c : Configuration) (payload : List ℕ) (spans : ℕ → ℕ) → Cuts c payload spans →
+      (os : List ℕ) × (cut_of c payload ≡ Ok os) × (length os ≡ suc (c.columns * c.rows)) × ((s : ℕ) → s ≤ c.columns * c.rows → slice_index os s ≡ spans s)
+  pub long : (a : Accepted) (planes : Planes) (info : Said) →
+      length (frame_of a planes info) ≡ (frame_counts a planes info).renormalisations + a.configuration.columns * a.configuration.rows * (1 + foot_length a.configuration.ec)
+  pub columns : (a : Accepted) → IsAccepted a.configuration a.table → 1 ≤ a.configuration.columns
+  pub rows : (a : Accepted) → IsAccepted a.configuration a.table → 1 ≤ a.configuration.rows
+  pub sentinel : (i : Interval) → AreBytes (sentinel_of i)
+  pub counts : (steps : List Step) → ones_in steps + zeros_in steps ≡ length steps
+
+same_ok : {X E : Type 0} (r : Result X E) (x y : X) → r ≡ Ok x → r ≡ Ok y → x ≡ y
+same_ok r x y e f = cc
+
+not_cut : {X E : Type 0} (r : Result X E) (x : X) (e : E) → r ≡ Ok x → r ≡ Err e → ⊥
+not_cut r x e p q = cc
+
+-- payloads are bytes
+footer_bytes : (ec : Bool) (bytes : List ℕ) → AreBytes (footer_of ec bytes)
+footer_bytes false bytes = bytes-digits 3 (length bytes)
+footer_bytes true bytes =
+    bytes_joined (digits 3 (length bytes) ++ (0 ∷ [])) (digits 4 (parity_of (unsealed bytes)))
+    (bytes_joined (digits 3 (length bytes)) (0 ∷ []) (bytes-digits 3 (length bytes)) (bytes_pushed 0 [] (omega arith) no_bytes))
+    (bytes-digits 4 (parity_of (unsealed bytes)))
+
+row_bytes : (ec : Bool) (f : ℕ → List ℕ) (ns : List ℕ) → ((n : ℕ) → AreBytes (f n)) → AreBytes (joined_of ec (map f ns))
+row_bytes ec f [] are = no_bytes
+row_bytes ec f (n ∷ ns) are =
+    bytes_joined (f n ++ footer_of ec (f n)) (joined_of ec (map f ns)) (bytes_joined (f n) (footer_of ec (f n)) (are n) (footer_bytes ec (f n))) (row_bytes ec f ns are)
+
+-- the frame of a picture
+pub record Coded (a : Accepted) (said : Said) (planes : Planes) : Type 0 where
+  pub codes : CodesPicture a (frame_of a planes said) planes said
+  pub bytes : AreBytes (frame_of a planes said)
+  pub some : 0 < length (frame_of a planes said)
+
+abbrev pub AllCoded : Accepted → Said → List Planes → Type 0
+AllCoded a said [] = Unit {0}
+AllCoded a said (p ∷ ps) = Coded a said p × AllCoded a said ps
+
+-- what was decided in slices
+both_saturated : (x y : ℕ) → saturated (saturated x + saturated y) ≡ saturated (x + y)
+both_saturated x y = omega arith
+
+ones_and_zeros : ((steps : List Step) → ones_in steps + zeros_in steps ≡ length steps) → (qs : List Slice) →
+    sum_by (λ (q : Slice). ones_in q.past) qs + sum_by (λ (q : Slice). zeros_in q.past) qs ≡ sum_by (λ (q : Slice). length q.past) qs
+ones_and_zeros counts [] = refl
+ones_and_zeros counts (q ∷ qs) =
+    let rest = ones_and_zeros counts qs in
+    let a = sum_by-cons (λ (q : Slice). ones_in q.past) q qs in
+    let b = sum_by-cons (λ (q : Slice). zeros_in q.past) q qs in
+    let c = sum_by-cons (λ (q : Slice). length q.past) q qs in
+    let one = counts q.past in
+    omega (arith, rest, a, b, c, one)
+
+-- frames that code these pictures
+pub record Made (a : Accepted) (said : Said) (ps : List Planes) : Type 0 where
+  pub frames : List Frame
+  pub payloads_are : payloads frames ≡ map (λ planes. frame_of a planes said) ps
+  pub are : AreFrames a frames
+  pub pictures_are : pictures frames ≡ ps
+  pub say : AllSay said frames
+
+-- frames of which some are these, and the others are those of the other pictures
+pub record Same (a : Accepted) (said : Said) (frames : List Frame) (more : List (List ℕ)) (ps : List Planes) : Type 0 where
+  pub others : List Planes
+  pub parts : ps ≡ pictures frames ++ others
+  pub say : AllSay said frames
+  pub more_are : map (λ planes. frame_of a planes said) others ≡ more
+  pub coded : AllCoded a said others
+
+module _ (laws : FrameLaws) (a : Accepted) (accepted : IsAccepted a.configuration a.table) where
+  frame_bytes : (planes : Planes) (said : Said) → AreBytes (frame_of a planes said)
+  frame_bytes planes said =
+      row_bytes a.configuration.ec (slice_bytes a planes said) (range_with_len 0 (a.configuration.columns * a.configuration.rows))
+      (λ n. laws.sentinel (interval_of (decisions_after a.table [] (chosen_slice a.configuration planes said n))))
+
+  frame_some : (planes : Planes) (said : Said) → 0 < length (frame_of a planes said)
+  frame_some planes said =
+      let columns = laws.columns a accepted in
+      let rows = laws.rows a accepted in
+      let cells : 0 < a.configuration.columns * a.configuration.rows = mul-pos (omega (arith, columns)) (omega (arith, rows)) in
+      let foot : 0 < 1 + foot_length a.configuration.ec = omega arith in
+      let all : 0 < a.configuration.columns * a.configuration.rows * (1 + foot_length a.configuration.ec) = mul-pos cells foot in
+      let long = laws.long a planes said in
+      omega (arith, all, long)
+
+  pub all_coded : (choice : Choice) (ppm : Bool) (h : VideoHead) → a.configuration ≡ configuration_for choice ppm h → IsHeadBy ppm h → IsSaid (said_for h) → (ps : List Planes) → AllFitting h ps →
+      AllShort a h ps → AllCoded a (said_for h) ps
+  all_coded choice ppm h for is said [] fitting short = tt
+  all_coded choice ppm h for is said (p ∷ ps) fitting short = (
+    record {
+      codes = laws.encoded a p (said_for h) accepted (subst (λ c. IsPicture c p) (sym for) (picture_given choice ppm h p is fitting.0)) said short.0;
+      bytes = frame_bytes p (said_for h);
+      some = frame_some p (said_for h);
+    },
+    all_coded choice ppm h for is said ps fitting.1 short.1,
+  )
+
+  module _ (said : Said) where
+    -- a frame is decoded to its end, and has no fault
+    decided : (planes : Planes) → Coded a said planes → (tally : Tally) × Decided a (frame_of a planes said) tally
+    decided planes coded =
+        let payload = frame_of a planes said in
+        let cut = laws.cut a.configuration payload coded.codes.spans coded.codes.cuts in
+        let run = laws.decoded a payload planes said coded.codes (slice_index cut.0) accepted coded.bytes cut.3 in (
+          tally_of a.table run.0,
+          record {
+            offsets = cut.0;
+            cut = cut.1;
+            state = run.0;
+            decodes = run.1;
+            decided = record {
+              by_kind = refl;
+              in_all = both_saturated (sum_by (λ (q : Slice). ones_in q.past) (slices_in run.0)) (sum_by (λ (q : Slice). zeros_in q.past) (slices_in run.0)) ∙ ap saturated (ones_and_zeros laws.counts (slices_in run.0));
+            };
+          },
+        )
+
+    other_cut : (payload os : List ℕ) (spans : ℕ → ℕ) → cut_of a.configuration payload ≡ Ok os → Cuts a.configuration payload spans →
+        (s : ℕ) → s ≤ a.configuration.columns * a.configuration.rows → slice_index os s ≡ spans s
+    other_cut payload os spans is cuts =
+        let cut = laws.cut a.configuration payload spans cuts in
+        let same : cut.0 ≡ os = same_ok (cut_of a.configuration payload) cut.0 os cut.1 is in
+        λ s inside. ap (λ xs. slice_index xs s) (sym same) ∙ cut.3 s inside
+
+    pub no_fault : (planes : Planes) (fault : FrameFault) (tally : Tally) → Coded a said planes → FaultsFrame a (frame_of a planes said) fault tally → ⊥
+    no_fault planes fault tally coded (inl h) =
+        let cut = laws.cut a.configuration (frame_of a planes said) coded.codes.spans coded.codes.cuts in
+        not_cut (cut_of a.configuration (frame_of a planes said)) cut.0 h.0 cut.1 h.1
+    no_fault planes fault tally coded (inr h) =
+        let payload = frame_of a planes said in
+        let spans = other_cut payload h.offsets coded.codes.spans h.cut coded.codes.cuts in
+        let run = laws.decoded a payload planes said coded.codes (slice_index h.offsets) accepted coded.bytes spans in
+        laws.apart a (coded_of payload (foot_length a.configuration.ec) (slice_index h.offsets)) run.0 h.state fault accepted
+        (λ n. coded_bytes payload (foot_length a.configuration.ec) (slice_index h.offsets) n coded.bytes) run.1 h.refused
+
+    pub made : (ps : List Planes) → AllCoded a said ps → Made a said ps
+    made [] coded = record { frames = []; payloads_are = refl; are = tt; pictures_are = refl; say = tt }
+    made (p ∷ ps) coded =
+        let rest = made ps coded.1 in
+        let one = decided p coded.0 in
+        let frame : Frame = record { payload = frame_of a p said; planes = p; said = said; tally = one.0 } in record {
+          frames = frame ∷ rest.frames;
+          payloads_are = ap (λ z. frame_of a p said ∷ z) rest.payloads_are;
+          are = (record { codes = coded.0.codes; decided = one.1 }, rest.are);
+          pictures_are = ap (λ z. p ∷ z) rest.pictures_are;
+          say = (refl, rest.say);
+        }
+
+    first_of : {X : Type 0} (x y : X) (xs ys : List X) → x ∷ xs ≡ y ∷ ys → (x ≡ y) × (xs ≡ ys)
+    first_of x y xs ys e = (cc, cc)
+
+    pub same : (frames : List Frame) (more : List (List ℕ)) (ps : List Planes) → AreFrames a frames → AllCoded a said ps → map (λ planes. frame_of a planes said) ps ≡ payloads frames ++ more → Same a said frames more ps
+    same [] more ps are coded e = record { others = ps; parts = refl; say = tt; more_are = e; coded = coded }
+    same (f ∷ fs) more [] are coded e = absurd (cc)
+    same (f ∷ fs) more (p ∷ ps) are coded e =
+        let parts = first_of (frame_of a p said) f.payload (map (λ planes. frame_of a planes said) ps) (payloads fs ++ more) e in
+        let rest = same fs more ps are.1 coded.1 parts.1 in
+        let one = laws.one a f.payload f.planes p f.said said accepted (subst AreBytes parts.0 coded.0.bytes) are.0.codes (subst (λ b. CodesPicture a b p said) parts.0 coded.0.codes) in record {
+          others = rest.others;
+          parts = ap (λ z. z ∷ ps) (sym one.0) ∙ ap (λ z. f.planes ∷ z) rest.parts;
+          say = (one.1, rest.say);
+          more_are = rest.more_are;
+          coded = rest.coded;
+        }

@@ -1,0 +1,138 @@
+-- The stream of a video that was packed, and its text.
+use Rattle.std.proofs.Common.{◌≡◌, refl, ℕ, ◌+◌, ◌<◌, ◌≤◌, Bool, true, false, List, [], ◌∷◌, length, map, ap, ap₂, sym, subst, ◌∙◌, arith}
+use Rattle.ffv1_range.specs.Codes.{AreBytes}
+use Rattle.ffv1_range.specs.Table.{Table}
+use Rattle.ffv1_record.specs.Accepted.{Accepted, IsAccepted}
+use Rattle.ffv1_record.specs.Configuration.{Configuration}
+use Rattle.ffv1_record.specs.Reading.{IsRefused}
+use Rattle.ffv1_record.specs.Record.{IsRecord, record_of}
+use Rattle.ffv1_record.specs.declared.fault.RecordFault.{RecordFault}
+use Rattle.ffv1_codec.specs.Picture.{Planes}
+use Rattle.ffv1_codec.specs.SliceList.{Said}
+use Rattle.ffv1_avi.specs.Chunks.{AreSized, IsWritable}
+use Rattle.ffv1_avi.specs.Head.{Head}
+use Rattle.ffv1_avi.specs.Streams.{limit}
+use Rattle.ffv1_avi.specs.Written.{most, riff_size}
+use Rattle.ffv1_codec.specs.Frame.{frame_of}
+use Rattle.ffv1_y4m.specs.Canonical.{canonical_text}
+use Rattle.ffv1_y4m.specs.VideoHead.{IsRatio, IsSized}
+use Rattle.ffv1_y4m.specs.declared.head.VideoHead.{VideoHead}
+use Rattle.ffv1_engine.specs.declared.order.Choice.{Choice}
+use Rattle.ffv1_engine.specs.Packing.{configuration_for, head_for, said_for}
+use Rattle.ffv1_engine.specs.RoundTrip.{AreReadable, canonical_by}
+use Rattle.ffv1_engine.specs.Stream.{Frame, IsStream, Stream}
+use Rattle.ffv1_engine.specs.Unpacked.{AllSay, AreAlike, HasText, pictures, text_of, video_of}
+use Rattle.ffv1_engine.specs.VideoReads.{IsHeadBy}
+use Rattle.ffv1_engine.proofs.PackedFrames.{AllCoded}
+use Rattle.ffv1_engine.proofs.RecordShort.{SymbolLaws, record_are_bytes, record_short}
+
+-- what is known of records
+pub record RecordLaws : Type 0 where
+  pub written : (c : Configuration) → IsRecord (record_of c) c
+  pub one : (bytes : List ℕ) (c d : Configuration) (t u : Table) → AreBytes bytes → IsAccepted c t → IsAccepted d u → c.width ≡ d.width → c.height ≡ d.height → IsRecord bytes c → IsRecord bytes d → c ≡ d
+  pub table : (c : Configuration) (t u : Table) → IsAccepted c t → IsAccepted c u → t ≡ u
+  pub none : (bytes : List ℕ) (c : Configuration) (t : Table) (f : RecordFault) → AreBytes bytes → IsAccepted c t → IsRecord bytes c → IsRefused bytes c.width c.height f → ⊥
+  pub symbols : SymbolLaws
+
+-- its head and its configuration
+abbrev pub stream_for : Choice → Bool → VideoHead → Accepted → Stream
+stream_for choice ppm h a = record { head = head_for choice ppm h a.configuration; accepted = a }
+
+-- sizes of 1 to 8192
+sized : (ppm : Bool) (h : VideoHead) → IsHeadBy ppm h → IsSized h
+sized true h is = is.0
+sized false h is = is.sized
+
+record Rated (head : Head) : Type 0 where
+  is : IsRatio 4294967295 head.rate head.scale
+
+rated_by : (choice : Choice) (ppm : Bool) (h : VideoHead) (c : Configuration) → IsHeadBy ppm h → (ppm ≡ true → IsRatio 4294967295 choice.rate choice.scale) → Rated (head_for choice ppm h c)
+rated_by choice true h c is rated = record { is = rated refl }
+rated_by choice false h c is rated = record { is = is.rate }
+
+-- frames that can be read
+sized_frames : (a : Accepted) (said : Said) (ps : List Planes) → AllCoded a said ps → AreReadable (map (λ planes. frame_of a planes said) ps) → AreSized (map (λ planes. frame_of a planes said) ps)
+sized_frames a said [] coded readable = tt
+sized_frames a said (p ∷ ps) coded readable = (coded.0.some, readable.0, sized_frames a said ps coded.1 readable.1)
+
+module _ (laws : RecordLaws) (choice : Choice) (ppm : Bool) (h : VideoHead) (a : Accepted) (for : a.configuration ≡ configuration_for choice ppm h) (accepted : IsAccepted a.configuration a.table)
+    (is : IsHeadBy ppm h) where
+  pub writable : (rated : ppm ≡ true → IsRatio 4294967295 choice.rate choice.scale) (ps : List Planes) → AllCoded a (said_for h) ps → AreReadable (map (λ planes. frame_of a planes (said_for h)) ps) →
+      riff_size (head_for choice ppm h a.configuration) (map (λ planes. frame_of a planes (said_for h)) ps) ≤ most →
+      IsWritable (head_for choice ppm h a.configuration) (map (λ planes. frame_of a planes (said_for h)) ps)
+  writable rated ps coded readable small =
+      let sizes = sized ppm h is in
+      let ratio = (rated_by choice ppm h a.configuration is rated).is in
+      record {
+        width = let few = sizes.wide in omega (arith, few);
+        height = let few = sizes.high in omega (arith, few);
+        rate = let few = ratio.first in omega (arith, few);
+        scale = let few = ratio.second in omega (arith, few);
+        both = ratio.both;
+        short = subst (λ c. 40 + length (record_of c) ≤ limit) (sym for) (record_short laws.symbols choice ppm h);
+        sized = sized_frames a (said_for h) ps coded readable;
+        small = small;
+      }
+
+  wide : a.configuration.width ≡ h.width
+  wide = ap (λ (c : Configuration). c.width) for
+
+  high : a.configuration.height ≡ h.height
+  high = ap (λ (c : Configuration). c.height) for
+
+  pub stream_is : IsStream (stream_for choice ppm h a)
+  stream_is = record { coded = laws.written a.configuration; width = wide; height = high; accepted = accepted }
+
+  -- a file with that head has this stream and no other
+  pub one_stream : (s : Stream) → IsStream s → s.head ≡ head_for choice ppm h a.configuration → s ≡ stream_for choice ppm h a
+  one_stream s stream same =
+      let c : Configuration = s.accepted.configuration in
+      let bytes : AreBytes s.head.config_record = subst AreBytes (sym (ap (λ (k : Head). k.config_record) same)) (record_are_bytes a.configuration) in
+      let written : IsRecord s.head.config_record a.configuration = subst (λ k. IsRecord k a.configuration) (sym (ap (λ (k : Head). k.config_record) same)) (laws.written a.configuration) in
+      let across : c.width ≡ a.configuration.width = stream.width ∙ ap (λ (k : Head). k.width) same ∙ sym wide in
+      let down : c.height ≡ a.configuration.height = stream.height ∙ ap (λ (k : Head). k.height) same ∙ sym high in
+      let one = laws.one s.head.config_record c a.configuration s.accepted.table a.table bytes stream.accepted accepted across down stream.coded written in
+      let tables = laws.table a.configuration s.accepted.table a.table (subst (λ k. IsAccepted k s.accepted.table) one stream.accepted) accepted in
+      let pair : Configuration → Table → Accepted = λ k t. record { configuration = k; table = t } in
+      let whole : Head → Accepted → Stream = λ k b. record { head = k; accepted = b } in
+      let both : s.accepted ≡ a = ap₂ pair one tables in
+      ap₂ whole same both
+
+  -- its record has no fault
+  pub none_refused : (k : Head) (f : RecordFault) → k ≡ head_for choice ppm h a.configuration → IsRefused k.config_record k.width k.height f → ⊥
+  none_refused k f same refused =
+      let here : IsRefused (record_of a.configuration) h.width h.height f = subst (λ (j : Head). IsRefused j.config_record j.width j.height f) same refused in
+      let sizes : IsRefused (record_of a.configuration) a.configuration.width a.configuration.height f =
+      subst (λ m. IsRefused (record_of a.configuration) m a.configuration.height f) (sym wide) (subst (λ n. IsRefused (record_of a.configuration) h.width n f) (sym high) here) in
+      laws.none (record_of a.configuration) a.configuration a.table f (record_are_bytes a.configuration) accepted (laws.written a.configuration) sizes
+
+abbrev with_table : Configuration → Table → Accepted
+with_table c t = record { configuration = c; table = t }
+
+text_with : (choice : Choice) (ppm : Bool) (h : VideoHead) → IsHeadBy ppm h → (t : Table) → HasText (stream_for choice ppm h (with_table (configuration_for choice ppm h) t))
+text_with choice true h is t = ap (λ (k : VideoHead). k.extra_plane) is.1
+text_with choice false h is t = is.chroma
+
+pub text_given : (choice : Choice) (ppm : Bool) (h : VideoHead) (a : Accepted) → a.configuration ≡ configuration_for choice ppm h → IsHeadBy ppm h → HasText (stream_for choice ppm h a)
+text_given choice ppm h a for is = subst (λ c. HasText (stream_for choice ppm h (with_table c a.table))) (sym for) (text_with choice ppm h is a.table)
+
+alike_with : (choice : Choice) (ppm : Bool) (h : VideoHead) (t : Table) (frames : List Frame) → AllSay (said_for h) frames → AreAlike (stream_for choice ppm h (with_table (configuration_for choice ppm h) t)) frames
+alike_with choice true h t frames say = tt
+alike_with choice false h t [] say = tt
+alike_with choice false h t (f ∷ fs) say = subst (λ s. AllSay s fs) (sym say.0) say.1
+
+pub alike_given : (choice : Choice) (ppm : Bool) (h : VideoHead) (a : Accepted) → a.configuration ≡ configuration_for choice ppm h → (frames : List Frame) → AllSay (said_for h) frames → AreAlike (stream_for choice ppm h a) frames
+alike_given choice ppm h a for frames say = subst (λ c. AreAlike (stream_for choice ppm h (with_table c a.table)) frames) (sym for) (alike_with choice ppm h a.table frames say)
+
+canonical_with : (choice : Choice) (ppm : Bool) (h : VideoHead) (t : Table) (frames : List Frame) → AllSay (said_for h) frames → 0 < length (pictures frames) →
+    text_of (stream_for choice ppm h (with_table (configuration_for choice ppm h) t)) frames ≡ canonical_by ppm h (pictures frames)
+canonical_with choice true h t frames say some = refl
+canonical_with choice false h t [] say some = absurd (omega (arith, some))
+canonical_with choice false h t (f ∷ fs) say some =
+    ap (λ s. canonical_text (video_of (stream_for choice false h (with_table (configuration_for choice false h) t)) s) (pictures (f ∷ fs))) say.0
+
+pub canonical_given : (choice : Choice) (ppm : Bool) (h : VideoHead) (a : Accepted) → a.configuration ≡ configuration_for choice ppm h → (frames : List Frame) (ps : List Planes) → AllSay (said_for h) frames → pictures frames ≡ ps →
+    0 < length ps → text_of (stream_for choice ppm h a) frames ≡ canonical_by ppm h ps
+canonical_given choice ppm h a for frames ps say are some =
+    subst (λ c. text_of (stream_for choice ppm h (with_table c a.table)) frames ≡ canonical_by ppm h ps) (sym for)
+    (canonical_with choice ppm h a.table frames say (subst (λ qs. 0 < length qs) (sym are) some) ∙ ap (canonical_by ppm h) are)

@@ -1,0 +1,62 @@
+use Rattle.ffv1_engine.proofs.PackedFrames.{FrameLaws}
+use Rattle.ffv1_engine.proofs.PackedIsUnpacked.{FileLaws, check_refused, given, holds, same_ppm, same_video, show_refused, unpack_refused, written}
+use Rattle.ffv1_engine.proofs.PackedText.{RecordLaws}
+use Rattle.ffv1_engine.proofs.round_trip.packed_is_unpacked.Goals as goal
+
+file_laws : goal.After-written_is_record → FileLaws
+file_laws c = record {
+  file = c.written_is_read.ensures.file;
+  read = c.written_is_read.ensures.read;
+  is_read = c.file_is_read.ensures.read;
+  only = c.file_is_read.ensures.only;
+  next = c.frames_in_turn.ensures.next;
+  said = c.said_heads.ensures;
+  canonical = c.texts.ensures.canonical;
+}
+
+frame_laws : goal.After-written_is_record → FrameLaws
+frame_laws c = record {
+  encoded = c.encoded_frame.ensures;
+  one = c.one_picture.ensures;
+  decoded = c.is_decoded.ensures;
+  apart = c.one_end.ensures.apart;
+  cut = c.cutting.ensures.only;
+  long = c.frame_lengths.ensures.long;
+  columns = λ a is. (c.accepted.ensures.columns a.configuration a.table is).0;
+  rows = λ a is. (c.accepted.ensures.rows a.configuration a.table is).0;
+  sentinel = c.sentinel_ending.ensures.bytes;
+  counts = c.counts.ensures.steps;
+}
+
+record_laws : goal.After-written_is_record → RecordLaws
+record_laws c = record {
+  written = c.written_is_record.ensures;
+  one = c.one_configuration.ensures.one;
+  table = c.one_configuration.ensures.table;
+  none = c.one_refusal.ensures.none;
+  symbols = record { none = c.lengths.ensures.zero; some = c.lengths.ensures.unsigned; same = c.lengths.ensures.shifted };
+}
+
+pub returns-clause-holds : goal.returns-clause-holds
+returns-clause-holds c = λ choice text w. holds (file_laws c) (frame_laws c) (record_laws c) choice text w.packs.video w.packs.accepted (given choice text w)
+
+pub returns-clause-written : goal.returns-clause-written
+returns-clause-written c = λ choice text w. written (file_laws c) (frame_laws c) (record_laws c) choice text w.packs.video w.packs.accepted (given choice text w)
+
+pub returns-clause-refused : goal.returns-clause-refused
+returns-clause-refused c = λ choice text w input output f known stops.
+    unpack_refused (file_laws c) (frame_laws c) (record_laws c) choice text w.packs.video w.packs.accepted (given choice text w) input output known f stops
+
+pub returns-clause-checked : goal.returns-clause-checked
+returns-clause-checked c = λ choice text w place input output f known stops.
+    check_refused (file_laws c) (frame_laws c) (record_laws c) choice text w.packs.video w.packs.accepted (given choice text w) input output known place f stops
+
+pub returns-clause-shown : goal.returns-clause-shown
+returns-clause-shown c = λ choice text w cost input output f known stops.
+    show_refused (file_laws c) (frame_laws c) (record_laws c) choice text w.packs.video w.packs.accepted (given choice text w) input output known cost f stops
+
+pub returns-clause-same : goal.returns-clause-same
+returns-clause-same c = same_video (file_laws c)
+
+pub returns-clause-ppm : goal.returns-clause-ppm
+returns-clause-ppm c = same_ppm

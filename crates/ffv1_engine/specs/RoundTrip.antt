@@ -1,0 +1,82 @@
+-- What is packed is unpacked: of a text that was packed, what its file holds, and the text that is
+-- written of the file.
+use Rattle.std.specs.Prelude.{◌≡◌, ◌⊎◌, ℕ, ◌≤◌, Bool, true, false, List, [], ◌∷◌, length, flat_map}
+use Rattle.std.specs.Prelude.{Some}
+use Rattle.std.specs.Io.KnownBytes.{Appends}
+use Rattle.ffv1_wire.specs.Passage.{Passage}
+use Rattle.ffv1_range.specs.Codes.{AreBytes}
+use Rattle.ffv1_range.specs.Counts.{saturated}
+use Rattle.ffv1_codec.specs.Picture.{Planes}
+use Rattle.ffv1_avi.specs.Chunks.{AviFile}
+use Rattle.ffv1_avi.specs.Streams.{limit}
+use Rattle.ffv1_y4m.specs.Canonical.{canonical_text}
+use Rattle.ffv1_y4m.specs.Images.{image_text}
+use Rattle.ffv1_y4m.specs.VideoHead.{IsRatio}
+use Rattle.ffv1_y4m.specs.declared.head.VideoHead.{VideoHead}
+use Rattle.ffv1_engine.specs.declared.fault.Fault.{Fault}
+use Rattle.ffv1_engine.specs.declared.fault.Fault.TheVariants as fault
+use Rattle.ffv1_engine.specs.declared.order.Choice.{Choice}
+use Rattle.ffv1_engine.specs.declared.packing.Packed.{Packed}
+use Rattle.ffv1_engine.specs.Pack.{Packs}
+use Rattle.ffv1_engine.specs.Packing.{packed_file, packed_frames, said_for}
+use Rattle.ffv1_engine.specs.Play.{Played}
+use Rattle.ffv1_engine.specs.Stream.{Frame, Stream, payloads}
+use Rattle.ffv1_engine.specs.Unpacked.{AllSay, AreAlike, HasText, pictures, text_of}
+use Rattle.ffv1_engine.specs.Video.{Video}
+
+-- none of these frames is longer than a reader of files takes: 67108864 bytes
+abbrev pub AreReadable : List (List ℕ) → Type 0
+AreReadable [] = Unit {0}
+AreReadable (f ∷ fs) = (length f ≤ limit) × AreReadable fs
+
+-- a text of bytes that was packed, with no frame that is too long to be read. PPM has the rate and
+-- the scale of the choice: numbers of 32 bits, both zero or neither, since the file has 32 bits for
+-- each, and its reader refuses a rate without a scale and a scale without a rate
+pub record WasPacked (choice : Choice) (text : List ℕ) : Type 0 where
+  pub input : Passage
+  pub output : Passage
+  pub packed : Packed
+  pub packs : Packs choice input output packed
+  pub known : input.old ≡ Some text
+  pub bytes : AreBytes text
+  pub readable : AreReadable (packed_frames packs.video packs.accepted)
+  pub rated : packs.video.ppm ≡ true → IsRatio 4294967295 choice.rate choice.scale
+
+-- the video of the text, and the file that was written of it
+abbrev pub video_in : {choice : Choice} → {text : List ℕ} → WasPacked choice text → Video
+video_in w = w.packs.video
+
+abbrev pub file_in : {choice : Choice} → {text : List ℕ} → WasPacked choice text → List ℕ
+file_in {choice = choice} w = packed_file choice w.packs.video w.packs.accepted
+
+-- the canonical text of a video: of YUV4MPEG2 the header with each tag but X, in one order, and
+-- each picture behind `FRAME`; of PPM each image behind its header
+abbrev pub canonical_by : Bool → VideoHead → List Planes → List ℕ
+canonical_by false h pictures = canonical_text h pictures
+canonical_by true h pictures = flat_map (image_text h.width h.height) pictures
+
+abbrev pub canonical_of : Video → List ℕ
+canonical_of v = canonical_by v.ppm v.head v.pictures
+
+-- a file is a stream of frames, one for each picture of a video, which code those pictures and say
+-- what the video's head says; and their text is the canonical text of the video
+pub record Holds (file : List ℕ) (v : Video) : Type 0 where
+  pub stream : Stream
+  pub frames : List Frame
+  pub is : AviFile file stream.head (payloads frames)
+  pub played : Played stream frames
+  pub pictures_are : pictures frames ≡ v.pictures
+  pub say : AllSay (said_for v.head) frames
+  pub text : HasText stream
+  pub alike : AreAlike stream frames
+  pub writes : text_of stream frames ≡ canonical_of v
+
+-- the whole file was read, and the canonical text of this video was written of it
+pub record IsUnpacked (v : Video) (input output : Passage) (count : ℕ) : Type 0 where
+  pub left : input.new ≡ Some []
+  pub counted : count ≡ saturated (length v.pictures)
+  pub writes : Appends output.old output.new (canonical_of v)
+
+-- a fault that is none of a file: memory was refused, or a read or a write failed
+abbrev pub IsNoContent : Fault → Type 0
+IsNoContent f = (f ≡ fault.OutOfMemory) ⊎ (f ≡ fault.Read) ⊎ (f ≡ fault.Write)

@@ -1,0 +1,80 @@
+"""The examples of the README and of the manual: each is run by the shell, as it stands there, in a
+folder of its own, and what it prints is compared."""
+import os
+import re
+import shutil
+import subprocess
+import tempfile
+
+# What the examples work on, made by FFmpeg: 3 frames of 32 by 32, and a still.
+MAKING = """\
+ffmpeg -v error -f lavfi -i testsrc=size=32x32:rate=25 -frames:v 3 -c:v qtrle tape.mov
+ffmpeg -v error -f lavfi -i testsrc=size=32x32 -frames:v 1 still.png
+"""
+
+
+def blocks_of_readme(text):
+    """The lines of each block of code."""
+    return [block.strip("\n") for block in re.findall(r"^```\n(.*?)^```", text, re.M | re.S)]
+
+
+def blocks_of_manual(text):
+    """The lines of each literal block of the section of examples."""
+    section = text.split(".Sh EXAMPLES")[1].split(".Sh")[0]
+    blocks = re.findall(r"^\.Bd -literal.*?\n(.*?)^\.Ed", section, re.M | re.S)
+    return [block.strip("\n").replace("\\e", "\\") for block in blocks]
+
+
+# What the blocks print, as regular expressions of standard output and standard error together: how
+# many bytes a frame takes is FFmpeg's picture's, and pack's own count is checked elsewhere.
+PACKED = r"frames 3 bytes \d+\n"
+CHECKED = r"(frame \d: \d+ bytes, \d+ slices, \d+ decisions\n){3}frames 3\n"
+README = [
+    PACKED + CHECKED + r"frames 3\n",
+    r"broken\.avi\n",
+    r"samples 1024\ndecisions \d+\ncode [0-9A-F]+\nsame yes\n",
+]
+MANUAL = [PACKED + CHECKED, r"frames 3\n", r"broken\.avi\n"]
+
+
+def run(folder, script):
+    """The status of a script, and what it prints on both outputs."""
+    done = subprocess.run(["bash", "-c", "set -eo pipefail\n" + script], cwd=folder,
+                          stdin=subprocess.DEVNULL, stdout=subprocess.PIPE,
+                          stderr=subprocess.STDOUT, timeout=120, check=False,
+                          env={**os.environ, "PATH": folder + ":" + os.environ["PATH"]})
+    return done.returncode, done.stdout.decode()
+
+
+def examples_of(name, blocks, wanted, program):
+    """Whether each block prints what it should, one behind the other in one folder."""
+    with tempfile.TemporaryDirectory() as folder:
+        os.symlink(program, os.path.join(folder, "ffv1"))
+        with open(os.path.join(folder, "broken.avi"), "wb") as file:
+            file.write(b"RIFF")
+        status, printed = run(folder, MAKING)
+        yield told(f"{name}: making", status == 0, printed)
+        yield told(f"{name}: number of examples", len(blocks) == len(wanted), blocks)
+        for block, pattern in zip(blocks, wanted):
+            status, printed = run(folder, block)
+            yield told(f"{name}: {block}", status == 0 and re.fullmatch(pattern, printed), printed)
+
+
+def told(name, passed, printed):
+    """Whether it passed; what was printed is told where it did not."""
+    if not passed:
+        print(f"{name}: found {printed!r}")
+    return bool(passed)
+
+
+def results(top, program):
+    """Whether each example passed."""
+    if not shutil.which("ffmpeg"):
+        print("the examples are left out: ffmpeg is not installed")
+        return
+    with open(os.path.join(top, "README.md"), encoding="utf-8") as file:
+        readme = file.read().split("## A first use")[1].split("## Two commands")[0]
+    with open(os.path.join(top, "man", "ffv1.1"), encoding="utf-8") as file:
+        manual = file.read()
+    yield from examples_of("README", blocks_of_readme(readme), README, program)
+    yield from examples_of("manual", blocks_of_manual(manual), MANUAL, program)
