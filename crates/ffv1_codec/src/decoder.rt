@@ -77,7 +77,7 @@ impl<A: Allocator> Model for FrameDecoder<A> {
 fn fresh_columns<A: Allocator>(alloc: A, count: usize) -> Result<Vec<Column, A>, AllocError>
     ensures { IfOk result (λ v. length v.items ≡ count) }
 {
-    let mut columns = Vec::new(alloc);
+    let mut columns = Vec::with_capacity(alloc, count)?;
     for k in 0..count {
         columns.push(Column {
             parked: None,

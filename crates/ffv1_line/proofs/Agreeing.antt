@@ -1,5 +1,5 @@
 -- Cells that agree on the rows up to one row.
-use Rattle.std.proofs.Common.{◌≡◌, refl, ℕ, zero, suc, ◌+◌, ◌-◌, ◌<◌, min, List, [], ◌∷◌, ◌++◌, arith, ap, sym, subst, ◌∙◌, ℤ}
+use Rattle.std.proofs.Common.{◌≡◌, refl, ℕ, zero, suc, ◌-◌, ◌<◌, min, List, [], ◌∷◌, ◌++◌, arith, ap, subst, ◌∙◌, ℤ}
 use Rattle.ffv1_plane.specs.declared.prediction.Around.{Around}
 use Rattle.ffv1_plane.specs.Quantisation.{Set}
 use Rattle.ffv1_line.specs.Cell.{Cell, seen, around, Agree}

@@ -1,5 +1,5 @@
 -- Why memory may be refused to an encoder in a row.
-use Rattle.std.proofs.Common.{◌≡◌, refl, ℕ, zero, suc, ◌+◌, ◌-◌, ◌<◌, ◌≤◌, min, IsTrue, inl, List, length, get_or, arith, ap, sym, subst, ◌∙◌}
+use Rattle.std.proofs.Common.{◌≡◌, ℕ, zero, suc, ◌+◌, ◌-◌, ◌<◌, min, IsTrue, inl, List, length, get_or, arith, subst}
 use Rattle.ffv1_range.specs.Table.{Table}
 use Rattle.ffv1_range.specs.Writing.{Writing}
 use Rattle.ffv1_range.specs.Puts.{MayBeRefused}

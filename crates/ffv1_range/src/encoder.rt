@@ -72,8 +72,8 @@ impl<A: Allocator> RangeEncoder<A> {
     }
 
     /// One decision more, by a state that the table holds. The state moves by the decision, also
-    /// where the answer is `OutOfMemory`: then a growth was refused, now or before, and the encoder
-    /// has failed for good.
+    /// where the answer is `OutOfMemory`: then a growth was refused, now or before, the encoder has
+    /// failed for good, and its counts stay.
     #[inline(always)]
     pub fn put(&mut self, table: &StateTable, state: &mut u8, bit: bool) -> Result<(), Fault>
         requires { Holds table.now state.old }
@@ -91,6 +91,7 @@ impl<A: Allocator> RangeEncoder<A> {
         ensures refused { OnErr result (IsTrue self.old.failed ⊎
             (self.old.interval.count < (narrow self.old.interval state.old bit).count)) }
         ensures err { IfErr result (λ f. (f ≡ Fault.OutOfMemory) × IsTrue self.new.failed) }
+        ensures kept { OnErr result (self.new.counts ≡ self.old.counts) }
         ensures stays { IsTrue self.old.failed → IsErr result }
     {
         let before = *state;
@@ -227,6 +228,7 @@ impl<A: Allocator> RangeEncoder<A> {
         ensures refused { OnErr result (self.old.interval.count <
             (narrow self.old.interval state bit).count) }
         ensures err { IfErr result (λ f. (f ≡ Fault.OutOfMemory) × IsTrue self.new.failed) }
+        ensures kept { OnErr result (self.new.counts ≡ self.old.counts) }
     {
         let mut span = Span {
             low: self.low,

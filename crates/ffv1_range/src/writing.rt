@@ -221,7 +221,8 @@ fn put_number<A: Allocator>(
 impl<A: Allocator> RangeEncoder<A> {
     /// The symbol of a signed number of a size below 2^31, by 32 states that the table holds. The
     /// states move by the decisions. Answers `OutOfMemory` where a growth was refused, now or
-    /// before: the encoder has failed for good, and the states are still held by the table.
+    /// before: the encoder has failed for good, its counts stay, and the states are still held by
+    /// the table.
     #[inline(always)]
     pub fn put_signed(
         &mut self,
@@ -237,6 +238,7 @@ impl<A: Allocator> RangeEncoder<A> {
             (signed_steps value)) }
         ensures held { AreHeld table.now states.new }
         ensures err { IfErr result (λ f. (f ≡ Fault.OutOfMemory) × IsTrue self.new.failed) }
+        ensures kept { OnErr result (self.new.counts ≡ self.old.counts) }
         ensures stays { IsTrue self.old.failed → IsErr result }
     {
         if self.failed {
@@ -263,11 +265,12 @@ impl<A: Allocator> RangeEncoder<A> {
             (signed_steps value)) }
         ensures held { AreHeld table.now states.new }
         ensures err { IfErr result (λ f. (f ≡ Fault.OutOfMemory) × IsTrue self.new.failed) }
+        ensures kept { OnErr result (self.new.counts ≡ self.old.counts) }
     {
         let mut sums = self.sums();
-        let written = self.sum_signed(&mut sums, table, states, value);
+        self.sum_signed(&mut sums, table, states, value)?;
         self.count_all(&sums);
-        written
+        Ok(())
     }
 
     /// The same, but that its decisions are counted in `sums` and not yet in the encoder's counts.
@@ -291,6 +294,7 @@ impl<A: Allocator> RangeEncoder<A> {
         ensures few { sums.new.ones + sums.new.zeros ≤ sums.old.ones + sums.old.zeros + 63 }
         ensures held { AreHeld table.now states.new }
         ensures err { IfErr result (λ f. (f ≡ Fault.OutOfMemory) × IsTrue self.new.failed) }
+        ensures kept { OnErr result (self.new.counts ≡ self.old.counts) }
     {
         let mut span = Span {
             low: self.low,
@@ -331,6 +335,7 @@ impl<A: Allocator> RangeEncoder<A> {
             (unsigned_steps number)) }
         ensures held { AreHeld table.now states.new }
         ensures err { IfErr result (λ f. (f ≡ Fault.OutOfMemory) × IsTrue self.new.failed) }
+        ensures kept { OnErr result (self.new.counts ≡ self.old.counts) }
         ensures stays { IsTrue self.old.failed → IsErr result }
     {
         if self.failed {
@@ -377,6 +382,7 @@ impl<A: Allocator> RangeEncoder<A> {
             (shifted (row * 32) (signed_steps value))) }
         ensures held { AllHeld table.now states.new }
         ensures err { IfErr result (λ f. (f ≡ Fault.OutOfMemory) × IsTrue self.new.failed) }
+        ensures kept { OnErr result (self.new.counts ≡ self.old.counts) }
         ensures stays { IsTrue self.old.failed → IsErr result }
     {
         let base = row * 32;

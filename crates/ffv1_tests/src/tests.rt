@@ -13,6 +13,8 @@ mod pictures;
 mod record;
 mod refusals;
 mod shows;
+mod strangers;
 mod trials;
+mod turns;
 mod unpacks;
 mod y4m;

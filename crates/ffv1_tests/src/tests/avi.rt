@@ -1,4 +1,4 @@
-//! Memory that is refused to the reader of AVI, at each request.
+//! Memory that is refused to the reader of AVI, at each request, and how much it asks for.
 
 use ffv1_avi::{AviFault, AviHead, AviReader, write_avi};
 use ffv1_doubles::Scarce;
@@ -57,6 +57,36 @@ fn each_request_of_the_reader(rt: HostRuntime) -> Result<(), Fail> {
             2 => assert!(rt; answer == Ok((refused, 65_536, refused))),
             3 => assert!(rt; answer == Ok((refused, 196_608, refused))),
             _ => assert!(rt; answer == Ok((Ok(true), 200_000, Ok(false)))),
+        }
+    }
+    Ok(())
+}
+
+/// How many bytes the vector has, and room for, where the frame ends early.
+fn read_short<A: Allocator + Copy>(alloc: A, file: &[u8]) -> Option<(usize, usize)> {
+    let mut input = FromRead::new(file);
+    let mut reader = AviReader::open(alloc, &mut input).ok()?;
+    let mut frame = Vec::new(alloc);
+    match reader.next_frame(&mut input, &mut frame) {
+        Err(AviFault::Truncated) => Some((frame.len(), frame.capacity())),
+        _ => None,
+    }
+}
+
+/// A frame that says that it has 400000 bytes, and ends before: room is made for at most as many as
+/// were read and 65536 more.
+#[test]
+fn room_for_a_frame(rt: HostRuntime) -> Result<(), Fail> {
+    let file = file_of(rt.alloc(), 400_000)?;
+    let head = file.len().saturating_sub(400_000);
+    for read in [0usize, 1, 65_535, 65_536, 65_537, 196_607, 196_608, 399_999] {
+        let end = head.saturating_add(read).min(file.len());
+        match read_short(rt.alloc(), &file[..end]) {
+            Some((len, room)) => {
+                assert_eq!(rt; len, read);
+                assert!(rt; room <= read.saturating_add(read).saturating_add(65_536));
+            }
+            None => assert!(rt; false),
         }
     }
     Ok(())

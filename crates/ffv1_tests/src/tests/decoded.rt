@@ -1,7 +1,6 @@
 //! Payloads are decoded, beside values from outside the program.
 
-ghost use Rattle.std.specs.Prelude.{◌≡◌, ◌-◌, ◌<◌};
-ghost use Rattle.ffv1_wire.specs.Failures.{one_more};
+ghost use Rattle.std.specs.Prelude.{◌≡◌, ◌++◌};
 
 use ffv1_codec::{CodecFault, DropLines, FrameDecoder, FrameFault, KeepLines};
 use ffv1_plane::QuantSet;
@@ -13,7 +12,7 @@ use std::test::Fail;
 
 /// What pictures with the small set are.
 #[derive(Clone, Copy)]
-struct Kind {
+pub(super) struct Kind {
     colour: Colour,
     chroma_planes: bool,
     extra_plane: bool,
@@ -23,7 +22,7 @@ struct Kind {
 }
 
 /// Pictures of a kind.
-fn pictures(alloc: Global, kind: &Kind) -> Result<Checked, Fail> {
+pub(super) fn pictures(alloc: Global, kind: &Kind) -> Result<Checked, Fail> {
     let Kind {
         colour,
         chroma_planes,
@@ -54,7 +53,7 @@ fn pictures(alloc: Global, kind: &Kind) -> Result<Checked, Fail> {
 }
 
 /// Pictures of one plane.
-fn mono(size: (u32, u32), grid: (u32, u32), ec: bool) -> Kind {
+pub(super) fn mono(size: (u32, u32), grid: (u32, u32), ec: bool) -> Kind {
     Kind {
         colour: Colour::YCbCr,
         chroma_planes: false,
@@ -105,7 +104,7 @@ fn decodes_to(
 }
 
 /// Whether a payload of pictures of a kind is.
-fn decodes(
+pub(super) fn decodes(
     alloc: Global,
     kind: &Kind,
     payload: &[u8],
@@ -133,7 +132,7 @@ fn fault_of(alloc: Global, kind: &Kind, payload: &[u8]) -> Result<(Option<FrameF
 }
 
 /// A fault in a slice, with no other place.
-fn fault(fault: CodecFault, slice: u16) -> Option<FrameFault> {
+pub(super) fn fault(fault: CodecFault, slice: u16) -> Option<FrameFault> {
     Some(FrameFault {
         fault,
         slice,
@@ -292,52 +291,72 @@ fn other_infos(rt: HostRuntime) -> Result<(), Fail> {
     Ok(())
 }
 
-/// Takes some lines, and refuses those behind them.
+/// Keeps the samples of its lines, and refuses one line, after so many.
 #[derive(Drop)]
-struct Few {
-    left: u64,
+pub(super) struct KeepSamples {
+    samples: Vec<u8>,
+    before: u64,
     failures: u64,
 }
 
-impl LineSink for Few {
-    ghost takes = { λ s plane y samples t. (0 < s.left) × (t ≡ record s { left = s.left - 1 }) };
-
-    ghost refuses = { λ s plane y samples t. (s.left ≡ 0)
-        × (t ≡ record s { failures = one_more s.failures }) };
-
-    ghost failures = { λ s. s.failures };
-
-    fn line(&mut self, _plane: u8, _y: u16, _samples: &[u8]) -> Result<(), SinkFault> {
-        if self.left == 0 {
-            self.failures = self.failures.wrapping_add(1);
-            return Err(SinkFault);
+impl KeepSamples {
+    pub(super) fn new(alloc: Global, before: u64) -> KeepSamples {
+        KeepSamples {
+            samples: Vec::new(alloc),
+            before,
+            failures: 0,
         }
-        self.left -= 1;
-        Ok(())
+    }
+
+    pub(super) fn samples(&self) -> &[u8] {
+        self.samples.as_slice()
     }
 }
 
-/// The fault of a picture of two lines whose sink takes so many, and the decisions up to there.
-fn refused_line(alloc: Global, lines: u64) -> Result<(Option<FrameFault>, u64, u64), Fail> {
+impl LineSink for KeepSamples {
+    ghost takes = { λ s _ _ samples t. t.samples.items ≡ s.samples.items ++ samples };
+
+    ghost refuses = { λ s _ _ samples t. t.samples.items ≡ s.samples.items };
+
+    ghost failures = { λ s. s.failures };
+
+    fn line(&mut self, _plane: u8, _y: u16, samples: &[u8]) -> Result<(), SinkFault> {
+        let before = self.before;
+        self.before = before.wrapping_sub(1);
+        if before != 0 && self.samples.extend_from_slice(samples).is_ok() {
+            return Ok(());
+        }
+        self.failures = self.failures.wrapping_add(1);
+        Err(SinkFault)
+    }
+}
+
+/// The fault of a picture of two lines whose sink refuses one after so many, the decisions up to
+/// there, and the refusals; and whether the sink then has these samples, and takes all of the
+/// picture when it is decoded again.
+fn refused_line(
+    alloc: Global,
+    lines: u64,
+    samples: &[u8],
+) -> Result<(Option<FrameFault>, u64, u64, bool), Fail> {
     let checked = pictures(alloc, &mono((2, 2), (1, 1), false))?;
-    let mut sink = Few {
-        left: lines,
-        failures: 0,
-    };
+    let mut sink = KeepSamples::new(alloc, lines);
     let mut decoder = FrameDecoder::new(alloc, checked)?;
     let payload = [0xFE, 0x6C, 0xAF, 0x59, 0x7A, 0x88, 0, 0, 6];
-    match decoder.decode(&payload, &mut sink) {
-        Ok(_) => Ok((None, decoder.decisions(), sink.failures)),
-        Err(fault) => Ok((Some(fault), decoder.decisions(), sink.failures)),
-    }
+    let fault = decoder.decode(&payload, &mut sink).err();
+    let (decisions, failures) = (decoder.decisions(), sink.failures);
+    let before = sink.samples() == samples;
+    let again = decoder.decode(&payload, &mut sink).is_ok();
+    let after = sink.samples().strip_prefix(samples) == Some(&[10, 20, 30, 40]);
+    Ok((fault, decisions, failures, before && again && after))
 }
 
 #[test]
 fn refused_lines(rt: HostRuntime) -> Result<(), Fail> {
     let alloc = rt.alloc();
-    let got = refused_line(alloc, 0)?;
-    assert!(rt; got == (fault(CodecFault::Sink, 0), 28, 1));
-    let got = refused_line(alloc, 1)?;
+    let got = refused_line(alloc, 0, &[])?;
+    assert!(rt; got == (fault(CodecFault::Sink, 0), 28, 1, true));
+    let got = refused_line(alloc, 1, &[10, 20])?;
     let second = Some(FrameFault {
         fault: CodecFault::Sink,
         slice: 0,
@@ -345,9 +364,9 @@ fn refused_lines(rt: HostRuntime) -> Result<(), Fail> {
         line: 1,
         x: 0,
     });
-    assert!(rt; got == (second, 48, 1));
-    let got = refused_line(alloc, 2)?;
-    assert!(rt; got == (None, 48, 0));
+    assert!(rt; got == (second, 48, 1, true));
+    let got = refused_line(alloc, 9, &[10, 20, 30, 40])?;
+    assert!(rt; got == (None, 48, 0, true));
     Ok(())
 }
 

@@ -7,36 +7,82 @@ use ffv1_doubles::Scarce;
 use ffv1_plane::QuantSet;
 use ffv1_record::{Checked, Coder, Colour, Config, Sets};
 use std::alloc::Allocator;
+use std::process::Abort;
 
-/// The frame of the sample 0, with a parity.
-const FRAME: &[u8] = b"\xFE\x7B\x00\x00\x02\x00\x94\x8C\x13\x3C";
+/// What is encoded: square pictures of these planes, in one slice, and their frame, whose residuals
+/// take so many decisions.
+#[derive(Clone, Copy)]
+struct Kind<'a> {
+    size: u32,
+    colour: Colour,
+    ec: bool,
+    planes: &'a [&'a [u8]],
+    frame: &'a [u8],
+    decisions: u64,
+}
 
-/// Pictures of one sample, with a parity behind each slice.
-fn pictures<A: Allocator + Copy>(alloc: A) -> Option<Checked<A>> {
+/// The sample 0, with a parity.
+const GUARDED: Kind<'static> = Kind {
+    size: 1,
+    colour: Colour::YCbCr,
+    ec: true,
+    planes: &[&[0]],
+    frame: b"\xFE\x7B\x00\x00\x02\x00\x94\x8C\x13\x3C",
+    decisions: 1,
+};
+
+/// Four samples.
+const FOUR: Kind<'static> = Kind {
+    size: 2,
+    colour: Colour::YCbCr,
+    ec: false,
+    planes: &[&[10, 20, 30, 40]],
+    frame: b"\xFE\x6C\xAF\x59\x7A\x88\x00\x00\x06",
+    decisions: 38,
+};
+
+/// A red sample.
+const RED: Kind<'static> = Kind {
+    size: 1,
+    colour: Colour::Rct,
+    ec: false,
+    planes: &[&[255], &[0], &[0]],
+    frame: b"\xFE\x78\xDF\x83\xD9\x2C\x00\x00\x06",
+    decisions: 35,
+};
+
+/// Pictures of a kind.
+fn pictures<A: Allocator + Copy>(alloc: A, kind: &Kind<'_>) -> Option<Checked<A>> {
     let mut sets = Sets::new(alloc);
     sets.push(QuantSet::small(alloc).ok()?).ok()?;
     let config = Config {
-        width: 1,
-        height: 1,
+        width: kind.size,
+        height: kind.size,
         coder: Coder::One,
-        colour: Colour::YCbCr,
-        chroma_planes: false,
+        colour: kind.colour,
+        chroma_planes: kind.planes.len() > 1,
         extra_plane: false,
         log2_h: 0,
         log2_v: 0,
         columns: 1,
         rows: 1,
         sets,
-        ec: true,
+        ec: kind.ec,
         intra: true,
     };
     config.check().ok()
 }
 
-/// A picture of the sample 0.
-fn picture<A: Allocator + Copy>(alloc: A, checked: &Checked<A>) -> Option<Picture<A>> {
+/// The picture of a kind.
+fn picture<A: Allocator + Copy>(
+    alloc: A,
+    checked: &Checked<A>,
+    kind: &Kind<'_>,
+) -> Option<Picture<A>> {
     let mut planes = Vec::new(alloc);
-    planes.push(vec![in alloc; 0u8; 1].ok()?).ok()?;
+    for samples in kind.planes {
+        planes.push(Vec::from_slice(alloc, *samples).ok()?).ok()?;
+    }
     Picture::new(checked, planes)
 }
 
@@ -56,13 +102,14 @@ fn encoded<A: Allocator + Copy>(
     encoder: &mut FrameEncoder<A>,
     picture: &Picture<A>,
     info: Info,
+    wanted: &[u8],
 ) -> Came {
     if !picture.fits(encoder.config()) {
         return Came::Other;
     }
     match encoder.encode(picture, info) {
         Ok(frame) => {
-            if frame.as_slice() == FRAME {
+            if frame.as_slice() == wanted {
                 Came::Frame
             } else {
                 Came::Other
@@ -74,34 +121,53 @@ fn encoded<A: Allocator + Copy>(
 }
 
 /// What the first frame comes to, and the second.
-fn two_frames<A: Allocator + Copy>(alloc: A) -> Option<(Came, Came, FrameCounts)> {
-    let checked = pictures(alloc)?;
-    let picture = picture(alloc, &checked)?;
+fn two_frames<A: Allocator + Copy>(alloc: A, kind: &Kind<'_>) -> Option<(Came, Came, FrameCounts)> {
+    let checked = pictures(alloc, kind)?;
+    let picture = picture(alloc, &checked, kind)?;
     let info = Info::new(0, 0, 0)?;
     let mut encoder = FrameEncoder::new(alloc, checked);
-    let first = encoded(&mut encoder, &picture, info);
+    let first = encoded(&mut encoder, &picture, info, kind.frame);
     let counts = encoder.counts();
-    let second = encoded(&mut encoder, &picture, info);
+    let second = encoded(&mut encoder, &picture, info, kind.frame);
     Some((first, second, counts))
 }
 
-/// What a decoder comes to, and then a frame.
-fn decoder<A: Allocator + Copy>(alloc: A) -> Option<Came> {
-    let checked = pictures(alloc)?;
+/// Whether the request to refuse is the next one.
+fn refuses_next<A: Allocator>(alloc: A) -> bool {
+    Vec::<u8, A>::with_capacity(alloc, 1).is_err()
+}
+
+/// What a decoder comes to, and then frames, sound and damaged; and whether it made all requests
+/// before the one to refuse, and no other.
+fn decoder<A: Allocator + Copy>(alloc: A, checked: Checked<A>, frame: &[u8]) -> (Came, bool) {
     let mut sink = DropLines::new(&checked);
     match FrameDecoder::new(alloc, checked) {
-        Ok(mut decoder) => match decoder.decode(FRAME, &mut sink) {
-            Ok(_) => Some(Came::Frame),
-            Err(_) => Some(Came::Other),
-        },
-        Err(CodecFault::OutOfMemory) => Some(Came::Refusal),
-        Err(_) => Some(Came::Other),
+        Ok(mut decoder) => {
+            let first = decoder.decode(frame, &mut sink).is_ok();
+            let damaged = decoder.decode(b"\0\0\0", &mut sink).is_err();
+            if first && damaged && decoder.decode(frame, &mut sink).is_ok() {
+                (Came::Frame, refuses_next(alloc))
+            } else {
+                (Came::Other, false)
+            }
+        }
+        Err(CodecFault::OutOfMemory) => (Came::Refusal, false),
+        Err(_) => (Came::Other, false),
     }
+}
+
+/// The same of a kind, where the request behind so many others is refused once the configuration
+/// is made.
+fn decoder_of<A: Allocator + Copy>(alloc: A, kind: &Kind<'_>, before: u64) -> Option<(Came, bool)> {
+    let ample = Scarce::new(alloc, u64::MAX);
+    let scarce = Scarce::new(alloc, before);
+    let checked = pictures(&ample, kind)?;
+    Some(decoder(&scarce, checked, kind.frame))
 }
 
 /// What a sink that keeps lines comes to.
 fn kept<A: Allocator + Copy>(alloc: A) -> Option<Came> {
-    let checked = pictures(alloc)?;
+    let checked = pictures(alloc, &GUARDED)?;
     match KeepLines::new(alloc, &checked) {
         Ok(sink) => {
             if sink.planes().len() == 1 {
@@ -115,22 +181,56 @@ fn kept<A: Allocator + Copy>(alloc: A) -> Option<Came> {
     }
 }
 
+/// A decoder makes five requests, one for each vector that it holds, and none when it decodes.
 #[test]
 fn each_request_of_a_decoder(rt: HostRuntime) {
-    let mut refused = 0u8;
-    let mut done = 0u8;
-    let mut none = 0u8;
-    for before in 0..60u64 {
-        match decoder(&Scarce::new(rt.alloc(), before)) {
-            Some(Came::Frame) => done = done.saturating_add(1),
-            Some(Came::Refusal) => refused = refused.saturating_add(1),
-            Some(Came::Other) => assert!(rt; false),
-            None => none = none.saturating_add(1),
+    for kind in [GUARDED, FOUR, RED] {
+        for before in 0..9u64 {
+            let wanted = match before {
+                0..=4 => (Came::Refusal, false),
+                _ => (Came::Frame, before == 5),
+            };
+            assert!(rt; decoder_of(rt.alloc(), &kind, before) == Some(wanted));
         }
     }
-    assert_eq!(rt; refused, 5);
-    assert!(rt; none > 0);
-    assert_eq!(rt; done.saturating_add(none), 55);
+}
+
+/// Pictures of 32 by 1 in 32 columns.
+fn wide<A: Allocator + Copy>(alloc: A) -> Option<Checked<A>> {
+    let mut sets = Sets::new(alloc);
+    sets.push(QuantSet::small(alloc).ok()?).ok()?;
+    let config = Config {
+        width: 32,
+        height: 1,
+        coder: Coder::One,
+        colour: Colour::YCbCr,
+        chroma_planes: false,
+        extra_plane: false,
+        log2_h: 0,
+        log2_v: 0,
+        columns: 32,
+        rows: 1,
+        sets,
+        ec: false,
+        intra: true,
+    };
+    config.check().ok()
+}
+
+/// Whether the making of their decoder is refused, where the request behind so many others is.
+fn wide_is_refused<A: Allocator + Copy>(alloc: A, before: u64) -> Option<bool> {
+    let ample = Scarce::new(alloc, u64::MAX);
+    let scarce = Scarce::new(alloc, before);
+    let checked = wide(&ample)?;
+    Some(FrameDecoder::new(&scarce, checked).is_err())
+}
+
+/// In many columns it makes as many.
+#[test]
+fn each_request_of_a_wide_decoder(rt: HostRuntime) {
+    for before in 0..9u64 {
+        assert!(rt; wide_is_refused(rt.alloc(), before) == Some(before < 5));
+    }
 }
 
 #[test]
@@ -146,29 +246,62 @@ fn each_request_of_a_sink(rt: HostRuntime) {
     assert_eq!(rt; refused, 2);
 }
 
-#[test]
-fn each_request_of_a_frame(rt: HostRuntime) {
-    let mut refused = 0u8;
-    let mut again = 0u8;
+/// Coded bytes, one by one, and a frame of them and their footer of so many bytes.
+fn gathered<A: Allocator + Copy>(alloc: A, frame: &[u8], foot: usize) -> Option<usize> {
+    let (coded, footer) = frame.split_at_checked(frame.len().checked_sub(foot)?)?;
+    let mut code = Vec::new(alloc);
+    for byte in coded {
+        code.push(*byte).ok()?;
+    }
+    let mut whole = Vec::new(alloc);
+    whole.extend_from_slice(coded).ok()?;
+    whole.extend_from_slice(footer).ok()?;
+    Some(whole.len())
+}
+
+/// How many requests that takes.
+fn growth<A: Allocator + Copy>(alloc: A, frame: &[u8], foot: usize) -> u64 {
+    let mut count = 0u64;
+    for before in 0..20u64 {
+        if gathered(&Scarce::new(alloc, before), frame, foot).is_none() {
+            count = count.saturating_add(1);
+        }
+    }
+    count
+}
+
+/// How many requests a first frame and a second one make; each that is refused is answered so, and
+/// the next frame is as if by a new encoder.
+fn frames_in_turn<A: Allocator + Copy>(rt: &impl Abort, alloc: A, kind: &Kind<'_>) -> (u64, u64) {
+    let (mut refused, mut again) = (0u64, 0u64);
     for before in 0..60u64 {
-        let heap = Scarce::new(rt.alloc(), before);
-        if let Some((first, second, counts)) = two_frames(&heap) {
-            match first {
-                Came::Refusal => {
-                    assert!(rt; second == Came::Frame);
-                    assert_eq!(rt; counts.decisions, 0);
-                    refused = refused.saturating_add(1);
-                }
-                _ => {
-                    assert!(rt; first == Came::Frame);
-                    assert_eq!(rt; counts.decisions, 1);
-                    if second == Came::Refusal {
-                        again = again.saturating_add(1);
-                    }
+        match two_frames(&Scarce::new(alloc, before), kind) {
+            None => assert!(rt; refused == 0),
+            Some((Came::Refusal, second, counts)) => {
+                assert!(rt; second == Came::Frame && counts.decisions == 0);
+                refused = refused.saturating_add(1);
+            }
+            Some((first, second, counts)) => {
+                assert!(rt; first == Came::Frame && counts.decisions == kind.decisions);
+                if second == Came::Refusal {
+                    again = again.saturating_add(1);
+                } else {
+                    assert!(rt; second == Came::Frame && again > 0);
                 }
             }
         }
     }
-    assert_eq!(rt; refused, 8);
-    assert_eq!(rt; again, 4);
+    (refused, again)
+}
+
+/// A warm encoder makes requests for the growth of its code alone, and for the copy whose parity a
+/// footer has; the first frame's are for its states, too, and for three lines of each plane that is
+/// coded beside others.
+#[test]
+fn each_request_of_a_frame(rt: HostRuntime) {
+    for (kind, foot, lines) in [(GUARDED, 8usize, 3u64), (FOUR, 3, 3), (RED, 3, 9)] {
+        let grown = growth(rt.alloc(), kind.frame, foot).saturating_add(u64::from(kind.ec));
+        let (first, second) = frames_in_turn(&rt, rt.alloc(), &kind);
+        assert!(rt; second == grown && first == grown.saturating_add(1).saturating_add(lines));
+    }
 }

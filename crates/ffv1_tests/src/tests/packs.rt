@@ -1,10 +1,8 @@
 //! Videos that are packed, with files and frames computed outside the program, and their faults.
 
-use ffv1_doubles::{Scarce, ShortWriter};
 use ffv1_engine::{Choice, CoderChoice, Fault, Packed, pack};
 use ffv1_wire::{FromRead, ToWrite};
 use std::alloc::Allocator;
-use std::io::ErrorKind;
 use std::process::Abort;
 use std::test::Fail;
 
@@ -181,42 +179,4 @@ fn choices_that_do_not_suit(rt: HostRuntime) {
         },
         Fault::ChromaEdge,
     );
-}
-
-/// How many requests for memory were refused, one in each try, before a text was packed.
-#[test]
-fn each_request(rt: HostRuntime) {
-    let mut refused = 0u8;
-    for before in 0..80u64 {
-        let heap = Scarce::new(rt.alloc(), before);
-        let mut output = ToWrite::new(Vec::new(rt.alloc()));
-        match pack(&heap, &mut FromRead::new(TEXT), &mut output, &PLAIN) {
-            Ok(done) => assert!(rt; done.frames == 1),
-            Err(fault) => {
-                assert!(rt; fault == Fault::OutOfMemory);
-                assert!(rt; output.into_inner().is_empty());
-                refused = refused.saturating_add(1);
-            }
-        }
-    }
-    assert!(rt; refused > 8);
-    assert!(rt; refused < 80);
-}
-
-/// A writer that takes so many bytes holds the beginning of the file.
-fn cut<A: Allocator + Copy>(rt: &impl Abort, alloc: A, file: &[u8], room: usize) {
-    let mut output = ToWrite::new(ShortWriter::new(alloc, room, 7, Some(ErrorKind::Other)));
-    let answer = pack(alloc, &mut FromRead::new(IMAGE), &mut output, &PLAIN);
-    assert!(rt; answer == Err(Fault::Write));
-    let writer = output.into_inner();
-    assert!(rt; writer.held() == &file[..room.min(file.len())]);
-}
-
-#[test]
-fn each_beginning(rt: HostRuntime) -> Result<(), Fail> {
-    let (_, file) = packed(rt.alloc(), IMAGE, &PLAIN)?;
-    for room in 0..file.len() {
-        cut(&rt, rt.alloc(), file.as_slice(), room);
-    }
-    Ok(())
 }

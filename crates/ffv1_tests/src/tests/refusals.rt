@@ -1,7 +1,6 @@
-//! Memory that is refused, and reads and writes that fail, each at every place.
+//! Memory that is refused to what a trial stands on, and to its output, and what a trial leaves.
 
-use super::trials::trial_of;
-use ffv1_doubles::{FailingReader, Scarce, ShortWriter};
+use ffv1_doubles::{FailingReader, Scarce};
 use ffv1_engine::{Fault, code_plane, trial};
 use ffv1_plane::QuantSet;
 use ffv1_wire::{FromRead, ToWrite};
@@ -19,23 +18,6 @@ fn written_scarcely<A: Allocator + Copy>(alloc: A, before: u64) -> Result<(), Fa
     let heap = Scarce::new(alloc, before);
     let mut output = ToWrite::new(Vec::new(&heap));
     trial(alloc, &mut FromRead::new(TEXT), &mut output)
-}
-
-#[test]
-fn each_request_of_a_trial(rt: HostRuntime) {
-    let mut refused = 0u8;
-    for before in 0..40u64 {
-        let heap = Scarce::new(rt.alloc(), before);
-        match trial_of(&heap, TEXT) {
-            Ok(text) => assert!(rt; text.as_slice() == PRINTED),
-            Err(Fault::Write) => refused = refused.saturating_add(16),
-            Err(fault) => {
-                assert!(rt; fault == Fault::OutOfMemory);
-                refused = refused.saturating_add(1);
-            }
-        }
-    }
-    assert_eq!(rt; refused, 17 + 24);
 }
 
 #[test]
@@ -77,16 +59,6 @@ fn each_request_of_a_set(rt: HostRuntime) {
 }
 
 #[test]
-fn each_read(rt: HostRuntime) {
-    for before in 0..TEXT.len() {
-        let mut input = FromRead::new(FailingReader::new(TEXT, before, 1, ErrorKind::Other));
-        let mut output = ToWrite::new(Vec::new(rt.alloc()));
-        assert!(rt; trial(rt.alloc(), &mut input, &mut output) == Err(Fault::Read));
-        assert_eq!(rt; output.into_inner().len(), 0);
-    }
-}
-
-#[test]
 fn nothing_behind_the_picture_is_read(rt: HostRuntime) {
     let failing = FailingReader::new(MORE, TEXT.len(), 1, ErrorKind::Other);
     let mut input = FromRead::new(failing);
@@ -94,18 +66,4 @@ fn nothing_behind_the_picture_is_read(rt: HostRuntime) {
     assert!(rt; trial(rt.alloc(), &mut input, &mut output) == Ok(()));
     assert_eq!(rt; input.into_inner().rest(), 6);
     assert!(rt; output.into_inner().as_slice() == PRINTED);
-}
-
-#[test]
-fn each_write(rt: HostRuntime) {
-    for room in 0..PRINTED.len() {
-        let mut output = ToWrite::new(ShortWriter::new(
-            rt.alloc(),
-            room,
-            3,
-            Some(ErrorKind::Other),
-        ));
-        assert!(rt; trial(rt.alloc(), &mut FromRead::new(TEXT), &mut output) == Err(Fault::Write));
-        assert!(rt; output.into_inner().held() == &PRINTED[..room]);
-    }
 }

@@ -2,13 +2,11 @@
 //! `model/known_answers/shown.py`.
 
 use ffv1_avi::{AviHead, write_avi};
-use ffv1_doubles::{FailingReader, Scarce, ShortWriter};
 use ffv1_engine::{Fault, show};
 use ffv1_plane::QuantSet;
 use ffv1_record::{Coder, Colour, Config, RecordFault, Sets, write_record};
 use ffv1_wire::{FromRead, ToWrite};
 use std::alloc::Allocator;
-use std::io::ErrorKind;
 use std::process::Abort;
 use std::test::Fail;
 
@@ -207,72 +205,5 @@ fn faults(rt: HostRuntime) -> Result<(), Fail> {
         Err(Fault::NotAvi),
         (b"", b""),
     );
-    Ok(())
-}
-
-/// A writer that takes so many bytes holds the beginning of the lines.
-fn cut<A: Allocator + Copy>(rt: &impl Abort, alloc: A, file: &[u8], text: &[u8], room: usize) {
-    let mut output = ToWrite::new(ShortWriter::new(alloc, room, 7, Some(ErrorKind::Other)));
-    let answer = show(alloc, &mut FromRead::new(file), &mut output, true);
-    assert!(rt; answer == Err(Fault::Write));
-    let writer = output.into_inner();
-    assert!(rt; writer.held() == &text[..room.min(text.len())]);
-}
-
-#[test]
-fn each_beginning(rt: HostRuntime) -> Result<(), Fail> {
-    let file = file_of(rt.alloc(), mono(rt.alloc())?, 25, 1, FRAME, 1)?;
-    let (_, text) = shown(rt.alloc(), &file, true);
-    for room in 0..text.len() {
-        cut(&rt, rt.alloc(), &file, &text, room);
-    }
-    Ok(())
-}
-
-/// How often memory was refused, one request in each try: with nothing written, and behind the
-/// lines.
-fn refused<A: Allocator + Copy>(rt: &impl Abort, alloc: A, file: &[u8], cost: bool) -> (u8, u8) {
-    let mut before_lines = 0u8;
-    let mut behind_lines = 0u8;
-    for before in 0..60u64 {
-        let heap = Scarce::new(alloc, before);
-        let mut output = ToWrite::new(Vec::new(alloc));
-        let answer = show(&heap, &mut FromRead::new(file), &mut output, cost);
-        let written = output.into_inner();
-        assert!(rt; answer == Ok(()) || answer == Err(Fault::OutOfMemory));
-        if answer.is_err() && written.is_empty() {
-            before_lines = before_lines.saturating_add(1);
-        } else if answer.is_err() {
-            assert!(rt; written.as_slice() == MONO);
-            behind_lines = behind_lines.saturating_add(1);
-        }
-    }
-    (before_lines, behind_lines)
-}
-
-#[test]
-fn each_request(rt: HostRuntime) -> Result<(), Fail> {
-    let file = file_of(rt.alloc(), mono(rt.alloc())?, 25, 1, FRAME, 1)?;
-    let plain = refused(&rt, rt.alloc(), &file, false);
-    let costly = refused(&rt, rt.alloc(), &file, true);
-    assert!(rt; plain.0 > 8);
-    assert!(rt; plain.1 == 0);
-    assert!(rt; costly.0 == plain.0);
-    assert!(rt; costly.1 > 4);
-    assert!(rt; costly.0.saturating_add(costly.1) < 60);
-    Ok(())
-}
-
-/// A read that fails, at each place of the file.
-#[test]
-fn each_read(rt: HostRuntime) -> Result<(), Fail> {
-    let file = file_of(rt.alloc(), mono(rt.alloc())?, 25, 1, FRAME, 1)?;
-    for before in 0..file.len() {
-        let mut input = FromRead::new(FailingReader::new(&file, before, 1, ErrorKind::Other));
-        let mut output = ToWrite::new(Vec::new(rt.alloc()));
-        assert!(rt; show(rt.alloc(), &mut input, &mut output, true) == Err(Fault::Read));
-        let written = output.into_inner();
-        assert!(rt; written.is_empty() || written.as_slice() == MONO);
-    }
     Ok(())
 }

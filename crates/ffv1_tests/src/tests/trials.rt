@@ -9,7 +9,7 @@ use std::process::Abort;
 use std::test::Fail;
 
 /// What a trial of a text writes.
-pub(super) fn trial_of<A: Allocator + Copy>(alloc: A, text: &[u8]) -> Result<Vec<u8, A>, Fault> {
+fn trial_of<A: Allocator + Copy>(alloc: A, text: &[u8]) -> Result<Vec<u8, A>, Fault> {
     let mut input = FromRead::new(text);
     let mut output = ToWrite::new(Vec::new(alloc));
     trial(alloc, &mut input, &mut output)?;

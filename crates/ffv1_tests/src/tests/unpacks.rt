@@ -1,13 +1,11 @@
 //! Files that are unpacked, with texts computed outside the program, and their faults.
 
 use ffv1_avi::{AviHead, write_avi};
-use ffv1_doubles::{Scarce, ShortWriter};
 use ffv1_engine::{Choice, CoderChoice, Fault, pack, unpack};
 use ffv1_plane::QuantSet;
 use ffv1_record::{Coder, Colour, Config, Sets, write_record};
 use ffv1_wire::{FromRead, ToWrite};
 use std::alloc::Allocator;
-use std::io::ErrorKind;
 use std::process::Abort;
 use std::test::Fail;
 
@@ -222,61 +220,5 @@ fn damaged<A: Allocator + Copy>(rt: &impl Abort, alloc: A) -> Result<(), Fault> 
 #[test]
 fn a_damaged_image(rt: HostRuntime) -> Result<(), Fail> {
     damaged(&rt, rt.alloc())?;
-    Ok(())
-}
-
-/// How many requests for memory were refused, one in each try, before a file was unpacked.
-fn requests<A: Allocator + Copy>(rt: &impl Abort, alloc: A, file: &[u8]) -> u8 {
-    let mut refused = 0u8;
-    for before in 0..80u64 {
-        let heap = Scarce::new(alloc, before);
-        let output = ToWrite::new(Vec::new(alloc));
-        let (written, answer) = unpack(&heap, &mut FromRead::new(file), output);
-        if answer.is_ok() {
-            assert!(rt; answer == Ok(1));
-        } else {
-            assert!(rt; answer == Err(Fault::OutOfMemory));
-            assert!(rt; written.into_inner().is_empty());
-            refused = refused.saturating_add(1);
-        }
-    }
-    refused
-}
-
-#[test]
-fn each_request(rt: HostRuntime) -> Result<(), Fail> {
-    for text in [TEXT, IMAGE] {
-        let file = file_of(rt.alloc(), text, &PLAIN)?;
-        let refused = requests(&rt, rt.alloc(), file.as_slice());
-        assert!(&rt; refused > 8);
-        assert!(&rt; refused < 80);
-    }
-    Ok(())
-}
-
-/// A writer that takes so many bytes holds the beginning of the text.
-fn cut<A: Allocator + Copy>(rt: &impl Abort, alloc: A, file: &[u8], text: &[u8], room: usize) {
-    let output = ToWrite::new(ShortWriter::new(alloc, room, 7, Some(ErrorKind::Other)));
-    let (written, answer) = unpack(alloc, &mut FromRead::new(file), output);
-    assert!(rt; answer == Err(Fault::Write));
-    let writer = written.into_inner();
-    assert!(rt; writer.held() == &text[..room.min(text.len())]);
-}
-
-#[test]
-fn each_beginning(rt: HostRuntime) -> Result<(), Fail> {
-    let file = file_of(rt.alloc(), TEXT, &PLAIN)?;
-    for room in 0..CANONICAL.len() {
-        cut(&rt, rt.alloc(), file.as_slice(), CANONICAL, room);
-    }
-    Ok(())
-}
-
-#[test]
-fn each_beginning_of_an_image(rt: HostRuntime) -> Result<(), Fail> {
-    let file = file_of(rt.alloc(), IMAGE, &PLAIN)?;
-    for room in 0..IMAGE.len() {
-        cut(&rt, rt.alloc(), file.as_slice(), IMAGE, room);
-    }
     Ok(())
 }

@@ -11,30 +11,34 @@ const PICTURES: &[u8] = b"YUV4MPEG2 W2 H2 F25:1 I? A0:0 C420jpeg\nFRAME\nabcdefF
 
 const IMAGES: &[u8] = b"P6\n2 1\n255\nabcdefP6\n2 1\n255\nghijkl";
 
-/// How many pictures of YUV4MPEG2 an input has.
+/// How many pictures of YUV4MPEG2 an input has; the fault, where it is told again.
 fn pictures<R: Read, A: Allocator + Copy>(alloc: A, input: &mut FromRead<R>) -> Result<u32, Fault> {
     let mut reader = Y4mReader::open(alloc, None, input)?;
     let mut planes = Vec::new(alloc);
     let mut count = 0u32;
     for _ in 0..100 {
-        if !reader.next(input, &mut planes)? {
-            break;
+        match reader.next(input, &mut planes) {
+            Ok(true) => count = count.wrapping_add(1),
+            Ok(false) => break,
+            Err(fault) if reader.next(input, &mut planes) == Err(fault) => return Err(fault),
+            Err(_) => return Ok(u32::MAX),
         }
-        count = count.wrapping_add(1);
     }
     Ok(count)
 }
 
-/// How many images of PPM an input has.
+/// How many images of PPM an input has; the fault, where it is told again.
 fn images<R: Read, A: Allocator + Copy>(alloc: A, input: &mut FromRead<R>) -> Result<u32, Fault> {
     let mut reader = PpmReader::open(alloc, None, input)?;
     let mut planes = Vec::new(alloc);
     let mut count = 0u32;
     for _ in 0..100 {
-        if !reader.next(input, &mut planes)? {
-            break;
+        match reader.next(input, &mut planes) {
+            Ok(true) => count = count.wrapping_add(1),
+            Ok(false) => break,
+            Err(fault) if reader.next(input, &mut planes) == Err(fault) => return Err(fault),
+            Err(_) => return Ok(u32::MAX),
         }
-        count = count.wrapping_add(1);
     }
     Ok(count)
 }

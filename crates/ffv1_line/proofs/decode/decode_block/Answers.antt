@@ -1,7 +1,7 @@
-use Rattle.std.proofs.Common.{ℕ, ◌≡◌, ◌+◌, ◌-◌, ◌∙◌, ap, refl, sym, subst, min, length, slice_index, arith}
+use Rattle.std.proofs.Common.{ℕ, ◌≡◌, ◌+◌, ◌-◌, ◌∙◌, ap, subst, min, length, slice_index, arith}
 use Rattle.ffv1_line.proofs.Rows.{stands_next, lined_next, lined_refused, same_from_next}
 use Rattle.ffv1_range.specs.Follows.{Follows}
-use Rattle.ffv1_range.specs.Reading.{Reading, summed}
+use Rattle.ffv1_range.specs.Reading.{summed}
 use Rattle.ffv1_line.specs.Row.{refused_steps}
 use Rattle.ffv1_line.proofs.decode.decode_block.Goals as goal
 

@@ -1,4 +1,4 @@
-use Rattle.std.proofs.Common.{◌≡◌, refl, ℕ, suc, ◌+◌, ◌-◌, ◌<◌, ◌^◌, min, arith, ap, subst, ◌∙◌}
+use Rattle.std.proofs.Common.{◌≡◌, ℕ, suc, ◌+◌, ◌<◌, ◌^◌, arith, ap, subst}
 use Rattle.ffv1_line.specs.Cell.{Cell, seen}
 use Rattle.ffv1_line.proofs.ThreeRows.{suiting_small}
 use Rattle.ffv1_line.proofs.SamplesBelow.{suiting_below}

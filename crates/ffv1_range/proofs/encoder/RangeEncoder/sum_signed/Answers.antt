@@ -1,10 +1,9 @@
-use Rattle.std.proofs.Common.{◌<◌, ◌^◌, ◌∙◌, ap, subst, refl, pos, arith, rules}
+use Rattle.std.proofs.Common.{◌<◌, ◌^◌, ◌∙◌, ap, refl, pos, arith, rules}
 use Rattle.std.proofs.lemmas.Int.{to_z-of_z}
 use Rattle.std.specs.Int.{w32}
 use lib.Signed.{lt_z}
 use mir.Val.{SFits}
-use Rattle.ffv1_range.specs.Counts.{Counts, Counted}
-use Rattle.ffv1_range.specs.Symbols.{exponent, sized_steps}
+use Rattle.ffv1_range.specs.Symbols.{exponent}
 use Rattle.ffv1_range.specs.Writing.{Writing}
 use Rattle.ffv1_range.proofs.Prefix.{exponent_of}
 use Rattle.ffv1_range.proofs.Signed.{signed_is, zero_is}
