@@ -4,7 +4,8 @@
 //! `write_avi` writes an `AviHead` and frames in one call. `AviReader::open` reads a file up to its
 //! first list `movi`; then `AviReader::head` tells its head, and each `AviReader::next_frame` gives
 //! the next frame, until it answers false. A reader holds no input, each call is lent the same one.
-//! `AviFault` says why a file could not be read or written. The test `read_back` runs this:
+//! `AviFault` says why a file could not be read or written. The test `read_back` of `ffv1_tests`
+//! runs this:
 //!
 //! ```text
 //! let mut reader = AviReader::open(rt.alloc(), &mut input)?;
@@ -21,8 +22,6 @@ pub mod laws;
 mod open;
 mod reader;
 mod stream;
-#[cfg(test)]
-mod tests;
 mod write;
 
 pub use fault::AviFault;

@@ -29,6 +29,3 @@ pub use encode::encode_line;
 pub use fault::TooLong;
 pub use rolling::RollingRows;
 pub use states::reset;
-
-#[cfg(test)]
-mod tests;

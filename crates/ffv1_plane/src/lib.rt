@@ -26,6 +26,3 @@ pub use fault::Fault;
 pub use prediction::{Around, predict};
 pub use quantisation::{QuantSet, context, context_near};
 pub use residual::{fold, residual_of, sample_from, unfold};
-
-#[cfg(test)]
-mod tests;

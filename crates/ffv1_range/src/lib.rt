@@ -37,6 +37,3 @@ pub use fault::Fault;
 pub use parked::Parked;
 pub use table::StateTable;
 pub use tally::{Sums, Tally};
-
-#[cfg(test)]
-mod tests;

@@ -23,6 +23,3 @@ pub use fault::NoColour;
 pub use forward::forward_line;
 pub use inverse::inverse_line;
 pub use narrow::narrow_line;
-
-#[cfg(test)]
-mod tests;

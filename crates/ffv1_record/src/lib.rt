@@ -42,6 +42,3 @@ pub use read::read_record;
 pub use remainder::parity;
 pub use sets::Sets;
 pub use write::write_record;
-
-#[cfg(test)]
-mod tests;

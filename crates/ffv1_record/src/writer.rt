@@ -107,12 +107,6 @@ impl<A: Allocator> RecordWriter<A> {
         Ok(())
     }
 
-    /// How many decisions were written.
-    #[cfg(test)]
-    pub(crate) fn decisions(&self) -> u64 {
-        self.encoder.decisions()
-    }
-
     /// The bytes, by the full ending.
     pub(crate) fn finish(self) -> Result<Vec<u8, A>, RecordFault>
         ensures ok { IfOk result (λ v. (s : Spot) → Holding self s →

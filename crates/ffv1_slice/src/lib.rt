@@ -30,6 +30,3 @@ pub use footer_bytes::Footer;
 pub use grid::{Cell, Grid};
 pub use head::{SliceHead, get_head, get_key, put_head, put_key};
 pub use spans::Spans;
-
-#[cfg(test)]
-mod tests;

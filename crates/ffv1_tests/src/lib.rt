@@ -1,4 +1,4 @@
-//! Tests that cross crates, and those of frames.
+//! Tests of each crate by what it makes public, and those that cross crates.
 #![tactic(auto)]
 
 #[cfg(test)]

@@ -1,20 +1,26 @@
-//! Tests that cross crates, and those of frames.
+//! Tests of each crate by what it makes public, and those that cross crates.
 
 mod avi;
 mod checks;
-mod coder;
 mod decoded;
 mod encoded;
 mod faults;
 mod frames;
+mod line;
+mod made;
 mod orders;
 mod packs;
 mod pictures;
+mod plane;
+mod range;
+mod rct;
 mod record;
 mod refusals;
 mod shows;
+mod slice;
 mod strangers;
 mod trials;
 mod turns;
 mod unpacks;
+mod wire;
 mod y4m;

@@ -4,7 +4,8 @@
 //! `FromRead` makes a `ByteIn` of a reader of std's, and `ToWrite` a `ByteOut` of a writer;
 //! `read_byte`, `read_full`, `skip` and `write_all` are loops over them that stop at the first
 //! failure and try nothing again. A `LineSink` takes the lines of a picture, and `hand_over` gives
-//! it some in order. `laws` joins calls in a row into one. The test `end_of_input` runs this:
+//! it some in order. `laws` joins calls in a row into one. The test `end_of_input` of `ffv1_tests`
+//! runs this:
 //!
 //! ```text
 //! let mut input = FromRead::new(b"abcde".as_slice());
@@ -16,8 +17,6 @@
 pub mod laws;
 pub mod read;
 pub mod sink;
-#[cfg(test)]
-mod tests;
 pub mod write;
 
 pub use read::{ByteIn, FromRead, read_byte, read_full, skip};

@@ -4,7 +4,8 @@
 //! each `next` reads one picture into planes, whose memory is taken once, and answers false at the
 //! end of the text. A reader holds no input, each call is lent the same one. `Y4mWriter` writes
 //! pictures as the canonical text; `PpmWriter` is a sink of lines, and owns its writer. `Fault`
-//! says why a text could not be read or written. The test `example` runs these lines:
+//! says why a text could not be read or written. The test `example` of `ffv1_tests` runs these
+//! lines:
 //!
 //! ```text
 //! let mut reader = Y4mReader::open(rt.alloc(), None, &mut input)?;
@@ -25,8 +26,6 @@ mod ppm_reading;
 mod ppm_writer;
 mod reading;
 mod tags;
-#[cfg(test)]
-mod tests;
 mod values;
 mod writing;
 mod y4m_reader;

@@ -1,8 +1,0 @@
-//! Values from outside the program: records of an independent model and of FFmpeg, and records made
-//! by hand.
-
-mod checks;
-mod held;
-mod made;
-mod read;
-mod stored;

@@ -1,0 +1,441 @@
+//! Rows in both directions, beside values computed outside the program from the standard's text.
+
+ghost use Rattle.std.specs.Prelude.{◌≡◌, ◌*◌, ◌^◌, ◌<◌, ◌⊎◌, IsTrue, length, replicate};
+ghost use Rattle.std.specs.Prelude.{unsigned_abs};
+ghost use Rattle.ffv1_plane.specs.Quantisation.{contexts_of};
+ghost use Rattle.ffv1_range.specs.Symbols.{AreHeld, AllHeld};
+
+use super::range::made::put_at;
+use ffv1_line::{RollingRows, TooLong, decode_line, encode_line};
+use ffv1_plane::{Around, QuantSet, context, predict, residual_of};
+use ffv1_range::{RangeDecoder, RangeEncoder, StateTable};
+use std::process::Abort;
+use std::test::Fail;
+
+/// Whether the rows two and one above have the length of a row, of at least one sample.
+fn are_rows(two: &[u16], one: &[u16], row: &[u16]) -> bool
+    ensures some { IsTrue result → 0 < length row.now }
+    ensures two { IsTrue result → length two.now ≡ length row.now }
+    ensures one { IsTrue result → length one.now ≡ length row.now }
+{
+    !row.is_empty() && (two.len() == row.len() && one.len() == row.len())
+}
+
+/// Codes rows, one below the other, with these states.
+fn encode_rows(
+    encoder: &mut RangeEncoder,
+    table: &StateTable,
+    set: &QuantSet,
+    states: &mut [u8],
+    zeros: &[u16],
+    rows: &[&[u16]],
+    bits: u8,
+) -> Result<(), Fail>
+    requires bits { (bits ≡ 8) ⊎ (bits ≡ 9) }
+    requires rows { length states.old ≡ contexts_of set.now * 32 }
+    requires held { AllHeld table.now states.old }
+{
+    let mut two = zeros;
+    let mut one = zeros;
+    'rows: for row in rows {
+        if !are_rows(two, one, row) {
+            return Err(Fail::new("rows of other lengths, or of none"));
+        }
+        encode_line(encoder, table, set, states, two, one, row, bits)?;
+        two = one;
+        one = row;
+    }
+    Ok(())
+}
+
+/// Codes rows, with fresh states.
+fn encode_fresh(
+    rt: &HostRuntime,
+    encoder: &mut RangeEncoder,
+    table: &StateTable,
+    set: &QuantSet,
+    zeros: &[u16],
+    rows: &[&[u16]],
+    bits: u8,
+) -> Result<(), Fail>
+    requires bits { (bits ≡ 8) ⊎ (bits ≡ 9) }
+    requires fresh { AreHeld table.now (replicate 32 128) }
+{
+    let mut states = vec![in rt.alloc(); 128u8; set.contexts() as usize * 32]?;
+    encode_rows(
+        encoder,
+        table,
+        set,
+        states.as_mut_slice(),
+        zeros,
+        rows,
+        bits,
+    )
+}
+
+/// The encoder of rows, with fresh states.
+fn encoder_of(
+    rt: &HostRuntime,
+    table: &StateTable,
+    set: &QuantSet,
+    zeros: &[u16],
+    rows: &[&[u16]],
+    bits: u8,
+) -> Result<RangeEncoder, Fail>
+    requires bits { (bits ≡ 8) ⊎ (bits ≡ 9) }
+    requires fresh { AreHeld table.now (replicate 32 128) }
+{
+    let mut encoder = RangeEncoder::new(rt.alloc());
+    encode_fresh(rt, &mut encoder, table, set, zeros, rows, bits)?;
+    Ok(encoder)
+}
+
+/// Decodes a row. Rows of other lengths are told as a refusal behind the row, which no decoder
+/// answers.
+fn decode_row(
+    decoder: &mut RangeDecoder<'_>,
+    table: &StateTable,
+    set: &QuantSet,
+    states: &mut [u8],
+    two: &[u16],
+    one: &[u16],
+    row: &mut [u16],
+    bits: u8,
+) -> Result<(), TooLong>
+    requires bits { (bits ≡ 8) ⊎ (bits ≡ 9) }
+    requires rows { length states.old ≡ contexts_of set.now * 32 }
+    requires held { AllHeld table.now states.old }
+    ensures held { AllHeld table.now states.new }
+    ensures long { length states.new ≡ length states.old }
+{
+    if !are_rows(two, one, row) {
+        return Err(TooLong { x: row.len() });
+    }
+    decode_line(decoder, table, set, states, two, one, row, bits)?;
+    Ok(())
+}
+
+/// Decodes a row below rows of zeros, and tells how many decisions it took.
+fn decode_first(
+    rt: &HostRuntime,
+    table: &StateTable,
+    set: &QuantSet,
+    bytes: &[u8],
+    zeros: &[u16],
+    row: &mut [u16],
+    bits: u8,
+) -> Result<(Result<(), TooLong>, u64), Fail>
+    requires bits { (bits ≡ 8) ⊎ (bits ≡ 9) }
+    requires fresh { AreHeld table.now (replicate 32 128) }
+{
+    let mut states = vec![in rt.alloc(); 128u8; set.contexts() as usize * 32]?;
+    let mut decoder = RangeDecoder::new(bytes)?;
+    let done = decode_row(
+        &mut decoder,
+        table,
+        set,
+        states.as_mut_slice(),
+        zeros,
+        zeros,
+        row,
+        bits,
+    );
+    Ok((done, decoder.taken()))
+}
+
+/// Decodes two rows, and tells how many decisions they took.
+fn decode_two(
+    rt: &HostRuntime,
+    table: &StateTable,
+    set: &QuantSet,
+    bytes: &[u8],
+    zeros: &[u16],
+    first: &mut [u16],
+    second: &mut [u16],
+) -> Result<u64, Fail>
+    requires fresh { AreHeld table.now (replicate 32 128) }
+{
+    let mut states = vec![in rt.alloc(); 128u8; set.contexts() as usize * 32]?;
+    let mut decoder = RangeDecoder::new(bytes)?;
+    decode_row(
+        &mut decoder,
+        table,
+        set,
+        states.as_mut_slice(),
+        zeros,
+        zeros,
+        first,
+        8,
+    )?;
+    decode_row(
+        &mut decoder,
+        table,
+        set,
+        states.as_mut_slice(),
+        zeros,
+        first,
+        second,
+        8,
+    )?;
+    Ok(decoder.taken())
+}
+
+#[test]
+fn decodes_rows(rt: HostRuntime) -> Result<(), Fail> {
+    let table = StateTable::standard();
+    let set = QuantSet::small(rt.alloc())?;
+    let mut first = [0u16; 2];
+    let mut second = [0u16; 2];
+    let taken = decode_two(
+        &rt,
+        &table,
+        &set,
+        b"\x71\xC6\xE5\x2D\x49",
+        &[0; 2],
+        &mut first,
+        &mut second,
+    )?;
+    assert_eq!(rt; first, [10, 20]);
+    assert_eq!(rt; second, [30, 40]);
+    assert_eq!(rt; taken, 38);
+    Ok(())
+}
+
+/// Among such neighbours a sample has this context and residual.
+fn finds(rt: &impl Abort, set: &QuantSet, around: &Around, sample: u16, size: u32, residual: i32) {
+    let (found, flip) = context(set, around);
+    assert_eq!(rt; found, size);
+    assert_eq!(rt; residual_of(predict(around), flip, sample, 8), residual);
+}
+
+#[test]
+fn finds_contexts_and_residuals(rt: HostRuntime) -> Result<(), Fail> {
+    let set = QuantSet::small(rt.alloc())?;
+    let first = Around {
+        l: 0,
+        t: 0,
+        tl: 0,
+        tr: 0,
+        ll: 0,
+        tt: 0,
+    };
+    finds(&rt, &set, &first, 10, 0, 10);
+    finds(&rt, &set, &Around { l: 10, ..first }, 20, 3, 10);
+    finds(
+        &rt,
+        &set,
+        &Around {
+            l: 10,
+            t: 10,
+            tr: 20,
+            ..first
+        },
+        30,
+        393,
+        -20,
+    );
+    let last = Around {
+        l: 30,
+        t: 20,
+        tl: 10,
+        tr: 20,
+        ll: 10,
+        tt: 0,
+    };
+    finds(&rt, &set, &last, 40, 29, -10);
+    Ok(())
+}
+
+#[test]
+fn encodes_a_row(rt: HostRuntime) -> Result<(), Fail> {
+    let table = StateTable::standard();
+    let set = QuantSet::small(rt.alloc())?;
+    let encoder = encoder_of(&rt, &table, &set, &[0], &[&[128]], 8)?;
+    assert_eq!(rt; encoder.decisions(), 17);
+    assert!(rt; encoder.finish_sentinel()?.as_slice() == b"\x7E\x81\x80".as_slice());
+    Ok(())
+}
+
+#[test]
+fn shares_states(rt: HostRuntime) -> Result<(), Fail> {
+    let table = StateTable::standard();
+    let set = QuantSet::small(rt.alloc())?;
+    let encoder = encoder_of(&rt, &table, &set, &[0], &[&[0], &[0]], 8)?;
+    assert!(rt; encoder.finish_full()?.as_slice() == b"\xBC\x43".as_slice());
+    Ok(())
+}
+
+#[test]
+fn keeps_states_of_classes_apart(rt: HostRuntime) -> Result<(), Fail> {
+    let table = StateTable::standard();
+    let set = QuantSet::small(rt.alloc())?;
+    let mut encoder = encoder_of(&rt, &table, &set, &[0], &[&[0]], 8)?;
+    encode_fresh(&rt, &mut encoder, &table, &set, &[0], &[&[0]], 8)?;
+    assert!(rt; encoder.finish_full()?.as_slice() == b"\xBF\x40".as_slice());
+    Ok(())
+}
+
+#[test]
+fn folds_a_flipped_difference_of_128(rt: HostRuntime) -> Result<(), Fail> {
+    let table = StateTable::standard();
+    let set = QuantSet::small(rt.alloc())?;
+    let encoder = encoder_of(&rt, &table, &set, &[0], &[&[0], &[5], &[133]], 8)?;
+    assert_eq!(rt; encoder.decisions(), 25);
+    assert!(rt; encoder.finish_sentinel()?.as_slice() == b"\xAF\x71\x8D\x7A".as_slice());
+    Ok(())
+}
+
+/// The bytes of one number, by fresh states.
+fn number(rt: &HostRuntime, table: &StateTable, value: i32) -> Result<Vec<u8>, Fail>
+    requires fresh { AreHeld table.now (replicate 32 128) }
+    requires size { unsigned_abs value < 2 ^ 31 }
+{
+    let mut states = [128; 32];
+    let mut encoder = RangeEncoder::new(rt.alloc());
+    encoder.put_signed(table, &mut states, value)?;
+    Ok(encoder.finish_sentinel()?)
+}
+
+#[test]
+fn takes_a_residual_of_31_bits(rt: HostRuntime) -> Result<(), Fail> {
+    let table = StateTable::standard();
+    let set = QuantSet::small(rt.alloc())?;
+    let bytes = number(&rt, &table, -2147483647)?;
+    let mut row = [7u16];
+    let (done, taken) = decode_first(&rt, &table, &set, bytes.as_slice(), &[0], &mut row, 8)?;
+    assert!(rt; done == Ok(()));
+    assert_eq!(rt; row, [1]);
+    assert_eq!(rt; taken, 63);
+    Ok(())
+}
+
+/// Two residuals 0, and then a symbol whose exponent has 31 ones.
+fn refused_at_two(rt: &HostRuntime, table: &StateTable) -> Result<Vec<u8>, Fail>
+    requires { AreHeld table.now (replicate 32 128) }
+{
+    let mut states = [128; 32];
+    let mut encoder = RangeEncoder::new(rt.alloc());
+    put_at(&mut encoder, table, &mut states, 0, true)?;
+    put_at(&mut encoder, table, &mut states, 0, true)?;
+    put_at(&mut encoder, table, &mut states, 0, false)?;
+    for k in 0..31usize {
+        put_at(&mut encoder, table, &mut states, 1 + k.min(9), true)?;
+    }
+    Ok(encoder.finish_full()?)
+}
+
+#[test]
+fn refuses_a_long_exponent(rt: HostRuntime) -> Result<(), Fail> {
+    let table = StateTable::standard();
+    let set = QuantSet::small(rt.alloc())?;
+    let bytes = refused_at_two(&rt, &table)?;
+    let mut row = [7u16; 3];
+    let (done, taken) = decode_first(&rt, &table, &set, bytes.as_slice(), &[0; 3], &mut row, 8)?;
+    assert!(rt; done == Err(TooLong { x: 2 }));
+    assert_eq!(rt; row, [0, 0, 7]);
+    assert_eq!(rt; taken, 34);
+    Ok(())
+}
+
+/// Samples below 2^bits, so many.
+fn samples(rt: &HostRuntime, width: usize, bits: u8) -> Result<Vec<u16>, Fail> {
+    let mut row = vec![in rt.alloc(); 0u16; width]?;
+    let most = if bits == 8 { 256 } else { 512 };
+    let mut number = 9043u32;
+    for sample in row.iter_mut() {
+        number = number.wrapping_mul(1664525).wrapping_add(1013904223);
+        *sample = (number / 65536 % most) as u16;
+    }
+    Ok(row)
+}
+
+/// The code of a row below rows of zeros.
+fn code_of(
+    rt: &HostRuntime,
+    table: &StateTable,
+    set: &QuantSet,
+    row: &[u16],
+    bits: u8,
+) -> Result<Vec<u8>, Fail>
+    requires bits { (bits ≡ 8) ⊎ (bits ≡ 9) }
+    requires fresh { AreHeld table.now (replicate 32 128) }
+{
+    let zeros = vec![in rt.alloc(); 0u16; row.len()]?;
+    let encoder = encoder_of(rt, table, set, &zeros, &[row], bits)?;
+    Ok(encoder.finish_sentinel()?)
+}
+
+/// Whether the code of a row below rows of zeros decodes to it.
+fn decodes_to(
+    rt: &HostRuntime,
+    table: &StateTable,
+    set: &QuantSet,
+    bytes: &[u8],
+    row: &[u16],
+    bits: u8,
+) -> Result<bool, Fail>
+    requires bits { (bits ≡ 8) ⊎ (bits ≡ 9) }
+    requires fresh { AreHeld table.now (replicate 32 128) }
+{
+    let zeros = vec![in rt.alloc(); 0u16; row.len()]?;
+    let mut other = vec![in rt.alloc(); 7u16; row.len()]?;
+    let (done, _) = decode_first(rt, table, set, bytes, &zeros, other.as_mut_slice(), bits)?;
+    Ok(done == Ok(()) && other.as_slice() == row)
+}
+
+/// Whether a row of so many samples comes back.
+fn comes_back(
+    rt: &HostRuntime,
+    table: &StateTable,
+    set: &QuantSet,
+    width: usize,
+    bits: u8,
+) -> Result<bool, Fail>
+    requires bits { (bits ≡ 8) ⊎ (bits ≡ 9) }
+    requires fresh { AreHeld table.now (replicate 32 128) }
+{
+    let row = samples(rt, width, bits)?;
+    let bytes = code_of(rt, table, set, row.as_slice(), bits)?;
+    decodes_to(rt, table, set, bytes.as_slice(), row.as_slice(), bits)
+}
+
+/// Whether rows of 1, 2, 3, 8192 and 65539 samples come back, of 8 and of 9 bits.
+fn all_come_back(rt: &HostRuntime, table: &StateTable, set: &QuantSet) -> Result<bool, Fail>
+    requires fresh { AreHeld table.now (replicate 32 128) }
+{
+    for width in [1usize, 2, 3, 8192, 65539] {
+        if !comes_back(rt, table, set, width, 8)? || !comes_back(rt, table, set, width, 9)? {
+            return Ok(false);
+        }
+    }
+    Ok(true)
+}
+
+#[test]
+fn rows_come_back(rt: HostRuntime) -> Result<(), Fail> {
+    let table = StateTable::standard();
+    let set = QuantSet::small(rt.alloc())?;
+    assert!(rt; all_come_back(&rt, &table, &set)?);
+    Ok(())
+}
+
+#[test]
+fn rows_of_the_large_set_come_back(rt: HostRuntime) -> Result<(), Fail> {
+    let table = StateTable::standard();
+    let set = QuantSet::large(rt.alloc())?;
+    assert!(rt; all_come_back(&rt, &table, &set)?);
+    Ok(())
+}
+
+#[test]
+fn rows_change_places(rt: HostRuntime) -> Result<(), Fail> {
+    let mut rolling = RollingRows::new(rt.alloc(), 2)?;
+    rolling.cur.fill(5);
+    rolling.turn();
+    rolling.cur.fill(6);
+    rolling.turn();
+    assert!(rt; rolling.two.as_slice() == [5, 5].as_slice());
+    assert!(rt; rolling.one.as_slice() == [6, 6].as_slice());
+    assert!(rt; rolling.cur.as_slice() == [0, 0].as_slice());
+    Ok(())
+}

@@ -1,0 +1,84 @@
+//! The first slice of a picture of one sample: a keyframe bit, nine values of its head, and one
+//! residual, all of them ones.
+
+use ffv1_range::{RangeDecoder, RangeEncoder, StateTable, Tally};
+use std::test::Fail;
+
+const ELEVEN_ONES: Tally = Tally {
+    ones: 11,
+    zeros: 0,
+    renormalisations: 1,
+};
+
+#[test]
+fn eleven_ones(rt: HostRuntime) -> Result<(), Fail> {
+    let table = StateTable::standard();
+    let mut encoder = RangeEncoder::new(rt.alloc());
+    let (mut key, mut residual, mut head) = (128, 128, [128; 32]);
+    encoder.put(&table, &mut key, true).expect(&rt, "memory");
+    for _ in 0..9 {
+        encoder
+            .put_unsigned(&table, &mut head, 0)
+            .expect(&rt, "memory");
+    }
+    encoder
+        .put(&table, &mut residual, true)
+        .expect(&rt, "memory");
+    assert!(rt; encoder.tally() == ELEVEN_ONES);
+    let bytes = encoder.finish_sentinel().expect(&rt, "memory");
+    assert_eq!(rt; bytes.as_slice(), [0xfe, 0x7b].as_slice());
+    Ok(())
+}
+
+/// What the eleven decisions of a slice are, parked and woken between any two of them; nothing
+/// where one is a 0.
+fn read_parked(bytes: &[u8]) -> Option<Tally> {
+    let table = StateTable::standard();
+    let (mut key, mut residual, mut head) = (128, 128, [128; 32]);
+    let Ok(mut decoder) = RangeDecoder::new(bytes) else {
+        return None;
+    };
+    let first = decoder.get(&table, &mut key);
+    for _ in 0..9 {
+        decoder = decoder.park().wake(bytes);
+        if !matches!(decoder.get_unsigned(&table, &mut head), Ok(0)) {
+            return None;
+        }
+    }
+    decoder = decoder.park().wake(bytes);
+    let last = decoder.get(&table, &mut residual);
+    if first && last {
+        Some(decoder.tally())
+    } else {
+        None
+    }
+}
+
+#[test]
+fn any_byte_behind(rt: HostRuntime) -> Result<(), Fail> {
+    assert!(rt; read_parked(&[0xfe, 0x7b]) == Some(ELEVEN_ONES));
+    for byte in 0..=255u8 {
+        assert!(rt; read_parked(&[0xfe, 0x7b, byte]) == Some(ELEVEN_ONES));
+    }
+    Ok(())
+}
+
+#[test]
+fn other_bytes(rt: HostRuntime) {
+    let table = StateTable::standard();
+    let mut state = 128;
+    let mut decoder = RangeDecoder::new(&[0x80, 0x3f, 0x40]).expect(&rt, "a good start");
+    let first = decoder.get(&table, &mut state);
+    let parked = decoder.park();
+    let tally = Tally {
+        ones: 1,
+        zeros: 0,
+        renormalisations: 0,
+    };
+    assert_eq!(rt; parked.taken(), 1);
+    assert!(rt; parked.tally() == tally);
+    let mut woken = parked.wake(&[]);
+    woken.get(&table, &mut state);
+    assert!(rt; first);
+    assert_eq!(rt; woken.taken(), 2);
+}

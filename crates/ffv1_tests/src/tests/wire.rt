@@ -1,0 +1,4 @@
+//! Readers, writers and sinks.
+
+mod bytes;
+mod sinks;

@@ -1,0 +1,58 @@
+//! Reads that fail behind bytes that were read.
+
+use ffv1_doubles::BrokenReader;
+use ffv1_wire::FromRead;
+use ffv1_y4m::{Fault, PpmReader, Y4mReader};
+use std::alloc::Global;
+use std::test::Fail;
+
+/// The fault of opening what was read of a text of YUV4MPEG2, or else of its next picture.
+fn picture_fault(alloc: Global, text: &[u8]) -> Option<Fault> {
+    let mut input = FromRead::new(BrokenReader::new(text));
+    match Y4mReader::open(alloc, None, &mut input) {
+        Err(fault) => Some(fault),
+        Ok(mut reader) => reader.next(&mut input, &mut Vec::new(alloc)).err(),
+    }
+}
+
+#[test]
+fn failed_reads_of_pictures(rt: HostRuntime) -> Result<(), Fail> {
+    let rows: [(&[u8], Option<Fault>); 8] = [
+        (b"", Some(Fault::Read)),
+        (b"YUV4MPEG2 W1", Some(Fault::Read)),
+        (b"YUV4MPEG2 W1\n", Some(Fault::Tag)),
+        (b"YUV4MPEG2 W2 H1 Cmono\n", Some(Fault::Read)),
+        (b"YUV4MPEG2 W2 H1 Cmono\nFRA", Some(Fault::Read)),
+        (b"YUV4MPEG2 W2 H1 Cmono\nFRa", Some(Fault::FrameLine)),
+        (b"YUV4MPEG2 W2 H1 Cmono\nFRAME\na", Some(Fault::Read)),
+        (b"YUV4MPEG2 W2 H1 Cmono\nFRAME\nab", None),
+    ];
+    for (text, fault) in rows {
+        assert!(rt; picture_fault(rt.alloc(), text) == fault);
+    }
+    Ok(())
+}
+
+/// The same of a text of PPM.
+fn image_fault(alloc: Global, text: &[u8]) -> Option<Fault> {
+    let mut input = FromRead::new(BrokenReader::new(text));
+    match PpmReader::open(alloc, None, &mut input) {
+        Err(fault) => Some(fault),
+        Ok(mut reader) => reader.next(&mut input, &mut Vec::new(alloc)).err(),
+    }
+}
+
+#[test]
+fn failed_reads_of_images(rt: HostRuntime) -> Result<(), Fail> {
+    let rows: [(&[u8], Option<Fault>); 5] = [
+        (b"P6", Some(Fault::Read)),
+        (b"P6 1", Some(Fault::Header)),
+        (b"P6\n1 1\n255", Some(Fault::Read)),
+        (b"P6\n1 1\n255\nab", Some(Fault::Read)),
+        (b"P6\n1 1\n255\nabc", None),
+    ];
+    for (text, fault) in rows {
+        assert!(rt; image_fault(rt.alloc(), text) == fault);
+    }
+    Ok(())
+}

@@ -1,6 +1,0 @@
-//! Texts as other programs write them, and worked values.
-
-mod failing;
-mod headers;
-mod images;
-mod pictures;
