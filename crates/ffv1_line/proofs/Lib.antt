@@ -1,6 +1,9 @@
 pub mod Cells
 pub mod Joined
+pub mod Prepared
 pub mod Rows
+pub mod Beside
+pub mod BlockLanes
 pub mod Suits
 pub mod Lengths
 pub mod SameRow
@@ -9,5 +12,4 @@ pub mod ThreeRows
 pub mod CellBack
 pub mod MostDecisions
 pub mod SamplesBelow
-pub mod RefusedRows
 pub mod Agreeing

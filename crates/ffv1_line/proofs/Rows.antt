@@ -9,11 +9,7 @@ use Rattle.ffv1_plane.specs.Quantisation.{Set}
 use Rattle.ffv1_line.specs.Cell.{Cell, seen, around, Shows, Above}
 use Rattle.ffv1_line.specs.Internal.Along.{Left, Stands}
 use Rattle.ffv1_range.specs.Writing.{Writing}
-use Rattle.ffv1_range.specs.Puts.{Puts}
-use Rattle.ffv1_range.proofs.Steps.{puts_append, puts_none}
-use Rattle.ffv1_plane.specs.Prediction.{predicted}
-use Rattle.ffv1_plane.specs.Context.{flip_of}
-use Rattle.ffv1_plane.specs.Residual.{chosen_of}
+use Rattle.ffv1_range.proofs.Steps.{puts_none}
 use Rattle.ffv1_line.specs.Row.{chosen_at, chosen_row}
 use Rattle.ffv1_line.specs.Encoded.{Written}
 use Rattle.ffv1_line.specs.Row.{SuitsAt, AreSuiting, sample_steps, refused_steps, row_steps}
@@ -27,11 +23,11 @@ seen_clamped c x (suc zero) = refl
 seen_clamped c x (suc (suc y)) = ap (λ k. c.at k y) (omega arith)
 
 -- left of the cell stands the sample above
-seen_border : (c : Cell) (y : ℕ) → seen c 1 (suc y) ≡ seen c 2 y
+pub seen_border : (c : Cell) (y : ℕ) → seen c 1 (suc y) ≡ seen c 2 y
 unfolding seen
 seen_border c y = refl
 
-seen_far : (c : Cell) (y : ℕ) → seen c 0 y ≡ 0
+pub seen_far : (c : Cell) (y : ℕ) → seen c 0 y ≡ 0
 unfolding seen
 seen_far c y = refl
 
@@ -164,43 +160,6 @@ chosen-more set bits c y n = rw add-one refl
 pub written_none : (t : Table) (set : Set) (bits : ℕ) (w : Writing) (states two one cur : List ℕ) → Written t set bits w states w states two one cur 0
 written_none t set bits w states two one cur = record {
   puts = λ c y above shows. rw (chosen-none set bits c y) (puts_none t w states);
-}
-
--- along a row that stands
-pub stands-shows : (c : Cell) (y : ℕ) (row : List ℕ) (x : ℕ) → Shows c y row (x + 1) → Shows c y row x
-stands-shows c y row x shows = record { each = λ k h. shows.each k (omega arith) }
-
-pub stands_along : (two one cur : List ℕ) (x k ll l tl t : ℕ) → k ≡ min (x + 1) (length one - 1) → x < length cur → length one ≡ length cur →
-    Stands two one cur x ll l tl t → Stands two one cur (x + 1) l (get_or cur x 0) t (get_or one k 0)
-stands_along two one cur x k ll l tl t is inside same stands =
-    let more : suc x ≡ x + 1 = omega arith in
-    subst (λ n. Stands two one cur n l (get_or cur x 0) t (get_or one k 0)) more (record {
-      each = λ c y above shows.
-          let left = stands.each c y above (record { each = λ i h. shows.each i (omega arith) }) in
-          record {
-            ll_is = left.l_is;
-            l_is = shows.each x (omega arith);
-            tl_is = left.t_is;
-            t_is = top_right c y two one x k is (omega arith) above;
-          };
-    })
-
-pub written_next : (t : Table) (set : Set) (bits : ℕ) (old : Writing) (states : List ℕ) (mid : Writing) (between : List ℕ) (new : Writing) (after two one cur : List ℕ) (x k ll l tl top : ℕ) →
-    k ≡ min (x + 1) (length one - 1) → x < length cur → length one ≡ length cur → Stands two one cur x ll l tl top → Written t set bits old states mid between two one cur x →
-    Puts t mid between new after (sample_steps set (scalars l top tl (get_or one k 0) ll (get_or two x 0))
-    (chosen_of bits (predicted (scalars l top tl (get_or one k 0) ll (get_or two x 0))) (flip_of set (scalars l top tl (get_or one k 0) ll (get_or two x 0))) (get_or cur x 0))) →
-    Written t set bits old states new after two one cur (x + 1)
-written_next t set bits old states mid between new after two one cur x k ll l tl top is inside same stands written puts = record {
-  puts = λ c y above shows.
-      let before = stands-shows c (suc (suc y)) cur x shows in
-      let left = stands.each c y above before in
-      let neighbours = around_is c y x two one k ll l tl top is (omega arith) above left in
-      let sample : get_or cur x 0 ≡ seen c (suc (suc x)) (suc (suc y)) = shows.each x (omega arith) in
-      let puts : Puts t mid between new after (sample_steps set (around c x y) (chosen_of bits (predicted (around c x y)) (flip_of set (around c x y)) (get_or cur x 0))) =
-      subst (λ a. Puts t mid between new after (sample_steps set a (chosen_of bits (predicted a) (flip_of set a) (get_or cur x 0)))) neighbours puts in
-      let puts = rw sample at puts in
-      rw (chosen-more set bits c y x, row_steps-append set c y 0 x (chosen_row set bits c y x) (chosen_at set bits c y x) (omega (arith, length-chosen set bits c y x)))
-      (puts_append _ _ _ _ _ _ _ _ _ (written.puts c y above before) puts);
 }
 
 -- a write at a place leaves those behind it

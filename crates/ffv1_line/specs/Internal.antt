@@ -1,2 +1,3 @@
 -- What ties variables of the code to the definitions. No public clause cites it.
 pub mod Along
+pub mod Block

@@ -5,50 +5,91 @@ ghost use Rattle.std.specs.Prelude.{length, IsTrue, slice_index, List};
 ghost use Rattle.ffv1_range.specs.Symbols.{AllHeld};
 ghost use Rattle.ffv1_range.specs.Follows.{Follows};
 ghost use Rattle.ffv1_range.specs.Reading.{Reading, summed};
+ghost use Rattle.ffv1_range.specs.Among.{AreNonzeros, sums_among, sums_refused};
 ghost use Rattle.ffv1_plane.specs.Quantisation.{contexts_of, IsNear};
 ghost use Rattle.ffv1_line.specs.Row.{refused_steps};
 ghost use Rattle.ffv1_line.specs.Decoded.{Sampled, Lined, Refused, SameFrom};
-ghost use Rattle.ffv1_line.specs.Internal.Along.{Stands};
+ghost use Rattle.ffv1_line.specs.Internal.Along.{IsBehind, IsFilled, IsPrepared};
+ghost use Rattle.ffv1_line.specs.Internal.Along.{IsPreparedSomehow};
 
 use crate::fault::TooLong;
-use crate::neighbours::{Along, BLOCK, context_by, right_above};
-use ffv1_plane::{Around, QuantSet, predict, sample_from};
-use ffv1_range::{RangeDecoder, StateTable, Sums};
+use ffv1_plane::{BLOCK, Early, QuantSet, late_context, predict_late, sample_late};
+use ffv1_range::{Nonzeros, RangeDecoder, StateTable};
 use std::alloc::Allocator;
 
-/// The sample that comes next. Its decisions are counted in `sums`.
+/// What is carried from place to place along a row: the samples two to the left and to the left.
+#[derive(Clone, Copy)]
+struct Behind {
+    ll: u16,
+    l: u16,
+}
+
+/// The sample that comes next, at place `i` of a block, which adds its symbol to `nonzeros`.
 #[inline(always)]
 fn decode_sample<B: Allocator>(
     decoder: &mut RangeDecoder<'_>,
-    sums: &mut Sums,
+    nonzeros: &mut Nonzeros,
     table: &StateTable,
     set: &QuantSet<B>,
     states: &mut [u8],
-    around: &Around,
+    early: &Early,
+    i: usize,
+    behind: Behind,
     bits: u8,
     near: bool,
 ) -> Result<u16, ()>
     requires bits { (bits ≡ 8) ⊎ (bits ≡ 9) }
     requires near { IsTrue near → IsNear set.now }
+    requires inside { i < 128 }
+    requires prepared { IsPreparedSomehow set.now early.now i }
     requires rows { length states.old ≡ contexts_of set.now * 32 }
     requires held { AllHeld table.now states.old }
-    requires room { sums.old.ones + sums.old.zeros + 63 < 2 ^ 32 }
-    ensures ok { IfOk result (λ s. Sampled table.now set.now bits (summed decoder.old sums.old)
-        states.old (summed decoder.new sums.new) states.new around.now s) }
-    ensures refused { OnErr result (Follows table.now (summed decoder.old sums.old) states.old
-        (summed decoder.new sums.new) states.new (refused_steps set.now around.now)) }
-    ensures few { sums.new.ones + sums.new.zeros ≤ sums.old.ones + sums.old.zeros + 63 }
+    requires are { AreNonzeros nonzeros.old }
+    requires few { nonzeros.old.symbols ≤ i }
+    ensures ok { IfOk result (λ s. (tr tt : ℕ) → IsPrepared set.now early.now i tr tt →
+        Sampled table.now set.now bits (summed decoder.old (sums_among i nonzeros.old)) states.old
+        (summed decoder.new (sums_among (i + 1) nonzeros.new)) states.new (record {
+          l = behind.l;
+          t = slice_index early.now.t i;
+          tl = slice_index early.now.tl i;
+          tr = tr;
+          ll = behind.ll;
+          tt = tt;
+        }) s) }
+    ensures refused { OnErr result ((tr tt : ℕ) → IsPrepared set.now early.now i tr tt →
+        Follows table.now (summed decoder.old (sums_among i nonzeros.old)) states.old
+        (summed decoder.new (sums_refused i nonzeros.new)) states.new (refused_steps set.now
+        (record {
+          l = behind.l;
+          t = slice_index early.now.t i;
+          tl = slice_index early.now.tl i;
+          tr = tr;
+          ll = behind.ll;
+          tt = tt;
+        }))) }
+    ensures are { AreNonzeros nonzeros.new }
+    ensures few { nonzeros.new.symbols ≤ i + 1 }
+    ensures stays { OnErr result (nonzeros.new ≡ nonzeros.old) }
     ensures held { AllHeld table.now states.new }
 {
-    let (size, flip) = context_by(set, around, near);
-    match decoder.sum_signed_in_row(sums, table, states, size as usize) {
-        Ok(residual) => Ok(sample_from(predict(around), flip, residual, bits)),
+    let Behind { ll, l } = behind;
+    let (size, flip) = late_context(set, early.sum[i], l, early.tl[i], ll, near);
+    let prediction = predict_late(l, early.t[i], early.least[i], early.most[i]);
+    match decoder.tally_signed_in_row(nonzeros, table, states, size as usize) {
+        Ok(residual) => {
+            // A zero, the most frequent one, has no sign to flip.
+            if residual == 0 {
+                return Ok(sample_late(prediction, false, 0, bits));
+            }
+            Ok(sample_late(prediction, flip, residual, bits))
+        }
         Err(_) => Err(()),
     }
 }
 
-/// The places of a row from `from` to before `upto`, by a decoder that is no one else's. `near` may
-/// be said of a set whose fourth and fifth tables have one level.
+/// The `count` places of a row from `from` on, by a decoder that is no one else's. `early` is what
+/// the rows above decide of them. `near` may be said of a set whose fourth and fifth tables have
+/// one level.
 #[inline(always)]
 fn decode_block<B: Allocator>(
     decoder: &mut RangeDecoder<'_>,
@@ -58,35 +99,31 @@ fn decode_block<B: Allocator>(
     two: &[u16],
     one: &[u16],
     cur: &mut [u16],
-    along: &mut Along,
+    early: &Early,
+    behind: &mut Behind,
     from: usize,
-    upto: usize,
+    count: usize,
     bits: u8,
     near: bool,
 ) -> Result<(), TooLong>
     requires bits { (bits ≡ 8) ⊎ (bits ≡ 9) }
     requires near { IsTrue near → IsNear set.now }
-    requires ordered { from ≤ upto }
-    requires few { upto ≤ from + 65536 }
-    requires within { upto ≤ length cur.old }
-    requires some { 0 < length cur.old }
+    requires few { count ≤ 128 }
+    requires within { from + count ≤ length cur.old }
     requires two_long { length two.now ≡ length cur.old }
     requires one_long { length one.now ≡ length cur.old }
     requires rows { length states.old ≡ contexts_of set.now * 32 }
     requires held { AllHeld table.now states.old }
-    requires top { from < length one.now → along.old.t ≡ slice_index one.now from }
-    requires stands { Stands two.now one.now cur.old from along.old.ll along.old.l along.old.tl
-        along.old.t }
+    requires filled { IsFilled set.now two.now one.now from early.now count }
+    requires begins { IsBehind two.now one.now cur.old from behind.old.ll behind.old.l }
     ensures ok { OnOk result ((first : Reading) (fresh : List ℕ) →
         Lined table.now set.now bits first fresh decoder.old states.old two.now one.now cur.old
         from → Lined table.now set.now bits first fresh decoder.new states.new two.now one.now
-        cur.new upto) }
-    ensures top { OnOk result (upto < length one.now →
-        along.new.t ≡ slice_index one.now upto) }
-    ensures stands { OnOk result (Stands two.now one.now cur.new upto along.new.ll along.new.l
-        along.new.tl along.new.t) }
+        cur.new (from + count)) }
+    ensures begins { OnOk result (IsBehind two.now one.now cur.new (from + count) behind.new.ll
+        behind.new.l) }
     ensures on { OnOk result ((before : List ℕ) → SameFrom from before cur.old →
-        SameFrom upto before cur.new) }
+        SameFrom (from + count) before cur.new) }
     ensures refused { IfErr result (λ e. (first : Reading) (fresh : List ℕ) →
         Lined table.now set.now bits first fresh decoder.old states.old two.now one.now cur.old
         from → Refused table.now set.now bits first fresh decoder.new states.new two.now one.now
@@ -96,35 +133,36 @@ fn decode_block<B: Allocator>(
         SameFrom e.x before cur.new) }
     ensures held { AllHeld table.now states.new }
 {
-    let mut sums = decoder.sums();
-    let (mut ll, mut l, mut tl, mut t) = (along.ll, along.l, along.tl, along.t);
-    let last = cur.len() - 1;
-    for x in from..upto {
-        let tr = right_above(one, x, last, t);
-        let around = Around {
-            l,
-            t,
-            tl,
-            tr,
-            ll,
-            tt: two[x],
-        };
-        match decode_sample(decoder, &mut sums, table, set, states, &around, bits, near) {
+    let mut nonzeros = decoder.nonzeros();
+    let mut along = *behind;
+    for i in 0..count {
+        match decode_sample(
+            decoder,
+            &mut nonzeros,
+            table,
+            set,
+            states,
+            early,
+            i,
+            along,
+            bits,
+            near,
+        ) {
             Ok(sample) => {
-                cur[x] = sample;
-                ll = l;
-                l = sample;
-                tl = t;
-                t = tr;
+                cur[from + i] = sample;
+                along = Behind {
+                    ll: along.l,
+                    l: sample,
+                };
             }
             Err(_) => {
-                decoder.count_all(&sums);
-                return Err(TooLong { x });
+                decoder.count_all(&nonzeros.among_refused(i as u32));
+                return Err(TooLong { x: from + i });
             }
         }
     }
-    decoder.count_all(&sums);
-    *along = Along { ll, l, tl, t };
+    decoder.count_all(&nonzeros.among(count as u32));
+    *behind = along;
     Ok(())
 }
 
@@ -157,19 +195,28 @@ fn decode_row<B: Allocator>(
     ensures behind { IfErr result (λ e. SameFrom e.x cur.old cur.new) }
     ensures held { AllHeld table.now states.new }
 {
-    let mut along = Along {
-        ll: 0,
-        l: one[0],
-        tl: two[0],
-        t: one[0],
-    };
+    let mut early = Early::new();
+    let mut behind = Behind { ll: 0, l: one[0] };
     let mut from = 0;
     'parts: while from < cur.len() {
-        let upto = from + (cur.len() - from).min(BLOCK);
+        let count = (cur.len() - from).min(BLOCK);
+        early.fill(set, two, one, from, count, near);
         match decode_block(
-            decoder, table, set, states, two, one, cur, &mut along, from, upto, bits, near,
+            decoder,
+            table,
+            set,
+            states,
+            two,
+            one,
+            cur,
+            &early,
+            &mut behind,
+            from,
+            count,
+            bits,
+            near,
         ) {
-            Ok(()) => from = upto,
+            Ok(()) => from += count,
             Err(refused) => return Err(refused),
         }
     }

@@ -1,60 +1,86 @@
 //! A row is encoded.
 
-ghost use Rattle.std.specs.Prelude.{◌≡◌, ℕ, ◌+◌, ◌*◌, ◌^◌, ◌≤◌, ◌<◌, ◌⊎◌, OnOk, OnErr, IfErr};
-ghost use Rattle.std.specs.Prelude.{IsErr, IsTrue, length, false, slice_index, List};
+ghost use Rattle.std.specs.Prelude.{◌≡◌, ◌+◌, ◌*◌, ◌≤◌, ◌<◌, ◌⊎◌, OnOk, OnErr, IfErr, IsErr};
+ghost use Rattle.std.specs.Prelude.{IsTrue, length, false, unsigned_abs, ◌^◌};
 ghost use Rattle.ffv1_range.specs.Symbols.{AllHeld};
 ghost use Rattle.ffv1_range.specs.Puts.{Puts, MayBeRefused};
-ghost use Rattle.ffv1_range.specs.Writing.{Writing, summed_writing};
 ghost use Rattle.ffv1_range.specs.declared.fault.Fault.TheVariants as fault;
-ghost use Rattle.ffv1_plane.specs.Prediction.{predicted};
 ghost use Rattle.ffv1_plane.specs.Quantisation.{contexts_of, IsNear};
-ghost use Rattle.ffv1_plane.specs.Context.{flip_of};
-ghost use Rattle.ffv1_plane.specs.Residual.{chosen_of};
-ghost use Rattle.ffv1_line.specs.Row.{sample_steps};
+ghost use Rattle.ffv1_range.specs.Listed.{of_nine_bits};
+ghost use Rattle.ffv1_line.specs.Beside.{places_steps};
+ghost use Rattle.ffv1_line.specs.Internal.Block.{IsBlock};
 ghost use Rattle.ffv1_line.specs.Encoded.{Written, MayBeRefusedRow};
-ghost use Rattle.ffv1_line.specs.Internal.Along.{Stands};
 
-use crate::neighbours::{Along, BLOCK, context_by, right_above};
-use ffv1_plane::{Around, QuantSet, predict, residual_of};
-use ffv1_range::{Fault, RangeEncoder, StateTable, Sums};
+use crate::block::{Block, LIST, PLACES, list_places, prepare};
+use ffv1_plane::QuantSet;
+use ffv1_range::{Fault, RangeEncoder, StateTable};
 use std::alloc::Allocator;
 
-/// The residual of a sample. Its decisions are counted in `sums`.
+/// In a block of fewer nonzero residuals the symbols are written one by one.
+const CALM: u32 = 8;
+
+/// A residual of nine bits by itself modulo 512.
 #[inline(always)]
-fn encode_sample<A: Allocator, B: Allocator>(
+fn residual_of_nine(residual: u16) -> i32
+    requires { residual < 512 }
+    ensures value { result ≡ of_nine_bits residual }
+    ensures size { unsigned_abs result < 2 ^ 31 }
+{
+    let number = residual as i32;
+    if number < 256 {
+        return number;
+    }
+    number - 512
+}
+
+/// Whether nearly all residuals are zero, so that their symbols are written one by one faster than
+/// by a list.
+fn are_calm(residuals: &[u16]) -> bool {
+    let mut busy = 0u32;
+    for &residual in residuals {
+        busy = busy.wrapping_add(u32::from(residual != 0));
+    }
+    busy < CALM
+}
+
+/// The symbols of the places of a block that was prepared by these rows, one by one.
+#[inline(never)]
+fn put_places<A: Allocator, B: Allocator>(
     encoder: &mut RangeEncoder<A>,
-    sums: &mut Sums,
     table: &StateTable,
     set: &QuantSet<B>,
     states: &mut [u8],
-    around: &Around,
-    sample: u16,
+    two: &[u16],
+    one: &[u16],
+    cur: &[u16],
+    block: &Block,
+    from: usize,
+    few: usize,
     bits: u8,
-    near: bool,
 ) -> Result<(), Fault>
     requires sound { encoder.old.failed ≡ false }
-    requires bits { (bits ≡ 8) ⊎ (bits ≡ 9) }
-    requires near { IsTrue near → IsNear set.now }
+    requires few { few ≤ 64 }
+    requires block { IsBlock set.now bits two.now one.now cur.now from few block.now.contexts
+        block.now.residuals }
     requires rows { length states.old ≡ contexts_of set.now * 32 }
     requires held { AllHeld table.now states.old }
-    requires room { sums.old.ones + sums.old.zeros + 63 < 2 ^ 32 }
-    ensures ok { OnOk result (Puts table.now (summed_writing encoder.old sums.old) states.old
-        (summed_writing encoder.new sums.new) states.new (sample_steps set.now around.now
-        (chosen_of bits (predicted around.now) (flip_of set.now around.now) sample))) }
+    ensures ok { OnOk result (Puts table.now encoder.old states.old encoder.new states.new
+        (places_steps set.now bits two.now one.now cur.now from few)) }
     ensures refused { OnErr result (MayBeRefused table.now encoder.old states.old
-        (sample_steps set.now around.now
-        (chosen_of bits (predicted around.now) (flip_of set.now around.now) sample))) }
-    ensures few { sums.new.ones + sums.new.zeros ≤ sums.old.ones + sums.old.zeros + 63 }
+        (places_steps set.now bits two.now one.now cur.now from few)) }
     ensures held { AllHeld table.now states.new }
     ensures err { IfErr result (λ f. (f ≡ fault.OutOfMemory) × IsTrue encoder.new.failed) }
 {
-    let (size, flip) = context_by(set, around, near);
-    let residual = residual_of(predict(around), flip, sample, bits);
-    encoder.sum_signed_in_row(sums, table, states, size as usize, residual)?;
+    let _contexts = set.contexts();
+    for k in 0..few {
+        let context = block.contexts[k] as usize;
+        let residual = residual_of_nine(block.residuals[k]);
+        encoder.put_signed_in_row(table, states, context, residual)?;
+    }
     Ok(())
 }
 
-/// The places of a row from `from` to before `upto`, by an encoder that has not failed. `near` may
+/// The places of a row from `from` on, `few` of them, by an encoder that has not failed. `near` may
 /// be said of a set whose fourth and fifth tables have one level.
 #[inline(always)]
 fn encode_block<A: Allocator, B: Allocator>(
@@ -65,66 +91,37 @@ fn encode_block<A: Allocator, B: Allocator>(
     two: &[u16],
     one: &[u16],
     cur: &[u16],
-    along: &mut Along,
+    block: &mut Block,
     from: usize,
-    upto: usize,
+    few: usize,
     bits: u8,
     near: bool,
 ) -> Result<(), Fault>
     requires sound { encoder.old.failed ≡ false }
     requires bits { (bits ≡ 8) ⊎ (bits ≡ 9) }
     requires near { IsTrue near → IsNear set.now }
-    requires ordered { from ≤ upto }
-    requires few { upto ≤ from + 65536 }
-    requires within { upto ≤ length cur.now }
+    requires few { few ≤ 64 }
+    requires within { from + few ≤ length cur.now }
     requires some { 0 < length cur.now }
     requires two_long { length two.now ≡ length cur.now }
     requires one_long { length one.now ≡ length cur.now }
     requires rows { length states.old ≡ contexts_of set.now * 32 }
     requires held { AllHeld table.now states.old }
-    requires top { from < length one.now → along.old.t ≡ slice_index one.now from }
-    requires stands { Stands two.now one.now cur.now from along.old.ll along.old.l along.old.tl
-        along.old.t }
-    ensures ok { OnOk result ((first : Writing) (fresh : List ℕ) →
-        Written table.now set.now bits first fresh encoder.old states.old two.now one.now cur.now
-        from → Written table.now set.now bits first fresh encoder.new states.new two.now one.now
-        cur.now upto) }
-    ensures sound { OnOk result (encoder.new.failed ≡ false) }
-    ensures top { OnOk result (upto < length one.now →
-        along.new.t ≡ slice_index one.now upto) }
-    ensures stands { OnOk result (Stands two.now one.now cur.now upto along.new.ll along.new.l
-        along.new.tl along.new.t) }
-    ensures refused { OnErr result ((first : Writing) (fresh : List ℕ) →
-        Written table.now set.now bits first fresh encoder.old states.old two.now one.now cur.now
-        from → MayBeRefusedRow table.now set.now bits first fresh two.now one.now cur.now
-        (length cur.now)) }
+    ensures ok { OnOk result (Puts table.now encoder.old states.old encoder.new states.new
+        (places_steps set.now bits two.now one.now cur.now from few)) }
+    ensures refused { OnErr result (MayBeRefused table.now encoder.old states.old
+        (places_steps set.now bits two.now one.now cur.now from few)) }
     ensures held { AllHeld table.now states.new }
     ensures err { IfErr result (λ f. (f ≡ fault.OutOfMemory) × IsTrue encoder.new.failed) }
 {
-    let mut sums = encoder.sums();
-    let (mut ll, mut l, mut tl, mut t) = (along.ll, along.l, along.tl, along.t);
-    let last = cur.len() - 1;
-    for x in from..upto {
-        let tr = right_above(one, x, last, t);
-        let sample = cur[x];
-        let around = Around {
-            l,
-            t,
-            tl,
-            tr,
-            ll,
-            tt: two[x],
-        };
-        encode_sample(
-            encoder, &mut sums, table, set, states, &around, sample, bits, near,
-        )?;
-        ll = l;
-        l = sample;
-        tl = t;
-        t = tr;
+    prepare(block, set, two, one, cur, from, few, bits, near);
+    if are_calm(&block.residuals[..few]) {
+        return put_places(
+            encoder, table, set, states, two, one, cur, block, from, few, bits,
+        );
     }
-    encoder.count_all(&sums);
-    *along = Along { ll, l, tl, t };
+    let upto = list_places(block, set, two, one, cur, from, few, bits);
+    encoder.put_all(table, states, &block.list[..upto])?;
     Ok(())
 }
 
@@ -157,19 +154,18 @@ fn encode_row<A: Allocator, B: Allocator>(
     ensures held { AllHeld table.now states.new }
     ensures err { IfErr result (λ f. (f ≡ fault.OutOfMemory) × IsTrue encoder.new.failed) }
 {
-    let mut along = Along {
-        ll: 0,
-        l: one[0],
-        tl: two[0],
-        t: one[0],
+    let mut block = Block {
+        contexts: [0; PLACES],
+        residuals: [0; PLACES],
+        list: [0; LIST],
     };
     let mut from = 0;
     'parts: while from < cur.len() {
-        let upto = from + (cur.len() - from).min(BLOCK);
+        let few = (cur.len() - from).min(PLACES);
         encode_block(
-            encoder, table, set, states, two, one, cur, &mut along, from, upto, bits, near,
+            encoder, table, set, states, two, one, cur, &mut block, from, few, bits, near,
         )?;
-        from = upto;
+        from += few;
     }
     Ok(())
 }

@@ -16,6 +16,7 @@
 //! rows; `laws` has what follows: bytes code one row at most, and what was written comes back.
 #![tactic(auto)]
 
+mod block;
 pub mod decode;
 pub mod encode;
 pub mod fault;

@@ -7,20 +7,6 @@ ghost use Rattle.ffv1_plane.specs.Context.{size_of, flip_of};
 use ffv1_plane::{Around, QuantSet, context, context_near};
 use std::alloc::Allocator;
 
-/// How many places of a row are coded before their decisions, at most 63 a place, are counted by
-/// the coder.
-pub(crate) const BLOCK: usize = 65536;
-
-/// What is carried from place to place along a row: the samples two to the left, to the left, above
-/// to the left and above.
-#[derive(Clone, Copy)]
-pub(crate) struct Along {
-    pub(crate) ll: u16,
-    pub(crate) l: u16,
-    pub(crate) tl: u16,
-    pub(crate) t: u16,
-}
-
 /// The sample to the right above a place, whose sample above is `t`: behind the end of a row stands
 /// its last sample (RFC 9043, 3.1).
 #[inline(always)]

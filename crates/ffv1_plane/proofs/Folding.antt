@@ -19,10 +19,10 @@ congruent_turned : (n : ℕ) (flip : Bool) (x y : ℤ) → IsCongruent n x y →
 congruent_turned n false x y is = is
 congruent_turned n true x y is = let same = is.same in record { down = is.up; up = is.down; same = omega (arith, ints) }
 
-congruent_sym : (n : ℕ) (x y : ℤ) → IsCongruent n x y → IsCongruent n y x
+pub congruent_sym : (n : ℕ) (x y : ℤ) → IsCongruent n x y → IsCongruent n y x
 congruent_sym n x y is = record { down = is.up; up = is.down; same = sym is.same }
 
-congruent_trans : (n : ℕ) (x y z : ℤ) → IsCongruent n x y → IsCongruent n y z → IsCongruent n x z
+pub congruent_trans : (n : ℕ) (x y z : ℤ) → IsCongruent n x y → IsCongruent n y z → IsCongruent n x z
 congruent_trans n x y z p q =
     let one = p.same in
     let two = q.same in
@@ -33,10 +33,10 @@ turned_twice false x = refl
 turned_twice true x = omega (arith, ints)
 
 -- a difference and what it is folded to, where n is two halves
-record Near (n half : ℕ) (d f : ℤ) : Type 0 where
-  near : IsCongruent n d f
-  least : (pos 0 -ℤ pos half) ≤ℤ f
-  most : f <ℤ pos half
+pub record Near (n half : ℕ) (d f : ℤ) : Type 0 where
+  pub near : IsCongruent n d f
+  pub least : (pos 0 -ℤ pos half) ≤ℤ f
+  pub most : f <ℤ pos half
 
 folding : (n half : ℕ) (d : ℤ) → n ≡ half + half → 0 < half → Near n half d (int_rem_euclid (d +ℤ pos half) (pos n) -ℤ pos half)
 folding n half d whole some =
@@ -49,7 +49,7 @@ folding n half d whole some =
       most = omega (arith, ints);
     })
 
-folded_near : (bits : ℕ) (d : ℤ) → 0 < bits → Near (2 ^ bits) (2 ^ (bits - 1)) d (folded bits d)
+pub folded_near : (bits : ℕ) (d : ℤ) → 0 < bits → Near (2 ^ bits) (2 ^ (bits - 1)) d (folded bits d)
 folded_near bits d some = folding (2 ^ bits) (2 ^ (bits - 1)) d (halved bits some) (pow_pos (bits - 1))
 
 pub chosen_folded : (bits : ℕ) (p : ℤ) (flip : Bool) (s : ℕ) → 0 < bits → IsFolded bits (chosen_of bits p flip s)
@@ -109,7 +109,7 @@ only_chosen bits p flip s q some suits range =
     same_folded n (2 ^ (bits - 1)) q (chosen_of bits p flip s) whole positive (congruent_trans n _ _ _ turned_near chosen.near) range.least range.most chosen.least chosen.most
 
 -- a folded number that is congruent to a difference is what it is folded to
-folded_is : (bits : ℕ) (d f : ℤ) → 0 < bits → IsCongruent (2 ^ bits) d f → (pos 0 -ℤ pos (2 ^ (bits - 1))) ≤ℤ f → f <ℤ pos (2 ^ (bits - 1)) → folded bits d ≡ f
+pub folded_is : (bits : ℕ) (d f : ℤ) → 0 < bits → IsCongruent (2 ^ bits) d f → (pos 0 -ℤ pos (2 ^ (bits - 1))) ≤ℤ f → f <ℤ pos (2 ^ (bits - 1)) → folded bits d ≡ f
 folded_is bits d f some near least most =
     let at = folded_near bits d some in
     same_folded (2 ^ bits) (2 ^ (bits - 1)) (folded bits d) f (halved bits some) (pow_pos (bits - 1)) (congruent_trans (2 ^ bits) _ _ _ (congruent_sym (2 ^ bits) _ _ at.near) near) at.least at.most least most

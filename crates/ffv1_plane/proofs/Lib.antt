@@ -1,5 +1,10 @@
 pub mod Bounds
+pub mod EarlySums
 pub mod Folding
+pub mod LaneResiduals
+pub mod LaneSums
+pub mod LaneValues
+pub mod LastPlaces
 pub mod Levels
 pub mod Remainders
 pub mod Scales

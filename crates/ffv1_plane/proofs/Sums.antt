@@ -15,7 +15,7 @@ summed : (e1 e2 e3 e4 e5 : ℤ) (r1 r2 r3 r4 r5 h1 h2 h3 h4 h5 half : ℕ) → p
     h1 + h2 + h3 + h4 + h5 ≡ half → e1 +ℤ e2 +ℤ e3 +ℤ e4 +ℤ e5 ≡ pos (r1 + (r4 + (r2 + r3 + r5))) -ℤ pos half
 summed e1 e2 e3 e4 e5 r1 r2 r3 r4 r5 h1 h2 h3 h4 h5 half p q r s t u = omega (arith, ints)
 
-at_scale : (t : RaisedTable) (other k r : ℕ) → t.scale ≡ other → pos r ≡ entry_of t.runs t.scale k +ℤ pos (half_of t) → pos r ≡ entry_of t.runs other k +ℤ pos (half_of t)
+pub at_scale : (t : RaisedTable) (other k r : ℕ) → t.scale ≡ other → pos r ≡ entry_of t.runs t.scale k +ℤ pos (half_of t) → pos r ≡ entry_of t.runs other k +ℤ pos (half_of t)
 at_scale t other k r same is = is ∙ ap (λ s. entry_of t.runs s k +ℤ pos (half_of t)) same
 
 pub context_is : (first second third fourth fifth : RaisedTable) (half r1 r2 r3 r4 r5 : ℕ) (a : Around) → AreRaised first second third fourth fifth half →
@@ -37,7 +37,7 @@ context_is first second third fourth fifth half r1 r2 r3 r4 r5 a is p q r s t =
     is.halves
 
 -- the entries of a table of one level are zeros
-level_one : (t : RaisedTable) (k : ℕ) → is_filled t.runs ≡ true → length t.runs ≡ 1 → pos 0 ≡ entry_of t.runs t.scale k +ℤ pos (half_of t)
+pub level_one : (t : RaisedTable) (k : ℕ) → is_filled t.runs ≡ true → length t.runs ≡ 1 → pos 0 ≡ entry_of t.runs t.scale k +ℤ pos (half_of t)
 level_one t k filled one =
     let none : length t.runs - 1 ≡ 0 = omega arith in
     let size : unsigned_abs (entry_of t.runs t.scale k) ≤ t.scale * 0 = rw none at (entry_size t.runs t.scale k filled) in

@@ -1,4 +1,6 @@
 pub mod Context
+pub mod Early
+pub mod Lanes
 pub mod Prediction
 pub mod Quantisation
 pub mod Raised

@@ -54,6 +54,14 @@ pub record IsNear (set : Set) : Type 0 where
   pub fourth : length (slice_index_or set 3 []) ≡ 1
   pub fifth : length (slice_index_or set 4 []) ≡ 1
 
+-- each table has at most eleven levels
+pub record HasFewLevels (set : Set) : Type 0 where
+  pub first : length (slice_index_or set 0 []) ≤ 6
+  pub second : length (slice_index_or set 1 []) ≤ 6
+  pub third : length (slice_index_or set 2 []) ≤ 6
+  pub fourth : length (slice_index_or set 3 []) ≤ 6
+  pub fifth : length (slice_index_or set 4 []) ≤ 6
+
 -- three tables of eleven levels and two of one, in the form of RFC 9043, 4.1: a set of this codec's
 -- own, of 666 contexts, whose differences to the samples two to the left and two above count for
 -- nothing

@@ -1,7 +1,9 @@
 -- A quantisation table whose entries are raised by the greatest.
 use Rattle.std.specs.Prelude.{ℕ, ◌≡◌, ◌+◌, ◌-◌, ◌*◌, ◌<◌, ◌≤◌, IsTrue, List, [], ◌∷◌, length}
-use Rattle.std.specs.Prelude.{slice_index, pos, ◌+ℤ◌}
-use Rattle.ffv1_plane.specs.Quantisation.{is_filled, entry_of, scale_behind, contexts_of, IsSet}
+use Rattle.std.specs.Prelude.{slice_index, pos, ◌+ℤ◌, unsigned_abs, if◌then◌else◌, nat_lt, sum, take}
+use Rattle.ffv1_plane.specs.declared.prediction.Around.{Around}
+use Rattle.ffv1_plane.specs.Context.{context_of}
+use Rattle.ffv1_plane.specs.Quantisation.{Set, is_filled, entry_of, scale_behind, contexts_of, IsSet}
 
 -- a table of a set, by its runs and its scale
 pub record RaisedTable : Type 0 where
@@ -14,6 +16,18 @@ table_of runs scale = record { runs = runs; scale = scale }
 -- the greatest entry
 abbrev pub half_of : RaisedTable → ℕ
 half_of t = t.scale * (length t.runs - 1)
+
+-- entry k, raised by the greatest
+unfoldable pub raised_entry : RaisedTable → ℕ → ℕ
+raised_entry t k = unsigned_abs (entry_of t.runs t.scale k +ℤ pos (half_of t))
+
+-- the last place of level k of a table's lower half, or 255 where that is its last level or none
+abbrev pub last_place : List ℕ → ℕ → ℕ
+last_place runs k = if nat_lt (k + 1) (length runs) then sum (take (k + 1) runs) - 1 else 255
+
+-- the last places of the first five levels
+pub record AreLastPlaces (runs last_places : List ℕ) : Type 0 where
+  pub each : (k : ℕ) → k < 5 → slice_index last_places k ≡ last_place runs k
 
 -- each entry is raised by the greatest, and none is negative
 pub record IsRaised (runs : List ℕ) (scale : ℕ) (raised : List ℕ) : Type 0 where
@@ -37,3 +51,7 @@ pub record AreRaised (first second third fourth fifth : RaisedTable) (half : ℕ
       []) ≡ half + 1
   pub halves : half_of first + half_of second + half_of third + half_of fourth + half_of
       fifth ≡ half
+
+-- the sum of the look-ups of a place, each raised by the greatest entry
+unfoldable pub raised_sum : Set → Around → ℕ
+raised_sum set a = unsigned_abs (context_of set a +ℤ pos (contexts_of set - 1))

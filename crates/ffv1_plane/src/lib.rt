@@ -15,14 +15,18 @@
 //! The test `example` runs these lines. `laws` has what follows from the definitions.
 #![tactic(auto)]
 
+pub mod early;
 pub mod fault;
+pub mod lanes;
 pub mod laws;
 pub mod prediction;
 pub mod quantisation;
 pub mod residual;
 mod table;
 
+pub use early::{BLOCK, Early, sample_late};
 pub use fault::Fault;
-pub use prediction::{Around, predict};
-pub use quantisation::{QuantSet, context, context_near};
+pub use lanes::{AroundLanes, choose_lanes};
+pub use prediction::{Around, predict, predict_late};
+pub use quantisation::{QuantSet, context, context_near, early_sum, late_context};
 pub use residual::{fold, residual_of, sample_from, unfold};

@@ -1,6 +1,7 @@
 //! The samples around a place, and the prediction from them.
 
-ghost use Rattle.std.specs.Prelude.{◌≡◌};
+ghost use Rattle.std.specs.Prelude.{◌≡◌, ◌≤◌, min, max};
+ghost use Rattle.ffv1_plane.specs.declared.prediction.Around.{Around};
 ghost use Rattle.ffv1_plane.specs.Prediction.{predicted};
 
 /// The samples around a place, as RFC 9043, 3.1 and 3.2 names them: left, top, top left, top right,
@@ -30,4 +31,15 @@ pub fn predict(around: &Around) -> i32
     let least = around.l.min(around.t);
     let most = around.l.max(around.t);
     (most - (around.tl.max(least).min(most) - least)) as i32
+}
+
+/// The same by the lesser and the greater one of the samples above and above to the left: the sample
+/// to the left, brought between them, is left out of the sum of those to the left and above.
+#[inline(always)]
+pub fn predict_late(l: u16, t: u16, least: u16, most: u16) -> i32
+    requires { least ≤ t }
+    ensures { (a : Around) → a.l ≡ l → a.t ≡ t → least ≡ min a.tl a.t → most ≡ max a.tl a.t →
+        result ≡ predicted a }
+{
+    (u32::from(l) + u32::from(t) - u32::from(l.max(least).min(most))) as i32
 }

@@ -1,18 +1,22 @@
 //! Quantisation table sets, and the contexts of places by them.
 
-ghost use Rattle.std.specs.Prelude.{◌≡◌, ℕ, ◌+◌, ◌*◌, ◌<◌, ◌≤◌, ◌↔◌, IfOk, IsErrOf, IsOkUnless};
-ghost use Rattle.std.specs.Prelude.{IsTrue, IsFalse, length, map, slice_index_or, [], ◌∷◌, pos, ◌-ℤ◌};
+ghost use Rattle.std.specs.Prelude.{◌≡◌, ℕ, ◌+◌, ◌*◌, ◌^◌, ◌<◌, ◌≤◌, ◌↔◌, IfOk, IsErrOf, IsOkUnless};
+ghost use Rattle.std.specs.Prelude.{IsTrue, IsFalse, length, map, slice_index_or, [], ◌∷◌, pos, ◌-ℤ◌, List};
 ghost use Rattle.ffv1_plane.specs.declared.prediction.Around.{Around};
 ghost use Rattle.ffv1_plane.specs.Quantisation.{Set, IsSet, are_filled, contexts_of, small_set};
-ghost use Rattle.ffv1_plane.specs.Quantisation.{large_set, IsNear};
+ghost use Rattle.ffv1_plane.specs.Quantisation.{large_set, IsNear, HasFewLevels};
 ghost use Rattle.ffv1_plane.specs.Context.{size_of, flip_of, context_of};
-ghost use Rattle.ffv1_plane.specs.Raised.{AreRaised, table_of};
+ghost use Rattle.ffv1_plane.specs.Early.{IsEarly, IsEarlySomewhere};
+ghost use Rattle.ffv1_plane.specs.Raised.{AreRaised, table_of, raised_sum};
+ghost use Rattle.ffv1_plane.specs.Lanes.{AreAround};
 
 use crate::fault::Fault;
+use crate::lanes::AroundLanes;
 use crate::prediction::Around;
 use crate::table::{Table, fills, scale_after};
 use std::alloc::{AllocError, Allocator, Global};
 use std::marker::Model;
+use std::simd::prelude::*;
 
 /// A quantisation table set (RFC 9043, 3.4): five tables of 256 entries, one for each difference
 /// that makes a context. In a contract a set is the runs of its five tables, so two sets with the
@@ -26,7 +30,7 @@ pub struct QuantSet<A: Allocator = Global> {
     third: Table<A>,
     fourth: Table<A>,
     fifth: Table<A>,
-    half: u32,
+    pub(crate) half: u32,
 }
 
 impl<A: Allocator> Model for QuantSet<A> {
@@ -211,6 +215,72 @@ impl<A: Allocator> QuantSet<A> {
         self.fourth.runs().len() == 1 && self.fifth.runs().len() == 1
     }
 
+    /// Whether each table has at most eleven levels.
+    pub fn has_few_levels(&self) -> bool
+        ensures { IsTrue result ↔ HasFewLevels self.now }
+    {
+        let first = self.first.runs().len();
+        let second = self.second.runs().len();
+        let third = self.third.runs().len();
+        let fourth = self.fourth.runs().len();
+        let fifth = self.fifth.runs().len();
+        first.max(second).max(third).max(fourth).max(fifth) <= 6
+    }
+
+    /// The early parts of the sums of 16 places, as of `early_sum`. `near` may be said of a set
+    /// whose fourth and fifth tables have one level.
+    #[inline(always)]
+    pub(crate) fn early_lanes(
+        &self,
+        tl: u16x16,
+        t: u16x16,
+        tr: u16x16,
+        tt: u16x16,
+        near: bool,
+    ) -> u16x16
+        requires few { HasFewLevels self.now }
+        requires near { IsTrue near → IsNear self.now }
+        ensures { (places : List ℕ) (f g h k : ℕ → ℕ) → length places ≡ 16 → tl ≡ map f places →
+            t ≡ map g places → tr ≡ map h places → tt ≡ map k places →
+            ((x : ℕ) → g x < 2 ^ 16) → ((x : ℕ) → h x < 2 ^ 16) →
+            (sum : ℕ → ℕ) × (result ≡ map sum places) ×
+            ((x : ℕ) → IsEarly self.now (f x) (g x) (h x) (k x) (sum x)) }
+    {
+        let raise = u16x16::splat((RAISE - self.half) as u16);
+        let sum = self.second.raised_lanes(tl, t) + self.third.raised_lanes(t, tr) + raise;
+        if near {
+            return sum;
+        }
+        sum + self.fifth.raised_lanes(tt, t)
+    }
+
+    /// The sums of the look-ups of 16 places, each raised by the sum of the greatest entries, and
+    /// that sum. `near` may be said of a set whose fourth and fifth tables have one level.
+    #[inline(always)]
+    pub(crate) fn sum_lanes(&self, around: &AroundLanes, near: bool) -> (u16x16, u16)
+        requires few { HasFewLevels self.now }
+        requires near { IsTrue near → IsNear self.now }
+        ensures sums { (places : List ℕ) (a : ℕ → Around) → length places ≡ 16 →
+            AreAround around.now places a →
+            result.0 ≡ map (λ x. raised_sum self.now (a x)) places }
+        ensures half { result.1 + 1 ≡ contexts_of self.now }
+        ensures few { result.1 < 32768 }
+        ensures context { (a : Around) →
+            context_of self.now a ≡ pos (raised_sum self.now a) -ℤ pos result.1 }
+        ensures most { (a : Around) → raised_sum self.now a ≤ 2 * result.1 }
+    {
+        let early = self.second.raised_lanes(around.tl, around.t)
+            + self.third.raised_lanes(around.t, around.tr);
+        let left = self.first.raised_lanes(around.l, around.tl);
+        let half = self.half as u16;
+        if near {
+            return (left + early, half);
+        }
+        let far = self.fourth.raised_lanes(around.ll, around.l)
+            + self.fifth.raised_lanes(around.tt, around.t);
+        (left + early + far, half)
+    }
+
     /// A law of each set: it is five filled tables with at most 32768 contexts, and the number of
     /// each place's context is below the number of contexts.
     pub fn bounded(&self)
@@ -266,6 +336,59 @@ pub fn context_near<A: Allocator>(set: &QuantSet<A>, around: &Around) -> (u32, b
     let early = set.second.raised(around.tl, around.t) + set.third.raised(around.t, around.tr);
     let sum = set.first.raised(around.l, around.tl) + early;
     unraised(sum, set.half)
+}
+
+/// What the sum that makes a context is raised by, so that it is not negative.
+const RAISE: u32 = 32768;
+
+/// The early part of the sum that makes a context, which the rows above decide: the entries of the
+/// second, the third and the fifth table, each raised by its table's greatest, and how far the sum
+/// of all five tables' greatest lies below 32768. `near` may be said of a set whose fourth and fifth
+/// tables have one level: then the fifth is not looked up.
+#[inline(always)]
+pub fn early_sum<A: Allocator>(
+    set: &QuantSet<A>,
+    tl: u16,
+    t: u16,
+    tr: u16,
+    tt: u16,
+    near: bool,
+) -> u16
+    requires { IsTrue near → IsNear set.now }
+    ensures { IsEarly set.now tl t tr tt result }
+{
+    let sum = set.second.raised(tl, t) + set.third.raised(t, tr) + (RAISE - set.half);
+    if near {
+        return sum as u16;
+    }
+    (sum + set.fifth.raised(tt, t)) as u16
+}
+
+/// The context of a place (RFC 9043, 3.5) by the early part of its sum and the samples that the
+/// rest takes, as with `context`. `near` may be said of a set whose fourth and fifth tables have
+/// one level: then the fourth is not looked up.
+#[inline(always)]
+pub fn late_context<A: Allocator>(
+    set: &QuantSet<A>,
+    sum: u16,
+    l: u16,
+    tl: u16,
+    ll: u16,
+    near: bool,
+) -> (u32, bool)
+    requires near { IsTrue near → IsNear set.now }
+    requires early { IsEarlySomewhere set.now tl sum }
+    ensures size { (t tr tt : ℕ) → IsEarly set.now tl t tr tt sum → result.0 ≡ size_of set.now
+        (record { l = l; t = t; tl = tl; tr = tr; ll = ll; tt = tt }) }
+    ensures flip { (t tr tt : ℕ) → IsEarly set.now tl t tr tt sum → result.1 ≡ flip_of set.now
+        (record { l = l; t = t; tl = tl; tr = tr; ll = ll; tt = tt }) }
+    ensures below { result.0 < contexts_of set.now }
+{
+    let sum = sum as u32 + set.first.raised(l, tl);
+    if near {
+        return unraised(sum, RAISE);
+    }
+    unraised(sum + set.fourth.raised(ll, l), RAISE)
 }
 
 /// Two sets are equal where their tables have the same runs, and so the same entries.

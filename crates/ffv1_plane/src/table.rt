@@ -1,19 +1,22 @@
 //! One quantisation table of a set.
 
 ghost use Rattle.std.specs.Prelude.{◌≡◌, ℕ, ◌+◌, ◌-◌, ◌*◌, ◌^◌, ◌<◌, ◌≤◌, ◌+ℤ◌, pos, length, sum};
-ghost use Rattle.std.specs.Prelude.{IsTrue, IfOk};
+ghost use Rattle.std.specs.Prelude.{IsTrue, IfOk, List, map, min, if◌then◌else◌, nat_lt};
 ghost use Rattle.ffv1_plane.specs.Quantisation.{is_filled, entry_of};
 ghost use Rattle.ffv1_plane.specs.Context.{low};
-ghost use Rattle.ffv1_plane.specs.Raised.{RaisedTable, IsRaised, half_of};
+ghost use Rattle.ffv1_plane.specs.Raised.{RaisedTable, IsRaised, half_of, raised_entry, AreLastPlaces};
 
 use std::alloc::{AllocError, Allocator};
 use std::marker::Model;
+use std::simd::prelude::*;
 
-/// The runs of a table, and its 256 entries, each raised by the greatest so that none is negative.
+/// The runs of a table, its 256 entries, each raised by the greatest so that none is negative, and
+/// the last places of the first five levels of its lower half, 255 for those that it has not.
 #[derive(Drop)]
 pub struct Table<A: Allocator> {
     runs: Vec<u8, A>,
     raised: [u16; 256],
+    last_places: [u8; 5],
     scale: u16,
 }
 
@@ -22,7 +25,8 @@ impl<A: Allocator> Model for Table<A> {
 
     ghost view = { λ t. record { runs = t.runs.items; scale = t.scale } };
 
-    ghost invariant = { λ t. IsRaised t.runs.items t.scale t.raised };
+    ghost invariant = { λ t. IsRaised t.runs.items t.scale t.raised ×
+        AreLastPlaces t.runs.items t.last_places };
 }
 
 /// Whether runs fill the lower half of a table, none of them empty.
@@ -75,6 +79,21 @@ fn raise(runs: &[u8], scale: u16) -> [u16; 256]
     raised
 }
 
+/// The last places of the first five levels of a table's lower half but of its last level; 255 for
+/// those that it has not.
+fn last_places_of(runs: &[u8]) -> [u8; 5]
+    requires { IsTrue (is_filled runs.now) }
+    ensures { AreLastPlaces runs.now result }
+{
+    let mut last_places = [255; 5];
+    let mut end = 0u8;
+    for k in 0..(runs.len() - 1).min(5) {
+        end += runs[k];
+        last_places[k] = end - 1;
+    }
+    last_places
+}
+
 impl<A: Allocator> Table<A> {
     /// The table of these runs at a scale.
     pub fn new(alloc: A, runs: &[u8], scale: u16) -> Result<Table<A>, AllocError>
@@ -83,10 +102,12 @@ impl<A: Allocator> Table<A> {
         ensures { IfOk result (λ t. t ≡ record { runs = runs.now; scale = scale }) }
     {
         let raised = raise(runs, scale);
+        let last_places = last_places_of(runs);
         let runs = Vec::from_slice(alloc, runs)?;
         Ok(Table {
             runs,
             raised,
+            last_places,
             scale,
         })
     }
@@ -108,4 +129,71 @@ impl<A: Allocator> Table<A> {
     {
         self.raised[(a.wrapping_sub(b) % 256) as usize] as u32
     }
+
+    /// The same of 16 places, in a table of at most eleven levels.
+    #[inline(always)]
+    pub fn raised_lanes(&self, a: u16x16, b: u16x16) -> u16x16
+        requires { length self.now.runs ≤ 6 }
+        ensures lanes { (places : List ℕ) (f g : ℕ → ℕ) → length places ≡ 16 → a ≡ map f places →
+            b ≡ map g places → ((x : ℕ) → g x < 2 ^ 16) →
+            result ≡ map (λ x. raised_entry self.now (low (f x) (g x))) places }
+        ensures entries { (k : ℕ) → k < 256 → pos (raised_entry self.now k) ≡
+            entry_of self.now.runs self.now.scale k +ℤ pos (half_of self.now) }
+        ensures most { (k : ℕ) → k < 256 → raised_entry self.now k ≤ 2 * half_of self.now }
+    {
+        let differences = low_lanes(a, b);
+        let [first, second, third, fourth, fifth] = self.last_places;
+        let sizes = size_lanes(differences);
+        let levels = over_lanes(sizes, first)
+            + over_lanes(sizes, second)
+            + over_lanes(sizes, third)
+            + over_lanes(sizes, fourth)
+            + over_lanes(sizes, fifth);
+        let most = (self.runs.len() - 1) as u8;
+        lift_lanes(differences, levels, most).cast::<u16>() * u16x16::splat(self.scale)
+    }
+}
+
+/// The low eight bits of 16 differences.
+#[inline(always)]
+fn low_lanes(a: u16x16, b: u16x16) -> u8x16
+    ensures { (places : List ℕ) (f g : ℕ → ℕ) → length places ≡ 16 → a ≡ map f places →
+        b ≡ map g places → ((x : ℕ) → g x < 2 ^ 16) →
+        result ≡ map (λ x. low (f x) (g x)) places }
+{
+    ((a - b) & u16x16::splat(255)).cast::<u8>()
+}
+
+/// How far 16 places of a table lie from its first one, from either side.
+#[inline(always)]
+fn size_lanes(places: u8x16) -> u8x16
+    ensures { (xs : List ℕ) (f : ℕ → ℕ) → length xs ≡ 16 → places ≡ map f xs →
+        ((x : ℕ) → f x < 256) → result ≡ map (λ x. min (f x) (256 - f x)) xs }
+{
+    places.simd_min(places.wrapping_neg())
+}
+
+/// 1 for each of 16 sizes above a place, and else 0.
+#[inline(always)]
+fn over_lanes(sizes: u8x16, place: u8) -> u8x16
+    ensures { (xs : List ℕ) (f : ℕ → ℕ) → length xs ≡ 16 → sizes ≡ map f xs →
+        result ≡ map (λ x. min (f x - place) 1) xs }
+{
+    sizes
+        .simd_gt(u8x16::splat(place))
+        .select(u8x16::splat(1), u8x16::splat(0))
+}
+
+/// The levels of 16 places of a table, raised by the greatest: added in the lower half, else taken
+/// away.
+#[inline(always)]
+fn lift_lanes(places: u8x16, levels: u8x16, most: u8) -> u8x16
+    ensures { (xs : List ℕ) (f g : ℕ → ℕ) → length xs ≡ 16 → places ≡ map f xs → levels ≡ map g xs →
+        most ≤ 5 → ((x : ℕ) → g x ≤ most) → result ≡ map (λ x.
+        if nat_lt (f x) 128 then most + g x else most - g x) xs }
+{
+    let most = u8x16::splat(most);
+    places
+        .simd_lt(u8x16::splat(128))
+        .select(most + levels, most - levels)
 }

@@ -10,9 +10,12 @@ pub mod Steps
 pub mod Mantissa
 pub mod Signed
 pub mod SetBits
+pub mod HeldBack
 pub mod HistoryLemmas
+pub mod ListedSteps
 pub mod Named
 pub mod Prefix
+pub mod SymbolTable
 pub mod Standard
 pub mod Generator
 pub mod DeltaTables
@@ -28,3 +31,4 @@ pub mod SentinelByte
 pub mod OneValue
 pub mod OneAfter
 pub mod Unsigned
+pub mod Magnitudes

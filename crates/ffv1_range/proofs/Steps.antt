@@ -73,17 +73,22 @@ reads_counted t a b c ss ts xs reads same counts = record {
 }
 
 -- the same by sums, which are added to the counts of either side
-pub reads_summed : (t : Table) (a b : Reading) (ss ts : List ℕ) (xs : List Step) (before after : Sums) (u z : ℕ) → Reads t a ss b ts xs →
-    after ≡ record { ones = before.ones + u; zeros = before.zeros + z } → u ≡ ones_in xs → u + z ≡ length xs → Follows t (summed a before) ss (summed b after) ts xs
-reads_summed t a b ss ts xs before after u z reads goes_on ones all = record {
+pub reads_summed_by : (t : Table) (a b : Reading) (ss ts : List ℕ) (xs : List Step) (before after : Sums) (u z : ℕ) → Reads t a ss b ts xs →
+    after.ones ≡ before.ones + u → after.zeros ≡ before.zeros + z → u ≡ ones_in xs → u + z ≡ length xs → Follows t (summed a before) ss (summed b after) ts xs
+reads_summed_by t a b ss ts xs before after u z reads of_ones of_zeros ones all = record {
   bytes = reads.bytes;
   at = λ i h.
       let now = reads.at i (record { inside = h.inside; width = h.width; gap = h.gap; renormalisations = h.renormalisations }) in
       record { inside = now.inside; width = now.width; gap = now.gap; renormalisations = now.renormalisations };
-  counts = summed_counts a.counts b.counts before after xs u z reads.counts (ap (λ (s : Sums). s.ones) goes_on) (ap (λ (s : Sums). s.zeros) goes_on) ones all;
+  counts = summed_counts a.counts b.counts before after xs u z reads.counts of_ones of_zeros ones all;
   moves = reads.moves;
   named = reads.named;
 }
+
+pub reads_summed : (t : Table) (a b : Reading) (ss ts : List ℕ) (xs : List Step) (before after : Sums) (u z : ℕ) → Reads t a ss b ts xs →
+    after ≡ record { ones = before.ones + u; zeros = before.zeros + z } → u ≡ ones_in xs → u + z ≡ length xs → Follows t (summed a before) ss (summed b after) ts xs
+reads_summed t a b ss ts xs before after u z reads goes_on ones all =
+    reads_summed_by t a b ss ts xs before after u z reads (ap (λ (s : Sums). s.ones) goes_on) (ap (λ (s : Sums). s.zeros) goes_on) ones all
 
 pub raising-add-one : (k : ℕ) → raising (k + 1) ≡ raising k ++ (record { slot = 1 + min k 9; bit = true } ∷ [])
 unfolding raising

@@ -9,7 +9,9 @@ pub mod History
 pub mod Weight
 pub mod Counts
 pub mod Reading
+pub mod Among
 pub mod Writing
 pub mod Follows
 pub mod Puts
+pub mod Listed
 pub mod Internal

@@ -6,6 +6,7 @@ ghost use Rattle.ffv1_range.specs.Interval.{Interval, narrow, renormalised, star
 ghost use Rattle.ffv1_range.specs.Codes.{value};
 ghost use Rattle.ffv1_range.specs.Table.{moved, Holds};
 ghost use Rattle.ffv1_range.specs.Reading.{At, paused, summed};
+ghost use Rattle.ffv1_range.specs.Among.{AreNonzeros, sums_among};
 ghost use Rattle.ffv1_range.specs.Follows.{Follows};
 ghost use Rattle.ffv1_range.specs.Counts.{uncounted, counted, saturated, total};
 
@@ -13,7 +14,7 @@ use crate::encoder::FIRST_WIDTH;
 use crate::fault::Fault;
 use crate::parked::Parked;
 use crate::table::StateTable;
-use crate::tally::{Sums, Tally};
+use crate::tally::{Nonzeros, Sums, Tally};
 use std::alloc::AllocError;
 use std::marker::Model;
 
@@ -139,6 +140,21 @@ impl<'a> RangeDecoder<'a> {
     {
         let (_ones, _zeros) = (self.ones, self.zeros);
         Sums { ones: 0, zeros: 0 }
+    }
+
+    /// No nonzero numbers, by which its counts stay as they are.
+    #[inline(always)]
+    pub fn nonzeros(&self) -> Nonzeros
+        ensures none { result ≡ record { symbols = 0; exponents = 0; ones = 0 } }
+        ensures are { AreNonzeros result }
+        ensures stays { summed self.now (sums_among 0 result) ≡ self.now }
+    {
+        let (_ones, _zeros) = (self.ones, self.zeros);
+        Nonzeros {
+            symbols: 0,
+            exponents: 0,
+            ones: 0,
+        }
     }
 
     /// Its counts go on by sums.

@@ -314,7 +314,7 @@ fn part_of(bytes: &[u8], low: u32, width: u32, state: u8, bit: bool) -> (u32, u3
 /// One place more of a number with its bytes big end first. A top of 256 or more carries into the
 /// bytes before.
 #[inline(always)]
-fn emit<A: Allocator>(bytes: &mut Vec<u8, A>, top: u32) -> Result<(), AllocError>
+pub(crate) fn emit<A: Allocator>(bytes: &mut Vec<u8, A>, top: u32) -> Result<(), AllocError>
     requires bytes_fit { AreBytes bytes.old.items }
     requires below { top < 512 }
     requires room { 256 * value bytes.old.items (length bytes.old.items) + top <
@@ -336,7 +336,7 @@ fn emit<A: Allocator>(bytes: &mut Vec<u8, A>, top: u32) -> Result<(), AllocError
 /// Adds one to the number that the bytes are.
 #[inline(never)]
 #[cold]
-fn carry(bytes: &mut [u8])
+pub(crate) fn carry(bytes: &mut [u8])
     requires room { value bytes.old (length bytes.old) + 1 < 256 ^ length bytes.old }
     requires bytes_fit { AreBytes bytes.old }
     ensures carried { value bytes.new (length bytes.new) ≡ value bytes.old (length bytes.old) + 1 }

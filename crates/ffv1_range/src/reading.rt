@@ -29,11 +29,11 @@ pub(crate) const MANTISSA: usize = 22;
 
 /// An exponent that is too long.
 #[derive(Drop)]
-struct TooLong;
+pub(crate) struct TooLong;
 
 /// The decision at a slot, which steers what comes next.
 #[inline(always)]
-fn decide_slot(
+pub(crate) fn decide_slot(
     decoder: &mut RangeDecoder<'_>,
     table: &StateTable,
     states: &mut [u8],
@@ -50,7 +50,7 @@ fn decide_slot(
 
 /// The decision at a slot, which is data.
 #[inline(always)]
-fn choose_slot(
+pub(crate) fn choose_slot(
     decoder: &mut RangeDecoder<'_>,
     table: &StateTable,
     states: &mut [u8],
@@ -151,7 +151,7 @@ fn get_far(
 /// The number of an exponent, whose highest bit is not coded. Nearly all exponents are below 10, so
 /// these have a loop alone.
 #[inline(always)]
-fn get_mantissa(
+pub(crate) fn get_mantissa(
     decoder: &mut RangeDecoder<'_>,
     table: &StateTable,
     states: &mut [u8],
@@ -302,36 +302,6 @@ impl RangeDecoder<'_> {
         let base = row * 32;
         // By arms: what each outcome says of the row is lifted to all states in its own arm.
         match self.get_signed(table, &mut states[base..base + 32]) {
-            Ok(number) => Ok(number),
-            Err(refused) => Err(refused),
-        }
-    }
-
-    /// The same, but that its decisions are counted in `sums` and not yet in the decoder's counts.
-    /// Sums below 2^32 - 63 have room for them.
-    #[inline(always)]
-    pub fn sum_signed_in_row(
-        &mut self,
-        sums: &mut Sums,
-        table: &StateTable,
-        states: &mut [u8],
-        row: usize,
-    ) -> Result<i32, Fault>
-        requires rows { row * 32 + 32 ≤ length states.old }
-        requires held { AllHeld table.now states.old }
-        requires room { sums.old.ones + sums.old.zeros + 63 < 2 ^ 32 }
-        ensures follows { IfOk result (λ v. Follows table.now (summed self.old sums.old) states.old
-            (summed self.new sums.new) states.new (shifted (row * 32) (signed_steps v))) }
-        ensures size { IfOk result (λ v. unsigned_abs v < 2 ^ 31) }
-        ensures refused { IfErr result (λ f. (f ≡ Fault.SymbolTooLong) ×
-            Follows table.now (summed self.old sums.old) states.old (summed self.new sums.new)
-            states.new (shifted (row * 32) too_long)) }
-        ensures few { sums.new.ones + sums.new.zeros ≤ sums.old.ones + sums.old.zeros + 63 }
-        ensures held { AllHeld table.now states.new }
-    {
-        let base = row * 32;
-        // By arms: what each outcome says of the row is lifted to all states in its own arm.
-        match self.sum_signed(sums, table, &mut states[base..base + 32]) {
             Ok(number) => Ok(number),
             Err(refused) => Err(refused),
         }

@@ -139,6 +139,20 @@ impl StateTable {
     {
         self.either[state as usize]
     }
+
+    /// Where a state goes after a decision, without a branch.
+    #[inline(always)]
+    pub(crate) fn after(&self, state: u8, bit: bool) -> u8
+        requires { Holds self.now state }
+        ensures moves { result ≡ moved self.now state bit }
+        ensures held { Holds self.now result }
+    {
+        let either = self.after_either(state);
+        if bit {
+            return (either % 256) as u8;
+        }
+        (either / 256) as u8
+    }
 }
 
 /// Where each state goes after either decision: after a 1 in the low byte, and after a 0 in the

@@ -1,6 +1,7 @@
 //! What the decisions of a coder were.
 
-ghost use Rattle.std.specs.Prelude.{◌≡◌, ◌+◌, ◌^◌, ◌<◌};
+ghost use Rattle.std.specs.Prelude.{◌≡◌, ◌+◌, ◌^◌, ◌<◌, ◌≤◌};
+ghost use Rattle.ffv1_range.specs.Among.{AreNonzeros, sums_among, sums_refused};
 
 /// How many decisions of a coder were 1 and how many 0, and how often it renormalised. Each count
 /// stays at 2^64 - 1 once it is there.
@@ -34,5 +35,68 @@ impl Sums {
     {
         self.ones += ones;
         self.zeros += zeros;
+    }
+}
+
+/// Of a run of symbols those of nonzero numbers: how many they are, their exponents together, and
+/// how many of the bits behind their exponents, the sign among them, were 1. With the number of all
+/// symbols this tells their decisions, so that a zero needs no count.
+#[derive(Clone, Copy, Debug, PartialEq, Eq)]
+pub struct Nonzeros {
+    /// Symbols of nonzero numbers.
+    pub symbols: u32,
+    /// Their exponents together.
+    pub exponents: u32,
+    /// Their decisions 1 behind the exponent.
+    pub ones: u32,
+}
+
+impl Nonzeros {
+    /// Counts a symbol of an exponent up to 30, of whose bits behind it some are 1.
+    #[inline(always)]
+    pub(crate) fn count(&mut self, exponent: u32, ones: u32)
+        requires are { AreNonzeros self.old }
+        requires room { self.old.symbols < 2 ^ 20 }
+        requires small { exponent < 31 }
+        requires few { ones ≤ exponent + 1 }
+        ensures value { self.new ≡ record {
+          symbols = self.old.symbols + 1;
+          exponents = self.old.exponents + exponent;
+          ones = self.old.ones + ones;
+        } }
+        ensures are { AreNonzeros self.new }
+    {
+        self.symbols += 1;
+        self.exponents += exponent;
+        self.ones += ones;
+    }
+
+    /// The decisions of so many symbols, of which these are not zero.
+    #[inline(always)]
+    pub fn among(&self, symbols: u32) -> Sums
+        requires are { AreNonzeros self.now }
+        requires within { self.now.symbols ≤ symbols }
+        requires room { symbols < 2 ^ 20 }
+        ensures { result ≡ sums_among symbols self.now }
+    {
+        Sums {
+            ones: symbols - self.symbols + self.exponents + self.ones,
+            zeros: 3 * self.symbols + self.exponents - self.ones,
+        }
+    }
+
+    /// The same with a symbol behind them that is refused, of 31 decisions 1 and one 0.
+    #[inline(always)]
+    pub fn among_refused(&self, symbols: u32) -> Sums
+        requires are { AreNonzeros self.now }
+        requires within { self.now.symbols ≤ symbols }
+        requires room { symbols < 2 ^ 20 }
+        ensures { result ≡ sums_refused symbols self.now }
+    {
+        let Sums { ones, zeros } = self.among(symbols);
+        Sums {
+            ones: ones + 31,
+            zeros: zeros + 1,
+        }
     }
 }

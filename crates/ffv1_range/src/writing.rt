@@ -393,42 +393,9 @@ impl<A: Allocator> RangeEncoder<A> {
         }
     }
 
-    /// The same, but that its decisions are counted in `sums` and not yet in the encoder's counts.
-    /// Sums below 2^32 - 63 have room for them.
+    /// Counts some decisions.
     #[inline(always)]
-    pub fn sum_signed_in_row(
-        &mut self,
-        sums: &mut Sums,
-        table: &StateTable,
-        states: &mut [u8],
-        row: usize,
-        value: i32,
-    ) -> Result<(), Fault>
-        requires sound { self.old.failed ≡ false }
-        requires rows { row * 32 + 32 ≤ length states.old }
-        requires held { AllHeld table.now states.old }
-        requires size { unsigned_abs value < 2 ^ 31 }
-        requires room { sums.old.ones + sums.old.zeros + 63 < 2 ^ 32 }
-        ensures ok { OnOk result (Puts table.now (summed_writing self.old sums.old) states.old
-            (summed_writing self.new sums.new) states.new
-            (shifted (row * 32) (signed_steps value))) }
-        ensures refused { OnErr result (MayBeRefused table.now self.old states.old
-            (shifted (row * 32) (signed_steps value))) }
-        ensures few { sums.new.ones + sums.new.zeros ≤ sums.old.ones + sums.old.zeros + 63 }
-        ensures held { AllHeld table.now states.new }
-        ensures err { IfErr result (λ f. (f ≡ Fault.OutOfMemory) × IsTrue self.new.failed) }
-    {
-        let base = row * 32;
-        // By arms: what each outcome says of the row is lifted to all states in its own arm.
-        match self.sum_signed(sums, table, &mut states[base..base + 32], value) {
-            Ok(()) => Ok(()),
-            Err(refused) => Err(refused),
-        }
-    }
-
-    /// Counts the decisions of a symbol.
-    #[inline(always)]
-    fn count(&mut self, ones: u32, zeros: u32)
+    pub(crate) fn count(&mut self, ones: u32, zeros: u32)
         ensures counts { (steps : List Step) → ones ≡ ones_in steps → ones + zeros ≡ length steps →
             Counted self.old.counts steps self.new.counts }
         ensures rest { self.new ≡ record self.old { counts = self.new.counts } }

@@ -1,6 +1,9 @@
 -- What is carried from place to place along a row.
-use Rattle.std.specs.Prelude.{ℕ, ◌≡◌, List}
+use Rattle.std.specs.Prelude.{ℕ, ◌≡◌, min, max, List, slice_index}
 use Rattle.std.proofs.Common.{suc}
+use Rattle.ffv1_plane.specs.declared.early.Early.{Early}
+use Rattle.ffv1_plane.specs.Quantisation.{Set}
+use Rattle.ffv1_plane.specs.Early.{IsEarly, AreEarly, AreAbove, AreBounds}
 use Rattle.ffv1_line.specs.Cell.{Cell, seen, Above, Shows}
 
 -- at place x of row y these are two to the left, to the left, above to the left and above
@@ -14,3 +17,28 @@ pub record Left (c : Cell) (y x ll l tl t : ℕ) : Type 0 where
 pub record Stands (two one cur : List ℕ) (x ll l tl t : ℕ) : Type 0 where
   pub each : (c : Cell) (y : ℕ) → Above c y two one → Shows c (suc (suc y)) cur x →
       Left c y x ll l tl t
+
+-- the same without the samples above
+pub record IsBehind (two one cur : List ℕ) (x ll l : ℕ) : Type 0 where
+  pub ll_is : (c : Cell) (y : ℕ) → Above c y two one → Shows c (suc (suc y)) cur x →
+      ll ≡ seen c x (suc (suc y))
+  pub l_is : (c : Cell) (y : ℕ) → Above c y two one → Shows c (suc (suc y)) cur x →
+      l ≡ seen c (suc x) (suc (suc y))
+
+-- what the rows above decide of the first n places from a place on
+pub record IsFilled (set : Set) (two one : List ℕ) (from : ℕ) (e : Early) (n : ℕ) : Type 0 where
+  pub above : AreAbove two one from e.tl e.t n
+  pub bounds : AreBounds e.tl e.t e.least e.most n
+  pub early : AreEarly set two one from e.sum n
+
+-- what they decide of one place, with these samples above to the right and two above
+pub record IsPrepared (set : Set) (e : Early) (i tr tt : ℕ) : Type 0 where
+  pub least_is : slice_index e.least i ≡ min (slice_index e.tl i) (slice_index e.t i)
+  pub most_is : slice_index e.most i ≡ max (slice_index e.tl i) (slice_index e.t i)
+  pub early : IsEarly set (slice_index e.tl i) (slice_index e.t i) tr tt (slice_index e.sum i)
+
+-- the same for some such samples
+pub record IsPreparedSomehow (set : Set) (e : Early) (i : ℕ) : Type 0 where
+  pub tr : ℕ
+  pub tt : ℕ
+  pub prepared : IsPrepared set e i tr tt

@@ -76,3 +76,39 @@ pub record Writes (t : Table) (old : Writing) (states : List ℕ) (new : Writing
   pub failed : new.failed ≡ old.failed
   pub moves : after ≡ moved_by t states steps
   pub named : AreStates (decided t states steps)
+
+-- the interval of an encoder that holds bytes back: so many of its low end are still in low
+abbrev pub interval_held : List ℕ → ℕ → ℕ → ℕ → Interval
+interval_held bytes low width held = record {
+  low = 65536 * (256 ^ held * value bytes (length bytes)) + low;
+  width = width;
+  count = length bytes + 2 + held;
+}
+
+-- an encoder of this interval, before its counts
+abbrev pub standing_held : List ℕ → ℕ → ℕ → ℕ → Writing
+standing_held bytes low width held = record {
+  interval = interval_held bytes low width held;
+  counts = uncounted;
+  failed = false;
+}
+
+-- what holds of it: as of each encoder, with room for a carry through what is held back
+pub record IsHolding (bytes : List ℕ) (low width held : ℕ) : Type 0 where
+  pub bytes_fit : AreBytes bytes
+  pub few : held ≤ 4
+  pub below : low + width ≤ 131072 * 256 ^ held
+  pub least : 256 ≤ width
+  pub most : width ≤ 65280
+  pub room : 65536 * (256 ^ held * value bytes (length bytes)) + low + width ≤
+      65536 * (256 ^ held * 256 ^ length bytes)
+
+-- what holds of the part of a decision, before it is renormalised
+pub record IsHoldingPart (bytes : List ℕ) (low width held : ℕ) : Type 0 where
+  pub bytes_fit : AreBytes bytes
+  pub few : held ≤ 3
+  pub below : low + width ≤ 131072 * 256 ^ held
+  pub least : 0 < width
+  pub most : width ≤ 65280
+  pub room : 65536 * (256 ^ held * value bytes (length bytes)) + low + width ≤
+      65536 * (256 ^ held * 256 ^ length bytes)

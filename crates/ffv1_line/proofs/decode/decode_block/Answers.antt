@@ -1,55 +1,62 @@
-use Rattle.std.proofs.Common.{ℕ, ◌≡◌, ◌+◌, ◌-◌, ◌∙◌, ap, subst, min, length, slice_index, arith}
-use Rattle.ffv1_line.proofs.Rows.{stands_next, lined_next, lined_refused, same_from_next}
-use Rattle.ffv1_range.specs.Follows.{Follows}
-use Rattle.ffv1_range.specs.Reading.{summed}
-use Rattle.ffv1_line.specs.Row.{refused_steps}
+use Rattle.std.proofs.Common.{ℕ, ◌≡◌, ◌+◌, ◌-◌, ◌<◌, min, length, arith}
+use Rattle.ffv1_line.proofs.Rows.{lined_next, lined_refused, same_from_next}
+use Rattle.ffv1_line.proofs.Prepared.{stands_behind, behind_next, prepared_at}
 use Rattle.ffv1_line.proofs.decode.decode_block.Goals as goal
 
-pub loop-x-init : goal.loop-x-init
-loop-x-init g c = record {
-  held = c.requires.held;
-  rows = c.requires.rows;
-  started = omega arith;
-  few = rw c.sums-sums.ensures.none (omega arith);
-  top = c.requires.top;
-  stands = c.requires.stands;
-  behind = λ before same. same;
-  lined = λ first fresh lined. rw c.sums-sums.ensures.stays lined;
+pub loop-i-init : goal.loop-i-init
+loop-i-init g c =
+    let same : c.args.from + 0 ≡ c.args.from = omega arith in
+    record {
+      held = c.requires.held;
+      rows = c.requires.rows;
+      are = c.nonzeros-nonzeros.ensures.are;
+      few = rw c.nonzeros-nonzeros.ensures.none (omega arith);
+      begins = rw same c.requires.begins;
+      on = λ before on. rw same on;
+      lined = λ first fresh lined. rw (same, c.nonzeros-nonzeros.ensures.stays) lined;
+    }
+
+pub decode_sample-requires-clause-prepared : goal.decode_sample-requires-clause-prepared
+decode_sample-requires-clause-prepared g c = record {
+  tr = _;
+  tt = _;
+  prepared = prepared_at _ _ _ _ _ _ c.loop-i.i c.requires.filled c.loop-i-test.true;
 }
 
-pub loop-x-preserved : goal.loop-x-preserved
-loop-x-preserved g c =
-    let k : ℕ = min (c.loop-x.x + 1) (length c.args.cur.now - 1) in
-    let right : k ≡ min (c.loop-x.x + 1) (length c.args.one.now - 1) = omega arith in
-    let is : c.right_above-tr.result ≡ slice_index c.args.one.now k = c.right_above-tr.ensures in
+pub loop-i-preserved : goal.loop-i-preserved
+loop-i-preserved g c =
+    let x : ℕ = c.args.from + c.loop-i.i in
+    let more : c.args.from + (c.loop-i.i + 1) ≡ x + 1 = omega arith in
+    let inside : c.loop-i.i < c.args.count = c.loop-i-test.true in
+    let stands = stands_behind c.args.two.now c.args.one.now c.loop-i.cur x c.loop-i.along.ll c.loop-i.along.l _ _ (omega arith)
+    (c.requires.filled.above.tl_is c.loop-i.i inside) (c.requires.filled.above.t_is c.loop-i.i inside) c.loop-i.invariant.begins in
+    let prepared = prepared_at _ _ _ _ _ _ c.loop-i.i c.requires.filled inside in
     record {
-      top = λ inside. let next : k ≡ c.loop-x.x + 1 = omega arith in is ∙ ap (λ n. slice_index c.args.one.now n) next;
       held = c.in-Ok.ensures.held;
       rows = omega arith;
-      started = omega arith;
-      few = omega arith;
-      stands = rw is (stands_next _ _ _ _ k _ _ _ _ _ right (omega arith) (omega arith) c.loop-x.invariant.stands);
-      behind = λ before same. same_from_next _ _ _ _ (c.loop-x.invariant.behind before same);
-      lined = λ first fresh lined. lined_next _ _ _ _ _ _ _ _ _ _ _ _ c.loop-x.x k _ _ _ _ _ right (omega arith) (omega arith) c.loop-x.invariant.stands
-          (c.loop-x.invariant.lined first fresh lined) (rw is at c.in-Ok.ensures.ok);
+      are = c.in-Ok.ensures.are;
+      few = c.in-Ok.ensures.few;
+      begins = rw more (behind_next _ _ _ x _ _ _ _ _ (omega arith) (omega arith) stands);
+      on = λ before on. rw more (same_from_next _ _ _ _ (c.loop-i.invariant.on before on));
+      lined = λ first fresh lined. rw more (lined_next _ _ _ _ _ _ _ _ _ _ _ _ x (min (x + 1) (length c.args.one.now - 1)) _ _ _ _ _ (omega arith) (omega arith) (omega arith) stands
+          (c.loop-i.invariant.lined first fresh lined) (c.in-Ok.ensures.ok _ _ prepared));
     }
 
 pub returns-in-Err-clause-refused : goal.returns-in-Err-clause-refused
 returns-in-Err-clause-refused g c = λ first fresh lined.
-    let k : ℕ = min (c.loop-x.x + 1) (length c.args.cur.now - 1) in
-    let right : k ≡ min (c.loop-x.x + 1) (length c.args.one.now - 1) = omega arith in
-    let is : c.right_above-tr.result ≡ slice_index c.args.one.now k = c.right_above-tr.ensures in
-    let follows : ℕ → Type 0 = λ tr. Follows c.args.table.now (summed c.loop-x.decoder c.loop-x.sums) c.loop-x.states
-    (summed c.decode_sample.new.decoder c.decode_sample.new.sums) c.decode_sample.new.states
-    (refused_steps c.args.set.now (record { l = c.loop-x.l; t = c.loop-x.t; tl = c.loop-x.tl; tr = tr; ll = c.loop-x.ll; tt = slice_index c.args.two.now c.loop-x.x })) in
-    rw c.count_all.ensures
-    (lined_refused _ _ _ _ _ _ _ _ _ _ _ _ c.loop-x.x k _ _ _ _ right (omega arith) (omega arith) c.loop-x.invariant.stands
-    (c.loop-x.invariant.lined first fresh lined) (subst follows is c.in-Err.ensures.refused))
+    let x : ℕ = c.args.from + c.loop-i.i in
+    let inside : c.loop-i.i < c.args.count = c.loop-i-test.true in
+    let stands = stands_behind c.args.two.now c.args.one.now c.loop-i.cur x c.loop-i.along.ll c.loop-i.along.l _ _ (omega arith)
+    (c.requires.filled.above.tl_is c.loop-i.i inside) (c.requires.filled.above.t_is c.loop-i.i inside) c.loop-i.invariant.begins in
+    let prepared = prepared_at _ _ _ _ _ _ c.loop-i.i c.requires.filled inside in
+    rw (c.count_all.ensures, c.among_refused.ensures)
+    (lined_refused _ _ _ _ _ _ _ _ _ _ _ _ x (min (x + 1) (length c.args.one.now - 1)) _ _ _ _ (omega arith) (omega arith) (omega arith) stands
+    (c.loop-i.invariant.lined first fresh lined) (c.in-Err.ensures.refused _ _ prepared))
 
 pub returns-clause-ok : goal.returns-clause-ok
 returns-clause-ok g c = λ first fresh lined.
-    let end : c.args.upto ≡ c.loop-x.x = omega arith in
-    rw (c.count_all-2.ensures, end) (c.loop-x.invariant.lined first fresh lined)
+    let end : c.args.count ≡ c.loop-i.i = omega arith in
+    rw (c.count_all-2.ensures, c.among.ensures, end) (c.loop-i.invariant.lined first fresh lined)
 
-pub returns-clause-stands : goal.returns-clause-stands
-returns-clause-stands g c = let end : c.args.upto ≡ c.loop-x.x = omega arith in rw end c.loop-x.invariant.stands
+pub returns-clause-begins : goal.returns-clause-begins
+returns-clause-begins g c = let end : c.args.count ≡ c.loop-i.i = omega arith in rw end c.loop-i.invariant.begins

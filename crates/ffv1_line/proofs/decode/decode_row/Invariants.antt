@@ -1,8 +1,8 @@
-use Rattle.std.proofs.Common.{◌≡◌, ◌-◌, ◌*◌, length, slice_index, ◌<◌, ◌≤◌}
+use Rattle.std.proofs.Common.{◌≡◌, ◌-◌, ◌*◌, length, ◌≤◌}
 use Rattle.ffv1_range.specs.Symbols.{AllHeld}
 use Rattle.ffv1_plane.specs.Quantisation.{contexts_of}
 use Rattle.ffv1_line.specs.Decoded.{Lined, SameFrom}
-use Rattle.ffv1_line.specs.Internal.Along.{Stands}
+use Rattle.ffv1_line.specs.Internal.Along.{IsBehind}
 use Rattle.ffv1_line.proofs.decode.decode_row.Given as goal
 
 abbrev pub invariant-parts : goal.invariant-parts
@@ -10,8 +10,7 @@ invariant-parts g l = record {
   held : AllHeld l.table l.states;
   rows : length l.states ≡ contexts_of l.set * 32;
   within : l.from ≤ length l.cur;
-  top : l.from < length l.one → l.along.t ≡ slice_index l.one l.from;
-  stands : Stands l.two l.one l.cur l.from l.along.ll l.along.l l.along.tl l.along.t;
+  begins : IsBehind l.two l.one l.cur l.from l.behind.ll l.behind.l;
   behind : SameFrom l.from l.fn.cur l.cur;
   lined : Lined l.table l.set l.bits l.fn.decoder l.fn.states l.decoder l.states l.two l.one l.cur l.from;
 }

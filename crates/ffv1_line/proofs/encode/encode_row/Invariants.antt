@@ -1,8 +1,7 @@
-use Rattle.std.proofs.Common.{◌≡◌, ◌-◌, ◌*◌, false, length, slice_index, ◌<◌, ◌≤◌}
+use Rattle.std.proofs.Common.{◌≡◌, ◌-◌, ◌*◌, false, length, ◌≤◌}
 use Rattle.ffv1_range.specs.Symbols.{AllHeld}
 use Rattle.ffv1_plane.specs.Quantisation.{contexts_of}
 use Rattle.ffv1_line.specs.Encoded.{Written}
-use Rattle.ffv1_line.specs.Internal.Along.{Stands}
 use Rattle.ffv1_line.proofs.encode.encode_row.Given as goal
 
 abbrev pub invariant-parts : goal.invariant-parts
@@ -10,8 +9,6 @@ invariant-parts g l = record {
   held : AllHeld l.table l.states;
   rows : length l.states ≡ contexts_of l.set * 32;
   within : l.from ≤ length l.cur;
-  top : l.from < length l.one → l.along.t ≡ slice_index l.one l.from;
-  stands : Stands l.two l.one l.cur l.from l.along.ll l.along.l l.along.tl l.along.t;
   sound : l.encoder.failed ≡ false;
   written : Written l.table l.set l.bits l.fn.encoder l.fn.states l.encoder l.states l.two l.one l.cur l.from;
 }

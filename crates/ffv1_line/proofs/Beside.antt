@@ -1,0 +1,211 @@
+-- The neighbours of a place by the row are those of the cell, and blocks of places make a row.
+use Rattle.std.proofs.Common.{inl, inr, ◌≡◌, refl, ℕ, zero, suc, ◌+◌, ◌-◌, ◌*◌, ◌<◌, ◌≤◌, min, List, [], ◌∷◌, ◌++◌, length, get_or, arith, ap, sym, subst, ◌≢◌, slice_set, get_or-set_same, get_or-set_other, below_more, ◌∙◌, append_assoc, Bool, append-nil, ℤ}
+use Rattle.std.proofs.lemmas.Bool.{cases_lt}
+use Rattle.ffv1_range.specs.Table.{Table}
+use Rattle.ffv1_range.specs.Symbols.{Step, shifted, signed_steps}
+use Rattle.ffv1_range.specs.History.{AreBelow}
+use Rattle.ffv1_range.specs.Listed.{of_nine_bits}
+use Rattle.ffv1_range.specs.Writing.{Writing}
+use Rattle.ffv1_range.specs.Puts.{Puts, MayBeRefused}
+use Rattle.ffv1_range.proofs.Steps.{puts_append}
+use Rattle.ffv1_range.proofs.Growth.{refused_first, refused_second}
+use Rattle.ffv1_range.proofs.Windows.{signed_below}
+use Rattle.ffv1_plane.specs.declared.prediction.Around.{Around}
+use Rattle.ffv1_plane.specs.Prediction.{predicted}
+use Rattle.ffv1_plane.specs.Quantisation.{Set, contexts_of}
+use Rattle.ffv1_plane.specs.Context.{size_of, flip_of}
+use Rattle.ffv1_plane.specs.Residual.{chosen_of, IsFolded}
+use Rattle.ffv1_plane.proofs.Folding.{chosen_folded}
+use Rattle.ffv1_line.specs.Cell.{Cell, seen, around, Shows, Above}
+use Rattle.ffv1_line.specs.Internal.Along.{Left}
+use Rattle.ffv1_line.specs.Internal.Block.{IsBlock}
+use Rattle.ffv1_line.specs.Row.{chosen_at, chosen_row, row_steps, sample_steps}
+use Rattle.ffv1_line.specs.Encoded.{Written, MayBeRefusedRow}
+use Rattle.ffv1_line.specs.Beside.{before, two_before, beside, chosen_beside, place_steps, places_steps}
+use Rattle.ffv1_line.proofs.Rows.{around_is, scalars, seen_border, seen_far, row_steps-append, chosen-more, length-chosen}
+
+-- ---- neighbours
+
+before_seen : (c : Cell) (y : ℕ) (above row : List ℕ) (x n : ℕ) → x ≤ n → 0 < c.width → Shows c (suc y) row n → Shows c y above c.width → before above row x ≡ seen c (suc x) (suc y)
+before_seen c y above row zero n inside some shows top = top.each 0 some ∙ sym (seen_border c y)
+before_seen c y above row (suc x) n inside some shows top = shows.each x (omega arith)
+
+two_before_seen : (c : Cell) (y : ℕ) (above row : List ℕ) (x n : ℕ) → x ≤ n → 0 < c.width → Shows c (suc y) row n → Shows c y above c.width → two_before above row x ≡ seen c x (suc y)
+two_before_seen c y above row zero n inside some shows top = sym (seen_far c (suc y))
+two_before_seen c y above row (suc x) n inside some shows top = before_seen c y above row x n (omega arith) some shows top
+
+pub beside_is : (c : Cell) (y x : ℕ) (two one cur : List ℕ) → x < length one → Above c y two one → Shows c (suc (suc y)) cur x → beside two one cur x ≡ around c x y
+beside_is c y x two one cur inside above shows =
+    let some : 0 < c.width = omega (arith, above.wide) in
+    let left : Left c y x (two_before one cur x) (before one cur x) (before two one x) (get_or one x 0) = record {
+      ll_is = two_before_seen c (suc y) one cur x x (omega arith) some shows above.first;
+      l_is = before_seen c (suc y) one cur x x (omega arith) some shows above.first;
+      tl_is = before_seen c y two one x c.width (omega (arith, above.wide)) some above.first above.second;
+      t_is = above.first.each x (omega (arith, above.wide));
+    } in
+    around_is c y x two one (min (x + 1) (length one - 1)) (two_before one cur x) (before one cur x) (before two one x) (get_or one x 0) refl inside above left
+
+-- ---- blocks
+
+pub places-none : (set : Set) (bits : ℕ) (two one cur : List ℕ) (from : ℕ) → places_steps set bits two one cur from 0 ≡ []
+unfolding places_steps
+places-none set bits two one cur from = refl
+
+pub places-more : (set : Set) (bits : ℕ) (two one cur : List ℕ) (from n : ℕ) → places_steps set bits two one cur from (n + 1) ≡
+    places_steps set bits two one cur from n ++ place_steps set bits two one cur (from + n)
+unfolding places_steps
+places-more set bits two one cur from n =
+    let up : n + 1 ≡ suc n = omega arith in
+    rw up refl
+
+-- the row's decisions up to a block, and the block's
+pub row_joined : (set : Set) (bits : ℕ) (c : Cell) (y : ℕ) (two one cur : List ℕ) (from n : ℕ) → from + n ≤ length one → Above c y two one → Shows c (suc (suc y)) cur (from + n) →
+    row_steps set c y 0 (chosen_row set bits c y (from + n)) ≡ row_steps set c y 0 (chosen_row set bits c y from) ++ places_steps set bits two one cur from n
+unfolding places_steps
+row_joined set bits c y two one cur from zero inside above shows =
+    let same : from + 0 ≡ from = omega arith in
+    ap (λ k. row_steps set c y 0 (chosen_row set bits c y k)) same ∙ sym (append-nil (row_steps set c y 0 (chosen_row set bits c y from)))
+row_joined set bits c y two one cur from (suc n) inside above shows =
+    let x = from + n in
+    let up : from + suc n ≡ from + n + 1 = omega arith in
+    let fewer : Shows c (suc (suc y)) cur x = record { each = λ k h. shows.each k (omega arith) } in
+    let rest = row_joined set bits c y two one cur from n (omega arith) above fewer in
+    let is = beside_is c y x two one cur (omega arith) above fewer in
+    let sample : get_or cur x 0 ≡ seen c (suc (suc x)) (suc (suc y)) = shows.each x (omega arith) in
+    let here : place_steps set bits two one cur x ≡ sample_steps set (around c x y) (chosen_at set bits c y x) =
+    ap (λ (a : Around). sample_steps set a (chosen_of bits (predicted a) (flip_of set a) (get_or cur x 0))) is
+    ∙ ap (λ s. sample_steps set (around c x y) (chosen_of bits (predicted (around c x y)) (flip_of set (around c x y)) s)) sample in
+    let all = row_steps-append set c y 0 x (chosen_row set bits c y x) (chosen_at set bits c y x) (omega (arith, length-chosen set bits c y x)) in
+    ap (λ k. row_steps set c y 0 (chosen_row set bits c y k)) up ∙ ap (row_steps set c y 0) (chosen-more set bits c y x) ∙ all
+    ∙ ap (λ l. l ++ sample_steps set (around c x y) (chosen_at set bits c y x)) rest
+    ∙ append_assoc (row_steps set c y 0 (chosen_row set bits c y from)) (places_steps set bits two one cur from n) (sample_steps set (around c x y) (chosen_at set bits c y x))
+    ∙ ap (λ l. row_steps set c y 0 (chosen_row set bits c y from) ++ (places_steps set bits two one cur from n ++ l)) (sym here)
+
+shows_fewer : (c : Cell) (y m n : ℕ) (cur : List ℕ) → m ≤ n → Shows c y cur n → Shows c y cur m
+shows_fewer c y m n cur less shows = record { each = λ k h. shows.each k (omega arith) }
+
+-- a block more is written
+pub written_block : (t : Table) (set : Set) (bits : ℕ) (old : Writing) (states : List ℕ) (mid : Writing) (between : List ℕ) (new : Writing) (after two one cur : List ℕ) (from n : ℕ) →
+    from + n ≤ length one → Written t set bits old states mid between two one cur from → Puts t mid between new after (places_steps set bits two one cur from n) →
+    Written t set bits old states new after two one cur (from + n)
+written_block t set bits old states mid between new after two one cur from n inside written puts = record {
+  puts = λ c y above shows.
+      rw (row_joined set bits c y two one cur from n inside above shows)
+      (puts_append t old mid new states between after (row_steps set c y 0 (chosen_row set bits c y from)) (places_steps set bits two one cur from n)
+      (written.puts c y above (shows_fewer c (suc (suc y)) from (from + n) cur (omega arith) shows)) puts);
+}
+
+-- a block that may be refused, in a row
+pub refused_block : (t : Table) (set : Set) (bits : ℕ) (old : Writing) (states : List ℕ) (mid : Writing) (between two one cur : List ℕ) (from n : ℕ) →
+    from + n ≤ length cur → length one ≡ length cur → Written t set bits old states mid between two one cur from → MayBeRefused t mid between (places_steps set bits two one cur from n) →
+    MayBeRefusedRow t set bits old states two one cur (length cur)
+refused_block t set bits old states mid between two one cur from n inside same written refused = record {
+  may = λ c y above shows.
+      let rest = length cur - (from + n) in
+      let all : length cur ≡ from + n + rest = omega arith in
+      let fewer = shows_fewer c (suc (suc y)) (from + n) (length cur) cur inside shows in
+      let here : MayBeRefused t old states (row_steps set c y 0 (chosen_row set bits c y (from + n))) =
+      rw (row_joined set bits c y two one cur from n (omega arith) above fewer)
+      (refused_second t old mid states between (row_steps set c y 0 (chosen_row set bits c y from)) (places_steps set bits two one cur from n)
+      (written.puts c y above (shows_fewer c (suc (suc y)) from (length cur) cur (omega arith) shows)) refused) in
+      let whole = row_joined set bits c y two one cur (from + n) rest (omega arith) above (subst (Shows c (suc (suc y)) cur) all shows) in
+      rw (all, whole) (refused_first t old states (row_steps set c y 0 (chosen_row set bits c y (from + n))) (places_steps set bits two one cur (from + n) rest) here);
+}
+
+-- ---- slots
+
+AreBelow-append : (xs ys : List Step) (count : ℕ) → AreBelow xs count → AreBelow ys count → AreBelow (xs ++ ys) count
+AreBelow-append [] ys count p q = q
+AreBelow-append (x ∷ xs) ys count p q = (p.0, AreBelow-append xs ys count p.1 q)
+
+shifted_below : (base few count : ℕ) (ss : List Step) → base + few ≤ count → AreBelow ss few → AreBelow (shifted base ss) count
+shifted_below base few count [] fits below = tt
+shifted_below base few count (s ∷ ss) fits below = let first = below.0 in (omega arith, shifted_below base few count ss fits below.1)
+
+-- a symbol more of a block
+pub listed_next : (set : Set) (bits : ℕ) (two one cur : List ℕ) (from n k context residual : ℕ) (xs ys : List ℕ) → IsBlock set bits two one cur from n xs ys → k < n →
+    context ≡ get_or xs k 0 → residual ≡ get_or ys k 0 → (done : List Step) → done ≡ places_steps set bits two one cur from k ++ shifted (context * 32) (signed_steps (of_nine_bits residual)) →
+    done ≡ places_steps set bits two one cur from (k + 1)
+listed_next set bits two one cur from n k context residual xs ys is inside x y done steps =
+    let size = x ∙ is.context k inside in
+    let chosen = ap of_nine_bits y ∙ is.residual k inside in
+    steps ∙ ap (λ j. places_steps set bits two one cur from k ++ shifted (j * 32) (signed_steps (of_nine_bits residual))) size
+    ∙ ap (λ q. places_steps set bits two one cur from k ++ shifted (size_of set (beside two one cur (from + k)) * 32) (signed_steps q)) chosen
+    ∙ sym (places-more set bits two one cur from k)
+
+pub below_next : (count context residual : ℕ) (done before : List Step) → context < count → AreBelow before (count * 32) →
+    done ≡ before ++ shifted (context * 32) (signed_steps (of_nine_bits residual)) → AreBelow done (count * 32)
+below_next count context residual done before few below steps =
+    rw steps (AreBelow-append before (shifted (context * 32) (signed_steps (of_nine_bits residual))) (count * 32) below
+    (shifted_below (context * 32) 32 (count * 32) (signed_steps (of_nine_bits residual)) (omega arith) (signed_below (of_nine_bits residual))))
+
+-- ---- a place more of a block
+
+pub beside_by : (two one cur : List ℕ) (x last ll l tl tr : ℕ) → last ≡ length one - 1 → ll ≡ two_before one cur x → l ≡ before one cur x → tl ≡ before two one x → tr ≡ get_or one (min (x + 1) last) 0 →
+    scalars l (get_or one x 0) tl tr ll (get_or two x 0) ≡ beside two one cur x
+beside_by two one cur x last ll l tl tr end far left top right =
+    let right = rw end at right in
+    rw (far, left, top, right) refl
+
+pub before_next : (above row : List ℕ) (from k : ℕ) → get_or row (from + k) 0 ≡ before above row (from + (k + 1))
+before_next above row from k =
+    let up : from + (k + 1) ≡ suc (from + k) = omega arith in
+    ap (before above row) (sym up)
+
+pub two_before_next : (above row : List ℕ) (from k l : ℕ) → l ≡ before above row (from + k) → l ≡ two_before above row (from + (k + 1))
+two_before_next above row from k l is =
+    let up : from + (k + 1) ≡ suc (from + k) = omega arith in
+    is ∙ ap (two_before above row) (sym up)
+
+pub block_next : (set : Set) (bits : ℕ) (two one cur : List ℕ) (from n size residual : ℕ) (xs ys : List ℕ) → IsBlock set bits two one cur from n xs ys → n < length xs → n < length ys →
+    size ≡ size_of set (beside two one cur (from + n)) → size < contexts_of set → of_nine_bits residual ≡ chosen_beside set bits two one cur (from + n) → residual < 512 →
+    IsBlock set bits two one cur from (n + 1) (slice_set xs n size) (slice_set ys n residual)
+block_next set bits two one cur from n size residual xs ys is in_xs in_ys context few chosen small = record {
+  context = below_more (λ k. get_or (slice_set xs n size) k 0 ≡ size_of set (beside two one cur (from + k))) n
+      (λ k h. let other : k ≢ n = omega arith in get_or-set_other xs n k size 0 other ∙ is.context k h) (get_or-set_same xs n size 0 in_xs ∙ context);
+  few = below_more (λ k. get_or (slice_set xs n size) k 0 < contexts_of set) n
+      (λ k h. let other : k ≢ n = omega arith in rw get_or-set_other (is.few k h)) (rw (get_or-set_same xs n size 0 in_xs) few);
+  residual = below_more (λ k. of_nine_bits (get_or (slice_set ys n residual) k 0) ≡ chosen_beside set bits two one cur (from + k)) n
+      (λ k h. let other : k ≢ n = omega arith in ap of_nine_bits (get_or-set_other ys n k residual 0 other) ∙ is.residual k h) (ap of_nine_bits (get_or-set_same ys n residual 0 in_ys) ∙ chosen);
+  small = below_more (λ k. get_or (slice_set ys n residual) k 0 < 512) n
+      (λ k h. let other : k ≢ n = omega arith in rw get_or-set_other (is.small k h)) (rw (get_or-set_same ys n residual 0 in_ys) small);
+}
+
+pub folded_by : (bits : ℕ) (p : ℤ) (flip : Bool) (s : ℕ) (q : ℤ) → 0 < bits → q ≡ chosen_of bits p flip s → IsFolded bits q
+folded_by bits p flip s q some is = subst (IsFolded bits) (sym is) (chosen_folded bits p flip s some)
+
+-- a block's decisions begin with those of its first places
+pub places_begin : (set : Set) (bits : ℕ) (two one cur : List ℕ) (from n m : ℕ) → n ≤ m →
+    (rest : List Step) × (places_steps set bits two one cur from m ≡ places_steps set bits two one cur from n ++ rest)
+places_begin set bits two one cur from n zero inside =
+    let none : n ≡ 0 = omega arith in
+    ([], rw none (sym (append-nil _)))
+places_begin set bits two one cur from n (suc m) inside = elim (cases_lt m n) [
+  | inl less ↦
+      let same : n ≡ suc m = omega arith in
+      ([], rw same (sym (append-nil _)))
+  | inr more ↦
+      let shorter = places_begin set bits two one cur from n m more in
+      let up : suc m ≡ m + 1 = omega arith in (
+        shorter.0 ++ place_steps set bits two one cur (from + m),
+        ap (places_steps set bits two one cur from) up ∙ places-more set bits two one cur from m ∙ ap (λ l. l ++ place_steps set bits two one cur (from + m)) shorter.1
+            ∙ append_assoc (places_steps set bits two one cur from n) shorter.0 (place_steps set bits two one cur (from + m)),
+      )
+]
+
+-- a refusal at a place is one of its block
+pub refused_place : (t : Table) (a b : Writing) (states after : List ℕ) (set : Set) (bits : ℕ) (two one cur : List ℕ) (from k n : ℕ) → k < n →
+    Puts t a states b after (places_steps set bits two one cur from k) → MayBeRefused t b after (place_steps set bits two one cur (from + k)) →
+    MayBeRefused t a states (places_steps set bits two one cur from n)
+refused_place t a b states after set bits two one cur from k n inside puts refused =
+    let all = places_begin set bits two one cur from (k + 1) n (omega arith) in
+    rw (all.1, places-more set bits two one cur from k)
+    (refused_first t a states (places_steps set bits two one cur from k ++ place_steps set bits two one cur (from + k)) all.0
+    (refused_second t a b states after (places_steps set bits two one cur from k) (place_steps set bits two one cur (from + k)) puts refused))
+
+-- the symbol of a place of a block
+pub place_is : (set : Set) (bits : ℕ) (two one cur : List ℕ) (from n k : ℕ) (xs ys : List ℕ) (v : ℤ) → IsBlock set bits two one cur from n xs ys → k < n → v ≡ of_nine_bits (get_or ys k 0) →
+    shifted (get_or xs k 0 * 32) (signed_steps v) ≡ place_steps set bits two one cur (from + k)
+place_is set bits two one cur from n k xs ys v is inside value =
+    ap (λ j. shifted (j * 32) (signed_steps v)) (is.context k inside)
+    ∙ ap (λ q. shifted (size_of set (beside two one cur (from + k)) * 32) (signed_steps q)) (value ∙ is.residual k inside)

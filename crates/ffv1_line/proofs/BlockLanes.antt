@@ -1,0 +1,130 @@
+-- Sixteen places of a block at once.
+use Rattle.std.proofs.Common.{◌≡◌, refl, ap, ◌∙◌, sym, ℕ, zero, suc, ◌+◌, ◌-◌, ◌^◌, ◌<◌, ◌≤◌, ◌⊎◌, inl, inr, List, length, slice_index, map, min, arith, ℤ, pos, negsuc, unsigned_abs, ◌≤ℤ◌, ◌<ℤ◌, ◌-ℤ◌}
+use Rattle.std.proofs.lemmas.Int.{ints}
+use Rattle.std.proofs.lemmas.Bool.{cases_lt, lt-ltb, le-ltb}
+use Rattle.std.proofs.lemmas.Simd.{get_or-put_chunk_below}
+use Rattle.std.specs.List.{range_with_len}
+use Rattle.std.specs.Simd.Lanes.{chunk, put_chunk}
+use Rattle.ffv1_range.specs.Listed.{of_nine_bits}
+use Rattle.ffv1_plane.specs.declared.prediction.Around.{Around}
+use Rattle.ffv1_plane.specs.declared.lanes.AroundLanes.{AroundLanes}
+use Rattle.ffv1_plane.specs.Quantisation.{Set, contexts_of}
+use Rattle.ffv1_plane.specs.Context.{size_of, flip_of}
+use Rattle.ffv1_plane.specs.Prediction.{predicted}
+use Rattle.ffv1_plane.specs.Residual.{IsFolded}
+use Rattle.ffv1_plane.specs.Lanes.{AreSamples, AreAround, modulo_512}
+use Rattle.ffv1_plane.proofs.Remainders.{rem_is, divided}
+use Rattle.ffv1_plane.proofs.Folding.{chosen_folded}
+use Rattle.ffv1_plane.proofs.LaneValues.{loaded, stored}
+use Rattle.ffv1_line.specs.Beside.{before, two_before, beside, chosen_beside}
+use Rattle.ffv1_line.specs.Internal.Block.{IsBlock}
+
+-- ---- loads
+
+before_is : (above row : List ℕ) (x j : ℕ) → 1 ≤ x → slice_index row (x - 1 + j) ≡ before above row (x + j)
+before_is above row zero j some = absurd (omega arith)
+before_is above row (suc x) j some =
+    let e : suc x - 1 + j ≡ x + j = omega arith in
+    let f : suc x + j ≡ suc (x + j) = omega arith in
+    rw (e, f) refl
+
+two_before_is : (above row : List ℕ) (x j : ℕ) → 2 ≤ x → slice_index row (x - 2 + j) ≡ two_before above row (x + j)
+two_before_is above row zero j some = absurd (omega arith)
+two_before_is above row (suc zero) j some = absurd (omega arith)
+two_before_is above row (suc (suc x)) j some =
+    let e : suc (suc x) - 2 + j ≡ x + j = omega arith in
+    let f : suc (suc x) + j ≡ suc (suc (x + j)) = omega arith in
+    rw (e, f) refl
+
+right_is : (one : List ℕ) (x j : ℕ) → j < 16 → x + 17 ≤ length one → slice_index one (x + 1 + j) ≡ slice_index one (min (x + j + 1) (length one - 1))
+right_is one x j below within =
+    let e : min (x + j + 1) (length one - 1) ≡ x + 1 + j = omega (arith, below, within) in
+    ap (slice_index one) (sym e)
+
+-- samples of 16 bits
+abbrev pub AreShort : List ℕ → Type 0
+AreShort row = (x : ℕ) → slice_index row x < 2 ^ 16
+
+before_short : (above row : List ℕ) (x : ℕ) → AreShort above → AreShort row → before above row x < 2 ^ 16
+before_short above row zero a r = a 0
+before_short above row (suc x) a r = r x
+
+two_before_short : (above row : List ℕ) (x : ℕ) → AreShort above → AreShort row → two_before above row x < 2 ^ 16
+two_before_short above row zero a r = omega arith
+two_before_short above row (suc x) a r = before_short above row x a r
+
+short_beside : (two one cur : List ℕ) → AreShort two → AreShort one → AreShort cur → (x : ℕ) → AreSamples (beside two one cur x)
+short_beside two one cur s t u x = record {
+  l = before_short one cur x t u;
+  t = t x;
+  tl = before_short two one x s t;
+  tr = t (min (x + 1) (length one - 1));
+  ll = two_before_short one cur x t u;
+  tt = s x;
+}
+
+pub around_lanes : (two one cur : List ℕ) (x : ℕ) → 2 ≤ x → x + 17 ≤ length cur → length two ≡ length cur → length one ≡ length cur → AreShort two → AreShort one → AreShort cur →
+    (lanes : AroundLanes) → lanes.l ≡ chunk (x - 1) 16 cur → lanes.t ≡ chunk x 16 one → lanes.tl ≡ chunk (x - 1) 16 one → lanes.tr ≡ chunk (x + 1) 16 one → lanes.ll ≡ chunk (x - 2) 16 cur →
+    lanes.tt ≡ chunk x 16 two → AreAround lanes (range_with_len x 16) (beside two one cur)
+around_lanes two one cur x inside within long long' s t u lanes l t' tl tr ll tt = record {
+  samples = short_beside two one cur s t u;
+  l = l ∙ loaded x (x - 1) 16 cur (λ k. (beside two one cur k).l) (omega (arith, inside, within)) (λ j below. before_is one cur x j (omega (arith, inside)));
+  t = t' ∙ loaded x x 16 one (λ k. (beside two one cur k).t) (omega (arith, within, long')) (λ j below. refl);
+  tl = tl ∙ loaded x (x - 1) 16 one (λ k. (beside two one cur k).tl) (omega (arith, inside, within, long')) (λ j below. before_is two one x j (omega (arith, inside)));
+  tr = tr ∙ loaded x (x + 1) 16 one (λ k. (beside two one cur k).tr) (omega (arith, within, long')) (λ j below. right_is one x j below (omega (arith, within, long')));
+  ll = ll ∙ loaded x (x - 2) 16 cur (λ k. (beside two one cur k).ll) (omega (arith, inside, within)) (λ j below. two_before_is one cur x j inside);
+  tt = tt ∙ loaded x x 16 two (λ k. (beside two one cur k).tt) (omega (arith, within, long)) (λ j below. refl);
+}
+
+-- ---- residuals
+
+-- a residual of nine bits comes back from itself modulo 512
+nine_back : (v : ℤ) → (pos 0 -ℤ pos 256) ≤ℤ v → v <ℤ pos 256 → of_nine_bits (modulo_512 v) ≡ v
+nine_back (pos n) least most =
+    let below : n < 256 = omega (arith, ints, most) in
+    let is = ap unsigned_abs (rem_is 512 (pos n) n (omega (arith, below)) (record { down = 0; up = 0; same = refl })) in
+    rw (is, lt-ltb n 256 below) refl
+nine_back (negsuc n) least most =
+    let below : n < 256 = omega (arith, ints, least) in
+    let is = ap unsigned_abs (rem_is 512 (negsuc n) (511 - n) (omega arith) (record { down = 1; up = 0; same = omega (arith, ints, below) })) in
+    let back : 511 - (511 - n) ≡ n = omega (arith, below) in
+    rw (is, le-ltb (511 - n) 256 (omega (arith, below)), back) refl
+
+nine_small : (v : ℤ) → modulo_512 v < 512
+nine_small v = let d = divided 512 v (omega arith) in rw d.is d.small
+
+folded_nine : (bits : ℕ) (v : ℤ) → (bits ≡ 8) ⊎ (bits ≡ 9) → IsFolded bits v → of_nine_bits (modulo_512 v) ≡ v
+folded_nine bits v (inl is) folded = let f = rw is at folded in let least = f.least in let most = f.most in nine_back v (omega (arith, ints, least)) (omega (arith, ints, most))
+folded_nine bits v (inr is) folded = let f = rw is at folded in nine_back v f.least f.most
+
+-- ---- blocks
+
+pub block_lanes : (set : Set) (bits : ℕ) (two one cur : List ℕ) (from at : ℕ) (contexts residuals sizes chosen : List ℕ) → (bits ≡ 8) ⊎ (bits ≡ 9) → at + 16 ≤ length contexts → at + 16 ≤ length residuals →
+    ((a : Around) → size_of set a < contexts_of set) → IsBlock set bits two one cur from at contexts residuals → sizes ≡ map (λ x. size_of set (beside two one cur x)) (range_with_len (from + at) 16) →
+    chosen ≡ map (λ x. modulo_512 (chosen_beside set bits two one cur x)) (range_with_len (from + at) 16) →
+    IsBlock set bits two one cur from (at + 16) (put_chunk at contexts sizes) (put_chunk at residuals chosen)
+block_lanes set bits two one cur from at contexts residuals sizes chosen depth room room' below is are are' =
+    let place : (k : ℕ) → at ≤ k → from + at + (k - at) ≡ from + k = λ k more. omega (arith, more) in
+    let size : (k : ℕ) → at ≤ k → k < at + 16 → slice_index (put_chunk at contexts sizes) k ≡ size_of set (beside two one cur (from + k)) =
+    λ k more less. stored (from + at) at 16 contexts sizes (λ x. size_of set (beside two one cur x)) k are room more less ∙ ap (λ x. size_of set (beside two one cur x)) (place k more) in
+    let residual : (k : ℕ) → at ≤ k → k < at + 16 → slice_index (put_chunk at residuals chosen) k ≡ modulo_512 (chosen_beside set bits two one cur (from + k)) =
+    λ k more less. stored (from + at) at 16 residuals chosen (λ x. modulo_512 (chosen_beside set bits two one cur x)) k are' room' more less ∙ ap (λ x. modulo_512 (chosen_beside set bits two one cur x)) (place k more) in
+    let some : 0 < bits = elim depth [ inl eight ↦ omega arith | inr nine ↦ omega arith ] in
+    record {
+      context = λ k less. elim (cases_lt k at) [
+        | inl early ↦ get_or-put_chunk_below at contexts sizes k 0 early ∙ is.context k early
+        | inr more ↦ size k more less
+      ];
+      few = λ k less. elim (cases_lt k at) [
+        | inl early ↦ rw (get_or-put_chunk_below at contexts sizes k 0 early) (is.few k early)
+        | inr more ↦ rw (size k more less) (below (beside two one cur (from + k)))
+      ];
+      residual = λ k less. elim (cases_lt k at) [
+        | inl early ↦ rw (get_or-put_chunk_below at residuals chosen k 0 early) (is.residual k early)
+        | inr more ↦ rw (residual k more less) (folded_nine bits _ depth (chosen_folded bits (predicted (beside two one cur (from + k))) (flip_of set (beside two one cur (from + k))) (slice_index cur (from + k)) some))
+      ];
+      small = λ k less. elim (cases_lt k at) [
+        | inl early ↦ rw (get_or-put_chunk_below at residuals chosen k 0 early) (is.small k early)
+        | inr more ↦ rw (residual k more less) (nine_small (chosen_beside set bits two one cur (from + k)))
+      ];
+    }

@@ -1,0 +1,72 @@
+-- Places of a row by what the rows above decide of them.
+use Rattle.std.proofs.Common.{◌≡◌, ℕ, zero, suc, ◌+◌, ◌-◌, ◌*◌, ◌^◌, ◌<◌, min, Bool, true, false, List, length, get_or, slice_set, arith, sym, subst, ◌∙◌, ℤ, pos, unsigned_abs}
+use Rattle.ffv1_range.specs.Table.{Table}
+use Rattle.ffv1_range.specs.Reading.{Reading}
+use Rattle.ffv1_range.specs.Follows.{Follows}
+use Rattle.ffv1_range.specs.Symbols.{shifted, signed_steps, too_long}
+use Rattle.ffv1_plane.specs.declared.prediction.Around.{Around}
+use Rattle.ffv1_plane.specs.Prediction.{predicted}
+use Rattle.ffv1_plane.specs.Context.{size_of, flip_of}
+use Rattle.ffv1_plane.specs.Residual.{sample_of}
+use Rattle.ffv1_line.specs.Row.{refused_steps}
+use Rattle.ffv1_line.specs.Decoded.{Sampled}
+use Rattle.ffv1_plane.specs.declared.early.Early.{Early}
+use Rattle.ffv1_plane.specs.Quantisation.{Set}
+use Rattle.ffv1_plane.specs.Early.{left_above, right_above}
+use Rattle.ffv1_line.specs.Cell.{Cell, seen, Above}
+use Rattle.ffv1_line.specs.Internal.Along.{Stands, IsBehind, IsFilled, IsPrepared}
+use Rattle.ffv1_line.proofs.Rows.{stands_first, stands_next, seen_border}
+
+-- the sample above to the left is the one that is seen there
+left_is : (c : Cell) (y : ℕ) (two one : List ℕ) (x : ℕ) → x < length one → Above c y two one → left_above two one x ≡ seen c (suc x) (suc y)
+left_is c y two one zero inside above = above.second.each 0 (omega (arith, above.wide)) ∙ sym (seen_border c y)
+left_is c y two one (suc x) inside above = above.first.each x (omega (arith, above.wide))
+
+pub stands_behind : (two one cur : List ℕ) (x ll l tl t : ℕ) → x < length one → tl ≡ left_above two one x → t ≡ get_or one x 0 → IsBehind two one cur x ll l → Stands two one cur x ll l tl t
+stands_behind two one cur x ll l tl t inside left top behind = record {
+  each = λ c y above shows. record {
+    ll_is = behind.ll_is c y above shows;
+    l_is = behind.l_is c y above shows;
+    tl_is = left ∙ left_is c y two one x inside above;
+    t_is = top ∙ above.first.each x (omega (arith, above.wide));
+  };
+}
+
+behind_stands : (two one cur : List ℕ) (x ll l tl t : ℕ) → Stands two one cur x ll l tl t → IsBehind two one cur x ll l
+behind_stands two one cur x ll l tl t stands = record {
+  ll_is = λ c y above shows. (stands.each c y above shows).ll_is;
+  l_is = λ c y above shows. (stands.each c y above shows).l_is;
+}
+
+pub behind_first : (two one cur : List ℕ) → 0 < length one → length two ≡ length one → IsBehind two one cur 0 0 (get_or one 0 0)
+behind_first two one cur some same = behind_stands two one cur 0 0 (get_or one 0 0) _ _ (stands_first two one cur some same)
+
+pub behind_next : (two one cur : List ℕ) (x ll l tl t s : ℕ) → x < length cur → length one ≡ length cur → Stands two one cur x ll l tl t → IsBehind two one (slice_set cur x s) (x + 1) l s
+behind_next two one cur x ll l tl t s inside same stands =
+    behind_stands two one (slice_set cur x s) (x + 1) l s t _ (stands_next two one cur x (min (x + 1) (length one - 1)) ll l tl t s (omega arith) inside same stands)
+
+pub prepared_at : (set : Set) (two one : List ℕ) (from : ℕ) (e : Early) (n i : ℕ) → IsFilled set two one from e n → i < n → IsPrepared set e i (right_above one (from + i)) (get_or two (from + i) 0)
+prepared_at set two one from e n i filled inside = record {
+  least_is = filled.bounds.least_is i inside;
+  most_is = filled.bounds.most_is i inside;
+  early = rw (filled.above.tl_is i inside, filled.above.t_is i inside) (filled.early.each i inside);
+}
+
+-- a sample by the number of its context, its flip and its prediction
+pub sampled_by : (t : Table) (set : Set) (bits : ℕ) (old : Reading) (states : List ℕ) (new : Reading) (after : List ℕ) (a : Around) (s size : ℕ) (flip : Bool) (prediction q : ℤ) →
+    size ≡ size_of set a → flip ≡ flip_of set a → prediction ≡ predicted a → unsigned_abs q < 2 ^ 31 → pos s ≡ sample_of bits prediction flip q →
+    Follows t old states new after (shifted (size * 32) (signed_steps q)) → Sampled t set bits old states new after a s
+sampled_by t set bits old states new after a s size flip prediction q size_is flip_is prediction_is small makes follows = record {
+  residual = q;
+  suits = record { size = small; makes = rw (← flip_is, ← prediction_is) makes };
+  follows = subst (λ n. Follows t old states new after (shifted (n * 32) (signed_steps q))) size_is follows;
+}
+
+pub refused_by : (t : Table) (set : Set) (old : Reading) (states : List ℕ) (new : Reading) (after : List ℕ) (a : Around) (size : ℕ) → size ≡ size_of set a →
+    Follows t old states new after (shifted (size * 32) too_long) → Follows t old states new after (refused_steps set a)
+refused_by t set old states new after a size size_is follows = subst (λ n. Follows t old states new after (shifted (n * 32) too_long)) size_is follows
+
+-- a residual 0 makes the same sample, flipped or not
+pub zero_makes : (bits s : ℕ) (prediction q : ℤ) (flip : Bool) → q ≡ pos 0 → pos s ≡ sample_of bits prediction false (pos 0) → pos s ≡ sample_of bits prediction flip q
+zero_makes bits s prediction q false none makes = rw none makes
+zero_makes bits s prediction q true none makes = rw none makes

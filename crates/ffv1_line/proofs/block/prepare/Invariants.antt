@@ -1,0 +1,12 @@
+use Rattle.std.proofs.Common.{◌-◌, ◌≤◌}
+use Rattle.ffv1_line.specs.Internal.Block.{IsBlock}
+use Rattle.ffv1_line.proofs.block.prepare.Given as goal
+
+abbrev pub invariant-loop-at : goal.invariant-loop-at
+invariant-loop-at g l = record {
+  some : l.at ≤ l.few;
+  block : IsBlock l.set l.bits l.two l.one l.cur l.from l.at l.block.contexts l.block.residuals;
+}
+
+abbrev pub decreases-loop-at : goal.decreases-loop-at
+decreases-loop-at g l = l.few - l.at

@@ -1,0 +1,93 @@
+-- The sums of the look-ups of a place, as lanes have them.
+use Rattle.std.proofs.Common.{◌≡◌, ℕ, ◌+◌, ◌-◌, ◌*◌, ◌%◌, ◌<◌, ◌≤◌, arith, pos, ◌+ℤ◌, ◌-ℤ◌}
+use Rattle.std.proofs.lemmas.Int.{ints}
+use Rattle.ffv1_plane.specs.declared.prediction.Around.{Around}
+use Rattle.ffv1_plane.specs.Quantisation.{Set, IsNear, entry_of, contexts_of}
+use Rattle.ffv1_plane.specs.Raised.{RaisedTable, AreRaised, half_of, raised_entry, raised_sum}
+use Rattle.ffv1_plane.specs.Context.{low, context_of}
+use Rattle.ffv1_plane.proofs.Sums.{set_of, context_is, near_is}
+
+-- what each entry of a table is, raised
+abbrev pub HasEntries : RaisedTable → Type 0
+HasEntries t = (k : ℕ) → k < 256 → pos (raised_entry t k) ≡ entry_of t.runs t.scale k +ℤ pos (half_of t)
+
+abbrev pub HasMost : RaisedTable → Type 0
+HasMost t = (k : ℕ) → k < 256 → raised_entry t k ≤ 2 * half_of t
+
+pub low_below : (a b : ℕ) → low a b < 256
+low_below a b = omega arith
+
+-- the sum of the look-ups of three tables, and of all five
+abbrev pub near_sum : RaisedTable → RaisedTable → RaisedTable → Around → ℕ
+near_sum first second third a = raised_entry first (low a.l a.tl) + (raised_entry second (low a.tl a.t) + raised_entry third (low a.t a.tr))
+
+abbrev pub far_sum : RaisedTable → RaisedTable → Around → ℕ
+far_sum fourth fifth a = raised_entry fourth (low a.ll a.l) + raised_entry fifth (low a.tt a.t)
+
+sum_of : (set : Set) (a : Around) (s half : ℕ) → context_of set a ≡ pos s -ℤ pos half → contexts_of set ≡ half + 1 → raised_sum set a ≡ s
+unfolding raised_sum
+sum_of set a s half is count =
+    let less : contexts_of set - 1 ≡ half = omega (arith, count) in
+    rw (is, less) (omega (arith, ints))
+
+near_bounded : (r1 r2 r3 h1 h2 h3 h4 h5 half : ℕ) → r1 ≤ 2 * h1 → r2 ≤ 2 * h2 → r3 ≤ 2 * h3 → h1 + h2 + h3 + h4 + h5 ≡ half → r1 + (r2 + r3) ≤ 2 * half
+near_bounded r1 r2 r3 h1 h2 h3 h4 h5 half a b c s = omega arith
+
+bounded : (r1 r2 r3 r4 r5 h1 h2 h3 h4 h5 half : ℕ) → r1 ≤ 2 * h1 → r2 ≤ 2 * h2 → r3 ≤ 2 * h3 → r4 ≤ 2 * h4 → r5 ≤ 2 * h5 → h1 + h2 + h3 + h4 + h5 ≡ half → r1 + (r2 + r3) + (r4 + r5) ≤ 2 * half
+bounded r1 r2 r3 r4 r5 h1 h2 h3 h4 h5 half a b c d e s = omega arith
+
+ordered : (r1 r2 r3 r4 r5 : ℕ) → r1 + (r4 + (r2 + r3 + r5)) ≡ r1 + (r2 + r3) + (r4 + r5)
+ordered r1 r2 r3 r4 r5 = omega arith
+
+-- the sum of the look-ups of a place
+pub record IsSum (set : Set) (half : ℕ) (a : Around) (sum : ℕ) : Type 0 where
+  pub is : raised_sum set a ≡ sum
+  pub context : context_of set a ≡ pos sum -ℤ pos half
+  pub most : sum ≤ 2 * half
+
+pub sum_near : (first second third fourth fifth : RaisedTable) (half : ℕ) (a : Around) → AreRaised first second third fourth fifth half → IsNear (set_of first second third fourth fifth) →
+    HasEntries first → HasEntries second → HasEntries third → HasMost first → HasMost second → HasMost third →
+    IsSum (set_of first second third fourth fifth) half a (near_sum first second third a)
+sum_near first second third fourth fifth half a is near p q r u v w =
+    let context = near_is first second third fourth fifth half _ _ _ a is near (p (low a.l a.tl) (low_below a.l a.tl)) (q (low a.tl a.t) (low_below a.tl a.t)) (r (low a.t a.tr) (low_below a.t a.tr)) in
+    let halves = is.halves in
+    let most1 = u (low a.l a.tl) (low_below a.l a.tl) in
+    let most2 = v (low a.tl a.t) (low_below a.tl a.t) in
+    let most3 = w (low a.t a.tr) (low_below a.t a.tr) in
+    record { is = sum_of _ a _ half context is.contexts; context = context; most = near_bounded _ _ _ (half_of first) (half_of second) (half_of third) (half_of fourth) (half_of fifth) half most1 most2 most3 halves }
+
+pub sum_far : (first second third fourth fifth : RaisedTable) (half : ℕ) (a : Around) → AreRaised first second third fourth fifth half →
+    HasEntries first → HasEntries second → HasEntries third → HasEntries fourth → HasEntries fifth → HasMost first → HasMost second → HasMost third → HasMost fourth → HasMost fifth →
+    IsSum (set_of first second third fourth fifth) half a (near_sum first second third a + far_sum fourth fifth a)
+sum_far first second third fourth fifth half a is p q r s t u v w x y =
+    let r1 = raised_entry first (low a.l a.tl) in
+    let r2 = raised_entry second (low a.tl a.t) in
+    let r3 = raised_entry third (low a.t a.tr) in
+    let r4 = raised_entry fourth (low a.ll a.l) in
+    let r5 = raised_entry fifth (low a.tt a.t) in
+    let order : r1 + (r4 + (r2 + r3 + r5)) ≡ r1 + (r2 + r3) + (r4 + r5) = ordered r1 r2 r3 r4 r5 in
+    let context = context_is first second third fourth fifth half r1 r2 r3 r4 r5 a is (p (low a.l a.tl) (low_below a.l a.tl)) (q (low a.tl a.t) (low_below a.tl a.t)) (r (low a.t a.tr) (low_below a.t a.tr)) (s (low a.ll a.l) (low_below a.ll a.l)) (t (low a.tt a.t) (low_below a.tt a.t)) in
+    let context' = rw order at context in
+    record {
+      is = sum_of _ a _ half context' is.contexts;
+      context = context';
+      most = bounded r1 r2 r3 r4 r5 _ _ _ _ _ half (u (low a.l a.tl) (low_below a.l a.tl)) (v (low a.tl a.t) (low_below a.tl a.t)) (w (low a.t a.tr) (low_below a.t a.tr)) (x (low a.ll a.l) (low_below a.ll a.l)) (y (low a.tt a.t) (low_below a.tt a.t)) is.halves;
+    }
+
+-- lanes' sums, which are not cut
+abbrev pub plus : ℕ → ℕ → ℕ
+plus x y = (x + y) % 65536
+
+pub near_added : (r1 r2 r3 half : ℕ) → r1 + (r2 + r3) ≤ 2 * half → half < 32768 → plus r1 (plus r2 r3) ≡ r1 + (r2 + r3)
+near_added r1 r2 r3 half most few = omega arith
+
+pub far_added : (r1 r2 r3 r4 r5 half : ℕ) → r1 + (r2 + r3) + (r4 + r5) ≤ 2 * half → half < 32768 → plus (plus r1 (plus r2 r3)) (plus r4 r5) ≡ r1 + (r2 + r3) + (r4 + r5)
+far_added r1 r2 r3 r4 r5 half most few = omega arith
+
+-- the same of early parts of sums
+pub early_near_added : (r2 r3 h1 h2 h3 h4 h5 half : ℕ) → r2 ≤ 2 * h2 → r3 ≤ 2 * h3 → h1 + h2 + h3 + h4 + h5 ≡ half → half < 32768 → plus (plus r2 r3) (32768 - half) ≡ r2 + r3 + (32768 - half)
+early_near_added r2 r3 h1 h2 h3 h4 h5 half a b s few = omega arith
+
+pub early_added : (r2 r3 r5 h1 h2 h3 h4 h5 half : ℕ) → r2 ≤ 2 * h2 → r3 ≤ 2 * h3 → r5 ≤ 2 * h5 → h1 + h2 + h3 + h4 + h5 ≡ half → half < 32768 →
+    plus (plus (plus r2 r3) (32768 - half)) r5 ≡ r2 + r3 + (32768 - half) + r5
+early_added r2 r3 r5 h1 h2 h3 h4 h5 half a b c s few = omega arith

@@ -1,0 +1,228 @@
+//! What the rows above decide of the places of a block, before the samples to their left are known.
+
+ghost use Rattle.std.specs.Prelude.{◌≡◌, ℕ, ◌+◌, ◌^◌, ◌≤◌, ◌<◌, ◌⊎◌, IsTrue, length, slice_index};
+ghost use Rattle.std.specs.Prelude.{pos, unsigned_abs};
+ghost use Rattle.ffv1_plane.specs.Residual.{turned, sample_of};
+ghost use Rattle.ffv1_plane.specs.Quantisation.{IsNear, HasFewLevels};
+ghost use Rattle.ffv1_plane.specs.Early.{AreAbove, AreBounds, AreEarly, left_above};
+
+use crate::quantisation::{QuantSet, early_sum};
+use crate::residual::unfold;
+use std::alloc::Allocator;
+use std::simd::prelude::*;
+
+/// The places of a block.
+pub const BLOCK: usize = 128;
+
+/// Of each place of a block, from its first on: the samples above to the left and above, the lesser
+/// and the greater one of them, and the early part of the context's sum, as of `early_sum`.
+#[derive(Clone, Copy)]
+pub struct Early {
+    /// Above, to the left.
+    pub tl: [u16; BLOCK],
+    /// Above.
+    pub t: [u16; BLOCK],
+    /// The lesser one of the two.
+    pub least: [u16; BLOCK],
+    /// The greater one.
+    pub most: [u16; BLOCK],
+    /// The early part of the sum.
+    pub sum: [u16; BLOCK],
+}
+
+/// The samples above to the left, from place `from` on.
+#[inline(always)]
+fn fill_left(two: &[u16], one: &[u16], from: usize, count: usize, tl: &mut [u16])
+    requires some { 0 < count }
+    requires wide { length two.now ≡ length one.now }
+    requires within { from + count ≤ length one.now }
+    requires room { count ≤ length tl.old }
+    ensures { (i : ℕ) → i < count → slice_index tl.new i ≡ left_above two.now one.now (from + i) }
+{
+    tl[0] = if from == 0 { two[0] } else { one[from - 1] };
+    for i in 1..count {
+        tl[i] = one[from + i - 1];
+    }
+}
+
+/// The samples above, from place `from` on.
+#[inline(always)]
+fn fill_above(one: &[u16], from: usize, count: usize, t: &mut [u16])
+    requires within { from + count ≤ length one.now }
+    requires room { count ≤ length t.old }
+    ensures { (i : ℕ) → i < count → slice_index t.new i ≡ slice_index one.now (from + i) }
+{
+    for i in 0..count {
+        t[i] = one[from + i];
+    }
+}
+
+/// The lesser and the greater ones of two samples each.
+#[inline(always)]
+fn fill_bounds(tl: &[u16], t: &[u16], count: usize, least: &mut [u16], most: &mut [u16])
+    requires tl_room { count ≤ length tl.now }
+    requires t_room { count ≤ length t.now }
+    requires least_room { count ≤ length least.old }
+    requires most_room { count ≤ length most.old }
+    ensures { AreBounds tl.now t.now least.new most.new count }
+{
+    for i in 0..count {
+        least[i] = tl[i].min(t[i]);
+        most[i] = tl[i].max(t[i]);
+    }
+}
+
+/// The early sums of places `start` to before `end` of a block, whose first is place `from` of the
+/// row. `near` may be said of a set whose fourth and fifth tables have one level.
+#[inline(always)]
+fn sum_places<A: Allocator>(
+    set: &QuantSet<A>,
+    two: &[u16],
+    one: &[u16],
+    from: usize,
+    start: usize,
+    end: usize,
+    tl: &[u16],
+    sum: &mut [u16],
+    near: bool,
+)
+    requires near { IsTrue near → IsNear set.now }
+    requires wide { length two.now ≡ length one.now }
+    requires ordered { start ≤ end }
+    requires within { from + end ≤ length one.now }
+    requires room { end ≤ length sum.old }
+    requires tl_room { end ≤ length tl.now }
+    requires left { (i : ℕ) → i < end → slice_index tl.now i ≡ left_above two.now one.now (from + i) }
+    requires done { AreEarly set.now two.now one.now from sum.old start }
+    ensures { AreEarly set.now two.now one.now from sum.new end }
+{
+    for i in start..end {
+        let x = from + i;
+        let right = (x + 1).min(one.len() - 1);
+        sum[i] = early_sum(set, tl[i], one[x], one[right], two[x], near);
+    }
+}
+
+/// The early sums of 16 places of a block from `at` on, none of which is a border of the row.
+#[inline(always)]
+fn sum_lanes<A: Allocator>(
+    set: &QuantSet<A>,
+    two: &[u16],
+    one: &[u16],
+    from: usize,
+    at: usize,
+    sum: &mut [u16],
+    near: bool,
+)
+    requires few { HasFewLevels set.now }
+    requires near { IsTrue near → IsNear set.now }
+    requires wide { length two.now ≡ length one.now }
+    requires inside { 0 < from + at }
+    requires within { from + at + 17 ≤ length one.now }
+    requires room { at + 16 ≤ length sum.old }
+    requires done { AreEarly set.now two.now one.now from sum.old at }
+    ensures { AreEarly set.now two.now one.now from sum.new (at + 16) }
+{
+    let x = from + at;
+    let tl = u16x16::from_slice(&one[x - 1..]);
+    let t = u16x16::from_slice(&one[x..]);
+    let tr = u16x16::from_slice(&one[x + 1..]);
+    let tt = u16x16::from_slice(&two[x..]);
+    set.early_lanes(tl, t, tr, tt, near)
+        .copy_to_slice(&mut sum[at..]);
+}
+
+/// The early sums, from place `from` on: those inside the row 16 at once, in a set whose tables have
+/// few levels. `near` may be said of a set whose fourth and fifth tables have one level.
+#[inline(always)]
+fn fill_sums<A: Allocator>(
+    set: &QuantSet<A>,
+    two: &[u16],
+    one: &[u16],
+    from: usize,
+    count: usize,
+    tl: &[u16],
+    sum: &mut [u16],
+    near: bool,
+)
+    requires near { IsTrue near → IsNear set.now }
+    requires some { 0 < count }
+    requires wide { length two.now ≡ length one.now }
+    requires within { from + count ≤ length one.now }
+    requires room { count ≤ length sum.old }
+    requires tl_room { count ≤ length tl.now }
+    requires left { (i : ℕ) → i < count → slice_index tl.now i ≡
+        left_above two.now one.now (from + i) }
+    ensures { AreEarly set.now two.now one.now from sum.new count }
+{
+    let mut at = if from == 0 { 1 } else { 0 };
+    sum_places(set, two, one, from, 0, at, tl, sum, near);
+    if set.has_few_levels() {
+        while count - at >= 16 && one.len() - (from + at) >= 17 {
+            sum_lanes(set, two, one, from, at, sum, near);
+            at += 16;
+        }
+    }
+    sum_places(set, two, one, from, at, count, tl, sum, near);
+}
+
+/// The number, its sign flipped or not, by a choice and no branch, which no one could predict.
+#[inline(always)]
+fn turn(flip: bool, number: i32) -> i32
+    requires { unsigned_abs number < 2 ^ 31 }
+    ensures { result ≡ turned flip number }
+{
+    if flip { -number } else { number }
+}
+
+/// The sample of a residual, as with `sample_from`, for a residual of a symbol.
+#[inline(always)]
+pub fn sample_late(pred: i32, flip: bool, residual: i32, bits: u8) -> u16
+    requires bits { (bits ≡ 8) ⊎ (bits ≡ 9) }
+    requires size { unsigned_abs residual < 2 ^ 31 }
+    ensures value { pos result ≡ sample_of bits pred flip residual }
+    ensures small { result < 2 ^ bits }
+{
+    unfold(pred, turn(flip, residual), bits)
+}
+
+impl Early {
+    /// Room for a block, of zeros.
+    #[inline(always)]
+    pub fn new() -> Early {
+        Early {
+            tl: [0; BLOCK],
+            t: [0; BLOCK],
+            least: [0; BLOCK],
+            most: [0; BLOCK],
+            sum: [0; BLOCK],
+        }
+    }
+
+    /// Fills the first `count` places with what is known of the places from `from` on of the row
+    /// below `two` and `one`. `near` may be said of a set whose fourth and fifth tables have one
+    /// level.
+    pub fn fill<A: Allocator>(
+        &mut self,
+        set: &QuantSet<A>,
+        two: &[u16],
+        one: &[u16],
+        from: usize,
+        count: usize,
+        near: bool,
+    )
+        requires near { IsTrue near → IsNear set.now }
+        requires wide { length two.now ≡ length one.now }
+        requires some { 0 < count }
+        requires few { count ≤ 128 }
+        requires within { from + count ≤ length one.now }
+        ensures above { AreAbove two.now one.now from self.new.tl self.new.t count }
+        ensures bounds { AreBounds self.new.tl self.new.t self.new.least self.new.most count }
+        ensures early { AreEarly set.now two.now one.now from self.new.sum count }
+    {
+        fill_left(two, one, from, count, &mut self.tl);
+        fill_above(one, from, count, &mut self.t);
+        fill_bounds(&self.tl, &self.t, count, &mut self.least, &mut self.most);
+        fill_sums(set, two, one, from, count, &self.tl, &mut self.sum, near);
+    }
+}

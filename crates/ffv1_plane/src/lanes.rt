@@ -1,0 +1,86 @@
+//! Contexts and residuals of 16 places at once.
+
+ghost use Rattle.std.specs.Prelude.{◌≡◌, ℕ, ◌+◌, ◌*◌, ◌/◌, ◌%◌, ◌^◌, ◌<◌, ◌⊎◌, IsTrue, List, length};
+ghost use Rattle.std.specs.Prelude.{map, unsigned_abs};
+ghost use Rattle.ffv1_plane.specs.Quantisation.{IsNear, HasFewLevels};
+ghost use Rattle.ffv1_plane.specs.Context.{size_of, flip_of};
+ghost use Rattle.ffv1_plane.specs.Prediction.{predicted};
+ghost use Rattle.ffv1_plane.specs.Residual.{chosen_of};
+ghost use Rattle.ffv1_plane.specs.Lanes.{AreAround, modulo_512, folded_modulo};
+ghost use Rattle.ffv1_plane.specs.declared.prediction.Around.{Around};
+
+use crate::quantisation::QuantSet;
+use std::alloc::Allocator;
+use std::simd::prelude::*;
+
+/// The samples around 16 places, as in `Around`.
+#[derive(Clone, Copy)]
+pub struct AroundLanes {
+    /// To the left.
+    pub l: u16x16,
+    /// Above.
+    pub t: u16x16,
+    /// Above, to the left.
+    pub tl: u16x16,
+    /// Above, to the right.
+    pub tr: u16x16,
+    /// Two to the left.
+    pub ll: u16x16,
+    /// Two above.
+    pub tt: u16x16,
+}
+
+/// The predictions of 16 places.
+#[inline(always)]
+fn predict_lanes(around: &AroundLanes) -> u16x16
+    ensures { (places : List ℕ) (a : ℕ → Around) → AreAround around.now places a →
+        result ≡ map (λ x. unsigned_abs (predicted (a x))) places }
+{
+    let least = around.l.simd_min(around.t);
+    let most = around.l.simd_max(around.t);
+    most - (around.tl.simd_max(least).simd_min(most) - least)
+}
+
+/// 16 differences modulo 65536, folded to `bits` bits, modulo 512.
+#[inline(always)]
+fn fold_lanes(differences: u16x16, bits: u8) -> u16x16
+    requires { (bits ≡ 8) ⊎ (bits ≡ 9) }
+    ensures { (places : List ℕ) (f : ℕ → ℕ) → length places ≡ 16 → differences ≡ map f places →
+        result ≡ map (λ x. folded_modulo bits (f x)) places }
+{
+    if bits == 8 {
+        let low = differences & u16x16::splat(255);
+        return low + ((low >> 7) << 8);
+    }
+    differences & u16x16::splat(511)
+}
+
+/// The numbers of the contexts of 16 places, and the residuals that an encoder takes for their
+/// samples, modulo 512. `bits` is 8 or 9; `near` may be said of a set whose fourth and fifth tables
+/// have one level.
+#[inline(always)]
+pub fn choose_lanes<A: Allocator>(
+    set: &QuantSet<A>,
+    around: &AroundLanes,
+    samples: u16x16,
+    bits: u8,
+    near: bool,
+) -> (u16x16, u16x16)
+    requires bits { (bits ≡ 8) ⊎ (bits ≡ 9) }
+    requires few { HasFewLevels set.now }
+    requires near { IsTrue near → IsNear set.now }
+    ensures sizes { (places : List ℕ) (a : ℕ → Around) → length places ≡ 16 →
+        AreAround around.now places a → result.0 ≡ map (λ x. size_of set.now (a x)) places }
+    ensures residuals { (places : List ℕ) (a : ℕ → Around) (s : ℕ → ℕ) → length places ≡ 16 →
+        AreAround around.now places a → samples ≡ map s places → ((x : ℕ) → s x < 2 ^ 16) →
+        result.1 ≡ map (λ x. modulo_512
+        (chosen_of bits (predicted (a x)) (flip_of set.now (a x)) (s x))) places }
+{
+    let (sums, half) = set.sum_lanes(around, near);
+    let half = u16x16::splat(half);
+    let flips = sums.simd_lt(half);
+    let sizes = flips.select(half - sums, sums - half);
+    let predictions = predict_lanes(around);
+    let differences = flips.select(predictions - samples, samples - predictions);
+    (sizes, fold_lanes(differences, bits))
+}

@@ -1,0 +1,221 @@
+//! Symbols of a row are read: the most frequent ones, zeros and those of the exponents 0 and 1, by
+//! straight code, and only nonzero numbers are counted (RFC 9043, 3.8.1.2).
+
+ghost use Rattle.std.specs.Prelude.{◌≡◌, ℕ, ◌+◌, ◌*◌, ◌^◌, ◌≤◌, ◌<◌, ◌++◌, List, IfOk, IfErr, OnErr};
+ghost use Rattle.std.specs.Prelude.{length, unsigned_abs};
+ghost use Rattle.ffv1_range.specs.Symbols.{AreHeld, AllHeld, shifted, exponent_steps};
+ghost use Rattle.ffv1_range.specs.Symbols.{mantissa_steps, raising, signed_steps, too_long};
+ghost use Rattle.ffv1_range.specs.Counts.{ones_in};
+ghost use Rattle.ffv1_range.specs.Follows.{Follows};
+ghost use Rattle.ffv1_range.specs.Reading.{Reading, summed};
+ghost use Rattle.ffv1_range.specs.Among.{AreNonzeros, sums_among, sums_refused};
+ghost use Rattle.ffv1_range.specs.Internal.Registers.{Reads};
+
+use crate::decoder::RangeDecoder;
+use crate::fault::Fault;
+use crate::reading::{
+    EXPONENT, MANTISSA, TooLong, ZERO, choose_slot, decide_slot, get_mantissa, ones_below,
+    sign_slot,
+};
+use crate::table::StateTable;
+use crate::tally::Nonzeros;
+
+/// A number above 0: its exponent, itself, and how many bits below its highest are 1.
+#[derive(Clone, Copy)]
+struct Magnitude {
+    exponent: u32,
+    number: u32,
+    ones: u32,
+}
+
+/// An exponent of 2 and more, behind its first two decisions, which are 1.
+#[inline(always)]
+fn get_long_exponent(
+    decoder: &mut RangeDecoder<'_>,
+    table: &StateTable,
+    states: &mut [u8],
+) -> Result<u32, TooLong>
+    requires { AreHeld table.now states.old }
+    ensures reads { IfOk result (λ e. (first : Reading) (fresh : List ℕ) →
+        Reads table.now first fresh decoder.old states.old (raising 2) →
+        Reads table.now first fresh decoder.new states.new (exponent_steps e)) }
+    ensures small { IfOk result (λ e. e < 31) }
+    ensures refused { OnErr result ((first : Reading) (fresh : List ℕ) →
+        Reads table.now first fresh decoder.old states.old (raising 2) →
+        Reads table.now first fresh decoder.new states.new (raising 31)) }
+    ensures held { AreHeld table.now states.new }
+{
+    'near: for exponent in 2..10u32 {
+        if !decide_slot(decoder, table, states, EXPONENT + exponent as usize) {
+            return Ok(exponent);
+        }
+    }
+    'far: for exponent in 10..31u32 {
+        if !decide_slot(decoder, table, states, EXPONENT + 9) {
+            return Ok(exponent);
+        }
+    }
+    Err(TooLong)
+}
+
+/// A number of an exponent of 2 and more, behind the exponent's first two decisions.
+#[inline(always)]
+fn get_long(
+    decoder: &mut RangeDecoder<'_>,
+    table: &StateTable,
+    states: &mut [u8],
+) -> Result<Magnitude, TooLong>
+    requires { AreHeld table.now states.old }
+    ensures reads { IfOk result (λ m. (first : Reading) (fresh : List ℕ) →
+        Reads table.now first fresh decoder.old states.old (raising 2) →
+        Reads table.now first fresh decoder.new states.new
+        (exponent_steps m.exponent ++ mantissa_steps m.exponent 0 m.number)) }
+    ensures small { IfOk result (λ m. m.exponent < 31) }
+    ensures least { IfOk result (λ m. 2 ^ m.exponent ≤ m.number) }
+    ensures most { IfOk result (λ m. m.number < 2 * 2 ^ m.exponent) }
+    ensures fits { IfOk result (λ m. m.number < 2 ^ 31) }
+    ensures ones { IfOk result (λ m. m.ones ≡ ones_in (mantissa_steps m.exponent 0 m.number)) }
+    ensures few { IfOk result (λ m. m.ones ≤ m.exponent) }
+    ensures refused { OnErr result ((first : Reading) (fresh : List ℕ) →
+        Reads table.now first fresh decoder.old states.old (raising 2) →
+        Reads table.now first fresh decoder.new states.new (raising 31)) }
+    ensures held { AreHeld table.now states.new }
+{
+    match get_long_exponent(decoder, table, states) {
+        Ok(exponent) => {
+            let number = get_mantissa(decoder, table, states, exponent);
+            let ones = ones_below(number);
+            Ok(Magnitude {
+                exponent,
+                number,
+                ones,
+            })
+        }
+        Err(refused) => Err(refused),
+    }
+}
+
+/// A number that is not zero, without its sign.
+#[inline(always)]
+fn get_magnitude(
+    decoder: &mut RangeDecoder<'_>,
+    table: &StateTable,
+    states: &mut [u8],
+) -> Result<Magnitude, TooLong>
+    requires { AreHeld table.now states.old }
+    ensures reads { IfOk result (λ m. Reads table.now decoder.old states.old decoder.new states.new
+        (exponent_steps m.exponent ++ mantissa_steps m.exponent 0 m.number)) }
+    ensures small { IfOk result (λ m. m.exponent < 31) }
+    ensures least { IfOk result (λ m. 2 ^ m.exponent ≤ m.number) }
+    ensures most { IfOk result (λ m. m.number < 2 * 2 ^ m.exponent) }
+    ensures fits { IfOk result (λ m. m.number < 2 ^ 31) }
+    ensures ones { IfOk result (λ m. m.ones ≡ ones_in (mantissa_steps m.exponent 0 m.number)) }
+    ensures few { IfOk result (λ m. m.ones ≤ m.exponent) }
+    ensures refused { OnErr result (Reads table.now decoder.old states.old decoder.new states.new
+        (raising 31)) }
+    ensures held { AreHeld table.now states.new }
+{
+    if !decide_slot(decoder, table, states, EXPONENT) {
+        return Ok(Magnitude {
+            exponent: 0,
+            number: 1,
+            ones: 0,
+        });
+    }
+    if !decide_slot(decoder, table, states, EXPONENT + 1) {
+        let ones = choose_slot(decoder, table, states, MANTISSA) as u32;
+        return Ok(Magnitude {
+            exponent: 1,
+            number: 2 + ones,
+            ones,
+        });
+    }
+    match get_long(decoder, table, states) {
+        Ok(magnitude) => Ok(magnitude),
+        Err(refused) => Err(refused),
+    }
+}
+
+impl RangeDecoder<'_> {
+    /// The signed number whose symbol comes next, counted in `nonzeros` alone.
+    #[inline(always)]
+    fn tally_signed(
+        &mut self,
+        nonzeros: &mut Nonzeros,
+        table: &StateTable,
+        states: &mut [u8],
+    ) -> Result<i32, Fault>
+        requires held { AreHeld table.now states.old }
+        requires are { AreNonzeros nonzeros.old }
+        requires room { nonzeros.old.symbols < 2 ^ 20 }
+        ensures follows { IfOk result (λ v. (n : ℕ) → nonzeros.old.symbols ≤ n →
+            Follows table.now (summed self.old (sums_among n nonzeros.old)) states.old
+            (summed self.new (sums_among (n + 1) nonzeros.new)) states.new (signed_steps v)) }
+        ensures size { IfOk result (λ v. unsigned_abs v < 2 ^ 31) }
+        ensures refused { IfErr result (λ f. (n : ℕ) → nonzeros.old.symbols ≤ n →
+            Follows table.now (summed self.old (sums_among n nonzeros.old)) states.old
+            (summed self.new (sums_refused n nonzeros.new)) states.new too_long) }
+        ensures fault { IfErr result (λ f. f ≡ Fault.SymbolTooLong) }
+        ensures are { AreNonzeros nonzeros.new }
+        ensures more { nonzeros.new.symbols ≤ nonzeros.old.symbols + 1 }
+        ensures stays { IfErr result (λ f. nonzeros.new ≡ nonzeros.old) }
+        ensures held { AreHeld table.now states.new }
+    {
+        if decide_slot(self, table, states, ZERO) {
+            return Ok(0);
+        }
+        let Ok(magnitude) = get_magnitude(self, table, states) else {
+            return Err(Fault::SymbolTooLong);
+        };
+        let Magnitude {
+            exponent,
+            number,
+            ones,
+        } = magnitude;
+        let negative = choose_slot(self, table, states, sign_slot(exponent));
+        nonzeros.count(exponent, ones + negative as u32);
+        if negative {
+            return Ok(-(number as i32));
+        }
+        Ok(number as i32)
+    }
+
+    /// As `get_signed_in_row`, but that nothing is counted but `nonzeros`: their symbol, where the
+    /// number is not zero. Behind `n` such symbols the decoder's counts are to go on by
+    /// `nonzeros.among(n)`, and where the one behind them was refused by
+    /// `nonzeros.among_refused(n)`. Fewer than 2^20 nonzero numbers have room.
+    #[inline(always)]
+    pub fn tally_signed_in_row(
+        &mut self,
+        nonzeros: &mut Nonzeros,
+        table: &StateTable,
+        states: &mut [u8],
+        row: usize,
+    ) -> Result<i32, Fault>
+        requires rows { row * 32 + 32 ≤ length states.old }
+        requires held { AllHeld table.now states.old }
+        requires are { AreNonzeros nonzeros.old }
+        requires room { nonzeros.old.symbols < 2 ^ 20 }
+        ensures follows { IfOk result (λ v. (n : ℕ) → nonzeros.old.symbols ≤ n →
+            Follows table.now (summed self.old (sums_among n nonzeros.old)) states.old
+            (summed self.new (sums_among (n + 1) nonzeros.new)) states.new
+            (shifted (row * 32) (signed_steps v))) }
+        ensures size { IfOk result (λ v. unsigned_abs v < 2 ^ 31) }
+        ensures refused { IfErr result (λ f. (n : ℕ) → nonzeros.old.symbols ≤ n →
+            Follows table.now (summed self.old (sums_among n nonzeros.old)) states.old
+            (summed self.new (sums_refused n nonzeros.new)) states.new
+            (shifted (row * 32) too_long)) }
+        ensures fault { IfErr result (λ f. f ≡ Fault.SymbolTooLong) }
+        ensures are { AreNonzeros nonzeros.new }
+        ensures more { nonzeros.new.symbols ≤ nonzeros.old.symbols + 1 }
+        ensures stays { IfErr result (λ f. nonzeros.new ≡ nonzeros.old) }
+        ensures held { AllHeld table.now states.new }
+    {
+        let base = row * 32;
+        // By arms: what each outcome says of the row is lifted to all states in its own arm.
+        match self.tally_signed(nonzeros, table, &mut states[base..base + 32]) {
+            Ok(number) => Ok(number),
+            Err(refused) => Err(refused),
+        }
+    }
+}
