@@ -12,7 +12,7 @@
 //! let again = sample_from(predict(&around), flip, residual, 8);
 //! ```
 //!
-//! The test `example` runs these lines. `laws` has what follows from the definitions.
+//! The test `plane::example` runs these lines. `laws` has what follows from the definitions.
 #![tactic(auto)]
 
 pub mod early;
