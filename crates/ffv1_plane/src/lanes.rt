@@ -55,9 +55,10 @@ fn fold_lanes(differences: u16x16, bits: u8) -> u16x16
     differences & u16x16::splat(511)
 }
 
-/// The numbers of the contexts of 16 places, and the residuals that an encoder takes for their
-/// samples, modulo 512. `bits` is 8 or 9; `near` may be said of a set whose fourth and fifth tables
-/// have one level.
+/// The numbers of the contexts of 16 places (RFC 9043, 3.5), and the residuals that an encoder takes
+/// for their samples (3.8), modulo 512, each as `context`, `predict` and `residual_of` have it. The
+/// set's tables have at most eleven levels each (`has_few_levels`). `bits` is 8 or 9; `near` may be
+/// said of a set whose fourth and fifth tables have one level.
 #[inline(always)]
 pub fn choose_lanes<A: Allocator>(
     set: &QuantSet<A>,

@@ -351,8 +351,8 @@ fn list_places(list: &mut [u32], at: usize, base: u32, row: &[u8], from: usize, 
 }
 
 /// Lists the decisions of a residual of nine bits, given modulo 512, in the states of a context,
-/// behind the first `at` numbers of a list that has room for 24 more. Answers how many numbers the
-/// list has then, at most 19 more.
+/// behind the first `at` numbers of a list that has room for 24 more, all of which may be
+/// overwritten. Answers how many numbers the list has then, at most 19 more (RFC 9043, 3.8.1.2).
 #[inline(always)]
 pub fn list_signed(list: &mut [u32], at: usize, context: u32, residual: usize) -> usize
     requires room { at + 24 ≤ length list.old }
