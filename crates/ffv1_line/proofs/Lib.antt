@@ -13,3 +13,4 @@ pub mod CellBack
 pub mod MostDecisions
 pub mod SamplesBelow
 pub mod Agreeing
+pub mod Even

@@ -1,7 +1,9 @@
 //! A row is decoded.
 
 ghost use Rattle.std.specs.Prelude.{◌≡◌, ℕ, ◌+◌, ◌*◌, ◌^◌, ◌≤◌, ◌<◌, ◌⊎◌, IfOk, IfErr, OnOk, OnErr};
-ghost use Rattle.std.specs.Prelude.{length, IsTrue, slice_index, List};
+ghost use Rattle.std.specs.Prelude.{length, IsTrue, slice_index, slice_set, List};
+ghost use Rattle.ffv1_range.specs.Table.{Holds};
+ghost use Rattle.ffv1_range.specs.declared.tally.Nonzeros.{Nonzeros as NonzerosOf};
 ghost use Rattle.ffv1_range.specs.Symbols.{AllHeld};
 ghost use Rattle.ffv1_range.specs.Follows.{Follows};
 ghost use Rattle.ffv1_range.specs.Reading.{Reading, summed};
@@ -10,18 +12,23 @@ ghost use Rattle.ffv1_plane.specs.Quantisation.{contexts_of, IsNear};
 ghost use Rattle.ffv1_line.specs.Row.{refused_steps};
 ghost use Rattle.ffv1_line.specs.Decoded.{Sampled, Lined, Refused, SameFrom};
 ghost use Rattle.ffv1_line.specs.Internal.Along.{IsBehind, IsFilled, IsPrepared};
-ghost use Rattle.ffv1_line.specs.Internal.Along.{IsPreparedSomehow};
+ghost use Rattle.ffv1_line.specs.Internal.Along.{IsPreparedSomehow, IsEven, ComesAgain};
 
 use crate::fault::TooLong;
 use ffv1_plane::{BLOCK, Early, QuantSet, late_context, predict_late, sample_late};
 use ffv1_range::{Nonzeros, RangeDecoder, StateTable};
 use std::alloc::Allocator;
 
-/// What is carried from place to place along a row: the samples two to the left and to the left.
+/// The most nonzero symbols of a calm block.
+const CALM: u32 = 16;
+
+/// What is carried from place to place along a row: the samples two to the left and to the left,
+/// and whether the block before was calm.
 #[derive(Clone, Copy)]
 struct Behind {
     ll: u16,
     l: u16,
+    calm: bool,
 }
 
 /// The sample that comes next, at place `i` of a block, which adds its symbol to `nonzeros`.
@@ -72,7 +79,7 @@ fn decode_sample<B: Allocator>(
     ensures stays { OnErr result (nonzeros.new ≡ nonzeros.old) }
     ensures held { AllHeld table.now states.new }
 {
-    let Behind { ll, l } = behind;
+    let Behind { ll, l, .. } = behind;
     let (size, flip) = late_context(set, early.sum[i], l, early.tl[i], ll, near);
     let prediction = predict_late(l, early.t[i], early.least[i], early.most[i]);
     match decoder.tally_signed_in_row(nonzeros, table, states, size as usize) {
@@ -87,9 +94,138 @@ fn decode_sample<B: Allocator>(
     }
 }
 
+/// The places of a block from `start` to before its last, of `count`, as long as they are even and
+/// their symbols zeros: the early sum is `sum`, and the samples above and to the left are one, which
+/// comes again. `state` is that of the first decision of context `size`, which all of them have.
+/// Answers the first place that is left.
+#[inline(always)]
+fn take_zeros<B: Allocator>(
+    decoder: &mut RangeDecoder<'_>,
+    table: &StateTable,
+    set: &QuantSet<B>,
+    state: &mut u8,
+    two: &[u16],
+    one: &[u16],
+    cur: &mut [u16],
+    early: &Early,
+    behind: &mut Behind,
+    from: usize,
+    start: usize,
+    count: usize,
+    sum: u16,
+    size: u32,
+    bits: u8,
+) -> usize
+    requires few { count ≤ 128 }
+    requires inside { start < count }
+    requires within { from + count ≤ length cur.old }
+    requires two_long { length two.now ≡ length cur.old }
+    requires one_long { length one.now ≡ length cur.old }
+    requires held { Holds table.now state.old }
+    requires filled { IsFilled set.now two.now one.now from early.now count }
+    requires left { slice_index early.now.tl start ≡ behind.old.l }
+    requires again { ComesAgain bits behind.old.l }
+    requires first { IsEven set.now sum behind.old.l behind.old.ll size }
+    requires next { IsEven set.now sum behind.old.l behind.old.l size }
+    requires begins { IsBehind two.now one.now cur.old (from + start) behind.old.ll behind.old.l }
+    ensures least { start ≤ result }
+    ensures most { result < count }
+    ensures begins { IsBehind two.now one.now cur.new (from + result) behind.new.ll behind.new.l }
+    ensures on { (before : List ℕ) → SameFrom (from + start) before cur.old →
+        SameFrom (from + result) before cur.new }
+    ensures lined { (first : Reading) (fresh states : List ℕ) (nonzeros : NonzerosOf) →
+        size * 32 < length states → slice_index states (size * 32) ≡ state.old →
+        nonzeros.symbols ≤ start →
+        Lined table.now set.now bits first fresh (summed decoder.old (sums_among start nonzeros))
+        states two.now one.now cur.old (from + start) →
+        Lined table.now set.now bits first fresh (summed decoder.new (sums_among result nonzeros))
+        (slice_set states (size * 32) state.new) two.now one.now cur.new (from + result) }
+    ensures held { Holds table.now state.new }
+{
+    for at in start..count - 1 {
+        if early.t[at] != behind.l || early.sum[at] != sum {
+            return at;
+        }
+        if !decoder.take_zero(table, state) {
+            return at;
+        }
+        cur[from + at] = behind.l;
+        behind.ll = behind.l;
+    }
+    count - 1
+}
+
+/// The places of a block from `start` on, of `count`, that are even and whose symbols are zeros: the
+/// samples above and to the left are one, and so is each that comes. Their context is one, whose
+/// state is kept apart. Answers the first place that is left, which is the last one at most, and
+/// `start` where `calm` does not hold.
+#[inline(always)]
+fn decode_even<B: Allocator>(
+    decoder: &mut RangeDecoder<'_>,
+    table: &StateTable,
+    set: &QuantSet<B>,
+    states: &mut [u8],
+    two: &[u16],
+    one: &[u16],
+    cur: &mut [u16],
+    early: &Early,
+    behind: &mut Behind,
+    from: usize,
+    start: usize,
+    count: usize,
+    bits: u8,
+    near: bool,
+    calm: bool,
+) -> usize
+    requires bits { (bits ≡ 8) ⊎ (bits ≡ 9) }
+    requires near { IsTrue near → IsNear set.now }
+    requires few { count ≤ 128 }
+    requires inside { start < count }
+    requires within { from + count ≤ length cur.old }
+    requires two_long { length two.now ≡ length cur.old }
+    requires one_long { length one.now ≡ length cur.old }
+    requires rows { length states.old ≡ contexts_of set.now * 32 }
+    requires held { AllHeld table.now states.old }
+    requires filled { IsFilled set.now two.now one.now from early.now count }
+    requires begins { IsBehind two.now one.now cur.old (from + start) behind.old.ll behind.old.l }
+    ensures least { start ≤ result }
+    ensures most { result < count }
+    ensures begins { IsBehind two.now one.now cur.new (from + result) behind.new.ll behind.new.l }
+    ensures on { (before : List ℕ) → SameFrom (from + start) before cur.old →
+        SameFrom (from + result) before cur.new }
+    ensures lined { (first : Reading) (fresh : List ℕ) (nonzeros : NonzerosOf) →
+        nonzeros.symbols ≤ start →
+        Lined table.now set.now bits first fresh (summed decoder.old (sums_among start nonzeros))
+        states.old two.now one.now cur.old (from + start) →
+        Lined table.now set.now bits first fresh (summed decoder.new (sums_among result nonzeros))
+        states.new two.now one.now cur.new (from + result) }
+    ensures held { AllHeld table.now states.new }
+{
+    let Behind { ll, l, .. } = *behind;
+    if !calm || early.tl[start] != l || early.t[start] != l {
+        return start;
+    }
+    let sum = early.sum[start];
+    let (size, _) = late_context(set, sum, l, l, ll, near);
+    let (next, _) = late_context(set, sum, l, l, l, near);
+    // A sample of more bits, as only a row from elsewhere has, does not come again.
+    if size != next || sample_late(predict_late(l, l, l, l), false, 0, bits) != l {
+        return start;
+    }
+    let slot = size as usize * 32;
+    let mut state = states[slot];
+    let left = take_zeros(
+        decoder, table, set, &mut state, two, one, cur, early, behind, from, start, count, sum,
+        size, bits,
+    );
+    states[slot] = state;
+    left
+}
+
 /// The `count` places of a row from `from` on, by a decoder that is no one else's. `early` is what
 /// the rows above decide of them. `near` may be said of a set whose fourth and fifth tables have
-/// one level.
+/// one level. With `calm` zeros at even places are looked for first, which is faster where they are
+/// many.
 #[inline(always)]
 fn decode_block<B: Allocator>(
     decoder: &mut RangeDecoder<'_>,
@@ -105,6 +241,7 @@ fn decode_block<B: Allocator>(
     count: usize,
     bits: u8,
     near: bool,
+    calm: bool,
 ) -> Result<(), TooLong>
     requires bits { (bits ≡ 8) ⊎ (bits ≡ 9) }
     requires near { IsTrue near → IsNear set.now }
@@ -135,7 +272,12 @@ fn decode_block<B: Allocator>(
 {
     let mut nonzeros = decoder.nonzeros();
     let mut along = *behind;
-    for i in 0..count {
+    let mut i = 0;
+    'places: while i < count {
+        i = decode_even(
+            decoder, table, set, states, two, one, cur, early, &mut along, from, i, count, bits,
+            near, calm,
+        );
         match decode_sample(
             decoder,
             &mut nonzeros,
@@ -150,10 +292,9 @@ fn decode_block<B: Allocator>(
         ) {
             Ok(sample) => {
                 cur[from + i] = sample;
-                along = Behind {
-                    ll: along.l,
-                    l: sample,
-                };
+                along.ll = along.l;
+                along.l = sample;
+                i += 1;
             }
             Err(_) => {
                 decoder.count_all(&nonzeros.among_refused(i as u32));
@@ -162,14 +303,18 @@ fn decode_block<B: Allocator>(
         }
     }
     decoder.count_all(&nonzeros.among(count as u32));
-    *behind = along;
+    *behind = Behind {
+        ll: along.ll,
+        l: along.l,
+        calm: nonzeros.symbols < CALM,
+    };
     Ok(())
 }
 
-/// A row of a cell, by a decoder that is no one else's. `near` may be said of a set whose fourth and
-/// fifth tables have one level.
-#[inline(always)]
-fn decode_row<B: Allocator>(
+/// The same by any decoder, by a body of its own for calm blocks, for each depth and each kind of
+/// set.
+#[inline(never)]
+fn decode_calm_of<B: Allocator, const BITS: u8, const NEAR: bool>(
     decoder: &mut RangeDecoder<'_>,
     table: &StateTable,
     set: &QuantSet<B>,
@@ -177,31 +322,140 @@ fn decode_row<B: Allocator>(
     two: &[u16],
     one: &[u16],
     cur: &mut [u16],
-    bits: u8,
-    near: bool,
+    early: &Early,
+    behind: &mut Behind,
+    from: usize,
+    count: usize,
 ) -> Result<(), TooLong>
-    requires bits { (bits ≡ 8) ⊎ (bits ≡ 9) }
-    requires near { IsTrue near → IsNear set.now }
+    requires bits { (BITS ≡ 8) ⊎ (BITS ≡ 9) }
+    requires near { IsTrue NEAR → IsNear set.now }
+    requires few { count ≤ 128 }
+    requires within { from + count ≤ length cur.old }
+    requires two_long { length two.now ≡ length cur.old }
+    requires one_long { length one.now ≡ length cur.old }
+    requires rows { length states.old ≡ contexts_of set.now * 32 }
+    requires held { AllHeld table.now states.old }
+    requires filled { IsFilled set.now two.now one.now from early.now count }
+    requires begins { IsBehind two.now one.now cur.old from behind.old.ll behind.old.l }
+    ensures ok { OnOk result ((first : Reading) (fresh : List ℕ) →
+        Lined table.now set.now BITS first fresh decoder.old states.old two.now one.now cur.old
+        from → Lined table.now set.now BITS first fresh decoder.new states.new two.now one.now
+        cur.new (from + count)) }
+    ensures begins { OnOk result (IsBehind two.now one.now cur.new (from + count) behind.new.ll
+        behind.new.l) }
+    ensures on { OnOk result ((before : List ℕ) → SameFrom from before cur.old →
+        SameFrom (from + count) before cur.new) }
+    ensures refused { IfErr result (λ e. (first : Reading) (fresh : List ℕ) →
+        Lined table.now set.now BITS first fresh decoder.old states.old two.now one.now cur.old
+        from → Refused table.now set.now BITS first fresh decoder.new states.new two.now one.now
+        cur.new e.x) }
+    ensures inside { IfErr result (λ e. e.x < length cur.new) }
+    ensures behind { IfErr result (λ e. (before : List ℕ) → SameFrom from before cur.old →
+        SameFrom e.x before cur.new) }
+    ensures held { AllHeld table.now states.new }
+{
+    let mut local = decoder.clone().unwrap();
+    let read = decode_block(
+        &mut local, table, set, states, two, one, cur, early, behind, from, count, BITS, NEAR, true,
+    );
+    *decoder = local;
+    read
+}
+
+/// The same by the body for what the block before was. The decoder is no one else's.
+#[inline(always)]
+fn decode_block_by<B: Allocator, const BITS: u8, const NEAR: bool>(
+    decoder: &mut RangeDecoder<'_>,
+    table: &StateTable,
+    set: &QuantSet<B>,
+    states: &mut [u8],
+    two: &[u16],
+    one: &[u16],
+    cur: &mut [u16],
+    early: &Early,
+    behind: &mut Behind,
+    from: usize,
+    count: usize,
+) -> Result<(), TooLong>
+    requires bits { (BITS ≡ 8) ⊎ (BITS ≡ 9) }
+    requires near { IsTrue NEAR → IsNear set.now }
+    requires few { count ≤ 128 }
+    requires within { from + count ≤ length cur.old }
+    requires two_long { length two.now ≡ length cur.old }
+    requires one_long { length one.now ≡ length cur.old }
+    requires rows { length states.old ≡ contexts_of set.now * 32 }
+    requires held { AllHeld table.now states.old }
+    requires filled { IsFilled set.now two.now one.now from early.now count }
+    requires begins { IsBehind two.now one.now cur.old from behind.old.ll behind.old.l }
+    ensures ok { OnOk result ((first : Reading) (fresh : List ℕ) →
+        Lined table.now set.now BITS first fresh decoder.old states.old two.now one.now cur.old
+        from → Lined table.now set.now BITS first fresh decoder.new states.new two.now one.now
+        cur.new (from + count)) }
+    ensures begins { OnOk result (IsBehind two.now one.now cur.new (from + count) behind.new.ll
+        behind.new.l) }
+    ensures on { OnOk result ((before : List ℕ) → SameFrom from before cur.old →
+        SameFrom (from + count) before cur.new) }
+    ensures refused { IfErr result (λ e. (first : Reading) (fresh : List ℕ) →
+        Lined table.now set.now BITS first fresh decoder.old states.old two.now one.now cur.old
+        from → Refused table.now set.now BITS first fresh decoder.new states.new two.now one.now
+        cur.new e.x) }
+    ensures inside { IfErr result (λ e. e.x < length cur.new) }
+    ensures behind { IfErr result (λ e. (before : List ℕ) → SameFrom from before cur.old →
+        SameFrom e.x before cur.new) }
+    ensures held { AllHeld table.now states.new }
+{
+    if !behind.calm {
+        return decode_block(
+            decoder, table, set, states, two, one, cur, early, behind, from, count, BITS, NEAR,
+            false,
+        );
+    }
+    let mut other = decoder.clone().unwrap();
+    let read = decode_calm_of::<B, BITS, NEAR>(
+        &mut other, table, set, states, two, one, cur, early, behind, from, count,
+    );
+    *decoder = other;
+    read
+}
+
+/// A row of a cell, by a decoder that is no one else's. `NEAR` may be said of a set whose fourth and
+/// fifth tables have one level.
+#[inline(always)]
+fn decode_row<B: Allocator, const BITS: u8, const NEAR: bool>(
+    decoder: &mut RangeDecoder<'_>,
+    table: &StateTable,
+    set: &QuantSet<B>,
+    states: &mut [u8],
+    two: &[u16],
+    one: &[u16],
+    cur: &mut [u16],
+) -> Result<(), TooLong>
+    requires bits { (BITS ≡ 8) ⊎ (BITS ≡ 9) }
+    requires near { IsTrue NEAR → IsNear set.now }
     requires some { 0 < length cur.old }
     requires two_long { length two.now ≡ length cur.old }
     requires one_long { length one.now ≡ length cur.old }
     requires rows { length states.old ≡ contexts_of set.now * 32 }
     requires held { AllHeld table.now states.old }
-    ensures ok { OnOk result (Lined table.now set.now bits decoder.old states.old decoder.new
+    ensures ok { OnOk result (Lined table.now set.now BITS decoder.old states.old decoder.new
         states.new two.now one.now cur.new (length cur.new)) }
-    ensures refused { IfErr result (λ e. Refused table.now set.now bits decoder.old states.old
+    ensures refused { IfErr result (λ e. Refused table.now set.now BITS decoder.old states.old
         decoder.new states.new two.now one.now cur.new e.x) }
     ensures inside { IfErr result (λ e. e.x < length cur.new) }
     ensures behind { IfErr result (λ e. SameFrom e.x cur.old cur.new) }
     ensures held { AllHeld table.now states.new }
 {
     let mut early = Early::new();
-    let mut behind = Behind { ll: 0, l: one[0] };
+    let mut behind = Behind {
+        ll: 0,
+        l: one[0],
+        calm: false,
+    };
     let mut from = 0;
     'parts: while from < cur.len() {
         let count = (cur.len() - from).min(BLOCK);
-        early.fill(set, two, one, from, count, near);
-        match decode_block(
+        early.fill(set, two, one, from, count, NEAR);
+        match decode_block_by::<B, BITS, NEAR>(
             decoder,
             table,
             set,
@@ -213,8 +467,6 @@ fn decode_row<B: Allocator>(
             &mut behind,
             from,
             count,
-            bits,
-            near,
         ) {
             Ok(()) => from += count,
             Err(refused) => return Err(refused),
@@ -250,7 +502,7 @@ fn decode_row_of<B: Allocator, const BITS: u8, const NEAR: bool>(
     ensures held { AllHeld table.now states.new }
 {
     let mut local = decoder.clone().unwrap();
-    let read = decode_row(&mut local, table, set, states, two, one, cur, BITS, NEAR);
+    let read = decode_row::<B, BITS, NEAR>(&mut local, table, set, states, two, one, cur);
     *decoder = local;
     read
 }

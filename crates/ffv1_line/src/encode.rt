@@ -2,7 +2,7 @@
 
 ghost use Rattle.std.specs.Prelude.{◌≡◌, ◌+◌, ◌*◌, ◌≤◌, ◌<◌, ◌⊎◌, OnOk, OnErr, IfErr, IsErr};
 ghost use Rattle.std.specs.Prelude.{IsTrue, length, false, unsigned_abs, ◌^◌};
-ghost use Rattle.ffv1_range.specs.Symbols.{AllHeld};
+ghost use Rattle.ffv1_range.specs.Symbols.{AllHeld, shifted, signed_steps};
 ghost use Rattle.ffv1_range.specs.Puts.{Puts, MayBeRefused};
 ghost use Rattle.ffv1_range.specs.declared.fault.Fault.TheVariants as fault;
 ghost use Rattle.ffv1_plane.specs.Quantisation.{contexts_of, IsNear};
@@ -17,7 +17,7 @@ use ffv1_range::{Fault, RangeEncoder, StateTable};
 use std::alloc::Allocator;
 
 /// In a block of fewer nonzero residuals the symbols are written one by one.
-const CALM: u32 = 8;
+const CALM: u16 = 8;
 
 /// A residual of nine bits by itself modulo 512.
 #[inline(always)]
@@ -36,11 +36,65 @@ fn residual_of_nine(residual: u16) -> i32
 /// Whether nearly all residuals are zero, so that their symbols are written one by one faster than
 /// by a list.
 fn are_calm(residuals: &[u16]) -> bool {
-    let mut busy = 0u32;
+    let mut busy = 0u16;
     for &residual in residuals {
-        busy = busy.wrapping_add(u32::from(residual != 0));
+        busy = busy.wrapping_add(u16::from(residual != 0));
     }
     busy < CALM
+}
+
+/// The symbol of a residual of nine bits, given modulo 512, in the states of a context, by an
+/// encoder that has not failed.
+#[inline(never)]
+fn put_residual<A: Allocator>(
+    encoder: &mut RangeEncoder<A>,
+    table: &StateTable,
+    states: &mut [u8],
+    context: usize,
+    residual: u16,
+) -> Result<(), Fault>
+    requires sound { encoder.old.failed ≡ false }
+    requires rows { context * 32 + 32 ≤ length states.old }
+    requires held { AllHeld table.now states.old }
+    requires small { residual < 512 }
+    ensures ok { OnOk result (Puts table.now encoder.old states.old encoder.new states.new
+        (shifted (context * 32) (signed_steps (of_nine_bits residual)))) }
+    ensures refused { OnErr result (MayBeRefused table.now encoder.old states.old
+        (shifted (context * 32) (signed_steps (of_nine_bits residual)))) }
+    ensures held { AllHeld table.now states.new }
+    ensures err { IfErr result (λ f. (f ≡ fault.OutOfMemory) × IsTrue encoder.new.failed) }
+{
+    let value = residual_of_nine(residual);
+    encoder.put_signed_in_row(table, states, context, value)?;
+    Ok(())
+}
+
+/// The same, in a place where nearly all residuals are 0.
+#[inline(always)]
+fn put_calm<A: Allocator>(
+    encoder: &mut RangeEncoder<A>,
+    table: &StateTable,
+    states: &mut [u8],
+    context: usize,
+    residual: u16,
+) -> Result<(), Fault>
+    requires sound { encoder.old.failed ≡ false }
+    requires rows { context * 32 + 32 ≤ length states.old }
+    requires held { AllHeld table.now states.old }
+    requires small { residual < 512 }
+    ensures ok { OnOk result (Puts table.now encoder.old states.old encoder.new states.new
+        (shifted (context * 32) (signed_steps (of_nine_bits residual)))) }
+    ensures refused { OnErr result (MayBeRefused table.now encoder.old states.old
+        (shifted (context * 32) (signed_steps (of_nine_bits residual)))) }
+    ensures held { AllHeld table.now states.new }
+    ensures err { IfErr result (λ f. (f ≡ fault.OutOfMemory) × IsTrue encoder.new.failed) }
+{
+    if residual > 0 {
+        put_residual(encoder, table, states, context, residual)?;
+        return Ok(());
+    }
+    encoder.put_signed_in_row(table, states, context, 0)?;
+    Ok(())
 }
 
 /// The symbols of the places of a block that was prepared by these rows, one by one.
@@ -74,8 +128,7 @@ fn put_places<A: Allocator, B: Allocator>(
     let _contexts = set.contexts();
     for k in 0..few {
         let context = block.contexts[k] as usize;
-        let residual = residual_of_nine(block.residuals[k]);
-        encoder.put_signed_in_row(table, states, context, residual)?;
+        put_calm(encoder, table, states, context, block.residuals[k])?;
     }
     Ok(())
 }

@@ -1,7 +1,8 @@
 -- A quantisation table whose entries are raised by the greatest.
 use Rattle.std.specs.Prelude.{ℕ, ◌≡◌, ◌+◌, ◌-◌, ◌*◌, ◌<◌, ◌≤◌, IsTrue, List, [], ◌∷◌, length}
-use Rattle.std.specs.Prelude.{slice_index, pos, ◌+ℤ◌, unsigned_abs, if◌then◌else◌, nat_lt, sum, take}
+use Rattle.std.specs.Prelude.{slice_index, pos, ◌+ℤ◌, unsigned_abs, if◌then◌else◌, nat_lt, sum, take, replicate}
 use Rattle.ffv1_plane.specs.declared.prediction.Around.{Around}
+use Rattle.ffv1_plane.specs.declared.table.Steps.{Steps}
 use Rattle.ffv1_plane.specs.Context.{context_of}
 use Rattle.ffv1_plane.specs.Quantisation.{Set, is_filled, entry_of, scale_behind, contexts_of, IsSet}
 
@@ -28,6 +29,15 @@ last_place runs k = if nat_lt (k + 1) (length runs) then sum (take (k + 1) runs)
 -- the last places of the first five levels
 pub record AreLastPlaces (runs last_places : List ℕ) : Type 0 where
   pub each : (k : ℕ) → k < 5 → slice_index last_places k ≡ last_place runs k
+
+-- the same and the greatest level, in 16 lanes each
+pub record AreSteps (runs : List ℕ) (s : Steps) : Type 0 where
+  pub first : s.first ≡ replicate 16 (last_place runs 0)
+  pub second : s.second ≡ replicate 16 (last_place runs 1)
+  pub third : s.third ≡ replicate 16 (last_place runs 2)
+  pub fourth : s.fourth ≡ replicate 16 (last_place runs 3)
+  pub fifth : s.fifth ≡ replicate 16 (last_place runs 4)
+  pub most : s.most ≡ replicate 16 (length runs - 1)
 
 -- each entry is raised by the greatest, and none is negative
 pub record IsRaised (runs : List ℕ) (scale : ℕ) (raised : List ℕ) : Type 0 where

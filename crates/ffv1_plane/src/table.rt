@@ -1,22 +1,35 @@
 //! One quantisation table of a set.
 
 ghost use Rattle.std.specs.Prelude.{◌≡◌, ℕ, ◌+◌, ◌-◌, ◌*◌, ◌^◌, ◌<◌, ◌≤◌, ◌+ℤ◌, pos, length, sum};
-ghost use Rattle.std.specs.Prelude.{IsTrue, IfOk, List, map, min, if◌then◌else◌, nat_lt};
+ghost use Rattle.std.specs.Prelude.{IsTrue, IfOk, List, map, min, replicate, if◌then◌else◌, nat_lt};
 ghost use Rattle.ffv1_plane.specs.Quantisation.{is_filled, entry_of};
 ghost use Rattle.ffv1_plane.specs.Context.{low};
-ghost use Rattle.ffv1_plane.specs.Raised.{RaisedTable, IsRaised, half_of, raised_entry, AreLastPlaces};
+ghost use Rattle.ffv1_plane.specs.Raised.{RaisedTable, IsRaised, half_of, raised_entry, AreLastPlaces, AreSteps};
 
 use std::alloc::{AllocError, Allocator};
 use std::marker::Model;
 use std::simd::prelude::*;
 
+/// Of a table, in 16 lanes each: the last places of the first five levels of its lower half, 255 for
+/// those that it has not, and its greatest level.
+// Lanes from the first on: a loop over places would else spread each number anew.
+#[derive(Clone, Copy)]
+pub struct Steps {
+    pub(crate) first: u8x16,
+    pub(crate) second: u8x16,
+    pub(crate) third: u8x16,
+    pub(crate) fourth: u8x16,
+    pub(crate) fifth: u8x16,
+    pub(crate) most: u8x16,
+}
+
 /// The runs of a table, its 256 entries, each raised by the greatest so that none is negative, and
-/// the last places of the first five levels of its lower half, 255 for those that it has not.
+/// where its levels end.
 #[derive(Drop)]
 pub struct Table<A: Allocator> {
     runs: Vec<u8, A>,
     raised: [u16; 256],
-    last_places: [u8; 5],
+    steps: Steps,
     scale: u16,
 }
 
@@ -26,7 +39,7 @@ impl<A: Allocator> Model for Table<A> {
     ghost view = { λ t. record { runs = t.runs.items; scale = t.scale } };
 
     ghost invariant = { λ t. IsRaised t.runs.items t.scale t.raised ×
-        AreLastPlaces t.runs.items t.last_places };
+        AreSteps t.runs.items t.steps };
 }
 
 /// Whether runs fill the lower half of a table, none of them empty.
@@ -94,6 +107,22 @@ fn last_places_of(runs: &[u8]) -> [u8; 5]
     last_places
 }
 
+/// Where the levels of a table end.
+fn steps_of(runs: &[u8]) -> Steps
+    requires { IsTrue (is_filled runs.now) }
+    ensures { AreSteps runs.now result }
+{
+    let [first, second, third, fourth, fifth] = last_places_of(runs);
+    Steps {
+        first: u8x16::splat(first),
+        second: u8x16::splat(second),
+        third: u8x16::splat(third),
+        fourth: u8x16::splat(fourth),
+        fifth: u8x16::splat(fifth),
+        most: u8x16::splat((runs.len() - 1) as u8),
+    }
+}
+
 impl<A: Allocator> Table<A> {
     /// The table of these runs at a scale.
     pub fn new(alloc: A, runs: &[u8], scale: u16) -> Result<Table<A>, AllocError>
@@ -102,12 +131,12 @@ impl<A: Allocator> Table<A> {
         ensures { IfOk result (λ t. t ≡ record { runs = runs.now; scale = scale }) }
     {
         let raised = raise(runs, scale);
-        let last_places = last_places_of(runs);
+        let steps = steps_of(runs);
         let runs = Vec::from_slice(alloc, runs)?;
         Ok(Table {
             runs,
             raised,
-            last_places,
+            steps,
             scale,
         })
     }
@@ -142,14 +171,20 @@ impl<A: Allocator> Table<A> {
         ensures most { (k : ℕ) → k < 256 → raised_entry self.now k ≤ 2 * half_of self.now }
     {
         let differences = low_lanes(a, b);
-        let [first, second, third, fourth, fifth] = self.last_places;
+        let Steps {
+            first,
+            second,
+            third,
+            fourth,
+            fifth,
+            most,
+        } = self.steps;
         let sizes = size_lanes(differences);
         let levels = over_lanes(sizes, first)
             + over_lanes(sizes, second)
             + over_lanes(sizes, third)
             + over_lanes(sizes, fourth)
             + over_lanes(sizes, fifth);
-        let most = (self.runs.len() - 1) as u8;
         lift_lanes(differences, levels, most).cast::<u16>() * u16x16::splat(self.scale)
     }
 }
@@ -173,26 +208,25 @@ fn size_lanes(places: u8x16) -> u8x16
     places.simd_min(places.wrapping_neg())
 }
 
-/// 1 for each of 16 sizes above a place, and else 0.
+/// 1 for each of 16 sizes above a place, which all lanes of `places` have, and else 0.
 #[inline(always)]
-fn over_lanes(sizes: u8x16, place: u8) -> u8x16
-    ensures { (xs : List ℕ) (f : ℕ → ℕ) → length xs ≡ 16 → sizes ≡ map f xs →
-        result ≡ map (λ x. min (f x - place) 1) xs }
+fn over_lanes(sizes: u8x16, places: u8x16) -> u8x16
+    ensures { (xs : List ℕ) (f : ℕ → ℕ) (place : ℕ) → length xs ≡ 16 → sizes ≡ map f xs →
+        places ≡ replicate 16 place → result ≡ map (λ x. min (f x - place) 1) xs }
 {
     sizes
-        .simd_gt(u8x16::splat(place))
+        .simd_gt(places)
         .select(u8x16::splat(1), u8x16::splat(0))
 }
 
-/// The levels of 16 places of a table, raised by the greatest: added in the lower half, else taken
-/// away.
+/// The levels of 16 places of a table, raised by the greatest, which all lanes of `most` have: added
+/// in the lower half, else taken away.
 #[inline(always)]
-fn lift_lanes(places: u8x16, levels: u8x16, most: u8) -> u8x16
-    ensures { (xs : List ℕ) (f g : ℕ → ℕ) → length xs ≡ 16 → places ≡ map f xs → levels ≡ map g xs →
-        most ≤ 5 → ((x : ℕ) → g x ≤ most) → result ≡ map (λ x.
-        if nat_lt (f x) 128 then most + g x else most - g x) xs }
+fn lift_lanes(places: u8x16, levels: u8x16, most: u8x16) -> u8x16
+    ensures { (xs : List ℕ) (f g : ℕ → ℕ) (top : ℕ) → length xs ≡ 16 → places ≡ map f xs →
+        levels ≡ map g xs → most ≡ replicate 16 top → top ≤ 5 → ((x : ℕ) → g x ≤ top) →
+        result ≡ map (λ x. if nat_lt (f x) 128 then top + g x else top - g x) xs }
 {
-    let most = u8x16::splat(most);
     places
         .simd_lt(u8x16::splat(128))
         .select(most + levels, most - levels)

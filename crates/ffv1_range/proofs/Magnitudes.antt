@@ -1,11 +1,12 @@
 -- Symbols by their first decisions, and by those of their nonzero numbers.
-use Rattle.std.proofs.Common.{◌≡◌, refl, ℕ, ◌+◌, ◌-◌, ◌*◌, ◌^◌, ◌<◌, ◌≤◌, Bool, true, false, List, [], ◌∷◌, ◌++◌, length, min, arith, sym, subst, append_assoc}
+use Rattle.std.proofs.Common.{◌≡◌, refl, ℕ, ◌+◌, ◌-◌, ◌*◌, ◌^◌, ◌<◌, ◌≤◌, Bool, true, false, List, [], ◌∷◌, ◌++◌, length, min, arith, sym, subst, append_assoc, get_or, slice_set, pos}
+use Rattle.ffv1_range.specs.Interval.{Interval, narrow}
 use Rattle.ffv1_range.specs.Weight.{one_if}
-use Rattle.ffv1_range.specs.Table.{Table}
-use Rattle.ffv1_range.specs.Reading.{Reading, summed}
+use Rattle.ffv1_range.specs.Table.{Table, Holds, moved}
+use Rattle.ffv1_range.specs.Reading.{Reading, At, summed}
 use Rattle.ffv1_range.specs.Follows.{Follows}
 use Rattle.ffv1_range.specs.Counts.{ones_in}
-use Rattle.ffv1_range.specs.Symbols.{Step, raising, exponent_steps, mantissa_steps, sized_steps, too_long}
+use Rattle.ffv1_range.specs.Symbols.{Step, raising, exponent_steps, mantissa_steps, sized_steps, signed_steps, shifted, too_long}
 use Rattle.ffv1_range.specs.Among.{AreNonzeros, sums_among, sums_refused}
 use Rattle.ffv1_range.specs.declared.tally.Nonzeros.{Nonzeros}
 use Rattle.ffv1_range.specs.Internal.Registers.{Reads}
@@ -52,6 +53,22 @@ pub zero_follows : (t : Table) (a b : Reading) (ss ts : List ℕ) (n : ℕ) (s :
     Follows t (summed a (sums_among n s)) ss (summed b (sums_among (n + 1) s)) ts (record { slot = 0; bit = true } ∷ [])
 zero_follows t a b ss ts n s within reads =
     reads_summed_by t a b ss ts _ (sums_among n s) (sums_among (n + 1) s) 1 0 reads (omega arith) (omega arith) refl refl
+
+-- a zero by the state of its first decision
+pub zero_taken : (t : Table) (a b : Reading) (states : List ℕ) (slot state after n : ℕ) (s : Nonzeros) → get_or states slot 0 ≡ state → Holds t state → s.symbols ≤ n →
+    b.bytes ≡ a.bytes → ((i : Interval) → At a i → At b (narrow i state true)) → b.counts ≡ a.counts → after ≡ moved t state true →
+    Follows t (summed a (sums_among n s)) states (summed b (sums_among (n + 1) s)) (slice_set states slot after) (shifted slot (signed_steps (pos 0)))
+zero_taken t a b states slot state after n s is held within bytes at counts moves =
+    let same : slot + 0 ≡ slot = omega arith in
+    reads_summed_by t a b states (slice_set states slot after) _ (sums_among n s) (sums_among (n + 1) s) 1 0
+    (record {
+      bytes = bytes;
+      at = λ i h. rw (same, is) (at i h);
+      counts = counts;
+      moves = rw (same, is, moves) refl;
+      named = rw (same, is) (record { least = held.positive; most = held.small }, tt);
+    })
+    (omega arith) (omega arith) refl refl
 
 -- a number that is not zero, of these ones and so many decisions
 pub nonzero_follows : (t : Table) (a b : Reading) (ss ts : List ℕ) (xs : List Step) (n e ones : ℕ) (s after : Nonzeros) → s.symbols ≤ n → AreNonzeros s → ones ≤ e + 1 →

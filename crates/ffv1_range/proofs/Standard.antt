@@ -1,10 +1,10 @@
 -- The standard table keeps its states from 8 to 248.
-use Rattle.std.proofs.Common.{◌≡◌, ◌∙◌, refl, subst, length, slice_set, get_or-set_same, get_or-set_other, ℕ, zero, suc, ◌+◌, ◌-◌, ◌*◌, ◌<◌, ◌≤◌, Bool, true, false, List, get_or, arith, inl, inr, nat_lt, nat_le, ◌&&◌, ◌||◌}
+use Rattle.std.proofs.Common.{◌≡◌, ◌∙◌, ap, refl, subst, length, slice_set, get_or-set_same, get_or-set_other, ℕ, zero, suc, ◌+◌, ◌-◌, ◌*◌, ◌<◌, ◌≤◌, Bool, true, false, List, get_or, arith, inl, inr, nat_lt, nat_le, ◌&&◌, ◌||◌, ◌==◌}
 use Rattle.std.proofs.lemmas.Bool.{cases_lt, cases_eq}
 use Rattle.std.proofs.lemmas.Bool.Decides.{nat_tests}
 use Rattle.ffv1_range.specs.Standard.{default_state_transition}
-use Rattle.ffv1_range.specs.Table.{IsTable}
-use Rattle.ffv1_range.specs.Internal.Registers.{AreZeros}
+use Rattle.ffv1_range.specs.Table.{IsTable, moved}
+use Rattle.ffv1_range.specs.Internal.Registers.{AreZeros, AreNext}
 
 -- whether a state that is held stays so
 abbrev stays : ℕ → List ℕ → ℕ → Bool
@@ -77,3 +77,15 @@ pairs_next one other pairs at entry inside now before k below = elim (cases_eq k
   | inl same ↦ rw same (get_or-set_same pairs at entry 0 inside ∙ now)
   | inr apart ↦ get_or-set_other pairs at k entry 0 apart ∙ before k (omega arith)
 ]
+
+-- where a state goes is found behind 0 or 256 places, by the decision
+pub next_moved : (floor : ℕ) (one zeros next : List ℕ) (state bit : ℕ) → AreZeros floor one zeros → AreNext floor one zeros next →
+    floor ≤ state → state + floor ≤ 256 → bit < 2 →
+    get_or next (bit * 256 + state) 0 ≡ moved (record { floor = floor; one = one }) state (bit == 1)
+next_moved floor one zeros next state zero is are least most small =
+    let at : 0 * 256 + state ≡ state = omega arith in
+    ap (λ (k : ℕ). get_or next k 0) at ∙ are.zeros state least most ∙ is state least most
+next_moved floor one zeros next state (suc zero) is are least most small =
+    let at : 1 * 256 + state ≡ 256 + state = omega arith in
+    ap (λ (k : ℕ). get_or next k 0) at ∙ are.ones state least most
+next_moved floor one zeros next state (suc (suc bit)) is are least most small = absurd (omega arith)

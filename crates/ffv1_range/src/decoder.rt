@@ -1,8 +1,8 @@
 //! Decisions are read.
 
 ghost use Rattle.std.specs.Prelude.{◌≡◌, ℕ, ◌+◌, ◌-◌, ◌*◌, ◌^◌, ◌≤◌, ◌<◌, ◌↔◌, IfOk, IfErr, IsErr};
-ghost use Rattle.std.specs.Prelude.{slice_index, slice_set, List, [], ◌∷◌, true, ⊤};
-ghost use Rattle.ffv1_range.specs.Interval.{Interval, narrow, renormalised, start};
+ghost use Rattle.std.specs.Prelude.{slice_index, slice_set, List, [], ◌∷◌, IsTrue, IsFalse, true, ⊤};
+ghost use Rattle.ffv1_range.specs.Interval.{Interval, narrow, renormalised, share, start};
 ghost use Rattle.ffv1_range.specs.Codes.{value};
 ghost use Rattle.ffv1_range.specs.Table.{moved, Holds};
 ghost use Rattle.ffv1_range.specs.Reading.{At, paused, summed};
@@ -233,6 +233,32 @@ impl<'a> RangeDecoder<'a> {
         *state = after;
         self.go_on(width, gap);
         bit
+    }
+
+    /// Whether the decision that comes next is 1: then it is read, uncounted. A decision 0 is not
+    /// read, and leaves all as it was.
+    #[inline(always)]
+    pub(crate) fn take_one(&mut self, table: &StateTable, state: &mut u8) -> bool
+        requires { Holds table.now state.old }
+        ensures taken { IsTrue result ↔ (self.old.gap ≤ share self.old.width state.old) }
+        ensures bytes { self.new.bytes ≡ self.old.bytes }
+        ensures at { IsTrue result → (i : Interval) → At self.old i →
+            At self.new (narrow i state.old true) }
+        ensures counts { self.new.counts ≡ self.old.counts }
+        ensures moves { IsTrue result → state.new ≡ moved table.now state.old true }
+        ensures stays { IsFalse result → self.new ≡ self.old }
+        ensures left { IsFalse result → state.new ≡ state.old }
+        ensures held { Holds table.now state.new }
+    {
+        let (width, gap) = (self.width, self.gap);
+        let before = *state;
+        let part = width * u32::from(before) / 256;
+        if gap > part {
+            return false;
+        }
+        *state = table.after_one(before);
+        self.go_on(part, gap);
+        true
     }
 
     /// Goes on with a part of the interval; takes a byte where it is narrower than 256.

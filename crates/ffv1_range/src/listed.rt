@@ -1,6 +1,6 @@
 //! Decisions of a list are written.
 
-ghost use Rattle.std.specs.Prelude.{◌≡◌, ℕ, ◌+◌, ◌*◌, ◌/◌, ◌^◌, ◌≤◌, ◌<◌, [], ◌∷◌, OnOk, OnErr, IfErr};
+ghost use Rattle.std.specs.Prelude.{◌≡◌, ℕ, ◌+◌, ◌*◌, ◌/◌, ◌^◌, ◌≤◌, ◌<◌, [], ◌∷◌, OnOk, OnErr, IfOk, IfErr};
 ghost use Rattle.std.specs.Prelude.{IsTrue, length, false, List, ◌++◌, take, drop, map, slice_index};
 ghost use Rattle.ffv1_range.specs.Interval.{narrow, part, renormalised};
 ghost use Rattle.ffv1_range.specs.Codes.{value, AreBytes};
@@ -182,12 +182,12 @@ fn put_listed<A: Allocator>(
     let slot = (step / 512) as usize;
     let bit = step / 256 % 2 == 1;
     let before = states[slot];
-    states[slot] = table.after(before, bit);
+    states[slot] = table.after_listed(before, step);
     narrow_held(bytes, holding, before, bit)?;
     Ok(())
 }
 
-/// The decisions of a list, with what is held back.
+/// The decisions of a list, with what is held back. Answers how many of them are 1.
 #[inline(always)]
 fn put_each<A: Allocator>(
     bytes: &mut Vec<u8, A>,
@@ -195,12 +195,15 @@ fn put_each<A: Allocator>(
     table: &StateTable,
     states: &mut [u8],
     list: &[u32],
-) -> Result<(), AllocError>
+) -> Result<u32, AllocError>
     requires holding { IsHolding bytes.old.items holding.old.low holding.old.width
         holding.old.held }
     requires few { holding.old.held < 4 }
     requires held { AllHeld table.now states.old }
     requires slots { AreBelow (steps_of list.now) (length states.old) }
+    requires short { length list.now < 2 ^ 32 }
+    ensures ones { IfOk result (λ ones. ones ≡ ones_in (steps_of list.now)) }
+    ensures of_all { IfOk result (λ ones. ones ≤ length list.now) }
     ensures writes { OnOk result (Writes table.now
         (standing_held bytes.old.items holding.old.low holding.old.width holding.old.held)
         states.old
@@ -215,10 +218,13 @@ fn put_each<A: Allocator>(
     ensures grown { OnOk result (length bytes.old.items ≤ length bytes.new.items) }
     ensures held { AllHeld table.now states.new }
 {
+    // 256 times the ones, for which a decision's own number serves.
+    let mut ones = 0u64;
     for step in list {
         put_listed(bytes, holding, table, states, *step)?;
+        ones += u64::from(*step / 256 % 2 * 256);
     }
-    Ok(())
+    Ok((ones / 256) as u32)
 }
 
 /// Gives out the first of the bytes that are held back.
@@ -269,7 +275,7 @@ fn release_all<A: Allocator>(
     Ok(())
 }
 
-/// The decisions of a list, with the interval in locals.
+/// The decisions of a list, with the interval in locals. Answers how many of them are 1.
 #[inline(always)]
 fn put_list<A: Allocator>(
     bytes: &mut Vec<u8, A>,
@@ -277,10 +283,13 @@ fn put_list<A: Allocator>(
     table: &StateTable,
     states: &mut [u8],
     list: &[u32],
-) -> Result<(), AllocError>
+) -> Result<u32, AllocError>
     requires writing { IsWriting bytes.old.items span.old.low span.old.width }
     requires held { AllHeld table.now states.old }
     requires slots { AreBelow (steps_of list.now) (length states.old) }
+    requires short { length list.now < 2 ^ 32 }
+    ensures ones { IfOk result (λ ones. ones ≡ ones_in (steps_of list.now)) }
+    ensures of_all { IfOk result (λ ones. ones ≤ length list.now) }
     ensures writes { OnOk result (Writes table.now
         (standing bytes.old.items span.old.low span.old.width) states.old
         (standing bytes.new.items span.new.low span.new.width) states.new (steps_of list.now)) }
@@ -295,25 +304,11 @@ fn put_list<A: Allocator>(
         width: span.width,
         held: 0,
     };
-    put_each(bytes, &mut holding, table, states, list)?;
+    let ones = put_each(bytes, &mut holding, table, states, list)?;
     release_all(bytes, &mut holding)?;
     span.low = holding.low as u32;
     span.width = holding.width;
-    Ok(())
-}
-
-/// How many decisions of a list are 1.
-#[inline(always)]
-fn ones_listed(list: &[u32]) -> u32
-    requires { length list.now < 2 ^ 32 }
-    ensures ones { result ≡ ones_in (steps_of list.now) }
-    ensures few { result ≤ length list.now }
-{
-    let mut ones = 0;
-    for step in list {
-        ones += *step / 256 % 2;
-    }
-    ones
+    Ok(ones)
 }
 
 /// The row of a residual of nine bits, given modulo 512, in the table of symbols.
@@ -402,7 +397,7 @@ impl<A: Allocator> RangeEncoder<A> {
             width: self.width,
         };
         let done = put_list(&mut self.bytes, &mut span, table, states, list);
-        let Ok(()) = done else {
+        let Ok(ones) = done else {
             self.bytes.clear();
             self.low = 0;
             self.width = FIRST_WIDTH;
@@ -411,7 +406,6 @@ impl<A: Allocator> RangeEncoder<A> {
         };
         self.low = span.low;
         self.width = span.width;
-        let ones = ones_listed(list);
         self.count(ones, list.len() as u32 - ones);
         Ok(())
     }

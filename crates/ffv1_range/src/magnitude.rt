@@ -2,7 +2,9 @@
 //! straight code, and only nonzero numbers are counted (RFC 9043, 3.8.1.2).
 
 ghost use Rattle.std.specs.Prelude.{◌≡◌, ℕ, ◌+◌, ◌*◌, ◌^◌, ◌≤◌, ◌<◌, ◌++◌, List, IfOk, IfErr, OnErr};
-ghost use Rattle.std.specs.Prelude.{length, unsigned_abs};
+ghost use Rattle.std.specs.Prelude.{length, unsigned_abs, slice_index, slice_set, pos, IsTrue, IsFalse, ◌↔◌};
+ghost use Rattle.ffv1_range.specs.Interval.{share};
+ghost use Rattle.ffv1_range.specs.Table.{Holds};
 ghost use Rattle.ffv1_range.specs.Symbols.{AreHeld, AllHeld, shifted, exponent_steps};
 ghost use Rattle.ffv1_range.specs.Symbols.{mantissa_steps, raising, signed_steps, too_long};
 ghost use Rattle.ffv1_range.specs.Counts.{ones_in};
@@ -137,6 +139,26 @@ fn get_magnitude(
 }
 
 impl RangeDecoder<'_> {
+    /// Whether the number that comes next is 0, by the state of its first decision (RFC 9043,
+    /// 3.8.1.2): then its symbol is read, and as with `tally_signed_in_row` counted nowhere. Any other
+    /// number is not read, and leaves all as it was. A run of zeros is so read by one state that is
+    /// kept apart from the others.
+    #[inline(always)]
+    pub fn take_zero(&mut self, table: &StateTable, state: &mut u8) -> bool
+        requires { Holds table.now state.old }
+        ensures taken { IsTrue result ↔ (self.old.gap ≤ share self.old.width state.old) }
+        ensures follows { IsTrue result → (states : List ℕ) (slot n : ℕ) (nonzeros : Nonzeros) →
+            slice_index states slot ≡ state.old → nonzeros.symbols ≤ n →
+            Follows table.now (summed self.old (sums_among n nonzeros)) states
+            (summed self.new (sums_among (n + 1) nonzeros)) (slice_set states slot state.new)
+            (shifted slot (signed_steps (pos 0))) }
+        ensures stays { IsFalse result → self.new ≡ self.old }
+        ensures left { IsFalse result → state.new ≡ state.old }
+        ensures held { Holds table.now state.new }
+    {
+        self.take_one(table, state)
+    }
+
     /// The signed number whose symbol comes next, counted in `nonzeros` alone.
     #[inline(always)]
     fn tally_signed(

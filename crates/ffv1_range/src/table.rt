@@ -6,6 +6,7 @@ ghost use Rattle.std.specs.Prelude.{◌↔◌, slice_index, replicate, IsTrue, t
 ghost use Rattle.ffv1_range.specs.Table.{moved, Holds, IsTable};
 ghost use Rattle.ffv1_range.specs.Standard.{standard};
 ghost use Rattle.ffv1_range.specs.Symbols.{AreHeld};
+ghost use Rattle.ffv1_range.specs.Listed.{step_of};
 ghost use Rattle.ffv1_range.specs.Deltas.{entry_of, byte_of, IsTableOf, HaveNoTable};
 
 use crate::fault::Fault;
@@ -37,18 +38,19 @@ pub struct StateTable {
     one: [u8; 256],
     zero: [u8; 256],
     either: [u16; 256],
+    next: [u8; 512],
 }
 
 impl Model for StateTable {
     ghost use Rattle.ffv1_range.specs.Table.{Table, IsTable};
-    ghost use Rattle.ffv1_range.specs.Internal.Registers.{AreZeros, AreEither};
+    ghost use Rattle.ffv1_range.specs.Internal.Registers.{AreZeros, AreEither, AreNext};
 
     ghost Value = { Table };
 
     ghost view = { λ t. record { floor = t.floor; one = t.one } };
 
     ghost invariant = { λ t. IsTable t.floor t.one × AreZeros t.floor t.one t.zero ×
-        AreEither t.floor t.one t.zero t.either };
+        AreEither t.floor t.one t.zero t.either × AreNext t.floor t.one t.zero t.next };
 }
 
 impl StateTable {
@@ -63,6 +65,7 @@ impl StateTable {
             floor: 8,
             one: STANDARD,
             either: both(&STANDARD, &zero),
+            next: joined(&STANDARD, &zero),
             zero,
         }
     }
@@ -85,6 +88,7 @@ impl StateTable {
         Ok(StateTable {
             floor,
             either: both(&one, &zero),
+            next: joined(&one, &zero),
             one,
             zero,
         })
@@ -140,19 +144,31 @@ impl StateTable {
         self.either[state as usize]
     }
 
-    /// Where a state goes after a decision, without a branch.
+    /// Where a state goes after a decision of a list, without a branch or a choice.
     #[inline(always)]
-    pub(crate) fn after(&self, state: u8, bit: bool) -> u8
+    pub(crate) fn after_listed(&self, state: u8, step: u32) -> u8
         requires { Holds self.now state }
-        ensures moves { result ≡ moved self.now state bit }
+        ensures moves { result ≡ moved self.now state (step_of step).bit }
         ensures held { Holds self.now result }
     {
-        let either = self.after_either(state);
-        if bit {
-            return (either % 256) as u8;
-        }
-        (either / 256) as u8
+        let half = step / 256 % 2 * 256;
+        self.next[half as usize + state as usize]
     }
+}
+
+/// Where each state goes after a decision 0, and behind it where each goes after a decision 1.
+fn joined(one: &[u8; 256], zero: &[u8; 256]) -> [u8; 512]
+    ensures zeros { (state : ℕ) → state < 256 →
+        slice_index result state ≡ slice_index zero.now state }
+    ensures ones { (state : ℕ) → state < 256 →
+        slice_index result (256 + state) ≡ slice_index one.now state }
+{
+    let mut next = [0; 512];
+    for state in 0..256usize {
+        next[state] = zero[state];
+        next[256 + state] = one[state];
+    }
+    next
 }
 
 /// Where each state goes after either decision: after a 1 in the low byte, and after a 0 in the

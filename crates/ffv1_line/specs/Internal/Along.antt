@@ -1,8 +1,12 @@
 -- What is carried from place to place along a row.
-use Rattle.std.specs.Prelude.{ℕ, ◌≡◌, min, max, List, slice_index}
+use Rattle.std.specs.Prelude.{ℕ, ◌≡◌, min, max, false, List, slice_index, pos}
 use Rattle.std.proofs.Common.{suc}
 use Rattle.ffv1_plane.specs.declared.early.Early.{Early}
+use Rattle.ffv1_plane.specs.declared.prediction.Around.{Around}
 use Rattle.ffv1_plane.specs.Quantisation.{Set}
+use Rattle.ffv1_plane.specs.Context.{size_of}
+use Rattle.ffv1_plane.specs.Prediction.{predicted}
+use Rattle.ffv1_plane.specs.Residual.{sample_of}
 use Rattle.ffv1_plane.specs.Early.{IsEarly, AreEarly, AreAbove, AreBounds}
 use Rattle.ffv1_line.specs.Cell.{Cell, seen, Above, Shows}
 
@@ -42,3 +46,20 @@ pub record IsPreparedSomehow (set : Set) (e : Early) (i : ℕ) : Type 0 where
   pub tr : ℕ
   pub tt : ℕ
   pub prepared : IsPrepared set e i tr tt
+
+-- where the samples above, above to the left and to the left are l, a place of this early sum has
+-- this context, whatever stands above to the right and two above
+pub record IsEven (set : Set) (sum l ll size : ℕ) : Type 0 where
+  pub each : (tr tt : ℕ) → IsEarly set l l tr tt sum → size ≡ size_of set (record {
+    l = l;
+    t = l;
+    tl = l;
+    tr = tr;
+    ll = ll;
+    tt = tt;
+  })
+
+-- and the residual 0 makes the same sample there
+pub record ComesAgain (bits l : ℕ) : Type 0 where
+  pub makes : (a : Around) → a.l ≡ l → a.t ≡ l → a.tl ≡ l →
+      pos l ≡ sample_of bits (predicted a) false (pos 0)

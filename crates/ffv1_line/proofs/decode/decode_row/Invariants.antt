@@ -12,7 +12,7 @@ invariant-parts g l = record {
   within : l.from ≤ length l.cur;
   begins : IsBehind l.two l.one l.cur l.from l.behind.ll l.behind.l;
   behind : SameFrom l.from l.fn.cur l.cur;
-  lined : Lined l.table l.set l.bits l.fn.decoder l.fn.states l.decoder l.states l.two l.one l.cur l.from;
+  lined : Lined l.table l.set g.row.BITS l.fn.decoder l.fn.states l.decoder l.states l.two l.one l.cur l.from;
 }
 
 abbrev pub decreases-parts : goal.decreases-parts

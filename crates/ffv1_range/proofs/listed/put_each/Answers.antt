@@ -1,5 +1,5 @@
 use Rattle.std.proofs.Common.{length, arith}
-use Rattle.ffv1_range.proofs.ListedSteps.{below_at, writes_listed, grows_listed}
+use Rattle.ffv1_range.proofs.ListedSteps.{below_at, ones_next, writes_listed, grows_listed}
 use Rattle.ffv1_range.proofs.Growth.{on_err}
 use Rattle.ffv1_range.proofs.listed.put_each.Goals as goal
 
@@ -13,10 +13,14 @@ returns-in_err-put_listed-clause-refused g c =
     on_err c.from_residual.result (grows_listed _ _ _ _ _ c.args.list.now c.loop-step.step-index (omega arith) c.loop-step.invariant.writes c.in_err-put_listed.ensures.refused)
 
 pub loop-step-preserved : goal.loop-step-preserved
-loop-step-preserved g c = record {
-  held = c.put_listed.ensures.held;
-  holding = c.in_ok-put_listed.ensures.holding;
-  few = c.in_ok-put_listed.ensures.few;
-  grown = omega (arith, c.in_ok-put_listed.ensures.grown);
-  writes = writes_listed _ _ _ _ _ _ _ c.args.list.now c.loop-step.step-index (omega arith) c.loop-step.invariant.writes c.in_ok-put_listed.ensures.writes;
-}
+loop-step-preserved g c =
+    let next = ones_next c.args.list.now c.loop-step.step-index (omega arith) in
+    record {
+      ones = omega arith;
+      of_all = omega arith;
+      held = c.put_listed.ensures.held;
+      holding = c.in_ok-put_listed.ensures.holding;
+      few = c.in_ok-put_listed.ensures.few;
+      grown = omega (arith, c.in_ok-put_listed.ensures.grown);
+      writes = writes_listed _ _ _ _ _ _ _ c.args.list.now c.loop-step.step-index (omega arith) c.loop-step.invariant.writes c.in_ok-put_listed.ensures.writes;
+    }

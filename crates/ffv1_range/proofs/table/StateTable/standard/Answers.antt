@@ -11,4 +11,12 @@ pub returns-clause-fresh : goal.returns-clause-fresh
 returns-clause-fresh c = fresh_held standard keeps
 
 pub invariant_of-result : goal.invariant_of-result
-invariant_of-result c = (keeps, zeros_are 8 default_state_transition _ keeps c.zeros_beside-zero.ensures, λ state least most. c.both.ensures state (omega arith))
+invariant_of-result c = (
+  keeps,
+  zeros_are 8 default_state_transition _ keeps c.zeros_beside-zero.ensures,
+  λ state least most. c.both.ensures state (omega arith),
+  record {
+    zeros = λ state least most. c.joined.ensures.zeros state (omega arith);
+    ones = λ state least most. c.joined.ensures.ones state (omega arith);
+  },
+)

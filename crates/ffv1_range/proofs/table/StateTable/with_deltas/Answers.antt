@@ -24,5 +24,12 @@ returns-clause-fresh c = fresh_held (record { floor = c.in-Some.floor; one = c.i
 
 pub invariant_of-result : goal.invariant_of-result
 invariant_of-result c =
-    let positive = c.in-Some.ensures.found.positive in
-    (c.in-Some.ensures.found, zeros_are c.in-Some.floor c.in_ok-one.one _ c.in-Some.ensures.found c.zeros_beside-zero.ensures, λ state least most. c.both.ensures state (omega arith))
+    let positive = c.in-Some.ensures.found.positive in (
+      c.in-Some.ensures.found,
+      zeros_are c.in-Some.floor c.in_ok-one.one _ c.in-Some.ensures.found c.zeros_beside-zero.ensures,
+      λ state least most. c.both.ensures state (omega arith),
+      record {
+        zeros = λ state least most. c.joined.ensures.zeros state (omega arith);
+        ones = λ state least most. c.joined.ensures.ones state (omega arith);
+      },
+    )

@@ -1,0 +1,52 @@
+-- Even places: the samples above and to the left are one, and so is the sample where the symbol is a zero.
+use Rattle.std.proofs.Common.{◌≡◌, refl, ℕ, suc, ◌+◌, ◌-◌, ◌*◌, ◌<◌, min, List, length, get_or, slice_set, arith, ap, sym, ◌∙◌, pos}
+use Rattle.ffv1_range.specs.Table.{Table}
+use Rattle.ffv1_range.specs.Reading.{Reading}
+use Rattle.ffv1_range.specs.Follows.{Follows}
+use Rattle.ffv1_range.specs.Symbols.{shifted, signed_steps}
+use Rattle.ffv1_plane.specs.declared.prediction.Around.{Around}
+use Rattle.ffv1_plane.specs.declared.early.Early.{Early}
+use Rattle.ffv1_plane.specs.Quantisation.{Set}
+use Rattle.ffv1_plane.specs.Early.{left_above, right_above, IsEarly}
+use Rattle.ffv1_plane.specs.Context.{flip_of}
+use Rattle.ffv1_plane.specs.Prediction.{predicted}
+use Rattle.ffv1_line.specs.Decoded.{Sampled, Lined}
+use Rattle.ffv1_line.specs.Internal.Along.{IsBehind, IsFilled, IsEven, ComesAgain}
+use Rattle.ffv1_line.proofs.Prepared.{stands_behind, behind_next, prepared_at, sampled_by, zero_makes}
+use Rattle.ffv1_line.proofs.Rows.{lined_next}
+
+-- the sample above to the left of the next place is the one above this one
+pub left_next : (set : Set) (two one : List ℕ) (from : ℕ) (e : Early) (n i : ℕ) → IsFilled set two one from e n → i + 1 < n → get_or e.tl (i + 1) 0 ≡ get_or e.t i 0
+left_next set two one from e n i filled inside =
+    let next : from + (i + 1) ≡ suc (from + i) = omega arith in
+    filled.above.tl_is (i + 1) inside ∙ ap (left_above two one) next ∙ sym (filled.above.t_is i (omega arith))
+
+even_sampled : (t : Table) (set : Set) (bits : ℕ) (old : Reading) (states : List ℕ) (new : Reading) (after : List ℕ) (l tr ll tt sum size : ℕ) →
+    ComesAgain bits l → IsEven set sum l ll size → IsEarly set l l tr tt sum → Follows t old states new after (shifted (size * 32) (signed_steps (pos 0))) →
+    Sampled t set bits old states new after (record { l = l; t = l; tl = l; tr = tr; ll = ll; tt = tt }) l
+even_sampled t set bits old states new after l tr ll tt sum size again even early follows =
+    let a : Around = record { l = l; t = l; tl = l; tr = tr; ll = ll; tt = tt } in
+    sampled_by t set bits old states new after a l size (flip_of set a) (predicted a) (pos 0) (even.each tr tt early) refl refl (omega arith)
+    (zero_makes bits l (predicted a) (pos 0) (flip_of set a) refl (again.makes a refl refl refl)) follows
+
+-- one such place more
+pub even_next : (t : Table) (set : Set) (bits : ℕ) (first : Reading) (fresh : List ℕ) (mid : Reading) (between : List ℕ) (new : Reading) (after two one cur : List ℕ) (from n i : ℕ) (e : Early) (ll l sum size : ℕ) →
+    IsFilled set two one from e n → i < n → from + i < length cur → length one ≡ length cur → get_or e.tl i 0 ≡ l → get_or e.t i 0 ≡ l → get_or e.sum i 0 ≡ sum →
+    ComesAgain bits l → IsEven set sum l ll size → IsBehind two one cur (from + i) ll l → Lined t set bits first fresh mid between two one cur (from + i) →
+    Follows t mid between new after (shifted (size * 32) (signed_steps (pos 0))) → Lined t set bits first fresh new after two one (slice_set cur (from + i) l) (from + (i + 1))
+even_next t set bits first fresh mid between new after two one cur from n i e ll l sum size filled inside within wide left top early again even behind lined follows =
+    let x : ℕ = from + i in
+    let more : from + (i + 1) ≡ x + 1 = omega arith in
+    let stands = stands_behind two one cur x ll l l l (omega arith) (sym left ∙ filled.above.tl_is i inside) (sym top ∙ filled.above.t_is i inside) behind in
+    let prepared = (prepared_at set two one from e n i filled inside).early in
+    let is_early : IsEarly set l l (right_above one x) (get_or two x 0) sum = rw (left, top, early) at prepared in
+    rw more (lined_next t set bits first fresh mid between new after two one cur x (min (x + 1) (length one - 1)) ll l l l l refl within wide stands lined
+    (even_sampled t set bits mid between new after l (right_above one x) ll (get_or two x 0) sum size again even is_early follows))
+
+pub even_behind : (set : Set) (two one cur : List ℕ) (from n i : ℕ) (e : Early) (ll l : ℕ) → IsFilled set two one from e n → i < n → from + i < length cur → length one ≡ length cur →
+    IsBehind two one cur (from + i) ll l → IsBehind two one (slice_set cur (from + i) l) (from + (i + 1)) l l
+even_behind set two one cur from n i e ll l filled inside within wide behind =
+    let x : ℕ = from + i in
+    let more : from + (i + 1) ≡ x + 1 = omega arith in
+    let stands = stands_behind two one cur x ll l (get_or e.tl i 0) (get_or e.t i 0) (omega arith) (filled.above.tl_is i inside) (filled.above.t_is i inside) behind in
+    rw more (behind_next two one cur x ll l _ _ l within wide stands)

@@ -1,0 +1,7 @@
+use Rattle.ffv1_range.proofs.Magnitudes.{zero_taken}
+use Rattle.ffv1_range.proofs.decoder.RangeDecoder.take_zero.Goals as goal
+
+pub returns-clause-follows : goal.returns-clause-follows
+returns-clause-follows c = λ taken states slot n nonzeros is within.
+    let kept = c.take_one.ensures in
+    zero_taken _ _ _ states slot _ _ n nonzeros is c.requires within kept.bytes (kept.at taken) kept.counts (kept.moves taken)
