@@ -17,6 +17,7 @@ mod range;
 mod rct;
 mod record;
 mod refusals;
+mod rows;
 mod rows_in_passes;
 mod shows;
 mod slice;

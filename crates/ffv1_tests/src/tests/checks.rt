@@ -1,9 +1,9 @@
 //! What `check` writes of files over memory, and its faults.
 
+use crate::tests::made;
 use ffv1_avi::{AviHead, write_avi};
 use ffv1_engine::{Fault, check};
-use ffv1_plane::QuantSet;
-use ffv1_record::{Checked, Coder, Colour, Config, RecordFault, Sets, write_record};
+use ffv1_record::{Checked, RecordFault, write_record};
 use ffv1_wire::{FromRead, ToWrite};
 use std::alloc::Allocator;
 use std::process::Abort;
@@ -11,23 +11,7 @@ use std::test::Fail;
 
 /// Mono pictures of one line in so many columns, a sample in each, without parity.
 fn mono<A: Allocator + Copy>(alloc: A, columns: u32) -> Result<Checked<A>, RecordFault> {
-    let mut sets = Sets::new(alloc);
-    sets.push(QuantSet::small(alloc)?)?;
-    let config = Config {
-        width: columns,
-        height: 1,
-        coder: Coder::One,
-        colour: Colour::YCbCr,
-        chroma_planes: false,
-        extra_plane: false,
-        log2_h: 0,
-        log2_v: 0,
-        columns,
-        rows: 1,
-        sets,
-        ec: false,
-        intra: true,
-    };
+    let config = made::mono(alloc, columns, 1, columns, false)?;
     config.check()
 }
 

@@ -1,5 +1,6 @@
 //! Frames of small pictures.
 
+use crate::tests::made;
 use ffv1_codec::{FrameCounts, FrameDecoder, FrameEncoder, Info, KeepLines, Picture};
 use ffv1_plane::QuantSet;
 use ffv1_record::{Checked, Coder, Colour, Config, Sets};
@@ -59,23 +60,8 @@ const PROGRESSIVE: [u8; 10] = [0xfc, 0x16, 0x51, 0xb4, 0xdd, 0x9e, 0xc2, 0x00, 0
 
 /// Pictures of one plane, in one row of slices, with the small set.
 fn mono(alloc: Global, width: u32, height: u32, columns: u32) -> Result<Config, Fail> {
-    let mut sets = Sets::new(alloc);
-    sets.push(QuantSet::small(alloc)?)?;
-    Ok(Config {
-        width,
-        height,
-        coder: Coder::One,
-        colour: Colour::YCbCr,
-        chroma_planes: false,
-        extra_plane: false,
-        log2_h: 0,
-        log2_v: 0,
-        columns,
-        rows: 1,
-        sets,
-        ec: false,
-        intra: true,
-    })
+    let config = made::mono(alloc, width, height, columns, false)?;
+    Ok(config)
 }
 
 /// An encoder of such pictures.

@@ -1,6 +1,7 @@
 //! Contexts and residuals of sixteen places at once, beside those of each place.
 
 ghost use Rattle.std.specs.Prelude.{◌≡◌, ◌<◌, ◌⊎◌};
+ghost use Rattle.ffv1_plane.specs.Quantisation.{HasFewLevels};
 
 use ffv1_plane::{Around, AroundLanes, QuantSet, choose_lanes, context, predict, residual_of};
 use std::alloc::Allocator;
@@ -22,6 +23,69 @@ fn samples(seed: &mut u64, limit: u16) -> [u16; 16]
     lanes
 }
 
+/// The samples around sixteen places, as in `Around`, and their own.
+#[derive(Clone, Copy)]
+struct Places {
+    l: [u16; 16],
+    t: [u16; 16],
+    tl: [u16; 16],
+    tr: [u16; 16],
+    ll: [u16; 16],
+    tt: [u16; 16],
+    own: [u16; 16],
+}
+
+/// Places of samples that look random, below `limit`.
+fn sixteen(seed: &mut u64, limit: u16) -> Places
+    requires { 0 < limit }
+{
+    Places {
+        l: samples(seed, limit),
+        t: samples(seed, limit),
+        tl: samples(seed, limit),
+        tr: samples(seed, limit),
+        ll: samples(seed, limit),
+        tt: samples(seed, limit),
+        own: samples(seed, limit),
+    }
+}
+
+/// Their contexts and their residuals modulo 512, all at once.
+fn of_lanes<A: Allocator>(set: &QuantSet<A>, places: &Places, bits: u8) -> ([u16; 16], [u16; 16])
+    requires few { HasFewLevels set.now }
+    requires bits { (bits ≡ 8) ⊎ (bits ≡ 9) }
+{
+    let around = AroundLanes {
+        l: u16x16::from_array(places.l),
+        t: u16x16::from_array(places.t),
+        tl: u16x16::from_array(places.tl),
+        tr: u16x16::from_array(places.tr),
+        ll: u16x16::from_array(places.ll),
+        tt: u16x16::from_array(places.tt),
+    };
+    let own = u16x16::from_array(places.own);
+    let (sizes, residuals) = choose_lanes(set, &around, own, bits, set.is_near());
+    (sizes.to_array(), residuals.to_array())
+}
+
+/// The context and the residual modulo 512 of one of them.
+fn of_place<A: Allocator>(set: &QuantSet<A>, places: &Places, place: usize, bits: u8) -> (u32, i32)
+    requires place { place < 16 }
+    requires bits { (bits ≡ 8) ⊎ (bits ≡ 9) }
+{
+    let around = Around {
+        l: places.l[place],
+        t: places.t[place],
+        tl: places.tl[place],
+        tr: places.tr[place],
+        ll: places.ll[place],
+        tt: places.tt[place],
+    };
+    let (size, flip) = context(set, &around);
+    let residual = residual_of(predict(&around), flip, places.own[place], bits);
+    (size, residual.rem_euclid(512))
+}
+
 /// Sixteen places of random samples below `limit` have the contexts and the residuals that each of
 /// them has alone.
 fn places_agree<A: Allocator>(
@@ -35,41 +99,12 @@ fn places_agree<A: Allocator>(
     requires bits { (bits ≡ 8) ⊎ (bits ≡ 9) }
 {
     assert!(rt; set.has_few_levels());
-    let (l, t, tl) = (
-        samples(seed, limit),
-        samples(seed, limit),
-        samples(seed, limit),
-    );
-    let (tr, ll, tt) = (
-        samples(seed, limit),
-        samples(seed, limit),
-        samples(seed, limit),
-    );
-    let own = samples(seed, limit);
-    let around = AroundLanes {
-        l: u16x16::from_array(l),
-        t: u16x16::from_array(t),
-        tl: u16x16::from_array(tl),
-        tr: u16x16::from_array(tr),
-        ll: u16x16::from_array(ll),
-        tt: u16x16::from_array(tt),
-    };
-    let near = set.is_near();
-    let (sizes, residuals) = choose_lanes(set, &around, u16x16::from_array(own), bits, near);
-    let (sizes, residuals) = (sizes.to_array(), residuals.to_array());
+    let places = sixteen(seed, limit);
+    let (sizes, residuals) = of_lanes(set, &places, bits);
     for place in 0..16usize {
-        let around = Around {
-            l: l[place],
-            t: t[place],
-            tl: tl[place],
-            tr: tr[place],
-            ll: ll[place],
-            tt: tt[place],
-        };
-        let (size, flip) = context(set, &around);
-        let residual = residual_of(predict(&around), flip, own[place], bits);
+        let (size, residual) = of_place(set, &places, place, bits);
         assert_eq!(rt; size, u32::from(sizes[place]));
-        assert_eq!(rt; residual.rem_euclid(512), i32::from(residuals[place]));
+        assert_eq!(rt; residual, i32::from(residuals[place]));
     }
 }
 

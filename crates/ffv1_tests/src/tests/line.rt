@@ -1,6 +1,6 @@
 //! Rows in both directions, beside values computed outside the program from the standard's text.
 
-ghost use Rattle.std.specs.Prelude.{◌≡◌, ◌*◌, ◌^◌, ◌<◌, ◌⊎◌, IsTrue, length, replicate};
+ghost use Rattle.std.specs.Prelude.{◌≡◌, ◌*◌, ◌^◌, ◌<◌, ◌≤◌, ◌⊎◌, IsTrue, length, replicate};
 ghost use Rattle.std.specs.Prelude.{unsigned_abs};
 ghost use Rattle.ffv1_plane.specs.Quantisation.{contexts_of};
 ghost use Rattle.ffv1_range.specs.Symbols.{AreHeld, AllHeld};
@@ -11,6 +11,12 @@ use ffv1_plane::{Around, QuantSet, context, predict, residual_of};
 use ffv1_range::{RangeDecoder, RangeEncoder, StateTable};
 use std::process::Abort;
 use std::test::Fail;
+
+/// What is answered is true.
+fn holds(rt: &impl Abort, answer: Result<bool, Fail>) -> Result<(), Fail> {
+    assert!(rt; answer?);
+    Ok(())
+}
 
 /// Whether the rows two and one above have the length of a row, of at least one sample.
 fn are_rows(two: &[u16], one: &[u16], row: &[u16]) -> bool
@@ -180,25 +186,27 @@ fn decode_two(
     Ok(decoder.taken())
 }
 
+/// Whether two rows of two samples are decoded so, by so many decisions.
+fn gives_two(
+    rt: &HostRuntime,
+    set: &QuantSet,
+    bytes: &[u8],
+    rows: [&[u16]; 2],
+    decisions: u64,
+) -> Result<bool, Fail> {
+    let table = StateTable::standard();
+    let (mut first, mut second) = ([0u16; 2], [0u16; 2]);
+    let taken = decode_two(rt, &table, set, bytes, &[0; 2], &mut first, &mut second)?;
+    let [one, two] = rows;
+    Ok(first.as_slice() == one && second.as_slice() == two && taken == decisions)
+}
+
 #[test]
 fn decodes_rows(rt: HostRuntime) -> Result<(), Fail> {
-    let table = StateTable::standard();
     let set = QuantSet::small(rt.alloc())?;
-    let mut first = [0u16; 2];
-    let mut second = [0u16; 2];
-    let taken = decode_two(
-        &rt,
-        &table,
-        &set,
-        b"\x71\xC6\xE5\x2D\x49",
-        &[0; 2],
-        &mut first,
-        &mut second,
-    )?;
-    assert_eq!(rt; first, [10, 20]);
-    assert_eq!(rt; second, [30, 40]);
-    assert_eq!(rt; taken, 38);
-    Ok(())
+    let rows = [[10u16, 20].as_slice(), [30u16, 40].as_slice()];
+    let bytes = b"\x71\xC6\xE5\x2D\x49";
+    holds(&rt, gives_two(&rt, &set, bytes, rows, 38))
 }
 
 /// Among such neighbours a sample has this context and residual.
@@ -246,43 +254,64 @@ fn finds_contexts_and_residuals(rt: HostRuntime) -> Result<(), Fail> {
     Ok(())
 }
 
+/// Whether rows of 8 bits and one sample have these bytes, by the sentinel ending, and so many
+/// decisions.
+fn ends(
+    rt: &HostRuntime,
+    set: &QuantSet,
+    rows: &[&[u16]],
+    bytes: &[u8],
+    decisions: u64,
+) -> Result<bool, Fail> {
+    let table = StateTable::standard();
+    let encoder = encoder_of(rt, &table, set, &[0], rows, 8)?;
+    let same = encoder.decisions() == decisions;
+    Ok(same & (encoder.finish_sentinel()?.as_slice() == bytes))
+}
+
+/// Whether such rows have these bytes by the full ending.
+fn ends_in_full(
+    rt: &HostRuntime,
+    set: &QuantSet,
+    rows: &[&[u16]],
+    bytes: &[u8],
+) -> Result<bool, Fail> {
+    let table = StateTable::standard();
+    let encoder = encoder_of(rt, &table, set, &[0], rows, 8)?;
+    Ok(encoder.finish_full()?.as_slice() == bytes)
+}
+
 #[test]
 fn encodes_a_row(rt: HostRuntime) -> Result<(), Fail> {
-    let table = StateTable::standard();
     let set = QuantSet::small(rt.alloc())?;
-    let encoder = encoder_of(&rt, &table, &set, &[0], &[&[128]], 8)?;
-    assert_eq!(rt; encoder.decisions(), 17);
-    assert!(rt; encoder.finish_sentinel()?.as_slice() == b"\x7E\x81\x80".as_slice());
-    Ok(())
+    holds(&rt, ends(&rt, &set, &[&[128]], b"\x7E\x81\x80", 17))
 }
 
 #[test]
 fn shares_states(rt: HostRuntime) -> Result<(), Fail> {
-    let table = StateTable::standard();
     let set = QuantSet::small(rt.alloc())?;
-    let encoder = encoder_of(&rt, &table, &set, &[0], &[&[0], &[0]], 8)?;
-    assert!(rt; encoder.finish_full()?.as_slice() == b"\xBC\x43".as_slice());
-    Ok(())
+    holds(&rt, ends_in_full(&rt, &set, &[&[0], &[0]], b"\xBC\x43"))
+}
+
+/// Whether two rows of one sample 0, each with fresh states, have these bytes.
+fn ends_apart(rt: &HostRuntime, set: &QuantSet, bytes: &[u8]) -> Result<bool, Fail> {
+    let table = StateTable::standard();
+    let mut encoder = encoder_of(rt, &table, set, &[0], &[&[0]], 8)?;
+    encode_fresh(rt, &mut encoder, &table, set, &[0], &[&[0]], 8)?;
+    Ok(encoder.finish_full()?.as_slice() == bytes)
 }
 
 #[test]
 fn keeps_states_of_classes_apart(rt: HostRuntime) -> Result<(), Fail> {
-    let table = StateTable::standard();
     let set = QuantSet::small(rt.alloc())?;
-    let mut encoder = encoder_of(&rt, &table, &set, &[0], &[&[0]], 8)?;
-    encode_fresh(&rt, &mut encoder, &table, &set, &[0], &[&[0]], 8)?;
-    assert!(rt; encoder.finish_full()?.as_slice() == b"\xBF\x40".as_slice());
-    Ok(())
+    holds(&rt, ends_apart(&rt, &set, b"\xBF\x40"))
 }
 
 #[test]
 fn folds_a_flipped_difference_of_128(rt: HostRuntime) -> Result<(), Fail> {
-    let table = StateTable::standard();
     let set = QuantSet::small(rt.alloc())?;
-    let encoder = encoder_of(&rt, &table, &set, &[0], &[&[0], &[5], &[133]], 8)?;
-    assert_eq!(rt; encoder.decisions(), 25);
-    assert!(rt; encoder.finish_sentinel()?.as_slice() == b"\xAF\x71\x8D\x7A".as_slice());
-    Ok(())
+    let bytes = b"\xAF\x71\x8D\x7A";
+    holds(&rt, ends(&rt, &set, &[&[0], &[5], &[133]], bytes, 25))
 }
 
 /// The bytes of one number, by fresh states.
@@ -296,17 +325,47 @@ fn number(rt: &HostRuntime, table: &StateTable, value: i32) -> Result<Vec<u8>, F
     Ok(encoder.finish_sentinel()?)
 }
 
+/// Whether a row of 8 bits, of at most three samples, below rows of zeros is decoded over samples 7
+/// with this answer and these samples, by so many decisions.
+fn gives_row(
+    rt: &HostRuntime,
+    table: &StateTable,
+    set: &QuantSet,
+    bytes: &[u8],
+    answer: Result<(), TooLong>,
+    samples: &[u16],
+    decisions: u64,
+) -> Result<bool, Fail>
+    requires few { length samples.now ≤ 3 }
+    requires fresh { AreHeld table.now (replicate 32 128) }
+{
+    let (zeros, mut row) = ([0u16; 3], [7u16; 3]);
+    let (zeros, row) = (&zeros[..samples.len()], &mut row[..samples.len()]);
+    let (done, taken) = decode_first(rt, table, set, bytes, zeros, row, 8)?;
+    Ok(done == answer && &*row == samples && taken == decisions)
+}
+
+/// The same by the small set.
+fn gives(
+    rt: &HostRuntime,
+    table: &StateTable,
+    bytes: &[u8],
+    answer: Result<(), TooLong>,
+    samples: &[u16],
+    decisions: u64,
+) -> Result<bool, Fail>
+    requires few { length samples.now ≤ 3 }
+    requires fresh { AreHeld table.now (replicate 32 128) }
+{
+    let set = QuantSet::small(rt.alloc())?;
+    gives_row(rt, table, &set, bytes, answer, samples, decisions)
+}
+
 #[test]
 fn takes_a_residual_of_31_bits(rt: HostRuntime) -> Result<(), Fail> {
     let table = StateTable::standard();
-    let set = QuantSet::small(rt.alloc())?;
     let bytes = number(&rt, &table, -2147483647)?;
-    let mut row = [7u16];
-    let (done, taken) = decode_first(&rt, &table, &set, bytes.as_slice(), &[0], &mut row, 8)?;
-    assert!(rt; done == Ok(()));
-    assert_eq!(rt; row, [1]);
-    assert_eq!(rt; taken, 63);
-    Ok(())
+    holds(&rt, gives(&rt, &table, &bytes, Ok(()), &[1], 63))
 }
 
 /// Two residuals 0, and then a symbol whose exponent has 31 ones.
@@ -327,14 +386,9 @@ fn refused_at_two(rt: &HostRuntime, table: &StateTable) -> Result<Vec<u8>, Fail>
 #[test]
 fn refuses_a_long_exponent(rt: HostRuntime) -> Result<(), Fail> {
     let table = StateTable::standard();
-    let set = QuantSet::small(rt.alloc())?;
     let bytes = refused_at_two(&rt, &table)?;
-    let mut row = [7u16; 3];
-    let (done, taken) = decode_first(&rt, &table, &set, bytes.as_slice(), &[0; 3], &mut row, 8)?;
-    assert!(rt; done == Err(TooLong { x: 2 }));
-    assert_eq!(rt; row, [0, 0, 7]);
-    assert_eq!(rt; taken, 34);
-    Ok(())
+    let answer = Err(TooLong { x: 2 });
+    holds(&rt, gives(&rt, &table, &bytes, answer, &[0, 0, 7], 34))
 }
 
 /// Samples below 2^bits, so many.
@@ -400,11 +454,10 @@ fn comes_back(
 }
 
 /// Whether rows of 1, 2, 3, 8192 and 65539 samples come back, of 8 and of 9 bits.
-fn all_come_back(rt: &HostRuntime, table: &StateTable, set: &QuantSet) -> Result<bool, Fail>
-    requires fresh { AreHeld table.now (replicate 32 128) }
-{
+fn all_come_back(rt: &HostRuntime, set: &QuantSet) -> Result<bool, Fail> {
+    let table = StateTable::standard();
     for width in [1usize, 2, 3, 8192, 65539] {
-        if !comes_back(rt, table, set, width, 8)? || !comes_back(rt, table, set, width, 9)? {
+        if !comes_back(rt, &table, set, width, 8)? || !comes_back(rt, &table, set, width, 9)? {
             return Ok(false);
         }
     }
@@ -413,18 +466,14 @@ fn all_come_back(rt: &HostRuntime, table: &StateTable, set: &QuantSet) -> Result
 
 #[test]
 fn rows_come_back(rt: HostRuntime) -> Result<(), Fail> {
-    let table = StateTable::standard();
     let set = QuantSet::small(rt.alloc())?;
-    assert!(rt; all_come_back(&rt, &table, &set)?);
-    Ok(())
+    holds(&rt, all_come_back(&rt, &set))
 }
 
 #[test]
 fn rows_of_the_large_set_come_back(rt: HostRuntime) -> Result<(), Fail> {
-    let table = StateTable::standard();
     let set = QuantSet::large(rt.alloc())?;
-    assert!(rt; all_come_back(&rt, &table, &set)?);
-    Ok(())
+    holds(&rt, all_come_back(&rt, &set))
 }
 
 #[test]

@@ -19,6 +19,14 @@ const ONE: [u8; 1] = [128];
 
 const ALL: [u8; 128] = [1; 128];
 
+/// A set has these runs, and this many contexts.
+fn has_runs<A: Allocator>(rt: &impl Abort, set: &QuantSet<A>, runs: &[&[u8]; 5], contexts: u32) {
+    assert_eq!(rt; set.contexts(), contexts);
+    for table in 0..5usize {
+        assert!(rt; set.runs(table) == runs[table]);
+    }
+}
+
 /// The set of these runs has them, and this many contexts.
 fn counts<A: Allocator + Copy>(
     rt: &impl Abort,
@@ -27,10 +35,7 @@ fn counts<A: Allocator + Copy>(
     contexts: u32,
 ) -> Result<(), Fault> {
     let set = QuantSet::from_runs(alloc, runs)?;
-    assert_eq!(rt; set.contexts(), contexts);
-    for table in 0..5usize {
-        assert!(rt; set.runs(table) == runs[table]);
-    }
+    has_runs(rt, &set, runs, contexts);
     Ok(())
 }
 
@@ -262,13 +267,22 @@ fn finds_each<A: Allocator>(rt: &impl Abort, large: &QuantSet<A>, other: &QuantS
     );
 }
 
-#[test]
-fn predicts_and_finds_contexts(rt: HostRuntime) -> Result<(), Fail> {
-    let large = QuantSet::large(rt.alloc())?;
+/// The same by the large set and one of wider runs.
+fn finds_all<A: Allocator + Copy>(
+    rt: &impl Abort,
+    alloc: A,
+    large: &QuantSet<A>,
+) -> Result<(), Fault> {
     let (wide, five) = (ELEVEN_WIDE.as_slice(), FIVE.as_slice());
-    let other = QuantSet::from_runs(rt.alloc(), &[wide, wide, five, five, five])?;
-    finds_each(&rt, &large, &other);
+    let other = QuantSet::from_runs(alloc, &[wide, wide, five, five, five])?;
+    finds_each(rt, large, &other);
     Ok(())
+}
+
+#[test]
+fn predicts_and_finds_contexts(rt: HostRuntime) -> Result<(), Fault> {
+    let large = QuantSet::large(rt.alloc())?;
+    finds_all(&rt, rt.alloc(), &large)
 }
 
 /// A difference is folded to this, of 8 and of 9 bits.
@@ -406,31 +420,50 @@ fn compare<A: Allocator>(rt: &impl Abort, set: &QuantSet<A>) {
     }
 }
 
-#[test]
-fn tells_sets_without_far_samples(rt: HostRuntime) -> Result<(), Fail> {
-    let (one, five) = (ONE.as_slice(), FIVE.as_slice());
-    assert!(rt; QuantSet::small(rt.alloc())?.is_near());
-    assert!(rt; !QuantSet::large(rt.alloc())?.is_near());
-    assert!(rt; !QuantSet::from_runs(rt.alloc(), &[one, one, one, five, one])?.is_near());
-    assert!(rt; !QuantSet::from_runs(rt.alloc(), &[one, one, one, one, five])?.is_near());
+/// A set is made, and its samples two to the left and two above count for nothing, or not.
+fn tells<A: Allocator>(
+    rt: &impl Abort,
+    set: Result<QuantSet<A>, Fault>,
+    near: bool,
+) -> Result<(), Fault> {
+    let set = set?;
+    assert_eq!(rt; set.is_near(), near);
     Ok(())
 }
 
 #[test]
-fn looks_up_each_difference(rt: HostRuntime) -> Result<(), Fail> {
+fn tells_sets_without_far_samples(rt: HostRuntime) -> Result<(), Fault> {
+    let heap = rt.alloc();
+    let (one, five) = (ONE.as_slice(), FIVE.as_slice());
+    tells(&rt, QuantSet::small(heap), true)?;
+    tells(&rt, QuantSet::large(heap), false)?;
+    let fourth = [one, one, one, five, one];
+    tells(&rt, QuantSet::from_runs(heap, &fourth), false)?;
+    let fifth = [one, one, one, one, five];
+    tells(&rt, QuantSet::from_runs(heap, &fifth), false)
+}
+
+/// A set is made, and compared.
+fn compare_made<A: Allocator>(
+    rt: &impl Abort,
+    set: Result<QuantSet<A>, Fault>,
+) -> Result<(), Fault> {
+    let set = set?;
+    compare(rt, &set);
+    Ok(())
+}
+
+#[test]
+fn looks_up_each_difference(rt: HostRuntime) -> Result<(), Fault> {
+    let heap = rt.alloc();
     let (wide, five) = (ELEVEN_WIDE.as_slice(), FIVE.as_slice());
     let (one, all) = (ONE.as_slice(), ALL.as_slice());
-    compare(&rt, &QuantSet::small(rt.alloc())?);
-    compare(&rt, &QuantSet::large(rt.alloc())?);
-    compare(
-        &rt,
-        &QuantSet::from_runs(rt.alloc(), &[wide, wide, five, five, five])?,
-    );
-    compare(
-        &rt,
-        &QuantSet::from_runs(rt.alloc(), &[one, all, one, all, one])?,
-    );
-    Ok(())
+    compare_made(&rt, QuantSet::small(heap))?;
+    compare_made(&rt, QuantSet::large(heap))?;
+    let other = [wide, wide, five, five, five];
+    compare_made(&rt, QuantSet::from_runs(heap, &other))?;
+    let whole = [one, all, one, all, one];
+    compare_made(&rt, QuantSet::from_runs(heap, &whole))
 }
 
 /// The middle one of three.

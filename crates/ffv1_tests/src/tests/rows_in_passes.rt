@@ -1,69 +1,15 @@
-//! Rows of many widths beside the plain path: place by place, neighbours by their coordinates, one
-//! symbol after the other.
+//! Rows of many widths beside the plain path.
 
-ghost use Rattle.std.specs.Prelude.{◌≡◌, ◌+◌, ◌*◌, ◌<◌, ◌≤◌, ◌⊎◌, length, replicate};
+ghost use Rattle.std.specs.Prelude.{◌≡◌, ◌*◌, ◌⊎◌, length, replicate};
 ghost use Rattle.ffv1_plane.specs.Quantisation.{contexts_of};
 ghost use Rattle.ffv1_range.specs.Symbols.{AreHeld, AllHeld};
 
+use super::rows::plain::put_row;
 use ffv1_line::{RollingRows, encode_line};
-use ffv1_plane::{Around, QuantSet, context, predict, residual_of};
+use ffv1_plane::QuantSet;
 use ffv1_range::{Fault, RangeEncoder, StateTable};
 use std::process::Abort;
 use std::test::Fail;
-
-/// The neighbours of a place of a row.
-fn around(two: &[u16], one: &[u16], cur: &[u16], x: usize) -> Around
-    requires inside { x < length cur.now }
-    requires two { length two.now ≡ length cur.now }
-    requires one { length one.now ≡ length cur.now }
-{
-    Around {
-        l: if x == 0 { one[0] } else { cur[x - 1] },
-        t: one[x],
-        tl: if x == 0 { two[0] } else { one[x - 1] },
-        tr: if x + 1 < cur.len() {
-            one[x + 1]
-        } else {
-            one[x]
-        },
-        ll: match x {
-            0 => 0,
-            1 => one[0],
-            _ => cur[x - 2],
-        },
-        tt: two[x],
-    }
-}
-
-/// Puts the residuals of a row, symbol by symbol.
-fn put_row(
-    encoder: &mut RangeEncoder,
-    table: &StateTable,
-    set: &QuantSet,
-    states: &mut [u8],
-    two: &[u16],
-    one: &[u16],
-    cur: &[u16],
-    bits: u8,
-) -> Result<(), Fault>
-    requires bits { (bits ≡ 8) ⊎ (bits ≡ 9) }
-    requires two { length two.now ≡ length cur.now }
-    requires one { length one.now ≡ length cur.now }
-    requires rows { length states.old ≡ contexts_of set.now * 32 }
-    requires held { AllHeld table.now states.old }
-    ensures held { AllHeld table.now states.new }
-{
-    'places: for x in 0..cur.len() {
-        if encoder.has_failed() {
-            return Err(Fault::OutOfMemory);
-        }
-        let around = around(two, one, cur, x);
-        let (size, flip) = context(set, &around);
-        let residual = residual_of(predict(&around), flip, cur[x], bits);
-        encoder.put_signed_in_row(table, states, size as usize, residual)?;
-    }
-    Ok(())
-}
 
 /// Samples of a kind: any, nearly alike, or by leaps of half or all of their range, whose residuals
 /// lie at the ends of theirs. Answers where the next row's numbers begin.

@@ -1,6 +1,7 @@
 //! What `show` writes of files over memory, and its faults. The lines are those of the model, in
 //! `model/known_answers/shown.py`.
 
+use crate::tests::made;
 use ffv1_avi::{AviHead, write_avi};
 use ffv1_engine::{Fault, show};
 use ffv1_plane::QuantSet;
@@ -38,23 +39,7 @@ const COST: &[u8] = b"cost frame 0: ones 11 zeros 0 renormalisations 1\n";
 
 /// Mono pictures of 1 by 1, without parity.
 fn mono<A: Allocator + Copy>(alloc: A) -> Result<Config<A>, RecordFault> {
-    let mut sets = Sets::new(alloc);
-    sets.push(QuantSet::small(alloc)?)?;
-    Ok(Config {
-        width: 1,
-        height: 1,
-        coder: Coder::One,
-        colour: Colour::YCbCr,
-        chroma_planes: false,
-        extra_plane: false,
-        log2_h: 0,
-        log2_v: 0,
-        columns: 1,
-        rows: 1,
-        sets,
-        ec: false,
-        intra: true,
-    })
+    made::mono(alloc, 1, 1, 1, false)
 }
 
 /// A file of such a rate and scale, and of so many of these frames.

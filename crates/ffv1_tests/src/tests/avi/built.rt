@@ -112,16 +112,33 @@ fn file<A: Allocator + Copy>(
     Ok(out)
 }
 
-#[test]
-fn as_ffmpeg_writes(rt: HostRuntime) -> Result<(), Fail> {
-    let mut streams = Vec::new(rt.alloc());
-    stream(rt.alloc(), &mut streams, 2, b"abc\0")?;
-    stream(rt.alloc(), &mut streams, 3, b"other")?;
-    let mut movi = Vec::new(rt.alloc());
+/// Two streams, as FFmpeg writes them.
+fn two_streams<A: Allocator + Copy>(alloc: A) -> Result<Vec<u8, A>, AllocError> {
+    let mut streams = Vec::new(alloc);
+    stream(alloc, &mut streams, 2, b"abc\0")?;
+    stream(alloc, &mut streams, 3, b"other")?;
+    Ok(streams)
+}
+
+/// Two frames, and an index between them.
+fn two_frames<A: Allocator>(alloc: A) -> Result<Vec<u8, A>, AllocError> {
+    let mut movi = Vec::new(alloc);
     chunk(&mut movi, b"00dc", b"hello")?;
     chunk(&mut movi, b"ix00", b"index")?;
     chunk(&mut movi, b"00dc", b"frames")?;
-    let file = file(rt.alloc(), streams.as_slice(), movi.as_slice())?;
+    Ok(movi)
+}
+
+/// A file of the two streams and the two frames.
+fn file_of_two<A: Allocator + Copy>(alloc: A) -> Result<Vec<u8, A>, AllocError> {
+    let streams = two_streams(alloc)?;
+    let movi = two_frames(alloc)?;
+    file(alloc, streams.as_slice(), movi.as_slice())
+}
+
+#[test]
+fn as_ffmpeg_writes(rt: HostRuntime) -> Result<(), Fail> {
+    let file = file_of_two(rt.alloc())?;
     let mut input = FromRead::new(file.as_slice());
     let mut reader = AviReader::open(rt.alloc(), &mut input)?;
     assert_eq!(rt; (reader.head().width, reader.head().rate), (2, 25));
@@ -148,46 +165,74 @@ fn answer<A: Allocator + Copy>(alloc: A, streams: &[u8]) -> Result<AviFault, All
     }
 }
 
+/// A stream's list of these chunks.
+fn stream_of<A: Allocator + Copy>(alloc: A, chunks: &[u8]) -> Result<Vec<u8, A>, AllocError> {
+    let mut streams = Vec::new(alloc);
+    list(alloc, &mut streams, b"LIST", b"strl", chunks)?;
+    Ok(streams)
+}
+
+/// A stream's header with such a scale, and behind it these bytes as its format, where there are
+/// some.
+fn chunks_of<A: Allocator + Copy>(
+    alloc: A,
+    scale: u8,
+    format: &[u8],
+) -> Result<Vec<u8, A>, AllocError> {
+    let mut chunks = Vec::new(alloc);
+    chunk(&mut chunks, b"strh", &header(b"vids", 25, scale))?;
+    if !format.is_empty() {
+        chunk(&mut chunks, b"strf", format)?;
+    }
+    Ok(chunks)
+}
+
+/// A first stream of scale 0 without a format, and another one.
+fn without_format<A: Allocator + Copy>(alloc: A) -> Result<AviFault, AllocError> {
+    let first = chunks_of(alloc, 0, b"")?;
+    let mut streams = stream_of(alloc, first.as_slice())?;
+    stream(alloc, &mut streams, 3, b"other")?;
+    answer(alloc, streams.as_slice())
+}
+
+/// A stream of such a scale, with the first bytes of a format.
+fn with_format<A: Allocator + Copy>(
+    alloc: A,
+    scale: u8,
+    len: usize,
+) -> Result<AviFault, AllocError> {
+    let mut bytes = format(alloc, 2, b"")?;
+    bytes.truncate(len);
+    let first = chunks_of(alloc, scale, bytes.as_slice())?;
+    let streams = stream_of(alloc, first.as_slice())?;
+    answer(alloc, streams.as_slice())
+}
+
+/// A stream, behind it another list, and behind that these bytes.
+fn behind_list<A: Allocator + Copy>(alloc: A, behind: &[u8]) -> Result<AviFault, AllocError> {
+    let mut streams = Vec::new(alloc);
+    stream(alloc, &mut streams, 2, b"abc\0")?;
+    let chunks = b"dmlh\x04\x00\x00\x00\x01\x00\x00\x00";
+    list(alloc, &mut streams, b"LIST", b"odml", chunks)?;
+    streams.extend_from_slice(behind)?;
+    answer(alloc, streams.as_slice())
+}
+
 #[test]
 fn other_streams(rt: HostRuntime) -> Result<(), Fail> {
     assert!(rt; answer(rt.alloc(), b"")? == AviFault::NoFfv1);
-    let mut first = Vec::new(rt.alloc());
-    chunk(&mut first, b"strh", &header(b"vids", 25, 0))?;
-    let mut streams = Vec::new(rt.alloc());
-    list(rt.alloc(), &mut streams, b"LIST", b"strl", first.as_slice())?;
-    stream(rt.alloc(), &mut streams, 3, b"other")?;
     // no format: judged before the scale that is zero alone
-    assert!(rt; answer(rt.alloc(), streams.as_slice())? == AviFault::NoFfv1);
-    chunk(&mut first, b"strf", format(rt.alloc(), 2, b"")?.as_slice())?;
-    streams.clear();
-    list(rt.alloc(), &mut streams, b"LIST", b"strl", first.as_slice())?;
-    assert!(rt; answer(rt.alloc(), streams.as_slice())? == AviFault::NotAvi);
+    assert!(rt; without_format(rt.alloc())? == AviFault::NoFfv1);
+    assert!(rt; with_format(rt.alloc(), 0, 40)? == AviFault::NotAvi);
     // a leftover of the list, not the start of movi
-    streams.clear();
-    stream(rt.alloc(), &mut streams, 2, b"abc\0")?;
-    list(
-        rt.alloc(),
-        &mut streams,
-        b"LIST",
-        b"odml",
-        b"dmlh\x04\x00\x00\x00\x01\x00\x00\x00",
-    )?;
-    assert!(rt; answer(rt.alloc(), streams.as_slice())? == AviFault::Write);
-    streams.push(0)?;
-    assert!(rt; answer(rt.alloc(), streams.as_slice())? == AviFault::Truncated);
+    assert!(rt; behind_list(rt.alloc(), b"")? == AviFault::Write);
+    assert!(rt; behind_list(rt.alloc(), b"\0")? == AviFault::Truncated);
     Ok(())
 }
 
 #[test]
 fn short_format(rt: HostRuntime) -> Result<(), Fail> {
-    let mut first = Vec::new(rt.alloc());
-    chunk(&mut first, b"strh", &header(b"vids", 25, 1))?;
-    let mut bytes = format(rt.alloc(), 2, b"")?;
-    bytes.truncate(39);
-    chunk(&mut first, b"strf", bytes.as_slice())?;
-    let mut streams = Vec::new(rt.alloc());
-    list(rt.alloc(), &mut streams, b"LIST", b"strl", first.as_slice())?;
-    assert!(rt; answer(rt.alloc(), streams.as_slice())? == AviFault::NoFfv1);
+    assert!(rt; with_format(rt.alloc(), 1, 39)? == AviFault::NoFfv1);
     Ok(())
 }
 

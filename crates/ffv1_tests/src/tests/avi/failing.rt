@@ -1,6 +1,9 @@
 //! Reads that fail, and writers with little room.
 
+ghost use Rattle.std.specs.Prelude.{◌<◌, ◌≤◌};
+
 use super::example::EXAMPLE;
+use super::files::{example_frames, example_head};
 use super::large::file_of;
 use ffv1_avi::{AviFault, AviHead, AviReader, write_avi};
 use ffv1_doubles::{FailingReader, ShortWriter};
@@ -90,30 +93,39 @@ fn failing_in_a_frame(rt: HostRuntime) -> Result<(), Fail> {
     Ok(())
 }
 
+/// Writes the example where there is room for so many bytes, which it then is to begin with. Also
+/// the failures.
+fn write_short(
+    rt: &HostRuntime,
+    head: &AviHead,
+    frames: &[Vec<u8>],
+    room: usize,
+) -> Result<(Result<(), AviFault>, u64), Fail>
+    requires width { head.now.width ≤ 8192 }
+    requires height { head.now.height ≤ 8192 }
+    requires room { room < 299 }
+{
+    let mut out = ToWrite::new(ShortWriter::new(rt.alloc(), room, 298, None));
+    let answer = write_avi(&mut out, head, frames);
+    let failures = out.failures();
+    if out.into_inner().held() != &EXAMPLE[..room] {
+        return Err(Fail::new("other bytes"));
+    }
+    Ok((answer, failures))
+}
+
 #[test]
 fn short_writes(rt: HostRuntime) -> Result<(), Fail> {
-    let head = AviHead {
-        width: 352,
-        height: 288,
-        rate: 25,
-        scale: 1,
-        config_record: EXAMPLE[212..272].to_vec(rt.alloc())?,
-    };
-    let mut frames = Vec::new(rt.alloc());
-    frames.push(b"\xFE\x7B\x00\x00\x02".to_vec(rt.alloc())?)?;
+    let head = example_head(&rt)?;
+    let frames = example_frames(&rt)?;
     for room in 0..299usize {
-        let mut out = ToWrite::new(ShortWriter::new(rt.alloc(), room, 298, None));
-        let answer = write_avi(&mut out, &head, frames.as_slice());
-        assert_eq!(rt; out.failures() == 0, room == 298);
-        assert!(rt;
-            answer
-                == if room == 298 {
-                    Ok(())
-                } else {
-                    Err(AviFault::Write)
-                }
-        );
-        assert_eq!(rt; out.into_inner().held(), &EXAMPLE[..room]);
+        let (answer, failures) = write_short(&rt, &head, frames.as_slice(), room)?;
+        assert_eq!(rt; failures == 0, room == 298);
+        if room == 298 {
+            assert!(rt; answer == Ok(()));
+        } else {
+            assert!(rt; answer == Err(AviFault::Write));
+        }
     }
     Ok(())
 }

@@ -1,6 +1,6 @@
 //! A file of one frame, and what others of it say.
 
-ghost use Rattle.std.specs.Prelude.{◌≡◌, ◌+◌, ◌<◌, ◌≤◌, length};
+ghost use Rattle.std.specs.Prelude.{◌≡◌, ◌+◌, ◌<◌, ◌≤◌, IfOk, length};
 
 use super::example::EXAMPLE;
 use ffv1_avi::{AviFault, AviHead, AviReader, write_avi};
@@ -32,24 +32,47 @@ fn changed(at: usize, bytes: [u8; 4]) -> [u8; 298]
     file
 }
 
-#[test]
-fn written(rt: HostRuntime) -> Result<(), Fail> {
+/// The head of the example.
+pub(super) fn example_head(rt: &HostRuntime) -> Result<AviHead, Fail>
+    ensures width { IfOk result (λ h. h.width ≡ 352) }
+    ensures height { IfOk result (λ h. h.height ≡ 288) }
+{
     let mut record = Vec::new(rt.alloc());
     for byte in 1..61u8 {
         record.push(byte)?;
     }
-    let head = AviHead {
+    Ok(AviHead {
         width: 352,
         height: 288,
         rate: 25,
         scale: 1,
         config_record: record,
-    };
+    })
+}
+
+/// Its one frame.
+pub(super) fn example_frames(rt: &HostRuntime) -> Result<Vec<Vec<u8>>, Fail> {
     let mut frames = Vec::new(rt.alloc());
     frames.push(b"\xFE\x7B\x00\x00\x02".to_vec(rt.alloc())?)?;
+    Ok(frames)
+}
+
+/// The file of a head and of frames.
+fn file_of(rt: &HostRuntime, head: &AviHead, frames: &[Vec<u8>]) -> Result<Vec<u8>, AviFault>
+    requires width { head.now.width ≤ 8192 }
+    requires height { head.now.height ≤ 8192 }
+{
     let mut out = ToWrite::new(Vec::new(rt.alloc()));
-    assert!(rt; write_avi(&mut out, &head, frames.as_slice()).is_ok());
-    assert_eq!(rt; out.into_inner().as_slice(), EXAMPLE.as_slice());
+    write_avi(&mut out, head, frames)?;
+    Ok(out.into_inner())
+}
+
+#[test]
+fn written(rt: HostRuntime) -> Result<(), Fail> {
+    let head = example_head(&rt)?;
+    let frames = example_frames(&rt)?;
+    let file = file_of(&rt, &head, frames.as_slice())?;
+    assert_eq!(rt; file.as_slice(), EXAMPLE.as_slice());
     Ok(())
 }
 

@@ -1,31 +1,59 @@
 //! Memory that is refused to the reader of AVI, at each request, and how much it asks for.
 
+ghost use Rattle.std.specs.Prelude.{◌≡◌, ◌≤◌, IfOk};
+
 use ffv1_avi::{AviFault, AviHead, AviReader, write_avi};
 use ffv1_doubles::Scarce;
 use ffv1_wire::{FromRead, ToWrite};
 use std::alloc::Allocator;
 use std::test::Fail;
 
-/// A file of one frame of so many bytes.
-fn file_of<A: Allocator + Copy>(alloc: A, len: usize) -> Result<Vec<u8, A>, AviFault> {
+/// The head of a file.
+fn head_of<A: Allocator>(alloc: A) -> Result<AviHead<A>, AviFault>
+    ensures width { IfOk result (λ h. h.width ≡ 2) }
+    ensures height { IfOk result (λ h. h.height ≡ 2) }
+{
     let mut record = Vec::new(alloc);
     record.resize(60, 1)?;
-    let head = AviHead {
+    Ok(AviHead {
         width: 2,
         height: 2,
         rate: 25,
         scale: 1,
         config_record: record,
-    };
+    })
+}
+
+/// One frame of so many bytes.
+fn frames_of<A: Allocator + Copy>(alloc: A, len: usize) -> Result<Vec<Vec<u8, A>, A>, AviFault> {
     let mut frame = Vec::new(alloc);
     frame.resize(len, 7)?;
     let mut frames = Vec::new(alloc);
     if frames.push(frame).is_err() {
         return Err(AviFault::OutOfMemory);
     }
+    Ok(frames)
+}
+
+/// The file of a head and of frames.
+fn written<A: Allocator + Copy>(
+    alloc: A,
+    head: &AviHead<A>,
+    frames: &[Vec<u8, A>],
+) -> Result<Vec<u8, A>, AviFault>
+    requires width { head.now.width ≤ 8192 }
+    requires height { head.now.height ≤ 8192 }
+{
     let mut out = ToWrite::new(Vec::new(alloc));
-    write_avi(&mut out, &head, frames.as_slice())?;
+    write_avi(&mut out, head, frames)?;
     Ok(out.into_inner())
+}
+
+/// A file of one frame of so many bytes.
+fn file_of<A: Allocator + Copy>(alloc: A, len: usize) -> Result<Vec<u8, A>, AviFault> {
+    let head = head_of(alloc)?;
+    let frames = frames_of(alloc, len)?;
+    written(alloc, &head, frames.as_slice())
 }
 
 /// What the first frame is read as, how many bytes the vector then holds, and what is read next,

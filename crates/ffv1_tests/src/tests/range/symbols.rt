@@ -1,10 +1,12 @@
 //! Symbols.
 
-ghost use Rattle.std.specs.Prelude.{replicate, ◌<◌};
+ghost use Rattle.std.specs.Prelude.{◌^◌, ◌<◌, replicate, unsigned_abs};
 ghost use Rattle.ffv1_range.specs.Symbols.{AreHeld};
 
 use super::made::put_at;
 use ffv1_range::{Fault, RangeDecoder, RangeEncoder, StateTable};
+use std::alloc::Global;
+use std::process::Abort;
 use std::test::Fail;
 
 #[test]
@@ -21,87 +23,138 @@ fn there_and_back(rt: HostRuntime) -> Result<(), Fail> {
     Ok(())
 }
 
+/// The symbol of a number has this code by the sentinel ending, and so many decisions, of which so
+/// many are 1.
+fn codes(
+    rt: &impl Abort,
+    alloc: Global,
+    value: i32,
+    code: &[u8],
+    decisions: u64,
+    ones: u64,
+) -> Result<(), Fail>
+    requires size { unsigned_abs value < 2 ^ 31 }
+{
+    let table = StateTable::standard();
+    let mut states = [128; 32];
+    let mut encoder = RangeEncoder::new(alloc);
+    encoder.put_signed(&table, &mut states, value)?;
+    assert_eq!(rt; encoder.decisions(), decisions);
+    assert_eq!(rt; encoder.tally().ones, ones);
+    assert_eq!(rt; encoder.finish_sentinel()?.as_slice(), code);
+    Ok(())
+}
+
+/// Such a code is read as the number, by states of its own and by those of a row.
+fn reads(rt: &impl Abort, code: &[u8], value: i32, decisions: u64, ones: u64) -> Result<(), Fault> {
+    let table = StateTable::standard();
+    let (mut fresh, mut rows) = ([128; 32], [128; 64]);
+    let mut decoder = RangeDecoder::new(code)?;
+    let mut copy = decoder.clone().unwrap();
+    assert!(rt; copy.get_signed(&table, &mut fresh) == Ok(value));
+    assert_eq!(rt; copy.taken(), decisions);
+    assert_eq!(rt; copy.tally().ones, ones);
+    assert!(rt; decoder.get_signed_in_row(&table, &mut rows, 1) == Ok(value));
+    Ok(())
+}
+
+/// Both.
+fn codes_and_reads(
+    rt: &impl Abort,
+    alloc: Global,
+    value: i32,
+    code: &[u8],
+    decisions: u64,
+    ones: u64,
+) -> Result<(), Fail>
+    requires size { unsigned_abs value < 2 ^ 31 }
+{
+    codes(rt, alloc, value, code, decisions, ones)?;
+    reads(rt, code, value, decisions, ones)?;
+    Ok(())
+}
+
 #[test]
 fn signed(rt: HostRuntime) -> Result<(), Fail> {
+    let heap = rt.alloc();
+    codes_and_reads(&rt, heap, 0, &[0x80], 1, 1)?;
+    codes_and_reads(&rt, heap, -1, &[0x20], 3, 1)?;
+    codes_and_reads(&rt, heap, 4, &[0x5f, 0xa0], 7, 2)?;
+    codes_and_reads(&rt, heap, -128, &[0x7e, 0x81, 0x80], 17, 8)?;
+    let long = [0x7f, 0x7f, 0xfb, 0x49, 0x00, 0x00];
+    codes_and_reads(&rt, heap, 1_073_741_824, &long, 63, 30)
+}
+
+/// The symbol of a number, by the second row of some states, has this code by the full ending.
+fn codes_in_full(rt: &impl Abort, alloc: Global, value: i32, code: &[u8]) -> Result<(), Fail>
+    requires size { unsigned_abs value < 2 ^ 31 }
+{
     let table = StateTable::standard();
-    for (value, code, decisions, ones) in [
-        (0, [0x80].as_slice(), 1u64, 1u64),
-        (-1, [0x20].as_slice(), 3, 1),
-        (4, [0x5f, 0xa0].as_slice(), 7, 2),
-        (-128, [0x7e, 0x81, 0x80].as_slice(), 17, 8),
-        (
-            1_073_741_824,
-            [0x7f, 0x7f, 0xfb, 0x49, 0x00, 0x00].as_slice(),
-            63,
-            30,
-        ),
-    ] {
-        let mut states = [128; 32];
-        let mut encoder = RangeEncoder::new(rt.alloc());
-        encoder
-            .put_signed(&table, &mut states, value)
-            .expect(&rt, "memory");
-        assert_eq!(rt; encoder.decisions(), decisions);
-        assert_eq!(rt; encoder.tally().ones, ones);
-        let bytes = encoder.finish_sentinel().expect(&rt, "memory");
-        assert_eq!(rt; bytes.as_slice(), code);
-        let mut fresh = [128; 32];
-        let mut decoder = RangeDecoder::new(&bytes).expect(&rt, "a good start");
-        let mut copy = decoder.clone().unwrap();
-        assert!(rt; copy.get_signed(&table, &mut fresh) == Ok(value));
-        assert_eq!(rt; copy.taken(), decisions);
-        assert_eq!(rt; copy.tally().ones, ones);
-        let mut rows = [128; 64];
-        assert!(rt; decoder.get_signed_in_row(&table, &mut rows, 1) == Ok(value));
-    }
+    let mut states = [128; 64];
+    let mut encoder = RangeEncoder::new(alloc);
+    encoder.put_signed_in_row(&table, &mut states, 1, value)?;
+    assert_eq!(rt; encoder.finish_full()?.as_slice(), code);
     Ok(())
 }
 
 #[test]
 fn signed_in_full(rt: HostRuntime) -> Result<(), Fail> {
+    let heap = rt.alloc();
+    codes_in_full(&rt, heap, -1, &[0x1f, 0xe0])?;
+    codes_in_full(&rt, heap, 1, &[0x00, 0x00])?;
+    let long = [0x7f, 0x7f, 0xfc, 0x18, 0xff, 0xfc, 0x28];
+    codes_in_full(&rt, heap, -2_147_483_647, &long)
+}
+
+/// The symbol of a number without a sign has this code by the sentinel ending, and so many
+/// decisions, of which so many are 1.
+fn codes_unsigned(
+    rt: &impl Abort,
+    alloc: Global,
+    number: u32,
+    code: &[u8],
+    decisions: u64,
+    ones: u64,
+) -> Result<(), Fail>
+    requires size { number < 2 ^ 31 }
+{
     let table = StateTable::standard();
-    for (value, code) in [
-        (-1, [0x1f, 0xe0].as_slice()),
-        (1, [0x00, 0x00].as_slice()),
-        (
-            -2_147_483_647,
-            [0x7f, 0x7f, 0xfc, 0x18, 0xff, 0xfc, 0x28].as_slice(),
-        ),
-    ] {
-        let mut states = [128; 64];
-        let mut encoder = RangeEncoder::new(rt.alloc());
-        encoder
-            .put_signed_in_row(&table, &mut states, 1, value)
-            .expect(&rt, "memory");
-        let bytes = encoder.finish_full().expect(&rt, "memory");
-        assert_eq!(rt; bytes.as_slice(), code);
-    }
+    let mut states = [128; 32];
+    let mut encoder = RangeEncoder::new(alloc);
+    encoder.put_unsigned(&table, &mut states, number)?;
+    assert_eq!(rt; encoder.decisions(), decisions);
+    assert_eq!(rt; encoder.tally().ones, ones);
+    assert_eq!(rt; encoder.finish_sentinel()?.as_slice(), code);
+    Ok(())
+}
+
+/// Such a code is read as the number.
+fn reads_unsigned(
+    rt: &impl Abort,
+    code: &[u8],
+    number: u32,
+    decisions: u64,
+    ones: u64,
+) -> Result<(), Fault> {
+    let table = StateTable::standard();
+    let mut fresh = [128; 32];
+    let mut decoder = RangeDecoder::new(code)?;
+    assert!(rt; decoder.get_unsigned(&table, &mut fresh) == Ok(number));
+    assert_eq!(rt; decoder.taken(), decisions);
+    assert_eq!(rt; decoder.tally().ones, ones);
     Ok(())
 }
 
 #[test]
 fn unsigned(rt: HostRuntime) -> Result<(), Fail> {
-    let table = StateTable::standard();
-    for (number, code, decisions, ones) in [
-        (0, [0x80].as_slice(), 1u64, 1u64),
-        (5, [0x64].as_slice(), 6, 3),
-        (1_000_000, [0x7f, 0x7f, 0xbd, 0x5b, 0x00].as_slice(), 40, 25),
-    ] {
-        let mut states = [128; 32];
-        let mut encoder = RangeEncoder::new(rt.alloc());
-        encoder
-            .put_unsigned(&table, &mut states, number)
-            .expect(&rt, "memory");
-        assert_eq!(rt; encoder.decisions(), decisions);
-        assert_eq!(rt; encoder.tally().ones, ones);
-        let bytes = encoder.finish_sentinel().expect(&rt, "memory");
-        assert_eq!(rt; bytes.as_slice(), code);
-        let mut fresh = [128; 32];
-        let mut decoder = RangeDecoder::new(&bytes).expect(&rt, "a good start");
-        assert!(rt; decoder.get_unsigned(&table, &mut fresh) == Ok(number));
-        assert_eq!(rt; decoder.taken(), decisions);
-        assert_eq!(rt; decoder.tally().ones, ones);
-    }
+    let heap = rt.alloc();
+    codes_unsigned(&rt, heap, 0, &[0x80], 1, 1)?;
+    reads_unsigned(&rt, &[0x80], 0, 1, 1)?;
+    codes_unsigned(&rt, heap, 5, &[0x64], 6, 3)?;
+    reads_unsigned(&rt, &[0x64], 5, 6, 3)?;
+    let long = [0x7f, 0x7f, 0xbd, 0x5b, 0x00];
+    codes_unsigned(&rt, heap, 1_000_000, &long, 40, 25)?;
+    reads_unsigned(&rt, &long, 1_000_000, 40, 25)?;
     Ok(())
 }
 

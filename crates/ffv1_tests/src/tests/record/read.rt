@@ -140,11 +140,17 @@ fn chroma_and_transparency(rt: HostRuntime) -> Result<(), Fail> {
 }
 
 #[test]
-fn sets_and_flags(rt: HostRuntime) -> Result<(), Fail> {
+fn sets(rt: HostRuntime) -> Result<(), Fail> {
     let heap = rt.alloc();
     meets(&rt, heap, Made { count: 0, ..MONO }, 1, RecordFault::Sets)?;
     meets(&rt, heap, Made { count: 9, ..MONO }, 1, RecordFault::Sets)?;
     meets(&rt, heap, Made { run: 128, ..MONO }, 1, RecordFault::Runs)?;
+    Ok(())
+}
+
+#[test]
+fn flags(rt: HostRuntime) -> Result<(), Fail> {
+    let heap = rt.alloc();
     meets(
         &rt,
         heap,
@@ -238,17 +244,27 @@ fn starts_badly(rt: HostRuntime) -> Result<(), Fail> {
     Ok(())
 }
 
+/// The record of what a record is read as.
+fn written_again(alloc: Global, record: &[u8]) -> Result<Vec<u8>, Fail> {
+    let checked = read_record(alloc, record, 1, 1)?;
+    let again = write_record(alloc, &checked)?;
+    Ok(again)
+}
+
 #[test]
-fn eight_bits_and_a_byte_behind(rt: HostRuntime) -> Result<(), Fail> {
-    let heap = rt.alloc();
-    let eight = made_record(heap, MONO)?.0;
-    let none = made_record(heap, Made { bits: 0, ..MONO })?.0;
-    let checked = read_record(heap, &none, 1, 1)?;
-    let again = write_record(heap, &checked)?;
+fn eight_bits(rt: HostRuntime) -> Result<(), Fail> {
+    let none = made_record(rt.alloc(), Made { bits: 0, ..MONO })?.0;
+    let again = written_again(rt.alloc(), &none)?;
+    let eight = made_record(rt.alloc(), MONO)?.0;
     assert!(rt; again == eight);
-    let mut padded = eight;
-    padded.push(0)?;
-    let checked = read_record(heap, &padded, 1, 1)?;
+    Ok(())
+}
+
+#[test]
+fn a_byte_behind(rt: HostRuntime) -> Result<(), Fail> {
+    let mut record = made_record(rt.alloc(), MONO)?.0;
+    record.push(0)?;
+    let checked = read_record(rt.alloc(), &record, 1, 1)?;
     assert!(rt; checked.config().intra);
     Ok(())
 }

@@ -3,39 +3,55 @@
 use super::made::mono;
 use ffv1_record::Checked;
 use ffv1_slice::{CutFault, SliceFault, Spans, cut};
+use std::alloc::Global;
 use std::process::Abort;
 use std::test::Fail;
 
-/// The first two spans of a payload, by spans that were full before, and what they are afterwards.
-fn spans_of(
-    rt: &HostRuntime,
-    checked: &Checked,
-    payload: &[u8],
-) -> Result<
-    (
-        Result<(), CutFault>,
-        Option<(usize, usize)>,
-        Option<(usize, usize)>,
-    ),
-    Fail,
-> {
-    let mut spans = Spans::new(rt.alloc())?;
-    let one = mono(rt.alloc(), 1, 1, 1, false)?;
-    cut(&one, &[1, 2, 3, 0, 0, 3], &mut spans)?;
-    let result = cut(checked, payload, &mut spans);
-    Ok((result, spans.span(0), spans.span(1)))
-}
-
-/// A refusal, behind which there are no spans.
-fn refusal(
-    fault: SliceFault,
-    slice: u16,
-) -> (
+/// The answer of a cut, and the first two spans behind it.
+type Spanned = (
     Result<(), CutFault>,
     Option<(usize, usize)>,
     Option<(usize, usize)>,
-) {
-    (Err(CutFault { fault, slice }), None, None)
+);
+
+/// Spans that are full, of another payload.
+fn full_spans(alloc: Global) -> Result<Spans, Fail> {
+    let mut spans = Spans::new(alloc)?;
+    let one = mono(alloc, 1, 1, 1, false)?;
+    cut(&one, &[1, 2, 3, 0, 0, 3], &mut spans)?;
+    Ok(spans)
+}
+
+/// The first two spans of a payload, by spans that were full before, are these.
+fn gives(
+    rt: &impl Abort,
+    alloc: Global,
+    checked: &Checked,
+    payload: &[u8],
+    spanned: Spanned,
+) -> Result<(), Fail> {
+    let mut spans = full_spans(alloc)?;
+    let answer = cut(checked, payload, &mut spans);
+    assert!(rt; (answer, spans.span(0), spans.span(1)) == spanned);
+    Ok(())
+}
+
+/// A payload is refused so, and there are no spans behind it.
+fn refuses(
+    rt: &impl Abort,
+    alloc: Global,
+    checked: &Checked,
+    payload: &[u8],
+    fault: SliceFault,
+    slice: u16,
+) -> Result<(), Fail> {
+    gives(
+        rt,
+        alloc,
+        checked,
+        payload,
+        (Err(CutFault { fault, slice }), None, None),
+    )
 }
 
 #[test]
@@ -49,56 +65,102 @@ fn example(rt: HostRuntime) -> Result<(), Fail> {
     Ok(())
 }
 
+/// Payloads of one slice that are refused.
+fn refuses_one(rt: &impl Abort, alloc: Global, one: &Checked) -> Result<(), Fail> {
+    refuses(rt, alloc, one, &[0xfe, 0x7b, 0, 0], SliceFault::Footer, 0)?;
+    refuses(rt, alloc, one, &[], SliceFault::Footer, 0)?;
+    refuses(
+        rt,
+        alloc,
+        one,
+        &[0xfe, 0x7b, 0, 0, 3],
+        SliceFault::Footer,
+        0,
+    )?;
+    refuses(
+        rt,
+        alloc,
+        one,
+        &[0, 0xfe, 0x7b, 0, 0, 2],
+        SliceFault::Leftover,
+        0,
+    )
+}
+
 #[test]
 fn one_slice(rt: HostRuntime) -> Result<(), Fail> {
     let one = mono(rt.alloc(), 1, 1, 1, false)?;
-    let footer = refusal(SliceFault::Footer, 0);
-    assert!(rt; spans_of(&rt, &one, &[0xfe, 0x7b, 0, 0])? == footer);
-    assert!(rt; spans_of(&rt, &one, &[])? == footer);
-    assert!(rt; spans_of(&rt, &one, &[0xfe, 0x7b, 0, 0, 3])? == footer);
-    let leftover = refusal(SliceFault::Leftover, 0);
-    assert!(rt; spans_of(&rt, &one, &[0, 0xfe, 0x7b, 0, 0, 2])? == leftover);
-    Ok(())
+    refuses_one(&rt, rt.alloc(), &one)
+}
+
+/// Payloads of two slices, and those that are refused.
+fn parts_two(rt: &impl Abort, alloc: Global, two: &Checked) -> Result<(), Fail> {
+    let payload = [0xfe, 0x7b, 0, 0, 2, 0x3f, 0x76, 0, 0, 2];
+    gives(
+        rt,
+        alloc,
+        two,
+        &payload,
+        (Ok(()), Some((0, 2)), Some((5, 7))),
+    )?;
+    let empty = [0, 0, 0, 9, 0, 0, 1];
+    gives(rt, alloc, two, &empty, (Ok(()), Some((0, 0)), Some((3, 4))))?;
+    refuses(rt, alloc, two, &[9, 0, 0, 1], SliceFault::Footer, 0)?;
+    refuses(rt, alloc, two, &[9, 0, 0, 2], SliceFault::Footer, 1)
 }
 
 #[test]
 fn two_slices(rt: HostRuntime) -> Result<(), Fail> {
     let two = mono(rt.alloc(), 2, 1, 2, false)?;
-    let payload = [0xfe, 0x7b, 0, 0, 2, 0x3f, 0x76, 0, 0, 2];
-    assert!(rt; spans_of(&rt, &two, &payload)? == (Ok(()), Some((0, 2)), Some((5, 7))));
-    let empty = [0, 0, 0, 9, 0, 0, 1];
-    assert!(rt; spans_of(&rt, &two, &empty)? == (Ok(()), Some((0, 0)), Some((3, 4))));
-    assert!(rt; spans_of(&rt, &two, &[9, 0, 0, 1])? == refusal(SliceFault::Footer, 0));
-    assert!(rt; spans_of(&rt, &two, &[9, 0, 0, 2])? == refusal(SliceFault::Footer, 1));
-    Ok(())
+    parts_two(&rt, rt.alloc(), &two)
+}
+
+/// One slice with parity: whole, with another parity, and with a status.
+fn checks_parity(rt: &impl Abort, alloc: Global, one: &Checked) -> Result<(), Fail> {
+    let good = [0xfe, 0x7b, 0, 0, 2, 0, 0x94, 0x8c, 0x13, 0x3c];
+    gives(rt, alloc, one, &good, (Ok(()), Some((0, 2)), None))?;
+    let parity = [0xfe, 0x7b, 0, 0, 2, 0, 0x94, 0x8c, 0x13, 0x3d];
+    refuses(rt, alloc, one, &parity, SliceFault::SliceParity, 0)?;
+    let status = [0xfe, 0x7b, 0, 0, 2, 1, 0x90, 0x4d, 0x0e, 0x8b];
+    refuses(rt, alloc, one, &status, SliceFault::SliceStatus, 0)
 }
 
 #[test]
 fn parities(rt: HostRuntime) -> Result<(), Fail> {
     let one = mono(rt.alloc(), 1, 1, 1, true)?;
-    let good = [0xfe, 0x7b, 0, 0, 2, 0, 0x94, 0x8c, 0x13, 0x3c];
-    assert!(rt; spans_of(&rt, &one, &good)? == (Ok(()), Some((0, 2)), None));
-    let parity = [0xfe, 0x7b, 0, 0, 2, 0, 0x94, 0x8c, 0x13, 0x3d];
-    assert!(rt; spans_of(&rt, &one, &parity)? == refusal(SliceFault::SliceParity, 0));
-    let status = [0xfe, 0x7b, 0, 0, 2, 1, 0x90, 0x4d, 0x0e, 0x8b];
-    assert!(rt; spans_of(&rt, &one, &status)? == refusal(SliceFault::SliceStatus, 0));
-    Ok(())
+    checks_parity(&rt, rt.alloc(), &one)
+}
+
+/// Of two damaged slices the first one is told.
+fn tells_the_first(rt: &impl Abort, alloc: Global, two: &Checked) -> Result<(), Fail> {
+    let status_then_parity = [
+        0xfe, 0x7b, 0, 0, 2, 1, 0x90, 0x4d, 0x0e, 0x8b, 0xfe, 0x7b, 0, 0, 2, 0, 0x94, 0x8c, 0x13,
+        0x3d,
+    ];
+    refuses(
+        rt,
+        alloc,
+        two,
+        &status_then_parity,
+        SliceFault::SliceStatus,
+        0,
+    )?;
+    let parity_then_status = [
+        0xfe, 0x7b, 0, 0, 2, 0, 0x94, 0x8c, 0x13, 0x3d, 0xfe, 0x7b, 0, 0, 2, 1, 0x90, 0x4d, 0x0e,
+        0x8b,
+    ];
+    refuses(
+        rt,
+        alloc,
+        two,
+        &parity_then_status,
+        SliceFault::SliceParity,
+        0,
+    )
 }
 
 #[test]
 fn the_first_damaged(rt: HostRuntime) -> Result<(), Fail> {
     let two = mono(rt.alloc(), 2, 1, 2, true)?;
-    let status_then_parity = [
-        0xfe, 0x7b, 0, 0, 2, 1, 0x90, 0x4d, 0x0e, 0x8b, 0xfe, 0x7b, 0, 0, 2, 0, 0x94, 0x8c, 0x13,
-        0x3d,
-    ];
-    let answer = spans_of(&rt, &two, &status_then_parity)?;
-    assert!(rt; answer == refusal(SliceFault::SliceStatus, 0));
-    let parity_then_status = [
-        0xfe, 0x7b, 0, 0, 2, 0, 0x94, 0x8c, 0x13, 0x3d, 0xfe, 0x7b, 0, 0, 2, 1, 0x90, 0x4d, 0x0e,
-        0x8b,
-    ];
-    let answer = spans_of(&rt, &two, &parity_then_status)?;
-    assert!(rt; answer == refusal(SliceFault::SliceParity, 0));
-    Ok(())
+    tells_the_first(&rt, rt.alloc(), &two)
 }

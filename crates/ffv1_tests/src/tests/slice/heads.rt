@@ -66,58 +66,124 @@ fn answer(
     head_of(bytes.as_slice(), checked, 0)
 }
 
+/// A head is answered so, behind so many decisions.
+fn answers(
+    rt: &impl Abort,
+    bytes: &[u8],
+    checked: &Checked,
+    number: u32,
+    head: Result<SliceHead, SliceFault>,
+    decisions: u64,
+) -> Result<(), Fail>
+    requires { IsSlice checked.now number }
+{
+    let (found, taken) = head_of(bytes, checked, number)?;
+    assert!(rt; found == head);
+    assert_eq!(rt; taken, decisions);
+    Ok(())
+}
+
+/// The heads of two slices, each in its own place and in that of the other.
+fn two_heads(rt: &impl Abort, two: &Checked) -> Result<(), Fail>
+    requires first { IsSlice two.now 0 }
+    requires second { IsSlice two.now 1 }
+{
+    let (first, second) = ([0xfe, 0x7b], [0x3f, 0x76]);
+    answers(rt, &first, two, 0, Ok(plain()), 10)?;
+    answers(rt, &second, two, 1, Ok(plain()), 10)?;
+    answers(rt, &second, two, 0, Err(SliceFault::NotKey), 1)?;
+    answers(rt, &first, two, 1, Err(SliceFault::Place), 1)
+}
+
 #[test]
 fn stored_heads(rt: HostRuntime) -> Result<(), Fail> {
     let two = mono(rt.alloc(), 2, 1, 2, false)?;
-    assert!(rt; head_of(&[0xfe, 0x7b], &two, 0)? == (Ok(plain()), 10));
-    assert!(rt; head_of(&[0x3f, 0x76], &two, 1)? == (Ok(plain()), 10));
-    assert!(rt; head_of(&[0x3f, 0x76], &two, 0)? == (Err(SliceFault::NotKey), 1));
-    assert!(rt; head_of(&[0xfe, 0x7b], &two, 1)? == (Err(SliceFault::Place), 1));
+    two_heads(&rt, &two)
+}
+
+/// The first slice of two, with these numbers in the place of its head, has another place, behind
+/// so many decisions.
+fn is_elsewhere(
+    rt: &impl Abort,
+    host: &HostRuntime,
+    two: &Checked,
+    numbers: &[u32],
+    decisions: u64,
+) -> Result<(), Fail>
+    requires { IsSlice two.now 0 }
+{
+    let (found, taken) = answer(host, two, numbers)?;
+    assert!(rt; found == Err(SliceFault::Place));
+    assert_eq!(rt; taken, decisions);
     Ok(())
+}
+
+/// Other places than that of the first slice of two.
+fn elsewhere(rt: &impl Abort, host: &HostRuntime, two: &Checked) -> Result<(), Fail>
+    requires { IsSlice two.now 0 }
+{
+    is_elsewhere(rt, host, two, &[2147483647, 0, 0, 0, 0, 0, 0, 0, 0], 63)?;
+    is_elsewhere(rt, host, two, &[0, 1, 0, 0, 0, 0, 0, 0, 0], 4)?;
+    is_elsewhere(rt, host, two, &[0, 0, 1, 0, 0, 0, 0, 0, 0], 5)?;
+    is_elsewhere(rt, host, two, &[0, 0, 0, 1, 0, 0, 0, 0, 0], 6)
 }
 
 #[test]
 fn places(rt: HostRuntime) -> Result<(), Fail> {
     let two = mono(rt.alloc(), 2, 1, 2, false)?;
-    let first = answer(&rt, &two, &[2147483647, 0, 0, 0, 0, 0, 0, 0, 0])?;
-    assert!(rt; first == (Err(SliceFault::Place), 63));
-    let second = answer(&rt, &two, &[0, 1, 0, 0, 0, 0, 0, 0, 0])?;
-    assert!(rt; second == (Err(SliceFault::Place), 4));
-    let third = answer(&rt, &two, &[0, 0, 1, 0, 0, 0, 0, 0, 0])?;
-    assert!(rt; third == (Err(SliceFault::Place), 5));
-    let fourth = answer(&rt, &two, &[0, 0, 0, 1, 0, 0, 0, 0, 0])?;
-    assert!(rt; fourth == (Err(SliceFault::Place), 6));
+    elsewhere(&rt, &rt, &two)
+}
+
+/// The first slice of two, with these numbers in the place of its head, is answered so.
+fn answers_made(
+    rt: &impl Abort,
+    host: &HostRuntime,
+    two: &Checked,
+    numbers: &[u32],
+    head: Result<SliceHead, SliceFault>,
+) -> Result<(), Fail>
+    requires { IsSlice two.now 0 }
+{
+    let (found, _) = answer(host, two, numbers)?;
+    assert!(rt; found == head);
     Ok(())
+}
+
+/// Indexes of sets and structures of pictures that there are not.
+fn no_such(rt: &impl Abort, host: &HostRuntime, two: &Checked) -> Result<(), Fail>
+    requires { IsSlice two.now 0 }
+{
+    let (index, structure) = (Err(SliceFault::SetIndex), Err(SliceFault::Structure));
+    answers_made(rt, host, two, &[0, 0, 0, 0, 1, 0, 0, 0, 0], index)?;
+    answers_made(rt, host, two, &[0, 0, 0, 0, 0, 1, 0, 0, 0], index)?;
+    answers_made(rt, host, two, &[0, 0, 0, 0, 0, 0, 4, 0, 0], structure)
 }
 
 #[test]
 fn indexes_and_structures(rt: HostRuntime) -> Result<(), Fail> {
     let two = mono(rt.alloc(), 2, 1, 2, false)?;
-    let (first, _) = answer(&rt, &two, &[0, 0, 0, 0, 1, 0, 0, 0, 0])?;
-    assert!(rt; first == Err(SliceFault::SetIndex));
-    let (second, _) = answer(&rt, &two, &[0, 0, 0, 0, 0, 1, 0, 0, 0])?;
-    assert!(rt; second == Err(SliceFault::SetIndex));
-    let (structure, _) = answer(&rt, &two, &[0, 0, 0, 0, 0, 0, 4, 0, 0])?;
-    assert!(rt; structure == Err(SliceFault::Structure));
-    Ok(())
+    no_such(&rt, &rt, &two)
 }
 
-#[test]
-fn aspects(rt: HostRuntime) -> Result<(), Fail> {
-    let two = mono(rt.alloc(), 2, 1, 2, false)?;
-    let (wide, _) = answer(&rt, &two, &[0, 0, 0, 0, 0, 0, 3, 65536, 1])?;
-    assert!(rt; wide == Err(SliceFault::Aspect));
-    let (first, _) = answer(&rt, &two, &[0, 0, 0, 0, 0, 0, 3, 0, 1])?;
-    assert!(rt; first == Err(SliceFault::Aspect));
-    let (second, _) = answer(&rt, &two, &[0, 0, 0, 0, 0, 0, 3, 1, 0])?;
-    assert!(rt; second == Err(SliceFault::Aspect));
-    let (head, _) = answer(&rt, &two, &[0, 0, 0, 0, 0, 0, 3, 65535, 12])?;
+/// Aspects, three refused and one found.
+fn four_aspects(rt: &impl Abort, host: &HostRuntime, two: &Checked) -> Result<(), Fail>
+    requires { IsSlice two.now 0 }
+{
+    let aspect = Err(SliceFault::Aspect);
+    answers_made(rt, host, two, &[0, 0, 0, 0, 0, 0, 3, 65536, 1], aspect)?;
+    answers_made(rt, host, two, &[0, 0, 0, 0, 0, 0, 3, 0, 1], aspect)?;
+    answers_made(rt, host, two, &[0, 0, 0, 0, 0, 0, 3, 1, 0], aspect)?;
     let found = SliceHead {
         indexes: [0, 0, 0],
         structure: 3,
         sar_num: 65535,
         sar_den: 12,
     };
-    assert!(rt; head == Ok(found));
-    Ok(())
+    answers_made(rt, host, two, &[0, 0, 0, 0, 0, 0, 3, 65535, 12], Ok(found))
+}
+
+#[test]
+fn aspects(rt: HostRuntime) -> Result<(), Fail> {
+    let two = mono(rt.alloc(), 2, 1, 2, false)?;
+    four_aspects(&rt, &rt, &two)
 }

@@ -9,6 +9,7 @@ use crate::tests::made;
 use ffv1_range::{RangeEncoder, StateTable};
 use ffv1_record::Checked;
 use ffv1_slice::{SliceHead, footer, put_head, put_key};
+use std::alloc::Global;
 use std::process::Abort;
 use std::test::Fail;
 
@@ -38,27 +39,27 @@ fn put_residual(encoder: &mut RangeEncoder, table: &StateTable, residual: i32) -
 }
 
 /// The key and the head of a slice.
-fn begun(rt: &HostRuntime, checked: &Checked, number: u32) -> Result<RangeEncoder, Fail>
+fn begun(alloc: Global, checked: &Checked, number: u32) -> Result<RangeEncoder, Fail>
     requires slice { IsSlice checked.now number }
     requires sets { 0 < length checked.now.configuration.sets }
 {
-    let mut encoder = RangeEncoder::new(rt.alloc());
+    let mut encoder = RangeEncoder::new(alloc);
     put_key(&mut encoder, checked, number)?;
     put_head(&mut encoder, checked, number, &plain())?;
     Ok(encoder)
 }
 
 /// The bytes of a slice, its footer among them.
-fn ended(rt: &HostRuntime, encoder: RangeEncoder, ec: bool) -> Result<Vec<u8>, Fail> {
+fn ended(alloc: Global, encoder: RangeEncoder, ec: bool) -> Result<Vec<u8>, Fail> {
     let mut bytes = encoder.finish_sentinel()?;
-    let foot = footer(rt.alloc(), bytes.as_slice(), ec)?;
+    let foot = footer(alloc, bytes.as_slice(), ec)?;
     bytes.extend_from_slice(foot.bytes())?;
     Ok(bytes)
 }
 
 /// A slice of one residual, and its decisions.
 fn slice_of_one(
-    rt: &HostRuntime,
+    alloc: Global,
     checked: &Checked,
     number: u32,
     residual: i32,
@@ -67,53 +68,68 @@ fn slice_of_one(
     requires sets { 0 < length checked.now.configuration.sets }
     requires size { unsigned_abs residual < 2 ^ 31 }
 {
-    let mut encoder = begun(rt, checked, number)?;
+    let mut encoder = begun(alloc, checked, number)?;
     put_residual(&mut encoder, &StateTable::standard(), residual)?;
     let decisions = encoder.decisions();
-    let bytes = ended(rt, encoder, checked.config().ec)?;
+    let bytes = ended(alloc, encoder, checked.config().ec)?;
     Ok((bytes, decisions))
+}
+
+/// A slice of one residual has these bytes, and so many decisions.
+fn gives(
+    rt: &impl Abort,
+    alloc: Global,
+    checked: &Checked,
+    number: u32,
+    residual: i32,
+    bytes: &[u8],
+    decisions: u64,
+) -> Result<(), Fail>
+    requires slice { IsSlice checked.now number }
+    requires sets { 0 < length checked.now.configuration.sets }
+    requires size { unsigned_abs residual < 2 ^ 31 }
+{
+    let (found, count) = slice_of_one(alloc, checked, number, residual)?;
+    assert_eq!(rt; found.as_slice(), bytes);
+    assert_eq!(rt; count, decisions);
+    Ok(())
+}
+
+/// Slices of one sample.
+fn samples(rt: &impl Abort, alloc: Global, one: &Checked) -> Result<(), Fail>
+    requires slice { IsSlice one.now 0 }
+    requires sets { 0 < length one.now.configuration.sets }
+{
+    gives(rt, alloc, one, 0, 0, &[0xfe, 0x7b, 0, 0, 2], 11)?;
+    gives(rt, alloc, one, 0, -1, &[0xfe, 0x18, 0, 0, 2], 13)?;
+    let long = [0xfe, 0x79, 0xf6, 0x85, 0, 0, 4];
+    gives(rt, alloc, one, 0, -128, &long, 27)
 }
 
 #[test]
 fn one_sample(rt: HostRuntime) -> Result<(), Fail> {
     let one = mono(rt.alloc(), 1, 1, 1, false)?;
-    let (bytes, decisions) = slice_of_one(&rt, &one, 0, 0)?;
-    assert_eq!(rt; bytes.as_slice(), [0xfe, 0x7b, 0, 0, 2].as_slice());
-    assert_eq!(rt; decisions, 11);
-    let (bytes, decisions) = slice_of_one(&rt, &one, 0, -1)?;
-    assert_eq!(rt; bytes.as_slice(), [0xfe, 0x18, 0, 0, 2].as_slice());
-    assert_eq!(rt; decisions, 13);
-    let (bytes, decisions) = slice_of_one(&rt, &one, 0, -128)?;
-    assert_eq!(rt;
-        bytes.as_slice(),
-        [0xfe, 0x79, 0xf6, 0x85, 0, 0, 4].as_slice()
-    );
-    assert_eq!(rt; decisions, 27);
-    Ok(())
+    samples(&rt, rt.alloc(), &one)
 }
 
 #[test]
 fn one_sample_with_parity(rt: HostRuntime) -> Result<(), Fail> {
     let one = mono(rt.alloc(), 1, 1, 1, true)?;
-    let (bytes, _) = slice_of_one(&rt, &one, 0, 0)?;
-    assert_eq!(rt;
-        bytes.as_slice(),
-        [0xfe, 0x7b, 0, 0, 2, 0, 0x94, 0x8c, 0x13, 0x3c].as_slice()
-    );
-    Ok(())
+    let bytes = [0xfe, 0x7b, 0, 0, 2, 0, 0x94, 0x8c, 0x13, 0x3c];
+    gives(&rt, rt.alloc(), &one, 0, 0, &bytes, 11)
 }
 
 #[test]
 fn four_samples(rt: HostRuntime) -> Result<(), Fail> {
     let four = mono(rt.alloc(), 2, 2, 1, false)?;
     let table = StateTable::standard();
-    let mut encoder = begun(&rt, &four, 0)?;
+    let mut encoder = begun(rt.alloc(), &four, 0)?;
     put_residual(&mut encoder, &table, 10)?;
     put_residual(&mut encoder, &table, 10)?;
     put_residual(&mut encoder, &table, -20)?;
     put_residual(&mut encoder, &table, -10)?;
     assert_eq!(rt; encoder.decisions(), 48);
-    let bytes = ended(&rt, encoder, false)?;
+    let bytes = ended(rt.alloc(), encoder, false)?;
     assert_eq!(rt;
         bytes.as_slice(),
         [0xfe, 0x6c, 0xaf, 0x59, 0x7a, 0x88, 0, 0, 6].as_slice()
@@ -121,22 +137,26 @@ fn four_samples(rt: HostRuntime) -> Result<(), Fail> {
     Ok(())
 }
 
+/// The two slices of two samples.
+fn both(rt: &impl Abort, alloc: Global, two: &Checked) -> Result<(), Fail>
+    requires first { IsSlice two.now 0 }
+    requires second { IsSlice two.now 1 }
+    requires sets { 0 < length two.now.configuration.sets }
+{
+    gives(rt, alloc, two, 0, 0, &[0xfe, 0x7b, 0, 0, 2], 11)?;
+    gives(rt, alloc, two, 1, 0, &[0x3f, 0x76, 0, 0, 2], 11)
+}
+
 #[test]
 fn two_slices(rt: HostRuntime) -> Result<(), Fail> {
     let two = mono(rt.alloc(), 2, 1, 2, false)?;
-    let (first, ones) = slice_of_one(&rt, &two, 0, 0)?;
-    let (second, others) = slice_of_one(&rt, &two, 1, 0)?;
-    assert_eq!(rt; first.as_slice(), [0xfe, 0x7b, 0, 0, 2].as_slice());
-    assert_eq!(rt; second.as_slice(), [0x3f, 0x76, 0, 0, 2].as_slice());
-    assert_eq!(rt; ones, 11);
-    assert_eq!(rt; others, 11);
-    Ok(())
+    both(&rt, rt.alloc(), &two)
 }
 
 #[test]
 fn the_last_of_32(rt: HostRuntime) -> Result<(), Fail> {
     let wide = mono(rt.alloc(), 32, 1, 32, false)?;
-    let encoder = begun(&rt, &wide, 31)?;
+    let encoder = begun(rt.alloc(), &wide, 31)?;
     assert_eq!(rt; encoder.decisions(), 18);
     Ok(())
 }
@@ -147,7 +167,7 @@ fn three_indexes(rt: HostRuntime) -> Result<(), Fail> {
     config.chroma_planes = true;
     config.extra_plane = true;
     let checked = config.check()?;
-    let mut encoder = begun(&rt, &checked, 0)?;
+    let mut encoder = begun(rt.alloc(), &checked, 0)?;
     let table = StateTable::standard();
     put_residual(&mut encoder, &table, 0)?;
     let mut chroma = [128u8; 32];

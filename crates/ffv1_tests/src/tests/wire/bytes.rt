@@ -135,17 +135,33 @@ fn memory(rt: HostRuntime) -> Result<(), Fail> {
     Ok(())
 }
 
+/// Reads a byte, passes two, and reads as many of the others as there is room for.
+fn read_some<R: ByteIn>(
+    input: &mut R,
+    room: &mut [u8],
+) -> Result<(Option<u8>, u64, usize), Failed> {
+    let byte = read_byte(input)?;
+    let passed = skip(input, 2)?;
+    Ok((byte, passed, read_full(input, room)?))
+}
+
+/// The same in the other order.
+fn read_others<R: ByteIn>(
+    input: &mut R,
+    room: &mut [u8],
+) -> Result<(usize, Option<u8>, u64), Failed> {
+    let len = read_full(input, room)?;
+    let byte = read_byte(input)?;
+    Ok((len, byte, skip(input, 1)?))
+}
+
 #[test]
 fn end_of_input(rt: HostRuntime) -> Result<(), Fail> {
     let mut input = FromRead::new(b"abcde".as_slice());
-    assert_eq!(rt; read_byte(&mut input)?, Some(b'a'));
-    assert_eq!(rt; skip(&mut input, 2)?, 2);
     let mut room = [0u8; 3];
-    assert_eq!(rt; read_full(&mut input, &mut room)?, 2);
+    assert_eq!(rt; read_some(&mut input, &mut room)?, (Some(b'a'), 2, 2));
     assert_eq!(rt; room, [b'd', b'e', 0]);
-    assert_eq!(rt; read_full(&mut input, &mut room)?, 0);
-    assert_eq!(rt; read_byte(&mut input)?, None);
-    assert_eq!(rt; skip(&mut input, 1)?, 0);
+    assert_eq!(rt; read_others(&mut input, &mut room)?, (0, None, 0));
     assert_eq!(rt; input.failures(), 0);
     Ok(())
 }

@@ -1,10 +1,11 @@
 //! Readers and writers of YUV4MPEG2 and PPM where memory is refused, a read or a write fails.
 
 use ffv1_doubles::{FailingReader, Scarce, ShortWriter};
-use ffv1_wire::{FromRead, LineSink, ToWrite};
+use ffv1_wire::{ByteOut, FromRead, LineSink, ToWrite};
 use ffv1_y4m::{Fault, PpmReader, PpmWriter, Y4mReader, Y4mWriter};
-use std::alloc::Allocator;
+use std::alloc::{Allocator, Global};
 use std::io::{ErrorKind, Read};
+use std::process::Abort;
 use std::test::Fail;
 
 const PICTURES: &[u8] = b"YUV4MPEG2 W2 H2 F25:1 I? A0:0 C420jpeg\nFRAME\nabcdefFRAME\nghijkl";
@@ -96,34 +97,44 @@ fn reads_failed(rt: HostRuntime) -> Result<(), Fail> {
     Ok(())
 }
 
-/// Writers of each number of bytes below the text's length: a beginning is written, and `Write` is
-/// answered from then on.
+/// Writes two pictures. Whether a write failed: then `Write` is answered from there on.
+fn write_pictures<W: ByteOut>(
+    rt: &impl Abort,
+    alloc: Global,
+    output: &mut W,
+) -> Result<bool, Fail> {
+    let mut input = FromRead::new(PICTURES);
+    let mut reader = Y4mReader::open(alloc, None, &mut input)?;
+    let mut writer = Y4mWriter::new(*reader.head());
+    let mut planes = Vec::new(alloc);
+    let mut failed = false;
+    for _ in 0..2 {
+        assert!(rt; reader.next(&mut input, &mut planes)?);
+        let answer = writer.picture(output, &planes);
+        failed = failed || answer.is_err();
+        assert!(rt; answer.is_err() == failed);
+        if failed {
+            assert!(rt; answer == Err(Fault::Write));
+        }
+    }
+    Ok(failed)
+}
+
+/// A writer with such a room: a beginning is written.
+fn cut_at(rt: &impl Abort, alloc: Global, room: usize) -> Result<(), Fail> {
+    let mut output = ToWrite::new(ShortWriter::new(alloc, room, 3, Some(ErrorKind::Other)));
+    let failed = write_pictures(rt, alloc, &mut output)?;
+    assert!(rt; output.failures() == u64::from(failed));
+    assert!(rt; failed == (room < PICTURES.len()));
+    assert!(rt; output.into_inner().held() == &PICTURES[..room.min(PICTURES.len())]);
+    Ok(())
+}
+
+/// Writers of each number of bytes below the text's length.
 #[test]
 fn pictures_cut(rt: HostRuntime) -> Result<(), Fail> {
     for room in 0..70usize {
-        let mut input = FromRead::new(PICTURES);
-        let mut reader = Y4mReader::open(rt.alloc(), None, &mut input)?;
-        let mut writer = Y4mWriter::new(*reader.head());
-        let mut planes = Vec::new(rt.alloc());
-        let mut output = ToWrite::new(ShortWriter::new(
-            rt.alloc(),
-            room,
-            3,
-            Some(ErrorKind::Other),
-        ));
-        let mut failed = false;
-        for _ in 0..2 {
-            assert!(rt; reader.next(&mut input, &mut planes)?);
-            let answer = writer.picture(&mut output, &planes);
-            failed = failed || answer.is_err();
-            assert!(rt; answer.is_err() == failed);
-            if failed {
-                assert!(rt; answer == Err(Fault::Write));
-            }
-        }
-        assert!(rt; output.failures() == u64::from(failed));
-        assert!(rt; failed == (room < PICTURES.len()));
-        assert!(rt; output.into_inner().held() == &PICTURES[..room.min(PICTURES.len())]);
+        cut_at(&rt, rt.alloc(), room)?;
     }
     Ok(())
 }
