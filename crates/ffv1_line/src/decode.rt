@@ -157,8 +157,7 @@ fn take_zeros<B: Allocator>(
 
 /// The places of a block from `start` on, of `count`, that are even and whose symbols are zeros: the
 /// samples above and to the left are one, and so is each that comes. Their context is one, whose
-/// state is kept apart. Answers the first place that is left, which is the last one at most, and
-/// `start` where `calm` does not hold.
+/// state is kept apart. Answers the first place that is left, from `start` to the last one.
 #[inline(always)]
 fn decode_even<B: Allocator>(
     decoder: &mut RangeDecoder<'_>,
