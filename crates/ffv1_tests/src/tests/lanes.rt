@@ -3,11 +3,19 @@
 ghost use Rattle.std.specs.Prelude.{◌≡◌, ◌<◌, ◌⊎◌};
 ghost use Rattle.ffv1_plane.specs.Quantisation.{HasFewLevels};
 
-use ffv1_plane::{Around, AroundLanes, QuantSet, choose_lanes, context, predict, residual_of};
-use std::alloc::Allocator;
+use ffv1_plane::{
+    Around, AroundLanes, Fault, QuantSet, choose_lanes, context, predict, residual_of,
+};
+use std::alloc::{Allocator, Global};
 use std::process::Abort;
 use std::simd::prelude::*;
 use std::test::Fail;
+
+const OTHER: [u8; 4] = [1, 5, 7, 115];
+
+const SEVEN: [u8; 7] = [1, 1, 1, 1, 1, 1, 122];
+
+const ONE: [u8; 1] = [128];
 
 /// Samples of 16 places that look random, below `limit`.
 fn samples(seed: &mut u64, limit: u16) -> [u16; 16]
@@ -88,13 +96,7 @@ fn of_place<A: Allocator>(set: &QuantSet<A>, places: &Places, place: usize, bits
 
 /// Sixteen places of random samples below `limit` have the contexts and the residuals that each of
 /// them has alone.
-fn places_agree<A: Allocator>(
-    rt: &impl Abort,
-    set: &QuantSet<A>,
-    seed: &mut u64,
-    limit: u16,
-    bits: u8,
-)
+fn places_agree(rt: &impl Abort, set: &QuantSet, seed: &mut u64, limit: u16, bits: u8)
     requires limit { 0 < limit }
     requires bits { (bits ≡ 8) ⊎ (bits ≡ 9) }
 {
@@ -102,41 +104,57 @@ fn places_agree<A: Allocator>(
     let places = sixteen(seed, limit);
     let (sizes, residuals) = of_lanes(set, &places, bits);
     for place in 0..16usize {
-        let (size, residual) = of_place(set, &places, place, bits);
-        assert_eq!(rt; size, u32::from(sizes[place]));
-        assert_eq!(rt; residual, i32::from(residuals[place]));
+        let alone = of_place(set, &places, place, bits);
+        assert!(rt; alone == (u32::from(sizes[place]), i32::from(residuals[place])));
     }
+}
+
+/// Places of three sets agree.
+fn sets_agree(rt: &impl Abort, small: &QuantSet, large: &QuantSet, other: &QuantSet) {
+    let mut seed = 1;
+    for _ in 0..500u32 {
+        places_agree(rt, small, &mut seed, 512, 9);
+        places_agree(rt, small, &mut seed, 20, 8);
+        places_agree(rt, large, &mut seed, 256, 8);
+        places_agree(rt, large, &mut seed, 65535, 9);
+        places_agree(rt, other, &mut seed, 40, 9);
+    }
+}
+
+/// The third set beside two others.
+fn with_other(
+    rt: &impl Abort,
+    alloc: Global,
+    small: &QuantSet,
+    large: &QuantSet,
+) -> Result<(), Fault> {
+    let other = QuantSet::from_runs(alloc, &[OTHER.as_slice(); 5])?;
+    sets_agree(rt, small, large, &other);
+    Ok(())
+}
+
+/// The second set beside the first, and the third.
+fn with_large(rt: &impl Abort, alloc: Global, small: &QuantSet) -> Result<(), Fault> {
+    let large = QuantSet::large(alloc)?;
+    with_other(rt, alloc, small, &large)
 }
 
 #[test]
 fn lanes_as_places(rt: HostRuntime) -> Result<(), Fail> {
     let small = QuantSet::small(rt.alloc())?;
-    let large = QuantSet::large(rt.alloc())?;
-    let runs = [1u8, 5, 7, 115];
-    let other = QuantSet::from_runs(rt.alloc(), &[runs.as_slice(); 5])?;
-    let mut seed = 1;
-    for _ in 0..500u32 {
-        places_agree(&rt, &small, &mut seed, 512, 9);
-        places_agree(&rt, &small, &mut seed, 20, 8);
-        places_agree(&rt, &large, &mut seed, 256, 8);
-        places_agree(&rt, &large, &mut seed, 65535, 9);
-        places_agree(&rt, &other, &mut seed, 40, 9);
-    }
+    with_large(&rt, rt.alloc(), &small)?;
     Ok(())
 }
 
+/// Whether a set that was made has few levels.
+fn has_few_levels(set: Result<QuantSet, Fault>) -> Result<bool, Fault> {
+    Ok(set?.has_few_levels())
+}
+
 #[test]
-fn tells_sets_of_few_levels(rt: HostRuntime) -> Result<(), Fail> {
-    let seven = [1u8, 1, 1, 1, 1, 1, 122];
-    let one = [128u8];
-    let many = [
-        one.as_slice(),
-        one.as_slice(),
-        seven.as_slice(),
-        one.as_slice(),
-        one.as_slice(),
-    ];
-    assert!(rt; !QuantSet::from_runs(rt.alloc(), &many)?.has_few_levels());
-    assert!(rt; QuantSet::large(rt.alloc())?.has_few_levels());
-    Ok(())
+fn tells_sets_of_few_levels(rt: HostRuntime) {
+    let (one, seven) = (ONE.as_slice(), SEVEN.as_slice());
+    let many = QuantSet::from_runs(rt.alloc(), &[one, one, seven, one, one]);
+    assert!(rt; has_few_levels(many) == Ok(false));
+    assert!(rt; has_few_levels(QuantSet::large(rt.alloc())) == Ok(true));
 }

@@ -5,15 +5,15 @@ ghost use Rattle.std.specs.Prelude.{unsigned_abs};
 ghost use Rattle.ffv1_plane.specs.Quantisation.{contexts_of};
 ghost use Rattle.ffv1_range.specs.Symbols.{AreHeld, AllHeld};
 
-use super::range::made::put_at;
+use super::range::made::{put_at, put_long_exponent};
 use ffv1_line::{RollingRows, TooLong, decode_line, encode_line};
 use ffv1_plane::{Around, QuantSet, context, predict, residual_of};
-use ffv1_range::{RangeDecoder, RangeEncoder, StateTable};
+use ffv1_range::{Fault, RangeDecoder, RangeEncoder, StateTable};
 use std::process::Abort;
 use std::test::Fail;
 
 /// What is answered is true.
-fn holds(rt: &impl Abort, answer: Result<bool, Fail>) -> Result<(), Fail> {
+pub(super) fn holds(rt: &impl Abort, answer: Result<bool, Fail>) -> Result<(), Fail> {
     assert!(rt; answer?);
     Ok(())
 }
@@ -209,88 +209,80 @@ fn decodes_rows(rt: HostRuntime) -> Result<(), Fail> {
     holds(&rt, gives_two(&rt, &set, bytes, rows, 38))
 }
 
-/// Among such neighbours a sample has this context and residual.
-fn finds(rt: &impl Abort, set: &QuantSet, around: &Around, sample: u16, size: u32, residual: i32) {
-    let (found, flip) = context(set, around);
-    assert_eq!(rt; found, size);
-    assert_eq!(rt; residual_of(predict(around), flip, sample, 8), residual);
+/// Among samples left, above, above to the left and to the right, two to the left and two above, a
+/// sample has this context and residual.
+fn finds(
+    rt: &impl Abort,
+    set: &QuantSet,
+    samples: [u16; 6],
+    sample: u16,
+    size: u32,
+    residual: i32,
+) {
+    let [l, t, tl, tr, ll, tt] = samples;
+    let around = Around {
+        l,
+        t,
+        tl,
+        tr,
+        ll,
+        tt,
+    };
+    let (found, flip) = context(set, &around);
+    assert!(rt; (found, residual_of(predict(&around), flip, sample, 8)) == (size, residual));
+}
+
+/// Contexts and residuals of four samples.
+fn finds_each(rt: &impl Abort, set: &QuantSet) {
+    finds(rt, set, [0, 0, 0, 0, 0, 0], 10, 0, 10);
+    finds(rt, set, [10, 0, 0, 0, 0, 0], 20, 3, 10);
+    finds(rt, set, [10, 10, 0, 20, 0, 0], 30, 393, -20);
+    finds(rt, set, [30, 20, 10, 20, 10, 0], 40, 29, -10);
 }
 
 #[test]
 fn finds_contexts_and_residuals(rt: HostRuntime) -> Result<(), Fail> {
     let set = QuantSet::small(rt.alloc())?;
-    let first = Around {
-        l: 0,
-        t: 0,
-        tl: 0,
-        tr: 0,
-        ll: 0,
-        tt: 0,
-    };
-    finds(&rt, &set, &first, 10, 0, 10);
-    finds(&rt, &set, &Around { l: 10, ..first }, 20, 3, 10);
-    finds(
-        &rt,
-        &set,
-        &Around {
-            l: 10,
-            t: 10,
-            tr: 20,
-            ..first
-        },
-        30,
-        393,
-        -20,
-    );
-    let last = Around {
-        l: 30,
-        t: 20,
-        tl: 10,
-        tr: 20,
-        ll: 10,
-        tt: 0,
-    };
-    finds(&rt, &set, &last, 40, 29, -10);
+    finds_each(&rt, &set);
     Ok(())
+}
+
+/// The encoder of rows of 8 bits and one sample by the small set, with fresh states.
+fn small_encoder(
+    rt: &HostRuntime,
+    table: &StateTable,
+    rows: &[&[u16]],
+) -> Result<RangeEncoder, Fail>
+    requires fresh { AreHeld table.now (replicate 32 128) }
+{
+    let set = QuantSet::small(rt.alloc())?;
+    encoder_of(rt, table, &set, &[0], rows, 8)
 }
 
 /// Whether rows of 8 bits and one sample have these bytes, by the sentinel ending, and so many
 /// decisions.
-fn ends(
-    rt: &HostRuntime,
-    set: &QuantSet,
-    rows: &[&[u16]],
-    bytes: &[u8],
-    decisions: u64,
-) -> Result<bool, Fail> {
+fn ends(rt: &HostRuntime, rows: &[&[u16]], bytes: &[u8], decisions: u64) -> Result<bool, Fail> {
     let table = StateTable::standard();
-    let encoder = encoder_of(rt, &table, set, &[0], rows, 8)?;
+    let encoder = small_encoder(rt, &table, rows)?;
     let same = encoder.decisions() == decisions;
     Ok(same & (encoder.finish_sentinel()?.as_slice() == bytes))
 }
 
 /// Whether such rows have these bytes by the full ending.
-fn ends_in_full(
-    rt: &HostRuntime,
-    set: &QuantSet,
-    rows: &[&[u16]],
-    bytes: &[u8],
-) -> Result<bool, Fail> {
+fn ends_in_full(rt: &HostRuntime, rows: &[&[u16]], bytes: &[u8]) -> Result<bool, Fail> {
     let table = StateTable::standard();
-    let encoder = encoder_of(rt, &table, set, &[0], rows, 8)?;
+    let encoder = small_encoder(rt, &table, rows)?;
     Ok(encoder.finish_full()?.as_slice() == bytes)
 }
 
 #[test]
 fn encodes_a_row(rt: HostRuntime) -> Result<(), Fail> {
-    let set = QuantSet::small(rt.alloc())?;
-    holds(&rt, ends(&rt, &set, &[&[128]], b"\x7E\x81\x80", 17))
+    holds(&rt, ends(&rt, &[&[128]], b"\x7E\x81\x80", 17))
 }
 
 #[test]
 fn shares_states(rt: HostRuntime) -> Result<(), Fail> {
-    let set = QuantSet::small(rt.alloc())?;
-    holds(&rt, ends_in_full(&rt, &set, &[&[0], &[0]], b"\xBC\x43"))
+    holds(&rt, ends_in_full(&rt, &[&[0], &[0]], b"\xBC\x43"))
 }
 
 /// Whether two rows of one sample 0, each with fresh states, have these bytes.
@@ -309,20 +301,19 @@ fn keeps_states_of_classes_apart(rt: HostRuntime) -> Result<(), Fail> {
 
 #[test]
 fn folds_a_flipped_difference_of_128(rt: HostRuntime) -> Result<(), Fail> {
-    let set = QuantSet::small(rt.alloc())?;
     let bytes = b"\xAF\x71\x8D\x7A";
-    holds(&rt, ends(&rt, &set, &[&[0], &[5], &[133]], bytes, 25))
+    holds(&rt, ends(&rt, &[&[0], &[5], &[133]], bytes, 25))
 }
 
 /// The bytes of one number, by fresh states.
-fn number(rt: &HostRuntime, table: &StateTable, value: i32) -> Result<Vec<u8>, Fail>
+fn number(rt: &HostRuntime, table: &StateTable, value: i32) -> Result<Vec<u8>, Fault>
     requires fresh { AreHeld table.now (replicate 32 128) }
     requires size { unsigned_abs value < 2 ^ 31 }
 {
     let mut states = [128; 32];
     let mut encoder = RangeEncoder::new(rt.alloc());
     encoder.put_signed(table, &mut states, value)?;
-    Ok(encoder.finish_sentinel()?)
+    encoder.finish_sentinel()
 }
 
 /// Whether a row of 8 bits, of at most three samples, below rows of zeros is decoded over samples 7
@@ -369,26 +360,29 @@ fn takes_a_residual_of_31_bits(rt: HostRuntime) -> Result<(), Fail> {
 }
 
 /// Two residuals 0, and then a symbol whose exponent has 31 ones.
-fn refused_at_two(rt: &HostRuntime, table: &StateTable) -> Result<Vec<u8>, Fail>
+fn refused_at_two(rt: &HostRuntime, table: &StateTable) -> Result<Vec<u8>, Fault>
     requires { AreHeld table.now (replicate 32 128) }
 {
     let mut states = [128; 32];
     let mut encoder = RangeEncoder::new(rt.alloc());
     put_at(&mut encoder, table, &mut states, 0, true)?;
     put_at(&mut encoder, table, &mut states, 0, true)?;
-    put_at(&mut encoder, table, &mut states, 0, false)?;
-    for k in 0..31usize {
-        put_at(&mut encoder, table, &mut states, 1 + k.min(9), true)?;
-    }
-    Ok(encoder.finish_full()?)
+    put_long_exponent(&mut encoder, table, &mut states)?;
+    encoder.finish_full()
+}
+
+/// Whether such bytes are refused at the third sample, which stays as it was.
+fn gives_two_of_three(rt: &HostRuntime, table: &StateTable, bytes: &[u8]) -> Result<bool, Fail>
+    requires fresh { AreHeld table.now (replicate 32 128) }
+{
+    gives(rt, table, bytes, Err(TooLong { x: 2 }), &[0, 0, 7], 34)
 }
 
 #[test]
 fn refuses_a_long_exponent(rt: HostRuntime) -> Result<(), Fail> {
     let table = StateTable::standard();
     let bytes = refused_at_two(&rt, &table)?;
-    let answer = Err(TooLong { x: 2 });
-    holds(&rt, gives(&rt, &table, &bytes, answer, &[0, 0, 7], 34))
+    holds(&rt, gives_two_of_three(&rt, &table, &bytes))
 }
 
 /// Samples below 2^bits, so many.
@@ -453,7 +447,7 @@ fn comes_back(
     decodes_to(rt, table, set, bytes.as_slice(), row.as_slice(), bits)
 }
 
-/// Whether rows of 1, 2, 3, 8192 and 65539 samples come back, of 8 and of 9 bits.
+/// Whether rows of 1, 2, 3, 8192 and 65539 samples come back by a set, of 8 and of 9 bits.
 fn all_come_back(rt: &HostRuntime, set: &QuantSet) -> Result<bool, Fail> {
     let table = StateTable::standard();
     for width in [1usize, 2, 3, 8192, 65539] {
@@ -476,9 +470,8 @@ fn rows_of_the_large_set_come_back(rt: HostRuntime) -> Result<(), Fail> {
     holds(&rt, all_come_back(&rt, &set))
 }
 
-#[test]
-fn rows_change_places(rt: HostRuntime) -> Result<(), Fail> {
-    let mut rolling = RollingRows::new(rt.alloc(), 2)?;
+/// Rows of two samples 0 are filled with 5 and with 6, and change places.
+fn change_places(rt: &impl Abort, rolling: &mut RollingRows<Vec<u16>>) {
     rolling.cur.fill(5);
     rolling.turn();
     rolling.cur.fill(6);
@@ -486,5 +479,11 @@ fn rows_change_places(rt: HostRuntime) -> Result<(), Fail> {
     assert!(rt; rolling.two.as_slice() == [5, 5].as_slice());
     assert!(rt; rolling.one.as_slice() == [6, 6].as_slice());
     assert!(rt; rolling.cur.as_slice() == [0, 0].as_slice());
+}
+
+#[test]
+fn rows_change_places(rt: HostRuntime) -> Result<(), Fail> {
+    let mut rolling = RollingRows::new(rt.alloc(), 2)?;
+    change_places(&rt, &mut rolling);
     Ok(())
 }

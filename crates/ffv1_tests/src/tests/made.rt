@@ -10,8 +10,9 @@ use std::alloc::Allocator;
 fn small_set<A: Allocator + Copy>(alloc: A) -> Result<Sets<A>, RecordFault>
     ensures { IfOk result (λ s. length s ≡ 1) }
 {
+    let set = QuantSet::small(alloc)?;
     let mut sets = Sets::new(alloc);
-    sets.push(QuantSet::small(alloc)?)?;
+    sets.push(set)?;
     Ok(sets)
 }
 

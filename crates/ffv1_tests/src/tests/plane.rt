@@ -4,7 +4,7 @@
 use ffv1_plane::{
     Around, Fault, QuantSet, context, context_near, fold, predict, residual_of, sample_from, unfold,
 };
-use std::alloc::Allocator;
+use std::alloc::Global;
 use std::process::Abort;
 use std::test::Fail;
 
@@ -20,27 +20,22 @@ const ONE: [u8; 1] = [128];
 const ALL: [u8; 128] = [1; 128];
 
 /// A set has these runs, and this many contexts.
-fn has_runs<A: Allocator>(rt: &impl Abort, set: &QuantSet<A>, runs: &[&[u8]; 5], contexts: u32) {
-    assert_eq!(rt; set.contexts(), contexts);
+fn has_runs(rt: &impl Abort, set: &QuantSet, runs: &[&[u8]; 5], contexts: u32) {
+    assert!(rt; set.contexts() == contexts);
     for table in 0..5usize {
         assert!(rt; set.runs(table) == runs[table]);
     }
 }
 
 /// The set of these runs has them, and this many contexts.
-fn counts<A: Allocator + Copy>(
-    rt: &impl Abort,
-    alloc: A,
-    runs: &[&[u8]; 5],
-    contexts: u32,
-) -> Result<(), Fault> {
+fn counts(rt: &impl Abort, alloc: Global, runs: &[&[u8]; 5], contexts: u32) -> Result<(), Fault> {
     let set = QuantSet::from_runs(alloc, runs)?;
     has_runs(rt, &set, runs, contexts);
     Ok(())
 }
 
 #[test]
-fn counts_contexts(rt: HostRuntime) -> Result<(), Fail> {
+fn counts_contexts(rt: HostRuntime) -> Result<(), Fault> {
     let (eleven, wide, five) = (ELEVEN.as_slice(), ELEVEN_WIDE.as_slice(), FIVE.as_slice());
     let (one, all) = (ONE.as_slice(), ALL.as_slice());
     counts(&rt, rt.alloc(), &[eleven, eleven, eleven, one, one], 666)?;
@@ -48,12 +43,11 @@ fn counts_contexts(rt: HostRuntime) -> Result<(), Fail> {
     counts(&rt, rt.alloc(), &[wide, wide, five, five, five], 7563)?;
     counts(&rt, rt.alloc(), &[one, one, one, one, one], 1)?;
     counts(&rt, rt.alloc(), &[all, one, one, one, one], 128)?;
-    counts(&rt, rt.alloc(), &[one, all, one, all, one], 32513)?;
-    Ok(())
+    counts(&rt, rt.alloc(), &[one, all, one, all, one], 32513)
 }
 
 /// These runs are refused so.
-fn refuses<A: Allocator + Copy>(rt: &impl Abort, alloc: A, runs: &[&[u8]; 5], fault: Fault) {
+fn refuses(rt: &impl Abort, alloc: Global, runs: &[&[u8]; 5], fault: Fault) {
     assert!(rt; QuantSet::from_runs(alloc, runs).err() == Some(fault));
 }
 
@@ -76,35 +70,31 @@ fn refuses_runs(rt: HostRuntime) {
     refuses(&rt, rt.alloc(), &[all, all, all, all, late], Fault::Runs);
 }
 
-/// A set has the runs of the small one.
-fn is_small<A: Allocator + Copy>(
-    rt: &impl Abort,
-    alloc: A,
-    set: &QuantSet<A>,
-) -> Result<(), Fault> {
-    let (eleven, one) = (ELEVEN.as_slice(), ONE.as_slice());
-    let again = QuantSet::from_runs(alloc, &[eleven, eleven, eleven, one, one])?;
-    assert!(rt; *set == again);
-    Ok(())
+/// Whether a set has the runs of another one.
+fn is_like(set: &QuantSet, other: Result<QuantSet, Fault>) -> Result<bool, Fault> {
+    let other = other?;
+    Ok(*set == other)
 }
 
-/// A set has other runs than the large one.
-fn is_not_large<A: Allocator + Copy>(
-    rt: &impl Abort,
-    alloc: A,
-    set: &QuantSet<A>,
-) -> Result<(), Fault> {
-    let large = QuantSet::large(alloc)?;
-    assert!(rt; *set != large);
+/// Whether a set has other runs than another one.
+fn is_unlike(set: &QuantSet, other: Result<QuantSet, Fault>) -> Result<bool, Fault> {
+    let other = other?;
+    Ok(*set != other)
+}
+
+/// A set has the runs of the small one, and others than the large one.
+fn is_small(rt: &impl Abort, alloc: Global, set: &QuantSet) -> Result<(), Fault> {
+    let (eleven, one) = (ELEVEN.as_slice(), ONE.as_slice());
+    let again = [eleven, eleven, eleven, one, one];
+    assert!(rt; is_like(set, QuantSet::from_runs(alloc, &again))?);
+    assert!(rt; is_unlike(set, QuantSet::large(alloc))?);
     Ok(())
 }
 
 #[test]
-fn compares_runs(rt: HostRuntime) -> Result<(), Fail> {
+fn compares_runs(rt: HostRuntime) -> Result<(), Fault> {
     let small = QuantSet::small(rt.alloc())?;
-    is_small(&rt, rt.alloc(), &small)?;
-    is_not_large(&rt, rt.alloc(), &small)?;
-    Ok(())
+    is_small(&rt, rt.alloc(), &small)
 }
 
 /// Whether a fault displays so.
@@ -123,10 +113,10 @@ fn shows_number_and_name(rt: HostRuntime) -> Result<(), Fail> {
 
 /// Among samples left, above, above to the left and to the right, two to the left and two above, a
 /// place has this prediction, and these contexts by two sets.
-fn finds<A: Allocator>(
+fn finds(
     rt: &impl Abort,
-    large: &QuantSet<A>,
-    other: &QuantSet<A>,
+    large: &QuantSet,
+    other: &QuantSet,
     samples: [u16; 6],
     prediction: i32,
     in_large: (u32, bool),
@@ -141,13 +131,12 @@ fn finds<A: Allocator>(
         ll,
         tt,
     };
-    assert_eq!(rt; predict(&around), prediction);
-    assert_eq!(rt; context(large, &around), in_large);
-    assert_eq!(rt; context(other, &around), in_other);
+    let found = (context(large, &around), context(other, &around));
+    assert!(rt; (predict(&around), found) == (prediction, (in_large, in_other)));
 }
 
 /// Predictions and contexts of thirteen places.
-fn finds_each<A: Allocator>(rt: &impl Abort, large: &QuantSet<A>, other: &QuantSet<A>) {
+fn finds_each(rt: &impl Abort, large: &QuantSet, other: &QuantSet) {
     finds(
         rt,
         large,
@@ -268,11 +257,7 @@ fn finds_each<A: Allocator>(rt: &impl Abort, large: &QuantSet<A>, other: &QuantS
 }
 
 /// The same by the large set and one of wider runs.
-fn finds_all<A: Allocator + Copy>(
-    rt: &impl Abort,
-    alloc: A,
-    large: &QuantSet<A>,
-) -> Result<(), Fault> {
+fn finds_all(rt: &impl Abort, alloc: Global, large: &QuantSet) -> Result<(), Fault> {
     let (wide, five) = (ELEVEN_WIDE.as_slice(), FIVE.as_slice());
     let other = QuantSet::from_runs(alloc, &[wide, wide, five, five, five])?;
     finds_each(rt, large, &other);
@@ -287,8 +272,7 @@ fn predicts_and_finds_contexts(rt: HostRuntime) -> Result<(), Fault> {
 
 /// A difference is folded to this, of 8 and of 9 bits.
 fn folds(rt: &impl Abort, d: i32, eight: i32, nine: i32) {
-    assert_eq!(rt; fold(d, 8), eight);
-    assert_eq!(rt; fold(d, 9), nine);
+    assert!(rt; (fold(d, 8), fold(d, 9)) == (eight, nine));
 }
 
 #[test]
@@ -313,8 +297,7 @@ fn folds_differences(rt: HostRuntime) {
 
 /// A prediction and a residual make this sample, of 8 and of 9 bits.
 fn unfolds(rt: &impl Abort, pred: i32, residual: i32, eight: u16, nine: u16) {
-    assert_eq!(rt; unfold(pred, residual, 8), eight);
-    assert_eq!(rt; unfold(pred, residual, 9), nine);
+    assert!(rt; (unfold(pred, residual, 8), unfold(pred, residual, 9)) == (eight, nine));
 }
 
 #[test]
@@ -333,18 +316,28 @@ fn unfolds_residuals(rt: HostRuntime) {
 
 /// A sample of 8 bits has these residuals, plain and flipped, and comes back from each.
 fn takes_eight(rt: &impl Abort, pred: i32, sample: u16, plain: i32, flipped: i32, lowest: u16) {
-    assert_eq!(rt; residual_of(pred, false, sample, 8), plain);
-    assert_eq!(rt; residual_of(pred, true, sample, 8), flipped);
-    assert_eq!(rt; sample_from(pred, false, plain, 8), lowest);
-    assert_eq!(rt; sample_from(pred, true, flipped, 8), lowest);
+    let residuals = (
+        residual_of(pred, false, sample, 8),
+        residual_of(pred, true, sample, 8),
+    );
+    let samples = (
+        sample_from(pred, false, plain, 8),
+        sample_from(pred, true, flipped, 8),
+    );
+    assert!(rt; (residuals, samples) == ((plain, flipped), (lowest, lowest)));
 }
 
 /// A sample of 9 bits has these residuals, plain and flipped, and comes back from each.
 fn takes_nine(rt: &impl Abort, pred: i32, sample: u16, plain: i32, flipped: i32, lowest: u16) {
-    assert_eq!(rt; residual_of(pred, false, sample, 9), plain);
-    assert_eq!(rt; residual_of(pred, true, sample, 9), flipped);
-    assert_eq!(rt; sample_from(pred, false, plain, 9), lowest);
-    assert_eq!(rt; sample_from(pred, true, flipped, 9), lowest);
+    let residuals = (
+        residual_of(pred, false, sample, 9),
+        residual_of(pred, true, sample, 9),
+    );
+    let samples = (
+        sample_from(pred, false, plain, 9),
+        sample_from(pred, true, flipped, 9),
+    );
+    assert!(rt; (residuals, samples) == ((plain, flipped), (lowest, lowest)));
 }
 
 #[test]
@@ -385,7 +378,7 @@ fn entry(runs: &[u8], scale: i32, k: u32) -> i32 {
 }
 
 /// Each entry of each table, looked up alone, is that of the plain program.
-fn compare<A: Allocator>(rt: &impl Abort, set: &QuantSet<A>) {
+fn compare(rt: &impl Abort, set: &QuantSet) {
     let near = set.is_near();
     let mut scale = 1i32;
     for table in 0..5usize {
@@ -408,11 +401,11 @@ fn compare<A: Allocator>(rt: &impl Abort, set: &QuantSet<A>) {
             let expected = entry(set.runs(table), scale, k as u32);
             let (size, flip) = context(set, &around);
             assert!(rt;
-                size == expected.unsigned_abs() && flip == (expected < 0),
+                (size, flip) == (expected.unsigned_abs(), expected < 0),
                 "table {table}, difference {k}"
             );
             if near {
-                assert_eq!(rt; context_near(set, &around), (size, flip));
+                assert!(rt; context_near(set, &around) == (size, flip));
             }
         }
         let levels = set.runs(table).len() as i64;
@@ -421,13 +414,9 @@ fn compare<A: Allocator>(rt: &impl Abort, set: &QuantSet<A>) {
 }
 
 /// A set is made, and its samples two to the left and two above count for nothing, or not.
-fn tells<A: Allocator>(
-    rt: &impl Abort,
-    set: Result<QuantSet<A>, Fault>,
-    near: bool,
-) -> Result<(), Fault> {
-    let set = set?;
-    assert_eq!(rt; set.is_near(), near);
+fn tells(rt: &impl Abort, set: Result<QuantSet, Fault>, near: bool) -> Result<(), Fault> {
+    let found = set?.is_near();
+    assert!(rt; found == near);
     Ok(())
 }
 
@@ -444,10 +433,7 @@ fn tells_sets_without_far_samples(rt: HostRuntime) -> Result<(), Fault> {
 }
 
 /// A set is made, and compared.
-fn compare_made<A: Allocator>(
-    rt: &impl Abort,
-    set: Result<QuantSet<A>, Fault>,
-) -> Result<(), Fault> {
+fn compare_made(rt: &impl Abort, set: Result<QuantSet, Fault>) -> Result<(), Fault> {
     let set = set?;
     compare(rt, &set);
     Ok(())
@@ -495,29 +481,22 @@ fn predicts_as_the_plain_program(rt: HostRuntime) {
                     tt: 0,
                 };
                 let (l, t, tl) = (l as i32, t as i32, tl as i32);
-                assert_eq!(rt; predict(&around), middle(l, t, l + t - tl));
+                assert!(rt; predict(&around) == middle(l, t, l + t - tl));
             }
         }
     }
 }
 
 /// The lines of the crate's example.
-fn codes_and_comes_back<A: Allocator>(
-    rt: &impl Abort,
-    set: &QuantSet<A>,
-    around: &Around,
-    sample: u16,
-) {
+fn codes_and_comes_back(rt: &impl Abort, set: &QuantSet, around: &Around, sample: u16) {
     let (size, flip) = context(set, around);
     let residual = residual_of(predict(around), flip, sample, 8);
     let again = sample_from(predict(around), flip, residual, 8);
-    assert_eq!(rt; size, 393);
-    assert_eq!(rt; residual, -20);
-    assert_eq!(rt; again, sample);
+    assert!(rt; (size, residual, again) == (393, -20, sample));
 }
 
 #[test]
-fn example(rt: HostRuntime) -> Result<(), Fail> {
+fn example(rt: HostRuntime) -> Result<(), Fault> {
     let set = QuantSet::small(rt.alloc())?;
     let around = Around {
         l: 10,

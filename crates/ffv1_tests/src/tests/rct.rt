@@ -8,7 +8,7 @@ use std::test::Fail;
 /// Y of a place.
 fn luma(r: u8, g: u8, b: u8) -> i32 {
     let (r, g, b) = (i32::from(r), i32::from(g), i32::from(b));
-    g + (b - g + (r - g)).div_euclid(4)
+    g.wrapping_add((b - g + (r - g)).div_euclid(4))
 }
 
 /// Cb of a place by its blue, or Cr by its red.
@@ -19,8 +19,8 @@ fn chroma(v: u8, g: u8) -> i32 {
 /// Red, green and blue of a place.
 fn colour(y: u16, cb: u16, cr: u16) -> (i32, i32, i32) {
     let (blue, red) = (i32::from(cb) - 256, i32::from(cr) - 256);
-    let g = i32::from(y) - (blue + red).div_euclid(4);
-    (red + g, g, blue + g)
+    let g = i32::from(y).wrapping_sub((blue + red).div_euclid(4));
+    (red.wrapping_add(g), g, blue.wrapping_add(g))
 }
 
 /// Whether a number lies from 0 to 255.
@@ -32,6 +32,11 @@ fn is_byte(v: i32) -> bool {
 fn has_colour(y: u16, cb: u16, cr: u16) -> bool {
     let (r, g, b) = colour(y, cb, cr);
     is_byte(r) && is_byte(g) && is_byte(b)
+}
+
+/// Y, Cb and Cr of a place, as a line has them.
+fn transformed(r: u8, g: u8, b: u8) -> (i32, i32, i32) {
+    (luma(r, g, b), chroma(b, g), chroma(r, g))
 }
 
 /// Bytes with no order.
@@ -60,10 +65,8 @@ fn forward_agrees(
 {
     forward_line(r, g, b, y, cb, cr);
     for x in 0..r.len() {
-        if i32::from(y[x]) != luma(r[x], g[x], b[x])
-            || i32::from(cb[x]) != chroma(b[x], g[x])
-            || i32::from(cr[x]) != chroma(r[x], g[x])
-        {
+        let line = (i32::from(y[x]), i32::from(cb[x]), i32::from(cr[x]));
+        if line != transformed(r[x], g[x], b[x]) {
             return false;
         }
     }
@@ -95,11 +98,11 @@ fn inverse_agrees(
         if refused.is_none() && !has_colour(y[x], cb[x], cr[x]) {
             refused = Some(NoColour { x });
         }
-        let (red, green, blue) = match refused {
+        let expected = match refused {
             None => colour(y[x], cb[x], cr[x]),
             Some(_) => (7, 7, 7),
         };
-        if i32::from(r[x]) != red || i32::from(g[x]) != green || i32::from(b[x]) != blue {
+        if (i32::from(r[x]), i32::from(g[x]), i32::from(b[x])) != expected {
             return false;
         }
     }
@@ -135,13 +138,13 @@ fn narrow_agrees(a: &[u16], out: &mut [u8]) -> bool
 }
 
 #[test]
-fn example(rt: HostRuntime) -> Result<(), Fail> {
+fn example(rt: HostRuntime) -> Result<(), NoColour> {
     let (mut y, mut cb, mut cr) = ([0u16], [0u16], [0u16]);
     forward_line(&[0], &[255], &[0], &mut y, &mut cb, &mut cr);
-    assert_eq!(rt; (y, cb, cr), ([127], [1], [1]));
+    assert!(rt; (y, cb, cr) == ([127], [1], [1]));
     let (mut r, mut g, mut b) = ([7u8], [7u8], [7u8]);
     inverse_line(&y, &cb, &cr, &mut r, &mut g, &mut b)?;
-    assert_eq!(rt; (r, g, b), ([0], [255], [0]));
+    assert!(rt; (r, g, b) == ([0], [255], [0]));
     Ok(())
 }
 
@@ -149,44 +152,62 @@ fn example(rt: HostRuntime) -> Result<(), Fail> {
 fn worked_colours(rt: HostRuntime) {
     let (mut y, mut cb, mut cr) = ([0u16; 2], [0u16; 2], [0u16; 2]);
     forward_line(&[0, 255], &[255, 0], &[0, 0], &mut y, &mut cb, &mut cr);
-    assert_eq!(rt; y, [127, 63]);
-    assert_eq!(rt; cb, [1, 256]);
-    assert_eq!(rt; cr, [1, 511]);
+    assert!(rt; (y, cb, cr) == ([127, 63], [1, 256], [1, 511]));
     let (mut r, mut g, mut b) = ([7u8; 1], [7u8; 1], [7u8; 1]);
     let refused = inverse_line(&[511], &[256], &[256], &mut r, &mut g, &mut b);
-    assert_eq!(rt; refused, Err(NoColour { x: 0 }));
-    assert_eq!(rt; (r, g, b), ([7], [7], [7]));
+    assert!(rt; refused == Err(NoColour { x: 0 }));
+    assert!(rt; (r, g, b) == ([7], [7], [7]));
+}
+
+/// Whether lines of bytes with no order are transformed, transformed back and narrowed by the
+/// formulas.
+fn lines_agree(
+    r: &mut [u8],
+    g: &mut [u8],
+    b: &mut [u8],
+    y: &mut [u16],
+    cb: &mut [u16],
+    cr: &mut [u16],
+) -> (bool, bool, bool)
+    requires g { length g.old ≡ length r.old }
+    requires b { length b.old ≡ length r.old }
+    requires y { length y.old ≡ length r.old }
+    requires cb { length cb.old ≡ length r.old }
+    requires cr { length cr.old ≡ length r.old }
+{
+    scatter(r, 1);
+    scatter(g, 2);
+    scatter(b, 3);
+    let forward = forward_agrees(r, g, b, y, cb, cr);
+    // Other bytes, so that what comes back is seen to be written.
+    scatter(r, 4);
+    scatter(g, 5);
+    scatter(b, 6);
+    let inverse = inverse_agrees(y, cb, cr, r, g, b);
+    (forward, inverse, narrow_agrees(y, r))
+}
+
+/// The same of so many places.
+fn places_agree(n: usize) -> (bool, bool, bool)
+    requires { n ≤ 8192 }
+{
+    let (mut r, mut g, mut b) = ([0u8; 8192], [0u8; 8192], [0u8; 8192]);
+    let (mut y, mut cb, mut cr) = ([0u16; 8192], [0u16; 8192], [0u16; 8192]);
+    lines_agree(
+        &mut r[..n],
+        &mut g[..n],
+        &mut b[..n],
+        &mut y[..n],
+        &mut cb[..n],
+        &mut cr[..n],
+    )
 }
 
 #[test]
 fn lines_of_many_lengths(rt: HostRuntime) {
-    let (mut r, mut g, mut b) = ([0u8; 8192], [0u8; 8192], [0u8; 8192]);
-    scatter(&mut r, 1);
-    scatter(&mut g, 2);
-    scatter(&mut b, 3);
-    let (mut y, mut cb, mut cr) = ([0u16; 8192], [0u16; 8192], [0u16; 8192]);
-    let (mut s, mut h, mut d) = ([0u8; 8192], [0u8; 8192], [0u8; 8192]);
     for k in 0..72usize {
         let n = if k < 71 { k } else { 8192 };
-        let forward = forward_agrees(
-            &r[..n],
-            &g[..n],
-            &b[..n],
-            &mut y[..n],
-            &mut cb[..n],
-            &mut cr[..n],
-        );
-        assert!(rt; forward, "forward, {n} places");
-        let inverse = inverse_agrees(
-            &y[..n],
-            &cb[..n],
-            &cr[..n],
-            &mut s[..n],
-            &mut h[..n],
-            &mut d[..n],
-        );
-        assert!(rt; inverse, "inverse, {n} places");
-        assert!(rt; narrow_agrees(&y[..n], &mut s[..n]), "narrow, {n} places");
+        assert!(rt; places_agree(n) == (true, true, true), "{n} places");
     }
 }
 
@@ -207,30 +228,41 @@ fn refused_at(first: usize, second: usize, y: u16, cb: u16, cr: u16) -> bool
         && narrow_agrees(&lumas, &mut r)
 }
 
+/// Whether each of four places with no colour is refused there.
+fn each_is_refused_at(x: usize) -> [bool; 4]
+    requires { x ≤ 69 }
+{
+    [
+        refused_at(x, 69, 65535, 65535, 65535),
+        refused_at(x, 69, 65535, 1, 1),
+        refused_at(x, 69, 127, 65535, 1),
+        refused_at(x, 69, 127, 1, 65535),
+    ]
+}
+
 #[test]
 fn refused_places(rt: HostRuntime) {
     assert!(rt; refused_at(3, 40, 511, 256, 256));
     assert!(rt; refused_at(69, 69, 511, 256, 256));
     for x in 0..70usize {
-        assert!(rt; refused_at(x, 69, 65535, 65535, 65535), "{x}");
-        assert!(rt; refused_at(x, 69, 65535, 1, 1), "{x}");
-        assert!(rt; refused_at(x, 69, 127, 65535, 1), "{x}");
-        assert!(rt; refused_at(x, 69, 127, 1, 65535), "{x}");
+        assert!(rt; each_is_refused_at(x) == [true; 4], "{x}");
     }
+}
+
+#[test]
+fn first_of_two_refused_places(rt: HostRuntime) {
     let (mut r, mut g, mut b) = ([7u8; 70], [7u8; 70], [7u8; 70]);
     let mut y = [127u16; 70];
     y[3] = 511;
     y[40] = 511;
     let refused = inverse_line(&y, &[1; 70], &[1; 70], &mut r, &mut g, &mut b);
-    assert_eq!(rt; refused, Err(NoColour { x: 3 }));
-    assert_eq!(rt; narrow_line(&y, &mut r), Err(NoColour { x: 3 }));
+    let first = Err(NoColour { x: 3 });
+    assert!(rt; (refused, narrow_line(&y, &mut r)) == (first, first));
 }
 
 #[test]
 fn refusal_as_text(rt: HostRuntime) -> Result<(), Fail> {
-    assert_eq!(rt;
-        NoColour { x: 3 }.to_string(rt.alloc())?.as_str(),
-        "7 Colour"
-    );
+    let shown = NoColour { x: 3 }.to_string(rt.alloc())?;
+    assert!(rt; shown.as_str() == "7 Colour");
     Ok(())
 }

@@ -4,11 +4,12 @@ ghost use Rattle.std.specs.Prelude.{◌≡◌, ◌*◌, ◌⊎◌, length, repli
 ghost use Rattle.ffv1_plane.specs.Quantisation.{contexts_of};
 ghost use Rattle.ffv1_range.specs.Symbols.{AreHeld, AllHeld};
 
+use super::line::holds;
 use super::rows::plain::put_row;
 use ffv1_line::{RollingRows, encode_line};
 use ffv1_plane::QuantSet;
 use ffv1_range::{Fault, RangeEncoder, StateTable};
-use std::process::Abort;
+use std::alloc::Global;
 use std::test::Fail;
 
 /// Samples of a kind: any, nearly alike, or by leaps of half or all of their range, whose residuals
@@ -89,7 +90,47 @@ fn rows_agree(
     Ok(same)
 }
 
-/// Whether they give the same bytes too, from fresh states.
+/// Whether two encoders have the same bytes.
+fn end_alike(passes: RangeEncoder, plain: RangeEncoder) -> Result<bool, Fault> {
+    let bytes = passes.finish_full()?;
+    let others = plain.finish_full()?;
+    Ok(bytes == others)
+}
+
+/// Whether they give the same bytes too.
+fn bytes_agree(
+    alloc: Global,
+    table: &StateTable,
+    set: &QuantSet,
+    states: &mut [u8],
+    others: &mut [u8],
+    rows: &mut RollingRows<Vec<u16>>,
+    kind: u8,
+    bits: u8,
+) -> Result<bool, Fault>
+    requires bits { (bits ≡ 8) ⊎ (bits ≡ 9) }
+    requires rows { length states.old ≡ contexts_of set.now * 32 }
+    requires others { length others.old ≡ contexts_of set.now * 32 }
+    requires held { AllHeld table.now states.old }
+    requires others_held { AllHeld table.now others.old }
+{
+    let mut passes = RangeEncoder::new(alloc);
+    let mut plain = RangeEncoder::new(alloc);
+    let same = rows_agree(
+        &mut passes,
+        &mut plain,
+        table,
+        set,
+        states,
+        others,
+        rows,
+        kind,
+        bits,
+    )?;
+    Ok(same & end_alike(passes, plain)?)
+}
+
+/// The same from fresh states, of rows so wide.
 fn agree(
     rt: &HostRuntime,
     table: &StateTable,
@@ -104,11 +145,8 @@ fn agree(
     let mut rows = RollingRows::new(rt.alloc(), width)?;
     let mut states = vec![in rt.alloc(); 128u8; set.contexts() as usize * 32]?;
     let mut others = vec![in rt.alloc(); 128u8; set.contexts() as usize * 32]?;
-    let mut passes = RangeEncoder::new(rt.alloc());
-    let mut plain = RangeEncoder::new(rt.alloc());
-    let same = rows_agree(
-        &mut passes,
-        &mut plain,
+    let same = bytes_agree(
+        rt.alloc(),
         table,
         set,
         states.as_mut_slice(),
@@ -117,8 +155,7 @@ fn agree(
         kind,
         bits,
     )?;
-    let bytes = passes.finish_full()?;
-    Ok(same && bytes == plain.finish_full()?)
+    Ok(same)
 }
 
 /// Whether rows of each kind agree, of the widths from one to before another.
@@ -160,28 +197,30 @@ fn blocks_agree(
     Ok(narrow && wide && all_agree(rt, table, set, 300, 301, bits)?)
 }
 
+/// Whether rows of 65 samples agree, of 8 and of 9 bits.
+fn depths_agree(rt: &HostRuntime, table: &StateTable, set: &QuantSet) -> Result<bool, Fail>
+    requires fresh { AreHeld table.now (replicate 32 128) }
+{
+    Ok(all_agree(rt, table, set, 65, 66, 8)? && all_agree(rt, table, set, 65, 66, 9)?)
+}
+
 #[test]
 fn rows_of_eight_bits(rt: HostRuntime) -> Result<(), Fail> {
     let table = StateTable::standard();
     let set = QuantSet::small(rt.alloc())?;
-    assert!(rt; blocks_agree(&rt, &table, &set, 8)?);
-    Ok(())
+    holds(&rt, blocks_agree(&rt, &table, &set, 8))
 }
 
 #[test]
 fn rows_of_nine_bits(rt: HostRuntime) -> Result<(), Fail> {
     let table = StateTable::standard();
     let set = QuantSet::small(rt.alloc())?;
-    assert!(rt; blocks_agree(&rt, &table, &set, 9)?);
-    Ok(())
+    holds(&rt, blocks_agree(&rt, &table, &set, 9))
 }
 
 #[test]
 fn rows_by_the_large_set(rt: HostRuntime) -> Result<(), Fail> {
     let table = StateTable::standard();
     let set = QuantSet::large(rt.alloc())?;
-    assert!(rt;
-        all_agree(&rt, &table, &set, 65, 66, 8)? && all_agree(&rt, &table, &set, 65, 66, 9)?
-    );
-    Ok(())
+    holds(&rt, depths_agree(&rt, &table, &set))
 }

@@ -1,42 +1,39 @@
 //! Files that are built of chunks.
 
-use super::files::twice;
-use ffv1_avi::{AviFault, AviHead, AviReader, write_avi};
-use ffv1_wire::{FromRead, ToWrite};
-use std::alloc::{AllocError, Allocator};
+ghost use Rattle.std.specs.Prelude.{◌≤◌};
+
+use super::files::{file_of, has_numbers, opened, reads_end, reads_frame};
+use ffv1_avi::{AviFault, AviHead, AviReader};
+use ffv1_wire::FromRead;
+use std::alloc::{AllocError, Global};
+use std::process::Abort;
 use std::test::Fail;
 
-/// A chunk behind others: its header, its bytes, its padding.
-fn chunk<A: Allocator>(
-    out: &mut Vec<u8, A>,
-    name: &[u8; 4],
-    bytes: &[u8],
-) -> Result<(), AllocError> {
-    let size = bytes.len().min(1 << 20) as u32;
+/// A chunk of two parts behind others: its header, its bytes, its padding.
+fn chunk(out: &mut Vec<u8>, name: &[u8; 4], first: &[u8], others: &[u8]) -> Result<(), AllocError> {
+    let len = first.len().saturating_add(others.len());
+    let size = len.min(1 << 20) as u32;
     out.extend_from_slice(name)?;
     out.extend_from_slice(&size.to_le_bytes())?;
-    out.extend_from_slice(bytes)?;
-    if bytes.len() % 2 == 1 {
-        out.extend_from_slice(&[0])?;
-    }
-    Ok(())
+    out.extend_from_slice(first)?;
+    out.extend_from_slice(others)?;
+    out.extend_from_slice(&[0][..len % 2])
 }
 
-/// A list or RIFF behind others.
-fn list<A: Allocator + Copy>(
-    alloc: A,
-    out: &mut Vec<u8, A>,
+/// One chunk of two parts.
+fn one_chunk(
+    alloc: Global,
     name: &[u8; 4],
-    own: &[u8; 4],
-    chunks: &[u8],
-) -> Result<(), AllocError> {
-    let mut bytes = Vec::from_slice(alloc, own)?;
-    bytes.extend_from_slice(chunks)?;
-    chunk(out, name, bytes.as_slice())
+    first: &[u8],
+    others: &[u8],
+) -> Result<Vec<u8>, AllocError> {
+    let mut out = Vec::new(alloc);
+    chunk(&mut out, name, first, others)?;
+    Ok(out)
 }
 
 /// So many zeros.
-pub fn zeros<A: Allocator>(alloc: A, count: usize) -> Result<Vec<u8, A>, AllocError> {
+pub fn zeros(alloc: Global, count: usize) -> Result<Vec<u8>, AllocError> {
     let mut bytes = Vec::new(alloc);
     bytes.resize(count, 0)?;
     Ok(bytes)
@@ -52,68 +49,71 @@ fn header(kind: &[u8; 4], rate: u8, scale: u8) -> [u8; 56] {
     bytes
 }
 
-/// A format with a record of these bytes.
-fn format<A: Allocator>(alloc: A, width: u8, record: &[u8]) -> Result<Vec<u8, A>, AllocError> {
-    let mut bytes = Vec::from_slice(
-        alloc,
-        &[40, 0, 0, 0, width, 0, 0, 0, 2, 0, 0, 0, 1, 0, 24, 0],
-    )?;
-    bytes.extend_from_slice(b"FFV1")?;
-    bytes.extend_from_slice(&[0; 20])?;
-    bytes.extend_from_slice(record)?;
-    Ok(bytes)
+/// A format before its record, of width 0.
+const FORMAT: [u8; 40] =
+    *b"\x28\0\0\0\0\0\0\0\x02\0\0\0\x01\0\x18\0FFV1\0\0\0\0\0\0\0\0\0\0\0\0\0\0\0\0\0\0\0\0";
+
+/// The 40 bytes of a format, before its record.
+fn format(width: u8) -> [u8; 40] {
+    let mut bytes = FORMAT;
+    bytes[4] = width;
+    bytes
 }
 
-/// A stream's list behind others, as FFmpeg writes it.
-fn stream<A: Allocator + Copy>(
-    alloc: A,
-    out: &mut Vec<u8, A>,
-    width: u8,
-    record: &[u8],
-) -> Result<(), AllocError> {
+/// The chunks of a stream's list, as FFmpeg writes them.
+fn stream_chunks(out: &mut Vec<u8>, width: u8, record: &[u8]) -> Result<(), AllocError> {
+    chunk(out, b"strh", &header(b"vids", 25, 1), b"")?;
+    chunk(out, b"strf", &format(width), record)?;
+    chunk(out, b"JUNK", &[0; 4120], b"")?;
+    chunk(out, b"vprp", &[0; 68], b"")
+}
+
+/// A stream's list behind others.
+fn stream(alloc: Global, out: &mut Vec<u8>, width: u8, record: &[u8]) -> Result<(), AllocError> {
     let mut chunks = Vec::new(alloc);
-    chunk(&mut chunks, b"strh", &header(b"vids", 25, 1))?;
-    chunk(
-        &mut chunks,
-        b"strf",
-        format(alloc, width, record)?.as_slice(),
-    )?;
-    chunk(&mut chunks, b"JUNK", zeros(alloc, 4120)?.as_slice())?;
-    chunk(&mut chunks, b"vprp", zeros(alloc, 68)?.as_slice())?;
-    list(alloc, out, b"LIST", b"strl", chunks.as_slice())
+    stream_chunks(&mut chunks, width, record)?;
+    chunk(out, b"LIST", b"strl", chunks.as_slice())
 }
 
-/// A file of hdrl's and movi's chunks in the structure that FFmpeg writes.
-fn file<A: Allocator + Copy>(
-    alloc: A,
+/// The chunks of hdrl, with these streams.
+fn hdrl_chunks(out: &mut Vec<u8>, streams: &[u8]) -> Result<(), AllocError> {
+    chunk(out, b"avih", &[0; 56], b"")?;
+    out.extend_from_slice(streams)?;
+    chunk(out, b"JUNK", b"odmldmlh\xF8\x00\x00\x00", &[0; 248])
+}
+
+/// The list hdrl behind others.
+fn hdrl(alloc: Global, out: &mut Vec<u8>, streams: &[u8]) -> Result<(), AllocError> {
+    let mut chunks = Vec::new(alloc);
+    hdrl_chunks(&mut chunks, streams)?;
+    chunk(out, b"LIST", b"hdrl", chunks.as_slice())
+}
+
+/// The chunks of a file in the structure that FFmpeg writes.
+fn riff_chunks(
+    alloc: Global,
+    out: &mut Vec<u8>,
     streams: &[u8],
     movi: &[u8],
-) -> Result<Vec<u8, A>, AllocError> {
-    let mut hdrl = Vec::new(alloc);
-    chunk(&mut hdrl, b"avih", zeros(alloc, 56)?.as_slice())?;
-    hdrl.extend_from_slice(streams)?;
-    let mut odml = Vec::from_slice(alloc, b"odmldmlh\xF8\x00\x00\x00")?;
-    odml.extend_from_slice(zeros(alloc, 248)?.as_slice())?;
-    chunk(&mut hdrl, b"JUNK", odml.as_slice())?;
+) -> Result<(), AllocError> {
+    hdrl(alloc, out, streams)?;
+    let software = b"Lavf59.27.100\0";
+    chunk(out, b"LIST", b"INFOISFT\x0E\x00\x00\x00", software)?;
+    chunk(out, b"JUNK", &[0; 1016], b"")?;
+    chunk(out, b"LIST", b"movi", movi)?;
+    let index = b"00dc\x10\x00\x00\x00\x04\x00\x00\x00\x05\x00\x00\x00";
+    chunk(out, b"idx1", index, b"")
+}
+
+/// A file of hdrl's and movi's chunks.
+fn file(alloc: Global, streams: &[u8], movi: &[u8]) -> Result<Vec<u8>, AllocError> {
     let mut riff = Vec::new(alloc);
-    list(alloc, &mut riff, b"LIST", b"hdrl", hdrl.as_slice())?;
-    let mut info = Vec::new(alloc);
-    chunk(&mut info, b"ISFT", b"Lavf59.27.100\0")?;
-    list(alloc, &mut riff, b"LIST", b"INFO", info.as_slice())?;
-    chunk(&mut riff, b"JUNK", zeros(alloc, 1016)?.as_slice())?;
-    list(alloc, &mut riff, b"LIST", b"movi", movi)?;
-    chunk(
-        &mut riff,
-        b"idx1",
-        b"00dc\x10\x00\x00\x00\x04\x00\x00\x00\x05\x00\x00\x00",
-    )?;
-    let mut out = Vec::new(alloc);
-    list(alloc, &mut out, b"RIFF", b"AVI ", riff.as_slice())?;
-    Ok(out)
+    riff_chunks(alloc, &mut riff, streams, movi)?;
+    one_chunk(alloc, b"RIFF", b"AVI ", riff.as_slice())
 }
 
 /// Two streams, as FFmpeg writes them.
-fn two_streams<A: Allocator + Copy>(alloc: A) -> Result<Vec<u8, A>, AllocError> {
+fn two_streams(alloc: Global) -> Result<Vec<u8>, AllocError> {
     let mut streams = Vec::new(alloc);
     stream(alloc, &mut streams, 2, b"abc\0")?;
     stream(alloc, &mut streams, 3, b"other")?;
@@ -121,123 +121,119 @@ fn two_streams<A: Allocator + Copy>(alloc: A) -> Result<Vec<u8, A>, AllocError> 
 }
 
 /// Two frames, and an index between them.
-fn two_frames<A: Allocator>(alloc: A) -> Result<Vec<u8, A>, AllocError> {
+fn two_frames(alloc: Global) -> Result<Vec<u8>, AllocError> {
     let mut movi = Vec::new(alloc);
-    chunk(&mut movi, b"00dc", b"hello")?;
-    chunk(&mut movi, b"ix00", b"index")?;
-    chunk(&mut movi, b"00dc", b"frames")?;
+    chunk(&mut movi, b"00dc", b"hello", b"")?;
+    chunk(&mut movi, b"ix00", b"index", b"")?;
+    chunk(&mut movi, b"00dc", b"frames", b"")?;
     Ok(movi)
 }
 
-/// A file of the two streams and the two frames.
-fn file_of_two<A: Allocator + Copy>(alloc: A) -> Result<Vec<u8, A>, AllocError> {
-    let streams = two_streams(alloc)?;
+/// A file of these streams and the two frames.
+fn file_of_frames(alloc: Global, streams: &[u8]) -> Result<Vec<u8>, AllocError> {
     let movi = two_frames(alloc)?;
-    file(alloc, streams.as_slice(), movi.as_slice())
+    file(alloc, streams, movi.as_slice())
+}
+
+/// A file of the two streams and the two frames.
+fn file_of_two(alloc: Global) -> Result<Vec<u8>, AllocError> {
+    let streams = two_streams(alloc)?;
+    file_of_frames(alloc, streams.as_slice())
+}
+
+/// Reads a file of the two streams and the two frames, up to how many bytes are left.
+fn left_of_two(rt: &impl Abort, alloc: Global, file: &[u8]) -> Result<usize, AviFault> {
+    let mut input = FromRead::new(file);
+    let mut reader = AviReader::open(alloc, &mut input)?;
+    has_numbers(rt, reader.head(), (2, 2, 25, 1), b"abc\0");
+    let mut frame = Vec::new(alloc);
+    reads_frame(rt, &mut reader, &mut input, &mut frame, b"hello");
+    reads_frame(rt, &mut reader, &mut input, &mut frame, b"frames");
+    reads_end(rt, &mut reader, &mut input, &mut frame);
+    reads_end(rt, &mut reader, &mut input, &mut frame);
+    Ok(input.into_inner().len())
 }
 
 #[test]
 fn as_ffmpeg_writes(rt: HostRuntime) -> Result<(), Fail> {
     let file = file_of_two(rt.alloc())?;
-    let mut input = FromRead::new(file.as_slice());
-    let mut reader = AviReader::open(rt.alloc(), &mut input)?;
-    assert_eq!(rt; (reader.head().width, reader.head().rate), (2, 25));
-    assert_eq!(rt; reader.head().config_record.as_slice(), b"abc\0".as_slice());
-    let mut frame = Vec::new(rt.alloc());
-    assert!(rt; reader.next_frame(&mut input, &mut frame)?);
-    assert_eq!(rt; frame.as_slice(), b"hello".as_slice());
-    assert!(rt; reader.next_frame(&mut input, &mut frame)?);
-    assert_eq!(rt; frame.as_slice(), b"frames".as_slice());
-    for _ in 0..2u8 {
-        assert!(rt; !reader.next_frame(&mut input, &mut frame)?);
-    }
     // the index is left unread
-    assert_eq!(rt; input.into_inner().len(), 24);
+    assert!(rt; left_of_two(&rt, rt.alloc(), file.as_slice()) == Ok(24));
     Ok(())
 }
 
-/// What a file with these streams, before the chunks of movi, answers.
-fn answer<A: Allocator + Copy>(alloc: A, streams: &[u8]) -> Result<AviFault, AllocError> {
+/// How a file with these streams, before the chunks of movi, is opened.
+fn answer(alloc: Global, streams: &[u8]) -> Result<(), AviFault> {
     let file = file(alloc, streams, b"")?;
-    match twice(alloc, file.as_slice()) {
-        Err(fault) => Ok(fault),
-        Ok((_, _, _, _)) => Ok(AviFault::Write),
-    }
-}
-
-/// A stream's list of these chunks.
-fn stream_of<A: Allocator + Copy>(alloc: A, chunks: &[u8]) -> Result<Vec<u8, A>, AllocError> {
-    let mut streams = Vec::new(alloc);
-    list(alloc, &mut streams, b"LIST", b"strl", chunks)?;
-    Ok(streams)
+    let _frame = opened(alloc, file.as_slice())?;
+    Ok(())
 }
 
 /// A stream's header with such a scale, and behind it these bytes as its format, where there are
 /// some.
-fn chunks_of<A: Allocator + Copy>(
-    alloc: A,
-    scale: u8,
-    format: &[u8],
-) -> Result<Vec<u8, A>, AllocError> {
-    let mut chunks = Vec::new(alloc);
-    chunk(&mut chunks, b"strh", &header(b"vids", 25, scale))?;
-    if !format.is_empty() {
-        chunk(&mut chunks, b"strf", format)?;
+fn header_and_format(out: &mut Vec<u8>, scale: u8, format: &[u8]) -> Result<(), AllocError> {
+    chunk(out, b"strh", &header(b"vids", 25, scale), b"")?;
+    if format.is_empty() {
+        return Ok(());
     }
-    Ok(chunks)
+    chunk(out, b"strf", format, b"")
+}
+
+/// A stream's list of them.
+fn stream_of(alloc: Global, scale: u8, format: &[u8]) -> Result<Vec<u8>, AllocError> {
+    let mut chunks = Vec::new(alloc);
+    header_and_format(&mut chunks, scale, format)?;
+    one_chunk(alloc, b"LIST", b"strl", chunks.as_slice())
 }
 
 /// A first stream of scale 0 without a format, and another one.
-fn without_format<A: Allocator + Copy>(alloc: A) -> Result<AviFault, AllocError> {
-    let first = chunks_of(alloc, 0, b"")?;
-    let mut streams = stream_of(alloc, first.as_slice())?;
+fn without_format(alloc: Global) -> Result<(), AviFault> {
+    let mut streams = stream_of(alloc, 0, b"")?;
     stream(alloc, &mut streams, 3, b"other")?;
     answer(alloc, streams.as_slice())
 }
 
 /// A stream of such a scale, with the first bytes of a format.
-fn with_format<A: Allocator + Copy>(
-    alloc: A,
-    scale: u8,
-    len: usize,
-) -> Result<AviFault, AllocError> {
-    let mut bytes = format(alloc, 2, b"")?;
-    bytes.truncate(len);
-    let first = chunks_of(alloc, scale, bytes.as_slice())?;
-    let streams = stream_of(alloc, first.as_slice())?;
+fn with_format(alloc: Global, scale: u8, len: usize) -> Result<(), AviFault>
+    requires { len ≤ 40 }
+{
+    let streams = stream_of(alloc, scale, &format(2)[..len])?;
     answer(alloc, streams.as_slice())
 }
 
 /// A stream, behind it another list, and behind that these bytes.
-fn behind_list<A: Allocator + Copy>(alloc: A, behind: &[u8]) -> Result<AviFault, AllocError> {
-    let mut streams = Vec::new(alloc);
-    stream(alloc, &mut streams, 2, b"abc\0")?;
+fn streams_before(alloc: Global, out: &mut Vec<u8>, behind: &[u8]) -> Result<(), AllocError> {
+    stream(alloc, out, 2, b"abc\0")?;
     let chunks = b"dmlh\x04\x00\x00\x00\x01\x00\x00\x00";
-    list(alloc, &mut streams, b"LIST", b"odml", chunks)?;
-    streams.extend_from_slice(behind)?;
+    chunk(out, b"LIST", b"odml", chunks)?;
+    out.extend_from_slice(behind)
+}
+
+/// How a file of them is opened.
+fn behind_list(alloc: Global, behind: &[u8]) -> Result<(), AviFault> {
+    let mut streams = Vec::new(alloc);
+    streams_before(alloc, &mut streams, behind)?;
     answer(alloc, streams.as_slice())
 }
 
 #[test]
-fn other_streams(rt: HostRuntime) -> Result<(), Fail> {
-    assert!(rt; answer(rt.alloc(), b"")? == AviFault::NoFfv1);
+fn other_streams(rt: HostRuntime) {
+    assert!(rt; answer(rt.alloc(), b"") == Err(AviFault::NoFfv1));
     // no format: judged before the scale that is zero alone
-    assert!(rt; without_format(rt.alloc())? == AviFault::NoFfv1);
-    assert!(rt; with_format(rt.alloc(), 0, 40)? == AviFault::NotAvi);
+    assert!(rt; without_format(rt.alloc()) == Err(AviFault::NoFfv1));
+    assert!(rt; with_format(rt.alloc(), 0, 40) == Err(AviFault::NotAvi));
     // a leftover of the list, not the start of movi
-    assert!(rt; behind_list(rt.alloc(), b"")? == AviFault::Write);
-    assert!(rt; behind_list(rt.alloc(), b"\0")? == AviFault::Truncated);
-    Ok(())
+    assert!(rt; behind_list(rt.alloc(), b"") == Ok(()));
+    assert!(rt; behind_list(rt.alloc(), b"\0") == Err(AviFault::Truncated));
 }
 
 #[test]
-fn short_format(rt: HostRuntime) -> Result<(), Fail> {
-    assert!(rt; with_format(rt.alloc(), 1, 39)? == AviFault::NoFfv1);
-    Ok(())
+fn short_format(rt: HostRuntime) {
+    assert!(rt; with_format(rt.alloc(), 1, 39) == Err(AviFault::NoFfv1));
 }
 
 /// The microseconds that are written.
-fn microseconds<A: Allocator + Copy>(alloc: A, rate: u32, scale: u32) -> Result<[u8; 4], AviFault> {
+fn microseconds(alloc: Global, rate: u32, scale: u32) -> Result<[u8; 4], AviFault> {
     let head = AviHead {
         width: 1,
         height: 1,
@@ -245,10 +241,8 @@ fn microseconds<A: Allocator + Copy>(alloc: A, rate: u32, scale: u32) -> Result<
         scale,
         config_record: Vec::new(alloc),
     };
-    let mut out = ToWrite::new(Vec::new(alloc));
-    let frames: Vec<Vec<u8, A>, A> = Vec::new(alloc);
-    write_avi(&mut out, &head, frames.as_slice())?;
-    let file = out.into_inner();
+    let frames = Vec::new(alloc);
+    let file = file_of(alloc, &head, frames.as_slice())?;
     let mut bytes = [0u8; 4];
     if 36 <= file.len() {
         bytes.copy_from_slice(&file[32..36]);
@@ -256,18 +250,16 @@ fn microseconds<A: Allocator + Copy>(alloc: A, rate: u32, scale: u32) -> Result<
     Ok(bytes)
 }
 
+/// Frames at such a rate last so many microseconds.
+fn lasts(rt: &impl Abort, alloc: Global, rate: u32, scale: u32, expected: u32) {
+    assert!(rt; microseconds(alloc, rate, scale) == Ok(expected.to_le_bytes()));
+}
+
 #[test]
-fn microseconds_a_frame(rt: HostRuntime) -> Result<(), Fail> {
-    assert_eq!(rt; microseconds(rt.alloc(), 25, 1)?, 40000u32.to_le_bytes());
-    assert_eq!(rt;
-        microseconds(rt.alloc(), 30000, 1001)?,
-        33366u32.to_le_bytes()
-    );
-    assert_eq!(rt; microseconds(rt.alloc(), 1, 4295)?, u32::MAX.to_le_bytes());
-    assert_eq!(rt;
-        microseconds(rt.alloc(), 1, 4294)?,
-        4294000000u32.to_le_bytes()
-    );
-    assert_eq!(rt; microseconds(rt.alloc(), 0, 0)?, [0; 4]);
-    Ok(())
+fn microseconds_a_frame(rt: HostRuntime) {
+    lasts(&rt, rt.alloc(), 25, 1, 40000);
+    lasts(&rt, rt.alloc(), 30000, 1001, 33366);
+    lasts(&rt, rt.alloc(), 1, 4295, u32::MAX);
+    lasts(&rt, rt.alloc(), 1, 4294, 4294000000);
+    lasts(&rt, rt.alloc(), 0, 0, 0);
 }

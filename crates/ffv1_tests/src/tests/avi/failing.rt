@@ -4,17 +4,18 @@ ghost use Rattle.std.specs.Prelude.{◌<◌, ◌≤◌};
 
 use super::example::EXAMPLE;
 use super::files::{example_frames, example_head};
-use super::large::file_of;
+use super::large::file_of_one;
 use ffv1_avi::{AviFault, AviHead, AviReader, write_avi};
 use ffv1_doubles::{FailingReader, ShortWriter};
 use ffv1_wire::{FromRead, ToWrite};
-use std::alloc::Allocator;
+use std::alloc::Global;
 use std::io::ErrorKind;
+use std::process::Abort;
 use std::test::Fail;
 
 /// Reads the file's one frame, and whatever comes next twice.
-fn read_all<A: Allocator + Copy>(
-    alloc: A,
+fn read_all(
+    alloc: Global,
     before: usize,
 ) -> Result<
     (
@@ -35,23 +36,17 @@ fn read_all<A: Allocator + Copy>(
 
 #[test]
 fn failing_reads(rt: HostRuntime) {
+    let failed = Err(AviFault::Read);
     let mut opens = 0u32;
     let mut frames = 0u32;
     for before in 0..40usize {
-        match read_all(rt.alloc(), before) {
-            Err(fault) => {
-                assert!(rt; fault == AviFault::Read);
-                opens = opens.saturating_add(1);
-            }
-            Ok(answers) => {
-                let (first, second, third) = answers;
-                if first == Ok(true) {
-                    assert!(rt; second == Ok(false) && third == Ok(false));
-                } else {
-                    assert!(rt; first == Err(AviFault::Read) && second == first && third == first);
-                    frames = frames.saturating_add(1);
-                }
-            }
+        let answers = read_all(rt.alloc(), before);
+        if answers == Err(AviFault::Read) {
+            opens = opens.saturating_add(1);
+        } else if answers == Ok((failed, failed, failed)) {
+            frames = frames.saturating_add(1);
+        } else {
+            assert!(rt; answers == Ok((Ok(true), Ok(false), Ok(false))));
         }
     }
     assert_eq!(rt; frames, 3);
@@ -60,8 +55,8 @@ fn failing_reads(rt: HostRuntime) {
 
 /// Reads the first frame, which fails, and whatever comes next: both answers, and how many bytes
 /// the vector then has, and whether the second call read nothing.
-fn failing_frame<A: Allocator + Copy>(
-    alloc: A,
+fn failing_frame(
+    alloc: Global,
     file: &[u8],
     before: usize,
 ) -> Result<
@@ -86,46 +81,48 @@ fn failing_frame<A: Allocator + Copy>(
 #[test]
 fn failing_in_a_frame(rt: HostRuntime) -> Result<(), Fail> {
     // 70000 bytes, of which 65536 are read and held before the read that fails
-    let file = file_of(rt.alloc(), 69_999)?;
+    let file = file_of_one(rt.alloc(), 69_999)?;
     let failed = Err(AviFault::Read);
-    let read = failing_frame(rt.alloc(), file.as_slice(), 1700)?;
-    assert!(rt; read == (failed, 65_536, failed, 0, 1));
+    let read = failing_frame(rt.alloc(), file.as_slice(), 1700);
+    assert!(rt; read == Ok((failed, 65_536, failed, 0, 1)));
     Ok(())
 }
 
-/// Writes the example where there is room for so many bytes, which it then is to begin with. Also
-/// the failures.
+/// Writes the example where there is room for so many bytes: the answer, whether it is without
+/// failures, and whether as many bytes of the example are written as there is room for.
 fn write_short(
-    rt: &HostRuntime,
+    alloc: Global,
     head: &AviHead,
     frames: &[Vec<u8>],
     room: usize,
-) -> Result<(Result<(), AviFault>, u64), Fail>
+) -> (Result<(), AviFault>, bool, bool)
     requires width { head.now.width ≤ 8192 }
     requires height { head.now.height ≤ 8192 }
     requires room { room < 299 }
 {
-    let mut out = ToWrite::new(ShortWriter::new(rt.alloc(), room, 298, None));
+    let mut out = ToWrite::new(ShortWriter::new(alloc, room, 298, None));
     let answer = write_avi(&mut out, head, frames);
-    let failures = out.failures();
-    if out.into_inner().held() != &EXAMPLE[..room] {
-        return Err(Fail::new("other bytes"));
+    let whole = out.failures() == 0;
+    let filled = out.into_inner().held() == &EXAMPLE[..room];
+    (answer, whole, filled)
+}
+
+/// The example is written where there is room for it, and fails with less.
+fn writes_where_room(rt: &impl Abort, alloc: Global, head: &AviHead, frames: &[Vec<u8>])
+    requires width { head.now.width ≤ 8192 }
+    requires height { head.now.height ≤ 8192 }
+{
+    let failed = (Err(AviFault::Write), false, true);
+    for room in 0..298usize {
+        assert!(rt; write_short(alloc, head, frames, room) == failed);
     }
-    Ok((answer, failures))
+    assert!(rt; write_short(alloc, head, frames, 298) == (Ok(()), true, true));
 }
 
 #[test]
 fn short_writes(rt: HostRuntime) -> Result<(), Fail> {
     let head = example_head(&rt)?;
     let frames = example_frames(&rt)?;
-    for room in 0..299usize {
-        let (answer, failures) = write_short(&rt, &head, frames.as_slice(), room)?;
-        assert_eq!(rt; failures == 0, room == 298);
-        if room == 298 {
-            assert!(rt; answer == Ok(()));
-        } else {
-            assert!(rt; answer == Err(AviFault::Write));
-        }
-    }
+    writes_where_room(&rt, rt.alloc(), &head, frames.as_slice());
     Ok(())
 }

@@ -5,15 +5,14 @@ ghost use Rattle.std.specs.Prelude.{◌≡◌, ◌+◌, ◌<◌, ◌≤◌, IfOk
 use super::example::EXAMPLE;
 use ffv1_avi::{AviFault, AviHead, AviReader, write_avi};
 use ffv1_wire::{FromRead, ToWrite};
-use std::alloc::Allocator;
+use std::alloc::{Allocator, Global};
+use std::process::Abort;
 use std::test::Fail;
 
 /// What a file begins with, and what its first frame is read as.
-fn opened<A: Allocator + Copy>(alloc: A, file: &[u8]) -> Result<Result<bool, AviFault>, AviFault> {
-    let mut input = FromRead::new(file);
-    let mut reader = AviReader::open(alloc, &mut input)?;
-    let mut frame = Vec::new(alloc);
-    Ok(reader.next_frame(&mut input, &mut frame))
+pub(super) fn opened(alloc: Global, file: &[u8]) -> Result<Result<bool, AviFault>, AviFault> {
+    let (first, _second, _len, _left) = twice(alloc, file)?;
+    Ok(first)
 }
 
 /// Puts four bytes in place of others.
@@ -58,11 +57,15 @@ pub(super) fn example_frames(rt: &HostRuntime) -> Result<Vec<Vec<u8>>, Fail> {
 }
 
 /// The file of a head and of frames.
-fn file_of(rt: &HostRuntime, head: &AviHead, frames: &[Vec<u8>]) -> Result<Vec<u8>, AviFault>
+pub(super) fn file_of(
+    alloc: Global,
+    head: &AviHead,
+    frames: &[Vec<u8>],
+) -> Result<Vec<u8>, AviFault>
     requires width { head.now.width ≤ 8192 }
     requires height { head.now.height ≤ 8192 }
 {
-    let mut out = ToWrite::new(Vec::new(rt.alloc()));
+    let mut out = ToWrite::new(Vec::new(alloc));
     write_avi(&mut out, head, frames)?;
     Ok(out.into_inner())
 }
@@ -71,28 +74,57 @@ fn file_of(rt: &HostRuntime, head: &AviHead, frames: &[Vec<u8>]) -> Result<Vec<u
 fn written(rt: HostRuntime) -> Result<(), Fail> {
     let head = example_head(&rt)?;
     let frames = example_frames(&rt)?;
-    let file = file_of(&rt, &head, frames.as_slice())?;
+    let file = file_of(rt.alloc(), &head, frames.as_slice())?;
     assert_eq!(rt; file.as_slice(), EXAMPLE.as_slice());
     Ok(())
+}
+
+/// The head has these numbers (width, height, rate and scale) and this record.
+pub(super) fn has_numbers(
+    rt: &impl Abort,
+    head: &AviHead,
+    numbers: (u32, u32, u32, u32),
+    record: &[u8],
+) {
+    let same = head.config_record.as_slice() == record;
+    let found = (head.width, head.height, head.rate, head.scale);
+    assert!(rt; (found, same) == (numbers, true));
+}
+
+/// The next frame has these bytes.
+pub(super) fn reads_frame(
+    rt: &impl Abort,
+    reader: &mut AviReader,
+    input: &mut FromRead<&[u8]>,
+    frame: &mut Vec<u8>,
+    bytes: &[u8],
+) {
+    let answer = reader.next_frame(input, frame);
+    let same = frame.as_slice() == bytes;
+    assert!(rt; (answer, same) == (Ok(true), true));
+}
+
+/// There is no frame any more, and the vector is empty.
+pub(super) fn reads_end(
+    rt: &impl Abort,
+    reader: &mut AviReader,
+    input: &mut FromRead<&[u8]>,
+    frame: &mut Vec<u8>,
+) {
+    let answer = reader.next_frame(input, frame);
+    assert!(rt; (answer, frame.len()) == (Ok(false), 0));
 }
 
 #[test]
 fn read_back(rt: HostRuntime) -> Result<(), Fail> {
     let mut input = FromRead::new(EXAMPLE.as_slice());
     let mut reader = AviReader::open(rt.alloc(), &mut input)?;
-    let head = reader.head();
-    assert_eq!(rt;
-        (head.width, head.height, head.rate, head.scale),
-        (352, 288, 25, 1)
-    );
-    assert_eq!(rt; head.config_record.as_slice(), &EXAMPLE[212..272]);
+    has_numbers(&rt, reader.head(), (352, 288, 25, 1), &EXAMPLE[212..272]);
     let mut frame = Vec::new(rt.alloc());
-    assert!(rt; reader.next_frame(&mut input, &mut frame)?);
-    assert_eq!(rt; frame.as_slice(), b"\xFE\x7B\x00\x00\x02".as_slice());
-    for _ in 0..2u8 {
-        assert!(rt; !reader.next_frame(&mut input, &mut frame)?);
-        assert_eq!(rt; frame.len(), 0);
-    }
+    let bytes = b"\xFE\x7B\x00\x00\x02";
+    reads_frame(&rt, &mut reader, &mut input, &mut frame, bytes);
+    reads_end(&rt, &mut reader, &mut input, &mut frame);
+    reads_end(&rt, &mut reader, &mut input, &mut frame);
     Ok(())
 }
 
@@ -108,33 +140,74 @@ fn beginnings(rt: HostRuntime) {
     }
 }
 
+/// The example with other bytes from a place on is read so.
+fn answers(
+    rt: &impl Abort,
+    alloc: Global,
+    at: usize,
+    bytes: [u8; 4],
+    answer: Result<Result<bool, AviFault>, AviFault>,
+)
+    requires { at < 290 }
+{
+    assert!(rt; opened(alloc, &changed(at, bytes)) == answer);
+}
+
 #[test]
 fn other_names(rt: HostRuntime) {
-    assert!(rt; opened(rt.alloc(), &changed(0, *b"RIFX")) == Err(AviFault::NotAvi));
-    assert!(rt; opened(rt.alloc(), &changed(8, *b"AVIX")) == Err(AviFault::NotAvi));
-    assert!(rt; opened(rt.alloc(), &changed(108, *b"auds")) == Err(AviFault::NoFfv1));
-    assert!(rt; opened(rt.alloc(), &changed(188, *b"FFVH")) == Err(AviFault::NoFfv1));
-    assert!(rt; opened(rt.alloc(), &changed(128, [0, 0, 0, 0])) == Err(AviFault::NotAvi));
-    assert!(rt; opened(rt.alloc(), &changed(132, [0, 0, 0, 0])) == Err(AviFault::NotAvi));
-    assert!(rt; opened(rt.alloc(), &changed(284, *b"LIST")) == Ok(Err(AviFault::NotAvi)));
-    assert!(rt; opened(rt.alloc(), &changed(284, *b"JUNK")) == Ok(Ok(false)));
-    assert!(rt; opened(rt.alloc(), &changed(20, *b"abcd")) == Err(AviFault::NoFfv1));
-    assert!(rt; opened(rt.alloc(), &changed(280, *b"abcd")) == Err(AviFault::NotAvi));
+    answers(&rt, rt.alloc(), 0, *b"RIFX", Err(AviFault::NotAvi));
+    answers(&rt, rt.alloc(), 8, *b"AVIX", Err(AviFault::NotAvi));
+    answers(&rt, rt.alloc(), 108, *b"auds", Err(AviFault::NoFfv1));
+    answers(&rt, rt.alloc(), 188, *b"FFVH", Err(AviFault::NoFfv1));
+    answers(&rt, rt.alloc(), 128, [0, 0, 0, 0], Err(AviFault::NotAvi));
+    answers(&rt, rt.alloc(), 132, [0, 0, 0, 0], Err(AviFault::NotAvi));
+    answers(&rt, rt.alloc(), 284, *b"LIST", Ok(Err(AviFault::NotAvi)));
+    answers(&rt, rt.alloc(), 284, *b"JUNK", Ok(Ok(false)));
+    answers(&rt, rt.alloc(), 20, *b"abcd", Err(AviFault::NoFfv1));
+    answers(&rt, rt.alloc(), 280, *b"abcd", Err(AviFault::NotAvi));
 }
 
 #[test]
 fn other_sizes(rt: HostRuntime) {
     // RIFF and lists below 4; a chunk that passes its list by its padding alone; the format too
     // short, or too long for its list
-    assert!(rt; opened(rt.alloc(), &changed(4, [3, 0, 0, 0])) == Err(AviFault::NotAvi));
-    assert!(rt; opened(rt.alloc(), &changed(16, [3, 0, 0, 0])) == Err(AviFault::NotAvi));
-    assert!(rt; opened(rt.alloc(), &changed(276, [17, 0, 0, 0])) == Ok(Err(AviFault::Truncated)));
-    assert!(rt; opened(rt.alloc(), &changed(168, [39, 0, 0, 0])) == Err(AviFault::Truncated));
-    assert!(rt; opened(rt.alloc(), &changed(168, [102, 0, 0, 0])) == Err(AviFault::Truncated));
-    assert!(rt;
-        opened(rt.alloc(), &changed(288, [255, 255, 255, 255])) == Ok(Err(AviFault::Truncated))
+    answers(&rt, rt.alloc(), 4, [3, 0, 0, 0], Err(AviFault::NotAvi));
+    answers(&rt, rt.alloc(), 16, [3, 0, 0, 0], Err(AviFault::NotAvi));
+    answers(
+        &rt,
+        rt.alloc(),
+        276,
+        [17, 0, 0, 0],
+        Ok(Err(AviFault::Truncated)),
     );
-    assert!(rt; opened(rt.alloc(), &changed(288, [0, 0, 0, 0])) == Ok(Err(AviFault::EmptyFrame)));
+    answers(
+        &rt,
+        rt.alloc(),
+        168,
+        [39, 0, 0, 0],
+        Err(AviFault::Truncated),
+    );
+    answers(
+        &rt,
+        rt.alloc(),
+        168,
+        [102, 0, 0, 0],
+        Err(AviFault::Truncated),
+    );
+    answers(
+        &rt,
+        rt.alloc(),
+        288,
+        [255, 255, 255, 255],
+        Ok(Err(AviFault::Truncated)),
+    );
+    answers(
+        &rt,
+        rt.alloc(),
+        288,
+        [0, 0, 0, 0],
+        Ok(Err(AviFault::EmptyFrame)),
+    );
 }
 
 /// The example with lists of 2147483647 and 2147483000 bytes, and a frame of so many.
@@ -187,21 +260,23 @@ fn long_formats(rt: HostRuntime) {
     assert!(rt; opened(rt.alloc(), &long_format(67108864)) == Err(AviFault::Truncated));
 }
 
-#[test]
-fn texts(rt: HostRuntime) -> Result<(), Fail> {
-    let texts = [
-        (AviFault::OutOfMemory, "2 OutOfMemory"),
-        (AviFault::NotAvi, "50 NotAvi"),
-        (AviFault::NoFfv1, "51 NoFfv1"),
-        (AviFault::Truncated, "52 Truncated"),
-        (AviFault::ChunkTooLong, "53 ChunkTooLong"),
-        (AviFault::EmptyFrame, "54 EmptyFrame"),
-        (AviFault::TooLarge, "55 TooLarge"),
-        (AviFault::Read, "56 Read"),
-        (AviFault::Write, "57 Write"),
-    ];
-    for (fault, text) in texts {
-        assert_eq!(rt; fault.to_string(rt.alloc())?.as_str(), text);
+/// A fault displays so.
+fn shows(rt: &impl Abort, alloc: Global, fault: AviFault, text: &str) {
+    match fault.to_string(alloc) {
+        Ok(shown) => assert!(rt; shown.as_str() == text),
+        Err(_) => assert!(rt; false),
     }
-    Ok(())
+}
+
+#[test]
+fn texts(rt: HostRuntime) {
+    shows(&rt, rt.alloc(), AviFault::OutOfMemory, "2 OutOfMemory");
+    shows(&rt, rt.alloc(), AviFault::NotAvi, "50 NotAvi");
+    shows(&rt, rt.alloc(), AviFault::NoFfv1, "51 NoFfv1");
+    shows(&rt, rt.alloc(), AviFault::Truncated, "52 Truncated");
+    shows(&rt, rt.alloc(), AviFault::ChunkTooLong, "53 ChunkTooLong");
+    shows(&rt, rt.alloc(), AviFault::EmptyFrame, "54 EmptyFrame");
+    shows(&rt, rt.alloc(), AviFault::TooLarge, "55 TooLarge");
+    shows(&rt, rt.alloc(), AviFault::Read, "56 Read");
+    shows(&rt, rt.alloc(), AviFault::Write, "57 Write");
 }

@@ -1,17 +1,25 @@
 //! Frames of many bytes.
 
 use super::built::zeros;
-use ffv1_avi::{AviFault, AviHead, AviReader, write_avi};
-use ffv1_wire::{FromRead, ToWrite};
-use std::alloc::Allocator;
+use super::files::file_of;
+use ffv1_avi::{AviFault, AviHead, AviReader};
+use ffv1_wire::FromRead;
+use std::alloc::Global;
+use std::process::Abort;
 use std::test::Fail;
 
-/// A file of one frame of so many zeros and a byte 7.
-pub fn file_of<A: Allocator + Copy>(alloc: A, zeros_before: usize) -> Result<Vec<u8, A>, Fail> {
+/// One frame of so many zeros and a byte 7.
+fn frames_of(alloc: Global, zeros_before: usize) -> Result<Vec<Vec<u8>>, Fail> {
     let mut frame = zeros(alloc, zeros_before)?;
     frame.push(7)?;
     let mut frames = Vec::new(alloc);
     frames.push(frame)?;
+    Ok(frames)
+}
+
+/// A file of one such frame.
+pub fn file_of_one(alloc: Global, zeros_before: usize) -> Result<Vec<u8>, Fail> {
+    let frames = frames_of(alloc, zeros_before)?;
     let head = AviHead {
         width: 1,
         height: 1,
@@ -19,15 +27,13 @@ pub fn file_of<A: Allocator + Copy>(alloc: A, zeros_before: usize) -> Result<Vec
         scale: 1,
         config_record: Vec::new(alloc),
     };
-    let mut out = ToWrite::new(Vec::new(alloc));
-    write_avi(&mut out, &head, frames.as_slice())?;
-    Ok(out.into_inner())
+    Ok(file_of(alloc, &head, frames.as_slice())?)
 }
 
 /// What the first frame of the file reads as, how many bytes it has, its last byte, and how many
 /// bytes are left.
-fn first_frame<A: Allocator + Copy>(
-    alloc: A,
+fn first_frame(
+    alloc: Global,
     file: &[u8],
 ) -> Result<(Result<bool, AviFault>, usize, Option<u8>, usize), AviFault> {
     let mut input = FromRead::new(file);
@@ -42,22 +48,40 @@ fn first_frame<A: Allocator + Copy>(
     ))
 }
 
-#[test]
-fn large_frames(rt: HostRuntime) -> Result<(), Fail> {
-    for zeros_before in [65_535usize, 65_536, 131_072, 3_000_000, 67_108_863] {
-        let file = file_of(rt.alloc(), zeros_before)?;
-        let read = first_frame(rt.alloc(), file.as_slice())?;
-        assert!(rt; read == (Ok(true), zeros_before + 1, Some(7), 0));
-    }
+/// A file of so many zeros and a byte 7 is read so.
+fn reads_large(
+    rt: &impl Abort,
+    alloc: Global,
+    zeros_before: usize,
+    expected: (Result<bool, AviFault>, usize, Option<u8>, usize),
+) -> Result<(), Fail> {
+    let file = file_of_one(alloc, zeros_before)?;
+    assert!(rt; first_frame(alloc, file.as_slice()) == Ok(expected));
     Ok(())
 }
 
 #[test]
+fn large_frames(rt: HostRuntime) -> Result<(), Fail> {
+    reads_large(&rt, rt.alloc(), 65_535, (Ok(true), 65_536, Some(7), 0))?;
+    reads_large(&rt, rt.alloc(), 65_536, (Ok(true), 65_537, Some(7), 0))?;
+    reads_large(&rt, rt.alloc(), 131_072, (Ok(true), 131_073, Some(7), 0))?;
+    reads_large(
+        &rt,
+        rt.alloc(),
+        3_000_000,
+        (Ok(true), 3_000_001, Some(7), 0),
+    )?;
+    reads_large(
+        &rt,
+        rt.alloc(),
+        67_108_863,
+        (Ok(true), 67_108_864, Some(7), 0),
+    )
+}
+
+#[test]
 fn frame_too_long(rt: HostRuntime) -> Result<(), Fail> {
-    let file = file_of(rt.alloc(), 67_108_864)?;
-    let read = first_frame(rt.alloc(), file.as_slice())?;
     // the frame and its padding are left
-    let left = 67_108_866;
-    assert!(rt; read == (Err(AviFault::ChunkTooLong), 0, None, left));
-    Ok(())
+    let expected = (Err(AviFault::ChunkTooLong), 0, None, 67_108_866);
+    reads_large(&rt, rt.alloc(), 67_108_864, expected)
 }

@@ -1,15 +1,17 @@
 //! Memory that is refused to the reader of AVI, at each request, and how much it asks for.
 
-ghost use Rattle.std.specs.Prelude.{◌≡◌, ◌≤◌, IfOk};
+ghost use Rattle.std.specs.Prelude.{◌≡◌, IfOk};
 
-use ffv1_avi::{AviFault, AviHead, AviReader, write_avi};
+use super::files::{file_of, twice};
+use ffv1_avi::{AviFault, AviHead, AviReader};
 use ffv1_doubles::Scarce;
-use ffv1_wire::{FromRead, ToWrite};
-use std::alloc::Allocator;
+use ffv1_wire::FromRead;
+use std::alloc::{Allocator, Global};
+use std::process::Abort;
 use std::test::Fail;
 
 /// The head of a file.
-fn head_of<A: Allocator>(alloc: A) -> Result<AviHead<A>, AviFault>
+fn head_of(alloc: Global) -> Result<AviHead, AviFault>
     ensures width { IfOk result (λ h. h.width ≡ 2) }
     ensures height { IfOk result (λ h. h.height ≡ 2) }
 {
@@ -25,7 +27,7 @@ fn head_of<A: Allocator>(alloc: A) -> Result<AviHead<A>, AviFault>
 }
 
 /// One frame of so many bytes.
-fn frames_of<A: Allocator + Copy>(alloc: A, len: usize) -> Result<Vec<Vec<u8, A>, A>, AviFault> {
+fn frames_of(alloc: Global, len: usize) -> Result<Vec<Vec<u8>>, AviFault> {
     let mut frame = Vec::new(alloc);
     frame.resize(len, 7)?;
     let mut frames = Vec::new(alloc);
@@ -35,69 +37,73 @@ fn frames_of<A: Allocator + Copy>(alloc: A, len: usize) -> Result<Vec<Vec<u8, A>
     Ok(frames)
 }
 
-/// The file of a head and of frames.
-fn written<A: Allocator + Copy>(
-    alloc: A,
-    head: &AviHead<A>,
-    frames: &[Vec<u8, A>],
-) -> Result<Vec<u8, A>, AviFault>
-    requires width { head.now.width ≤ 8192 }
-    requires height { head.now.height ≤ 8192 }
-{
-    let mut out = ToWrite::new(Vec::new(alloc));
-    write_avi(&mut out, head, frames)?;
-    Ok(out.into_inner())
-}
-
 /// A file of one frame of so many bytes.
-fn file_of<A: Allocator + Copy>(alloc: A, len: usize) -> Result<Vec<u8, A>, AviFault> {
+fn file_of_one(alloc: Global, len: usize) -> Result<Vec<u8>, AviFault> {
     let head = head_of(alloc)?;
     let frames = frames_of(alloc, len)?;
-    written(alloc, &head, frames.as_slice())
+    file_of(alloc, &head, frames.as_slice())
 }
 
-/// What the first frame is read as, how many bytes the vector then holds, and what is read next,
-/// where the request behind `before` others is refused.
-fn read_scarcely<A: Allocator + Copy>(
+/// What the first frame is read as, how many bytes the vector then holds, and what is read next.
+fn read_two<A: Allocator + Copy>(
     alloc: A,
+    file: &[u8],
+) -> Result<(Result<bool, AviFault>, usize, Result<bool, AviFault>), AviFault> {
+    let (first, second, len, _left) = twice(alloc, file)?;
+    Ok((first, len, second))
+}
+
+/// The same where the request behind `before` others is refused.
+fn read_scarcely(
+    alloc: Global,
     file: &[u8],
     before: u64,
 ) -> Result<(Result<bool, AviFault>, usize, Result<bool, AviFault>), AviFault> {
     let heap = Scarce::new(alloc, before);
-    let mut input = FromRead::new(file);
-    let mut reader = AviReader::open(&heap, &mut input)?;
-    let mut frame = Vec::new(&heap);
-    let first = reader.next_frame(&mut input, &mut frame);
-    let len = frame.len();
-    let second = reader.next_frame(&mut input, &mut frame);
-    Ok((first, len, second))
+    read_two(&heap, file)
+}
+
+/// Each request is refused in its turn.
+fn refused_in_turn(rt: &impl Abort, alloc: Global, file: &[u8]) {
+    let refused = Err(AviFault::OutOfMemory);
+    assert!(rt; read_scarcely(alloc, file, 0) == Err(AviFault::OutOfMemory));
+    assert!(rt; read_scarcely(alloc, file, 1) == Ok((refused, 0, refused)));
+    assert!(rt; read_scarcely(alloc, file, 2) == Ok((refused, 65_536, refused)));
+    assert!(rt; read_scarcely(alloc, file, 3) == Ok((refused, 196_608, refused)));
+    for before in 4..7u64 {
+        assert!(rt; read_scarcely(alloc, file, before) == Ok((Ok(true), 200_000, Ok(false))));
+    }
 }
 
 #[test]
 fn each_request_of_the_reader(rt: HostRuntime) -> Result<(), Fail> {
-    let file = file_of(rt.alloc(), 200_000)?;
-    let refused = Err(AviFault::OutOfMemory);
-    for before in 0..7u64 {
-        let answer = read_scarcely(rt.alloc(), file.as_slice(), before);
-        match before {
-            0 => assert!(rt; answer == Err(AviFault::OutOfMemory)),
-            1 => assert!(rt; answer == Ok((refused, 0, refused))),
-            2 => assert!(rt; answer == Ok((refused, 65_536, refused))),
-            3 => assert!(rt; answer == Ok((refused, 196_608, refused))),
-            _ => assert!(rt; answer == Ok((Ok(true), 200_000, Ok(false)))),
-        }
-    }
+    let file = file_of_one(rt.alloc(), 200_000)?;
+    refused_in_turn(&rt, rt.alloc(), file.as_slice());
     Ok(())
 }
 
-/// How many bytes the vector has, and room for, where the frame ends early.
-fn read_short<A: Allocator + Copy>(alloc: A, file: &[u8]) -> Option<(usize, usize)> {
+/// What the first frame is read as, and how many bytes the vector has, and room for.
+fn read_short<A: Allocator + Copy>(
+    alloc: A,
+    file: &[u8],
+) -> Result<(Result<bool, AviFault>, usize, usize), AviFault> {
     let mut input = FromRead::new(file);
-    let mut reader = AviReader::open(alloc, &mut input).ok()?;
+    let mut reader = AviReader::open(alloc, &mut input)?;
     let mut frame = Vec::new(alloc);
-    match reader.next_frame(&mut input, &mut frame) {
-        Err(AviFault::Truncated) => Some((frame.len(), frame.capacity())),
-        _ => None,
+    let answer = reader.next_frame(&mut input, &mut frame);
+    Ok((answer, frame.len(), frame.capacity()))
+}
+
+/// Room is made for a frame that ends behind so many bytes.
+fn makes_room(rt: &impl Abort, alloc: Global, file: &[u8], read: usize) {
+    let head = file.len().saturating_sub(400_000);
+    let end = head.saturating_add(read).min(file.len());
+    match read_short(alloc, &file[..end]) {
+        Ok((answer, len, room)) => {
+            assert!(rt; (answer, len) == (Err(AviFault::Truncated), read));
+            assert!(rt; room <= read.saturating_add(read).saturating_add(65_536));
+        }
+        Err(_) => assert!(rt; false),
     }
 }
 
@@ -105,17 +111,14 @@ fn read_short<A: Allocator + Copy>(alloc: A, file: &[u8]) -> Option<(usize, usiz
 /// were read and 65536 more.
 #[test]
 fn room_for_a_frame(rt: HostRuntime) -> Result<(), Fail> {
-    let file = file_of(rt.alloc(), 400_000)?;
-    let head = file.len().saturating_sub(400_000);
-    for read in [0usize, 1, 65_535, 65_536, 65_537, 196_607, 196_608, 399_999] {
-        let end = head.saturating_add(read).min(file.len());
-        match read_short(rt.alloc(), &file[..end]) {
-            Some((len, room)) => {
-                assert_eq!(rt; len, read);
-                assert!(rt; room <= read.saturating_add(read).saturating_add(65_536));
-            }
-            None => assert!(rt; false),
-        }
-    }
+    let file = file_of_one(rt.alloc(), 400_000)?;
+    makes_room(&rt, rt.alloc(), file.as_slice(), 0);
+    makes_room(&rt, rt.alloc(), file.as_slice(), 1);
+    makes_room(&rt, rt.alloc(), file.as_slice(), 65_535);
+    makes_room(&rt, rt.alloc(), file.as_slice(), 65_536);
+    makes_room(&rt, rt.alloc(), file.as_slice(), 65_537);
+    makes_room(&rt, rt.alloc(), file.as_slice(), 196_607);
+    makes_room(&rt, rt.alloc(), file.as_slice(), 196_608);
+    makes_room(&rt, rt.alloc(), file.as_slice(), 399_999);
     Ok(())
 }

@@ -19,3 +19,18 @@ pub(crate) fn put_at(
 {
     encoder.put(table, &mut states[slot], bit)
 }
+
+/// A symbol whose exponent has 31 ones, behind the decision that the number is not zero.
+pub(crate) fn put_long_exponent(
+    encoder: &mut RangeEncoder,
+    table: &StateTable,
+    states: &mut [u8],
+) -> Result<(), Fault>
+    requires { AreHeld table.now states.old }
+{
+    put_at(encoder, table, states, 0, false)?;
+    for k in 0..31usize {
+        put_at(encoder, table, states, 1 + k.min(9), true)?;
+    }
+    Ok(())
+}

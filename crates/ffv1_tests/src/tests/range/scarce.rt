@@ -5,7 +5,7 @@ ghost use Rattle.ffv1_range.specs.Symbols.{AreHeld};
 
 use ffv1_doubles::Scarce;
 use ffv1_range::{Fault, RangeEncoder, StateTable};
-use std::alloc::Allocator;
+use std::alloc::{Allocator, Global};
 use std::process::Abort;
 
 /// One of the calls that write, on fresh states.
@@ -42,28 +42,39 @@ fn write_many<A: Allocator>(
     all
 }
 
-/// After the growth that comes after `before` others was refused, every call is.
-fn refuses_for_good<A: Allocator + Copy>(
+/// A growth of these calls is refused, and then every call is.
+fn refuses_calls<A: Allocator>(
     rt: &impl Abort,
-    alloc: A,
+    encoder: &mut RangeEncoder<A>,
     table: &StateTable,
     call: u8,
-    before: u64,
 )
+    requires { AreHeld table.now (replicate 32 128) }
+{
+    assert!(rt; !write_many(encoder, table, call, 800));
+    for other in 0..4u8 {
+        assert!(rt; write_one(encoder, table, other) == Err(Fault::OutOfMemory));
+    }
+}
+
+/// Whether the first ending, else the other, is refused.
+fn refuses_ending<A: Allocator>(encoder: RangeEncoder<A>, sentinel: bool) -> bool {
+    let ended = if sentinel {
+        encoder.finish_sentinel()
+    } else {
+        encoder.finish_full()
+    };
+    ended.err() == Some(Fault::OutOfMemory)
+}
+
+/// After the growth that comes after `before` others was refused, every call is.
+fn refuses_for_good(rt: &impl Abort, alloc: Global, table: &StateTable, call: u8, before: u64)
     requires { AreHeld table.now (replicate 32 128) }
 {
     let heap = Scarce::new(alloc, before);
     let mut encoder = RangeEncoder::new(&heap);
-    assert!(rt; !write_many(&mut encoder, table, call, 800));
-    for other in 0..4u8 {
-        assert!(rt; write_one(&mut encoder, table, other) == Err(Fault::OutOfMemory));
-    }
-    let ended = if before % 2 == 0 {
-        encoder.finish_full()
-    } else {
-        encoder.finish_sentinel()
-    };
-    assert!(rt; ended.err() == Some(Fault::OutOfMemory));
+    refuses_calls(rt, &mut encoder, table, call);
+    assert!(rt; refuses_ending(encoder, before % 2 != 0));
 }
 
 #[test]
@@ -78,8 +89,8 @@ fn each_growth_of_each_call(rt: HostRuntime) {
 
 /// Whether the first ending, else the other, of so many decisions is refused, where the decisions
 /// themselves are not.
-fn ending_is_refused<A: Allocator + Copy>(
-    alloc: A,
+fn ending_is_refused(
+    alloc: Global,
     table: &StateTable,
     count: u32,
     before: u64,
@@ -89,15 +100,8 @@ fn ending_is_refused<A: Allocator + Copy>(
 {
     let heap = Scarce::new(alloc, before);
     let mut encoder = RangeEncoder::new(&heap);
-    if !write_many(&mut encoder, table, 0, count) {
-        return false;
-    }
-    let ended = if sentinel {
-        encoder.finish_sentinel()
-    } else {
-        encoder.finish_full()
-    };
-    ended.err() == Some(Fault::OutOfMemory)
+    let written = write_many(&mut encoder, table, 0, count);
+    written & refuses_ending(encoder, sentinel)
 }
 
 #[test]

@@ -3,7 +3,6 @@
 use super::made::{mono, mono_large};
 use ffv1_record::{Colour, Config, Held, RecordFault};
 use std::process::Abort;
-use std::test::Fail;
 
 /// The configuration holds this.
 fn holds(
@@ -29,7 +28,7 @@ fn holds(
 }
 
 #[test]
-fn whatever_the_height(rt: HostRuntime) -> Result<(), Fail> {
+fn whatever_the_height(rt: HostRuntime) -> Result<(), RecordFault> {
     for height in [2u32, 288, 8192] {
         let mut config = mono(rt.alloc(), 352, height)?;
         config.chroma_planes = true;
@@ -41,23 +40,21 @@ fn whatever_the_height(rt: HostRuntime) -> Result<(), Fail> {
     Ok(())
 }
 
+/// The configuration with chroma planes, of these colours and columns.
+fn of_colours(mut config: Config, colour: Colour, extra_plane: bool, columns: u32) -> Config {
+    config.colour = colour;
+    config.chroma_planes = true;
+    config.extra_plane = extra_plane;
+    config.columns = columns;
+    config
+}
+
 #[test]
-fn by_colour(rt: HostRuntime) -> Result<(), Fail> {
-    let mut config = mono_large(rt.alloc(), 352, 288)?;
-    config.colour = Colour::Rct;
-    config.chroma_planes = true;
-    config.columns = 4;
+fn by_colour(rt: HostRuntime) -> Result<(), RecordFault> {
+    let config = of_colours(mono_large(rt.alloc(), 352, 288)?, Colour::Rct, false, 4);
     holds(&rt, config, 4259328, 3168, 1056, 4)?;
-    let mut config = mono(rt.alloc(), 352, 288)?;
-    config.chroma_planes = true;
-    config.extra_plane = true;
-    config.columns = 2;
+    let config = of_colours(mono(rt.alloc(), 352, 288)?, Colour::YCbCr, true, 2);
     holds(&rt, config, 127872, 1056, 352, 2)?;
-    let mut config = mono(rt.alloc(), 352, 288)?;
-    config.colour = Colour::Rct;
-    config.chroma_planes = true;
-    config.extra_plane = true;
-    config.columns = 2;
-    holds(&rt, config, 127872, 4224, 1408, 2)?;
-    Ok(())
+    let config = of_colours(mono(rt.alloc(), 352, 288)?, Colour::Rct, true, 2);
+    holds(&rt, config, 127872, 4224, 1408, 2)
 }

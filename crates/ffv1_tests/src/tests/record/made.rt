@@ -3,9 +3,9 @@
 use super::symbols::Symbols;
 use crate::tests::made;
 use ffv1_plane::QuantSet;
+use ffv1_range::Fault;
 use ffv1_record::{Config, RecordFault, Sets, parity};
 use std::alloc::Global;
-use std::test::Fail;
 
 /// Mono pictures by the small set, ec and intra 1.
 pub(super) fn mono(alloc: Global, width: u32, height: u32) -> Result<Config, RecordFault> {
@@ -65,7 +65,7 @@ pub(super) const MONO: Made = Made {
 };
 
 /// Writes the deltas, that of state 128 given.
-fn put_deltas(symbols: &mut Symbols, delta: i8) -> Result<(), Fail> {
+fn put_deltas(symbols: &mut Symbols, delta: i8) -> Result<(), Fault> {
     for k in 0..255u8 {
         if k == 127 {
             symbols.signed_number(i32::from(delta))?;
@@ -77,7 +77,7 @@ fn put_deltas(symbols: &mut Symbols, delta: i8) -> Result<(), Fail> {
 }
 
 /// Writes the runs of a table, the first given, each less 1.
-fn put_table(symbols: &mut Symbols, first: u16, more: &[u8]) -> Result<(), Fail> {
+fn put_table(symbols: &mut Symbols, first: u16, more: &[u8]) -> Result<(), Fault> {
     let mut states = [128u8; 32];
     symbols.run(&mut states, u32::from(first))?;
     for &run in more {
@@ -87,7 +87,7 @@ fn put_table(symbols: &mut Symbols, first: u16, more: &[u8]) -> Result<(), Fail>
 }
 
 /// Writes the fourth or fifth table of the small or the large set.
-fn put_coarse(symbols: &mut Symbols, large: bool) -> Result<(), Fail> {
+fn put_coarse(symbols: &mut Symbols, large: bool) -> Result<(), Fault> {
     if large {
         return put_table(symbols, 2, [10u8, 113].as_slice());
     }
@@ -95,7 +95,7 @@ fn put_coarse(symbols: &mut Symbols, large: bool) -> Result<(), Fail> {
 }
 
 /// Writes the small or the large set, the first run of its first table given less 1.
-fn put_set(symbols: &mut Symbols, first: u16, large: bool) -> Result<(), Fail> {
+fn put_set(symbols: &mut Symbols, first: u16, large: bool) -> Result<(), Fault> {
     let more = [0u8, 2, 6, 10, 104];
     put_table(symbols, first, more.as_slice())?;
     put_table(symbols, 0, more.as_slice())?;
@@ -105,24 +105,33 @@ fn put_set(symbols: &mut Symbols, first: u16, large: bool) -> Result<(), Fail> {
     Ok(())
 }
 
+/// Writes numbers.
+fn put_numbers(symbols: &mut Symbols, numbers: &[u16]) -> Result<(), Fault> {
+    for &number in numbers {
+        symbols.number(u32::from(number))?;
+    }
+    Ok(())
+}
+
 /// Writes the parameters before the sets.
-fn put_head(symbols: &mut Symbols, made: Made) -> Result<(), Fail> {
-    symbols.number(u32::from(made.version))?;
-    symbols.number(u32::from(made.micro_version))?;
-    symbols.number(u32::from(made.coder))?;
+fn put_head(symbols: &mut Symbols, made: Made) -> Result<(), Fault> {
+    put_numbers(symbols, &[made.version, made.micro_version, made.coder])?;
     if made.coder == 2 {
         put_deltas(symbols, made.delta)?;
     }
-    symbols.number(u32::from(made.colour))?;
-    symbols.number(u32::from(made.bits))?;
+    put_numbers(symbols, &[made.colour, made.bits])?;
     symbols.truth(made.chroma_planes)?;
-    symbols.number(u32::from(made.log2_h))?;
-    symbols.number(0)?;
+    put_numbers(symbols, &[made.log2_h, 0])?;
     symbols.truth(made.extra_plane)?;
-    symbols.number(u32::from(made.columns))?;
-    symbols.number(u32::from(made.rows))?;
-    symbols.number(u32::from(made.count))?;
-    Ok(())
+    put_numbers(symbols, &[made.columns, made.rows, made.count])
+}
+
+/// Writes all parameters.
+fn put_parameters(symbols: &mut Symbols, made: Made) -> Result<(), Fault> {
+    put_head(symbols, made)?;
+    put_set(symbols, made.run, made.large)?;
+    symbols.truth(made.coded)?;
+    put_numbers(symbols, &[made.ec, made.intra])
 }
 
 /// Puts the parity behind bytes, big end first.
@@ -133,13 +142,9 @@ pub(super) fn sealed(mut bytes: Vec<u8>) -> Result<Vec<u8>, RecordFault> {
 }
 
 /// The record, and how many decisions it has.
-pub(super) fn made_record(alloc: Global, made: Made) -> Result<(Vec<u8>, u64), Fail> {
+pub(super) fn made_record(alloc: Global, made: Made) -> Result<(Vec<u8>, u64), RecordFault> {
     let mut symbols = Symbols::new(alloc);
-    put_head(&mut symbols, made)?;
-    put_set(&mut symbols, made.run, made.large)?;
-    symbols.truth(made.coded)?;
-    symbols.number(u32::from(made.ec))?;
-    symbols.number(u32::from(made.intra))?;
+    put_parameters(&mut symbols, made)?;
     let decisions = symbols.decisions();
     let bytes = symbols.finish()?;
     Ok((sealed(bytes)?, decisions))

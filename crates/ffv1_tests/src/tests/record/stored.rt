@@ -1,6 +1,6 @@
 //! Records as others write them.
 
-ghost use Rattle.std.specs.Prelude.{◌≡◌, IfOk, IfErr};
+ghost use Rattle.std.specs.Prelude.{◌≡◌, ◌<◌, IfOk, IfErr};
 
 use super::made::{MONO, Made, made_record, mono, mono_large};
 use ffv1_plane::QuantSet;
@@ -39,13 +39,24 @@ const FFMPEG: [u8; 42] = [
 
 /// A configuration is written so, and read back equal.
 fn stored(rt: &impl Abort, alloc: Global, config: Config, bytes: &[u8]) -> Result<(), RecordFault> {
-    let (width, height) = (config.width, config.height);
     let checked = config.check()?;
     let record = write_record(alloc, &checked)?;
-    assert!(rt; record.as_slice() == bytes);
-    assert_eq!(rt; parity(&record), 0);
-    let again = read_record(alloc, &record, width, height)?;
-    assert!(rt; again == checked);
+    read_as(rt, alloc, &record, bytes, &checked)
+}
+
+/// A record has these bytes and no remainder, and is read as this configuration.
+fn read_as(
+    rt: &impl Abort,
+    alloc: Global,
+    record: &[u8],
+    bytes: &[u8],
+    checked: &Checked,
+) -> Result<(), RecordFault> {
+    assert!(rt; record == bytes);
+    assert!(rt; parity(record) == 0);
+    let (width, height) = (checked.config().width, checked.config().height);
+    let again = read_record(alloc, record, width, height)?;
+    assert!(rt; again == *checked);
     Ok(())
 }
 
@@ -95,26 +106,45 @@ fn written_and_read_back(
 }
 
 #[test]
-fn read_back(rt: HostRuntime) -> Result<(), Fail> {
-    let heap = rt.alloc();
-    let checked = mono_large(heap, 31, 17)?.check()?;
-    assert!(rt; written_and_read_back(heap, &checked)? == checked);
-    let other = mono(heap, 31, 17)?.check()?;
-    assert!(rt; other != checked && other.config().sets != checked.config().sets);
-    assert_eq!(rt; other.config().sets.as_slice().len(), 1);
-    assert!(rt; other.config().sets.as_slice()[0] == *other.config().sets.get(0));
+fn read_back(rt: HostRuntime) -> Result<(), RecordFault> {
+    let checked = mono_large(rt.alloc(), 31, 17)?.check()?;
+    is_read_back(&rt, rt.alloc(), &checked)
+}
+
+/// A configuration by the large set is read back equal, and differs from that by the small one.
+fn is_read_back(rt: &impl Abort, alloc: Global, checked: &Checked) -> Result<(), RecordFault> {
+    let again = written_and_read_back(alloc, checked)?;
+    assert!(rt; again == *checked);
+    differs_from_small(rt, alloc, checked)
+}
+
+/// A configuration differs from that by the small set.
+fn differs_from_small(
+    rt: &impl Abort,
+    alloc: Global,
+    checked: &Checked,
+) -> Result<(), RecordFault> {
+    let other = mono(alloc, 31, 17)?.check()?;
+    assert!(rt; other != *checked);
+    has_one_other_set(rt, &other.config().sets, &checked.config().sets);
     Ok(())
 }
 
+/// The first sets are other than the second, and one.
+fn has_one_other_set(rt: &impl Abort, sets: &Sets, others: &Sets) {
+    assert!(rt; *sets != *others);
+    assert!(rt; sets.as_slice().len() == 1);
+    assert!(rt; sets.as_slice()[0] == *sets.get(0));
+}
+
 #[test]
-fn written_and_read(rt: HostRuntime) -> Result<(), Fail> {
+fn written_and_read(rt: HostRuntime) -> Result<(), RecordFault> {
     let heap = rt.alloc();
     stored(&rt, heap, mono(heap, 1, 1)?, SMALL.as_slice())?;
     stored(&rt, heap, mono_large(heap, 1, 1)?, LARGE.as_slice())?;
     let mut two = mono(heap, 1, 1)?;
     two.coder = Coder::Two([0; 255]);
-    stored(&rt, heap, two, TWO.as_slice())?;
-    Ok(())
+    stored(&rt, heap, two, TWO.as_slice())
 }
 
 /// What is made takes so many decisions, and these bytes.
@@ -124,15 +154,14 @@ fn counts(
     made: Made,
     count: u64,
     bytes: &[u8],
-) -> Result<(), Fail> {
+) -> Result<(), RecordFault> {
     let (record, decisions) = made_record(alloc, made)?;
-    assert_eq!(rt; decisions, count);
-    assert!(rt; record.as_slice() == bytes);
+    assert!(rt; (decisions, record.as_slice()) == (count, bytes));
     Ok(())
 }
 
 #[test]
-fn counted(rt: HostRuntime) -> Result<(), Fail> {
+fn counted(rt: HostRuntime) -> Result<(), RecordFault> {
     let heap = rt.alloc();
     counts(&rt, heap, MONO, 164, SMALL.as_slice())?;
     counts(
@@ -145,24 +174,40 @@ fn counted(rt: HostRuntime) -> Result<(), Fail> {
         188,
         LARGE.as_slice(),
     )?;
-    counts(&rt, heap, Made { coder: 2, ..MONO }, 421, TWO.as_slice())?;
-    Ok(())
+    counts(&rt, heap, Made { coder: 2, ..MONO }, 421, TWO.as_slice())
 }
 
 #[test]
-fn of_another_program(rt: HostRuntime) -> Result<(), Fail> {
+fn of_another_program(rt: HostRuntime) -> Result<(), RecordFault> {
     let checked = read_record(rt.alloc(), FFMPEG.as_slice(), 64, 64)?;
-    let config = checked.config();
-    assert!(rt;
-        config.colour == Colour::YCbCr && !config.chroma_planes && config.ec && config.intra
-    );
-    assert!(rt; config.columns == 2 && config.rows == 2 && config.sets.len() == 2);
-    let (eleven, five, one) = ([1u8, 1, 3, 7, 23, 93], [1u8, 3, 124], [128u8]);
-    let first = config.sets.get(0);
-    assert!(rt; first.runs(0) == eleven.as_slice() && first.runs(2) == eleven.as_slice());
-    assert!(rt; first.runs(3) == one.as_slice() && first.runs(4) == one.as_slice());
-    let second = config.sets.get(1);
-    assert!(rt; second.runs(1) == eleven.as_slice() && second.runs(2) == five.as_slice());
-    assert!(rt; second.runs(4) == five.as_slice());
+    is_of_gray_pictures(&rt, checked.config());
     Ok(())
+}
+
+/// A configuration is that of gray pictures in four slices.
+fn is_of_gray_pictures(rt: &impl Abort, config: &Config) {
+    assert!(rt; config.colour == Colour::YCbCr);
+    let flags = (config.chroma_planes, config.ec, config.intra);
+    assert!(rt; (flags, config.columns, config.rows) == ((false, true, true), 2, 2));
+    assert!(rt; config.sets.len() == 2);
+    have_their_runs(rt, config.sets.get(0), config.sets.get(1));
+}
+
+/// The first set has the runs of the small one, and the second those of the large one.
+fn have_their_runs(rt: &impl Abort, first: &QuantSet, second: &QuantSet) {
+    let (eleven, five, one) = ([1u8, 1, 3, 7, 23, 93], [1u8, 3, 124], [128u8]);
+    has_runs(rt, first, 0, &eleven);
+    has_runs(rt, first, 2, &eleven);
+    has_runs(rt, first, 3, &one);
+    has_runs(rt, first, 4, &one);
+    has_runs(rt, second, 1, &eleven);
+    has_runs(rt, second, 2, &five);
+    has_runs(rt, second, 4, &five);
+}
+
+/// A table of a set has these runs.
+fn has_runs(rt: &impl Abort, set: &QuantSet, table: usize, runs: &[u8])
+    requires { table < 5 }
+{
+    assert!(rt; set.runs(table) == runs);
 }

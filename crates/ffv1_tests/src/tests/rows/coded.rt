@@ -9,7 +9,7 @@ use super::plain::{put_residuals, put_row, put_too_long};
 use super::tried::Seen;
 use ffv1_line::{encode_line, reset};
 use ffv1_plane::QuantSet;
-use ffv1_range::{RangeEncoder, StateTable};
+use ffv1_range::{Fault, RangeEncoder, StateTable};
 use std::test::Fail;
 
 /// A row coded in passes, and plainly by others, with the same counts.
@@ -46,7 +46,7 @@ fn code_row(
     Ok(())
 }
 
-/// The rows of a cell, coded both ways with the same counts.
+/// The rows of a cell, coded both ways with the same counts, and the same states behind them.
 fn code_rows(
     passes: &mut RangeEncoder,
     plain: &mut RangeEncoder,
@@ -73,6 +73,9 @@ fn code_rows(
         code_row(
             passes, plain, table, set, states, others, two, one, cur, bits, seen,
         )?;
+    }
+    if &*states != &*others {
+        return Err(Fail::new("rows coded to other states"));
     }
     Ok(())
 }
@@ -122,9 +125,6 @@ pub(super) fn code_cell(
         bits,
         seen,
     )?;
-    if &*states != &*others {
-        return Err(Fail::new("rows coded to other states"));
-    }
     same_bytes(passes, plain)
 }
 
@@ -141,7 +141,7 @@ fn choose_row(
     bits: u8,
     refused: bool,
     seed: &mut u64,
-) -> Result<(), Fail>
+) -> Result<(), Fault>
     requires bits { (bits ≡ 8) ⊎ (bits ≡ 9) }
     requires some { 0 < length cur.old }
     requires two { length two.now ≡ length cur.old }
@@ -152,15 +152,13 @@ fn choose_row(
 {
     let width = cur.len();
     if !refused {
-        put_residuals(
+        return put_residuals(
             encoder, table, set, states, two, one, cur, width, bits, seed,
-        )?;
-        return Ok(());
+        );
     }
     let x = below(seed, width);
     put_residuals(encoder, table, set, states, two, one, cur, x, bits, seed)?;
-    put_too_long(encoder, table, set, states, two, one, cur, x)?;
-    Ok(())
+    put_too_long(encoder, table, set, states, two, one, cur, x)
 }
 
 /// The same of a row of a cell.
@@ -175,7 +173,7 @@ fn choose_line(
     bits: u8,
     refused: bool,
     seed: &mut u64,
-) -> Result<(), Fail>
+) -> Result<(), Fault>
     requires bits { (bits ≡ 8) ⊎ (bits ≡ 9) }
     requires above { 2 ≤ y }
     requires y { y < 42 }
@@ -207,7 +205,7 @@ fn choose_rows(
     bits: u8,
     refused: bool,
     seed: &mut u64,
-) -> Result<(), Fail>
+) -> Result<(), Fault>
     requires bits { (bits ≡ 8) ⊎ (bits ≡ 9) }
     requires some { 0 < width }
     requires width { width ≤ 300 }
@@ -233,7 +231,7 @@ pub(super) fn choose_cell(
     bits: u8,
     refused: bool,
     seed: &mut u64,
-) -> Result<Vec<u8>, Fail>
+) -> Result<Vec<u8>, Fault>
     requires bits { (bits ≡ 8) ⊎ (bits ≡ 9) }
     requires some { 0 < width }
     requires width { width ≤ 300 }
@@ -253,6 +251,5 @@ pub(super) fn choose_cell(
         refused,
         seed,
     )?;
-    let bytes = encoder.finish_full()?;
-    Ok(bytes)
+    encoder.finish_full()
 }

@@ -1,6 +1,6 @@
 //! Bytes read and written, and lines handed over, where calls fail.
 
-ghost use Rattle.std.specs.Prelude.{◌≡◌, ◌≤◌, ◌++◌, ◌+◌, ◌*◌, length, drop, IfOk};
+ghost use Rattle.std.specs.Prelude.{◌≡◌, ◌≤◌, ◌++◌, ◌+◌, ◌*◌, ◌<◌, length, drop, IfOk};
 
 use super::sinks::{KeepRows, RowsOut, keep_rows};
 use ffv1_doubles::{FailingReader, FailingWriter, ShortWriter};
@@ -8,18 +8,16 @@ use ffv1_wire::{
     ByteIn, ByteOut, Failed, FromRead, Line, LineSink, SinkFault, ToWrite, hand_over, laws,
     read_byte, read_full, skip, write_all,
 };
-use std::alloc::Allocator;
+use std::alloc::Global;
+use std::fmt::Display;
 use std::io::{ErrorKind, Read, Write, repeat};
+use std::process::Abort;
 use std::test::Fail;
 
-const KINDS: [ErrorKind; 3] = [
-    ErrorKind::Other,
-    ErrorKind::Interrupted,
-    ErrorKind::WouldBlock,
-];
+const BYTES: [u8; 6] = *b"abcdef";
 
 /// The bytes behind what the vector has.
-fn appended<A: Allocator>(vec: Vec<u8, A>, bytes: &[u8]) -> Result<Vec<u8, A>, Failed>
+fn appended(vec: Vec<u8>, bytes: &[u8]) -> Result<Vec<u8>, Failed>
     ensures { IfOk result (λ v. v.items ≡ vec.items ++ bytes.now) }
 {
     let mut out = ToWrite::new(vec);
@@ -121,17 +119,27 @@ fn three_rows(bytes: &[u8], width: usize) -> [Line<'_>; 3]
     ]
 }
 
+/// Whether bytes are put behind those of a vector.
+fn appends(alloc: Global, first: &[u8], others: &[u8], all: &[u8]) -> Result<bool, Fail> {
+    let appended = appended(first.to_vec(alloc)?, others)?;
+    Ok(appended.as_slice() == all)
+}
+
+/// How many bytes are written where none are given.
+fn write_nothing<W: Write + Drop>(out: W) -> Result<usize, Failed> {
+    let mut out = ToWrite::new(out);
+    out.write(b"")
+}
+
 #[test]
 fn memory(rt: HostRuntime) -> Result<(), Fail> {
-    let all = appended(b"ab".to_vec(rt.alloc())?, b"cde")?;
-    assert_eq!(rt; all.as_slice(), b"abcde".as_slice());
     let mut room = [0u8; 2];
-    assert_eq!(rt; second_on(b"abc", &mut room)?, 2);
+    assert!(rt; second_on(b"abc", &mut room) == Ok(2));
     assert_eq!(rt; room, *b"bc");
-    assert_eq!(rt; skip(&mut FromRead::new(repeat(7)), 10_000)?, 10_000);
-    let mut out = ToWrite::new(Vec::new(rt.alloc()));
-    assert_eq!(rt; out.write(b"")?, 0);
+    assert!(rt; skip(&mut FromRead::new(repeat(7)), 10_000) == Ok(10_000));
+    assert!(rt; write_nothing(Vec::new(rt.alloc())) == Ok(0));
     assert_eq!(rt; write_once(Vec::new(rt.alloc()), b"").1, 0);
+    assert!(rt; appends(rt.alloc(), b"ab", b"cde", b"abcde")?);
     Ok(())
 }
 
@@ -155,112 +163,185 @@ fn read_others<R: ByteIn>(
     Ok((len, byte, skip(input, 1)?))
 }
 
-#[test]
-fn end_of_input(rt: HostRuntime) -> Result<(), Fail> {
-    let mut input = FromRead::new(b"abcde".as_slice());
+/// What some bytes are read as, the room behind that, what others are read as, and the failures.
+fn read_to_the_end(
+    bytes: &[u8],
+) -> (
+    Result<(Option<u8>, u64, usize), Failed>,
+    [u8; 3],
+    Result<(usize, Option<u8>, u64), Failed>,
+    u64,
+) {
+    let mut input = FromRead::new(bytes);
     let mut room = [0u8; 3];
-    assert_eq!(rt; read_some(&mut input, &mut room)?, (Some(b'a'), 2, 2));
-    assert_eq!(rt; room, [b'd', b'e', 0]);
-    assert_eq!(rt; read_others(&mut input, &mut room)?, (0, None, 0));
-    assert_eq!(rt; input.failures(), 0);
-    Ok(())
+    let some = read_some(&mut input, &mut room);
+    let filled = room;
+    let others = read_others(&mut input, &mut room);
+    (some, filled, others, input.failures())
 }
 
 #[test]
-fn texts(rt: HostRuntime) -> Result<(), Fail> {
-    assert_eq!(rt;
-        Failed.to_string(rt.alloc())?.as_str(),
-        "a read or a write failed"
-    );
-    assert_eq!(rt;
-        SinkFault.to_string(rt.alloc())?.as_str(),
-        "a line was refused"
-    );
-    Ok(())
+fn end_of_input(rt: HostRuntime) {
+    let (some, room, others, failures) = read_to_the_end(b"abcde");
+    assert!(rt; some == Ok((Some(b'a'), 2, 2)));
+    assert_eq!(rt; room, [b'd', b'e', 0]);
+    assert!(rt; others == Ok((0, None, 0)));
+    assert_eq!(rt; failures, 0);
+}
+
+/// A value displays so.
+fn shows<T: Display>(rt: &impl Abort, alloc: Global, value: &T, text: &str) {
+    match value.to_string(alloc) {
+        Ok(shown) => assert!(rt; shown.as_str() == text),
+        Err(_) => assert!(rt; false),
+    }
+}
+
+#[test]
+fn texts(rt: HostRuntime) {
+    shows(&rt, rt.alloc(), &Failed, "a read or a write failed");
+    shows(&rt, rt.alloc(), &SinkFault, "a line was refused");
+}
+
+/// A read that fails after so many bytes fills the room up to there, and the next one the rest.
+fn fails_to_fill(rt: &impl Abort, kind: ErrorKind, n: usize)
+    requires { n < 5 }
+{
+    let mut room = [0u8; 5];
+    let filled = fill_twice(FailingReader::new(&BYTES, n, 1, kind), &mut room, n);
+    assert!(rt; filled == (Err(Failed), Ok(5 - n), 1, 6));
+    assert_eq!(rt; room, *b"abcde");
 }
 
 #[test]
 fn failing_reads(rt: HostRuntime) {
-    let bytes = *b"abcdef";
-    for kind in KINDS {
-        for n in 0..5usize {
-            let mut room = [0u8; 5];
-            let filled = fill_twice(FailingReader::new(&bytes, n, 1, kind), &mut room, n);
-            assert_eq!(rt; filled, (Err(Failed), Ok(5 - n), 1, 6));
-            assert_eq!(rt; room, *b"abcde");
-        }
+    for n in 0..5usize {
+        fails_to_fill(&rt, ErrorKind::Other, n);
+        fails_to_fill(&rt, ErrorKind::Interrupted, n);
+        fails_to_fill(&rt, ErrorKind::WouldBlock, n);
     }
+}
+
+/// A read that fails after so many bytes that were skipped, and one that fails at once, leave the
+/// next byte to be read.
+fn fails_to_skip(rt: &impl Abort, kind: ErrorKind, n: usize)
+    requires { n < 5 }
+{
+    let skipped = skip_and_read(FailingReader::new(&BYTES, n, 1, kind), 5);
+    assert!(rt; skipped == (Err(Failed), Ok(Some(BYTES[n])), 1));
+    let read = read_twice(FailingReader::new(&BYTES[n..], 0, 1, kind));
+    assert!(rt; read == (Err(Failed), Ok(Some(BYTES[n])), 1));
 }
 
 #[test]
 fn failing_skips(rt: HostRuntime) {
-    let bytes = *b"abcdef";
-    for kind in KINDS {
-        for n in 0..5usize {
-            let skipped = skip_and_read(FailingReader::new(&bytes, n, 1, kind), 5);
-            assert_eq!(rt; skipped, (Err(Failed), Ok(Some(bytes[n])), 1));
-            let read = read_twice(FailingReader::new(&bytes[n..], 0, 1, kind));
-            assert_eq!(rt; read, (Err(Failed), Ok(Some(bytes[n])), 1));
-        }
+    for n in 0..5usize {
+        fails_to_skip(&rt, ErrorKind::Other, n);
+        fails_to_skip(&rt, ErrorKind::Interrupted, n);
+        fails_to_skip(&rt, ErrorKind::WouldBlock, n);
     }
+}
+
+/// Reads that fail where the input ends.
+fn fails_at_the_end(rt: &impl Abort, kind: ErrorKind) {
+    let mut room = [0u8; 7];
+    let filled = fill_twice(FailingReader::new(&BYTES, 6, 1, kind), &mut room, 6);
+    assert!(rt; filled == (Err(Failed), Ok(0), 1, 8));
+    let read = read_twice(FailingReader::new(b"", 0, 1, kind));
+    assert!(rt; read == (Err(Failed), Ok(None), 1));
 }
 
 #[test]
 fn failing_at_the_end(rt: HostRuntime) {
-    for kind in KINDS {
-        let mut room = [0u8; 7];
-        let filled = fill_twice(FailingReader::new(b"abcdef", 6, 1, kind), &mut room, 6);
-        assert_eq!(rt; filled, (Err(Failed), Ok(0), 1, 8));
-        let read = read_twice(FailingReader::new(b"", 0, 1, kind));
-        assert_eq!(rt; read, (Err(Failed), Ok(None), 1));
+    fails_at_the_end(&rt, ErrorKind::Other);
+    fails_at_the_end(&rt, ErrorKind::Interrupted);
+    fails_at_the_end(&rt, ErrorKind::WouldBlock);
+}
+
+/// Writes to a writer that fails after so many bytes: both answers, the failures, whether all bytes
+/// are written, and the calls of the writer.
+fn write_failing(
+    alloc: Global,
+    n: usize,
+    kind: Option<ErrorKind>,
+) -> (Result<(), Failed>, Result<(), Failed>, u64, bool, u64)
+    requires { n < 6 }
+{
+    let out = FailingWriter::new(alloc, n, kind);
+    let (first, second, failures, inner) = write_twice(out, &BYTES, n);
+    let all = inner.held() == BYTES.as_slice();
+    (first, second, failures, all, inner.calls())
+}
+
+/// Writers that fail so, after each number of bytes.
+fn fails_to_write(rt: &impl Abort, alloc: Global, kind: Option<ErrorKind>) {
+    for n in 0..6usize {
+        let written = write_failing(alloc, n, kind);
+        assert!(rt; written == (Err(Failed), Ok(()), 1, true, 7));
     }
 }
 
 #[test]
 fn failing_writes(rt: HostRuntime) {
-    let bytes = *b"abcdef";
-    for kind in [
-        None,
-        Some(ErrorKind::Other),
-        Some(ErrorKind::Interrupted),
-        Some(ErrorKind::WouldBlock),
-    ] {
-        for n in 0..6usize {
-            let out = FailingWriter::new(rt.alloc(), n, kind);
-            let (first, second, failures, inner) = write_twice(out, &bytes, n);
-            assert_eq!(rt; (first, second, failures), (Err(Failed), Ok(()), 1));
-            assert_eq!(rt; inner.held(), bytes.as_slice());
-            assert_eq!(rt; inner.calls(), 7);
+    fails_to_write(&rt, rt.alloc(), None);
+    fails_to_write(&rt, rt.alloc(), Some(ErrorKind::Other));
+    fails_to_write(&rt, rt.alloc(), Some(ErrorKind::Interrupted));
+    fails_to_write(&rt, rt.alloc(), Some(ErrorKind::WouldBlock));
+}
+
+/// Writes where there is room for so many bytes: whether that succeeds, whether it is without
+/// failures, and whether as many bytes are written as there is room for.
+fn write_short(
+    alloc: Global,
+    room: usize,
+    most: usize,
+    end: Option<ErrorKind>,
+) -> (bool, bool, bool)
+    requires { room ≤ 6 }
+{
+    let out = ShortWriter::new(alloc, room, most, end);
+    let (written, failures, inner) = write_once(out, &BYTES);
+    let filled = inner.held() == &BYTES[..room];
+    (written.is_ok(), failures == 0, filled)
+}
+
+/// Writers of each room that end so.
+fn writes_to_the_end(rt: &impl Abort, alloc: Global, end: Option<ErrorKind>) {
+    for room in 0..7usize {
+        for most in 1..4usize {
+            let all = room == 6;
+            assert!(rt; write_short(alloc, room, most, end) == (all, all, true));
         }
     }
 }
 
 #[test]
 fn short_writes(rt: HostRuntime) {
-    let bytes = *b"abcdef";
-    for end in [None, Some(ErrorKind::Other), Some(ErrorKind::Interrupted)] {
-        for room in 0..7usize {
-            for most in 1..4usize {
-                let out = ShortWriter::new(rt.alloc(), room, most, end);
-                let (written, failures, inner) = write_once(out, &bytes);
-                let all = room == 6;
-                assert_eq!(rt; (written.is_ok(), failures == 0), (all, all));
-                assert_eq!(rt; inner.held(), &bytes[..room]);
-            }
-        }
-    }
+    writes_to_the_end(&rt, rt.alloc(), None);
+    writes_to_the_end(&rt, rt.alloc(), Some(ErrorKind::Other));
+    writes_to_the_end(&rt, rt.alloc(), Some(ErrorKind::Interrupted));
+}
+
+/// Hands three rows to a sink that refuses one after so many: whether all are taken, whether none
+/// fails, whether the samples of those before are kept, and how many are offered.
+fn refuse_line(alloc: Global, width: usize, n: usize) -> (bool, bool, bool, u64)
+    requires width { width ≤ 2 }
+    requires before { n ≤ 3 }
+    requires samples { n * width ≤ 6 }
+{
+    let mut sink = KeepRows::new(alloc, n, u64::MAX);
+    let all = keep_rows(&mut sink, &three_rows(&BYTES, width)).is_ok();
+    let kept = sink.samples() == &BYTES[..n * width];
+    (all, sink.failures() == 0, kept, sink.offered())
 }
 
 #[test]
 fn refused_lines(rt: HostRuntime) {
-    let bytes = *b"abcdef";
     for width in 0..3usize {
         for n in 0..4usize {
-            let mut sink = KeepRows::new(rt.alloc(), n, u64::MAX);
-            let all = keep_rows(&mut sink, &three_rows(&bytes, width)).is_ok();
-            assert_eq!(rt; (all, sink.failures() == 0), (n == 3, n < 3));
-            assert_eq!(rt; sink.samples(), &bytes[..n * width]);
-            assert_eq!(rt; sink.offered(), 3.min(n as u64 + 1));
+            let offered = 3.min(n as u64 + 1);
+            let refused = refuse_line(rt.alloc(), width, n);
+            assert!(rt; refused == (n == 3, n < 3, true, offered));
         }
     }
 }
@@ -274,17 +355,26 @@ fn laws_at_a_sink() {
     laws::texts::<KeepRows>();
 }
 
+/// Writes three rows where there is room for so many bytes: whether that succeeds, whether it is
+/// without failures, and whether as many bytes are written as there is room for.
+fn write_lines(alloc: Global, width: usize, room: usize) -> (bool, bool, bool)
+    requires width { width ≤ 2 }
+{
+    let out = ToWrite::new(ShortWriter::new(alloc, room, 2, None));
+    let mut sink = RowsOut::new(out);
+    let all = hand_over(&mut sink, &three_rows(&BYTES, width)).is_ok();
+    let inner = sink.into_inner();
+    let whole = inner.failures() == 0;
+    let filled = inner.into_inner().held() == &BYTES[..room.min(3 * width)];
+    (all, whole, filled)
+}
+
 #[test]
 fn lines_written(rt: HostRuntime) {
-    let bytes = *b"abcdef";
     for width in 0..3usize {
         for room in 0..7usize {
-            let out = ToWrite::new(ShortWriter::new(rt.alloc(), room, 2, None));
-            let mut sink = RowsOut::new(out);
-            let all = hand_over(&mut sink, &three_rows(&bytes, width)).is_ok();
-            let inner = sink.into_inner();
-            assert_eq!(rt; (all, inner.failures() == 0), (3 * width <= room, all));
-            assert_eq!(rt; inner.into_inner().held(), &bytes[..room.min(3 * width)]);
+            let all = 3 * width <= room;
+            assert!(rt; write_lines(rt.alloc(), width, room) == (all, all, true));
         }
     }
 }

@@ -15,19 +15,21 @@ fn picture_fault(alloc: Global, text: &[u8]) -> Option<Fault> {
     }
 }
 
+/// Texts of pictures behind which reads fail, and their faults.
+const PICTURES: [(&[u8], Option<Fault>); 8] = [
+    (b"", Some(Fault::Read)),
+    (b"YUV4MPEG2 W1", Some(Fault::Read)),
+    (b"YUV4MPEG2 W1\n", Some(Fault::Tag)),
+    (b"YUV4MPEG2 W2 H1 Cmono\n", Some(Fault::Read)),
+    (b"YUV4MPEG2 W2 H1 Cmono\nFRA", Some(Fault::Read)),
+    (b"YUV4MPEG2 W2 H1 Cmono\nFRa", Some(Fault::FrameLine)),
+    (b"YUV4MPEG2 W2 H1 Cmono\nFRAME\na", Some(Fault::Read)),
+    (b"YUV4MPEG2 W2 H1 Cmono\nFRAME\nab", None),
+];
+
 #[test]
 fn failed_reads_of_pictures(rt: HostRuntime) -> Result<(), Fail> {
-    let rows: [(&[u8], Option<Fault>); 8] = [
-        (b"", Some(Fault::Read)),
-        (b"YUV4MPEG2 W1", Some(Fault::Read)),
-        (b"YUV4MPEG2 W1\n", Some(Fault::Tag)),
-        (b"YUV4MPEG2 W2 H1 Cmono\n", Some(Fault::Read)),
-        (b"YUV4MPEG2 W2 H1 Cmono\nFRA", Some(Fault::Read)),
-        (b"YUV4MPEG2 W2 H1 Cmono\nFRa", Some(Fault::FrameLine)),
-        (b"YUV4MPEG2 W2 H1 Cmono\nFRAME\na", Some(Fault::Read)),
-        (b"YUV4MPEG2 W2 H1 Cmono\nFRAME\nab", None),
-    ];
-    for (text, fault) in rows {
+    for &(text, fault) in &PICTURES {
         assert!(rt; picture_fault(rt.alloc(), text) == fault);
     }
     Ok(())
@@ -42,16 +44,18 @@ fn image_fault(alloc: Global, text: &[u8]) -> Option<Fault> {
     }
 }
 
+/// Texts of images behind which reads fail, and their faults.
+const IMAGES: [(&[u8], Option<Fault>); 5] = [
+    (b"P6", Some(Fault::Read)),
+    (b"P6 1", Some(Fault::Header)),
+    (b"P6\n1 1\n255", Some(Fault::Read)),
+    (b"P6\n1 1\n255\nab", Some(Fault::Read)),
+    (b"P6\n1 1\n255\nabc", None),
+];
+
 #[test]
 fn failed_reads_of_images(rt: HostRuntime) -> Result<(), Fail> {
-    let rows: [(&[u8], Option<Fault>); 5] = [
-        (b"P6", Some(Fault::Read)),
-        (b"P6 1", Some(Fault::Header)),
-        (b"P6\n1 1\n255", Some(Fault::Read)),
-        (b"P6\n1 1\n255\nab", Some(Fault::Read)),
-        (b"P6\n1 1\n255\nabc", None),
-    ];
-    for (text, fault) in rows {
+    for &(text, fault) in &IMAGES {
         assert!(rt; image_fault(rt.alloc(), text) == fault);
     }
     Ok(())

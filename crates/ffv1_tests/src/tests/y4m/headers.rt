@@ -27,57 +27,61 @@ const PLAIN: VideoHead = VideoHead {
     extra_plane: false,
 };
 
+/// Texts that are refused, and why.
+const REFUSED: [(&[u8], Fault); 28] = [
+    (b"", Fault::Header),
+    (b"YUV4MPEG", Fault::Header),
+    (b"YUV4MPEG2 W2 H2", Fault::Header),
+    (b"YUV4MPEG2x W2 H2\n", Fault::Header),
+    (b"P6\n1 1\n255\nabc", Fault::Header),
+    (b"YUV4MPEG2\n", Fault::Tag),
+    (b"YUV4MPEG2 \n", Fault::Tag),
+    (b"YUV4MPEG2 W2\n", Fault::Tag),
+    (b"YUV4MPEG2 H2\n", Fault::Tag),
+    (b"YUV4MPEG2 W2 W2 H2\n", Fault::Tag),
+    (b"YUV4MPEG2 W02 H2\n", Fault::Tag),
+    (b"YUV4MPEG2 W+2 H2\n", Fault::Tag),
+    (b"YUV4MPEG2 W H2\n", Fault::Tag),
+    (b"YUV4MPEG2 W0 H2\n", Fault::Tag),
+    (b"YUV4MPEG2 W8193 H2\n", Fault::Tag),
+    (b"YUV4MPEG2  W2 H2\n", Fault::Tag),
+    (b"YUV4MPEG2 W2 H2 \n", Fault::Tag),
+    (b"YUV4MPEG2 W2 H2 w2\n", Fault::Tag),
+    (b"YUV4MPEG2 W2 H2 F25\n", Fault::Tag),
+    (b"YUV4MPEG2 W2 H2 F0:1\n", Fault::Tag),
+    (b"YUV4MPEG2 W2 H2 F4294967296:1\n", Fault::Tag),
+    (b"YUV4MPEG2 W2 H2 A1:0\n", Fault::Tag),
+    (b"YUV4MPEG2 W2 H2 A65536:1\n", Fault::Tag),
+    (b"YUV4MPEG2 W2 H2 Ix\n", Fault::Tag),
+    (b"YUV4MPEG2 W2 H2 C444 C420p10\n", Fault::Tag),
+    (b"YUV4MPEG2 Q1 Im\n", Fault::Tag),
+    (b"YUV4MPEG2 Im Q1\n", Fault::Unsupported),
+    (b"YUV4MPEG2 W2 H2 C420p10\n", Fault::Unsupported),
+];
+
 #[test]
 fn refused_headers(rt: HostRuntime) -> Result<(), Fail> {
-    let rows: [(&[u8], Fault); 28] = [
-        (b"", Fault::Header),
-        (b"YUV4MPEG", Fault::Header),
-        (b"YUV4MPEG2 W2 H2", Fault::Header),
-        (b"YUV4MPEG2x W2 H2\n", Fault::Header),
-        (b"P6\n1 1\n255\nabc", Fault::Header),
-        (b"YUV4MPEG2\n", Fault::Tag),
-        (b"YUV4MPEG2 \n", Fault::Tag),
-        (b"YUV4MPEG2 W2\n", Fault::Tag),
-        (b"YUV4MPEG2 H2\n", Fault::Tag),
-        (b"YUV4MPEG2 W2 W2 H2\n", Fault::Tag),
-        (b"YUV4MPEG2 W02 H2\n", Fault::Tag),
-        (b"YUV4MPEG2 W+2 H2\n", Fault::Tag),
-        (b"YUV4MPEG2 W H2\n", Fault::Tag),
-        (b"YUV4MPEG2 W0 H2\n", Fault::Tag),
-        (b"YUV4MPEG2 W8193 H2\n", Fault::Tag),
-        (b"YUV4MPEG2  W2 H2\n", Fault::Tag),
-        (b"YUV4MPEG2 W2 H2 \n", Fault::Tag),
-        (b"YUV4MPEG2 W2 H2 w2\n", Fault::Tag),
-        (b"YUV4MPEG2 W2 H2 F25\n", Fault::Tag),
-        (b"YUV4MPEG2 W2 H2 F0:1\n", Fault::Tag),
-        (b"YUV4MPEG2 W2 H2 F4294967296:1\n", Fault::Tag),
-        (b"YUV4MPEG2 W2 H2 A1:0\n", Fault::Tag),
-        (b"YUV4MPEG2 W2 H2 A65536:1\n", Fault::Tag),
-        (b"YUV4MPEG2 W2 H2 Ix\n", Fault::Tag),
-        (b"YUV4MPEG2 W2 H2 C444 C420p10\n", Fault::Tag),
-        (b"YUV4MPEG2 Q1 Im\n", Fault::Tag),
-        (b"YUV4MPEG2 Im Q1\n", Fault::Unsupported),
-        (b"YUV4MPEG2 W2 H2 C420p10\n", Fault::Unsupported),
-    ];
-    for (text, fault) in rows {
+    for &(text, fault) in &REFUSED {
         assert!(rt; head_of(rt.alloc(), text) == Err(fault));
     }
     Ok(())
 }
 
+/// Headers with each name of C, and what it means.
+const CHROMA: [(&[u8], (bool, u8, u8, bool)); 8] = [
+    (b"YUV4MPEG2 C420jpeg W2 H2\n", (true, 1, 1, false)),
+    (b"YUV4MPEG2 C420mpeg2 W2 H2\n", (true, 1, 1, false)),
+    (b"YUV4MPEG2 C420paldv W2 H2\n", (true, 1, 1, false)),
+    (b"YUV4MPEG2 C422 W2 H2\n", (true, 1, 0, false)),
+    (b"YUV4MPEG2 C444 W2 H2\n", (true, 0, 0, false)),
+    (b"YUV4MPEG2 C411 W2 H2\n", (true, 2, 0, false)),
+    (b"YUV4MPEG2 Cmono W2 H2\n", (false, 0, 0, false)),
+    (b"YUV4MPEG2 C444alpha W2 H2\n", (true, 0, 0, true)),
+];
+
 #[test]
 fn names_of_chroma(rt: HostRuntime) -> Result<(), Fail> {
-    let rows: [(&[u8], (bool, u8, u8, bool)); 8] = [
-        (b"YUV4MPEG2 C420jpeg W2 H2\n", (true, 1, 1, false)),
-        (b"YUV4MPEG2 C420mpeg2 W2 H2\n", (true, 1, 1, false)),
-        (b"YUV4MPEG2 C420paldv W2 H2\n", (true, 1, 1, false)),
-        (b"YUV4MPEG2 C422 W2 H2\n", (true, 1, 0, false)),
-        (b"YUV4MPEG2 C444 W2 H2\n", (true, 0, 0, false)),
-        (b"YUV4MPEG2 C411 W2 H2\n", (true, 2, 0, false)),
-        (b"YUV4MPEG2 Cmono W2 H2\n", (false, 0, 0, false)),
-        (b"YUV4MPEG2 C444alpha W2 H2\n", (true, 0, 0, true)),
-    ];
-    for (text, (chroma_planes, log2_h, log2_v, extra_plane)) in rows {
+    for &(text, (chroma_planes, log2_h, log2_v, extra_plane)) in &CHROMA {
         let head = VideoHead {
             chroma_planes,
             log2_h,
@@ -145,7 +149,7 @@ fn headers_of_other_programs(rt: HostRuntime) -> Result<(), Fail> {
             },
         ),
     ];
-    for (text, head) in rows {
+    for &(text, head) in &rows {
         assert!(rt; head_of(rt.alloc(), text) == Ok(head));
     }
     Ok(())
@@ -160,7 +164,7 @@ fn long_header(alloc: Global, len: usize) -> Result<Vec<u8>, Fault> {
 }
 
 #[test]
-fn long_headers(rt: HostRuntime) -> Result<(), Fail> {
+fn long_headers(rt: HostRuntime) -> Result<(), Fault> {
     let most = long_header(rt.alloc(), 1024)?;
     assert!(rt; head_of(rt.alloc(), &most) == Ok(PLAIN));
     let more = long_header(rt.alloc(), 1025)?;
@@ -169,7 +173,7 @@ fn long_headers(rt: HostRuntime) -> Result<(), Fail> {
 }
 
 #[test]
-fn first_byte_read_before(rt: HostRuntime) -> Result<(), Fail> {
+fn first_byte_read_before(rt: HostRuntime) -> Result<(), Fault> {
     let text: &[u8] = b"UV4MPEG2 W2 H2\nrest";
     let mut input = FromRead::new(text);
     let reader = Y4mReader::open(rt.alloc(), Some(b'Y'), &mut input)?;

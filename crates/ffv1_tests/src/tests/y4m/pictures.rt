@@ -3,6 +3,7 @@
 use ffv1_wire::{FromRead, ToWrite};
 use ffv1_y4m::{Fault, Y4mReader, Y4mWriter};
 use std::alloc::Global;
+use std::process::Abort;
 use std::test::Fail;
 
 /// The canonical text of a text of one picture or more.
@@ -13,12 +14,32 @@ fn written_back(alloc: Global, text: &[u8]) -> Result<Vec<u8>, Fault> {
     let mut planes = Vec::new(alloc);
     let mut output = ToWrite::new(Vec::new(alloc));
     for _ in 0..text.len() {
-        if !reader.next(&mut input, &mut planes)? {
+        if !pass_picture(
+            &mut reader,
+            &mut input,
+            &mut planes,
+            &mut writer,
+            &mut output,
+        )? {
             break;
         }
-        writer.picture(&mut output, &planes)?;
     }
     Ok(output.into_inner())
+}
+
+/// Reads the next picture and writes it. Whether there was one.
+fn pass_picture(
+    reader: &mut Y4mReader,
+    input: &mut FromRead<&[u8]>,
+    planes: &mut Vec<Vec<u8>>,
+    writer: &mut Y4mWriter,
+    output: &mut ToWrite<Vec<u8>>,
+) -> Result<bool, Fault> {
+    if !reader.next(input, planes)? {
+        return Ok(false);
+    }
+    writer.picture(output, planes)?;
+    Ok(true)
 }
 
 /// Whether a text is written as another.
@@ -29,57 +50,66 @@ fn becomes(alloc: Global, text: &[u8], canonical: &[u8]) -> bool {
     }
 }
 
+/// Passes one picture by the lines of the crate's example.
+fn pass_one(rt: &impl Abort, alloc: Global, output: &mut ToWrite<Vec<u8>>) -> Result<(), Fault> {
+    let mut input = FromRead::new(b"YUV4MPEG2 W1 H1 Cmono\nFRAME\na".as_slice());
+    let mut reader = Y4mReader::open(alloc, None, &mut input)?;
+    let mut writer = Y4mWriter::new(*reader.head());
+    let mut planes = Vec::new(alloc);
+    for more in [true, false] {
+        let passed = pass_picture(&mut reader, &mut input, &mut planes, &mut writer, output);
+        assert!(rt; passed == Ok(more));
+    }
+    Ok(())
+}
+
 /// The lines of the crate's example, for a text of one picture.
 #[test]
-fn example(rt: HostRuntime) -> Result<(), Fail> {
-    let mut input = FromRead::new(b"YUV4MPEG2 W1 H1 Cmono\nFRAME\na".as_slice());
+fn example(rt: HostRuntime) -> Result<(), Fault> {
     let mut output = ToWrite::new(Vec::new(rt.alloc()));
-    let mut reader = Y4mReader::open(rt.alloc(), None, &mut input)?;
-    let mut writer = Y4mWriter::new(*reader.head());
-    let mut planes = Vec::new(rt.alloc());
-    assert!(rt; reader.next(&mut input, &mut planes)?);
-    writer.picture(&mut output, &planes)?;
-    assert!(rt; !reader.next(&mut input, &mut planes)?);
+    pass_one(&rt, rt.alloc(), &mut output)?;
     let text = output.into_inner();
     assert!(rt; text.as_slice() == b"YUV4MPEG2 W1 H1 F0:0 I? A0:0 Cmono\nFRAME\na".as_slice());
     Ok(())
 }
 
+/// Texts, and the canonical ones with their lengths.
+const CANONICAL: [(&[u8], &[u8], usize); 6] = [
+    (
+        b"YUV4MPEG2 W2 H2 F25:1 C420mpeg2 Xa\nFRAME\nabcdef",
+        b"YUV4MPEG2 W2 H2 F25:1 I? A0:0 C420jpeg\nFRAME\nabcdef",
+        51,
+    ),
+    (
+        b"YUV4MPEG2 W1 H1 C444alpha\nFRAME\n\x00\x00\x00\x00",
+        b"YUV4MPEG2 W1 H1 F0:0 I? A0:0 C444alpha\nFRAME\n\x00\x00\x00\x00",
+        49,
+    ),
+    (
+        b"YUV4MPEG2 W3 H1 Ip C422\nFRAME\nabcdefgFRAME\nhijklmn",
+        b"YUV4MPEG2 W3 H1 F0:0 Ip A0:0 C422\nFRAME\nabcdefgFRAME\nhijklmn",
+        60,
+    ),
+    (
+        b"YUV4MPEG2 C411 H3 W5 It A4:3\nFRAME\nabcdefghijklmnopqrstuvwxyz0",
+        b"YUV4MPEG2 W5 H3 F0:0 It A4:3 C411\nFRAME\nabcdefghijklmnopqrstuvwxyz0",
+        67,
+    ),
+    (
+        b"YUV4MPEG2 W1 H1 Cmono Ib\nFRAME\n\xFF",
+        b"YUV4MPEG2 W1 H1 F0:0 Ib A0:0 Cmono\nFRAME\n\xFF",
+        42,
+    ),
+    (
+        b"YUV4MPEG2 W3 H5\nFRAME\nabcdefghijklmno012345678901",
+        b"YUV4MPEG2 W3 H5 F0:0 I? A0:0 C420jpeg\nFRAME\nabcdefghijklmno012345678901",
+        71,
+    ),
+];
+
 #[test]
 fn canonical_texts(rt: HostRuntime) -> Result<(), Fail> {
-    let rows: [(&[u8], &[u8], usize); 6] = [
-        (
-            b"YUV4MPEG2 W2 H2 F25:1 C420mpeg2 Xa\nFRAME\nabcdef",
-            b"YUV4MPEG2 W2 H2 F25:1 I? A0:0 C420jpeg\nFRAME\nabcdef",
-            51,
-        ),
-        (
-            b"YUV4MPEG2 W1 H1 C444alpha\nFRAME\n\x00\x00\x00\x00",
-            b"YUV4MPEG2 W1 H1 F0:0 I? A0:0 C444alpha\nFRAME\n\x00\x00\x00\x00",
-            49,
-        ),
-        (
-            b"YUV4MPEG2 W3 H1 Ip C422\nFRAME\nabcdefgFRAME\nhijklmn",
-            b"YUV4MPEG2 W3 H1 F0:0 Ip A0:0 C422\nFRAME\nabcdefgFRAME\nhijklmn",
-            60,
-        ),
-        (
-            b"YUV4MPEG2 C411 H3 W5 It A4:3\nFRAME\nabcdefghijklmnopqrstuvwxyz0",
-            b"YUV4MPEG2 W5 H3 F0:0 It A4:3 C411\nFRAME\nabcdefghijklmnopqrstuvwxyz0",
-            67,
-        ),
-        (
-            b"YUV4MPEG2 W1 H1 Cmono Ib\nFRAME\n\xFF",
-            b"YUV4MPEG2 W1 H1 F0:0 Ib A0:0 Cmono\nFRAME\n\xFF",
-            42,
-        ),
-        (
-            b"YUV4MPEG2 W3 H5\nFRAME\nabcdefghijklmno012345678901",
-            b"YUV4MPEG2 W3 H5 F0:0 I? A0:0 C420jpeg\nFRAME\nabcdefghijklmno012345678901",
-            71,
-        ),
-    ];
-    for (text, canonical, len) in rows {
+    for &(text, canonical, len) in &CANONICAL {
         assert!(rt; canonical.len() == len);
         assert!(rt; becomes(rt.alloc(), text, canonical));
     }
@@ -121,22 +151,24 @@ fn ends_of_texts(rt: HostRuntime) -> Result<(), Fail> {
     Ok(())
 }
 
+/// Texts and their last faults.
+const FRAME_LINES: [(&[u8], Option<Fault>); 5] = [
+    (
+        b"YUV4MPEG2 W1 H1 Cmono\nFRAME Ip\na",
+        Some(Fault::FrameLine),
+    ),
+    (b"YUV4MPEG2 W1 H1 Cmono\nFRAMEa", Some(Fault::FrameLine)),
+    (b"YUV4MPEG2 W1 H1 Cmono\nG", Some(Fault::FrameLine)),
+    (
+        b"YUV4MPEG2 W1 H1 Cmono\nFRAME\naFRAMX",
+        Some(Fault::FrameLine),
+    ),
+    (b"YUV4MPEG2 W1 H1 Cmono\nFRAME\na", None),
+];
+
 #[test]
 fn frame_lines(rt: HostRuntime) -> Result<(), Fail> {
-    let rows: [(&[u8], Option<Fault>); 5] = [
-        (
-            b"YUV4MPEG2 W1 H1 Cmono\nFRAME Ip\na",
-            Some(Fault::FrameLine),
-        ),
-        (b"YUV4MPEG2 W1 H1 Cmono\nFRAMEa", Some(Fault::FrameLine)),
-        (b"YUV4MPEG2 W1 H1 Cmono\nG", Some(Fault::FrameLine)),
-        (
-            b"YUV4MPEG2 W1 H1 Cmono\nFRAME\naFRAMX",
-            Some(Fault::FrameLine),
-        ),
-        (b"YUV4MPEG2 W1 H1 Cmono\nFRAME\na", None),
-    ];
-    for (text, fault) in rows {
+    for &(text, fault) in &FRAME_LINES {
         assert!(rt; last_fault(rt.alloc(), text) == Ok(fault));
     }
     Ok(())
@@ -158,36 +190,38 @@ fn first_fault(alloc: Global, input: &mut FromRead<&[u8]>) -> Option<Fault> {
     }
 }
 
+/// Texts, their first faults, and how many bytes are left behind them.
+const FAULTS: [(&[u8], Option<Fault>, usize); 9] = [
+    (b"YUV4MPEG1 W1 H1\nrest", Some(Fault::Header), 4),
+    (b"YUV4MPEG2 W1 H1", Some(Fault::Header), 0),
+    (b"YUV4MPEG2 W1 H1 q\nrest", Some(Fault::Tag), 4),
+    (b"YUV4MPEG2 W1 H1 Im\nrest", Some(Fault::Unsupported), 4),
+    (
+        b"YUV4MPEG2 W1 H1 Cmono\nFRaME\na",
+        Some(Fault::FrameLine),
+        4,
+    ),
+    (
+        b"YUV4MPEG2 W1 H1 Cmono\nFRAME Ip\na",
+        Some(Fault::FrameLine),
+        4,
+    ),
+    (
+        b"YUV4MPEG2 W1 H1 Cmono\nFRA",
+        Some(Fault::FrameTruncated),
+        0,
+    ),
+    (
+        b"YUV4MPEG2 W2 H1 Cmono\nFRAME\na",
+        Some(Fault::FrameTruncated),
+        0,
+    ),
+    (b"YUV4MPEG2 W1 H1 Cmono\nFRAME\narest", None, 4),
+];
+
 #[test]
 fn left_behind_faults(rt: HostRuntime) -> Result<(), Fail> {
-    let rows: [(&[u8], Option<Fault>, usize); 9] = [
-        (b"YUV4MPEG1 W1 H1\nrest", Some(Fault::Header), 4),
-        (b"YUV4MPEG2 W1 H1", Some(Fault::Header), 0),
-        (b"YUV4MPEG2 W1 H1 q\nrest", Some(Fault::Tag), 4),
-        (b"YUV4MPEG2 W1 H1 Im\nrest", Some(Fault::Unsupported), 4),
-        (
-            b"YUV4MPEG2 W1 H1 Cmono\nFRaME\na",
-            Some(Fault::FrameLine),
-            4,
-        ),
-        (
-            b"YUV4MPEG2 W1 H1 Cmono\nFRAME Ip\na",
-            Some(Fault::FrameLine),
-            4,
-        ),
-        (
-            b"YUV4MPEG2 W1 H1 Cmono\nFRA",
-            Some(Fault::FrameTruncated),
-            0,
-        ),
-        (
-            b"YUV4MPEG2 W2 H1 Cmono\nFRAME\na",
-            Some(Fault::FrameTruncated),
-            0,
-        ),
-        (b"YUV4MPEG2 W1 H1 Cmono\nFRAME\narest", None, 4),
-    ];
-    for (text, fault, left) in rows {
+    for &(text, fault, left) in &FAULTS {
         assert!(rt; fault_and_left(rt.alloc(), text) == (fault, left));
     }
     Ok(())

@@ -1,7 +1,7 @@
 //! Readers and writers of YUV4MPEG2 and PPM where memory is refused, a read or a write fails.
 
 use ffv1_doubles::{FailingReader, Scarce, ShortWriter};
-use ffv1_wire::{ByteOut, FromRead, LineSink, ToWrite};
+use ffv1_wire::{FromRead, LineSink, ToWrite};
 use ffv1_y4m::{Fault, PpmReader, PpmWriter, Y4mReader, Y4mWriter};
 use std::alloc::{Allocator, Global};
 use std::io::{ErrorKind, Read};
@@ -74,60 +74,75 @@ fn memory_refused(rt: HostRuntime) -> Result<(), Fail> {
     Ok(())
 }
 
+/// Both pictures were counted and no read failed, or one read failed: `Read`.
+fn counts_or_fails(rt: &impl Abort, answer: Result<u32, Fault>, failures: u64) {
+    let (expected, failed) = match answer {
+        Ok(_) => (Ok(2), 0),
+        Err(_) => (Err(Fault::Read), 1),
+    };
+    assert!(rt; answer == expected);
+    assert!(rt; failures == failed);
+}
+
 /// Each read fails in turn: `Read`.
 #[test]
 fn reads_failed(rt: HostRuntime) -> Result<(), Fail> {
     for before in 0..200usize {
         let mut input = FromRead::new(FailingReader::new(PICTURES, before, 1, ErrorKind::Other));
-        match pictures(rt.alloc(), &mut input) {
-            Ok(count) => assert!(rt; count == 2 && input.failures() == 0),
-            Err(fault) => assert!(rt; fault == Fault::Read && input.failures() == 1),
-        }
+        let answer = pictures(rt.alloc(), &mut input);
+        counts_or_fails(&rt, answer, input.failures());
         let mut input = FromRead::new(FailingReader::new(
             IMAGES,
             before,
             1,
             ErrorKind::Interrupted,
         ));
-        match images(rt.alloc(), &mut input) {
-            Ok(count) => assert!(rt; count == 2 && input.failures() == 0),
-            Err(fault) => assert!(rt; fault == Fault::Read && input.failures() == 1),
-        }
+        let answer = images(rt.alloc(), &mut input);
+        counts_or_fails(&rt, answer, input.failures());
     }
     Ok(())
 }
 
-/// Writes two pictures. Whether a write failed: then `Write` is answered from there on.
-fn write_pictures<W: ByteOut>(
+/// Writes two pictures. Whether the last write failed.
+fn write_pictures(
     rt: &impl Abort,
     alloc: Global,
-    output: &mut W,
-) -> Result<bool, Fail> {
+    output: &mut ToWrite<ShortWriter>,
+) -> Result<bool, Fault> {
     let mut input = FromRead::new(PICTURES);
     let mut reader = Y4mReader::open(alloc, None, &mut input)?;
     let mut writer = Y4mWriter::new(*reader.head());
     let mut planes = Vec::new(alloc);
     let mut failed = false;
     for _ in 0..2 {
-        assert!(rt; reader.next(&mut input, &mut planes)?);
-        let answer = writer.picture(output, &planes);
-        failed = failed || answer.is_err();
-        assert!(rt; answer.is_err() == failed);
-        if failed {
-            assert!(rt; answer == Err(Fault::Write));
-        }
+        assert!(rt; reader.next(&mut input, &mut planes) == Ok(true));
+        failed = fails_from_here(rt, writer.picture(output, &planes), failed);
     }
     Ok(failed)
 }
 
+/// Whether a write failed: then `Write` is answered, where one failed before as well.
+fn fails_from_here(rt: &impl Abort, answer: Result<(), Fault>, failed: bool) -> bool {
+    match answer {
+        Ok(()) => assert!(rt; !failed),
+        Err(fault) => assert!(rt; fault == Fault::Write),
+    }
+    answer.is_err()
+}
+
 /// A writer with such a room: a beginning is written.
-fn cut_at(rt: &impl Abort, alloc: Global, room: usize) -> Result<(), Fail> {
+fn cut_at(rt: &impl Abort, alloc: Global, room: usize) -> Result<(), Fault> {
     let mut output = ToWrite::new(ShortWriter::new(alloc, room, 3, Some(ErrorKind::Other)));
     let failed = write_pictures(rt, alloc, &mut output)?;
-    assert!(rt; output.failures() == u64::from(failed));
+    holds_beginning(rt, output, failed, &PICTURES[..room.min(PICTURES.len())]);
     assert!(rt; failed == (room < PICTURES.len()));
-    assert!(rt; output.into_inner().held() == &PICTURES[..room.min(PICTURES.len())]);
     Ok(())
+}
+
+/// A writer holds the beginning of a text, and failed once or never.
+fn holds_beginning(rt: &impl Abort, output: ToWrite<ShortWriter>, failed: bool, beginning: &[u8]) {
+    assert!(rt; output.failures() == u64::from(failed));
+    assert!(rt; output.into_inner().held() == beginning);
 }
 
 /// Writers of each number of bytes below the text's length.
@@ -139,34 +154,61 @@ fn pictures_cut(rt: HostRuntime) -> Result<(), Fail> {
     Ok(())
 }
 
+/// The lines of two images.
+const LINES: [&[u8]; 6] = [b"ad", b"be", b"cf", b"gj", b"hk", b"il"];
+
+/// How many lines of two images a sink refuses, by its own count too.
+fn lines_refused(rt: &impl Abort, sink: &mut PpmWriter<ToWrite<ShortWriter>>) -> u64 {
+    let mut refused = 0u64;
+    for (number, line) in LINES.iter().enumerate() {
+        if sink.line((number % 3) as u8, 0, line).is_err() {
+            refused = refused.wrapping_add(1);
+        }
+    }
+    assert!(rt; sink.failures() == refused);
+    refused
+}
+
+/// A sink with such a room for images: so many lines are refused, and a beginning is written.
+fn image_cut_at(rt: &impl Abort, alloc: Global, room: usize, expected: u64) -> Result<(), Fault> {
+    let output = ToWrite::new(ShortWriter::new(alloc, room, 4, Some(ErrorKind::Other)));
+    let mut sink = match PpmWriter::sized(alloc, output, 2, 1) {
+        Ok(sink) => sink,
+        Err((_, fault)) => return Err(fault),
+    };
+    let refused = lines_refused(rt, &mut sink);
+    let beginning = &IMAGES[..room.min(IMAGES.len())];
+    holds_beginning(rt, sink.into_inner(), refused != 0, beginning);
+    assert!(rt; refused == expected);
+    Ok(())
+}
+
 /// The same of images, line by line.
 #[test]
 fn images_cut(rt: HostRuntime) -> Result<(), Fail> {
-    let lines: [&[u8]; 6] = [b"ad", b"be", b"cf", b"gj", b"hk", b"il"];
     for room in 0..40usize {
-        let output = ToWrite::new(ShortWriter::new(rt.alloc(), room, 4, Some(ErrorKind::Other)));
-        let mut sink = match PpmWriter::sized(rt.alloc(), output, 2, 1) {
-            Ok(sink) => sink,
-            Err((_, fault)) => return Err(fault.into()),
-        };
-        let mut refused = 0u64;
-        for (number, line) in lines.iter().enumerate() {
-            if sink.line((number % 3) as u8, 0, line).is_err() {
-                refused = refused.wrapping_add(1);
-            }
-        }
-        assert!(rt; sink.failures() == refused);
         let expected = match room {
             0..=16 => 4,
             17..=33 => 1,
             _ => 0,
         };
-        assert!(rt; refused == expected);
-        let output = sink.into_inner();
-        assert!(rt; output.failures() == u64::from(refused != 0));
-        assert!(rt; output.into_inner().held() == &IMAGES[..room.min(IMAGES.len())]);
+        image_cut_at(&rt, rt.alloc(), room, expected)?;
     }
     Ok(())
+}
+
+/// The failures of a sink of which a request is refused behind others; or of its writer, and why
+/// that one comes back and how much it then holds.
+fn sink_answer(alloc: Global, before: u64) -> (u64, Option<(Fault, usize)>) {
+    let heap = Scarce::new(alloc, before);
+    let output = ToWrite::new(ShortWriter::new(alloc, 9, 9, Some(ErrorKind::Other)));
+    match PpmWriter::sized(&heap, output, 2, 1) {
+        Ok(sink) => (sink.failures(), None),
+        Err((back, fault)) => (
+            back.failures(),
+            Some((fault, back.into_inner().held().len())),
+        ),
+    }
 }
 
 /// The memory of a sink is refused: the writer comes back as it was.
@@ -174,16 +216,11 @@ fn images_cut(rt: HostRuntime) -> Result<(), Fail> {
 fn sink_refused(rt: HostRuntime) -> Result<(), Fail> {
     let mut refused = 0u32;
     for before in 0..6u64 {
-        let heap = Scarce::new(rt.alloc(), before);
-        let output = ToWrite::new(ShortWriter::new(rt.alloc(), 9, 9, Some(ErrorKind::Other)));
-        match PpmWriter::sized(&heap, output, 2, 1) {
-            Ok(sink) => assert!(rt; sink.failures() == 0),
-            Err((back, fault)) => {
-                assert!(rt; fault == Fault::OutOfMemory);
-                assert!(rt; back.failures() == 0);
-                assert!(rt; back.into_inner().held().is_empty());
-                refused = refused.wrapping_add(1);
-            }
+        let (failures, fault) = sink_answer(rt.alloc(), before);
+        assert!(rt; failures == 0);
+        if let Some(answer) = fault {
+            assert!(rt; answer == (Fault::OutOfMemory, 0));
+            refused = refused.wrapping_add(1);
         }
     }
     assert!(rt; refused == 3);
