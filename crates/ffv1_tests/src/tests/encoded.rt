@@ -5,6 +5,7 @@ use ffv1_codec::{FrameCounts, FrameDecoder, FrameEncoder, Info, KeepLines, Pictu
 use ffv1_plane::QuantSet;
 use ffv1_record::{Checked, Coder, Colour, Config, Sets};
 use std::alloc::Global;
+use std::process::Abort;
 use std::test::Fail;
 
 /// The frame of pictures in 4:2:0 with transparency, in three columns and two rows of slices.
@@ -99,25 +100,44 @@ fn encode(
     Ok(encoder.encode(&picture, info)?)
 }
 
-#[test]
-fn example(rt: HostRuntime) -> Result<(), Fail> {
-    let alloc = rt.alloc();
+/// The frame of four samples, of which more is said.
+fn four_said(alloc: Global) -> Result<Vec<u8>, Fail> {
     let mut encoder = encoder(alloc, mono(alloc, 2, 2, 1)?)?;
     let planes = planes(alloc, &[&[10, 20, 30, 40]])?;
-    let frame = encode(&mut encoder, planes, Info::new(3, 1, 1))?;
-    assert!(rt; frame.as_slice() == PROGRESSIVE.as_slice());
-    let checked = mono(alloc, 2, 2, 1)?.check()?;
-    let mut sink = KeepLines::new(alloc, &checked)?;
-    let mut decoder = FrameDecoder::new(alloc, checked)?;
-    let Ok(info) = decoder.decode(frame.as_slice(), &mut sink) else {
+    encode(&mut encoder, planes, Info::new(3, 1, 1))
+}
+
+/// It is decoded into its four samples, and what is said of them.
+fn decodes(
+    rt: &impl Abort,
+    decoder: &mut FrameDecoder,
+    sink: &mut KeepLines,
+    frame: &[u8],
+) -> Result<(), Fail> {
+    let Ok(info) = decoder.decode(frame, sink) else {
         return Err(Fail::new("not decoded"));
     };
     assert!(rt; (info.structure(), info.sar_num(), info.sar_den()) == (3, 1, 1));
-    assert_eq!(rt; sink.planes().len(), 1);
+    assert!(rt; sink.planes().len() == 1);
     for plane in sink.planes() {
         assert!(rt; plane.as_slice() == [10, 20, 30, 40].as_slice());
     }
     Ok(())
+}
+
+/// The same by a new decoder.
+fn is_decoded(rt: &impl Abort, alloc: Global, frame: &[u8]) -> Result<(), Fail> {
+    let checked = mono(alloc, 2, 2, 1)?.check()?;
+    let mut sink = KeepLines::new(alloc, &checked)?;
+    let mut decoder = FrameDecoder::new(alloc, checked)?;
+    decodes(rt, &mut decoder, &mut sink, frame)
+}
+
+#[test]
+fn example(rt: HostRuntime) -> Result<(), Fail> {
+    let frame = four_said(rt.alloc())?;
+    assert!(rt; frame.as_slice() == PROGRESSIVE.as_slice());
+    is_decoded(&rt, rt.alloc(), &PROGRESSIVE)
 }
 
 /// Whether this is the frame of a picture of which nothing is said, by a new encoder, and so much
@@ -258,31 +278,37 @@ fn red(rt: HostRuntime) -> Result<(), Fail> {
     Ok(())
 }
 
-#[test]
-fn twice_by_one_encoder(rt: HostRuntime) -> Result<(), Fail> {
-    let alloc = rt.alloc();
-    let mut encoder = encoder(alloc, mono(alloc, 2, 2, 1)?)?;
-    assert_eq!(rt;
-        encoder.counts(),
+/// Whether the four samples, of which nothing is said, have this frame by an encoder.
+fn has_frame(alloc: Global, encoder: &mut FrameEncoder, frame: &[u8]) -> Result<bool, Fail> {
+    let of = planes(alloc, &[&[10, 20, 30, 40]])?;
+    let made = encode(encoder, of, Info::new(0, 0, 0))?;
+    Ok(made.as_slice() == frame)
+}
+
+/// An encoder gives it twice, and counts each anew.
+fn gives_twice(rt: &impl Abort, alloc: Global, encoder: &mut FrameEncoder) -> Result<(), Fail> {
+    let (none, counted) = (
         FrameCounts {
             decisions: 0,
-            renormalisations: 0
-        }
-    );
-    let four: [&[u8]; 1] = [&[10, 20, 30, 40]];
-    let first = encode(&mut encoder, planes(alloc, &four)?, Info::new(0, 0, 0))?;
-    let again = encode(&mut encoder, planes(alloc, &four)?, Info::new(0, 0, 0))?;
-    let frame = b"\xFE\x6C\xAF\x59\x7A\x88\x00\x00\x06".as_slice();
-    assert!(rt; first.as_slice() == frame);
-    assert!(rt; again.as_slice() == frame);
-    assert_eq!(rt;
-        encoder.counts(),
+            renormalisations: 0,
+        },
         FrameCounts {
             decisions: 38,
-            renormalisations: 5
-        }
+            renormalisations: 5,
+        },
     );
+    let frame = b"\xFE\x6C\xAF\x59\x7A\x88\x00\x00\x06".as_slice();
+    assert!(rt; encoder.counts() == none);
+    assert!(rt; has_frame(alloc, encoder, frame)?);
+    assert!(rt; has_frame(alloc, encoder, frame)?);
+    assert!(rt; encoder.counts() == counted);
     Ok(())
+}
+
+#[test]
+fn twice_by_one_encoder(rt: HostRuntime) -> Result<(), Fail> {
+    let mut encoder = encoder(rt.alloc(), mono(rt.alloc(), 2, 2, 1)?)?;
+    gives_twice(&rt, rt.alloc(), &mut encoder)
 }
 
 /// The sample of a plane in column x and line y.
