@@ -15,7 +15,7 @@ use Rattle.ffv1_range.proofs.Standard.{all_below, all_below-at}
 use Rattle.ffv1_range.proofs.ListedSteps.{steps_of-append}
 
 abbrev pub code_of : Step → ℕ
-code_of s = 2 * s.slot + one_if s.bit
+code_of s = 512 * s.slot + 256 * one_if s.bit
 
 abbrev pub codes_of : ℕ → List ℕ
 codes_of residual = map code_of (signed_steps (of_nine_bits residual))
@@ -76,10 +76,10 @@ short_at residual small = leb-true (long_of residual) 19 (all_below-at is_short 
 
 -- ---- a row is listed
 
-pub listed_next : (list row before : List ℕ) (at k base : ℕ) → at + k < length list → k < length row → take (at + k) list ≡ before ++ map (λ n. base + 256 * n) (take k row) →
-    take (at + (k + 1)) (slice_set list (at + k) (base + 256 * get_or row k 0)) ≡ before ++ map (λ n. base + 256 * n) (take (k + 1) row)
+pub listed_next : (list row before : List ℕ) (at k base : ℕ) → at + k < length list → k < length row → take (at + k) list ≡ before ++ map (λ n. base + n) (take k row) →
+    take (at + (k + 1)) (slice_set list (at + k) (base + get_or row k 0)) ≡ before ++ map (λ n. base + n) (take (k + 1) row)
 listed_next list row before at k base room inside is =
-    let f : ℕ → ℕ = λ n. base + 256 * n in
+    let f : ℕ → ℕ = λ n. base + n in
     let on : at + (k + 1) ≡ suc (at + k) = omega arith in
     let up : k + 1 ≡ suc k = omega arith in
     let more : map f (take (k + 1) row) ≡ map f (take k row) ++ (f (get_or row k 0) ∷ []) =
@@ -87,23 +87,23 @@ listed_next list row before at k base room inside is =
     ap (λ j. take j (slice_set list (at + k) (f (get_or row k 0)))) on ∙ take-suc-set list (at + k) (f (get_or row k 0)) room
     ∙ ap (λ l. l ++ (f (get_or row k 0) ∷ [])) is ∙ append_assoc before (map f (take k row)) (f (get_or row k 0) ∷ []) ∙ ap (λ l. before ++ l) (sym more)
 
-slot_of : (base slot : ℕ) (bit : Bool) → (512 * base + 256 * (2 * slot + one_if bit)) / 512 ≡ base + slot
+slot_of : (base slot : ℕ) (bit : Bool) → (512 * base + (512 * slot + 256 * one_if bit)) / 512 ≡ base + slot
 slot_of base slot true = omega arith
 slot_of base slot false = omega arith
 
-bit_of : (base slot : ℕ) (bit : Bool) → (((512 * base + 256 * (2 * slot + one_if bit)) / 256 % 2) == 1) ≡ bit
-bit_of base slot true = let one : (512 * base + 256 * (2 * slot + 1)) / 256 % 2 ≡ 1 = omega arith in rw one refl
-bit_of base slot false = let none : (512 * base + 256 * (2 * slot + 0)) / 256 % 2 ≡ 0 = omega arith in rw none refl
+bit_of : (base slot : ℕ) (bit : Bool) → (((512 * base + (512 * slot + 256 * one_if bit)) / 256 % 2) == 1) ≡ bit
+bit_of base slot true = let one : (512 * base + (512 * slot + 256 * 1)) / 256 % 2 ≡ 1 = omega arith in rw one refl
+bit_of base slot false = let none : (512 * base + (512 * slot + 256 * 0)) / 256 % 2 ≡ 0 = omega arith in rw none refl
 
-step_is : (context : ℕ) (s : Step) → step_of (context * 16384 + 256 * code_of s) ≡ record { slot = context * 32 + s.slot; bit = s.bit }
+step_is : (context : ℕ) (s : Step) → step_of (context * 16384 + code_of s) ≡ record { slot = context * 32 + s.slot; bit = s.bit }
 step_is context s =
     let f : ℕ → Bool → Step = λ slot bit. record { slot = slot; bit = bit } in
     let bits = bit_of (context * 32) s.slot s.bit in
     let slots = slot_of (context * 32) s.slot s.bit in
-    let number : context * 16384 + 256 * code_of s ≡ 512 * (context * 32) + 256 * code_of s = omega arith in
-    ap step_of number ∙ ap (λ n. f n ((((512 * (context * 32) + 256 * code_of s) / 256) % 2) == 1)) slots ∙ ap (f (context * 32 + s.slot)) bits
+    let number : context * 16384 + code_of s ≡ 512 * (context * 32) + code_of s = omega arith in
+    ap step_of number ∙ ap (λ n. f n ((((512 * (context * 32) + code_of s) / 256) % 2) == 1)) slots ∙ ap (f (context * 32 + s.slot)) bits
 
-steps_are : (context : ℕ) (ss : List Step) → steps_of (map (λ n. context * 16384 + 256 * n) (map code_of ss)) ≡ shifted (context * 32) ss
+steps_are : (context : ℕ) (ss : List Step) → steps_of (map (λ n. context * 16384 + n) (map code_of ss)) ≡ shifted (context * 32) ss
 steps_are context [] = refl
 steps_are context (s ∷ ss) =
     let rest = steps_are context ss in
@@ -111,10 +111,10 @@ steps_are context (s ∷ ss) =
     cc
 
 pub listed_symbol : (old new : List ℕ) (at context residual n : ℕ) → residual < 512 → long_of residual ≤ n → at ≤ length old →
-    take (at + n) new ≡ take at old ++ map (λ k. context * 16384 + 256 * k) (take n (row_of residual)) →
+    take (at + n) new ≡ take at old ++ map (λ k. context * 16384 + k) (take n (row_of residual)) →
     steps_of (take (at + long_of residual) new) ≡ steps_of (take at old) ++ shifted (context * 32) (signed_steps (of_nine_bits residual))
 listed_symbol old new at context residual n small long fits is =
-    let f : ℕ → ℕ = λ k. context * 16384 + 256 * k in
+    let f : ℕ → ℕ = λ k. context * 16384 + k in
     let few = long_of residual in
     let short = short_at residual small in
     let head = length-take-le at old fits in
@@ -126,7 +126,7 @@ listed_symbol old new at context residual n small long fits is =
     ap steps_of part ∙ steps_of-append (take at old) (map f (codes_of residual)) ∙ ap (λ ss. steps_of (take at old) ++ ss) (steps_are context (signed_steps (of_nine_bits residual)))
 
 -- nothing of a row is listed at first
-pub listed_none : (list row : List ℕ) (at base : ℕ) → take (at + 0) list ≡ take at list ++ map (λ n. base + 256 * n) (take 0 row)
+pub listed_none : (list row : List ℕ) (at base : ℕ) → take (at + 0) list ≡ take at list ++ map (λ n. base + n) (take 0 row)
 listed_none list row at base =
     let here : at + 0 ≡ at = omega arith in
     ap (λ k. take k list) here ∙ sym (append-nil (take at list))

@@ -187,7 +187,7 @@ fn put_listed<A: Allocator>(
     Ok(())
 }
 
-/// The decisions of a list, with what is held back. Answers how many of them are 1.
+/// The decisions of a list, with what is held back.
 #[inline(always)]
 fn put_each<A: Allocator>(
     bytes: &mut Vec<u8, A>,
@@ -195,15 +195,12 @@ fn put_each<A: Allocator>(
     table: &StateTable,
     states: &mut [u8],
     list: &[u32],
-) -> Result<u32, AllocError>
+) -> Result<(), AllocError>
     requires holding { IsHolding bytes.old.items holding.old.low holding.old.width
         holding.old.held }
     requires few { holding.old.held < 4 }
     requires held { AllHeld table.now states.old }
     requires slots { AreBelow (steps_of list.now) (length states.old) }
-    requires short { length list.now < 2 ^ 32 }
-    ensures ones { IfOk result (λ ones. ones ≡ ones_in (steps_of list.now)) }
-    ensures of_all { IfOk result (λ ones. ones ≤ length list.now) }
     ensures writes { OnOk result (Writes table.now
         (standing_held bytes.old.items holding.old.low holding.old.width holding.old.held)
         states.old
@@ -218,13 +215,10 @@ fn put_each<A: Allocator>(
     ensures grown { OnOk result (length bytes.old.items ≤ length bytes.new.items) }
     ensures held { AllHeld table.now states.new }
 {
-    // 256 times the ones, for which a decision's own number serves.
-    let mut ones = 0u64;
     for step in list {
         put_listed(bytes, holding, table, states, *step)?;
-        ones += u64::from(*step / 256 % 2 * 256);
     }
-    Ok((ones / 256) as u32)
+    Ok(())
 }
 
 /// Gives out the first of the bytes that are held back.
@@ -275,7 +269,7 @@ fn release_all<A: Allocator>(
     Ok(())
 }
 
-/// The decisions of a list, with the interval in locals. Answers how many of them are 1.
+/// The decisions of a list, with the interval in locals.
 #[inline(always)]
 fn put_list<A: Allocator>(
     bytes: &mut Vec<u8, A>,
@@ -283,13 +277,10 @@ fn put_list<A: Allocator>(
     table: &StateTable,
     states: &mut [u8],
     list: &[u32],
-) -> Result<u32, AllocError>
+) -> Result<(), AllocError>
     requires writing { IsWriting bytes.old.items span.old.low span.old.width }
     requires held { AllHeld table.now states.old }
     requires slots { AreBelow (steps_of list.now) (length states.old) }
-    requires short { length list.now < 2 ^ 32 }
-    ensures ones { IfOk result (λ ones. ones ≡ ones_in (steps_of list.now)) }
-    ensures of_all { IfOk result (λ ones. ones ≤ length list.now) }
     ensures writes { OnOk result (Writes table.now
         (standing bytes.old.items span.old.low span.old.width) states.old
         (standing bytes.new.items span.new.low span.new.width) states.new (steps_of list.now)) }
@@ -304,16 +295,31 @@ fn put_list<A: Allocator>(
         width: span.width,
         held: 0,
     };
-    let ones = put_each(bytes, &mut holding, table, states, list)?;
+    put_each(bytes, &mut holding, table, states, list)?;
     release_all(bytes, &mut holding)?;
     span.low = holding.low as u32;
     span.width = holding.width;
-    Ok(ones)
+    Ok(())
+}
+
+/// How many decisions of a list are 1.
+// Apart from the loop that puts them: a sum alone takes four at once.
+#[inline(always)]
+fn ones_of(list: &[u32]) -> u32
+    requires { length list.now < 2 ^ 32 }
+    ensures value { result ≡ ones_in (steps_of list.now) }
+    ensures of_all { result ≤ length list.now }
+{
+    let mut ones = 0u32;
+    for step in list {
+        ones += *step / 256 % 2;
+    }
+    ones
 }
 
 /// The row of a residual of nine bits, given modulo 512, in the table of symbols.
 #[inline(always)]
-fn symbol_of(residual: usize) -> &'static [u8]
+fn symbol_of(residual: usize) -> &'static [u16]
     requires { residual < 512 }
     ensures { result.now ≡ take 24 (drop (residual * 24) SYMBOLS) }
 {
@@ -329,19 +335,19 @@ fn length_of(residual: usize) -> usize
     LENGTHS[residual] as usize
 }
 
-/// The places of a row of numbers from `from` to before `upto`, each times 256 and behind a base.
+/// The places of a row of numbers from `from` to before `upto`, each behind a base.
 #[inline(always)]
-fn list_places(list: &mut [u32], at: usize, base: u32, row: &[u8], from: usize, upto: usize)
+fn list_places(list: &mut [u32], at: usize, base: u32, row: &[u16], from: usize, upto: usize)
     requires ordered { from ≤ upto }
     requires row { upto ≤ length row.now }
     requires room { at + length row.now ≤ length list.old }
     requires small { base < 2 ^ 31 }
     ensures { (before : List ℕ) →
-        take (at + from) list.old ≡ before ++ map (λ n. base + 256 * n) (take from row.now) →
-        take (at + upto) list.new ≡ before ++ map (λ n. base + 256 * n) (take upto row.now) }
+        take (at + from) list.old ≡ before ++ map (λ n. base + n) (take from row.now) →
+        take (at + upto) list.new ≡ before ++ map (λ n. base + n) (take upto row.now) }
 {
     for k in from..upto {
-        list[at + k] = base + 256 * u32::from(row[k]);
+        list[at + k] = base + u32::from(row[k]);
     }
 }
 
@@ -397,7 +403,7 @@ impl<A: Allocator> RangeEncoder<A> {
             width: self.width,
         };
         let done = put_list(&mut self.bytes, &mut span, table, states, list);
-        let Ok(ones) = done else {
+        let Ok(()) = done else {
             self.bytes.clear();
             self.low = 0;
             self.width = FIRST_WIDTH;
@@ -406,6 +412,7 @@ impl<A: Allocator> RangeEncoder<A> {
         };
         self.low = span.low;
         self.width = span.width;
+        let ones = ones_of(list);
         self.count(ones, list.len() as u32 - ones);
         Ok(())
     }

@@ -1,5 +1,5 @@
 use Rattle.std.proofs.Common.{length, arith}
-use Rattle.ffv1_range.proofs.ListedSteps.{below_at, ones_next, writes_listed, grows_listed}
+use Rattle.ffv1_range.proofs.ListedSteps.{below_at, writes_listed, grows_listed}
 use Rattle.ffv1_range.proofs.Growth.{on_err}
 use Rattle.ffv1_range.proofs.listed.put_each.Goals as goal
 
@@ -14,10 +14,7 @@ returns-in_err-put_listed-clause-refused g c =
 
 pub loop-step-preserved : goal.loop-step-preserved
 loop-step-preserved g c =
-    let next = ones_next c.args.list.now c.loop-step.step-index (omega arith) in
     record {
-      ones = omega arith;
-      of_all = omega arith;
       held = c.put_listed.ensures.held;
       holding = c.in_ok-put_listed.ensures.holding;
       few = c.in_ok-put_listed.ensures.few;
