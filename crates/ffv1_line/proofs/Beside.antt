@@ -26,11 +26,11 @@ use Rattle.ffv1_line.proofs.Rows.{around_is, scalars, seen_border, seen_far, row
 
 -- ---- neighbours
 
-before_seen : (c : Cell) (y : ℕ) (above row : List ℕ) (x n : ℕ) → x ≤ n → 0 < c.width → Shows c (suc y) row n → Shows c y above c.width → before above row x ≡ seen c (suc x) (suc y)
+pub before_seen : (c : Cell) (y : ℕ) (above row : List ℕ) (x n : ℕ) → x ≤ n → 0 < c.width → Shows c (suc y) row n → Shows c y above c.width → before above row x ≡ seen c (suc x) (suc y)
 before_seen c y above row zero n inside some shows top = top.each 0 some ∙ sym (seen_border c y)
 before_seen c y above row (suc x) n inside some shows top = shows.each x (omega arith)
 
-two_before_seen : (c : Cell) (y : ℕ) (above row : List ℕ) (x n : ℕ) → x ≤ n → 0 < c.width → Shows c (suc y) row n → Shows c y above c.width → two_before above row x ≡ seen c x (suc y)
+pub two_before_seen : (c : Cell) (y : ℕ) (above row : List ℕ) (x n : ℕ) → x ≤ n → 0 < c.width → Shows c (suc y) row n → Shows c y above c.width → two_before above row x ≡ seen c x (suc y)
 two_before_seen c y above row zero n inside some shows top = sym (seen_far c (suc y))
 two_before_seen c y above row (suc x) n inside some shows top = before_seen c y above row x n (omega arith) some shows top
 

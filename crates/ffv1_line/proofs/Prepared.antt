@@ -15,7 +15,9 @@ use Rattle.ffv1_plane.specs.Quantisation.{Set}
 use Rattle.ffv1_plane.specs.Early.{left_above, right_above}
 use Rattle.ffv1_line.specs.Cell.{Cell, seen, Above}
 use Rattle.ffv1_line.specs.Internal.Along.{Stands, IsBehind, IsFilled, IsPrepared}
-use Rattle.ffv1_line.proofs.Rows.{stands_first, stands_next, seen_border}
+use Rattle.ffv1_line.specs.Beside.{before, two_before}
+use Rattle.ffv1_line.proofs.Beside.{before_seen, two_before_seen}
+use Rattle.ffv1_line.proofs.Rows.{stands_next, seen_border}
 
 -- the sample above to the left is the one that is seen there
 left_is : (c : Cell) (y : ℕ) (two one : List ℕ) (x : ℕ) → x < length one → Above c y two one → left_above two one x ≡ seen c (suc x) (suc y)
@@ -38,8 +40,12 @@ behind_stands two one cur x ll l tl t stands = record {
   l_is = λ c y above shows. (stands.each c y above shows).l_is;
 }
 
-pub behind_first : (two one cur : List ℕ) → 0 < length one → length two ≡ length one → IsBehind two one cur 0 0 (get_or one 0 0)
-behind_first two one cur some same = behind_stands two one cur 0 0 (get_or one 0 0) _ _ (stands_first two one cur some same)
+-- by the samples that stand before a place
+pub behind_here : (two one cur : List ℕ) (x : ℕ) → 0 < length one → IsBehind two one cur x (two_before one cur x) (before one cur x)
+behind_here two one cur x some = record {
+  ll_is = λ c y above shows. two_before_seen c (suc y) one cur x x (omega arith) (omega (arith, above.wide)) shows above.first;
+  l_is = λ c y above shows. before_seen c (suc y) one cur x x (omega arith) (omega (arith, above.wide)) shows above.first;
+}
 
 pub behind_next : (two one cur : List ℕ) (x ll l tl t s : ℕ) → x < length cur → length one ≡ length cur → Stands two one cur x ll l tl t → IsBehind two one (slice_set cur x s) (x + 1) l s
 behind_next two one cur x ll l tl t s inside same stands =

@@ -5,12 +5,13 @@ ghost use Rattle.std.specs.Prelude.{take};
 ghost use Rattle.ffv1_range.specs.History.{AreBelow};
 ghost use Rattle.ffv1_range.specs.Listed.{of_nine_bits, steps_of};
 ghost use Rattle.ffv1_plane.specs.Quantisation.{IsNear, HasFewLevels, contexts_of};
+ghost use Rattle.ffv1_plane.specs.Raised.{AreSetLanes};
 ghost use Rattle.ffv1_plane.specs.Residual.{IsFolded};
 ghost use Rattle.ffv1_line.specs.Beside.{before, two_before, places_steps};
 ghost use Rattle.ffv1_line.specs.Internal.Block.{IsBlock};
 
 use crate::neighbours::{context_by, right_above};
-use ffv1_plane::{Around, AroundLanes, QuantSet, choose_lanes, predict, residual_of};
+use ffv1_plane::{Around, AroundLanes, QuantSet, SetLanes, choose_lanes, predict, residual_of};
 use ffv1_range::list_signed;
 use std::alloc::Allocator;
 use std::simd::prelude::*;
@@ -32,7 +33,7 @@ pub(crate) struct Block {
 
 /// The sample before a place of a row.
 #[inline(always)]
-fn sample_before(above: &[u16], row: &[u16], x: usize) -> u16
+pub(crate) fn sample_before(above: &[u16], row: &[u16], x: usize) -> u16
     requires above { 0 < length above.now }
     requires row { x ≤ length row.now }
     ensures { result ≡ before above.now row.now x }
@@ -45,7 +46,7 @@ fn sample_before(above: &[u16], row: &[u16], x: usize) -> u16
 
 /// The sample two before a place of a row.
 #[inline(always)]
-fn sample_two_before(above: &[u16], row: &[u16], x: usize) -> u16
+pub(crate) fn sample_two_before(above: &[u16], row: &[u16], x: usize) -> u16
     requires above { 0 < length above.now }
     requires row { x ≤ length row.now }
     ensures { result ≡ two_before above.now row.now x }
@@ -122,12 +123,13 @@ fn prepare_places<A: Allocator>(
     }
 }
 
-/// The same of 16 places from `at` on whose neighbours all stand in the rows.
+/// The same of 16 places from `at` on whose neighbours all stand in the rows, by the set's lanes.
 #[inline(always)]
 fn prepare_lanes<A: Allocator>(
     contexts: &mut [u32],
     residuals: &mut [u16],
     set: &QuantSet<A>,
+    lanes: &SetLanes,
     two: &[u16],
     one: &[u16],
     cur: &[u16],
@@ -138,6 +140,7 @@ fn prepare_lanes<A: Allocator>(
 )
     requires bits { (bits ≡ 8) ⊎ (bits ≡ 9) }
     requires levels { HasFewLevels set.now }
+    requires lanes { AreSetLanes set.now lanes.now }
     requires near { IsTrue near → IsNear set.now }
     requires contexts { at + 16 ≤ length contexts.old }
     requires residuals { at + 16 ≤ length residuals.old }
@@ -161,7 +164,7 @@ fn prepare_lanes<A: Allocator>(
         tt: u16x16::from_slice(&two[x..]),
     };
     let samples = u16x16::from_slice(&cur[x..]);
-    let (sizes, chosen) = choose_lanes(set, &around, samples, bits, near);
+    let (sizes, chosen) = choose_lanes(set, lanes, &around, samples, bits, near);
     sizes.cast::<u32>().copy_to_slice(&mut contexts[at..]);
     chosen.copy_to_slice(&mut residuals[at..]);
 }
@@ -191,18 +194,19 @@ pub(crate) fn prepare<A: Allocator>(
     ensures { IsBlock set.now bits two.now one.now cur.now from few block.new.contexts
         block.new.residuals }
 {
-    let lanes = set.has_few_levels();
+    let few_levels = set.has_few_levels();
+    let lanes = set.lanes();
     let mut at = 0;
     while at < few {
         let x = from + at;
-        if lanes && 2 <= x && 16 <= few - at && 17 <= cur.len() - x {
+        if few_levels && 2 <= x && 16 <= few - at && 17 <= cur.len() - x {
             let Block {
                 contexts,
                 residuals,
                 ..
             } = block;
             prepare_lanes(
-                contexts, residuals, set, two, one, cur, from, at, bits, near,
+                contexts, residuals, set, &lanes, two, one, cur, from, at, bits, near,
             );
             at += 16;
         } else {

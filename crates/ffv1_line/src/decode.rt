@@ -12,9 +12,11 @@ ghost use Rattle.ffv1_plane.specs.Quantisation.{contexts_of, IsNear};
 ghost use Rattle.ffv1_line.specs.Row.{refused_steps};
 ghost use Rattle.ffv1_line.specs.Decoded.{Sampled, Lined, Refused, SameFrom};
 ghost use Rattle.ffv1_line.specs.Internal.Along.{IsBehind, IsFilled, IsPrepared};
-ghost use Rattle.ffv1_line.specs.Internal.Along.{IsPreparedSomehow, IsEven, ComesAgain};
+ghost use Rattle.ffv1_line.specs.Internal.Along.{IsPreparedSomehow, IsEven, IsFlat, ComesAgain};
 
+use crate::block::{sample_before, sample_two_before};
 use crate::fault::TooLong;
+use ffv1_plane::laws::flat;
 use ffv1_plane::{BLOCK, Early, QuantSet, late_context, predict_late, sample_late};
 use ffv1_range::{Nonzeros, RangeDecoder, StateTable};
 use std::alloc::Allocator;
@@ -22,13 +24,11 @@ use std::alloc::Allocator;
 /// The most nonzero symbols of a calm block.
 const CALM: u32 = 16;
 
-/// What is carried from place to place along a row: the samples two to the left and to the left,
-/// and whether the block before was calm.
+/// What is carried from place to place along a block: the samples two to the left and to the left.
 #[derive(Clone, Copy)]
 struct Behind {
     ll: u16,
     l: u16,
-    calm: bool,
 }
 
 /// The sample that comes next, at place `i` of a block, which adds its symbol to `nonzeros`.
@@ -79,7 +79,7 @@ fn decode_sample<B: Allocator>(
     ensures stays { OnErr result (nonzeros.new ≡ nonzeros.old) }
     ensures held { AllHeld table.now states.new }
 {
-    let Behind { ll, l, .. } = behind;
+    let Behind { ll, l } = behind;
     let (size, flip) = late_context(set, early.sum[i], l, early.tl[i], ll, near);
     let prediction = predict_late(l, early.t[i], early.least[i], early.most[i]);
     match decoder.tally_signed_in_row(nonzeros, table, states, size as usize) {
@@ -92,6 +92,127 @@ fn decode_sample<B: Allocator>(
         }
         Err(_) => Err(()),
     }
+}
+
+/// The places of a block from `start` to before its last, of `count`, as long as they are flat and
+/// their symbols zeros: the samples above, above to the left and right and to the left are one,
+/// which comes again. `state` is that of the first decision of the first context, which all of them
+/// have. Answers the first place that is left.
+#[inline(always)]
+fn take_flat<B: Allocator>(
+    decoder: &mut RangeDecoder<'_>,
+    table: &StateTable,
+    set: &QuantSet<B>,
+    state: &mut u8,
+    two: &[u16],
+    one: &[u16],
+    cur: &mut [u16],
+    early: &Early,
+    behind: &mut Behind,
+    from: usize,
+    start: usize,
+    count: usize,
+    bits: u8,
+) -> usize
+    requires few { count ≤ 128 }
+    requires inside { start < count }
+    requires within { from + count ≤ length cur.old }
+    requires two_long { length two.now ≡ length cur.old }
+    requires one_long { length one.now ≡ length cur.old }
+    requires held { Holds table.now state.old }
+    requires filled { IsFilled set.now two.now one.now from early.now count }
+    requires flat { IsFlat set.now }
+    requires left { slice_index early.now.tl start ≡ behind.old.l }
+    requires top { slice_index early.now.t start ≡ behind.old.l }
+    requires again { ComesAgain bits behind.old.l }
+    requires begins { IsBehind two.now one.now cur.old (from + start) behind.old.ll behind.old.l }
+    ensures least { start ≤ result }
+    ensures most { result < count }
+    ensures begins { IsBehind two.now one.now cur.new (from + result) behind.new.ll behind.new.l }
+    ensures on { (before : List ℕ) → SameFrom (from + start) before cur.old →
+        SameFrom (from + result) before cur.new }
+    ensures lined { (first : Reading) (fresh states : List ℕ) (nonzeros : NonzerosOf) →
+        0 < length states → slice_index states 0 ≡ state.old → nonzeros.symbols ≤ start →
+        Lined table.now set.now bits first fresh (summed decoder.old (sums_among start nonzeros))
+        states two.now one.now cur.old (from + start) →
+        Lined table.now set.now bits first fresh (summed decoder.new (sums_among result nonzeros))
+        (slice_set states 0 state.new) two.now one.now cur.new (from + result) }
+    ensures held { Holds table.now state.new }
+{
+    for at in start..count - 1 {
+        if early.t[at + 1] != behind.l {
+            return at;
+        }
+        if !decoder.take_zero(table, state) {
+            return at;
+        }
+        cur[from + at] = behind.l;
+        behind.ll = behind.l;
+    }
+    count - 1
+}
+
+/// The places of a block from `start` on, of `count`, that are flat and whose symbols are zeros, in
+/// a set whose fourth and fifth tables have one level: the samples above, above to the left and
+/// right and to the left are one, and so is each that comes. Their context is the first, whose
+/// state is kept apart. Answers the first place that is left, from `start` to the last one.
+#[inline(always)]
+fn decode_flat<B: Allocator>(
+    decoder: &mut RangeDecoder<'_>,
+    table: &StateTable,
+    set: &QuantSet<B>,
+    states: &mut [u8],
+    two: &[u16],
+    one: &[u16],
+    cur: &mut [u16],
+    early: &Early,
+    behind: &mut Behind,
+    from: usize,
+    start: usize,
+    count: usize,
+    bits: u8,
+    calm: bool,
+) -> usize
+    requires bits { (bits ≡ 8) ⊎ (bits ≡ 9) }
+    requires near { IsNear set.now }
+    requires few { count ≤ 128 }
+    requires inside { start < count }
+    requires within { from + count ≤ length cur.old }
+    requires two_long { length two.now ≡ length cur.old }
+    requires one_long { length one.now ≡ length cur.old }
+    requires rows { length states.old ≡ contexts_of set.now * 32 }
+    requires held { AllHeld table.now states.old }
+    requires filled { IsFilled set.now two.now one.now from early.now count }
+    requires begins { IsBehind two.now one.now cur.old (from + start) behind.old.ll behind.old.l }
+    ensures least { start ≤ result }
+    ensures most { result < count }
+    ensures begins { IsBehind two.now one.now cur.new (from + result) behind.new.ll behind.new.l }
+    ensures on { (before : List ℕ) → SameFrom (from + start) before cur.old →
+        SameFrom (from + result) before cur.new }
+    ensures lined { (first : Reading) (fresh : List ℕ) (nonzeros : NonzerosOf) →
+        nonzeros.symbols ≤ start →
+        Lined table.now set.now bits first fresh (summed decoder.old (sums_among start nonzeros))
+        states.old two.now one.now cur.old (from + start) →
+        Lined table.now set.now bits first fresh (summed decoder.new (sums_among result nonzeros))
+        states.new two.now one.now cur.new (from + result) }
+    ensures held { AllHeld table.now states.new }
+{
+    let l = behind.l;
+    if !calm || early.tl[start] != l || early.t[start] != l {
+        return start;
+    }
+    // A sample of more bits, as only a row from elsewhere has, does not come again.
+    if sample_late(predict_late(l, l, l, l), false, 0, bits) != l {
+        return start;
+    }
+    set.bounded();
+    flat();
+    let mut state = states[0];
+    let left = take_flat(
+        decoder, table, set, &mut state, two, one, cur, early, behind, from, start, count, bits,
+    );
+    states[0] = state;
+    left
 }
 
 /// The places of a block from `start` to before its last, of `count`, as long as they are even and
@@ -158,8 +279,71 @@ fn take_zeros<B: Allocator>(
 /// The places of a block from `start` on, of `count`, that are even and whose symbols are zeros: the
 /// samples above and to the left are one, and so is each that comes. Their context is one, whose
 /// state is kept apart. Answers the first place that is left, from `start` to the last one.
-#[inline(always)]
+#[inline(never)]
 fn decode_even<B: Allocator>(
+    decoder: &mut RangeDecoder<'_>,
+    table: &StateTable,
+    set: &QuantSet<B>,
+    states: &mut [u8],
+    two: &[u16],
+    one: &[u16],
+    cur: &mut [u16],
+    early: &Early,
+    behind: &mut Behind,
+    from: usize,
+    start: usize,
+    count: usize,
+    bits: u8,
+) -> usize
+    requires bits { (bits ≡ 8) ⊎ (bits ≡ 9) }
+    requires few { count ≤ 128 }
+    requires inside { start < count }
+    requires within { from + count ≤ length cur.old }
+    requires two_long { length two.now ≡ length cur.old }
+    requires one_long { length one.now ≡ length cur.old }
+    requires rows { length states.old ≡ contexts_of set.now * 32 }
+    requires held { AllHeld table.now states.old }
+    requires filled { IsFilled set.now two.now one.now from early.now count }
+    requires left { slice_index early.now.tl start ≡ behind.old.l }
+    requires top { slice_index early.now.t start ≡ behind.old.l }
+    requires begins { IsBehind two.now one.now cur.old (from + start) behind.old.ll behind.old.l }
+    ensures least { start ≤ result }
+    ensures most { result < count }
+    ensures begins { IsBehind two.now one.now cur.new (from + result) behind.new.ll behind.new.l }
+    ensures on { (before : List ℕ) → SameFrom (from + start) before cur.old →
+        SameFrom (from + result) before cur.new }
+    ensures lined { (first : Reading) (fresh : List ℕ) (nonzeros : NonzerosOf) →
+        nonzeros.symbols ≤ start →
+        Lined table.now set.now bits first fresh (summed decoder.old (sums_among start nonzeros))
+        states.old two.now one.now cur.old (from + start) →
+        Lined table.now set.now bits first fresh (summed decoder.new (sums_among result nonzeros))
+        states.new two.now one.now cur.new (from + result) }
+    ensures held { AllHeld table.now states.new }
+{
+    let Behind { ll, l } = *behind;
+    let sum = early.sum[start];
+    let (size, _) = late_context(set, sum, l, l, ll, false);
+    let (next, _) = late_context(set, sum, l, l, l, false);
+    // A sample of more bits, as only a row from elsewhere has, does not come again.
+    if size != next || sample_late(predict_late(l, l, l, l), false, 0, bits) != l {
+        return start;
+    }
+    let slot = size as usize * 32;
+    let mut state = states[slot];
+    let mut local = decoder.clone().unwrap();
+    let left = take_zeros(
+        &mut local, table, set, &mut state, two, one, cur, early, behind, from, start, count, sum,
+        size, bits,
+    );
+    states[slot] = state;
+    *decoder = local;
+    left
+}
+
+/// The same by the function for the kind of set: `near` may be said of one whose fourth and fifth
+/// tables have one level.
+#[inline(always)]
+fn decode_zeros<B: Allocator>(
     decoder: &mut RangeDecoder<'_>,
     table: &StateTable,
     set: &QuantSet<B>,
@@ -200,31 +384,29 @@ fn decode_even<B: Allocator>(
         states.new two.now one.now cur.new (from + result) }
     ensures held { AllHeld table.now states.new }
 {
-    let Behind { ll, l, .. } = *behind;
-    if !calm || early.tl[start] != l || early.t[start] != l {
+    if near {
+        return decode_flat(
+            decoder, table, set, states, two, one, cur, early, behind, from, start, count, bits,
+            calm,
+        );
+    }
+    if !calm || early.tl[start] != behind.l || early.t[start] != behind.l {
         return start;
     }
-    let sum = early.sum[start];
-    let (size, _) = late_context(set, sum, l, l, ll, near);
-    let (next, _) = late_context(set, sum, l, l, l, near);
-    // A sample of more bits, as only a row from elsewhere has, does not come again.
-    if size != next || sample_late(predict_late(l, l, l, l), false, 0, bits) != l {
-        return start;
-    }
-    let slot = size as usize * 32;
-    let mut state = states[slot];
-    let left = take_zeros(
-        decoder, table, set, &mut state, two, one, cur, early, behind, from, start, count, sum,
-        size, bits,
+    let mut other = decoder.clone().unwrap();
+    let mut along = *behind;
+    let left = decode_even(
+        &mut other, table, set, states, two, one, cur, early, &mut along, from, start, count, bits,
     );
-    states[slot] = state;
+    *decoder = other;
+    *behind = along;
     left
 }
 
 /// The `count` places of a row from `from` on, by a decoder that is no one else's. `early` is what
 /// the rows above decide of them. `near` may be said of a set whose fourth and fifth tables have
 /// one level. With `calm` zeros at even places are looked for first, which is faster where they are
-/// many.
+/// many. Answers whether the block is calm: whether few of its symbols are nonzero.
 #[inline(always)]
 fn decode_block<B: Allocator>(
     decoder: &mut RangeDecoder<'_>,
@@ -235,13 +417,12 @@ fn decode_block<B: Allocator>(
     one: &[u16],
     cur: &mut [u16],
     early: &Early,
-    behind: &mut Behind,
     from: usize,
     count: usize,
     bits: u8,
     near: bool,
     calm: bool,
-) -> Result<(), TooLong>
+) -> Result<bool, TooLong>
     requires bits { (bits ≡ 8) ⊎ (bits ≡ 9) }
     requires near { IsTrue near → IsNear set.now }
     requires few { count ≤ 128 }
@@ -251,13 +432,11 @@ fn decode_block<B: Allocator>(
     requires rows { length states.old ≡ contexts_of set.now * 32 }
     requires held { AllHeld table.now states.old }
     requires filled { IsFilled set.now two.now one.now from early.now count }
-    requires begins { IsBehind two.now one.now cur.old from behind.old.ll behind.old.l }
+    requires some { 0 < length cur.old }
     ensures ok { OnOk result ((first : Reading) (fresh : List ℕ) →
         Lined table.now set.now bits first fresh decoder.old states.old two.now one.now cur.old
         from → Lined table.now set.now bits first fresh decoder.new states.new two.now one.now
         cur.new (from + count)) }
-    ensures begins { OnOk result (IsBehind two.now one.now cur.new (from + count) behind.new.ll
-        behind.new.l) }
     ensures on { OnOk result ((before : List ℕ) → SameFrom from before cur.old →
         SameFrom (from + count) before cur.new) }
     ensures refused { IfErr result (λ e. (first : Reading) (fresh : List ℕ) →
@@ -270,10 +449,13 @@ fn decode_block<B: Allocator>(
     ensures held { AllHeld table.now states.new }
 {
     let mut nonzeros = decoder.nonzeros();
-    let mut along = *behind;
+    let mut along = Behind {
+        ll: sample_two_before(one, cur, from),
+        l: sample_before(one, cur, from),
+    };
     let mut i = 0;
     'places: while i < count {
-        i = decode_even(
+        i = decode_zeros(
             decoder, table, set, states, two, one, cur, early, &mut along, from, i, count, bits,
             near, calm,
         );
@@ -302,12 +484,7 @@ fn decode_block<B: Allocator>(
         }
     }
     decoder.count_all(&nonzeros.among(count as u32));
-    *behind = Behind {
-        ll: along.ll,
-        l: along.l,
-        calm: nonzeros.symbols < CALM,
-    };
-    Ok(())
+    Ok(nonzeros.symbols < CALM)
 }
 
 /// The same by any decoder, by a body of its own for calm blocks, for each depth and each kind of
@@ -322,10 +499,9 @@ fn decode_calm_of<B: Allocator, const BITS: u8, const NEAR: bool>(
     one: &[u16],
     cur: &mut [u16],
     early: &Early,
-    behind: &mut Behind,
     from: usize,
     count: usize,
-) -> Result<(), TooLong>
+) -> Result<bool, TooLong>
     requires bits { (BITS ≡ 8) ⊎ (BITS ≡ 9) }
     requires near { IsTrue NEAR → IsNear set.now }
     requires few { count ≤ 128 }
@@ -335,13 +511,11 @@ fn decode_calm_of<B: Allocator, const BITS: u8, const NEAR: bool>(
     requires rows { length states.old ≡ contexts_of set.now * 32 }
     requires held { AllHeld table.now states.old }
     requires filled { IsFilled set.now two.now one.now from early.now count }
-    requires begins { IsBehind two.now one.now cur.old from behind.old.ll behind.old.l }
+    requires some { 0 < length cur.old }
     ensures ok { OnOk result ((first : Reading) (fresh : List ℕ) →
         Lined table.now set.now BITS first fresh decoder.old states.old two.now one.now cur.old
         from → Lined table.now set.now BITS first fresh decoder.new states.new two.now one.now
         cur.new (from + count)) }
-    ensures begins { OnOk result (IsBehind two.now one.now cur.new (from + count) behind.new.ll
-        behind.new.l) }
     ensures on { OnOk result ((before : List ℕ) → SameFrom from before cur.old →
         SameFrom (from + count) before cur.new) }
     ensures refused { IfErr result (λ e. (first : Reading) (fresh : List ℕ) →
@@ -355,13 +529,13 @@ fn decode_calm_of<B: Allocator, const BITS: u8, const NEAR: bool>(
 {
     let mut local = decoder.clone().unwrap();
     let read = decode_block(
-        &mut local, table, set, states, two, one, cur, early, behind, from, count, BITS, NEAR, true,
+        &mut local, table, set, states, two, one, cur, early, from, count, BITS, NEAR, true,
     );
     *decoder = local;
     read
 }
 
-/// The same by the body for what the block before was. The decoder is no one else's.
+/// The same by the body for what the block before was, calm or not. The decoder is no one else's.
 #[inline(always)]
 fn decode_block_by<B: Allocator, const BITS: u8, const NEAR: bool>(
     decoder: &mut RangeDecoder<'_>,
@@ -372,10 +546,10 @@ fn decode_block_by<B: Allocator, const BITS: u8, const NEAR: bool>(
     one: &[u16],
     cur: &mut [u16],
     early: &Early,
-    behind: &mut Behind,
     from: usize,
     count: usize,
-) -> Result<(), TooLong>
+    calm: bool,
+) -> Result<bool, TooLong>
     requires bits { (BITS ≡ 8) ⊎ (BITS ≡ 9) }
     requires near { IsTrue NEAR → IsNear set.now }
     requires few { count ≤ 128 }
@@ -385,13 +559,11 @@ fn decode_block_by<B: Allocator, const BITS: u8, const NEAR: bool>(
     requires rows { length states.old ≡ contexts_of set.now * 32 }
     requires held { AllHeld table.now states.old }
     requires filled { IsFilled set.now two.now one.now from early.now count }
-    requires begins { IsBehind two.now one.now cur.old from behind.old.ll behind.old.l }
+    requires some { 0 < length cur.old }
     ensures ok { OnOk result ((first : Reading) (fresh : List ℕ) →
         Lined table.now set.now BITS first fresh decoder.old states.old two.now one.now cur.old
         from → Lined table.now set.now BITS first fresh decoder.new states.new two.now one.now
         cur.new (from + count)) }
-    ensures begins { OnOk result (IsBehind two.now one.now cur.new (from + count) behind.new.ll
-        behind.new.l) }
     ensures on { OnOk result ((before : List ℕ) → SameFrom from before cur.old →
         SameFrom (from + count) before cur.new) }
     ensures refused { IfErr result (λ e. (first : Reading) (fresh : List ℕ) →
@@ -403,15 +575,14 @@ fn decode_block_by<B: Allocator, const BITS: u8, const NEAR: bool>(
         SameFrom e.x before cur.new) }
     ensures held { AllHeld table.now states.new }
 {
-    if !behind.calm {
+    if !calm {
         return decode_block(
-            decoder, table, set, states, two, one, cur, early, behind, from, count, BITS, NEAR,
-            false,
+            decoder, table, set, states, two, one, cur, early, from, count, BITS, NEAR, false,
         );
     }
     let mut other = decoder.clone().unwrap();
     let read = decode_calm_of::<B, BITS, NEAR>(
-        &mut other, table, set, states, two, one, cur, early, behind, from, count,
+        &mut other, table, set, states, two, one, cur, early, from, count,
     );
     *decoder = other;
     read
@@ -445,29 +616,18 @@ fn decode_row<B: Allocator, const BITS: u8, const NEAR: bool>(
     ensures held { AllHeld table.now states.new }
 {
     let mut early = Early::new();
-    let mut behind = Behind {
-        ll: 0,
-        l: one[0],
-        calm: false,
-    };
+    let mut calm = false;
     let mut from = 0;
     'parts: while from < cur.len() {
         let count = (cur.len() - from).min(BLOCK);
         early.fill(set, two, one, from, count, NEAR);
         match decode_block_by::<B, BITS, NEAR>(
-            decoder,
-            table,
-            set,
-            states,
-            two,
-            one,
-            cur,
-            &early,
-            &mut behind,
-            from,
-            count,
+            decoder, table, set, states, two, one, cur, &early, from, count, calm,
         ) {
-            Ok(()) => from += count,
+            Ok(next) => {
+                calm = next;
+                from += count;
+            }
             Err(refused) => return Err(refused),
         }
     }

@@ -1,11 +1,25 @@
 -- The sums of the look-ups of a place, as lanes have them.
-use Rattle.std.proofs.Common.{◌≡◌, ℕ, ◌+◌, ◌-◌, ◌*◌, ◌%◌, ◌<◌, ◌≤◌, arith, pos, ◌+ℤ◌, ◌-ℤ◌}
+use Rattle.std.proofs.Common.{◌≡◌, ap, ◌∙◌, sym, List, ℕ, ◌+◌, ◌-◌, ◌*◌, ◌%◌, ◌<◌, ◌≤◌, arith, pos, ◌+ℤ◌, ◌-ℤ◌}
 use Rattle.std.proofs.lemmas.Int.{ints}
+use Rattle.std.specs.Prelude.{replicate}
 use Rattle.ffv1_plane.specs.declared.prediction.Around.{Around}
+use Rattle.ffv1_plane.specs.declared.table.TableLanes.{TableLanes}
 use Rattle.ffv1_plane.specs.Quantisation.{Set, IsNear, entry_of, contexts_of}
-use Rattle.ffv1_plane.specs.Raised.{RaisedTable, AreRaised, half_of, raised_entry, raised_sum}
+use Rattle.ffv1_plane.specs.Raised.{RaisedTable, table_of, AreTableLanes, AreRaised, half_of, raised_entry, raised_sum}
 use Rattle.ffv1_plane.specs.Context.{low, context_of}
 use Rattle.ffv1_plane.proofs.Sums.{set_of, context_is, near_is}
+
+-- the lanes of a table, whose scale is said in another way
+pub lanes_at : (t : RaisedTable) (scale : ℕ) (l : TableLanes) → t.scale ≡ scale → AreTableLanes (table_of t.runs scale) l → AreTableLanes t l
+lanes_at t scale l same is = record { steps = is.steps; scale = is.scale ∙ ap (replicate 16) (sym same) }
+
+-- what an early sum is raised by, by the sum of the greatest entries
+pub raise_at : (set : Set) (half : ℕ) (lanes : List ℕ) → contexts_of set ≡ half + 1 → lanes ≡ replicate 16 (32769 - contexts_of set) → lanes ≡ replicate 16 (32768 - half)
+raise_at set half lanes count is = is ∙ ap (replicate 16) (omega (arith, count))
+
+-- the sum of the greatest entries
+pub half_is : (set : Set) (half : ℕ) → contexts_of set ≡ half + 1 → contexts_of set - 1 ≡ half
+half_is set half count = omega (arith, count)
 
 -- what each entry of a table is, raised
 abbrev pub HasEntries : RaisedTable → Type 0
@@ -27,8 +41,7 @@ far_sum fourth fifth a = raised_entry fourth (low a.ll a.l) + raised_entry fifth
 sum_of : (set : Set) (a : Around) (s half : ℕ) → context_of set a ≡ pos s -ℤ pos half → contexts_of set ≡ half + 1 → raised_sum set a ≡ s
 unfolding raised_sum
 sum_of set a s half is count =
-    let less : contexts_of set - 1 ≡ half = omega (arith, count) in
-    rw (is, less) (omega (arith, ints))
+    rw (is, half_is set half count) (omega (arith, ints))
 
 near_bounded : (r1 r2 r3 h1 h2 h3 h4 h5 half : ℕ) → r1 ≤ 2 * h1 → r2 ≤ 2 * h2 → r3 ≤ 2 * h3 → h1 + h2 + h3 + h4 + h5 ≡ half → r1 + (r2 + r3) ≤ 2 * half
 near_bounded r1 r2 r3 h1 h2 h3 h4 h5 half a b c s = omega arith

@@ -9,3 +9,4 @@ pub mod Levels
 pub mod Remainders
 pub mod Scales
 pub mod Sums
+pub mod Flat

@@ -1,8 +1,10 @@
 -- A quantisation table whose entries are raised by the greatest.
 use Rattle.std.specs.Prelude.{ℕ, ◌≡◌, ◌+◌, ◌-◌, ◌*◌, ◌<◌, ◌≤◌, IsTrue, List, [], ◌∷◌, length}
-use Rattle.std.specs.Prelude.{slice_index, pos, ◌+ℤ◌, unsigned_abs, if◌then◌else◌, nat_lt, sum, take, replicate}
+use Rattle.std.specs.Prelude.{slice_index, slice_index_or, pos, ◌+ℤ◌, unsigned_abs, if◌then◌else◌, nat_lt, sum, take, replicate}
 use Rattle.ffv1_plane.specs.declared.prediction.Around.{Around}
 use Rattle.ffv1_plane.specs.declared.table.Steps.{Steps}
+use Rattle.ffv1_plane.specs.declared.table.TableLanes.{TableLanes}
+use Rattle.ffv1_plane.specs.declared.quantisation.SetLanes.{SetLanes}
 use Rattle.ffv1_plane.specs.Context.{context_of}
 use Rattle.ffv1_plane.specs.Quantisation.{Set, is_filled, entry_of, scale_behind, contexts_of, IsSet}
 
@@ -39,6 +41,11 @@ pub record AreSteps (runs : List ℕ) (s : Steps) : Type 0 where
   pub fifth : s.fifth ≡ replicate 16 (last_place runs 4)
   pub most : s.most ≡ replicate 16 (length runs - 1)
 
+-- the same and the scale, in 16 lanes each
+pub record AreTableLanes (t : RaisedTable) (l : TableLanes) : Type 0 where
+  pub steps : AreSteps t.runs l.steps
+  pub scale : l.scale ≡ replicate 16 t.scale
+
 -- each entry is raised by the greatest, and none is negative
 pub record IsRaised (runs : List ℕ) (scale : ℕ) (raised : List ℕ) : Type 0 where
   pub filled : IsTrue (is_filled runs)
@@ -61,6 +68,21 @@ pub record AreRaised (first second third fourth fifth : RaisedTable) (half : ℕ
       []) ≡ half + 1
   pub halves : half_of first + half_of second + half_of third + half_of fourth + half_of
       fifth ≡ half
+
+-- table i of a set, at the scale behind those before it
+abbrev pub table_at : Set → ℕ → RaisedTable
+table_at set i = table_of (slice_index_or set i []) (scale_behind 1 (take i set))
+
+-- the lanes of each table of a set, and in 16 lanes what the early part of a sum is raised by beside
+-- them, and the sum of the greatest entries
+pub record AreSetLanes (set : Set) (l : SetLanes) : Type 0 where
+  pub first : AreTableLanes (table_at set 0) l.first
+  pub second : AreTableLanes (table_at set 1) l.second
+  pub third : AreTableLanes (table_at set 2) l.third
+  pub fourth : AreTableLanes (table_at set 3) l.fourth
+  pub fifth : AreTableLanes (table_at set 4) l.fifth
+  pub raise : l.raise ≡ replicate 16 (32769 - contexts_of set)
+  pub half : l.half ≡ replicate 16 (contexts_of set - 1)
 
 -- the sum of the look-ups of a place, each raised by the greatest entry
 unfoldable pub raised_sum : Set → Around → ℕ

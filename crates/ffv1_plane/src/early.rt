@@ -5,8 +5,9 @@ ghost use Rattle.std.specs.Prelude.{pos, unsigned_abs};
 ghost use Rattle.ffv1_plane.specs.Residual.{turned, sample_of};
 ghost use Rattle.ffv1_plane.specs.Quantisation.{IsNear, HasFewLevels};
 ghost use Rattle.ffv1_plane.specs.Early.{AreAbove, AreBounds, AreEarly, left_above};
+ghost use Rattle.ffv1_plane.specs.Raised.{AreSetLanes};
 
-use crate::quantisation::{QuantSet, early_sum};
+use crate::quantisation::{QuantSet, SetLanes, early_sum};
 use crate::residual::unfold;
 use std::alloc::Allocator;
 use std::simd::prelude::*;
@@ -103,10 +104,12 @@ fn sum_places<A: Allocator>(
     }
 }
 
-/// The early sums of 16 places of a block from `at` on, none of which is a border of the row.
+/// The early sums of 16 places of a block from `at` on, none of which is a border of the row, by the
+/// set's lanes.
 #[inline(always)]
 fn sum_lanes<A: Allocator>(
     set: &QuantSet<A>,
+    lanes: &SetLanes,
     two: &[u16],
     one: &[u16],
     from: usize,
@@ -115,6 +118,7 @@ fn sum_lanes<A: Allocator>(
     near: bool,
 )
     requires few { HasFewLevels set.now }
+    requires lanes { AreSetLanes set.now lanes.now }
     requires near { IsTrue near → IsNear set.now }
     requires wide { length two.now ≡ length one.now }
     requires inside { 0 < from + at }
@@ -128,7 +132,7 @@ fn sum_lanes<A: Allocator>(
     let t = u16x16::from_slice(&one[x..]);
     let tr = u16x16::from_slice(&one[x + 1..]);
     let tt = u16x16::from_slice(&two[x..]);
-    set.early_lanes(tl, t, tr, tt, near)
+    set.early_lanes(lanes, tl, t, tr, tt, near)
         .copy_to_slice(&mut sum[at..]);
 }
 
@@ -158,8 +162,9 @@ fn fill_sums<A: Allocator>(
     let mut at = if from == 0 { 1 } else { 0 };
     sum_places(set, two, one, from, 0, at, tl, sum, near);
     if set.has_few_levels() {
+        let lanes = set.lanes();
         while count - at >= 16 && one.len() - (from + at) >= 17 {
-            sum_lanes(set, two, one, from, at, sum, near);
+            sum_lanes(set, &lanes, two, one, from, at, sum, near);
             at += 16;
         }
     }

@@ -6,10 +6,11 @@ ghost use Rattle.ffv1_plane.specs.Quantisation.{IsNear, HasFewLevels};
 ghost use Rattle.ffv1_plane.specs.Context.{size_of, flip_of};
 ghost use Rattle.ffv1_plane.specs.Prediction.{predicted};
 ghost use Rattle.ffv1_plane.specs.Residual.{chosen_of};
+ghost use Rattle.ffv1_plane.specs.Raised.{AreSetLanes};
 ghost use Rattle.ffv1_plane.specs.Lanes.{AreAround, modulo_512, folded_modulo};
 ghost use Rattle.ffv1_plane.specs.declared.prediction.Around.{Around};
 
-use crate::quantisation::QuantSet;
+use crate::quantisation::{QuantSet, SetLanes};
 use std::alloc::Allocator;
 use std::simd::prelude::*;
 
@@ -57,11 +58,13 @@ fn fold_lanes(differences: u16x16, bits: u8) -> u16x16
 
 /// The numbers of the contexts of 16 places (RFC 9043, 3.5), and the residuals that an encoder takes
 /// for their samples (3.8), modulo 512, each as `context`, `predict` and `residual_of` have it. The
-/// set's tables have at most eleven levels each (`has_few_levels`). `bits` is 8 or 9; `near` may be
-/// said of a set whose fourth and fifth tables have one level.
+/// set's tables have at most eleven levels each (`has_few_levels`), and `lanes` are those of the set
+/// (`QuantSet::lanes`). `bits` is 8 or 9; `near` may be said of a set whose fourth and fifth tables
+/// have one level.
 #[inline(always)]
 pub fn choose_lanes<A: Allocator>(
     set: &QuantSet<A>,
+    lanes: &SetLanes,
     around: &AroundLanes,
     samples: u16x16,
     bits: u8,
@@ -69,6 +72,7 @@ pub fn choose_lanes<A: Allocator>(
 ) -> (u16x16, u16x16)
     requires bits { (bits ≡ 8) ⊎ (bits ≡ 9) }
     requires few { HasFewLevels set.now }
+    requires lanes { AreSetLanes set.now lanes.now }
     requires near { IsTrue near → IsNear set.now }
     ensures sizes { (places : List ℕ) (a : ℕ → Around) → length places ≡ 16 →
         AreAround around.now places a → result.0 ≡ map (λ x. size_of set.now (a x)) places }
@@ -77,8 +81,8 @@ pub fn choose_lanes<A: Allocator>(
         result.1 ≡ map (λ x. modulo_512
         (chosen_of bits (predicted (a x)) (flip_of set.now (a x)) (s x))) places }
 {
-    let (sums, half) = set.sum_lanes(around, near);
-    let half = u16x16::splat(half);
+    let sums = set.sum_lanes(lanes, around, near);
+    let half = lanes.half;
     let flips = sums.simd_lt(half);
     let sizes = flips.select(half - sums, sums - half);
     let predictions = predict_lanes(around);

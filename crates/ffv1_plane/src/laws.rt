@@ -4,7 +4,8 @@ ghost use Rattle.std.specs.Prelude.{◌≡◌, ◌≢◌, ℕ, ◌+◌, ◌-◌,
 ghost use Rattle.std.specs.Prelude.{Bool, true, ℤ, pos, ◌+ℤ◌, ◌-ℤ◌};
 ghost use Rattle.std.specs.Int.{int_rem_euclid};
 ghost use Rattle.ffv1_plane.specs.declared.prediction.Around.{Around};
-ghost use Rattle.ffv1_plane.specs.Quantisation.{Set, IsSet, runs_below, entry, contexts_of};
+ghost use Rattle.ffv1_plane.specs.Quantisation.{Set, IsSet, IsNear, runs_below, entry};
+ghost use Rattle.ffv1_plane.specs.Quantisation.{contexts_of};
 ghost use Rattle.ffv1_plane.specs.Context.{size_of};
 ghost use Rattle.ffv1_plane.specs.Residual.{IsSuiting, IsFolded, turned, folded, sample_of};
 ghost use Rattle.ffv1_plane.specs.Residual.{chosen_of};
@@ -26,6 +27,13 @@ pub fn mirrored()
 /// The number of each place's context is below the number of contexts.
 pub fn bounded()
     ensures { (set : Set) → IsSet set → (a : Around) → size_of set a < contexts_of set }
+{}
+
+/// In a set whose fourth and fifth tables have one level, the context of a place is 0 where the
+/// samples to the left, above, and above to the left and right are one.
+pub fn flat()
+    ensures { (set : Set) → IsSet set → IsNear set → (a : Around) → a.t ≡ a.l → a.tl ≡ a.l →
+        a.tr ≡ a.l → size_of set a ≡ 0 }
 {}
 
 /// The residual that an encoder takes makes its sample, has a symbol, and lies from -2^(bits-1) to

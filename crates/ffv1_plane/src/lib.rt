@@ -28,5 +28,5 @@ pub use early::{BLOCK, Early, sample_late};
 pub use fault::Fault;
 pub use lanes::{AroundLanes, choose_lanes};
 pub use prediction::{Around, predict, predict_late};
-pub use quantisation::{QuantSet, context, context_near, early_sum, late_context};
+pub use quantisation::{QuantSet, SetLanes, context, context_near, early_sum, late_context};
 pub use residual::{fold, residual_of, sample_from, unfold};

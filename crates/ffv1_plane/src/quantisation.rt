@@ -1,19 +1,19 @@
 //! Quantisation table sets, and the contexts of places by them.
 
-ghost use Rattle.std.specs.Prelude.{◌≡◌, ℕ, ◌+◌, ◌*◌, ◌^◌, ◌<◌, ◌≤◌, ◌↔◌, IfOk, IsErrOf, IsOkUnless};
+ghost use Rattle.std.specs.Prelude.{◌≡◌, ℕ, ◌+◌, ◌-◌, ◌*◌, ◌^◌, ◌<◌, ◌≤◌, ◌↔◌, IfOk, IsErrOf, IsOkUnless};
 ghost use Rattle.std.specs.Prelude.{IsTrue, IsFalse, length, map, slice_index_or, [], ◌∷◌, pos, ◌-ℤ◌, List};
 ghost use Rattle.ffv1_plane.specs.declared.prediction.Around.{Around};
 ghost use Rattle.ffv1_plane.specs.Quantisation.{Set, IsSet, are_filled, contexts_of, small_set};
 ghost use Rattle.ffv1_plane.specs.Quantisation.{large_set, IsNear, HasFewLevels};
 ghost use Rattle.ffv1_plane.specs.Context.{size_of, flip_of, context_of};
 ghost use Rattle.ffv1_plane.specs.Early.{IsEarly, IsEarlySomewhere};
-ghost use Rattle.ffv1_plane.specs.Raised.{AreRaised, table_of, raised_sum};
+ghost use Rattle.ffv1_plane.specs.Raised.{AreRaised, AreSetLanes, table_of, raised_sum};
 ghost use Rattle.ffv1_plane.specs.Lanes.{AreAround};
 
 use crate::fault::Fault;
 use crate::lanes::AroundLanes;
 use crate::prediction::Around;
-use crate::table::{Table, fills, scale_after};
+use crate::table::{Table, TableLanes, fills, scale_after};
 use std::alloc::{AllocError, Allocator, Global};
 use std::marker::Model;
 use std::simd::prelude::*;
@@ -44,6 +44,19 @@ impl<A: Allocator> Model for QuantSet<A> {
         [] };
 
     ghost invariant = { λ s. AreRaised s.first s.second s.third s.fourth s.fifth s.half };
+}
+
+/// What the sums of 16 places take of a set, in 16 lanes each: the lanes of its tables, what the
+/// early part of a sum is raised by beside them, and the sum of the greatest entries.
+#[derive(Clone, Copy)]
+pub struct SetLanes {
+    pub(crate) first: TableLanes,
+    pub(crate) second: TableLanes,
+    pub(crate) third: TableLanes,
+    pub(crate) fourth: TableLanes,
+    pub(crate) fifth: TableLanes,
+    pub(crate) raise: u16x16,
+    pub(crate) half: u16x16,
 }
 
 /// The runs of a table of eleven levels.
@@ -227,11 +240,28 @@ impl<A: Allocator> QuantSet<A> {
         first.max(second).max(third).max(fourth).max(fifth) <= 6
     }
 
-    /// The early parts of the sums of 16 places, as of `early_sum`. `near` may be said of a set
-    /// whose fourth and fifth tables have one level.
+    /// What the sums of 16 places take, made once before a loop over blocks of 16.
+    #[inline(always)]
+    pub fn lanes(&self) -> SetLanes
+        ensures { AreSetLanes self.now result }
+    {
+        SetLanes {
+            first: self.first.lanes(),
+            second: self.second.lanes(),
+            third: self.third.lanes(),
+            fourth: self.fourth.lanes(),
+            fifth: self.fifth.lanes(),
+            raise: u16x16::splat((RAISE - self.half) as u16),
+            half: u16x16::splat(self.half as u16),
+        }
+    }
+
+    /// The early parts of the sums of 16 places, as of `early_sum`, by the set's lanes. `near` may be
+    /// said of a set whose fourth and fifth tables have one level.
     #[inline(always)]
     pub(crate) fn early_lanes(
         &self,
+        lanes: &SetLanes,
         tl: u16x16,
         t: u16x16,
         tr: u16x16,
@@ -239,6 +269,7 @@ impl<A: Allocator> QuantSet<A> {
         near: bool,
     ) -> u16x16
         requires few { HasFewLevels self.now }
+        requires lanes { AreSetLanes self.now lanes.now }
         requires near { IsTrue near → IsNear self.now }
         ensures { (places : List ℕ) (f g h k : ℕ → ℕ) → length places ≡ 16 → tl ≡ map f places →
             t ≡ map g places → tr ≡ map h places → tt ≡ map k places →
@@ -246,39 +277,39 @@ impl<A: Allocator> QuantSet<A> {
             (sum : ℕ → ℕ) × (result ≡ map sum places) ×
             ((x : ℕ) → IsEarly self.now (f x) (g x) (h x) (k x) (sum x)) }
     {
-        let raise = u16x16::splat((RAISE - self.half) as u16);
-        let sum = self.second.raised_lanes(tl, t) + self.third.raised_lanes(t, tr) + raise;
+        let sum = self.second.raised_lanes(&lanes.second, tl, t)
+            + self.third.raised_lanes(&lanes.third, t, tr)
+            + lanes.raise;
         if near {
             return sum;
         }
-        sum + self.fifth.raised_lanes(tt, t)
+        sum + self.fifth.raised_lanes(&lanes.fifth, tt, t)
     }
 
-    /// The sums of the look-ups of 16 places, each raised by the sum of the greatest entries, and
-    /// that sum. `near` may be said of a set whose fourth and fifth tables have one level.
+    /// The sums of the look-ups of 16 places, each raised by the sum of the greatest entries, by the
+    /// set's lanes. `near` may be said of a set whose fourth and fifth tables have one level.
     #[inline(always)]
-    pub(crate) fn sum_lanes(&self, around: &AroundLanes, near: bool) -> (u16x16, u16)
+    pub(crate) fn sum_lanes(&self, lanes: &SetLanes, around: &AroundLanes, near: bool) -> u16x16
         requires few { HasFewLevels self.now }
+        requires lanes { AreSetLanes self.now lanes.now }
         requires near { IsTrue near → IsNear self.now }
         ensures sums { (places : List ℕ) (a : ℕ → Around) → length places ≡ 16 →
             AreAround around.now places a →
-            result.0 ≡ map (λ x. raised_sum self.now (a x)) places }
-        ensures half { result.1 + 1 ≡ contexts_of self.now }
-        ensures few { result.1 < 32768 }
+            result ≡ map (λ x. raised_sum self.now (a x)) places }
+        ensures few { contexts_of self.now ≤ 32768 }
         ensures context { (a : Around) →
-            context_of self.now a ≡ pos (raised_sum self.now a) -ℤ pos result.1 }
-        ensures most { (a : Around) → raised_sum self.now a ≤ 2 * result.1 }
+            context_of self.now a ≡ pos (raised_sum self.now a) -ℤ pos (contexts_of self.now - 1) }
+        ensures most { (a : Around) → raised_sum self.now a ≤ 2 * (contexts_of self.now - 1) }
     {
-        let early = self.second.raised_lanes(around.tl, around.t)
-            + self.third.raised_lanes(around.t, around.tr);
-        let left = self.first.raised_lanes(around.l, around.tl);
-        let half = self.half as u16;
+        let early = self.second.raised_lanes(&lanes.second, around.tl, around.t)
+            + self.third.raised_lanes(&lanes.third, around.t, around.tr);
+        let left = self.first.raised_lanes(&lanes.first, around.l, around.tl);
         if near {
-            return (left + early, half);
+            return left + early;
         }
-        let far = self.fourth.raised_lanes(around.ll, around.l)
-            + self.fifth.raised_lanes(around.tt, around.t);
-        (left + early + far, half)
+        let far = self.fourth.raised_lanes(&lanes.fourth, around.ll, around.l)
+            + self.fifth.raised_lanes(&lanes.fifth, around.tt, around.t);
+        left + early + far
     }
 
     /// A law of each set: it is five filled tables with at most 32768 contexts, and the number of

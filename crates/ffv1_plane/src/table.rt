@@ -5,6 +5,7 @@ ghost use Rattle.std.specs.Prelude.{IsTrue, IfOk, List, map, min, replicate, if�
 ghost use Rattle.ffv1_plane.specs.Quantisation.{is_filled, entry_of};
 ghost use Rattle.ffv1_plane.specs.Context.{low};
 ghost use Rattle.ffv1_plane.specs.Raised.{RaisedTable, IsRaised, half_of, raised_entry, AreLastPlaces, AreSteps};
+ghost use Rattle.ffv1_plane.specs.Raised.{AreTableLanes};
 
 use std::alloc::{AllocError, Allocator};
 use std::marker::Model;
@@ -21,6 +22,15 @@ pub struct Steps {
     pub(crate) fourth: u8x16,
     pub(crate) fifth: u8x16,
     pub(crate) most: u8x16,
+}
+
+/// What the entries of 16 places take of a table, in 16 lanes each: where its levels end, and its
+/// scale.
+// A copy that is no one else's: a loop that stores samples reads it from the table but once.
+#[derive(Clone, Copy)]
+pub struct TableLanes {
+    pub(crate) steps: Steps,
+    pub(crate) scale: u16x16,
 }
 
 /// The runs of a table, its 256 entries, each raised by the greatest so that none is negative, and
@@ -148,6 +158,17 @@ impl<A: Allocator> Table<A> {
         self.runs.as_slice()
     }
 
+    /// What the entries of 16 places take.
+    #[inline(always)]
+    pub fn lanes(&self) -> TableLanes
+        ensures { AreTableLanes self.now result }
+    {
+        TableLanes {
+            steps: self.steps,
+            scale: u16x16::splat(self.scale),
+        }
+    }
+
     /// The entry at the low eight bits of `a - b`, raised by the greatest.
     #[inline(always)]
     pub fn raised(&self, a: u16, b: u16) -> u32
@@ -159,10 +180,11 @@ impl<A: Allocator> Table<A> {
         self.raised[(a.wrapping_sub(b) % 256) as usize] as u32
     }
 
-    /// The same of 16 places, in a table of at most eleven levels.
+    /// The same of 16 places, in a table of at most eleven levels, by its lanes.
     #[inline(always)]
-    pub fn raised_lanes(&self, a: u16x16, b: u16x16) -> u16x16
-        requires { length self.now.runs ≤ 6 }
+    pub fn raised_lanes(&self, table: &TableLanes, a: u16x16, b: u16x16) -> u16x16
+        requires few { length self.now.runs ≤ 6 }
+        requires table { AreTableLanes self.now table.now }
         ensures lanes { (places : List ℕ) (f g : ℕ → ℕ) → length places ≡ 16 → a ≡ map f places →
             b ≡ map g places → ((x : ℕ) → g x < 2 ^ 16) →
             result ≡ map (λ x. raised_entry self.now (low (f x) (g x))) places }
@@ -170,6 +192,7 @@ impl<A: Allocator> Table<A> {
             entry_of self.now.runs self.now.scale k +ℤ pos (half_of self.now) }
         ensures most { (k : ℕ) → k < 256 → raised_entry self.now k ≤ 2 * half_of self.now }
     {
+        let _scale = self.scale;
         let differences = low_lanes(a, b);
         let Steps {
             first,
@@ -178,14 +201,14 @@ impl<A: Allocator> Table<A> {
             fourth,
             fifth,
             most,
-        } = self.steps;
+        } = table.steps;
         let sizes = size_lanes(differences);
         let levels = over_lanes(sizes, first)
             + over_lanes(sizes, second)
             + over_lanes(sizes, third)
             + over_lanes(sizes, fourth)
             + over_lanes(sizes, fifth);
-        lift_lanes(differences, levels, most).cast::<u16>() * u16x16::splat(self.scale)
+        lift_lanes(differences, levels, most).cast::<u16>() * table.scale
     }
 }
 
@@ -214,9 +237,10 @@ fn over_lanes(sizes: u8x16, places: u8x16) -> u8x16
     ensures { (xs : List ℕ) (f : ℕ → ℕ) (place : ℕ) → length xs ≡ 16 → sizes ≡ map f xs →
         places ≡ replicate 16 place → result ≡ map (λ x. min (f x - place) 1) xs }
 {
+    // By `simd_gt` LLVM takes the places twice, and so moves them to a register first.
     sizes
-        .simd_gt(places)
-        .select(u8x16::splat(1), u8x16::splat(0))
+        .simd_le(places)
+        .select(u8x16::splat(0), u8x16::splat(1))
 }
 
 /// The levels of 16 places of a table, raised by the greatest, which all lanes of `most` have: added

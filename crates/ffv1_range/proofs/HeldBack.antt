@@ -8,7 +8,7 @@ use Rattle.ffv1_range.specs.Codes.{value, AreBytes}
 use Rattle.ffv1_range.specs.Internal.Registers.{interval_held, IsHolding, IsHoldingPart}
 use Rattle.ffv1_range.proofs.EmittedBytes.{same_interval, value-pushed}
 
-power_next : (held : ℕ) → 256 ^ (held + 1) ≡ 256 * 256 ^ held
+pub power_next : (held : ℕ) → 256 ^ (held + 1) ≡ 256 * 256 ^ held
 power_next held = rw add-one (pow-succ' 256 held)
 
 pub power_few : (held : ℕ) → held ≤ 4 → 256 ^ held ≤ 4294967296
@@ -18,6 +18,13 @@ power_few (suc (suc zero)) few = omega arith
 power_few (suc (suc (suc zero))) few = omega arith
 power_few (suc (suc (suc (suc zero)))) few = omega arith
 power_few (suc (suc (suc (suc (suc held))))) few = absurd (omega arith)
+
+pub power_thrice : (held : ℕ) → held ≤ 3 → 256 ^ held ≤ 16777216
+power_thrice zero few = omega arith
+power_thrice (suc zero) few = omega arith
+power_thrice (suc (suc zero)) few = omega arith
+power_thrice (suc (suc (suc zero))) few = omega arith
+power_thrice (suc (suc (suc (suc held)))) few = absurd (omega arith)
 
 -- the place of the first byte that is held back
 pub places_are : (held : ℕ) → 0 < held → held < 4 → 2 ^ (8 * held + 8) ≡ 65536 * 256 ^ (held - 1)
@@ -77,7 +84,7 @@ unit_is (suc (suc (suc (suc held)))) some few = absurd (omega arith)
 power_before : (held : ℕ) → 0 < held → 256 ^ held ≡ 256 * 256 ^ (held - 1)
 power_before held some = let up : held ≡ suc (held - 1) = omega arith in ap (λ n. 256 ^ n) up ∙ pow-succ' 256 (held - 1)
 
-power_some : (held : ℕ) → 1 ≤ 256 ^ held
+pub power_some : (held : ℕ) → 1 ≤ 256 ^ held
 power_some zero = omega arith
 power_some (suc held) = let rest = power_some held in omega (arith, pow-succ' 256 held)
 

@@ -11,6 +11,7 @@ pub mod Mantissa
 pub mod Signed
 pub mod SetBits
 pub mod HeldBack
+pub mod Marks
 pub mod HistoryLemmas
 pub mod ListedSteps
 pub mod Named

@@ -9,9 +9,10 @@ ghost use Rattle.ffv1_range.specs.History.{AreBelow};
 ghost use Rattle.ffv1_range.specs.Counts.{ones_in};
 ghost use Rattle.ffv1_range.specs.Listed.{step_of, steps_of, of_nine_bits};
 ghost use Rattle.ffv1_range.specs.Puts.{Puts, Grows, MayBeRefused};
-ghost use Rattle.ffv1_range.specs.Internal.Registers.{Writes, IsWriting, IsHolding, IsHoldingPart};
-ghost use Rattle.ffv1_range.specs.Internal.Registers.{interval_from, interval_held, standing};
-ghost use Rattle.ffv1_range.specs.Internal.Registers.{standing_held};
+ghost use Rattle.ffv1_range.specs.Internal.Registers.{Writes, IsWriting, IsHolding, IsMarked};
+ghost use Rattle.ffv1_range.specs.Internal.Registers.{IsMarkedPart, interval_from, interval_held};
+ghost use Rattle.ffv1_range.specs.Internal.Registers.{interval_marked, standing, standing_marked};
+ghost use Rattle.ffv1_range.specs.Internal.Registers.{held_in, low_in};
 ghost use Rattle.ffv1_range.specs.declared.symbol_table.TheConstants.{SYMBOLS, LENGTHS};
 
 use crate::encoder::{FIRST_WIDTH, RangeEncoder, Span, carry, emit};
@@ -21,7 +22,17 @@ use crate::table::StateTable;
 use std::alloc::{AllocError, Allocator};
 
 /// What an encoder's interval has beside its bytes while a list is written: its low end, with up to
-/// four bytes that are held back, its width, and how many bytes are held back.
+/// four bytes that are held back, and its width. The low end is marked: one bit more, 2^31 where no
+/// byte is held back and eight places further up for each one that is, tells how many they are.
+// No count beside it: the mark is shifted with the low end, and that four bytes are held back is
+// the highest bit.
+#[derive(Clone, Copy, Drop)]
+struct Marked {
+    low: u64,
+    width: u32,
+}
+
+/// The same without a mark: how many bytes are held back stands beside the low end.
 #[derive(Clone, Copy, Drop)]
 struct Holding {
     low: u64,
@@ -29,48 +40,47 @@ struct Holding {
     held: u32,
 }
 
+/// The mark where no byte is held back.
+const MARK: u64 = 1 << 31;
+
+/// The mark where four bytes are held back.
+const FULL: u64 = 1 << 63;
+
 /// The part of a decision.
 #[inline(always)]
-fn part_held(bytes: &[u8], holding: Holding, state: u8, bit: bool) -> Holding
-    requires holding { IsHolding bytes.now holding.low holding.width holding.held }
-    requires few { holding.held < 4 }
+fn part_marked(bytes: &[u8], marked: Marked, state: u8, bit: bool) -> Marked
+    requires marked { IsMarked bytes.now marked.low marked.width }
+    requires few { held_in marked.low < 4 }
     requires positive { 0 < state }
-    ensures interval { interval_held bytes.now result.low result.width result.held ≡
-        part (interval_held bytes.now holding.low holding.width holding.held) state bit }
-    ensures part { IsHoldingPart bytes.now result.low result.width result.held }
+    ensures interval { interval_marked bytes.now result.low result.width ≡
+        part (interval_marked bytes.now marked.low marked.width) state bit }
+    ensures part { IsMarkedPart bytes.now result.low result.width }
 {
-    let Holding { low, width, held } = holding;
+    let Marked { low, width } = marked;
     let upper = width * u32::from(state) / 256;
     let lower = width - upper;
     if bit {
-        return Holding {
+        return Marked {
             low: low + u64::from(lower),
             width: upper,
-            held,
         };
     }
-    Holding {
-        low,
-        width: lower,
-        held,
-    }
+    Marked { low, width: lower }
 }
 
 /// A part that is narrower than 256 takes a byte more.
 #[inline(always)]
-fn renormalise_held(bytes: &[u8], part: Holding) -> Holding
-    requires { IsHoldingPart bytes.now part.low part.width part.held }
-    ensures interval { interval_held bytes.now result.low result.width result.held ≡
-        renormalised (interval_held bytes.now part.low part.width part.held) }
-    ensures holding { IsHolding bytes.now result.low result.width result.held }
-    ensures more { result.held ≤ part.held + 1 }
+fn renormalise_marked(bytes: &[u8], part: Marked) -> Marked
+    requires { IsMarkedPart bytes.now part.low part.width }
+    ensures interval { interval_marked bytes.now result.low result.width ≡
+        renormalised (interval_marked bytes.now part.low part.width) }
+    ensures marked { IsMarked bytes.now result.low result.width }
 {
-    let Holding { low, width, held } = part;
+    let Marked { low, width } = part;
     if width < 256 {
-        return Holding {
+        return Marked {
             low: low * 256,
             width: width * 256,
-            held: held + 1,
         };
     }
     part
@@ -113,40 +123,34 @@ fn emit_word<A: Allocator>(bytes: &mut Vec<u8, A>, top: u64) -> Result<(), Alloc
 
 /// Narrows the interval by a decision, and gives out four bytes where they are held back.
 #[inline(always)]
-fn narrow_held<A: Allocator>(
+fn narrow_marked<A: Allocator>(
     bytes: &mut Vec<u8, A>,
-    holding: &mut Holding,
+    marked: &mut Marked,
     state: u8,
     bit: bool,
 ) -> Result<(), AllocError>
-    requires holding { IsHolding bytes.old.items holding.old.low holding.old.width
-        holding.old.held }
-    requires few { holding.old.held < 4 }
+    requires marked { IsMarked bytes.old.items marked.old.low marked.old.width }
+    requires few { held_in marked.old.low < 4 }
     requires positive { 0 < state }
-    ensures ok { OnOk result (
-        interval_held bytes.new.items holding.new.low holding.new.width holding.new.held ≡ narrow
-        (interval_held bytes.old.items holding.old.low holding.old.width holding.old.held) state
-        bit) }
+    ensures ok { OnOk result (interval_marked bytes.new.items marked.new.low marked.new.width ≡
+        narrow (interval_marked bytes.old.items marked.old.low marked.old.width) state bit) }
     ensures refused { OnErr result (
-        (interval_held bytes.old.items holding.old.low holding.old.width holding.old.held).count <
-        (narrow (interval_held bytes.old.items holding.old.low holding.old.width holding.old.held)
-        state bit).count) }
-    ensures holding { OnOk result (IsHolding bytes.new.items holding.new.low holding.new.width
-        holding.new.held) }
-    ensures few { OnOk result (holding.new.held < 4) }
+        (interval_marked bytes.old.items marked.old.low marked.old.width).count <
+        (narrow (interval_marked bytes.old.items marked.old.low marked.old.width) state bit).count) }
+    ensures marked { OnOk result (IsMarked bytes.new.items marked.new.low marked.new.width) }
+    ensures few { OnOk result (held_in marked.new.low < 4) }
     ensures grown { OnOk result (length bytes.old.items ≤ length bytes.new.items) }
 {
-    let part = part_held(bytes, *holding, state, bit);
-    let next = renormalise_held(bytes, part);
-    if next.held < 4 {
-        *holding = next;
+    let part = part_marked(bytes, *marked, state, bit);
+    let next = renormalise_marked(bytes, part);
+    if next.low < FULL {
+        *marked = next;
         return Ok(());
     }
-    emit_word(bytes, next.low / 65536)?;
-    *holding = Holding {
-        low: next.low % 65536,
+    emit_word(bytes, (next.low - FULL) / 65536)?;
+    *marked = Marked {
+        low: next.low % 65536 + MARK,
         width: next.width,
-        held: 0,
     };
     Ok(())
 }
@@ -155,27 +159,25 @@ fn narrow_held<A: Allocator>(
 #[inline(always)]
 fn put_listed<A: Allocator>(
     bytes: &mut Vec<u8, A>,
-    holding: &mut Holding,
+    marked: &mut Marked,
     table: &StateTable,
     states: &mut [u8],
     step: u32,
 ) -> Result<(), AllocError>
-    requires holding { IsHolding bytes.old.items holding.old.low holding.old.width
-        holding.old.held }
-    requires few { holding.old.held < 4 }
+    requires marked { IsMarked bytes.old.items marked.old.low marked.old.width }
+    requires few { held_in marked.old.low < 4 }
     requires held { AllHeld table.now states.old }
     requires slot { step / 512 < length states.old }
     ensures writes { OnOk result (Writes table.now
-        (standing_held bytes.old.items holding.old.low holding.old.width holding.old.held)
+        (standing_marked bytes.old.items marked.old.low marked.old.width)
         states.old
-        (standing_held bytes.new.items holding.new.low holding.new.width holding.new.held)
+        (standing_marked bytes.new.items marked.new.low marked.new.width)
         states.new (step_of step ∷ [])) }
     ensures refused { OnErr result (Grows table.now
-        (interval_held bytes.old.items holding.old.low holding.old.width holding.old.held)
+        (interval_marked bytes.old.items marked.old.low marked.old.width)
         states.old (step_of step ∷ [])) }
-    ensures holding { OnOk result (IsHolding bytes.new.items holding.new.low holding.new.width
-        holding.new.held) }
-    ensures few { OnOk result (holding.new.held < 4) }
+    ensures marked { OnOk result (IsMarked bytes.new.items marked.new.low marked.new.width) }
+    ensures few { OnOk result (held_in marked.new.low < 4) }
     ensures grown { OnOk result (length bytes.old.items ≤ length bytes.new.items) }
     ensures held { AllHeld table.now states.new }
 {
@@ -183,7 +185,7 @@ fn put_listed<A: Allocator>(
     let bit = step / 256 % 2 == 1;
     let before = states[slot];
     states[slot] = table.after_listed(before, step);
-    narrow_held(bytes, holding, before, bit)?;
+    narrow_marked(bytes, marked, before, bit)?;
     Ok(())
 }
 
@@ -191,34 +193,68 @@ fn put_listed<A: Allocator>(
 #[inline(always)]
 fn put_each<A: Allocator>(
     bytes: &mut Vec<u8, A>,
-    holding: &mut Holding,
+    marked: &mut Marked,
     table: &StateTable,
     states: &mut [u8],
     list: &[u32],
 ) -> Result<(), AllocError>
-    requires holding { IsHolding bytes.old.items holding.old.low holding.old.width
-        holding.old.held }
-    requires few { holding.old.held < 4 }
+    requires marked { IsMarked bytes.old.items marked.old.low marked.old.width }
+    requires few { held_in marked.old.low < 4 }
     requires held { AllHeld table.now states.old }
     requires slots { AreBelow (steps_of list.now) (length states.old) }
     ensures writes { OnOk result (Writes table.now
-        (standing_held bytes.old.items holding.old.low holding.old.width holding.old.held)
+        (standing_marked bytes.old.items marked.old.low marked.old.width)
         states.old
-        (standing_held bytes.new.items holding.new.low holding.new.width holding.new.held)
+        (standing_marked bytes.new.items marked.new.low marked.new.width)
         states.new (steps_of list.now)) }
     ensures refused { OnErr result (Grows table.now
-        (interval_held bytes.old.items holding.old.low holding.old.width holding.old.held)
+        (interval_marked bytes.old.items marked.old.low marked.old.width)
         states.old (steps_of list.now)) }
-    ensures holding { OnOk result (IsHolding bytes.new.items holding.new.low holding.new.width
-        holding.new.held) }
-    ensures few { OnOk result (holding.new.held < 4) }
+    ensures marked { OnOk result (IsMarked bytes.new.items marked.new.low marked.new.width) }
+    ensures few { OnOk result (held_in marked.new.low < 4) }
     ensures grown { OnOk result (length bytes.old.items ≤ length bytes.new.items) }
     ensures held { AllHeld table.now states.new }
 {
     for step in list {
-        put_listed(bytes, holding, table, states, *step)?;
+        put_listed(bytes, marked, table, states, *step)?;
     }
     Ok(())
+}
+
+/// How many bytes are held back, by the mark.
+#[inline(always)]
+fn held_back(low: u64) -> u32
+    requires { held_in low < 4 }
+    ensures { result ≡ held_in low }
+{
+    if low < 1 << 39 {
+        return 0;
+    }
+    if low < 1 << 47 {
+        return 1;
+    }
+    if low < 1 << 55 {
+        return 2;
+    }
+    3
+}
+
+/// A low end without its mark, and beside it how many bytes are held back.
+#[inline(always)]
+fn unmark(marked: Marked) -> Holding
+    requires some { 2 ^ 31 ≤ marked.low }
+    requires few { held_in marked.low < 4 }
+    ensures low { result.low ≡ low_in marked.low }
+    ensures held { result.held ≡ held_in marked.low }
+    ensures width { result.width ≡ marked.width }
+{
+    let Marked { low, width } = marked;
+    let held = held_back(low);
+    Holding {
+        low: low - (MARK << (8 * held)),
+        width,
+        held,
+    }
 }
 
 /// Gives out the first of the bytes that are held back.
@@ -290,12 +326,12 @@ fn put_list<A: Allocator>(
     ensures writing { OnOk result (IsWriting bytes.new.items span.new.low span.new.width) }
     ensures held { AllHeld table.now states.new }
 {
-    let mut holding = Holding {
-        low: u64::from(span.low),
+    let mut marked = Marked {
+        low: u64::from(span.low) + MARK,
         width: span.width,
-        held: 0,
     };
-    put_each(bytes, &mut holding, table, states, list)?;
+    put_each(bytes, &mut marked, table, states, list)?;
+    let mut holding = unmark(marked);
     release_all(bytes, &mut holding)?;
     span.low = holding.low as u32;
     span.width = holding.width;

@@ -59,6 +59,10 @@ pub record IsEven (set : Set) (sum l ll size : ℕ) : Type 0 where
     tt = tt;
   })
 
+-- where those samples and the one above to the right are one, a place has the first context
+pub record IsFlat (set : Set) : Type 0 where
+  pub each : (a : Around) → a.t ≡ a.l → a.tl ≡ a.l → a.tr ≡ a.l → size_of set a ≡ 0
+
 -- and the residual 0 makes the same sample there
 pub record ComesAgain (bits l : ℕ) : Type 0 where
   pub makes : (a : Around) → a.l ≡ l → a.t ≡ l → a.tl ≡ l →

@@ -1,6 +1,6 @@
 -- What ties the registers of the coder to the definitions. The contracts of the calls inside cite
 -- it; a caller of the crate needs none of it.
-use Rattle.std.specs.Prelude.{◌≡◌, ℕ, ◌+◌, ◌-◌, ◌*◌, ◌^◌, ◌≤◌, ◌<◌, false, List, length}
+use Rattle.std.specs.Prelude.{◌≡◌, ℕ, ◌+◌, ◌-◌, ◌*◌, ◌/◌, ◌^◌, ◌≤◌, ◌<◌, false, min, List, length}
 use Rattle.std.specs.Prelude.{slice_index}
 use Rattle.ffv1_range.specs.Interval.{Interval, narrowed}
 use Rattle.ffv1_range.specs.Codes.{value, AreBytes, AreStates}
@@ -119,3 +119,35 @@ pub record IsHoldingPart (bytes : List ℕ) (low width held : ℕ) : Type 0 wher
   pub most : width ≤ 65280
   pub room : 65536 * (256 ^ held * value bytes (length bytes)) + low + width ≤
       65536 * (256 ^ held * 256 ^ length bytes)
+
+-- A low end is marked where one bit more stands above it, eight places further up for each byte that
+-- is held back. How many those are, of four at most:
+unfoldable pub held_in : ℕ → ℕ
+held_in marked = min (marked / 2 ^ 39) 1 + min (marked / 2 ^ 47) 1 + min (marked / 2 ^ 55) 1 +
+    min (marked / 2 ^ 63) 1
+
+-- the mark itself
+unfoldable pub mark_of : ℕ → ℕ
+mark_of held = 2 ^ 31 * 256 ^ held
+
+-- the low end below it
+unfoldable pub low_in : ℕ → ℕ
+low_in marked = marked - mark_of (held_in marked)
+
+-- the interval of an encoder whose low end is marked
+abbrev pub interval_marked : List ℕ → ℕ → ℕ → Interval
+interval_marked bytes marked width = interval_held bytes (low_in marked) width (held_in marked)
+
+-- an encoder of this interval, before its counts
+abbrev pub standing_marked : List ℕ → ℕ → ℕ → Writing
+standing_marked bytes marked width = standing_held bytes (low_in marked) width (held_in marked)
+
+-- what holds of it
+pub record IsMarked (bytes : List ℕ) (marked width : ℕ) : Type 0 where
+  pub some : 2 ^ 31 ≤ marked
+  pub holding : IsHolding bytes (low_in marked) width (held_in marked)
+
+-- what holds of the part of a decision, before it is renormalised
+pub record IsMarkedPart (bytes : List ℕ) (marked width : ℕ) : Type 0 where
+  pub some : 2 ^ 31 ≤ marked
+  pub part : IsHoldingPart bytes (low_in marked) width (held_in marked)

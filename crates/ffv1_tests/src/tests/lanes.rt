@@ -72,7 +72,7 @@ fn of_lanes<A: Allocator>(set: &QuantSet<A>, places: &Places, bits: u8) -> ([u16
         tt: u16x16::from_array(places.tt),
     };
     let own = u16x16::from_array(places.own);
-    let (sizes, residuals) = choose_lanes(set, &around, own, bits, set.is_near());
+    let (sizes, residuals) = choose_lanes(set, &set.lanes(), &around, own, bits, set.is_near());
     (sizes.to_array(), residuals.to_array())
 }
 

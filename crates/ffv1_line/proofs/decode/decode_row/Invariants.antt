@@ -2,7 +2,6 @@ use Rattle.std.proofs.Common.{◌≡◌, ◌-◌, ◌*◌, length, ◌≤◌}
 use Rattle.ffv1_range.specs.Symbols.{AllHeld}
 use Rattle.ffv1_plane.specs.Quantisation.{contexts_of}
 use Rattle.ffv1_line.specs.Decoded.{Lined, SameFrom}
-use Rattle.ffv1_line.specs.Internal.Along.{IsBehind}
 use Rattle.ffv1_line.proofs.decode.decode_row.Given as goal
 
 abbrev pub invariant-parts : goal.invariant-parts
@@ -10,7 +9,6 @@ invariant-parts g l = record {
   held : AllHeld l.table l.states;
   rows : length l.states ≡ contexts_of l.set * 32;
   within : l.from ≤ length l.cur;
-  begins : IsBehind l.two l.one l.cur l.from l.behind.ll l.behind.l;
   behind : SameFrom l.from l.fn.cur l.cur;
   lined : Lined l.table l.set g.row.BITS l.fn.decoder l.fn.states l.decoder l.states l.two l.one l.cur l.from;
 }

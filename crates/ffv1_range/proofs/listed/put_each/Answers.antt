@@ -16,7 +16,7 @@ pub loop-step-preserved : goal.loop-step-preserved
 loop-step-preserved g c =
     record {
       held = c.put_listed.ensures.held;
-      holding = c.in_ok-put_listed.ensures.holding;
+      marked = c.in_ok-put_listed.ensures.marked;
       few = c.in_ok-put_listed.ensures.few;
       grown = omega (arith, c.in_ok-put_listed.ensures.grown);
       writes = writes_listed _ _ _ _ _ _ _ c.args.list.now c.loop-step.step-index (omega arith) c.loop-step.invariant.writes c.in_ok-put_listed.ensures.writes;

@@ -3,23 +3,38 @@ use Rattle.std.proofs.lemmas.Simd.{zip2_of_maps}
 use Rattle.ffv1_plane.specs.Context.{low}
 use Rattle.ffv1_plane.specs.Raised.{raised_entry}
 use Rattle.ffv1_plane.proofs.LaneValues.{by_values}
-use Rattle.ffv1_plane.proofs.LaneSums.{sum_near, sum_far, plus, near_added, far_added}
+use Rattle.ffv1_plane.proofs.LaneSums.{lanes_at, half_is, sum_near, sum_far, plus, near_added, far_added}
 use Rattle.ffv1_plane.proofs.quantisation.QuantSet.sum_lanes.Goals as goal
 
 pub raised_lanes-requires : goal.raised_lanes-requires
-raised_lanes-requires g c = (rw (← c.self.view_is) at c.requires.few).second
+raised_lanes-requires g c =
+    let few = rw (← c.self.view_is) at c.requires.few in
+    let lanes = rw (← c.self.view_is) at c.requires.lanes in
+    record { few = few.second; table = lanes_at _ _ _ c.self.invariant.second_scale lanes.second }
 
 pub raised_lanes-requires-2 : goal.raised_lanes-requires-2
-raised_lanes-requires-2 g c = (rw (← c.self.view_is) at c.requires.few).third
+raised_lanes-requires-2 g c =
+    let few = rw (← c.self.view_is) at c.requires.few in
+    let lanes = rw (← c.self.view_is) at c.requires.lanes in
+    record { few = few.third; table = lanes_at _ _ _ c.self.invariant.third_scale lanes.third }
 
 pub raised_lanes-left-requires : goal.raised_lanes-left-requires
-raised_lanes-left-requires g c = (rw (← c.self.view_is) at c.requires.few).first
+raised_lanes-left-requires g c =
+    let few = rw (← c.self.view_is) at c.requires.few in
+    let lanes = rw (← c.self.view_is) at c.requires.lanes in
+    record { few = few.first; table = lanes_at _ _ _ c.self.invariant.first_scale lanes.first }
 
 pub raised_lanes-requires-3 : goal.raised_lanes-requires-3
-raised_lanes-requires-3 g c = (rw (← c.self.view_is) at c.requires.few).fourth
+raised_lanes-requires-3 g c =
+    let few = rw (← c.self.view_is) at c.requires.few in
+    let lanes = rw (← c.self.view_is) at c.requires.lanes in
+    record { few = few.fourth; table = lanes_at _ _ _ c.self.invariant.fourth_scale lanes.fourth }
 
 pub raised_lanes-requires-4 : goal.raised_lanes-requires-4
-raised_lanes-requires-4 g c = (rw (← c.self.view_is) at c.requires.few).fifth
+raised_lanes-requires-4 g c =
+    let few = rw (← c.self.view_is) at c.requires.few in
+    let lanes = rw (← c.self.view_is) at c.requires.lanes in
+    record { few = few.fifth; table = lanes_at _ _ _ c.self.invariant.fifth_scale lanes.fifth }
 
 pub returns-then-near-clause-sums : goal.returns-then-near-clause-sums
 returns-then-near-clause-sums g c = rw (← c.self.view_is) (λ places a long is.
@@ -41,7 +56,7 @@ returns-then-near-clause-context g c = rw (← c.self.view_is) (λ a.
     let t = c.self.inside in
     let sum = sum_near t.first t.second t.third t.fourth t.fifth t.half a c.self.invariant near c.raised_lanes-left.ensures.entries c.raised_lanes.ensures.entries c.raised_lanes-2.ensures.entries
     c.raised_lanes-left.ensures.most c.raised_lanes.ensures.most c.raised_lanes-2.ensures.most in
-    rw sum.is sum.context)
+    rw (sum.is, half_is _ t.half c.self.invariant.contexts) sum.context)
 
 pub returns-then-near-clause-most : goal.returns-then-near-clause-most
 returns-then-near-clause-most g c = rw (← c.self.view_is) (λ a.
@@ -49,7 +64,7 @@ returns-then-near-clause-most g c = rw (← c.self.view_is) (λ a.
     let t = c.self.inside in
     let sum = sum_near t.first t.second t.third t.fourth t.fifth t.half a c.self.invariant near c.raised_lanes-left.ensures.entries c.raised_lanes.ensures.entries c.raised_lanes-2.ensures.entries
     c.raised_lanes-left.ensures.most c.raised_lanes.ensures.most c.raised_lanes-2.ensures.most in
-    rw sum.is sum.most)
+    rw (sum.is, half_is _ t.half c.self.invariant.contexts) sum.most)
 
 pub returns-clause-sums : goal.returns-clause-sums
 returns-clause-sums g c = rw (← c.self.view_is) (λ places a long is.
@@ -73,17 +88,17 @@ returns-clause-context g c = rw (← c.self.view_is) (λ a.
     let t = c.self.inside in
     let sum = sum_far t.first t.second t.third t.fourth t.fifth t.half a c.self.invariant c.raised_lanes-left.ensures.entries c.raised_lanes.ensures.entries c.raised_lanes-2.ensures.entries
     c.raised_lanes-3.ensures.entries c.raised_lanes-4.ensures.entries c.raised_lanes-left.ensures.most c.raised_lanes.ensures.most c.raised_lanes-2.ensures.most c.raised_lanes-3.ensures.most c.raised_lanes-4.ensures.most in
-    rw sum.is sum.context)
+    rw (sum.is, half_is _ t.half c.self.invariant.contexts) sum.context)
 
 pub returns-clause-most : goal.returns-clause-most
 returns-clause-most g c = rw (← c.self.view_is) (λ a.
     let t = c.self.inside in
     let sum = sum_far t.first t.second t.third t.fourth t.fifth t.half a c.self.invariant c.raised_lanes-left.ensures.entries c.raised_lanes.ensures.entries c.raised_lanes-2.ensures.entries
     c.raised_lanes-3.ensures.entries c.raised_lanes-4.ensures.entries c.raised_lanes-left.ensures.most c.raised_lanes.ensures.most c.raised_lanes-2.ensures.most c.raised_lanes-3.ensures.most c.raised_lanes-4.ensures.most in
-    rw sum.is sum.most)
+    rw (sum.is, half_is _ t.half c.self.invariant.contexts) sum.most)
 
 pub returns-then-near-clause-few : goal.returns-then-near-clause-few
-returns-then-near-clause-few g c = let few = c.self.invariant.set.few in let count = c.self.invariant.contexts in omega (arith, few, count)
+returns-then-near-clause-few g c = rw (← c.self.view_is) c.self.invariant.set.few
 
 pub returns-clause-few : goal.returns-clause-few
-returns-clause-few g c = let few = c.self.invariant.set.few in let count = c.self.invariant.contexts in omega (arith, few, count)
+returns-clause-few g c = rw (← c.self.view_is) c.self.invariant.set.few

@@ -13,9 +13,10 @@ plus a b = (a + b) % 256
 pub returns-clause-lanes : goal.returns-clause-lanes
 returns-clause-lanes g c = rw (← c.self.view_is) (λ places f h long a b fits.
     let t = table_of c.self.inside.runs.items c.self.inside.scale in
-    let few = rw (← c.self.view_is) at c.requires in
+    let few = rw (← c.self.view_is) at c.requires.few in
     let is = c.self.invariant.0 in
-    let last = c.self.invariant.1 in
+    let table = rw (← c.self.view_is) at c.requires.table in
+    let last = table.steps in
     let filled = filled_from t.runs is.filled in
     let k = λ (x : ℕ). low (f x) (h x) in
     let size = λ (x : ℕ). min (k x) (256 - k x) in
@@ -31,7 +32,7 @@ returns-clause-lanes g c = rw (← c.self.view_is) (λ places f h long a b fits.
     in
     let lifted = c.lift_lanes.ensures places k level (length t.runs - 1) long lows levels last.most (omega arith) (λ x. let le = passed_le t.runs (size x) filled few (omega arith) in rw (level_is x) (omega (arith, le))) in
     by_values places _ _ (λ x. raised_entry t (k x))
-    (zip2_of_maps (λ (a b : ℕ). (a * b) % 65536) _ (λ (x : ℕ). t.scale) places (ap (map (λ (x : ℕ). x)) lifted ∙ map-map _ _ places) (splat_is_map places 16 t.scale long))
+    (zip2_of_maps (λ (a b : ℕ). (a * b) % 65536) _ (λ (x : ℕ). t.scale) places (ap (map (λ (x : ℕ). x)) lifted ∙ map-map _ _ places) (table.scale ∙ splat_is_map places 16 t.scale long))
     (λ x. lane_is t _ (k x) (level x) _ is few (omega arith) (level_is x) (omega arith)))
 
 pub returns-clause-entries : goal.returns-clause-entries
