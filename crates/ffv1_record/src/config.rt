@@ -190,13 +190,10 @@ impl<A: Allocator> Config<A> {
             && are_multiples(self.height, self.rows, self.log2_v)
     }
 
-    /// The configuration, checked. Refuses with the first of these that stands: `Size`,
-    /// `Subsampling`, `ExtraPlane`, `Sets`, `StateTable`, `Grid`, `ChromaEdge`; else accepts. It
-    /// takes no memory.
-    pub fn check(self) -> Result<Checked<A>, RecordFault>
-        ensures ok { IfOk result (λ c. c.configuration ≡ configuration_of self) }
-        ensures accepted { IfOk result (λ c. IsAccepted c.configuration c.table) }
-        ensures refused { IfErr result (λ f. IsFirst checks (configuration_of self) f) }
+    /// The state transition table of a configuration that is accepted. Refuses as `check` does.
+    fn judged(&self) -> Result<StateTable, RecordFault>
+        ensures accepted { IfOk result (λ t. IsAccepted (configuration_of self.now) t) }
+        ensures refused { IfErr result (λ f. IsFirst checks (configuration_of self.now) f) }
         ensures memory { IfErr result (λ f. f ≢ RecordFault.OutOfMemory) }
     {
         if !self.is_sized() {
@@ -220,6 +217,21 @@ impl<A: Allocator> Config<A> {
         if !self.is_aligned() {
             return Err(RecordFault::ChromaEdge);
         }
-        Ok(Checked::new(self, table))
+        Ok(table)
+    }
+
+    /// The configuration, checked. Refuses with the first of these that stands: `Size`,
+    /// `Subsampling`, `ExtraPlane`, `Sets`, `StateTable`, `Grid`, `ChromaEdge`; else accepts. It
+    /// takes no memory.
+    pub fn check(self) -> Result<Checked<A>, RecordFault>
+        ensures ok { IfOk result (λ c. c.configuration ≡ configuration_of self) }
+        ensures accepted { IfOk result (λ c. IsAccepted c.configuration c.table) }
+        ensures refused { IfErr result (λ f. IsFirst checks (configuration_of self) f) }
+        ensures memory { IfErr result (λ f. f ≢ RecordFault.OutOfMemory) }
+    {
+        match self.judged() {
+            Ok(table) => Ok(Checked::new(self, table)),
+            Err(fault) => Err(fault),
+        }
     }
 }

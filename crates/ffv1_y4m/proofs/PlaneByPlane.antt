@@ -1,11 +1,13 @@
 -- Planes that are read one behind the other.
-use Rattle.std.proofs.Common.{◌≡◌, ℕ, ◌+◌, ◌<◌, ◌≤◌, nat_lt, Bool, true, false, cond, Option, List, [], ◌∷◌, ◌++◌, length, take, drop, get_or, map, flat_map, Ok, Err, inl, inr, refl, ap, ◌∙◌, sym, subst, append_assoc, append-nil, arith, add-one, drop-cons, length-take, take-append-drop}
+use Rattle.std.proofs.Common.{◌≡◌, ℕ, ◌+◌, ◌<◌, ◌≤◌, nat_lt, Bool, true, false, cond, Option, List, [], ◌∷◌, ◌++◌, length, take, drop, get_or, map, flat_map, Ok, Err, inl, inr, refl, ap, ◌∙◌, sym, subst, append_assoc, append-nil, arith, add-one, drop-cons, length-append, length-take, take-append-drop}
 use Rattle.std.proofs.Math.ListN.{set}
 use Rattle.std.proofs.Math.Seq.{take-suc}
+use Rattle.std.proofs.lemmas.Bool.{lt-ltb}
 use Rattle.std.proofs.lemmas.Grind.{common_steps, flat_map-append}
 use Rattle.std.proofs.lemmas.List.{take_all, take_more_set, map-append}
 use Rattle.std.specs.Io.KnownBytes.{Consumes}
 use Rattle.ffv1_wire.specs.Failures.{one_more}
+use Rattle.ffv1_wire.specs.Reads.{Fills, FillsBeginning}
 use Rattle.ffv1_y4m.specs.declared.fault.Fault.{Fault}
 use Rattle.ffv1_y4m.specs.declared.fault.Fault.TheVariants as fault
 use Rattle.ffv1_y4m.specs.Pictures.{GrowsBeforePlane, plane_read, planes_read}
@@ -43,6 +45,35 @@ Partway sizes old new n planes = (map (λ plane. length plane) (take n planes) �
 
 pub partway_none : (sizes : List ℕ) (old : Option (List ℕ)) (planes : List (List ℕ)) → Partway sizes old old 0 planes
 partway_none sizes old planes = (refl, consumes_none old)
+
+-- a plane of too few samples
+short_left : (b : Bool) (size : ℕ) (text : List ℕ) (n : ℕ) → length text ≤ size + n → length (left (cond {A = Outcome (List ℕ)} b (Err (fault.FrameTruncated, [])) (Ok (take size text, drop size text)))) ≤ n
+short_left true size text n h = omega arith
+short_left false size text n h = grind (arith, common_steps, h)
+
+-- the answers of a read that is to fill a plane
+pub plane_failed : (size before after : ℕ) (old new : Option (List ℕ)) (plane : List ℕ) → length plane ≡ size → FillsBeginning old new plane → after ≡ one_more before →
+    Stands (plane_read size) IsNone (moved old new before after) (Err fault.Read)
+plane_failed size before after old new plane long read same =
+    let bytes : List ℕ = take read.0 plane in
+    let few : length (take read.0 plane) < size = omega (arith, length-take read.0 plane, read.1, long) in
+    record {
+      bytes = bytes;
+      taken = read.2;
+      said = (same, λ b behind. short_left (nat_lt (length (bytes ++ b ∷ behind)) size) size (bytes ++ b ∷ behind) (length behind) (omega (arith, length-append bytes (b ∷ behind), few)));
+    }
+
+pub plane_short : (size n before after : ℕ) (old new : Option (List ℕ)) (plane : List ℕ) → length plane ≡ size → n < size → Fills old new n plane → after ≡ before →
+    Stands (plane_read size) IsNone (moved old new before after) (Err fault.FrameTruncated)
+plane_short size n before after old new plane long few read same =
+    let short : nat_lt (length (take n plane)) size ≡ true = lt-ltb _ _ (omega (arith, length-take n plane, few)) in
+    record { bytes = take n plane; taken = read.0; said = (same, inr (read.1 (omega (arith, few, long)), rw short refl)) }
+
+pub plane_full : (size n before after : ℕ) (old new : Option (List ℕ)) (plane : List ℕ) → length plane ≡ size → size ≤ n → Fills old new n plane → after ≡ before →
+    Stands (plane_read size) IsNone (moved old new before after) (Ok plane)
+plane_full size n before after old new plane long all read same =
+    let whole : take n plane ≡ plane = take_all n plane (omega (arith, all, long)) in
+    record { bytes = plane; taken = rw whole at read.0; said = (same, inl (λ behind. rw (← long) (plane_found plane behind))) }
 
 -- a plane that was read is what was taken
 plane_local : (size : ℕ) (bytes plane : List ℕ) (new : Option (List ℕ)) → Decides (plane_read size) bytes new (Ok plane) → (bytes ≡ plane) × (length plane ≡ size)
@@ -93,14 +124,10 @@ says_behind {X = X} r q turn g more old mid new n m k front bytes f same lefts e
     by fault.FrameTruncated s = (s.0 ∙ same, decides fault.FrameTruncated s.1)
     by fault.FormatChanged s = (s.0 ∙ same, decides fault.FormatChanged s.1)
 
-short_left : (b : Bool) (size : ℕ) (text : List ℕ) → length (left (cond {A = Outcome (List ℕ)} b (Err (fault.FrameTruncated, [])) (Ok (take size text, drop size text)))) ≤ length text
-short_left true size text = omega arith
-short_left false size text = grind (arith, common_steps)
-
 planes_shorten : (sizes text : List ℕ) → length (left (planes_read sizes text)) ≤ length text
 planes_shorten [] text = omega arith
 planes_shorten (size ∷ sizes) text =
-    shortens_then (plane_read size) (λ plane. planes_read sizes then λ planes. give (plane ∷ planes)) text (short_left (nat_lt (length text) size) size text)
+    shortens_then (plane_read size) (λ plane. planes_read sizes then λ planes. give (plane ∷ planes)) text (short_left (nat_lt (length text) size) size text (length text) (omega arith))
     (λ plane rest. shortens_then (planes_read sizes) (λ planes. give (plane ∷ planes)) rest (planes_shorten sizes rest) (λ planes last. omega arith))
 
 pub planes_behind : (sizes : List ℕ) (plane text : List ℕ) → length (left ((planes_read sizes then λ planes. give (plane ∷ planes)) text)) ≤ length text
