@@ -13,7 +13,7 @@ use Rattle.ffv1_plane.specs.Context.{flip_of}
 use Rattle.ffv1_plane.specs.Prediction.{predicted}
 use Rattle.ffv1_line.specs.Decoded.{Sampled, Lined}
 use Rattle.ffv1_line.specs.Internal.Along.{IsBehind, IsFilled, IsEven, IsFlat, ComesAgain}
-use Rattle.ffv1_line.proofs.Prepared.{stands_behind, behind_next, prepared_at, sampled_by, zero_makes}
+use Rattle.ffv1_line.proofs.Prepared.{stands_behind, behind_next, prepared_at, sampled_by_zero}
 use Rattle.ffv1_line.proofs.Rows.{lined_next}
 
 -- the sample above to the left of the next place is the one above this one
@@ -27,16 +27,14 @@ even_sampled : (t : Table) (set : Set) (bits : ℕ) (old : Reading) (states : Li
     Sampled t set bits old states new after (record { l = l; t = l; tl = l; tr = tr; ll = ll; tt = tt }) l
 even_sampled t set bits old states new after l tr ll tt sum size again even early follows =
     let a : Around = record { l = l; t = l; tl = l; tr = tr; ll = ll; tt = tt } in
-    sampled_by t set bits old states new after a l size (flip_of set a) (predicted a) (pos 0) (even.each tr tt early) refl refl (omega arith)
-    (zero_makes bits l (predicted a) (pos 0) (flip_of set a) refl (again.makes a refl refl refl)) follows
+    sampled_by_zero t set bits old states new after a l size (flip_of set a) (predicted a) (even.each tr tt early) refl refl (again.makes a refl refl refl) follows
 
 flat_sampled : (t : Table) (set : Set) (bits : ℕ) (old : Reading) (states : List ℕ) (new : Reading) (after : List ℕ) (l tr ll tt : ℕ) →
     ComesAgain bits l → IsFlat set → tr ≡ l → Follows t old states new after (shifted 0 (signed_steps (pos 0))) →
     Sampled t set bits old states new after (record { l = l; t = l; tl = l; tr = tr; ll = ll; tt = tt }) l
 flat_sampled t set bits old states new after l tr ll tt again flat right follows =
     let a : Around = record { l = l; t = l; tl = l; tr = tr; ll = ll; tt = tt } in
-    sampled_by t set bits old states new after a l 0 (flip_of set a) (predicted a) (pos 0) (sym (flat.each a refl refl right)) refl refl (omega arith)
-    (zero_makes bits l (predicted a) (pos 0) (flip_of set a) refl (again.makes a refl refl refl)) follows
+    sampled_by_zero t set bits old states new after a l 0 (flip_of set a) (predicted a) (sym (flat.each a refl refl right)) refl refl (again.makes a refl refl refl) follows
 
 -- one flat place more
 pub flat_next : (t : Table) (set : Set) (bits : ℕ) (first : Reading) (fresh : List ℕ) (mid : Reading) (between : List ℕ) (new : Reading) (after two one cur : List ℕ) (from n i : ℕ) (e : Early) (ll l : ℕ) →

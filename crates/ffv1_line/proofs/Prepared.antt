@@ -1,13 +1,15 @@
 -- Places of a row by what the rows above decide of them.
 use Rattle.std.proofs.Common.{◌≡◌, ℕ, zero, suc, ◌+◌, ◌-◌, ◌*◌, ◌^◌, ◌<◌, min, Bool, true, false, List, length, get_or, slice_set, arith, sym, subst, ◌∙◌, ℤ, pos, unsigned_abs}
+use Rattle.std.proofs.lemmas.Int.{ints}
 use Rattle.ffv1_range.specs.Table.{Table}
 use Rattle.ffv1_range.specs.Reading.{Reading}
 use Rattle.ffv1_range.specs.Follows.{Follows}
+use Rattle.ffv1_range.specs.Signed.{signed_by}
 use Rattle.ffv1_range.specs.Symbols.{shifted, signed_steps, too_long}
 use Rattle.ffv1_plane.specs.declared.prediction.Around.{Around}
 use Rattle.ffv1_plane.specs.Prediction.{predicted}
 use Rattle.ffv1_plane.specs.Context.{size_of, flip_of}
-use Rattle.ffv1_plane.specs.Residual.{sample_of}
+use Rattle.ffv1_plane.specs.Residual.{sample_of, turned}
 use Rattle.ffv1_line.specs.Row.{refused_steps}
 use Rattle.ffv1_line.specs.Decoded.{Sampled}
 use Rattle.ffv1_plane.specs.declared.early.Early.{Early}
@@ -59,7 +61,7 @@ prepared_at set two one from e n i filled inside = record {
 }
 
 -- a sample by the number of its context, its flip and its prediction
-pub sampled_by : (t : Table) (set : Set) (bits : ℕ) (old : Reading) (states : List ℕ) (new : Reading) (after : List ℕ) (a : Around) (s size : ℕ) (flip : Bool) (prediction q : ℤ) →
+sampled_by : (t : Table) (set : Set) (bits : ℕ) (old : Reading) (states : List ℕ) (new : Reading) (after : List ℕ) (a : Around) (s size : ℕ) (flip : Bool) (prediction q : ℤ) →
     size ≡ size_of set a → flip ≡ flip_of set a → prediction ≡ predicted a → unsigned_abs q < 2 ^ 31 → pos s ≡ sample_of bits prediction flip q →
     Follows t old states new after (shifted (size * 32) (signed_steps q)) → Sampled t set bits old states new after a s
 sampled_by t set bits old states new after a s size flip prediction q size_is flip_is prediction_is small makes follows = record {
@@ -73,6 +75,27 @@ pub refused_by : (t : Table) (set : Set) (old : Reading) (states : List ℕ) (ne
 refused_by t set old states new after a size size_is follows = subst (λ n. Follows t old states new after (shifted (n * 32) too_long)) size_is follows
 
 -- a residual 0 makes the same sample, flipped or not
-pub zero_makes : (bits s : ℕ) (prediction q : ℤ) (flip : Bool) → q ≡ pos 0 → pos s ≡ sample_of bits prediction false (pos 0) → pos s ≡ sample_of bits prediction flip q
-zero_makes bits s prediction q false none makes = rw none makes
-zero_makes bits s prediction q true none makes = rw none makes
+zero_makes : (bits s : ℕ) (prediction : ℤ) (flip : Bool) → pos s ≡ sample_of bits prediction false (pos 0) → pos s ≡ sample_of bits prediction flip (pos 0)
+zero_makes bits s prediction false makes = makes
+zero_makes bits s prediction true makes = makes
+
+pub sampled_by_zero : (t : Table) (set : Set) (bits : ℕ) (old : Reading) (states : List ℕ) (new : Reading) (after : List ℕ) (a : Around) (s size : ℕ) (flip : Bool) (prediction : ℤ) → size ≡ size_of set a →
+    flip ≡ flip_of set a → prediction ≡ predicted a → pos s ≡ sample_of bits prediction false (pos 0) → Follows t old states new after (shifted (size * 32) (signed_steps (pos 0))) → Sampled t set bits old states new after a s
+sampled_by_zero t set bits old states new after a s size flip prediction size_is flip_is prediction_is makes follows =
+    sampled_by t set bits old states new after a s size flip prediction (pos 0) size_is flip_is prediction_is (omega arith) (zero_makes bits s prediction flip makes) follows
+
+-- a number by its size and its sign
+signed_small : (n : ℕ) (negative : Bool) → n < 2 ^ 31 → unsigned_abs (signed_by n negative) < 2 ^ 31
+signed_small n false small = small
+signed_small n true small = omega (arith, ints)
+
+signed_makes : (bits s n : ℕ) (prediction : ℤ) (flip negative : Bool) → pos s ≡ sample_of bits prediction flip (turned negative (pos n)) → pos s ≡ sample_of bits prediction flip (signed_by n negative)
+signed_makes bits s n prediction flip false makes = makes
+signed_makes bits s n prediction flip true makes = makes
+
+pub sampled_by_sign : (t : Table) (set : Set) (bits : ℕ) (old : Reading) (states : List ℕ) (new : Reading) (after : List ℕ) (a : Around) (s size : ℕ) (flip : Bool) (prediction : ℤ) (n : ℕ) (negative : Bool) →
+    size ≡ size_of set a → flip ≡ flip_of set a → prediction ≡ predicted a → n < 2 ^ 31 → pos s ≡ sample_of bits prediction flip (turned negative (pos n)) →
+    Follows t old states new after (shifted (size * 32) (signed_steps (signed_by n negative))) → Sampled t set bits old states new after a s
+sampled_by_sign t set bits old states new after a s size flip prediction n negative size_is flip_is prediction_is small makes follows =
+    sampled_by t set bits old states new after a s size flip prediction (signed_by n negative) size_is flip_is prediction_is (signed_small n negative small) (signed_makes bits s n prediction flip negative makes)
+    follows

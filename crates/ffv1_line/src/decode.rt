@@ -17,8 +17,8 @@ ghost use Rattle.ffv1_line.specs.Internal.Along.{IsPreparedSomehow, IsEven, IsFl
 use crate::block::{sample_before, sample_two_before};
 use crate::fault::TooLong;
 use ffv1_plane::laws::flat;
-use ffv1_plane::{BLOCK, Early, QuantSet, late_context, predict_late, sample_late};
-use ffv1_range::{Nonzeros, RangeDecoder, StateTable};
+use ffv1_plane::{BLOCK, Early, QuantSet, late_context, predict_late, sample_signed, unfold};
+use ffv1_range::{Nonzeros, RangeDecoder, SignedNumber, StateTable};
 use std::alloc::Allocator;
 
 /// The most nonzero symbols of a calm block.
@@ -80,15 +80,13 @@ fn decode_sample<B: Allocator>(
     ensures held { AllHeld table.now states.new }
 {
     let Behind { ll, l } = behind;
-    let (size, flip) = late_context(set, early.sum[i], l, early.tl[i], ll, near);
+    let (context, flip) = late_context(set, early.sum[i], l, early.tl[i], ll, near);
     let prediction = predict_late(l, early.t[i], early.least[i], early.most[i]);
-    match decoder.tally_signed_in_row(nonzeros, table, states, size as usize) {
-        Ok(residual) => {
-            // A zero, the most frequent one, has no sign to flip.
-            if residual == 0 {
-                return Ok(sample_late(prediction, false, 0, bits));
-            }
-            Ok(sample_late(prediction, flip, residual, bits))
+    match decoder.tally_signed_in_row(nonzeros, table, states, context as usize) {
+        // A zero, the most frequent one, has no sign to flip.
+        Ok(None) => Ok(unfold(prediction, 0, bits)),
+        Ok(Some(SignedNumber { size, negative })) => {
+            Ok(sample_signed(prediction, flip, size, negative, bits))
         }
         Err(_) => Err(()),
     }
@@ -202,7 +200,7 @@ fn decode_flat<B: Allocator>(
         return start;
     }
     // A sample of more bits, as only a row from elsewhere has, does not come again.
-    if sample_late(predict_late(l, l, l, l), false, 0, bits) != l {
+    if unfold(predict_late(l, l, l, l), 0, bits) != l {
         return start;
     }
     set.bounded();
@@ -325,7 +323,7 @@ fn decode_even<B: Allocator>(
     let (size, _) = late_context(set, sum, l, l, ll, false);
     let (next, _) = late_context(set, sum, l, l, l, false);
     // A sample of more bits, as only a row from elsewhere has, does not come again.
-    if size != next || sample_late(predict_late(l, l, l, l), false, 0, bits) != l {
+    if size != next || unfold(predict_late(l, l, l, l), 0, bits) != l {
         return start;
     }
     let slot = size as usize * 32;

@@ -180,15 +180,16 @@ fn turn(flip: bool, number: i32) -> i32
     if flip { -number } else { number }
 }
 
-/// The sample of a residual, as with `sample_from`, for a residual of a symbol.
+/// The sample of a residual, as with `sample_from`, by its size and its sign. The sign is what a
+/// decoder knows last, and so it is chosen by last.
 #[inline(always)]
-pub fn sample_late(pred: i32, flip: bool, residual: i32, bits: u8) -> u16
+pub fn sample_signed(pred: i32, flip: bool, size: u32, negative: bool, bits: u8) -> u16
     requires bits { (bits ≡ 8) ⊎ (bits ≡ 9) }
-    requires size { unsigned_abs residual < 2 ^ 31 }
-    ensures value { pos result ≡ sample_of bits pred flip residual }
+    requires size { size < 2 ^ 31 }
+    ensures value { pos result ≡ sample_of bits pred flip (turned negative (pos size)) }
     ensures small { result < 2 ^ bits }
 {
-    unfold(pred, turn(flip, residual), bits)
+    unfold(pred, turn(negative, turn(flip, size as i32)), bits)
 }
 
 impl Early {

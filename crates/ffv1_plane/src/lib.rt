@@ -24,7 +24,7 @@ pub mod quantisation;
 pub mod residual;
 mod table;
 
-pub use early::{BLOCK, Early, sample_late};
+pub use early::{BLOCK, Early, sample_signed};
 pub use fault::Fault;
 pub use lanes::{AroundLanes, choose_lanes};
 pub use prediction::{Around, predict, predict_late};

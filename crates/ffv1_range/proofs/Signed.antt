@@ -7,6 +7,7 @@ use Rattle.std.specs.Int.Count.{count_leading_zeros, leading_unique}
 use Rattle.std.proofs.Math.Nat.{pow-succ'}
 use Rattle.ffv1_range.specs.Table.{Table}
 use Rattle.ffv1_range.specs.Reading.{Reading}
+use Rattle.ffv1_range.specs.Signed.{signed_by}
 use Rattle.ffv1_range.specs.Symbols.{exponent, exponent_steps, mantissa_steps, magnitude_steps, sized_steps, signed_steps, unsigned_steps}
 use Rattle.ffv1_range.specs.Writing.{Writing}
 use Rattle.ffv1_range.specs.Internal.Registers.{Reads, Writes}
@@ -28,6 +29,10 @@ negative_steps zero h = absurd (omega arith)
 negative_steps (suc n) h =
     let same : pos 0 -ℤ pos (suc n) ≡ negsuc n = omega (arith, ints) in
     rw same refl
+
+pub sized_signed : (n : ℕ) (negative : Bool) → 0 < n → signed_steps (signed_by n negative) ≡ sized_steps n negative
+sized_signed n false h = positive_steps n h
+sized_signed n true h = negative_steps n h
 
 -- twice a power below 2 ^ 31 fits
 pub number_fits : (e n : ℕ) → e < 31 → n < 2 * 2 ^ e → n < 2 ^ 31

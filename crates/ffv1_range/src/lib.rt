@@ -38,6 +38,7 @@ pub use decoder::RangeDecoder;
 pub use encoder::RangeEncoder;
 pub use fault::Fault;
 pub use listed::list_signed;
+pub use magnitude::SignedNumber;
 pub use parked::Parked;
 pub use table::StateTable;
 pub use tally::{Nonzeros, Sums, Tally};

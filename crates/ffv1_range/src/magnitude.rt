@@ -2,7 +2,7 @@
 //! straight code, and only nonzero numbers are counted (RFC 9043, 3.8.1.2).
 
 ghost use Rattle.std.specs.Prelude.{◌≡◌, ℕ, ◌+◌, ◌*◌, ◌^◌, ◌≤◌, ◌<◌, ◌++◌, List, IfOk, IfErr, OnErr};
-ghost use Rattle.std.specs.Prelude.{length, unsigned_abs, slice_index, slice_set, pos, IsTrue, IsFalse, ◌↔◌};
+ghost use Rattle.std.specs.Prelude.{length, slice_index, slice_set, pos, IsTrue, IsFalse, ◌↔◌, IfSome};
 ghost use Rattle.ffv1_range.specs.Interval.{share};
 ghost use Rattle.ffv1_range.specs.Table.{Holds};
 ghost use Rattle.ffv1_range.specs.Symbols.{AreHeld, AllHeld, shifted, exponent_steps};
@@ -10,6 +10,7 @@ ghost use Rattle.ffv1_range.specs.Symbols.{mantissa_steps, raising, signed_steps
 ghost use Rattle.ffv1_range.specs.Counts.{ones_in};
 ghost use Rattle.ffv1_range.specs.Follows.{Follows};
 ghost use Rattle.ffv1_range.specs.Reading.{Reading, summed};
+ghost use Rattle.ffv1_range.specs.Signed.{number_of};
 ghost use Rattle.ffv1_range.specs.Among.{AreNonzeros, sums_among, sums_refused};
 ghost use Rattle.ffv1_range.specs.Internal.Registers.{Reads};
 
@@ -21,6 +22,16 @@ use crate::reading::{
 };
 use crate::table::StateTable;
 use crate::tally::Nonzeros;
+
+/// A number that is not 0, by its size and its sign, which is decoded last: what needs the size
+/// alone need not wait for it.
+#[derive(Clone, Copy, Debug, PartialEq, Eq)]
+pub struct SignedNumber {
+    /// From 1 to 2^31 - 1.
+    pub size: u32,
+    /// Whether it lies below 0.
+    pub negative: bool,
+}
 
 /// A number above 0: its exponent, itself, and how many bits below its highest are 1.
 #[derive(Clone, Copy)]
@@ -159,21 +170,23 @@ impl RangeDecoder<'_> {
         self.take_one(table, state)
     }
 
-    /// The signed number whose symbol comes next, counted in `nonzeros` alone.
+    /// The signed number whose symbol comes next, or none for 0, counted in `nonzeros` alone.
     #[inline(always)]
     fn tally_signed(
         &mut self,
         nonzeros: &mut Nonzeros,
         table: &StateTable,
         states: &mut [u8],
-    ) -> Result<i32, Fault>
+    ) -> Result<Option<SignedNumber>, Fault>
         requires held { AreHeld table.now states.old }
         requires are { AreNonzeros nonzeros.old }
         requires room { nonzeros.old.symbols < 2 ^ 20 }
         ensures follows { IfOk result (λ v. (n : ℕ) → nonzeros.old.symbols ≤ n →
             Follows table.now (summed self.old (sums_among n nonzeros.old)) states.old
-            (summed self.new (sums_among (n + 1) nonzeros.new)) states.new (signed_steps v)) }
-        ensures size { IfOk result (λ v. unsigned_abs v < 2 ^ 31) }
+            (summed self.new (sums_among (n + 1) nonzeros.new)) states.new
+            (signed_steps (number_of v))) }
+        ensures some { IfOk result (λ v. IfSome v (λ s. 0 < s.size)) }
+        ensures size { IfOk result (λ v. IfSome v (λ s. s.size < 2 ^ 31)) }
         ensures refused { IfErr result (λ f. (n : ℕ) → nonzeros.old.symbols ≤ n →
             Follows table.now (summed self.old (sums_among n nonzeros.old)) states.old
             (summed self.new (sums_refused n nonzeros.new)) states.new too_long) }
@@ -184,7 +197,7 @@ impl RangeDecoder<'_> {
         ensures held { AreHeld table.now states.new }
     {
         if decide_slot(self, table, states, ZERO) {
-            return Ok(0);
+            return Ok(None);
         }
         let Ok(magnitude) = get_magnitude(self, table, states) else {
             return Err(Fault::SymbolTooLong);
@@ -196,16 +209,16 @@ impl RangeDecoder<'_> {
         } = magnitude;
         let negative = choose_slot(self, table, states, sign_slot(exponent));
         nonzeros.count(exponent, ones + negative as u32);
-        if negative {
-            return Ok(-(number as i32));
-        }
-        Ok(number as i32)
+        Ok(Some(SignedNumber {
+            size: number,
+            negative,
+        }))
     }
 
-    /// As `get_signed_in_row`, but that nothing is counted but `nonzeros`: their symbol, where the
-    /// number is not zero. Behind `n` such symbols the decoder's counts are to go on by
-    /// `nonzeros.among(n)`, and where the one behind them was refused by
-    /// `nonzeros.among_refused(n)`. Fewer than 2^20 nonzero numbers have room.
+    /// As `get_signed_in_row`, but that a number is given by its size and its sign, and 0 as none, and
+    /// that nothing is counted but `nonzeros`: their symbol, where the number is not zero. Behind `n`
+    /// such symbols the decoder's counts are to go on by `nonzeros.among(n)`, and where the one behind
+    /// them was refused by `nonzeros.among_refused(n)`. Fewer than 2^20 nonzero numbers have room.
     #[inline(always)]
     pub fn tally_signed_in_row(
         &mut self,
@@ -213,7 +226,7 @@ impl RangeDecoder<'_> {
         table: &StateTable,
         states: &mut [u8],
         row: usize,
-    ) -> Result<i32, Fault>
+    ) -> Result<Option<SignedNumber>, Fault>
         requires rows { row * 32 + 32 ≤ length states.old }
         requires held { AllHeld table.now states.old }
         requires are { AreNonzeros nonzeros.old }
@@ -221,8 +234,9 @@ impl RangeDecoder<'_> {
         ensures follows { IfOk result (λ v. (n : ℕ) → nonzeros.old.symbols ≤ n →
             Follows table.now (summed self.old (sums_among n nonzeros.old)) states.old
             (summed self.new (sums_among (n + 1) nonzeros.new)) states.new
-            (shifted (row * 32) (signed_steps v))) }
-        ensures size { IfOk result (λ v. unsigned_abs v < 2 ^ 31) }
+            (shifted (row * 32) (signed_steps (number_of v)))) }
+        ensures some { IfOk result (λ v. IfSome v (λ s. 0 < s.size)) }
+        ensures size { IfOk result (λ v. IfSome v (λ s. s.size < 2 ^ 31)) }
         ensures refused { IfErr result (λ f. (n : ℕ) → nonzeros.old.symbols ≤ n →
             Follows table.now (summed self.old (sums_among n nonzeros.old)) states.old
             (summed self.new (sums_refused n nonzeros.new)) states.new

@@ -1,11 +1,8 @@
-use Rattle.std.proofs.Common.{◌≡◌, ◌<◌, ◌∙◌, true, false, ap, pos, ◌-ℤ◌, arith}
+use Rattle.std.proofs.Common.{◌≡◌, ◌<◌, ◌∙◌, Bool, true, false, ap, arith}
 use Rattle.ffv1_range.specs.Weight.{one_if}
-use Rattle.ffv1_range.proofs.Mantissa.{bit_is}
-use Rattle.std.proofs.lemmas.Int.{ints}
-use Rattle.std.specs.Int.{w32}
-use mir.Val.{to_z, of_z}
+use Rattle.ffv1_range.proofs.Mantissa.{bit_is, one_if_most}
 use Rattle.std.proofs.Math.Pow.{pow_pos}
-use Rattle.ffv1_range.proofs.Signed.{exponent_is, positive_steps, negative_steps}
+use Rattle.ffv1_range.proofs.Signed.{exponent_is, sized_signed}
 use Rattle.ffv1_range.proofs.Steps.{reads_append}
 use Rattle.ffv1_range.proofs.Counting.{symbol_ones, symbol_length}
 use Rattle.ffv1_range.proofs.Magnitudes.{zero_follows, nonzero_follows, refused_follows, symbol_reads}
@@ -18,36 +15,19 @@ pub returns-in_default-clause-refused : goal.returns-in_default-clause-refused
 returns-in_default-clause-refused c = λ n within.
     refused_follows _ _ _ _ _ n _ (reads_append _ _ _ _ _ _ _ _ _ c.if-decide_slot.ensures.reads c.in_default.ensures.refused)
 
-pub returns-then-negative-clause-follows : goal.returns-then-negative-clause-follows
-returns-then-negative-clause-follows c = λ n within.
-    let m = c.in-Ok.magnitude in
-    let fits = c.in-Ok.ensures.fits in
-    let is : to_z w32 (of_z w32 (pos 0 -ℤ to_z w32 m.number)) ≡ pos 0 -ℤ pos m.number = omega (arith, ints) in
-    let power = pow_pos m.exponent in
-    let positive : 0 < m.number = omega (arith, c.in-Ok.ensures.least) in
-    let exponent = exponent_is m.exponent m.number c.in-Ok.ensures.small c.in-Ok.ensures.least c.in-Ok.ensures.most in
-    let few = c.in-Ok.ensures.few in
-    let sign = bit_is c.choose_slot-negative.result ∙ ap one_if c.if-negative.true in
-    let ones = symbol_ones m.number m.exponent m.ones true exponent c.in-Ok.ensures.ones in
-    let long = symbol_length m.number m.exponent true exponent in
-    let last = rw (c.sign_slot.ensures, c.if-negative.true) at c.choose_slot-negative.ensures.reads in
-    let reads = symbol_reads _ _ _ _ _ _ _ _ _ m.exponent m.number true c.in-Ok.ensures.small c.in-Ok.ensures.least c.in-Ok.ensures.most c.if-decide_slot.ensures.reads c.in-Ok.ensures.reads last in
-    rw (is, negative_steps)
-    (nonzero_follows _ _ _ _ _ _ n m.exponent _ _ _ within c.requires.are (omega arith) c.count.ensures.value (omega arith) long reads)
-
 pub returns-clause-follows : goal.returns-clause-follows
 returns-clause-follows c = λ n within.
     let m = c.in-Ok.magnitude in
-    let fits = c.in-Ok.ensures.fits in
-    let is : to_z w32 m.number ≡ pos m.number = omega (arith, ints) in
+    let negative : Bool = c.choose_slot-negative.result in
     let power = pow_pos m.exponent in
     let positive : 0 < m.number = omega (arith, c.in-Ok.ensures.least) in
     let exponent = exponent_is m.exponent m.number c.in-Ok.ensures.small c.in-Ok.ensures.least c.in-Ok.ensures.most in
     let few = c.in-Ok.ensures.few in
-    let sign = bit_is c.choose_slot-negative.result ∙ ap one_if c.if-negative.false in
-    let ones = symbol_ones m.number m.exponent m.ones false exponent c.in-Ok.ensures.ones in
-    let long = symbol_length m.number m.exponent false exponent in
-    let last = rw (c.sign_slot.ensures, c.if-negative.false) at c.choose_slot-negative.ensures.reads in
-    let reads = symbol_reads _ _ _ _ _ _ _ _ _ m.exponent m.number false c.in-Ok.ensures.small c.in-Ok.ensures.least c.in-Ok.ensures.most c.if-decide_slot.ensures.reads c.in-Ok.ensures.reads last in
-    rw (is, positive_steps)
+    let sign = bit_is negative in
+    let bit = one_if_most negative in
+    let ones = symbol_ones m.number m.exponent m.ones negative exponent c.in-Ok.ensures.ones in
+    let long = symbol_length m.number m.exponent negative exponent in
+    let last = rw c.sign_slot.ensures at c.choose_slot-negative.ensures.reads in
+    let reads = symbol_reads _ _ _ _ _ _ _ _ _ m.exponent m.number negative c.in-Ok.ensures.small c.in-Ok.ensures.least c.in-Ok.ensures.most c.if-decide_slot.ensures.reads c.in-Ok.ensures.reads last in
+    rw (sized_signed m.number negative positive)
     (nonzero_follows _ _ _ _ _ _ n m.exponent _ _ _ within c.requires.are (omega arith) c.count.ensures.value (omega arith) long reads)

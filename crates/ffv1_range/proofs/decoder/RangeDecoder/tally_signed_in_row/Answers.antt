@@ -1,17 +1,15 @@
-use Rattle.std.proofs.Common.{◌≡◌, ◌+◌, ◌-◌, ◌*◌, arith, rules}
-use Rattle.std.proofs.lemmas.Int.{to_z-of_z}
-use Rattle.std.specs.Int.{w32}
-use mir.Val.{SFits}
+use Rattle.std.proofs.Common.{◌≡◌, ◌+◌, ◌-◌, ◌*◌, arith}
+use Rattle.ffv1_range.specs.Signed.{number_of}
 use Rattle.ffv1_range.specs.Symbols.{signed_steps, too_long}
 use Rattle.ffv1_range.proofs.Windows.{follows_part, all_held_part, signed_below, too_long_below}
 use Rattle.ffv1_range.proofs.decoder.RangeDecoder.tally_signed_in_row.Goals as goal
 
 pub returns-in-Ok-clause-follows : goal.returns-in-Ok-clause-follows
 returns-in-Ok-clause-follows c = λ n within.
-    let fits : SFits w32 c.in-Ok.number = search rules in
+    let number = number_of c.in-Ok.number in
     let wide : c.args.row * 32 + 32 - c.args.row * 32 ≡ 32 = omega arith in
-    simp (to_z-of_z, wide)
-    (follows_part c.args.table.now c.args.states.now (c.args.row * 32) 32 (signed_steps c.in-Ok.number) c.requires.rows (signed_below c.in-Ok.number) _ _ _ (rw wide at (c.in-Ok.ensures.follows n within)))
+    rw wide
+    (follows_part c.args.table.now c.args.states.now (c.args.row * 32) 32 (signed_steps number) c.requires.rows (signed_below number) _ _ _ (rw wide at (c.in-Ok.ensures.follows n within)))
 
 pub returns-in-Ok-clause-held : goal.returns-in-Ok-clause-held
 returns-in-Ok-clause-held c =
