@@ -3,19 +3,10 @@
 ghost use Rattle.std.specs.Prelude.{◌≡◌, ◌<◌, ◌⊎◌};
 ghost use Rattle.ffv1_plane.specs.Quantisation.{HasFewLevels};
 
-use ffv1_plane::{
-    Around, AroundLanes, Fault, QuantSet, choose_lanes, context, predict, residual_of,
-};
-use std::alloc::{Allocator, Global};
+use super::plane::{add_sets, around_of};
+use ffv1_plane::{AroundLanes, Fault, QuantSet, choose_lanes, context, predict, residual_of};
 use std::process::Abort;
 use std::simd::prelude::*;
-use std::test::Fail;
-
-const OTHER: [u8; 4] = [1, 5, 7, 115];
-
-const SEVEN: [u8; 7] = [1, 1, 1, 1, 1, 1, 122];
-
-const ONE: [u8; 1] = [128];
 
 /// Samples of 16 places that look random, below `limit`.
 fn samples(seed: &mut u64, limit: u16) -> [u16; 16]
@@ -59,7 +50,7 @@ fn sixteen(seed: &mut u64, limit: u16) -> Places
 }
 
 /// Their contexts and their residuals modulo 512, all at once.
-fn of_lanes<A: Allocator>(set: &QuantSet<A>, places: &Places, bits: u8) -> ([u16; 16], [u16; 16])
+fn of_lanes(set: &QuantSet, places: &Places, bits: u8) -> ([u16; 16], [u16; 16])
     requires few { HasFewLevels set.now }
     requires bits { (bits ≡ 8) ⊎ (bits ≡ 9) }
 {
@@ -77,18 +68,18 @@ fn of_lanes<A: Allocator>(set: &QuantSet<A>, places: &Places, bits: u8) -> ([u16
 }
 
 /// The context and the residual modulo 512 of one of them.
-fn of_place<A: Allocator>(set: &QuantSet<A>, places: &Places, place: usize, bits: u8) -> (u32, i32)
+fn of_place(set: &QuantSet, places: &Places, place: usize, bits: u8) -> (u32, i32)
     requires place { place < 16 }
     requires bits { (bits ≡ 8) ⊎ (bits ≡ 9) }
 {
-    let around = Around {
-        l: places.l[place],
-        t: places.t[place],
-        tl: places.tl[place],
-        tr: places.tr[place],
-        ll: places.ll[place],
-        tt: places.tt[place],
-    };
+    let around = around_of([
+        places.l[place],
+        places.t[place],
+        places.tl[place],
+        places.tr[place],
+        places.ll[place],
+        places.tt[place],
+    ]);
     let (size, flip) = context(set, &around);
     let residual = residual_of(predict(&around), flip, places.own[place], bits);
     (size, residual.rem_euclid(512))
@@ -109,6 +100,17 @@ fn places_agree(rt: &impl Abort, set: &QuantSet, seed: &mut u64, limit: u16, bit
     }
 }
 
+/// The last set has many levels, and places of three others agree.
+fn judge(rt: &impl Abort, sets: &[QuantSet]) {
+    match sets {
+        [small, large, .., other, many] => {
+            assert!(rt; !many.has_few_levels());
+            sets_agree(rt, small, large, other);
+        }
+        _ => assert!(rt; false),
+    }
+}
+
 /// Places of three sets agree.
 fn sets_agree(rt: &impl Abort, small: &QuantSet, large: &QuantSet, other: &QuantSet) {
     let mut seed = 1;
@@ -121,40 +123,10 @@ fn sets_agree(rt: &impl Abort, small: &QuantSet, large: &QuantSet, other: &Quant
     }
 }
 
-/// The third set beside two others.
-fn with_other(
-    rt: &impl Abort,
-    alloc: Global,
-    small: &QuantSet,
-    large: &QuantSet,
-) -> Result<(), Fault> {
-    let other = QuantSet::from_runs(alloc, &[OTHER.as_slice(); 5])?;
-    sets_agree(rt, small, large, &other);
-    Ok(())
-}
-
-/// The second set beside the first, and the third.
-fn with_large(rt: &impl Abort, alloc: Global, small: &QuantSet) -> Result<(), Fault> {
-    let large = QuantSet::large(alloc)?;
-    with_other(rt, alloc, small, &large)
-}
-
 #[test]
-fn lanes_as_places(rt: HostRuntime) -> Result<(), Fail> {
-    let small = QuantSet::small(rt.alloc())?;
-    with_large(&rt, rt.alloc(), &small)?;
+fn lanes_as_places(rt: HostRuntime) -> Result<(), Fault> {
+    let mut sets = Vec::new(rt.alloc());
+    add_sets(rt.alloc(), &mut sets)?;
+    judge(&rt, &sets);
     Ok(())
-}
-
-/// Whether a set that was made has few levels.
-fn has_few_levels(set: Result<QuantSet, Fault>) -> Result<bool, Fault> {
-    Ok(set?.has_few_levels())
-}
-
-#[test]
-fn tells_sets_of_few_levels(rt: HostRuntime) {
-    let (one, seven) = (ONE.as_slice(), SEVEN.as_slice());
-    let many = QuantSet::from_runs(rt.alloc(), &[one, one, seven, one, one]);
-    assert!(rt; has_few_levels(many) == Ok(false));
-    assert!(rt; has_few_levels(QuantSet::large(rt.alloc())) == Ok(true));
 }

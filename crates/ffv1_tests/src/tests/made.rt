@@ -1,10 +1,19 @@
-//! Configurations for tests.
+//! Configurations for tests, and what a value displays as.
 
 ghost use Rattle.std.specs.Prelude.{◌≡◌, IfOk, length, false};
 
 use ffv1_plane::QuantSet;
 use ffv1_record::{Coder, Colour, Config, RecordFault, Sets};
-use std::alloc::Allocator;
+use std::alloc::{Allocator, Global};
+use std::fmt::Display;
+
+/// Whether a value displays so.
+pub(super) fn shows<T: Display>(alloc: Global, value: &T, text: &str) -> bool {
+    match value.to_string(alloc) {
+        Ok(shown) => shown.as_str() == text,
+        Err(_) => false,
+    }
+}
 
 /// One small set.
 fn small_set<A: Allocator + Copy>(alloc: A) -> Result<Sets<A>, RecordFault>

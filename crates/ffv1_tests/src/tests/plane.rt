@@ -1,23 +1,64 @@
 //! Planes: values computed outside the program from the standard's text, and plain slow programs beside the
 //! fast ones.
 
+ghost use Rattle.std.specs.Prelude.{◌≡◌, ◌⊎◌};
+
+use crate::tests::made::shows;
 use ffv1_plane::{
     Around, Fault, QuantSet, context, context_near, fold, predict, residual_of, sample_from, unfold,
 };
 use std::alloc::Global;
 use std::process::Abort;
-use std::test::Fail;
 
-const ELEVEN: [u8; 6] = [1, 1, 3, 7, 11, 105];
+const ELEVEN: &[u8] = &[1, 1, 3, 7, 11, 105];
 
 /// Runs that FFmpeg writes.
-const ELEVEN_WIDE: [u8; 6] = [1, 1, 3, 7, 23, 93];
+const ELEVEN_WIDE: &[u8] = &[1, 1, 3, 7, 23, 93];
 
-const FIVE: [u8; 3] = [1, 3, 124];
+const FIVE: &[u8] = &[1, 3, 124];
 
-const ONE: [u8; 1] = [128];
+const ONE: &[u8] = &[128];
 
-const ALL: [u8; 128] = [1; 128];
+const ALL: &[u8] = &[1; 128];
+
+const OTHER: &[u8] = &[1, 5, 7, 115];
+
+const SEVEN: &[u8] = &[1, 1, 1, 1, 1, 1, 122];
+
+/// Runs of the five tables of sets.
+const RUNS: [[&[u8]; 5]; 10] = [
+    [ELEVEN, ELEVEN, ELEVEN, ONE, ONE],
+    [ELEVEN_WIDE, ELEVEN_WIDE, ELEVEN_WIDE, ONE, ONE],
+    [ELEVEN_WIDE, ELEVEN_WIDE, FIVE, FIVE, FIVE],
+    [ONE, ONE, ONE, ONE, ONE],
+    [ALL, ONE, ONE, ONE, ONE],
+    [ONE, ALL, ONE, ALL, ONE],
+    [ONE, ONE, ONE, FIVE, ONE],
+    [ONE, ONE, ONE, ONE, FIVE],
+    [OTHER, OTHER, OTHER, OTHER, OTHER],
+    [ONE, ONE, SEVEN, ONE, ONE],
+];
+
+/// How many contexts the first of them have.
+const CONTEXTS: [u32; 6] = [666, 666, 7563, 1, 128, 32513];
+
+/// Puts a set that was made behind others.
+fn add_set(sets: &mut Vec<QuantSet>, made: Result<QuantSet, Fault>) -> Result<(), Fault> {
+    match sets.push(made?) {
+        Ok(()) => Ok(()),
+        Err(_) => Err(Fault::OutOfMemory),
+    }
+}
+
+/// The small and the large set, and those of the runs.
+pub(super) fn add_sets(alloc: Global, sets: &mut Vec<QuantSet>) -> Result<(), Fault> {
+    add_set(sets, QuantSet::small(alloc))?;
+    add_set(sets, QuantSet::large(alloc))?;
+    for runs in &RUNS {
+        add_set(sets, QuantSet::from_runs(alloc, runs))?;
+    }
+    Ok(())
+}
 
 /// A set has these runs, and this many contexts.
 fn has_runs(rt: &impl Abort, set: &QuantSet, runs: &[&[u8]; 5], contexts: u32) {
@@ -27,330 +68,208 @@ fn has_runs(rt: &impl Abort, set: &QuantSet, runs: &[&[u8]; 5], contexts: u32) {
     }
 }
 
-/// The set of these runs has them, and this many contexts.
-fn counts(rt: &impl Abort, alloc: Global, runs: &[&[u8]; 5], contexts: u32) -> Result<(), Fault> {
-    let set = QuantSet::from_runs(alloc, runs)?;
-    has_runs(rt, &set, runs, contexts);
-    Ok(())
+/// Sets have the first runs, and as many contexts as those.
+fn have_runs(rt: &impl Abort, sets: [&QuantSet; 6]) {
+    for at in 0..6usize {
+        has_runs(rt, sets[at], &RUNS[at], CONTEXTS[at]);
+    }
 }
 
-#[test]
-fn counts_contexts(rt: HostRuntime) -> Result<(), Fault> {
-    let (eleven, wide, five) = (ELEVEN.as_slice(), ELEVEN_WIDE.as_slice(), FIVE.as_slice());
-    let (one, all) = (ONE.as_slice(), ALL.as_slice());
-    counts(&rt, rt.alloc(), &[eleven, eleven, eleven, one, one], 666)?;
-    counts(&rt, rt.alloc(), &[wide, wide, wide, one, one], 666)?;
-    counts(&rt, rt.alloc(), &[wide, wide, five, five, five], 7563)?;
-    counts(&rt, rt.alloc(), &[one, one, one, one, one], 1)?;
-    counts(&rt, rt.alloc(), &[all, one, one, one, one], 128)?;
-    counts(&rt, rt.alloc(), &[one, all, one, all, one], 32513)
-}
-
-/// These runs are refused so.
-fn refuses(rt: &impl Abort, alloc: Global, runs: &[&[u8]; 5], fault: Fault) {
-    assert!(rt; QuantSet::from_runs(alloc, runs).err() == Some(fault));
-}
+/// Runs that are refused, and why.
+const REFUSED: [([&[u8]; 5], Fault); 7] = [
+    ([ELEVEN, ELEVEN, ELEVEN, ELEVEN, ELEVEN], Fault::Contexts),
+    ([ALL, ALL, ALL, ALL, ALL], Fault::Contexts),
+    ([&[], ONE, ONE, ONE, ONE], Fault::Runs),
+    ([ONE, &[128, 0], ONE, ONE, ONE], Fault::Runs),
+    ([ONE, ONE, &[127], ONE, ONE], Fault::Runs),
+    ([ONE, ONE, ONE, &[128, 1], ONE], Fault::Runs),
+    ([ALL, ALL, ALL, ALL, &[1, 128]], Fault::Runs),
+];
 
 #[test]
 fn refuses_runs(rt: HostRuntime) {
-    let (eleven, one, all) = (ELEVEN.as_slice(), ONE.as_slice(), ALL.as_slice());
-    let (none, zero, less) = ([].as_slice(), [128u8, 0].as_slice(), [127u8].as_slice());
-    let (more, late) = ([128u8, 1].as_slice(), [1u8, 128].as_slice());
-    refuses(
-        &rt,
-        rt.alloc(),
-        &[eleven, eleven, eleven, eleven, eleven],
-        Fault::Contexts,
-    );
-    refuses(&rt, rt.alloc(), &[all, all, all, all, all], Fault::Contexts);
-    refuses(&rt, rt.alloc(), &[none, one, one, one, one], Fault::Runs);
-    refuses(&rt, rt.alloc(), &[one, zero, one, one, one], Fault::Runs);
-    refuses(&rt, rt.alloc(), &[one, one, less, one, one], Fault::Runs);
-    refuses(&rt, rt.alloc(), &[one, one, one, more, one], Fault::Runs);
-    refuses(&rt, rt.alloc(), &[all, all, all, all, late], Fault::Runs);
-}
-
-/// Whether a set has the runs of another one.
-fn is_like(set: &QuantSet, other: Result<QuantSet, Fault>) -> Result<bool, Fault> {
-    let other = other?;
-    Ok(*set == other)
-}
-
-/// Whether a set has other runs than another one.
-fn is_unlike(set: &QuantSet, other: Result<QuantSet, Fault>) -> Result<bool, Fault> {
-    let other = other?;
-    Ok(*set != other)
-}
-
-/// A set has the runs of the small one, and others than the large one.
-fn is_small(rt: &impl Abort, alloc: Global, set: &QuantSet) -> Result<(), Fault> {
-    let (eleven, one) = (ELEVEN.as_slice(), ONE.as_slice());
-    let again = [eleven, eleven, eleven, one, one];
-    assert!(rt; is_like(set, QuantSet::from_runs(alloc, &again))?);
-    assert!(rt; is_unlike(set, QuantSet::large(alloc))?);
-    Ok(())
+    for (runs, fault) in &REFUSED {
+        assert!(rt; QuantSet::from_runs(rt.alloc(), runs).err() == Some(*fault));
+    }
 }
 
 #[test]
-fn compares_runs(rt: HostRuntime) -> Result<(), Fault> {
-    let small = QuantSet::small(rt.alloc())?;
-    is_small(&rt, rt.alloc(), &small)
+fn shows_number_and_name(rt: HostRuntime) {
+    let shown = [
+        shows(rt.alloc(), &Fault::OutOfMemory, "2 OutOfMemory"),
+        shows(rt.alloc(), &Fault::Runs, "5 Runs"),
+        shows(rt.alloc(), &Fault::Contexts, "6 Contexts"),
+    ];
+    assert!(rt; shown == [true; 3]);
 }
 
-/// Whether a fault displays so.
-fn shows(rt: &HostRuntime, fault: Fault, text: &str) -> Result<bool, Fail> {
-    let shown = fault.to_string(rt.alloc())?;
-    Ok(shown.as_str() == text)
-}
-
-#[test]
-fn shows_number_and_name(rt: HostRuntime) -> Result<(), Fail> {
-    assert!(rt; shows(&rt, Fault::OutOfMemory, "2 OutOfMemory")?);
-    assert!(rt; shows(&rt, Fault::Runs, "5 Runs")?);
-    assert!(rt; shows(&rt, Fault::Contexts, "6 Contexts")?);
-    Ok(())
-}
-
-/// Among samples left, above, above to the left and to the right, two to the left and two above, a
-/// place has this prediction, and these contexts by two sets.
-fn finds(
-    rt: &impl Abort,
-    large: &QuantSet,
-    other: &QuantSet,
-    samples: [u16; 6],
-    prediction: i32,
-    in_large: (u32, bool),
-    in_other: (u32, bool),
-) {
+/// The neighbours left, above, above to the left and to the right, two to the left and two above.
+pub(super) fn around_of(samples: [u16; 6]) -> Around {
     let [l, t, tl, tr, ll, tt] = samples;
-    let around = Around {
+    Around {
         l,
         t,
         tl,
         tr,
         ll,
         tt,
-    };
-    let found = (context(large, &around), context(other, &around));
-    assert!(rt; (predict(&around), found) == (prediction, (in_large, in_other)));
+    }
 }
 
-/// Predictions and contexts of thirteen places.
-fn finds_each(rt: &impl Abort, large: &QuantSet, other: &QuantSet) {
-    finds(
-        rt,
-        large,
-        other,
-        [0, 0, 0, 0, 0, 0],
-        0,
-        (0, false),
-        (0, false),
-    );
-    finds(
-        rt,
-        large,
-        other,
-        [255, 0, 0, 0, 255, 0],
-        255,
-        (1, true),
-        (1, true),
-    );
-    finds(
-        rt,
-        large,
-        other,
-        [0, 255, 255, 255, 0, 0],
-        0,
-        (1, false),
-        (3026, false),
-    );
-    finds(
-        rt,
-        large,
-        other,
-        [0, 1, 0, 1, 0, 1],
-        1,
-        (11, true),
-        (11, true),
-    );
-    finds(
-        rt,
-        large,
-        other,
-        [128, 0, 0, 0, 128, 0],
-        128,
-        (5, true),
-        (5, true),
-    );
-    finds(
-        rt,
-        large,
-        other,
-        [10, 20, 0, 0, 0, 0],
-        20,
-        (14198, true),
-        (7059, true),
-    );
-    finds(
-        rt,
-        large,
-        other,
+/// Neighbours, the prediction among them, and their contexts by the large set and by one of wider
+/// runs.
+const PLACES: [([u16; 6], i32, (u32, bool), (u32, bool)); 13] = [
+    ([0, 0, 0, 0, 0, 0], 0, (0, false), (0, false)),
+    ([255, 0, 0, 0, 255, 0], 255, (1, true), (1, true)),
+    ([0, 255, 255, 255, 0, 0], 0, (1, false), (3026, false)),
+    ([0, 1, 0, 1, 0, 1], 1, (11, true), (11, true)),
+    ([128, 0, 0, 0, 128, 0], 128, (5, true), (5, true)),
+    ([10, 20, 0, 0, 0, 0], 20, (14198, true), (7059, true)),
+    (
         [65535, 65535, 0, 0, 0, 0],
         65535,
         (111, true),
         (3519, false),
-    );
-    finds(
-        rt,
-        large,
-        other,
+    ),
+    (
         [0, 65535, 65535, 65535, 65535, 65535],
         0,
         (1, false),
         (604, true),
-    );
-    finds(
-        rt,
-        large,
-        other,
-        [254, 127, 255, 511, 0, 1],
-        127,
-        (13971, true),
-        (5743, true),
-    );
-    finds(
-        rt,
-        large,
-        other,
+    ),
+    ([254, 127, 255, 511, 0, 1], 127, (13971, true), (5743, true)),
+    (
         [65535, 257, 1, 254, 510, 0],
         65535,
         (240, false),
         (3511, true),
-    );
-    finds(
-        rt,
-        large,
-        other,
+    ),
+    (
         [257, 65535, 511, 127, 1, 510],
         65281,
         (603, true),
         (3265, true),
-    );
-    finds(
-        rt,
-        large,
-        other,
+    ),
+    (
         [32767, 1, 510, 0, 510, 128],
         32258,
         (13410, false),
         (5545, false),
-    );
-    finds(
-        rt,
-        large,
-        other,
+    ),
+    (
         [256, 511, 257, 255, 32768, 254],
         510,
         (21, false),
         (3004, true),
-    );
+    ),
+];
+
+/// Each place has its prediction, and its contexts by the two sets.
+fn finds_each(rt: &impl Abort, large: &QuantSet, other: &QuantSet) {
+    for &(samples, prediction, in_large, in_other) in &PLACES {
+        let around = around_of(samples);
+        let found = (context(large, &around), context(other, &around));
+        assert!(rt; (predict(&around), found) == (prediction, (in_large, in_other)));
+    }
 }
 
-/// The same by the large set and one of wider runs.
-fn finds_all(rt: &impl Abort, alloc: Global, large: &QuantSet) -> Result<(), Fault> {
-    let (wide, five) = (ELEVEN_WIDE.as_slice(), FIVE.as_slice());
-    let other = QuantSet::from_runs(alloc, &[wide, wide, five, five, five])?;
-    finds_each(rt, large, &other);
-    Ok(())
+/// Neighbours, a sample among them, its context by the small set, and its residual.
+const CODED: [([u16; 6], u16, u32, i32); 4] = [
+    ([0, 0, 0, 0, 0, 0], 10, 0, 10),
+    ([10, 0, 0, 0, 0, 0], 20, 3, 10),
+    ([10, 10, 0, 20, 0, 0], 30, 393, -20),
+    ([30, 20, 10, 20, 10, 0], 40, 29, -10),
+];
+
+/// Each sample has its context and its residual, and comes back from that; by the lines of the
+/// crate's example.
+fn codes_each(rt: &impl Abort, small: &QuantSet) {
+    for &(samples, sample, expected, coded) in &CODED {
+        let around = around_of(samples);
+        let (size, flip) = context(small, &around);
+        let residual = residual_of(predict(&around), flip, sample, 8);
+        let again = sample_from(predict(&around), flip, residual, 8);
+        assert!(rt; (size, residual, again) == (expected, coded, sample));
+    }
 }
 
-#[test]
-fn predicts_and_finds_contexts(rt: HostRuntime) -> Result<(), Fault> {
-    let large = QuantSet::large(rt.alloc())?;
-    finds_all(&rt, rt.alloc(), &large)
-}
-
-/// A difference is folded to this, of 8 and of 9 bits.
-fn folds(rt: &impl Abort, d: i32, eight: i32, nine: i32) {
-    assert!(rt; (fold(d, 8), fold(d, 9)) == (eight, nine));
-}
+/// Differences, folded to 8 and to 9 bits.
+const FOLDED: [(i32, i32, i32); 16] = [
+    (0, 0, 0),
+    (127, 127, 127),
+    (128, -128, 128),
+    (129, -127, 129),
+    (-128, -128, -128),
+    (-129, 127, -129),
+    (255, -1, 255),
+    (256, 0, -256),
+    (257, 1, -255),
+    (-256, 0, -256),
+    (-257, -1, 255),
+    (65535, -1, -1),
+    (i32::MAX, -1, -1),
+    (i32::MIN, 0, 0),
+    (2147483520, -128, -128),
+    (-2147483393, -1, 255),
+];
 
 #[test]
 fn folds_differences(rt: HostRuntime) {
-    folds(&rt, 0, 0, 0);
-    folds(&rt, 127, 127, 127);
-    folds(&rt, 128, -128, 128);
-    folds(&rt, 129, -127, 129);
-    folds(&rt, -128, -128, -128);
-    folds(&rt, -129, 127, -129);
-    folds(&rt, 255, -1, 255);
-    folds(&rt, 256, 0, -256);
-    folds(&rt, 257, 1, -255);
-    folds(&rt, -256, 0, -256);
-    folds(&rt, -257, -1, 255);
-    folds(&rt, 65535, -1, -1);
-    folds(&rt, i32::MAX, -1, -1);
-    folds(&rt, i32::MIN, 0, 0);
-    folds(&rt, 2147483520, -128, -128);
-    folds(&rt, -2147483393, -1, 255);
+    for &(difference, eight, nine) in &FOLDED {
+        let folded = (fold(difference, 8), fold(difference, 9));
+        assert!(rt; folded == (eight, nine));
+    }
 }
 
-/// A prediction and a residual make this sample, of 8 and of 9 bits.
-fn unfolds(rt: &impl Abort, pred: i32, residual: i32, eight: u16, nine: u16) {
-    assert!(rt; (unfold(pred, residual, 8), unfold(pred, residual, 9)) == (eight, nine));
-}
+/// Predictions, residuals, and the samples of 8 and of 9 bits that they make.
+const UNFOLDED: [(i32, i32, u16, u16); 10] = [
+    (0, -1, 255, 511),
+    (255, 1, 0, 256),
+    (255, -256, 255, 511),
+    (5, -10, 251, 507),
+    (65535, 65535, 254, 510),
+    (i32::MAX, 1, 0, 0),
+    (i32::MIN, -1, 255, 511),
+    (i32::MAX, i32::MAX, 254, 510),
+    (i32::MIN, i32::MIN, 0, 0),
+    (300, -44, 0, 256),
+];
 
 #[test]
 fn unfolds_residuals(rt: HostRuntime) {
-    unfolds(&rt, 0, -1, 255, 511);
-    unfolds(&rt, 255, 1, 0, 256);
-    unfolds(&rt, 255, -256, 255, 511);
-    unfolds(&rt, 5, -10, 251, 507);
-    unfolds(&rt, 65535, 65535, 254, 510);
-    unfolds(&rt, i32::MAX, 1, 0, 0);
-    unfolds(&rt, i32::MIN, -1, 255, 511);
-    unfolds(&rt, i32::MAX, i32::MAX, 254, 510);
-    unfolds(&rt, i32::MIN, i32::MIN, 0, 0);
-    unfolds(&rt, 300, -44, 0, 256);
+    for &(pred, residual, eight, nine) in &UNFOLDED {
+        let unfolded = (unfold(pred, residual, 8), unfold(pred, residual, 9));
+        assert!(rt; unfolded == (eight, nine));
+    }
 }
 
-/// A sample of 8 bits has these residuals, plain and flipped, and comes back from each.
-fn takes_eight(rt: &impl Abort, pred: i32, sample: u16, plain: i32, flipped: i32, lowest: u16) {
+/// A sample of so many bits has these residuals, plain and flipped, and comes back from each, but
+/// for bits above those.
+fn takes(rt: &impl Abort, pred: i32, sample: u16, bits: u8, plain: i32, flipped: i32, lowest: u16)
+    requires bits { (bits ≡ 8) ⊎ (bits ≡ 9) }
+{
     let residuals = (
-        residual_of(pred, false, sample, 8),
-        residual_of(pred, true, sample, 8),
+        residual_of(pred, false, sample, bits),
+        residual_of(pred, true, sample, bits),
     );
     let samples = (
-        sample_from(pred, false, plain, 8),
-        sample_from(pred, true, flipped, 8),
-    );
-    assert!(rt; (residuals, samples) == ((plain, flipped), (lowest, lowest)));
-}
-
-/// A sample of 9 bits has these residuals, plain and flipped, and comes back from each.
-fn takes_nine(rt: &impl Abort, pred: i32, sample: u16, plain: i32, flipped: i32, lowest: u16) {
-    let residuals = (
-        residual_of(pred, false, sample, 9),
-        residual_of(pred, true, sample, 9),
-    );
-    let samples = (
-        sample_from(pred, false, plain, 9),
-        sample_from(pred, true, flipped, 9),
+        sample_from(pred, false, plain, bits),
+        sample_from(pred, true, flipped, bits),
     );
     assert!(rt; (residuals, samples) == ((plain, flipped), (lowest, lowest)));
 }
 
 #[test]
 fn takes_residuals(rt: HostRuntime) {
-    takes_eight(&rt, 0, 128, -128, -128, 128);
-    takes_eight(&rt, 128, 0, -128, -128, 0);
-    takes_eight(&rt, 0, 255, -1, 1, 255);
-    takes_eight(&rt, 3, 200, -59, 59, 200);
-    takes_nine(&rt, 0, 256, -256, -256, 256);
-    takes_nine(&rt, 511, 0, 1, -1, 0);
-    takes_nine(&rt, 0, 63, 63, -63, 63);
-    takes_eight(&rt, 65535, 0, 1, -1, 0);
-    takes_eight(&rt, i32::MIN, 65535, -1, 1, 255);
+    takes(&rt, 0, 128, 8, -128, -128, 128);
+    takes(&rt, 128, 0, 8, -128, -128, 0);
+    takes(&rt, 0, 255, 8, -1, 1, 255);
+    takes(&rt, 3, 200, 8, -59, 59, 200);
+    takes(&rt, 0, 256, 9, -256, -256, 256);
+    takes(&rt, 511, 0, 9, 1, -1, 0);
+    takes(&rt, 0, 63, 9, 63, -63, 63);
+    takes(&rt, 65535, 0, 8, 1, -1, 0);
+    takes(&rt, i32::MIN, 65535, 8, -1, 1, 255);
 }
 
 /// How many runs have their last place below `k`.
@@ -383,21 +302,13 @@ fn compare(rt: &impl Abort, set: &QuantSet) {
     let mut scale = 1i32;
     for table in 0..5usize {
         for k in 0..256u16 {
-            let (l, t, tl, tr, ll, tt) = match table {
-                0 => (k, 0, 0, 0, k, 0),
-                1 => (k, 0, k, 0, k, 0),
-                2 => (k, k, k, 0, k, k),
-                3 => (0, 0, 0, 0, k, 0),
-                _ => (0, 0, 0, 0, 0, k),
-            };
-            let around = Around {
-                l,
-                t,
-                tl,
-                tr,
-                ll,
-                tt,
-            };
+            let around = around_of(match table {
+                0 => [k, 0, 0, 0, k, 0],
+                1 => [k, 0, k, 0, k, 0],
+                2 => [k, k, k, 0, k, k],
+                3 => [0, 0, 0, 0, k, 0],
+                _ => [0, 0, 0, 0, 0, k],
+            });
             let expected = entry(set.runs(table), scale, k as u32);
             let (size, flip) = context(set, &around);
             assert!(rt;
@@ -413,43 +324,50 @@ fn compare(rt: &impl Abort, set: &QuantSet) {
     }
 }
 
-/// A set is made, and its samples two to the left and two above count for nothing, or not.
-fn tells(rt: &impl Abort, set: Result<QuantSet, Fault>, near: bool) -> Result<(), Fault> {
-    let found = set?.is_near();
-    assert!(rt; found == near);
-    Ok(())
+/// What is said of the sets: the small one and those of the runs.
+fn judge(rt: &impl Abort, sets: &[QuantSet]) {
+    let [
+        small,
+        large,
+        eleven,
+        wide,
+        five,
+        one,
+        all,
+        whole,
+        fourth,
+        fifth,
+        _,
+        _,
+    ] = sets
+    else {
+        assert!(rt; false);
+        return;
+    };
+    have_runs(rt, [eleven, wide, five, one, all, whole]);
+    assert!(rt; (*small == *eleven, *small != *large) == (true, true));
+    finds_each(rt, large, five);
+    codes_each(rt, small);
+    // whether samples two to the left and two above count for nothing
+    let near = [
+        small.is_near(),
+        large.is_near(),
+        fourth.is_near(),
+        fifth.is_near(),
+    ];
+    assert!(rt; near == [true, false, false, false]);
+    compare(rt, small);
+    compare(rt, large);
+    compare(rt, five);
+    compare(rt, whole);
 }
 
 #[test]
-fn tells_sets_without_far_samples(rt: HostRuntime) -> Result<(), Fault> {
-    let heap = rt.alloc();
-    let (one, five) = (ONE.as_slice(), FIVE.as_slice());
-    tells(&rt, QuantSet::small(heap), true)?;
-    tells(&rt, QuantSet::large(heap), false)?;
-    let fourth = [one, one, one, five, one];
-    tells(&rt, QuantSet::from_runs(heap, &fourth), false)?;
-    let fifth = [one, one, one, one, five];
-    tells(&rt, QuantSet::from_runs(heap, &fifth), false)
-}
-
-/// A set is made, and compared.
-fn compare_made(rt: &impl Abort, set: Result<QuantSet, Fault>) -> Result<(), Fault> {
-    let set = set?;
-    compare(rt, &set);
+fn sets(rt: HostRuntime) -> Result<(), Fault> {
+    let mut sets = Vec::new(rt.alloc());
+    add_sets(rt.alloc(), &mut sets)?;
+    judge(&rt, &sets);
     Ok(())
-}
-
-#[test]
-fn looks_up_each_difference(rt: HostRuntime) -> Result<(), Fault> {
-    let heap = rt.alloc();
-    let (wide, five) = (ELEVEN_WIDE.as_slice(), FIVE.as_slice());
-    let (one, all) = (ONE.as_slice(), ALL.as_slice());
-    compare_made(&rt, QuantSet::small(heap))?;
-    compare_made(&rt, QuantSet::large(heap))?;
-    let other = [wide, wide, five, five, five];
-    compare_made(&rt, QuantSet::from_runs(heap, &other))?;
-    let whole = [one, all, one, all, one];
-    compare_made(&rt, QuantSet::from_runs(heap, &whole))
 }
 
 /// The middle one of three.
@@ -485,27 +403,4 @@ fn predicts_as_the_plain_program(rt: HostRuntime) {
             }
         }
     }
-}
-
-/// The lines of the crate's example.
-fn codes_and_comes_back(rt: &impl Abort, set: &QuantSet, around: &Around, sample: u16) {
-    let (size, flip) = context(set, around);
-    let residual = residual_of(predict(around), flip, sample, 8);
-    let again = sample_from(predict(around), flip, residual, 8);
-    assert!(rt; (size, residual, again) == (393, -20, sample));
-}
-
-#[test]
-fn example(rt: HostRuntime) -> Result<(), Fault> {
-    let set = QuantSet::small(rt.alloc())?;
-    let around = Around {
-        l: 10,
-        t: 10,
-        tl: 0,
-        tr: 20,
-        ll: 0,
-        tt: 0,
-    };
-    codes_and_comes_back(&rt, &set, &around, 30);
-    Ok(())
 }

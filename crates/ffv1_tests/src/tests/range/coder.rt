@@ -2,31 +2,15 @@
 
 ghost use Rattle.ffv1_range.specs.Table.{Holds};
 
+use crate::tests::made::shows;
 use ffv1_range::{Fault, RangeDecoder, RangeEncoder, StateTable, Tally};
 use std::alloc::Global;
-use std::process::Abort;
-use std::test::Fail;
 
-/// An ending gives these bytes.
-fn ends(rt: &impl Abort, ended: Result<Vec<u8>, Fault>, code: &[u8]) -> Result<(), Fault> {
-    let bytes = ended?;
-    assert!(rt; bytes.as_slice() == code);
-    Ok(())
-}
-
-#[test]
-fn no_decisions(rt: HostRuntime) -> Result<(), Fault> {
-    let encoder = RangeEncoder::new(rt.alloc());
-    let counts = (encoder.decisions(), encoder.renormalisations());
-    assert!(rt; counts == (0, 0));
-    ends(&rt, encoder.finish_sentinel(), &[0x00])
-}
-
-#[test]
-fn no_decisions_in_full(rt: HostRuntime) -> Result<(), Fault> {
-    let encoder = RangeEncoder::new(rt.alloc());
-    ends(&rt, encoder.finish_full(), &[0x00, 0x00])
-}
+const NO_DECISIONS: Tally = Tally {
+    ones: 0,
+    zeros: 0,
+    renormalisations: 0,
+};
 
 const TWO_ONES: Tally = Tally {
     ones: 2,
@@ -34,36 +18,55 @@ const TWO_ONES: Tally = Tally {
     renormalisations: 0,
 };
 
-/// An encoder of two ones by a state 128, which is 134 after the first.
-fn two_put(rt: &impl Abort, alloc: Global) -> Result<RangeEncoder, Fault> {
-    let table = StateTable::standard();
-    let mut encoder = RangeEncoder::new(alloc);
-    put_two(rt, &mut encoder, &table)?;
-    Ok(encoder)
-}
-
-/// Two ones by a state 128, which is 134 after the first.
-fn put_two(rt: &impl Abort, encoder: &mut RangeEncoder, table: &StateTable) -> Result<(), Fault>
+/// Two ones by a state 128. Answers the state after the first.
+fn put_two(encoder: &mut RangeEncoder, table: &StateTable) -> Result<u8, Fault>
     requires { Holds table.now 128 }
 {
     let mut state = 128;
     encoder.put(table, &mut state, true)?;
-    assert!(rt; state == 134);
-    encoder.put(table, &mut state, true)
+    let moved = state;
+    encoder.put(table, &mut state, true)?;
+    Ok(moved)
+}
+
+/// Of two ones by a state 128, or of no decision: the state after the first, how many decisions
+/// there are, their tally, and whether the sentinel ending, else the full one, gives these bytes.
+fn ends(
+    alloc: Global,
+    two: bool,
+    sentinel: bool,
+    code: &[u8],
+) -> Result<(u8, u64, Tally, bool), Fault> {
+    let table = StateTable::standard();
+    let mut encoder = RangeEncoder::new(alloc);
+    let state = if two {
+        put_two(&mut encoder, &table)?
+    } else {
+        128
+    };
+    let (decisions, tally) = (encoder.decisions(), encoder.tally());
+    let ended = if sentinel {
+        encoder.finish_sentinel()
+    } else {
+        encoder.finish_full()
+    };
+    Ok((state, decisions, tally, ended?.as_slice() == code))
 }
 
 #[test]
-fn two_ones(rt: HostRuntime) -> Result<(), Fault> {
-    let encoder = two_put(&rt, rt.alloc())?;
-    let counts = (encoder.decisions(), encoder.tally());
-    assert!(rt; counts == (2, TWO_ONES));
-    ends(&rt, encoder.finish_sentinel(), &[0xbd])
+fn no_decisions(rt: HostRuntime) {
+    let none = Ok((128, 0, NO_DECISIONS, true));
+    let sentinel = ends(rt.alloc(), false, true, &[0x00]);
+    let full = ends(rt.alloc(), false, false, &[0x00, 0x00]);
+    assert!(rt; (sentinel, full) == (none, none));
 }
 
 #[test]
-fn two_ones_in_full(rt: HostRuntime) -> Result<(), Fault> {
-    let encoder = two_put(&rt, rt.alloc())?;
-    ends(&rt, encoder.finish_full(), &[0xbc, 0x43])
+fn two_ones(rt: HostRuntime) {
+    let two = Ok((134, 2, TWO_ONES, true));
+    let sentinel = ends(rt.alloc(), true, true, &[0xbd]);
+    let full = ends(rt.alloc(), true, false, &[0xbc, 0x43]);
+    assert!(rt; (sentinel, full) == (two, two));
 }
 
 #[test]
@@ -87,8 +90,8 @@ fn power(base: u64, exponent: u64) -> u64 {
 }
 
 #[test]
-fn cost_of_two_ones(rt: HostRuntime) -> Result<(), Fail> {
-    let tally = two_put(&rt, rt.alloc())?.tally();
+fn cost_of_two_ones(rt: HostRuntime) -> Result<(), Fault> {
+    let (_, _, tally, _) = ends(rt.alloc(), true, true, &[])?;
     let weight = 128 * 134;
     let bytes = power(256, tally.renormalisations);
     let least = power(8, tally.ones)
@@ -106,22 +109,19 @@ fn cost_of_two_ones(rt: HostRuntime) -> Result<(), Fail> {
 
 #[test]
 fn starts(rt: HostRuntime) {
-    assert!(rt; matches!(RangeDecoder::new(&[0xff, 0x00]), Err(Fault::BadStart)));
-    assert!(rt; RangeDecoder::new(&[0xfe, 0xff]).is_ok());
-    assert!(rt; RangeDecoder::new(&[]).is_ok());
-}
-
-/// Whether a fault displays so.
-fn shows(rt: &HostRuntime, fault: Fault, text: &str) -> Result<bool, Fail> {
-    let shown = fault.to_string(rt.alloc())?;
-    Ok(shown.as_str() == text)
+    let bad = RangeDecoder::new(&[0xff, 0x00]).err();
+    let good = RangeDecoder::new(&[0xfe, 0xff]).is_ok();
+    let empty = RangeDecoder::new(&[]).is_ok();
+    assert!(rt; (bad, good, empty) == (Some(Fault::BadStart), true, true));
 }
 
 #[test]
-fn faults_show_number_and_name(rt: HostRuntime) -> Result<(), Fail> {
-    assert!(rt; shows(&rt, Fault::StateTable, "1 StateTable")?);
-    assert!(rt; shows(&rt, Fault::OutOfMemory, "2 OutOfMemory")?);
-    assert!(rt; shows(&rt, Fault::BadStart, "3 BadStart")?);
-    assert!(rt; shows(&rt, Fault::SymbolTooLong, "4 SymbolTooLong")?);
-    Ok(())
+fn faults_show_number_and_name(rt: HostRuntime) {
+    let shown = [
+        shows(rt.alloc(), &Fault::StateTable, "1 StateTable"),
+        shows(rt.alloc(), &Fault::OutOfMemory, "2 OutOfMemory"),
+        shows(rt.alloc(), &Fault::BadStart, "3 BadStart"),
+        shows(rt.alloc(), &Fault::SymbolTooLong, "4 SymbolTooLong"),
+    ];
+    assert!(rt; shown == [true; 4]);
 }

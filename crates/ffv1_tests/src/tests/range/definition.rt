@@ -5,7 +5,6 @@ ghost use Rattle.ffv1_range.specs.Symbols.{AreHeld};
 
 use super::made::put_at;
 use ffv1_range::{Fault, RangeEncoder, StateTable};
-use std::test::Fail;
 
 /// The numbers from low to below low and width, each of so many bytes.
 #[derive(Clone, Copy)]
@@ -44,13 +43,12 @@ impl Interval {
 /// Whether the bytes are so many, and the number with its bytes big end first.
 fn are_digits(number: u128, count: u32, bytes: &[u8]) -> bool {
     let mut rest = number;
+    let mut same = bytes.len() as u64 == u64::from(count);
     for byte in bytes.iter().rev() {
-        if u128::from(*byte) != rest % 256 {
-            return false;
-        }
+        same = same & (u128::from(*byte) == rest % 256);
         rest /= 256;
     }
-    bytes.len() as u64 == u64::from(count) && rest == 0
+    same & (rest == 0)
 }
 
 /// Whether an ending of some decisions is that of their interval. Three of four decisions are ones.
@@ -78,24 +76,24 @@ fn ends_alike(
         interval = interval.narrow(states[slot], bit);
         put_at(&mut encoder, table, &mut states, slot, bit)?;
     }
-    if !sentinel {
-        let bytes = encoder.finish_full()?;
-        return Ok(are_digits(interval.low, interval.count, &bytes));
-    }
-    interval = interval.narrow(129, false);
-    let bytes = encoder.finish_sentinel()?;
-    let top = interval.low.wrapping_add(255) / 256;
-    Ok(are_digits(top, interval.count.wrapping_sub(1), &bytes))
+    let (number, count, ended) = if sentinel {
+        let last = interval.narrow(129, false);
+        let top = last.low.wrapping_add(255) / 256;
+        (top, last.count.wrapping_sub(1), encoder.finish_sentinel())
+    } else {
+        (interval.low, interval.count, encoder.finish_full())
+    };
+    Ok(are_digits(number, count, &ended?))
 }
 
 #[test]
-fn random_lists(rt: HostRuntime) -> Result<(), Fail> {
+fn random_lists(rt: HostRuntime) {
     let table = StateTable::standard();
     for seed in 0..40u32 {
         for count in 0..60usize {
-            assert!(rt; ends_alike(&rt, &table, seed, count, false) == Ok(true));
-            assert!(rt; ends_alike(&rt, &table, seed, count, true) == Ok(true));
+            let full = ends_alike(&rt, &table, seed, count, false);
+            let sentinel = ends_alike(&rt, &table, seed, count, true);
+            assert!(rt; (full, sentinel) == (Ok(true), Ok(true)));
         }
     }
-    Ok(())
 }

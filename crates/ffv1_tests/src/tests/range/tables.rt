@@ -1,31 +1,31 @@
 //! Tables of states, and carries by a table whose states never move.
 
 use ffv1_range::{Fault, RangeEncoder, StateTable};
-use std::process::Abort;
 
 #[test]
 fn floors(rt: HostRuntime) -> Result<(), Fault> {
     let table = StateTable::standard();
+    let same = StateTable::with_deltas(&[0; 255])?;
     let lowest = [table.holds(7), table.holds(8)];
     let highest = [table.holds(248), table.holds(249)];
-    assert!(rt; (table.floor(), lowest, highest) == (8, [false, true], [true, false]));
-    let same = StateTable::with_deltas(&[0; 255])?;
-    assert!(rt; same.floor() == 8);
+    let floors = (table.floor(), same.floor());
+    assert!(rt; (floors, lowest, highest) == ((8, 8), [false, true], [true, false]));
     Ok(())
+}
+
+/// The fault of the table of deltas 0 but for those of the states 1 and 128.
+fn fault_of(first: i32, middle: i32) -> Option<Fault> {
+    let mut deltas = [0; 255];
+    deltas[0] = first;
+    deltas[127] = middle;
+    StateTable::with_deltas(&deltas).err()
 }
 
 #[test]
 fn tables_are_refused(rt: HostRuntime) {
-    let mut deltas = [0; 255];
-    deltas[127] = 122;
-    assert!(rt; matches!(StateTable::with_deltas(&deltas), Err(Fault::StateTable)));
-    deltas[127] = 121;
-    assert!(rt; matches!(StateTable::with_deltas(&deltas), Err(Fault::StateTable)));
-    deltas[127] = 0;
-    deltas[0] = i32::MIN;
-    assert!(rt; matches!(StateTable::with_deltas(&deltas), Err(Fault::StateTable)));
-    deltas[0] = i32::MAX;
-    assert!(rt; StateTable::with_deltas(&deltas).is_ok());
+    let refused = [fault_of(0, 122), fault_of(0, 121), fault_of(i32::MIN, 0)];
+    let all = [Some(Fault::StateTable); 3];
+    assert!(rt; (refused, fault_of(i32::MAX, 0)) == (all, None));
 }
 
 /// Where the standard's table moves a state after a decision 1; 0 for one that it does not hold.
@@ -64,32 +64,33 @@ fn put_pairs(encoder: &mut RangeEncoder, table: &StateTable, pairs: usize) -> Re
     encoder.put(table, &mut middle, true)
 }
 
-/// Their bytes.
-fn carried(rt: &HostRuntime, pairs: usize) -> Result<Vec<u8>, Fault> {
-    let table = unmoved(rt)?;
+/// Whether bytes are 80, so many zeros, and 3F 40.
+fn are_carried(bytes: &[u8], zeros: usize) -> bool {
+    match bytes {
+        [0x80, middle @ .., 0x3f, 0x40] => middle == &[0; 1000][..zeros.min(1000)],
+        _ => false,
+    }
+}
+
+/// Whether so many pairs, by states that never move, have such bytes.
+fn carries_to(
+    rt: &HostRuntime,
+    table: &StateTable,
+    pairs: usize,
+    zeros: usize,
+) -> Result<bool, Fault> {
     let mut encoder = RangeEncoder::new(rt.alloc());
-    put_pairs(&mut encoder, &table, pairs)?;
-    encoder.finish_full()
+    put_pairs(&mut encoder, table, pairs)?;
+    Ok(are_carried(&encoder.finish_full()?, zeros))
 }
 
-/// Whether so many pairs have these bytes.
-fn carries_to(rt: &HostRuntime, pairs: usize, code: &[u8]) -> Result<bool, Fault> {
-    let bytes = carried(rt, pairs)?;
-    Ok(bytes.as_slice() == code)
-}
-
-/// A carry goes through a thousand bytes.
-fn are_many(rt: &impl Abort, many: &[u8]) {
-    assert!(rt; many.len() == 1003);
-    assert!(rt; many[..2] == [0x80, 0x00] && many[1001..] == [0x3f, 0x40]);
-    assert!(rt; many[1..1001].iter().all(|byte| *byte == 0));
-}
-
+/// A carry goes through a byte, and through a thousand.
 #[test]
 fn carries(rt: HostRuntime) -> Result<(), Fault> {
-    assert!(rt; carries_to(&rt, 1, &[0x80, 0x3f, 0x40])?);
-    assert!(rt; carries_to(&rt, 2, &[0x80, 0x00, 0x3f, 0x40])?);
-    let many = carried(&rt, 1001)?;
-    are_many(&rt, &many);
+    let table = unmoved(&rt)?;
+    let none = carries_to(&rt, &table, 1, 0);
+    let one = carries_to(&rt, &table, 2, 1);
+    let many = carries_to(&rt, &table, 1001, 1000);
+    assert!(rt; (none, one, many) == (Ok(true), Ok(true), Ok(true)));
     Ok(())
 }
