@@ -1,6 +1,7 @@
 //! Which configurations are accepted.
 
 use super::made::mono;
+use crate::tests::made::shows;
 use ffv1_record::{Coder, Colour, Config, RecordFault, Sets, parity};
 use std::alloc::Global;
 
@@ -53,82 +54,99 @@ fn floor_of(alloc: Global, said: Said) -> Result<u8, RecordFault> {
     Ok(checked.table().floor())
 }
 
-#[test]
-fn first_faults(rt: HostRuntime) {
-    let heap = rt.alloc();
-    let said = Said {
-        width: 8193,
-        log2_h: 3,
-        ..MONO
-    };
-    assert!(rt; floor_of(heap, said) == Err(RecordFault::Size));
-    let said = Said {
-        colour: Colour::Rct,
-        extra_plane: true,
-        ..MONO
-    };
-    assert!(rt; floor_of(heap, said) == Err(RecordFault::Subsampling));
-    let said = Said {
-        extra_plane: true,
-        has_set: false,
-        ..MONO
-    };
-    assert!(rt; floor_of(heap, said) == Err(RecordFault::ExtraPlane));
-    let said = Said {
-        coder: UNWRITABLE,
-        has_set: false,
-        ..MONO
-    };
-    assert!(rt; floor_of(heap, said) == Err(RecordFault::Sets));
-    let said = Said {
-        coder: UNWRITABLE,
-        columns: 2,
-        ..MONO
-    };
-    assert!(rt; floor_of(heap, said) == Err(RecordFault::StateTable));
-}
+/// What is said of configurations, and the floors of their tables or their first faults.
+const JUDGED: [(Said, Result<u8, RecordFault>); 9] = [
+    (
+        Said {
+            width: 8193,
+            log2_h: 3,
+            ..MONO
+        },
+        Err(RecordFault::Size),
+    ),
+    (
+        Said {
+            colour: Colour::Rct,
+            extra_plane: true,
+            ..MONO
+        },
+        Err(RecordFault::Subsampling),
+    ),
+    (
+        Said {
+            extra_plane: true,
+            has_set: false,
+            ..MONO
+        },
+        Err(RecordFault::ExtraPlane),
+    ),
+    (
+        Said {
+            coder: UNWRITABLE,
+            has_set: false,
+            ..MONO
+        },
+        Err(RecordFault::Sets),
+    ),
+    (
+        Said {
+            coder: UNWRITABLE,
+            columns: 2,
+            ..MONO
+        },
+        Err(RecordFault::StateTable),
+    ),
+    (
+        Said {
+            width: 64,
+            columns: 33,
+            ..MONO
+        },
+        Err(RecordFault::Grid),
+    ),
+    (
+        Said {
+            width: 31,
+            columns: 32,
+            ..MONO
+        },
+        Err(RecordFault::Grid),
+    ),
+    (
+        Said {
+            width: 7,
+            chroma_planes: true,
+            log2_h: 1,
+            columns: 2,
+            ..MONO
+        },
+        Err(RecordFault::ChromaEdge),
+    ),
+    (
+        Said {
+            width: 5,
+            chroma_planes: true,
+            log2_h: 1,
+            columns: 2,
+            ..MONO
+        },
+        Ok(8),
+    ),
+];
 
 #[test]
-fn grids(rt: HostRuntime) {
-    let heap = rt.alloc();
-    let said = Said {
-        width: 64,
-        columns: 33,
-        ..MONO
-    };
-    assert!(rt; floor_of(heap, said) == Err(RecordFault::Grid));
-    let said = Said {
-        width: 31,
-        columns: 32,
-        ..MONO
-    };
-    assert!(rt; floor_of(heap, said) == Err(RecordFault::Grid));
-    let said = Said {
-        width: 7,
-        chroma_planes: true,
-        log2_h: 1,
-        columns: 2,
-        ..MONO
-    };
-    assert!(rt; floor_of(heap, said) == Err(RecordFault::ChromaEdge));
-    assert!(rt; floor_of(heap, Said { width: 5, ..said }) == Ok(8));
-}
-
-/// Whether a fault is displayed so.
-fn is_displayed(alloc: Global, fault: RecordFault, text: &str) -> bool {
-    match fault.to_string(alloc) {
-        Ok(shown) => shown.as_str() == text,
-        Err(_) => false,
+fn first_faults_and_grids(rt: HostRuntime) {
+    for &(said, judged) in &JUDGED {
+        assert!(rt; floor_of(rt.alloc(), said) == judged);
     }
 }
 
 #[test]
 fn parities(rt: HostRuntime) {
-    assert_eq!(rt; parity([1u8].as_slice()), 0x04C1_1DB7);
-    assert_eq!(rt; parity([0u8, 0, 0].as_slice()), 0);
+    assert!(rt; (parity(&[1]), parity(&[0, 0, 0])) == (0x04C1_1DB7, 0));
 }
 
 #[test]
 fn numbers_and_names(rt: HostRuntime) {
-    assert!(rt; is_displayed(rt.alloc(), RecordFault::ChromaEdge, "12 ChromaEdge"));
+    assert!(rt; shows(rt.alloc(), &RecordFault::ChromaEdge, "12 ChromaEdge"));
 }

@@ -13,7 +13,7 @@ use std::process::Abort;
 use std::test::Fail;
 
 /// Mono 1 by 1, small set, ec and intra 1.
-const SMALL: [u8; 26] = [
+pub(super) const SMALL: [u8; 26] = [
     0x56, 0x00, 0x30, 0x29, 0xE1, 0x4F, 0x76, 0x38, 0xB8, 0x2B, 0x67, 0xDB, 0x66, 0x4A, 0x1B, 0x2F,
     0x41, 0xA0, 0xE7, 0xCD, 0x48, 0x00, 0xA3, 0x9A, 0xAA, 0x45,
 ];
@@ -105,36 +105,30 @@ fn written_and_read_back(
     }
 }
 
-#[test]
-fn read_back(rt: HostRuntime) -> Result<(), RecordFault> {
-    let checked = mono_large(rt.alloc(), 31, 17)?.check()?;
-    is_read_back(&rt, rt.alloc(), &checked)
+/// The first sets are other than the second, and one.
+fn has_one_other_set(rt: &impl Abort, sets: &Sets, others: &Sets) {
+    let one = sets.as_slice().len() == 1 && sets.as_slice()[0] == *sets.get(0);
+    assert!(rt; (*sets != *others, one) == (true, true));
 }
 
-/// A configuration by the large set is read back equal, and differs from that by the small one.
-fn is_read_back(rt: &impl Abort, alloc: Global, checked: &Checked) -> Result<(), RecordFault> {
-    let again = written_and_read_back(alloc, checked)?;
-    assert!(rt; again == *checked);
-    differs_from_small(rt, alloc, checked)
-}
-
-/// A configuration differs from that by the small set.
-fn differs_from_small(
+/// A configuration is read back equal, and differs from another one by its one set.
+fn is_read_back(
     rt: &impl Abort,
     alloc: Global,
     checked: &Checked,
+    other: Config,
 ) -> Result<(), RecordFault> {
-    let other = mono(alloc, 31, 17)?.check()?;
+    let other = other.check()?;
     assert!(rt; other != *checked);
     has_one_other_set(rt, &other.config().sets, &checked.config().sets);
+    assert!(rt; written_and_read_back(alloc, checked)? == *checked);
     Ok(())
 }
 
-/// The first sets are other than the second, and one.
-fn has_one_other_set(rt: &impl Abort, sets: &Sets, others: &Sets) {
-    assert!(rt; *sets != *others);
-    assert!(rt; sets.as_slice().len() == 1);
-    assert!(rt; sets.as_slice()[0] == *sets.get(0));
+#[test]
+fn read_back(rt: HostRuntime) -> Result<(), RecordFault> {
+    let checked = mono_large(rt.alloc(), 31, 17)?.check()?;
+    is_read_back(&rt, rt.alloc(), &checked, mono(rt.alloc(), 31, 17)?)
 }
 
 #[test]
@@ -184,7 +178,8 @@ fn of_another_program(rt: HostRuntime) -> Result<(), RecordFault> {
     Ok(())
 }
 
-/// A configuration is that of gray pictures in four slices.
+/// A configuration is that of gray pictures in four slices, with the runs of the small and of the
+/// large set.
 fn is_of_gray_pictures(rt: &impl Abort, config: &Config) {
     assert!(rt; config.colour == Colour::YCbCr);
     let flags = (config.chroma_planes, config.ec, config.intra);
@@ -196,18 +191,13 @@ fn is_of_gray_pictures(rt: &impl Abort, config: &Config) {
 /// The first set has the runs of the small one, and the second those of the large one.
 fn have_their_runs(rt: &impl Abort, first: &QuantSet, second: &QuantSet) {
     let (eleven, five, one) = ([1u8, 1, 3, 7, 23, 93], [1u8, 3, 124], [128u8]);
-    has_runs(rt, first, 0, &eleven);
-    has_runs(rt, first, 2, &eleven);
-    has_runs(rt, first, 3, &one);
-    has_runs(rt, first, 4, &one);
-    has_runs(rt, second, 1, &eleven);
-    has_runs(rt, second, 2, &five);
-    has_runs(rt, second, 4, &five);
-}
-
-/// A table of a set has these runs.
-fn has_runs(rt: &impl Abort, set: &QuantSet, table: usize, runs: &[u8])
-    requires { table < 5 }
-{
-    assert!(rt; set.runs(table) == runs);
+    let (eleven, five, one) = (eleven.as_slice(), five.as_slice(), one.as_slice());
+    let fine = [
+        first.runs(0) == eleven,
+        first.runs(2) == eleven,
+        second.runs(1) == eleven,
+    ];
+    let coarse = [second.runs(2) == five, second.runs(4) == five];
+    let flat = [first.runs(3) == one, first.runs(4) == one];
+    assert!(rt; (fine, coarse, flat) == ([true; 3], [true; 2], [true; 2]));
 }
