@@ -1,16 +1,19 @@
 //! Rows of many widths beside the plain path.
 
-ghost use Rattle.std.specs.Prelude.{◌≡◌, ◌*◌, ◌⊎◌, length, replicate};
+ghost use Rattle.std.specs.Prelude.{◌≡◌, ◌*◌, ◌<◌, ◌≤◌, ◌⊎◌, length, replicate};
 ghost use Rattle.ffv1_plane.specs.Quantisation.{contexts_of};
 ghost use Rattle.ffv1_range.specs.Symbols.{AreHeld, AllHeld};
 
-use super::line::holds;
 use super::rows::plain::put_row;
-use ffv1_line::{RollingRows, encode_line};
+use ffv1_line::{encode_line, reset};
 use ffv1_plane::QuantSet;
 use ffv1_range::{Fault, RangeEncoder, StateTable};
 use std::alloc::Global;
+use std::process::Abort;
 use std::test::Fail;
+
+/// The most samples of a row.
+const WIDEST: usize = 300;
 
 /// Samples of a kind: any, nearly alike, or by leaps of half or all of their range, whose residuals
 /// lie at the ends of theirs. Answers where the next row's numbers begin.
@@ -30,7 +33,7 @@ fn fill(row: &mut [u16], kind: u8, bits: u8, first: u32) -> u32 {
     number
 }
 
-/// A row put in passes and a row put plainly.
+/// Whether a row put in passes and a row put plainly give the same states and counts.
 fn put_both(
     passes: &mut RangeEncoder,
     plain: &mut RangeEncoder,
@@ -38,10 +41,15 @@ fn put_both(
     set: &QuantSet,
     states: &mut [u8],
     others: &mut [u8],
-    rows: &RollingRows<Vec<u16>>,
+    two: &[u16],
+    one: &[u16],
+    cur: &[u16],
     bits: u8,
 ) -> Result<bool, Fault>
     requires bits { (bits ≡ 8) ⊎ (bits ≡ 9) }
+    requires some { 0 < length cur.now }
+    requires two { length two.now ≡ length cur.now }
+    requires one { length one.now ≡ length cur.now }
     requires rows { length states.old ≡ contexts_of set.now * 32 }
     requires others { length others.old ≡ contexts_of set.now * 32 }
     requires held { AllHeld table.now states.old }
@@ -49,43 +57,43 @@ fn put_both(
     ensures held { AllHeld table.now states.new }
     ensures others_held { AllHeld table.now others.new }
 {
-    let (two, one, cur) = (
-        rows.two.as_slice(),
-        rows.one.as_slice(),
-        rows.cur.as_slice(),
-    );
-    if cur.is_empty() || two.len() != cur.len() || one.len() != cur.len() {
-        return Ok(false);
-    }
     encode_line(passes, table, set, states, two, one, cur, bits)?;
     put_row(plain, table, set, others, two, one, cur, bits)?;
     Ok(passes.tally() == plain.tally() && &*states == &*others)
 }
 
-/// Whether three rows of a kind, one below the other, give the same states and counts.
-fn rows_agree(
+/// Whether three rows of a kind, one below the other, do so.
+fn put_rows(
     passes: &mut RangeEncoder,
     plain: &mut RangeEncoder,
     table: &StateTable,
     set: &QuantSet,
     states: &mut [u8],
     others: &mut [u8],
-    rows: &mut RollingRows<Vec<u16>>,
+    width: usize,
     kind: u8,
     bits: u8,
 ) -> Result<bool, Fault>
     requires bits { (bits ≡ 8) ⊎ (bits ≡ 9) }
+    requires some { 0 < width }
+    requires width { width ≤ 300 }
     requires rows { length states.old ≡ contexts_of set.now * 32 }
     requires others { length others.old ≡ contexts_of set.now * 32 }
     requires held { AllHeld table.now states.old }
     requires others_held { AllHeld table.now others.old }
 {
+    let (mut two, mut one, mut cur) = ([0; WIDEST], [0; WIDEST], [0; WIDEST]);
     let mut number = 9043;
     let mut same = true;
     'rows: for _row in 0..3u8 {
-        number = fill(rows.cur.as_mut_slice(), kind, bits, number);
-        same = same & put_both(passes, plain, table, set, states, others, rows, bits)?;
-        rows.turn();
+        number = fill(&mut cur[..width], kind, bits, number);
+        let (two_above, above, row) = (&two[..width], &one[..width], &cur[..width]);
+        same = same
+            & put_both(
+                passes, plain, table, set, states, others, two_above, above, row, bits,
+            )?;
+        two = one;
+        one = cur;
     }
     Ok(same)
 }
@@ -97,130 +105,112 @@ fn end_alike(passes: RangeEncoder, plain: RangeEncoder) -> Result<bool, Fault> {
     Ok(bytes == others)
 }
 
-/// Whether they give the same bytes too.
-fn bytes_agree(
+/// Whether such rows, from fresh states, give the same bytes too.
+fn agree(
     alloc: Global,
     table: &StateTable,
     set: &QuantSet,
     states: &mut [u8],
     others: &mut [u8],
-    rows: &mut RollingRows<Vec<u16>>,
+    width: usize,
     kind: u8,
     bits: u8,
 ) -> Result<bool, Fault>
     requires bits { (bits ≡ 8) ⊎ (bits ≡ 9) }
+    requires some { 0 < width }
+    requires width { width ≤ 300 }
     requires rows { length states.old ≡ contexts_of set.now * 32 }
     requires others { length others.old ≡ contexts_of set.now * 32 }
-    requires held { AllHeld table.now states.old }
-    requires others_held { AllHeld table.now others.old }
+    requires fresh { AreHeld table.now (replicate 32 128) }
 {
+    reset(states);
+    reset(others);
     let mut passes = RangeEncoder::new(alloc);
     let mut plain = RangeEncoder::new(alloc);
-    let same = rows_agree(
+    let same = put_rows(
         &mut passes,
         &mut plain,
         table,
         set,
         states,
         others,
-        rows,
+        width,
         kind,
         bits,
     )?;
     Ok(same & end_alike(passes, plain)?)
 }
 
-/// The same from fresh states, of rows so wide.
-fn agree(
-    rt: &HostRuntime,
-    table: &StateTable,
-    set: &QuantSet,
-    width: usize,
-    kind: u8,
-    bits: u8,
-) -> Result<bool, Fail>
-    requires bits { (bits ≡ 8) ⊎ (bits ≡ 9) }
-    requires fresh { AreHeld table.now (replicate 32 128) }
-{
-    let mut rows = RollingRows::new(rt.alloc(), width)?;
-    let mut states = vec![in rt.alloc(); 128u8; set.contexts() as usize * 32]?;
-    let mut others = vec![in rt.alloc(); 128u8; set.contexts() as usize * 32]?;
-    let same = bytes_agree(
-        rt.alloc(),
-        table,
-        set,
-        states.as_mut_slice(),
-        others.as_mut_slice(),
-        &mut rows,
-        kind,
-        bits,
-    )?;
-    Ok(same)
-}
-
-/// Whether rows of each kind agree, of the widths from one to before another.
+/// Rows of each kind and both depths agree, of the widths from one to before another.
 fn all_agree(
-    rt: &HostRuntime,
+    rt: &impl Abort,
+    alloc: Global,
     table: &StateTable,
     set: &QuantSet,
+    states: &mut [u8],
+    others: &mut [u8],
     least: usize,
     upto: usize,
-    bits: u8,
-) -> Result<bool, Fail>
-    requires bits { (bits ≡ 8) ⊎ (bits ≡ 9) }
+)
+    requires least { 0 < least }
+    requires upto { upto ≤ 301 }
+    requires rows { length states.old ≡ contexts_of set.now * 32 }
+    requires others { length others.old ≡ contexts_of set.now * 32 }
     requires fresh { AreHeld table.now (replicate 32 128) }
 {
-    for width in least..upto {
-        for kind in 0..4u8 {
-            if !agree(rt, table, set, width, kind, bits)? {
-                return Ok(false);
-            }
+    'widths: for width in least..upto {
+        'kinds: for kind in 0..4u8 {
+            let eight = agree(alloc, table, set, states, others, width, kind, 8);
+            let nine = agree(alloc, table, set, states, others, width, kind, 9);
+            assert!(rt;
+                (eight, nine) == (Ok(true), Ok(true)),
+                "{width} samples, kind {kind}"
+            );
         }
     }
-    Ok(true)
 }
 
-/// Whether rows agree about as wide as no block, and one to three, and of 300 samples.
+/// Rows agree about as wide as no block, and one to three, and of 300 samples.
 fn blocks_agree(
-    rt: &HostRuntime,
+    rt: &impl Abort,
+    alloc: Global,
     table: &StateTable,
     set: &QuantSet,
-    bits: u8,
-) -> Result<bool, Fail>
-    requires bits { (bits ≡ 8) ⊎ (bits ≡ 9) }
+    states: &mut [u8],
+    others: &mut [u8],
+)
+    requires rows { length states.old ≡ contexts_of set.now * 32 }
+    requires others { length others.old ≡ contexts_of set.now * 32 }
     requires fresh { AreHeld table.now (replicate 32 128) }
 {
-    let narrow = all_agree(rt, table, set, 1, 10, bits)?
-        && all_agree(rt, table, set, 63, 67, bits)?;
-    let wide = all_agree(rt, table, set, 127, 131, bits)?
-        && all_agree(rt, table, set, 191, 194, bits)?;
-    Ok(narrow && wide && all_agree(rt, table, set, 300, 301, bits)?)
+    all_agree(rt, alloc, table, set, states, others, 1, 10);
+    all_agree(rt, alloc, table, set, states, others, 63, 67);
+    all_agree(rt, alloc, table, set, states, others, 127, 131);
+    all_agree(rt, alloc, table, set, states, others, 191, 194);
+    all_agree(rt, alloc, table, set, states, others, 300, 301);
 }
 
-/// Whether rows of 65 samples agree, of 8 and of 9 bits.
-fn depths_agree(rt: &HostRuntime, table: &StateTable, set: &QuantSet) -> Result<bool, Fail>
-    requires fresh { AreHeld table.now (replicate 32 128) }
-{
-    Ok(all_agree(rt, table, set, 65, 66, 8)? && all_agree(rt, table, set, 65, 66, 9)?)
+/// Rows agree by a set: of many widths, or of 65 samples.
+fn judge(rt: &impl Abort, alloc: Global, set: &QuantSet, many: bool) -> Result<(), Fail> {
+    let table = StateTable::standard();
+    let mut states = vec![in alloc; 128u8; set.contexts() as usize * 64]?;
+    let (states, others) = states.split_at_mut(set.contexts() as usize * 32);
+    if many {
+        blocks_agree(rt, alloc, &table, set, states, others);
+    } else {
+        all_agree(rt, alloc, &table, set, states, others, 65, 66);
+    }
+    Ok(())
 }
 
 #[test]
-fn rows_of_eight_bits(rt: HostRuntime) -> Result<(), Fail> {
-    let table = StateTable::standard();
-    let set = QuantSet::small(rt.alloc())?;
-    holds(&rt, blocks_agree(&rt, &table, &set, 8))
-}
-
-#[test]
-fn rows_of_nine_bits(rt: HostRuntime) -> Result<(), Fail> {
-    let table = StateTable::standard();
-    let set = QuantSet::small(rt.alloc())?;
-    holds(&rt, blocks_agree(&rt, &table, &set, 9))
+fn rows_by_the_small_set(rt: HostRuntime) -> Result<(), Fail> {
+    let small = QuantSet::small(rt.alloc())?;
+    judge(&rt, rt.alloc(), &small, true)
 }
 
 #[test]
 fn rows_by_the_large_set(rt: HostRuntime) -> Result<(), Fail> {
-    let table = StateTable::standard();
-    let set = QuantSet::large(rt.alloc())?;
-    holds(&rt, depths_agree(&rt, &table, &set))
+    let large = QuantSet::large(rt.alloc())?;
+    judge(&rt, rt.alloc(), &large, false)
 }

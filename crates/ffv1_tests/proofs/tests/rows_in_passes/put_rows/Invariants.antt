@@ -1,7 +1,7 @@
 use Rattle.std.proofs.Common.{◌≡◌, ◌*◌, length}
 use Rattle.ffv1_plane.specs.Quantisation.{contexts_of}
 use Rattle.ffv1_range.specs.Symbols.{AllHeld}
-use Rattle.ffv1_tests.proofs.tests.rows_in_passes.rows_agree.Given as goal
+use Rattle.ffv1_tests.proofs.tests.rows_in_passes.put_rows.Given as goal
 
 abbrev pub invariant-rows : goal.invariant-rows
 invariant-rows l = record {
