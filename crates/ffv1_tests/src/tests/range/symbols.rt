@@ -23,33 +23,36 @@ fn there_and_back(rt: HostRuntime) -> Result<(), Fail> {
     Ok(())
 }
 
-/// Whether the symbol of a number has this code by the sentinel ending, and so many decisions, of
-/// which so many are 1.
-fn codes(alloc: Global, value: i32, code: &[u8], decisions: u64, ones: u64) -> Result<bool, Fault>
+/// How many decisions the symbol of a number is, how many of them are 1, and whether it has this
+/// code by the sentinel ending.
+fn codes(alloc: Global, value: i32, code: &[u8]) -> Result<(u64, u64, bool), Fault>
     requires size { unsigned_abs value < 2 ^ 31 }
 {
     let table = StateTable::standard();
     let mut states = [128; 32];
     let mut encoder = RangeEncoder::new(alloc);
     encoder.put_signed(&table, &mut states, value)?;
-    let same = (encoder.decisions(), encoder.tally().ones) == (decisions, ones);
-    Ok(same & (encoder.finish_sentinel()?.as_slice() == code))
+    let (decisions, ones) = (encoder.decisions(), encoder.tally().ones);
+    Ok((
+        decisions,
+        ones,
+        encoder.finish_sentinel()?.as_slice() == code,
+    ))
 }
 
-/// Such a code is read as the number, by states of its own and by those of a row.
-fn reads(rt: &impl Abort, code: &[u8], value: i32, decisions: u64, ones: u64) -> Result<(), Fault> {
+/// What a code is read as by states of its own, by how many decisions and ones, and what by the
+/// states of a row.
+fn reads(code: &[u8]) -> Result<(Result<i32, Fault>, u64, u64, Result<i32, Fault>), Fault> {
     let table = StateTable::standard();
     let (mut fresh, mut rows) = ([128; 32], [128; 64]);
     let mut decoder = RangeDecoder::new(code)?;
     let mut copy = decoder.clone().unwrap();
-    assert!(rt; copy.get_signed(&table, &mut fresh) == Ok(value));
-    assert_eq!(rt; copy.taken(), decisions);
-    assert_eq!(rt; copy.tally().ones, ones);
-    assert!(rt; decoder.get_signed_in_row(&table, &mut rows, 1) == Ok(value));
-    Ok(())
+    let alone = copy.get_signed(&table, &mut fresh);
+    let in_row = decoder.get_signed_in_row(&table, &mut rows, 1);
+    Ok((alone, copy.taken(), copy.tally().ones, in_row))
 }
 
-/// Both.
+/// A number has this code, of so many decisions, of which so many are 1, and is read from it.
 fn codes_and_reads(
     rt: &impl Abort,
     alloc: Global,
@@ -57,22 +60,25 @@ fn codes_and_reads(
     code: &[u8],
     decisions: u64,
     ones: u64,
-) -> Result<(), Fault>
+)
     requires size { unsigned_abs value < 2 ^ 31 }
 {
-    assert!(rt; codes(alloc, value, code, decisions, ones)?);
-    reads(rt, code, value, decisions, ones)
+    let expected = (
+        Ok((decisions, ones, true)),
+        Ok((Ok(value), decisions, ones, Ok(value))),
+    );
+    assert!(rt; (codes(alloc, value, code), reads(code)) == expected);
 }
 
 #[test]
-fn signed(rt: HostRuntime) -> Result<(), Fault> {
+fn signed(rt: HostRuntime) {
     let heap = rt.alloc();
-    codes_and_reads(&rt, heap, 0, &[0x80], 1, 1)?;
-    codes_and_reads(&rt, heap, -1, &[0x20], 3, 1)?;
-    codes_and_reads(&rt, heap, 4, &[0x5f, 0xa0], 7, 2)?;
-    codes_and_reads(&rt, heap, -128, &[0x7e, 0x81, 0x80], 17, 8)?;
+    codes_and_reads(&rt, heap, 0, &[0x80], 1, 1);
+    codes_and_reads(&rt, heap, -1, &[0x20], 3, 1);
+    codes_and_reads(&rt, heap, 4, &[0x5f, 0xa0], 7, 2);
+    codes_and_reads(&rt, heap, -128, &[0x7e, 0x81, 0x80], 17, 8);
     let long = [0x7f, 0x7f, 0xfb, 0x49, 0x00, 0x00];
-    codes_and_reads(&rt, heap, 1_073_741_824, &long, 63, 30)
+    codes_and_reads(&rt, heap, 1_073_741_824, &long, 63, 30);
 }
 
 /// Whether the symbol of a number, by the second row of some states, has this code by the full
@@ -88,61 +94,64 @@ fn codes_in_full(alloc: Global, value: i32, code: &[u8]) -> Result<bool, Fault>
 }
 
 #[test]
-fn signed_in_full(rt: HostRuntime) -> Result<(), Fault> {
+fn signed_in_full(rt: HostRuntime) {
     let heap = rt.alloc();
-    assert!(rt; codes_in_full(heap, -1, &[0x1f, 0xe0])?);
-    assert!(rt; codes_in_full(heap, 1, &[0x00, 0x00])?);
     let long = [0x7f, 0x7f, 0xfc, 0x18, 0xff, 0xfc, 0x28];
-    assert!(rt; codes_in_full(heap, -2_147_483_647, &long)?);
-    Ok(())
+    let coded = [
+        codes_in_full(heap, -1, &[0x1f, 0xe0]),
+        codes_in_full(heap, 1, &[0x00, 0x00]),
+        codes_in_full(heap, -2_147_483_647, &long),
+    ];
+    assert!(rt; coded == [Ok(true); 3]);
 }
 
-/// Whether the symbol of a number without a sign has this code by the sentinel ending, and so many
-/// decisions, of which so many are 1.
-fn codes_unsigned(
-    alloc: Global,
-    number: u32,
-    code: &[u8],
-    decisions: u64,
-    ones: u64,
-) -> Result<bool, Fault>
+/// The same as `codes` of a number without a sign.
+fn codes_unsigned(alloc: Global, number: u32, code: &[u8]) -> Result<(u64, u64, bool), Fault>
     requires size { number < 2 ^ 31 }
 {
     let table = StateTable::standard();
     let mut states = [128; 32];
     let mut encoder = RangeEncoder::new(alloc);
     encoder.put_unsigned(&table, &mut states, number)?;
-    let same = (encoder.decisions(), encoder.tally().ones) == (decisions, ones);
-    Ok(same & (encoder.finish_sentinel()?.as_slice() == code))
+    let (decisions, ones) = (encoder.decisions(), encoder.tally().ones);
+    Ok((
+        decisions,
+        ones,
+        encoder.finish_sentinel()?.as_slice() == code,
+    ))
 }
 
-/// Such a code is read as the number.
-fn reads_unsigned(
-    rt: &impl Abort,
-    code: &[u8],
-    number: u32,
-    decisions: u64,
-    ones: u64,
-) -> Result<(), Fault> {
+/// What a code is read as without a sign, and by how many decisions and ones.
+fn reads_unsigned(code: &[u8]) -> Result<(Result<u32, Fault>, u64, u64), Fault> {
     let table = StateTable::standard();
     let mut fresh = [128; 32];
     let mut decoder = RangeDecoder::new(code)?;
     let read = decoder.get_unsigned(&table, &mut fresh);
-    let counts = (decoder.taken(), decoder.tally().ones);
-    assert!(rt; (read, counts) == (Ok(number), (decisions, ones)));
-    Ok(())
+    Ok((read, decoder.taken(), decoder.tally().ones))
 }
 
 #[test]
-fn unsigned(rt: HostRuntime) -> Result<(), Fault> {
+fn unsigned(rt: HostRuntime) {
     let heap = rt.alloc();
-    assert!(rt; codes_unsigned(heap, 0, &[0x80], 1, 1)?);
-    reads_unsigned(&rt, &[0x80], 0, 1, 1)?;
-    assert!(rt; codes_unsigned(heap, 5, &[0x64], 6, 3)?);
-    reads_unsigned(&rt, &[0x64], 5, 6, 3)?;
     let long = [0x7f, 0x7f, 0xbd, 0x5b, 0x00];
-    assert!(rt; codes_unsigned(heap, 1_000_000, &long, 40, 25)?);
-    reads_unsigned(&rt, &long, 1_000_000, 40, 25)
+    let coded = [
+        codes_unsigned(heap, 0, &[0x80]),
+        codes_unsigned(heap, 5, &[0x64]),
+        codes_unsigned(heap, 1_000_000, &long),
+    ];
+    assert!(rt; coded == [Ok((1, 1, true)), Ok((6, 3, true)), Ok((40, 25, true))]);
+    let read = [
+        reads_unsigned(&[0x80]),
+        reads_unsigned(&[0x64]),
+        reads_unsigned(&long),
+    ];
+    assert!(rt;
+        read == [
+            Ok((Ok(0), 1, 1)),
+            Ok((Ok(5), 6, 3)),
+            Ok((Ok(1_000_000), 40, 25))
+        ]
+    );
 }
 
 /// The bytes of an exponent of 31 ones, behind the decision that the number is not zero.

@@ -13,7 +13,7 @@ pub(super) const LINES: usize = 42;
 pub(super) type Lines = [[u16; WIDEST]; LINES];
 
 /// What the samples of a cell are like.
-#[derive(Clone, Copy, Debug, PartialEq, Eq)]
+#[derive(Clone, Copy)]
 pub(super) enum Kind {
     /// All alike.
     Constant,
@@ -106,7 +106,7 @@ pub(super) fn fill(lines: &mut Lines, kind: Kind, bits: u8, seed: &mut u64) {
     for line in lines.iter_mut() {
         fill_line(line, kind, bits, seed);
     }
-    if kind == Kind::Below {
+    if matches!(&kind, Kind::Below) {
         fill_line(&mut lines[0], Kind::Beyond, bits, seed);
         fill_line(&mut lines[1], Kind::Beyond, bits, seed);
     }

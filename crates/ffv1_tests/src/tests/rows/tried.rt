@@ -26,7 +26,7 @@ const DECODED: u32 = CELLS * 16 * 40;
 const LEAST: u32 = CELLS * 40;
 
 /// How many rows were compared.
-#[derive(Clone, Copy, Debug, PartialEq, Eq)]
+#[derive(Clone, Copy)]
 pub(super) struct Seen {
     /// Coded.
     pub(super) coded: u32,
@@ -81,6 +81,13 @@ fn are_alike(lines: &Lines, others: &Lines, width: usize) -> bool
     true
 }
 
+/// Whether rows of a kind came back as others; those with samples beyond their depth need not.
+fn comes_back(kind: Kind, lines: &Lines, others: &Lines, width: usize) -> bool
+    requires { width ≤ 300 }
+{
+    matches!(&kind, Kind::Beyond) || are_alike(lines, others, width)
+}
+
 /// A cell of samples of a kind, in both directions. What was coded comes back where it has no sample
 /// beyond its depth.
 fn try_kind(
@@ -101,14 +108,14 @@ fn try_kind(
 {
     let width = 1 + below(seed, WIDEST);
     let mut lines = [[0; WIDEST]; LINES];
-    let mut back = [[0; WIDEST]; LINES];
     fill(&mut lines, kind, bits, seed);
+    let mut back = lines;
     spoil(&mut back, &lines, seed);
     let bytes = code_cell(rt, table, set, states, others, &lines, width, bits, seen)?;
     decode_twice(
         table, set, states, others, &bytes, &mut back, width, bits, seed, seen,
     )?;
-    if kind != Kind::Beyond && !are_alike(&lines, &back, width) {
+    if !comes_back(kind, &lines, &back, width) {
         return Err(Fail::new("rows that do not come back"));
     }
     Ok(())
