@@ -2,8 +2,8 @@
 
 ghost use Rattle.std.specs.Prelude.{◌≡◌, ◌≤◌, length};
 
+use crate::tests::made::shows;
 use ffv1_rct::{NoColour, forward_line, inverse_line, narrow_line};
-use std::test::Fail;
 
 /// Y of a place.
 fn luma(r: u8, g: u8, b: u8) -> i32 {
@@ -138,25 +138,24 @@ fn narrow_agrees(a: &[u16], out: &mut [u8]) -> bool
 }
 
 #[test]
-fn example(rt: HostRuntime) -> Result<(), NoColour> {
+fn example(rt: HostRuntime) {
     let (mut y, mut cb, mut cr) = ([0u16], [0u16], [0u16]);
     forward_line(&[0], &[255], &[0], &mut y, &mut cb, &mut cr);
-    assert!(rt; (y, cb, cr) == ([127], [1], [1]));
     let (mut r, mut g, mut b) = ([7u8], [7u8], [7u8]);
-    inverse_line(&y, &cb, &cr, &mut r, &mut g, &mut b)?;
-    assert!(rt; (r, g, b) == ([0], [255], [0]));
-    Ok(())
+    let inverse = inverse_line(&y, &cb, &cr, &mut r, &mut g, &mut b);
+    let forward = (y, cb, cr) == ([127], [1], [1]);
+    assert!(rt; (forward, inverse, r, g, b) == (true, Ok(()), [0], [255], [0]));
 }
 
 #[test]
 fn worked_colours(rt: HostRuntime) {
     let (mut y, mut cb, mut cr) = ([0u16; 2], [0u16; 2], [0u16; 2]);
     forward_line(&[0, 255], &[255, 0], &[0, 0], &mut y, &mut cb, &mut cr);
-    assert!(rt; (y, cb, cr) == ([127, 63], [1, 256], [1, 511]));
     let (mut r, mut g, mut b) = ([7u8; 1], [7u8; 1], [7u8; 1]);
     let refused = inverse_line(&[511], &[256], &[256], &mut r, &mut g, &mut b);
-    assert!(rt; refused == Err(NoColour { x: 0 }));
-    assert!(rt; (r, g, b) == ([7], [7], [7]));
+    let forward = (y, cb, cr) == ([127, 63], [1, 256], [1, 511]);
+    let none = Err(NoColour { x: 0 });
+    assert!(rt; (forward, refused, r, g, b) == (true, none, [7], [7], [7]));
 }
 
 /// Whether lines of bytes with no order are transformed, transformed back and narrowed by the
@@ -261,8 +260,6 @@ fn first_of_two_refused_places(rt: HostRuntime) {
 }
 
 #[test]
-fn refusal_as_text(rt: HostRuntime) -> Result<(), Fail> {
-    let shown = NoColour { x: 3 }.to_string(rt.alloc())?;
-    assert!(rt; shown.as_str() == "7 Colour");
-    Ok(())
+fn refusal_as_text(rt: HostRuntime) {
+    assert!(rt; shows(rt.alloc(), &NoColour { x: 3 }, "7 Colour"));
 }

@@ -3,6 +3,7 @@
 ghost use Rattle.std.specs.Prelude.{◌≡◌, ◌+◌, ◌<◌, ◌≤◌, IfOk, length};
 
 use super::example::EXAMPLE;
+use crate::tests::made::shows;
 use ffv1_avi::{AviFault, AviHead, AviReader, write_avi};
 use ffv1_wire::{FromRead, ToWrite};
 use std::alloc::{Allocator, Global};
@@ -260,23 +261,18 @@ fn long_formats(rt: HostRuntime) {
     assert!(rt; opened(rt.alloc(), &long_format(67108864)) == Err(AviFault::Truncated));
 }
 
-/// A fault displays so.
-fn shows(rt: &impl Abort, alloc: Global, fault: AviFault, text: &str) {
-    match fault.to_string(alloc) {
-        Ok(shown) => assert!(rt; shown.as_str() == text),
-        Err(_) => assert!(rt; false),
-    }
-}
-
 #[test]
 fn texts(rt: HostRuntime) {
-    shows(&rt, rt.alloc(), AviFault::OutOfMemory, "2 OutOfMemory");
-    shows(&rt, rt.alloc(), AviFault::NotAvi, "50 NotAvi");
-    shows(&rt, rt.alloc(), AviFault::NoFfv1, "51 NoFfv1");
-    shows(&rt, rt.alloc(), AviFault::Truncated, "52 Truncated");
-    shows(&rt, rt.alloc(), AviFault::ChunkTooLong, "53 ChunkTooLong");
-    shows(&rt, rt.alloc(), AviFault::EmptyFrame, "54 EmptyFrame");
-    shows(&rt, rt.alloc(), AviFault::TooLarge, "55 TooLarge");
-    shows(&rt, rt.alloc(), AviFault::Read, "56 Read");
-    shows(&rt, rt.alloc(), AviFault::Write, "57 Write");
+    let shown = [
+        shows(rt.alloc(), &AviFault::OutOfMemory, "2 OutOfMemory"),
+        shows(rt.alloc(), &AviFault::NotAvi, "50 NotAvi"),
+        shows(rt.alloc(), &AviFault::NoFfv1, "51 NoFfv1"),
+        shows(rt.alloc(), &AviFault::Truncated, "52 Truncated"),
+        shows(rt.alloc(), &AviFault::ChunkTooLong, "53 ChunkTooLong"),
+        shows(rt.alloc(), &AviFault::EmptyFrame, "54 EmptyFrame"),
+        shows(rt.alloc(), &AviFault::TooLarge, "55 TooLarge"),
+        shows(rt.alloc(), &AviFault::Read, "56 Read"),
+        shows(rt.alloc(), &AviFault::Write, "57 Write"),
+    ];
+    assert!(rt; shown == [true; 9]);
 }

@@ -3,13 +3,13 @@
 ghost use Rattle.std.specs.Prelude.{◌≡◌, ◌≤◌, ◌++◌, ◌+◌, ◌*◌, ◌<◌, length, drop, IfOk};
 
 use super::sinks::{KeepRows, RowsOut, keep_rows};
+use crate::tests::made::shows;
 use ffv1_doubles::{FailingReader, FailingWriter, ShortWriter};
 use ffv1_wire::{
     ByteIn, ByteOut, Failed, FromRead, Line, LineSink, SinkFault, ToWrite, hand_over, laws,
     read_byte, read_full, skip, write_all,
 };
 use std::alloc::Global;
-use std::fmt::Display;
 use std::io::{ErrorKind, Read, Write, repeat};
 use std::process::Abort;
 use std::test::Fail;
@@ -125,20 +125,21 @@ fn appends(alloc: Global, first: &[u8], others: &[u8], all: &[u8]) -> Result<boo
     Ok(appended.as_slice() == all)
 }
 
-/// How many bytes are written where none are given.
-fn write_nothing<W: Write + Drop>(out: W) -> Result<usize, Failed> {
+/// How many bytes are written where none are given, and whether all of none are, without failures.
+fn write_nothing<W: Write + Drop>(out: W) -> (Result<usize, Failed>, Result<(), Failed>, u64) {
     let mut out = ToWrite::new(out);
-    out.write(b"")
+    let some = out.write(b"");
+    let all = write_all(&mut out, b"");
+    (some, all, out.failures())
 }
 
 #[test]
 fn memory(rt: HostRuntime) -> Result<(), Fail> {
     let mut room = [0u8; 2];
-    assert!(rt; second_on(b"abc", &mut room) == Ok(2));
-    assert_eq!(rt; room, *b"bc");
-    assert!(rt; skip(&mut FromRead::new(repeat(7)), 10_000) == Ok(10_000));
-    assert!(rt; write_nothing(Vec::new(rt.alloc())) == Ok(0));
-    assert_eq!(rt; write_once(Vec::new(rt.alloc()), b"").1, 0);
+    let second = second_on(b"abc", &mut room);
+    let skipped = skip(&mut FromRead::new(repeat(7)), 10_000);
+    assert!(rt; (second, room, skipped) == (Ok(2), *b"bc", Ok(10_000)));
+    assert!(rt; write_nothing(Vec::new(rt.alloc())) == (Ok(0), Ok(()), 0));
     assert!(rt; appends(rt.alloc(), b"ab", b"cde", b"abcde")?);
     Ok(())
 }
@@ -182,25 +183,15 @@ fn read_to_the_end(
 
 #[test]
 fn end_of_input(rt: HostRuntime) {
-    let (some, room, others, failures) = read_to_the_end(b"abcde");
-    assert!(rt; some == Ok((Some(b'a'), 2, 2)));
-    assert_eq!(rt; room, [b'd', b'e', 0]);
-    assert!(rt; others == Ok((0, None, 0)));
-    assert_eq!(rt; failures, 0);
-}
-
-/// A value displays so.
-fn shows<T: Display>(rt: &impl Abort, alloc: Global, value: &T, text: &str) {
-    match value.to_string(alloc) {
-        Ok(shown) => assert!(rt; shown.as_str() == text),
-        Err(_) => assert!(rt; false),
-    }
+    let (some, others) = (Ok((Some(b'a'), 2, 2)), Ok((0, None, 0)));
+    assert!(rt; read_to_the_end(b"abcde") == (some, [b'd', b'e', 0], others, 0));
 }
 
 #[test]
 fn texts(rt: HostRuntime) {
-    shows(&rt, rt.alloc(), &Failed, "a read or a write failed");
-    shows(&rt, rt.alloc(), &SinkFault, "a line was refused");
+    let failed = shows(rt.alloc(), &Failed, "a read or a write failed");
+    let refused = shows(rt.alloc(), &SinkFault, "a line was refused");
+    assert!(rt; (failed, refused) == (true, true));
 }
 
 /// A read that fails after so many bytes fills the room up to there, and the next one the rest.

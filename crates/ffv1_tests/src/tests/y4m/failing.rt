@@ -1,19 +1,11 @@
 //! Reads that fail behind bytes that were read.
 
+use super::pictures::first_fault;
 use ffv1_doubles::BrokenReader;
 use ffv1_wire::FromRead;
-use ffv1_y4m::{Fault, PpmReader, Y4mReader};
+use ffv1_y4m::{Fault, PpmReader};
 use std::alloc::Global;
 use std::test::Fail;
-
-/// The fault of opening what was read of a text of YUV4MPEG2, or else of its next picture.
-fn picture_fault(alloc: Global, text: &[u8]) -> Option<Fault> {
-    let mut input = FromRead::new(BrokenReader::new(text));
-    match Y4mReader::open(alloc, None, &mut input) {
-        Err(fault) => Some(fault),
-        Ok(mut reader) => reader.next(&mut input, &mut Vec::new(alloc)).err(),
-    }
-}
 
 /// Texts of pictures behind which reads fail, and their faults.
 const PICTURES: [(&[u8], Option<Fault>); 8] = [
@@ -30,12 +22,13 @@ const PICTURES: [(&[u8], Option<Fault>); 8] = [
 #[test]
 fn failed_reads_of_pictures(rt: HostRuntime) -> Result<(), Fail> {
     for &(text, fault) in &PICTURES {
-        assert!(rt; picture_fault(rt.alloc(), text) == fault);
+        let mut input = FromRead::new(BrokenReader::new(text));
+        assert!(rt; first_fault(rt.alloc(), &mut input) == fault);
     }
     Ok(())
 }
 
-/// The same of a text of PPM.
+/// The fault of opening what was read of a text of PPM, or else of its next image.
 fn image_fault(alloc: Global, text: &[u8]) -> Option<Fault> {
     let mut input = FromRead::new(BrokenReader::new(text));
     match PpmReader::open(alloc, None, &mut input) {
