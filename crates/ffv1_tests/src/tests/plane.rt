@@ -1,11 +1,12 @@
-//! Planes: values computed outside the program from the standard's text, and plain slow programs beside the
-//! fast ones.
+//! Planes: values computed outside the program from the standard's text, and plain slow programs
+//! beside the fast ones.
 
 ghost use Rattle.std.specs.Prelude.{◌≡◌, ◌⊎◌};
 
 use crate::tests::made::shows;
 use ffv1_plane::{
-    Around, Fault, QuantSet, context, context_near, fold, predict, residual_of, sample_from, unfold,
+    Around, Fault, QuantSet, context, context_near, fold, predict, residual_of, sample_from,
+    sample_signed, unfold,
 };
 use std::alloc::Global;
 use std::process::Abort;
@@ -240,6 +241,30 @@ fn unfolds_residuals(rt: HostRuntime) {
     for &(pred, residual, eight, nine) in &UNFOLDED {
         let unfolded = (unfold(pred, residual, 8), unfold(pred, residual, 9));
         assert!(rt; unfolded == (eight, nine));
+    }
+}
+
+/// Predictions, whether the sign is flipped, sizes of residuals and whether they lie below 0, and
+/// the samples of 8 and of 9 bits that they make.
+const SIGNED: [(i32, bool, u32, bool, u16, u16); 8] = [
+    (100, false, 3, false, 103, 103),
+    (100, false, 3, true, 97, 97),
+    (100, true, 3, false, 97, 97),
+    (100, true, 3, true, 103, 103),
+    (250, false, 10, false, 4, 260),
+    (5, true, 10, false, 251, 507),
+    (0, false, 2_147_483_647, true, 1, 1),
+    (65535, true, 1, true, 0, 0),
+];
+
+#[test]
+fn chooses_by_signs(rt: HostRuntime) {
+    for &(pred, flip, size, negative, eight, nine) in &SIGNED {
+        let chosen = (
+            sample_signed(pred, flip, size, negative, 8),
+            sample_signed(pred, flip, size, negative, 9),
+        );
+        assert!(rt; chosen == (eight, nine));
     }
 }
 

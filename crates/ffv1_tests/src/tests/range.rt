@@ -9,4 +9,5 @@ mod parking;
 mod scarce;
 mod symbols;
 mod tables;
+mod tallied;
 mod transitions;
