@@ -224,15 +224,16 @@ impl<'a> RangeDecoder<'a> {
         let before = *state;
         let either = table.after_either(before);
         let part = self.width * u32::from(before) / 256;
-        let bit = self.gap <= part;
-        let (after, width, gap) = if bit {
-            ((either % 256) as u8, part, self.gap)
-        } else {
+        // Asked strictly, one flag of the comparison decides each choice.
+        let zero = part < self.gap;
+        let (after, width, gap) = if zero {
             ((either / 256) as u8, self.width - part, self.gap - part)
+        } else {
+            ((either % 256) as u8, part, self.gap)
         };
         *state = after;
         self.go_on(width, gap);
-        bit
+        !zero
     }
 
     /// Whether the decision that comes next is 1: then it is read, uncounted. A decision 0 is not

@@ -1,8 +1,9 @@
 //! Symbols of a row are read: the most frequent ones, zeros and those of the exponents 0 and 1, by
 //! straight code, and only nonzero numbers are counted (RFC 9043, 3.8.1.2).
 
-ghost use Rattle.std.specs.Prelude.{◌≡◌, ℕ, ◌+◌, ◌*◌, ◌^◌, ◌≤◌, ◌<◌, ◌++◌, List, IfOk, IfErr, OnErr};
-ghost use Rattle.std.specs.Prelude.{length, slice_index, slice_set, pos, IsTrue, IsFalse, ◌↔◌, IfSome};
+ghost use Rattle.std.specs.Prelude.{◌≡◌, ◌↔◌, ℕ, ◌+◌, ◌*◌, ◌^◌, ◌≤◌, ◌<◌, ◌++◌, List, length};
+ghost use Rattle.std.specs.Prelude.{slice_index, slice_set, pos, IsTrue, IsFalse, IfSome};
+ghost use Rattle.std.specs.Prelude.{IfOk, IfErr, OnErr};
 ghost use Rattle.ffv1_range.specs.Interval.{share};
 ghost use Rattle.ffv1_range.specs.Table.{Holds};
 ghost use Rattle.ffv1_range.specs.Symbols.{AreHeld, AllHeld, shifted, exponent_steps};
@@ -151,9 +152,9 @@ fn get_magnitude(
 
 impl RangeDecoder<'_> {
     /// Whether the number that comes next is 0, by the state of its first decision (RFC 9043,
-    /// 3.8.1.2): then its symbol is read, and as with `tally_signed_in_row` counted nowhere. Any other
-    /// number is not read, and leaves all as it was. A run of zeros is so read by one state that is
-    /// kept apart from the others.
+    /// 3.8.1.2): then its symbol is read, and as with `tally_signed_in_row` counted nowhere. Any
+    /// other number is not read, and leaves all as it was. A run of zeros is so read by one state
+    /// that is kept apart from the others.
     #[inline(always)]
     pub fn take_zero(&mut self, table: &StateTable, state: &mut u8) -> bool
         requires { Holds table.now state.old }
@@ -215,10 +216,11 @@ impl RangeDecoder<'_> {
         }))
     }
 
-    /// As `get_signed_in_row`, but that a number is given by its size and its sign, and 0 as none, and
-    /// that nothing is counted but `nonzeros`: their symbol, where the number is not zero. Behind `n`
-    /// such symbols the decoder's counts are to go on by `nonzeros.among(n)`, and where the one behind
-    /// them was refused by `nonzeros.among_refused(n)`. Fewer than 2^20 nonzero numbers have room.
+    /// As `get_signed_in_row`, but that a number is given by its size and its sign, and 0 as none,
+    /// and that nothing is counted but `nonzeros`: their symbol, where the number is not zero.
+    /// Behind `n` such symbols the decoder's counts are to go on by `nonzeros.among(n)`, and where
+    /// the one behind them was refused by `nonzeros.among_refused(n)`. Fewer than 2^20 nonzero
+    /// numbers have room.
     #[inline(always)]
     pub fn tally_signed_in_row(
         &mut self,

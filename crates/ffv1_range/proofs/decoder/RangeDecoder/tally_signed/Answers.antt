@@ -1,5 +1,4 @@
-use Rattle.std.proofs.Common.{◌≡◌, ◌<◌, ◌∙◌, Bool, true, false, ap, arith}
-use Rattle.ffv1_range.specs.Weight.{one_if}
+use Rattle.std.proofs.Common.{◌<◌, Bool, arith}
 use Rattle.ffv1_range.proofs.Mantissa.{bit_is, one_if_most}
 use Rattle.std.proofs.Math.Pow.{pow_pos}
 use Rattle.ffv1_range.proofs.Signed.{exponent_is, sized_signed}
