@@ -170,8 +170,8 @@ fn prepare_lanes<A: Allocator>(
 }
 
 /// The contexts and the residuals of some places of a row, from `from` on: in a set whose tables
-/// have few levels 16 at once, but at the row's borders. `near` may be said of a set whose fourth
-/// and fifth tables have one level.
+/// have few levels 16 at once, but at the row's borders, and the last of these again where fewer
+/// than 16 are left. `near` may be said of a set whose fourth and fifth tables have one level.
 #[inline(always)]
 pub(crate) fn prepare<A: Allocator>(
     block: &mut Block,
@@ -196,23 +196,25 @@ pub(crate) fn prepare<A: Allocator>(
 {
     let few_levels = set.has_few_levels();
     let lanes = set.lanes();
+    // Behind the last place that has a sample above to the right.
+    let end = few.min(cur.len().saturating_sub(from + 1));
     let mut at = 0;
     while at < few {
-        let x = from + at;
-        if few_levels && 2 <= x && 16 <= few - at && 17 <= cur.len() - x {
+        let start = at.min(end.saturating_sub(16));
+        if few_levels && at < end && 16 <= end && 2 <= from + start {
             let Block {
                 contexts,
                 residuals,
                 ..
             } = block;
             prepare_lanes(
-                contexts, residuals, set, &lanes, two, one, cur, from, at, bits, near,
+                contexts, residuals, set, &lanes, two, one, cur, from, start, bits, near,
             );
-            at += 16;
+            at = start + 16;
         } else {
-            let end = if x < 2 { few.min(at + 2) } else { few };
-            prepare_places(block, set, two, one, cur, from, at, end, bits, near);
-            at = end;
+            let next = if from + at < 2 { few.min(at + 2) } else { few };
+            prepare_places(block, set, two, one, cur, from, at, next, bits, near);
+            at = next;
         }
     }
 }

@@ -24,6 +24,9 @@ use std::alloc::Allocator;
 /// The most nonzero symbols of a calm block.
 const CALM: u32 = 16;
 
+/// The least state of the first context's zeros with which a row begins as behind a calm block.
+const MOSTLY_ZEROS: u8 = 224;
+
 /// What is carried from place to place along a block: the samples two to the left and to the left.
 #[derive(Clone, Copy)]
 struct Behind {
@@ -614,7 +617,7 @@ fn decode_row<B: Allocator, const BITS: u8, const NEAR: bool>(
     ensures held { AllHeld table.now states.new }
 {
     let mut early = Early::new();
-    let mut calm = false;
+    let mut calm = states.first().is_some_and(|&state| state >= MOSTLY_ZEROS);
     let mut from = 0;
     'parts: while from < cur.len() {
         let count = (cur.len() - from).min(BLOCK);

@@ -137,7 +137,8 @@ fn sum_lanes<A: Allocator>(
 }
 
 /// The early sums, from place `from` on: those inside the row 16 at once, in a set whose tables have
-/// few levels. `near` may be said of a set whose fourth and fifth tables have one level.
+/// few levels, and the last of these again where fewer than 16 are left. `near` may be said of a set
+/// whose fourth and fifth tables have one level.
 #[inline(always)]
 fn fill_sums<A: Allocator>(
     set: &QuantSet<A>,
@@ -159,13 +160,16 @@ fn fill_sums<A: Allocator>(
         left_above two.now one.now (from + i) }
     ensures { AreEarly set.now two.now one.now from sum.new count }
 {
+    // Behind the last place that has a sample above to the right.
+    let end = count.min(one.len() - 1 - from);
     let mut at = if from == 0 { 1 } else { 0 };
     sum_places(set, two, one, from, 0, at, tl, sum, near);
-    if set.has_few_levels() {
+    if set.has_few_levels() && 16 <= end && 16 < from + end {
         let lanes = set.lanes();
-        while count - at >= 16 && one.len() - (from + at) >= 17 {
-            sum_lanes(set, &lanes, two, one, from, at, sum, near);
-            at += 16;
+        while at < end {
+            let start = at.min(end - 16);
+            sum_lanes(set, &lanes, two, one, from, start, sum, near);
+            at = start + 16;
         }
     }
     sum_places(set, two, one, from, at, count, tl, sum, near);
