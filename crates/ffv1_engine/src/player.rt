@@ -58,11 +58,20 @@ pub(crate) fn open_stream<R: ByteIn, A: Allocator + Copy>(
 
 /// A file that is played: its reader, the decoder of its frames, and the payload that was read
 /// last. Both vectors that it needs are reused for each frame.
-#[derive(Drop)]
 pub struct Player<A: Allocator = Global> {
     pub(crate) reader: AviReader<A>,
     pub(crate) decoder: FrameDecoder<A>,
     pub(crate) payload: Vec<u8, A>,
+}
+
+impl<A: Allocator> Drop for Player<A> {
+    fn drop(self) {
+        let Player {
+            reader: _reader,
+            decoder: _decoder,
+            payload: _payload,
+        } = self;
+    }
 }
 
 /// A player of a file that was opened. Refuses with `OutOfMemory` where the decoder is refused its

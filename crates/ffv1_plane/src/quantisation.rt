@@ -23,7 +23,6 @@ use std::simd::prelude::*;
 /// same runs are equal.
 // The five tables are fields, not an array: a look-up by a field needs no index, and the set's
 // invariant names each table's scale.
-#[derive(Drop)]
 pub struct QuantSet<A: Allocator = Global> {
     first: Table<A>,
     second: Table<A>,
@@ -31,6 +30,20 @@ pub struct QuantSet<A: Allocator = Global> {
     fourth: Table<A>,
     fifth: Table<A>,
     pub(crate) half: u32,
+}
+
+// Written out, so that who lets a set go calls one function, and does not let go of each table.
+impl<A: Allocator> Drop for QuantSet<A> {
+    fn drop(self) {
+        let QuantSet {
+            first: _first,
+            second: _second,
+            third: _third,
+            fourth: _fourth,
+            fifth: _fifth,
+            half: _half,
+        } = self;
+    }
 }
 
 impl<A: Allocator> Model for QuantSet<A> {
