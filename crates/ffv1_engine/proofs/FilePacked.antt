@@ -11,7 +11,7 @@ use Rattle.ffv1_avi.specs.Written.{file_of, most, riff_size}
 use Rattle.ffv1_avi.specs.Writes.{WritesFile}
 use Rattle.ffv1_avi.specs.declared.fault.AviFault.{AviFault}
 use Rattle.ffv1_avi.specs.declared.fault.AviFault.TheVariants as avi
-use Rattle.ffv1_engine.specs.declared.order.Choice.{Choice}
+use Rattle.ffv1_words.specs.declared.order.Choice.{Choice}
 use Rattle.ffv1_engine.specs.declared.packing.Packed.{Packed}
 use Rattle.ffv1_engine.specs.declared.fault.Fault.TheVariants as fault
 use Rattle.ffv1_engine.specs.Faults.{of_avi}

@@ -4,8 +4,6 @@ mod PlaneCount
 mod Refusals
 mod Compared
 mod PlaneBack
-mod TakenRows
-mod TakenOrder
 mod VideoHeads
 mod VideoPictures
 mod VideoFits
@@ -16,8 +14,6 @@ mod VideoEncoded
 mod VideoEnds
 mod FrameBytes
 mod FilePacked
-mod TakenNames
-mod TakenLine
 mod FramesTold
 mod Openings
 mod FrameDecoded

@@ -24,7 +24,7 @@ use Rattle.ffv1_codec.specs.SliceList.{Said, chosen_slice}
 use Rattle.ffv1_codec.specs.declared.fault.FrameFault.{FrameFault}
 use Rattle.ffv1_codec.proofs.FromCoded.{coded_bytes}
 use Rattle.ffv1_y4m.specs.declared.head.VideoHead.{VideoHead}
-use Rattle.ffv1_engine.specs.declared.order.Choice.{Choice}
+use Rattle.ffv1_words.specs.declared.order.Choice.{Choice}
 use Rattle.ffv1_engine.specs.Packing.{AllShort, configuration_for, said_for}
 use Rattle.ffv1_engine.specs.Stream.{AreFrames, Decided, FaultsFrame, Frame, payloads}
 use Rattle.ffv1_engine.specs.Unpacked.{AllSay, pictures}

@@ -21,7 +21,7 @@ use Rattle.ffv1_y4m.specs.VideoHead.{IsHead, IsRatio}
 use Rattle.ffv1_y4m.specs.declared.head.VideoHead.{VideoHead}
 use Rattle.ffv1_engine.specs.declared.fault.Fault.{Fault}
 use Rattle.ffv1_engine.specs.declared.fault.Fault.TheVariants as fault
-use Rattle.ffv1_engine.specs.declared.order.Choice.{Choice}
+use Rattle.ffv1_words.specs.declared.order.Choice.{Choice}
 use Rattle.ffv1_engine.specs.Check.{CheckStops, CheckStopsBy}
 use Rattle.ffv1_engine.specs.Show.{CostStopsBy, ShowStops, StreamStopsBy}
 use Rattle.ffv1_engine.specs.Faults.{cause_of}

@@ -12,7 +12,7 @@ use Rattle.ffv1_y4m.specs.Ppm.{image_header_text, interleaved}
 use Rattle.ffv1_y4m.specs.Text.{AllFit}
 use Rattle.ffv1_y4m.specs.VideoHead.{Fits as VideoFits, IsHead, IsRatio, colour_head, plane_sizes, reduced}
 use Rattle.ffv1_y4m.specs.declared.head.VideoHead.{VideoHead}
-use Rattle.ffv1_engine.specs.declared.order.Choice.{Choice}
+use Rattle.ffv1_words.specs.declared.order.Choice.{Choice}
 use Rattle.ffv1_engine.specs.Packing.{configuration_for, said_for}
 use Rattle.ffv1_engine.specs.Video.{IsVideoBy}
 use Rattle.ffv1_engine.specs.VideoReads.{IsHeadBy}

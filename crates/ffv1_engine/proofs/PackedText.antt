@@ -17,7 +17,7 @@ use Rattle.ffv1_codec.specs.Frame.{frame_of}
 use Rattle.ffv1_y4m.specs.Canonical.{canonical_text}
 use Rattle.ffv1_y4m.specs.VideoHead.{IsRatio, IsSized}
 use Rattle.ffv1_y4m.specs.declared.head.VideoHead.{VideoHead}
-use Rattle.ffv1_engine.specs.declared.order.Choice.{Choice}
+use Rattle.ffv1_words.specs.declared.order.Choice.{Choice}
 use Rattle.ffv1_engine.specs.Packing.{configuration_for, head_for, said_for}
 use Rattle.ffv1_engine.specs.RoundTrip.{AreReadable, canonical_by}
 use Rattle.ffv1_engine.specs.Stream.{Frame, IsStream, Stream}

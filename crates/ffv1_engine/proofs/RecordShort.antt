@@ -15,9 +15,9 @@ use Rattle.ffv1_record.specs.Parity.{parity_of}
 use Rattle.ffv1_record.specs.Record.{number_steps, truth_steps, deltas_steps, coder_steps, runs_steps, set_steps, sets_steps, opening_steps, planes_steps, grid_steps, tables_steps, closing_steps, record_steps, record_decisions, coded_of, record_of}
 use Rattle.ffv1_avi.specs.Streams.{limit}
 use Rattle.ffv1_y4m.specs.declared.head.VideoHead.{VideoHead}
-use Rattle.ffv1_engine.specs.declared.order.Choice.{Choice}
-use Rattle.ffv1_engine.specs.declared.order.CoderChoice.{CoderChoice}
-use Rattle.ffv1_engine.specs.declared.order.CoderChoice.TheVariants as coder_choice
+use Rattle.ffv1_words.specs.declared.order.Choice.{Choice}
+use Rattle.ffv1_words.specs.declared.order.CoderChoice.{CoderChoice}
+use Rattle.ffv1_words.specs.declared.order.CoderChoice.TheVariants as coder_choice
 use Rattle.ffv1_engine.specs.Packing.{coder_for, configuration_for, set_for}
 use Rattle.ffv1_engine.proofs.ByteLists.{bytes_joined}
 

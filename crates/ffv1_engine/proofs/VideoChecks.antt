@@ -9,9 +9,9 @@ use Rattle.ffv1_record.specs.Accepted.{IsFirst, checks, IsTableFor, is_sized, is
 use Rattle.ffv1_record.specs.declared.fault.RecordFault.{RecordFault}
 use Rattle.ffv1_y4m.specs.VideoHead.{IsSized, is_chroma}
 use Rattle.ffv1_y4m.specs.declared.head.VideoHead.{VideoHead}
-use Rattle.ffv1_engine.specs.declared.order.Choice.{Choice}
-use Rattle.ffv1_engine.specs.declared.order.CoderChoice.{CoderChoice}
-use Rattle.ffv1_engine.specs.declared.order.CoderChoice.TheVariants as coder_choice
+use Rattle.ffv1_words.specs.declared.order.Choice.{Choice}
+use Rattle.ffv1_words.specs.declared.order.CoderChoice.{CoderChoice}
+use Rattle.ffv1_words.specs.declared.order.CoderChoice.TheVariants as coder_choice
 use Rattle.ffv1_engine.specs.Faults.{of_record}
 use Rattle.ffv1_engine.specs.Pack.{is_pack_fault}
 use Rattle.ffv1_engine.specs.Packing.{coder_for, configuration_for}

@@ -7,7 +7,7 @@ use Rattle.ffv1_record.specs.Accepted.{Accepted, IsFirst, checks}
 use Rattle.ffv1_record.specs.Configuration.{Configuration}
 use Rattle.ffv1_record.specs.declared.fault.RecordFault.{RecordFault}
 use Rattle.ffv1_codec.specs.Picture.{Planes}
-use Rattle.ffv1_engine.specs.declared.order.Choice.{Choice}
+use Rattle.ffv1_words.specs.declared.order.Choice.{Choice}
 use Rattle.ffv1_engine.specs.declared.fault.Fault.{Fault}
 use Rattle.ffv1_engine.specs.declared.fault.Fault.TheVariants as fault
 use Rattle.ffv1_engine.specs.Encoding.{AllKnown, EncodesAll, EndsAt, EndsKnown, StopsEncoding, StopsEncodingBy}

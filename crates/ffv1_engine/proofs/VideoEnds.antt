@@ -16,7 +16,7 @@ use Rattle.std.specs.declared.vec.Vec.{Vec}
 use Rattle.ffv1_avi.specs.Head.{Head}
 use Rattle.ffv1_avi.specs.Written.{frames_of}
 use Rattle.ffv1_y4m.specs.Header.{header_of}
-use Rattle.ffv1_engine.specs.declared.order.Choice.{Choice}
+use Rattle.ffv1_words.specs.declared.order.Choice.{Choice}
 use Rattle.ffv1_engine.specs.Encoding.{AllKnown, EncodesAll}
 use Rattle.ffv1_engine.specs.Pack.{EncodesVideo, EndsVideo}
 use Rattle.ffv1_engine.specs.Packing.{IsFor, frames_for, head_for}

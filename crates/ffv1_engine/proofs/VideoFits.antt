@@ -8,7 +8,7 @@ use Rattle.ffv1_slice.specs.Grid as grid
 use Rattle.ffv1_codec.specs.Picture.{AreOf, Fits, Planes, plane}
 use Rattle.ffv1_y4m.specs.VideoHead.{Fits as VideoFits, plane_sizes, is_chroma, reduced}
 use Rattle.ffv1_y4m.specs.declared.head.VideoHead.{VideoHead}
-use Rattle.ffv1_engine.specs.declared.order.Choice.{Choice}
+use Rattle.ffv1_words.specs.declared.order.Choice.{Choice}
 use Rattle.ffv1_engine.specs.Packing.{configuration_for}
 use Rattle.ffv1_engine.specs.VideoReads.{IsHeadBy}
 

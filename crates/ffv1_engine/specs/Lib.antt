@@ -1,6 +1,4 @@
-pub mod CommandLine
 pub mod Faults
-pub mod Order
 pub mod Picture
 pub mod Plane
 pub mod Report

@@ -15,9 +15,9 @@ use Rattle.ffv1_codec.specs.Frame.{frame_of, HasLongSlice}
 use Rattle.ffv1_avi.specs.Head.{Head}
 use Rattle.ffv1_avi.specs.Written.{file_of}
 use Rattle.ffv1_y4m.specs.declared.head.VideoHead.{VideoHead}
-use Rattle.ffv1_engine.specs.declared.order.Choice.{Choice}
-use Rattle.ffv1_engine.specs.declared.order.CoderChoice.{CoderChoice}
-use Rattle.ffv1_engine.specs.declared.order.CoderChoice.TheVariants as coder_choice
+use Rattle.ffv1_words.specs.declared.order.Choice.{Choice}
+use Rattle.ffv1_words.specs.declared.order.CoderChoice.{CoderChoice}
+use Rattle.ffv1_words.specs.declared.order.CoderChoice.TheVariants as coder_choice
 use Rattle.ffv1_engine.specs.Video.{Video}
 
 -- the standard's state transition table, or one that is carried, by deltas that are all 0

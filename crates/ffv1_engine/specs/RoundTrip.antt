@@ -15,7 +15,7 @@ use Rattle.ffv1_y4m.specs.VideoHead.{IsRatio}
 use Rattle.ffv1_y4m.specs.declared.head.VideoHead.{VideoHead}
 use Rattle.ffv1_engine.specs.declared.fault.Fault.{Fault}
 use Rattle.ffv1_engine.specs.declared.fault.Fault.TheVariants as fault
-use Rattle.ffv1_engine.specs.declared.order.Choice.{Choice}
+use Rattle.ffv1_words.specs.declared.order.Choice.{Choice}
 use Rattle.ffv1_engine.specs.declared.packing.Packed.{Packed}
 use Rattle.ffv1_engine.specs.Pack.{Packs}
 use Rattle.ffv1_engine.specs.Packing.{packed_file, packed_frames, said_for}

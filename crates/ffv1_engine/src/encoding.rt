@@ -17,7 +17,7 @@ ghost use Rattle.ffv1_engine.specs.Packing.{head_for, said_for, set_for};
 ghost use Rattle.ffv1_engine.specs.VideoReads.{IsHeadBy, reading_of};
 
 use crate::fault::Fault;
-use crate::order::{Choice, CoderChoice};
+use ffv1_words::{Choice, CoderChoice};
 use crate::video::VideoReader;
 use ffv1_avi::AviHead;
 use ffv1_codec::{FrameEncoder, Info, Picture};

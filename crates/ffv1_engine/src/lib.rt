@@ -16,16 +16,13 @@
 #![tactic(auto)]
 
 mod checking;
-mod command_line;
 mod comparison;
 mod encoding;
 mod fault;
 pub mod frame_line;
 mod images_out;
 pub mod laws;
-mod matched;
 mod mono_trial;
-mod order;
 mod packing;
 mod picture;
 mod pictures_out;
@@ -40,10 +37,9 @@ mod unpacking;
 mod video;
 
 pub use checking::check;
-pub use command_line::words;
 pub use fault::Fault;
+pub use ffv1_words::{Choice, CoderChoice, Order, words};
 pub use mono_trial::trial;
-pub use order::{Choice, CoderChoice, Order};
 pub use packing::{Packed, pack};
 pub use plane::{Coded, code_plane};
 pub use showing::show;

@@ -10,7 +10,7 @@ ghost use Rattle.ffv1_engine.specs.Packing.{bytes_in};
 
 use crate::encoding::{checked_for, encode_pictures, file_head};
 use crate::fault::Fault;
-use crate::order::Choice;
+use ffv1_words::Choice;
 use crate::video::VideoReader;
 use ffv1_avi::{AviHead, write_avi};
 use ffv1_codec::FrameEncoder;

@@ -1,0 +1,4 @@
+mod TakenRows
+mod TakenOrder
+mod TakenNames
+mod TakenLine

@@ -1,0 +1,189 @@
+-- A line that clap takes names an order.
+use Rattle.std.proofs.Common.{◌≡◌, ◌∙◌, ◌⊎◌, inl, inr, subst, ℕ, refl, sym, List, [], ◌∷◌, Bool, true, false, Some, true≢false, codes}
+use Rattle.std.specs.Prelude.{find}
+use Rattle.std.specs.List.{slice_index_or}
+use Rattle.std.specs.Str.{bytes_eq}
+use Rattle.std.specs.Borrow.{Bor}
+use Rattle.std.proofs.lemmas.Slice.Eq.{bytes_eq-Decides}
+use Rattle.clap.proofs.OnLiterals.{clap_on_literals}
+use Rattle.clap.specs.Walk.{Rule, Text, answers_to, nothing_held, rows_after}
+use Rattle.clap.specs.Simple.{Shape, built, label_of, new_rule, subcommand_of}
+use Rattle.clap.specs.Takes.{level_passes, takes}
+use Rattle.ffv1_words.specs.CommandLine.{AreContexts, Words, line_app}
+use Rattle.ffv1_words.specs.Order.{Names, NamesChoice}
+use Rattle.ffv1_words.specs.declared.order.Choice.{Choice}
+use Rattle.ffv1_words.specs.declared.order.Order.{Order}
+use Rattle.ffv1_words.specs.declared.order.Order.TheVariants as order
+use Rattle.ffv1_words.proofs.TakenNames.{bit_named, coder_named, contexts_named, flag_named, number_named}
+use Rattle.ffv1_words.proofs.TakenOrder.{taken_level}
+use Rattle.ffv1_words.proofs.TakenRows.{either, value_left}
+
+-- one of a list of commands
+abbrev IsOneOf : Shape → List Shape → Type 0
+IsOneOf s [] = ⊥
+IsOneOf s (x ∷ xs) = (x ≡ s) ⊎ IsOneOf s xs
+
+found_in : (p : Shape → Bool) (xs : List Shape) (s : Shape) → find p xs ≡ Some s → IsOneOf s xs × (p s ≡ true)
+found_in p [] s e = cc
+found_in p (x ∷ xs) s e = go (p x) refl (found_in p xs s)
+  where
+    go : (t : Bool) → p x ≡ t → (find p xs ≡ Some s → IsOneOf s xs × (p s ≡ true)) → IsOneOf s (x ∷ xs) × (p s ≡ true)
+    go true t more =
+        let some : Some x ≡ Some s = rw t at e in
+        let is : x ≡ s = cc in
+        (inl is, subst (λ y. p y ≡ true) is t)
+    go false t more = let rest = more (rw t at e) in (inr rest.0, rest.1)
+
+-- a text as a path, wherever it lies
+abbrev path : Text → Bor Text
+path t = record { ref_ptr = (0, 0); now = t }
+
+-- what passes as this command names an order
+abbrev NamesOrder : Shape → Type 0
+NamesOrder s = (rest : List Text) → level_passes s [] nothing_held rest false ≡ true → (o : Order) × Names o (Some (s.name, rows_after s.rules [] rest))
+
+abbrev rule_at : Shape → ℕ → Rule
+rule_at s k = slice_index_or s.rules k (new_rule [])
+
+module _ (contexts : Words) (are : AreContexts contexts) where
+  abbrev command : ℕ → Shape
+  command k = slice_index_or (built (line_app contexts)).subs k (line_app contexts).top
+
+  -- ---- pack
+
+  abbrev pack : Shape
+  pack = command 0
+
+  pack_choice : (rest : List Text) → level_passes pack [] nothing_held rest false ≡ true → (c : Choice) × NamesChoice (rows_after pack.rules [] rest) c
+  unfolding clap_on_literals
+  pack_choice rest e =
+      let rows = rows_after pack.rules [] rest in
+      let coder = value_left pack rest (rule_at pack 2) refl refl (inr (inr (inl refl))) refl e in
+      let words = value_left pack rest (rule_at pack 3) refl refl (inr (inr (inr (inl refl)))) refl e in
+      let columns = value_left pack rest (rule_at pack 4) refl refl (inr (inr (inr (inr (inl refl))))) refl e in
+      let high = value_left pack rest (rule_at pack 5) refl refl (inr (inr (inr (inr (inr (inl refl)))))) refl e in
+      let ec = value_left pack rest (rule_at pack 6) refl refl (inr (inr (inr (inr (inr (inr (inl refl))))))) refl e in
+      let rate = value_left pack rest (rule_at pack 7) refl refl (inr (inr (inr (inr (inr (inr (inr (inl refl)))))))) refl e in
+      let scale = value_left pack rest (rule_at pack 8) refl refl (inr (inr (inr (inr (inr (inr (inr (inr (inl refl))))))))) refl e in
+      let coder_is = number_named rows (codes "coder") 1 2 coder.text coder.reads coder.passes in
+      let coder_of = coder_named rows (codes "coder") coder_is.0 coder_is.1 in
+      let large = contexts_named rows (codes "contexts") contexts words.text are words.is words.passes in
+      let columns_is = number_named rows (codes "columns") 1 32 columns.text columns.reads columns.passes in
+      let rows_is = number_named rows (codes "rows") 1 32 high.text high.reads high.passes in
+      let ec_is = number_named rows (codes "ec") 0 1 ec.text ec.reads ec.passes in
+      let ec_of = bit_named rows (codes "ec") ec_is.0 ec_is.1 in
+      let rate_is = number_named rows (codes "rate") 1 4294967295 rate.text rate.reads rate.passes in
+      let scale_is = number_named rows (codes "scale") 1 4294967295 scale.text scale.reads scale.passes in (
+        record {
+          coder = coder_of.0;
+          large = large.0;
+          columns = columns_is.0;
+          rows = rows_is.0;
+          ec = ec_of.0;
+          rate = rate_is.0;
+          scale = scale_is.0;
+        },
+        record {
+          coder = coder_of.1;
+          contexts = large.1;
+          columns = columns_is.1;
+          slice_rows = rows_is.1;
+          ec = ec_of.1;
+          rate = rate_is.1;
+          scale = scale_is.1;
+        },
+      )
+
+  pack_named : NamesOrder pack
+  unfolding clap_on_literals
+  pack_named rest e =
+      let input = value_left pack rest (rule_at pack 0) refl refl (inl refl) refl e in
+      let output = value_left pack rest (rule_at pack 1) refl refl (inr (inl refl)) refl e in
+      let choice = pack_choice rest e in
+      let kept = value_left pack rest (rule_at pack 9) refl refl (inr (inr (inr (inr (inr (inr (inr (inr (inr (inl refl)))))))))) refl e in
+      let no_clobber = flag_named (rows_after pack.rules [] rest) (codes "no-clobber") kept.text kept.is kept.passes in
+      let told = value_left pack rest (rule_at pack 10) refl refl (inr (inr (inr (inr (inr (inr (inr (inr (inr (inr (inl refl))))))))))) refl e in
+      let progress = flag_named (rows_after pack.rules [] rest) (codes "progress") told.text told.is told.passes in (
+        order.Pack (path input.text) (path output.text) choice.0 no_clobber.0 progress.0,
+        (refl, input.is, output.is, choice.1, no_clobber.1, progress.1),
+      )
+
+  -- ---- the others
+
+  abbrev unpack : Shape
+  unpack = command 1
+
+  unpack_named : NamesOrder unpack
+  unfolding clap_on_literals
+  unpack_named rest e =
+      let input = value_left unpack rest (rule_at unpack 0) refl refl (inl refl) refl e in
+      let output = value_left unpack rest (rule_at unpack 1) refl refl (inr (inl refl)) refl e in
+      let kept = value_left unpack rest (rule_at unpack 2) refl refl (inr (inr (inl refl))) refl e in
+      let no_clobber = flag_named (rows_after unpack.rules [] rest) (codes "no-clobber") kept.text kept.is kept.passes in
+      let told = value_left unpack rest (rule_at unpack 3) refl refl (inr (inr (inr (inl refl)))) refl e in
+      let progress = flag_named (rows_after unpack.rules [] rest) (codes "progress") told.text told.is told.passes in
+      (order.Unpack (path input.text) (path output.text) no_clobber.0 progress.0, (refl, input.is, output.is, no_clobber.1, progress.1))
+
+  abbrev check : Shape
+  check = command 2
+
+  check_named : NamesOrder check
+  unfolding clap_on_literals
+  check_named rest e =
+      let input = value_left check rest (rule_at check 0) refl refl (inl refl) refl e in
+      let place = value_left check rest (rule_at check 1) refl refl (inr (inl refl)) refl e in
+      let flag = flag_named (rows_after check.rules [] rest) (codes "place") place.text place.is place.passes in
+      let told = value_left check rest (rule_at check 2) refl refl (inr (inr (inl refl))) refl e in
+      let progress = flag_named (rows_after check.rules [] rest) (codes "progress") told.text told.is told.passes in
+      (order.Check (path input.text) flag.0 progress.0, (refl, input.is, flag.1, progress.1))
+
+  abbrev show : Shape
+  show = command 3
+
+  show_named : NamesOrder show
+  unfolding clap_on_literals
+  show_named rest e =
+      let input = value_left show rest (rule_at show 0) refl refl (inl refl) refl e in
+      let cost = value_left show rest (rule_at show 1) refl refl (inr (inl refl)) refl e in
+      let flag = flag_named (rows_after show.rules [] rest) (codes "cost") cost.text cost.is cost.passes in
+      (order.Show (path input.text) flag.0, (refl, input.is, flag.1))
+
+  abbrev trial : Shape
+  trial = command 4
+
+  trial_named : NamesOrder trial
+  unfolding clap_on_literals
+  trial_named rest e =
+      let input = value_left trial rest (rule_at trial 0) refl refl (inl refl) refl e in
+      (order.Trial (path input.text), (refl, input.is))
+
+  -- ---- the line
+
+  abbrev help : Shape
+  help = command 5
+
+  help_asked : (word : Text) → answers_to word (label_of help) ≡ true → bytes_eq word (codes "help") ≡ true
+  unfolding clap_on_literals
+  help_asked word e = elim (either (bytes_eq (codes "help") word) false e) [
+    | inl is ↦ (bytes_eq-Decides word (codes "help")).1 (sym ((bytes_eq-Decides (codes "help") word).0 is))
+    | inr none ↦ absurd (true≢false (sym none))
+  ]
+
+  named : (s : Shape) (word : Text) → IsOneOf s (built (line_app contexts)).subs → answers_to word (label_of s) ≡ true → bytes_eq word (codes "help") ≡ false → NamesOrder s
+  named s word (inl is) met no_help = subst NamesOrder is pack_named
+  named s word (inr (inl is)) met no_help = subst NamesOrder is unpack_named
+  named s word (inr (inr (inl is))) met no_help = subst NamesOrder is check_named
+  named s word (inr (inr (inr (inl is)))) met no_help = subst NamesOrder is show_named
+  named s word (inr (inr (inr (inr (inl is))))) met no_help = subst NamesOrder is trial_named
+  named s word (inr (inr (inr (inr (inr (inl is)))))) met no_help =
+      absurd (true≢false (sym (help_asked word (subst (λ (x : Shape). answers_to word (label_of x) ≡ true) (sym is) met)) ∙ no_help))
+  named s word (inr (inr (inr (inr (inr (inr none)))))) met no_help = absurd none
+
+  -- a line that clap takes names an order
+  pub taken_names : (words : List Text) → takes (line_app contexts) words ≡ true → (o : Order) × Names o (subcommand_of (line_app contexts) words)
+  unfolding clap_on_literals
+  taken_names words e =
+      let level = taken_level (line_app contexts) words refl refl e in
+      let met = found_in (λ s. answers_to level.word (label_of s)) (built (line_app contexts)).subs level.shape level.found in
+      let got = named level.shape level.word met.0 met.1 level.no_help level.rest level.passes in
+      (got.0, subst (Names got.0) (sym level.is) got.1)

@@ -1,0 +1,111 @@
+-- The command line that the program takes, in clap's terms.
+use Rattle.std.specs.Prelude.{◌≡◌, ℕ, pos, true, codes, Some, List, [], ◌∷◌, map}
+use Rattle.std.specs.Borrow.{Bor}
+use Rattle.clap.specs.Words.{App, Rule, Text, new_app, new_rule, with_rule, with_subcommand}
+use Rattle.clap.specs.declared.builder.action.ArgAction.TheVariants.{SetTrue}
+use Rattle.clap.specs.declared.builder.value_parser.ValueParser.TheVariants as parser
+
+-- a required positional
+abbrev pub file_rule : Text → Rule
+file_rule id = record (new_rule id) { required = true }
+
+-- an option of a number from low to high, and its default
+abbrev pub number_rule : Text → ℕ → ℕ → Text → Rule
+number_rule name low high text = record (new_rule name) {
+  long = Some name;
+  parser = Some (parser.Signed (pos low) (pos high));
+  defaults = text ∷ [];
+}
+
+-- words as clap holds them: references, of which it reads what they refer to
+abbrev pub Words : Type 0
+Words = Bor (List (Bor Text))
+
+-- an option of one of these words, and its default
+abbrev pub word_rule : Text → Words → Text → Rule
+word_rule name words text = record (new_rule name) {
+  long = Some name;
+  parser = Some (parser.Names words);
+  defaults = text ∷ [];
+}
+
+-- a flag
+abbrev pub flag_rule : Text → Rule
+flag_rule name = record (new_rule name) { long = Some name; action = Some SetTrue }
+
+-- a command of one file
+abbrev pub one_file : Text → App
+one_file name = with_rule (new_app name) (file_rule (codes "IN"))
+
+-- a command of two files
+abbrev pub two_files : Text → App
+two_files name = with_rule (one_file name) (file_rule (codes "OUT"))
+
+-- what is coded: the state transition table and the quantisation set
+abbrev pub with_model : Words → App → App
+with_model words a = with_rule (with_rule a (number_rule (codes "coder") 1 2 (codes "1")))
+    (word_rule (codes "contexts") words (codes "small"))
+
+-- slices and their parity
+abbrev pub with_slices : App → App
+with_slices a = with_rule (with_rule (with_rule a
+    (number_rule (codes "columns") 1 32 (codes "1")))
+    (number_rule (codes "rows") 1 32 (codes "1")))
+    (number_rule (codes "ec") 0 1 (codes "1"))
+
+-- frames in time
+abbrev pub with_pace : App → App
+with_pace a = with_rule (with_rule a (number_rule (codes "rate") 1 4294967295 (codes "25")))
+    (number_rule (codes "scale") 1 4294967295 (codes "1"))
+
+-- how much is read is told
+abbrev pub with_progress : App → App
+with_progress a = with_rule a (flag_rule (codes "progress"))
+
+-- a file that is there is refused as OUT
+abbrev pub with_no_clobber : App → App
+with_no_clobber a = with_rule a (flag_rule (codes "no-clobber"))
+
+abbrev pub pack_app : Words → App
+pack_app words =
+    with_progress (with_no_clobber
+    (with_pace (with_slices (with_model words (two_files (codes "pack"))))))
+
+abbrev pub unpack_app : App
+unpack_app = with_progress (with_no_clobber (two_files (codes "unpack")))
+
+abbrev pub check_app : App
+check_app = with_progress (with_rule (one_file (codes "check")) (flag_rule (codes "place")))
+
+abbrev pub show_app : App
+show_app = with_rule (one_file (codes "show")) (flag_rule (codes "cost"))
+
+-- the program, which has a version, wants a command, and answers with its help where there are no
+-- words
+abbrev pub top_app : App
+top_app = record (new_app (codes "ffv1")) {
+  top = record (new_app (codes "ffv1")).top {
+    has_version = true;
+    subcommand_required = true;
+    arg_required_else_help = true;
+  };
+}
+
+-- the program with the commands that make a file
+abbrev pub files_app : Words → App
+files_app words =
+    with_subcommand (with_subcommand top_app (pack_app words).top) unpack_app.top
+
+-- the whole line, by the words that `--contexts` takes
+abbrev pub line_app : Words → App
+line_app words =
+    with_subcommand (with_subcommand (with_subcommand (files_app words) check_app.top) show_app.top)
+    (one_file (codes "trial")).top
+
+-- the words that `--contexts` takes
+abbrev pub AreContexts : Words → Type 0
+AreContexts words = map (λ w. w.now) words.now ≡ codes "small" ∷ codes "large" ∷ []
+
+-- a fact of the whole line, wherever the words of `--contexts` lie
+abbrev pub OnLine : (App → Type 0) → Type 0
+OnLine P = (contexts : Words) × AreContexts contexts × P (line_app contexts)

@@ -1,0 +1,120 @@
+-- What an order names of a command line, and when its files are in conflict.
+use Rattle.std.specs.Prelude.{◌≡◌, ◌≤◌, ◌⊎◌, ◌||◌, ◌&&◌, ℕ, Bool, true, false, not, codes}
+use Rattle.std.specs.Prelude.{List, Option, Some, None}
+use Rattle.std.specs.Str.{bytes_eq}
+use Rattle.std.specs.Str.Parse.{IsNumeral, digits_value, without_leading_plus}
+use Rattle.clap.specs.Words.{App, HasKind, Row, Text, fault_of, first_of, one_of, subcommand_of}
+use Rattle.clap.specs.Words.{kind_of, takes}
+use Rattle.clap.specs.declared.error.Error.{Error}
+use Rattle.clap.specs.declared.error.kind.ErrorKind.TheVariants as kind
+use Rattle.ffv1_words.specs.declared.order.Choice.{Choice}
+use Rattle.ffv1_words.specs.declared.order.CoderChoice.{CoderChoice}
+use Rattle.ffv1_words.specs.declared.order.CoderChoice.TheVariants as coder
+use Rattle.ffv1_words.specs.declared.order.Order.{Order}
+use Rattle.ffv1_words.specs.declared.order.Order.TheVariants as order
+
+-- ---- what the rows of a subcommand name
+
+abbrev pub NamesFile : List Row → Text → Text → Type 0
+NamesFile rows id path = first_of id rows ≡ Some path
+
+-- the option's text is a decimal numeral of n, and n is in its range
+abbrev pub NamesNumber : List Row → Text → ℕ → ℕ → ℕ → Type 0
+NamesNumber rows id low high n =
+    (t : Text) × (one_of id rows ≡ Some t) × IsNumeral 10 (without_leading_plus t)
+    × (digits_value 10 (without_leading_plus t) ≡ n) × (low ≤ n) × (n ≤ high)
+
+abbrev pub flag_word : Bool → Text
+flag_word false = codes "false"
+flag_word true = codes "true"
+
+abbrev pub NamesFlag : List Row → Text → Bool → Type 0
+NamesFlag rows id flag = first_of id rows ≡ Some (flag_word flag)
+
+abbrev pub coder_number : CoderChoice → ℕ
+coder_number coder.Standard = 1
+coder_number coder.Carried = 2
+
+abbrev pub bit_number : Bool → ℕ
+bit_number false = 0
+bit_number true = 1
+
+abbrev pub contexts_word : Bool → Text
+contexts_word false = codes "small"
+contexts_word true = codes "large"
+
+pub record NamesChoice (rows : List Row) (c : Choice) : Type 0 where
+  pub coder : NamesNumber rows (codes "coder") 1 2 (coder_number c.coder)
+  pub contexts : first_of (codes "contexts") rows ≡ Some (contexts_word c.large)
+  pub columns : NamesNumber rows (codes "columns") 1 32 c.columns
+  pub slice_rows : NamesNumber rows (codes "rows") 1 32 c.rows
+  pub ec : NamesNumber rows (codes "ec") 0 1 (bit_number c.ec)
+  pub rate : NamesNumber rows (codes "rate") 1 4294967295 c.rate
+  pub scale : NamesNumber rows (codes "scale") 1 4294967295 c.scale
+
+-- ---- what a line names
+
+-- the order is what the line's subcommand and its rows name
+abbrev pub Names : Order → Option (Text × List Row) → Type 0
+Names o None = ⊥
+Names (order.Pack i w c no_clobber progress) (Some p) = (p.0 ≡ codes "pack")
+    × NamesFile p.1 (codes "IN") i.now × NamesFile p.1 (codes "OUT") w.now × NamesChoice p.1 c
+    × NamesFlag p.1 (codes "no-clobber") no_clobber × NamesFlag p.1 (codes "progress") progress
+Names (order.Unpack i w no_clobber progress) (Some p) = (p.0 ≡ codes "unpack")
+    × NamesFile p.1 (codes "IN") i.now × NamesFile p.1 (codes "OUT") w.now
+    × NamesFlag p.1 (codes "no-clobber") no_clobber × NamesFlag p.1 (codes "progress") progress
+Names (order.Check i place progress) (Some p) = (p.0 ≡ codes "check")
+    × NamesFile p.1 (codes "IN") i.now × NamesFlag p.1 (codes "place") place
+    × NamesFlag p.1 (codes "progress") progress
+Names (order.Show i cost) (Some p) = (p.0 ≡ codes "show") × NamesFile p.1 (codes "IN") i.now
+    × NamesFlag p.1 (codes "cost") cost
+Names (order.Trial i) (Some p) = (p.0 ≡ codes "trial") × NamesFile p.1 (codes "IN") i.now
+
+-- no order is
+abbrev pub NamesNone : Option (Text × List Row) → Type 0
+NamesNone line = (o : Order) → Names o line → ⊥
+
+-- ---- files in conflict
+
+abbrev pub is_standard_output : Text → Bool
+is_standard_output path = bytes_eq path (codes "/dev/stdout")
+    || (bytes_eq path (codes "/dev/fd/1") || bytes_eq path (codes "/proc/self/fd/1"))
+
+-- a hyphen alone: standard input as IN, standard output as OUT
+abbrev pub is_hyphen : Text → Bool
+is_hyphen path = bytes_eq path (codes "-")
+
+-- what is written would be read, or stand among what is printed; with a hyphen for both nothing is
+-- read that is written
+abbrev pub is_conflict : Text → Text → Bool
+is_conflict input output =
+    (bytes_eq input output && not (is_hyphen output)) || is_standard_output output
+
+abbrev pub is_in_conflict : Order → Bool
+is_in_conflict (order.Pack i w c no_clobber progress) = is_conflict i.now w.now
+is_in_conflict (order.Unpack i w no_clobber progress) = is_conflict i.now w.now
+is_in_conflict (order.Check i place progress) = false
+is_in_conflict (order.Show i cost) = false
+is_in_conflict (order.Trial i) = false
+
+-- ---- what is answered to the words of a line
+
+-- the order is what the words name, and its files are not in conflict
+abbrev pub IsOrder : App → List Text → Order → Type 0
+IsOrder line words o = Names o (subcommand_of line words) × (is_in_conflict o ≡ false)
+
+-- the error says that the order which the words name is in conflict
+abbrev pub TellsConflict : App → List Text → Error → Type 0
+TellsConflict line words e = (kind_of e ≡ kind.ArgumentConflict)
+    × (o : Order) × Names o (subcommand_of line words) × (is_in_conflict o ≡ true)
+
+-- why a line is refused: memory was, or it is of a kind that clap's meaning of the line gives; or
+-- the line names no order; or it names one in conflict
+abbrev pub IsRefused : App → List Text → Error → Type 0
+IsRefused line words e = HasKind (fault_of line words) e
+    ⊎ (NamesNone (subcommand_of line words) ⊎ TellsConflict line words e)
+
+-- a line that clap takes fails for want of memory, and where its order is in conflict
+abbrev pub IsRefusedIfTaken : App → List Text → Error → Type 0
+IsRefusedIfTaken line words e = takes line words ≡ true
+    → (kind_of e ≡ kind.OutOfMemory) ⊎ TellsConflict line words e

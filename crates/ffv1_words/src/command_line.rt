@@ -1,0 +1,318 @@
+//! The words of a command line.
+
+ghost use Rattle.std.specs.Prelude.{◌≡◌, ◌⊎◌, IfOk, IfErr, map, codes, false, true};
+ghost use Rattle.clap.specs.Words.{app_of, rule_of, kind_of, new_app};
+ghost use Rattle.clap.specs.declared.builder.command.Command.TheViews.{out-Command as fields_of};
+ghost use Rattle.clap.specs.declared.error.kind.ErrorKind.TheVariants as kind;
+ghost use Rattle.ffv1_words.specs.CommandLine.{file_rule, flag_rule, number_rule, word_rule};
+ghost use Rattle.ffv1_words.specs.CommandLine.{one_file, two_files, with_model, with_no_clobber};
+ghost use Rattle.ffv1_words.specs.CommandLine.{with_pace, with_progress, with_slices, pack_app, unpack_app, check_app};
+ghost use Rattle.ffv1_words.specs.CommandLine.{show_app, top_app, files_app, line_app, AreContexts};
+ghost use Rattle.ffv1_words.specs.CommandLine.{OnLine};
+ghost use Rattle.ffv1_words.specs.Order.{IsOrder, IsRefused, IsRefusedIfTaken, is_in_conflict};
+
+use crate::matched::order_of;
+use crate::order::Order;
+use clap::error::ErrorKind;
+use clap::{Arg, ArgAction, Command, Error, value_parser};
+use std::alloc::{AllocError, Global};
+
+static CONTEXTS: [&str; 2] = ["small", "large"];
+
+const NAME: &str = "ffv1";
+
+/// The version of the program.
+pub const VERSION: &str = "0.1.0";
+
+const AVI_FILE: &str = "The AVI file, or - for standard input";
+
+const STATUSES: &str = "Exit status: 0 all done, 1 a fault, told by its number, 2 a line refused";
+
+fn file_arg<'a>(alloc: Global, id: &'a str, help: &'a str) -> Arg<'a>
+    ensures rule { rule_of result ≡ file_rule id.entry.now }
+    ensures own { result.global ≡ false }
+{
+    Arg::new(alloc, id).required(true).help(help)
+}
+
+fn flag_arg<'a>(alloc: Global, id: &'a str, help: &'a str) -> Arg<'a>
+    ensures rule { rule_of result ≡ flag_rule id.entry.now }
+    ensures own { result.global ≡ false }
+{
+    Arg::new(alloc, id)
+        .long(id)
+        .action(ArgAction::SetTrue)
+        .help(help)
+}
+
+fn number_arg<'a>(
+    alloc: Global,
+    id: &'a str,
+    low: u32,
+    high: u32,
+    text: &'a str,
+    help: &'a str,
+) -> Arg<'a>
+    ensures rule { rule_of result ≡ number_rule id.entry.now low high text.entry.now }
+    ensures own { result.global ≡ false }
+{
+    Arg::new(alloc, id)
+        .long(id)
+        .value_parser(value_parser!(u32).range(i64::from(low)..=i64::from(high)))
+        .default_value(text)
+        .help(help)
+}
+
+fn contexts_arg<'a>(alloc: Global, contexts: &'a [&'a str]) -> Arg<'a>
+    ensures rule { rule_of result
+        ≡ word_rule (codes "contexts") contexts.entry (codes "small") }
+    ensures own { result.global ≡ false }
+{
+    Arg::new(alloc, "contexts")
+        .long("contexts")
+        .value_parser(contexts)
+        .default_value("small")
+        .help("666 contexts, or 16638, which no other program reads")
+}
+
+fn progress_arg<'a>(alloc: Global) -> Arg<'a>
+    ensures rule { rule_of result ≡ flag_rule (codes "progress") }
+    ensures own { result.global ≡ false }
+{
+    let help = "Say on standard error, once a second, how much of IN is read";
+    flag_arg(alloc, "progress", help)
+}
+
+/// The flags of a command that makes a file.
+fn add_making<'a>(alloc: Global, command: Command<'a>) -> Result<Command<'a>, AllocError>
+    requires { (fields_of command).has_globals ≡ false }
+    ensures { IfOk result (λ c. (app_of c ≡ with_progress (with_no_clobber (app_of command.entry)))
+        × ((fields_of c).has_globals ≡ false)) }
+{
+    let help = "Refuse an OUT that exists, with status 2, and leave it as it is";
+    let command = command.arg(flag_arg(alloc, "no-clobber", help))?;
+    command.arg(progress_arg(alloc))
+}
+
+/// A command by this name, with what help says of it.
+fn new_command<'a>(alloc: Global, name: &'a str, about: &'a str) -> Command<'a>
+    ensures app { app_of result ≡ new_app name.entry.now }
+    ensures local { (fields_of result).has_globals ≡ false }
+{
+    Command::new(alloc, name).about(about).after_help(STATUSES)
+}
+
+fn one_file_command<'a>(
+    alloc: Global,
+    name: &'a str,
+    about: &'a str,
+    input: &'a str,
+) -> Result<Command<'a>, AllocError>
+    ensures { IfOk result (λ c.
+        (app_of c ≡ one_file name.entry.now) × ((fields_of c).has_globals ≡ false)) }
+{
+    new_command(alloc, name, about).arg(file_arg(alloc, "IN", input))
+}
+
+fn two_files_command<'a>(
+    alloc: Global,
+    name: &'a str,
+    about: &'a str,
+    input: &'a str,
+    output: &'a str,
+) -> Result<Command<'a>, AllocError>
+    ensures { IfOk result (λ c.
+        (app_of c ≡ two_files name.entry.now) × ((fields_of c).has_globals ≡ false)) }
+{
+    one_file_command(alloc, name, about, input)?.arg(file_arg(alloc, "OUT", output))
+}
+
+fn add_model<'a>(
+    alloc: Global,
+    contexts: &'a [&'a str],
+    command: Command<'a>,
+) -> Result<Command<'a>, AllocError>
+    requires { (fields_of command).has_globals ≡ false }
+    ensures { IfOk result (λ c. (app_of c ≡ with_model contexts.entry (app_of command.entry))
+        × ((fields_of c).has_globals ≡ false)) }
+{
+    let help = "State transition table: 1, the standard's, or 2, the same one, carried in the file";
+    let command = command.arg(number_arg(alloc, "coder", 1, 2, "1", help))?;
+    command.arg(contexts_arg(alloc, contexts))
+}
+
+fn add_slices<'a>(alloc: Global, command: Command<'a>) -> Result<Command<'a>, AllocError>
+    requires { (fields_of command).has_globals ≡ false }
+    ensures { IfOk result (λ c.
+        (app_of c ≡ with_slices (app_of command.entry)) × ((fields_of c).has_globals ≡ false)) }
+{
+    let columns = "Columns of slices, 1 to 32";
+    let rows = "Rows of slices, 1 to 32";
+    let ec = "1 where each slice carries its parity, 0 where none does";
+    command
+        .arg(number_arg(alloc, "columns", 1, 32, "1", columns))?
+        .arg(number_arg(alloc, "rows", 1, 32, "1", rows))?
+        .arg(number_arg(alloc, "ec", 0, 1, "1", ec))
+}
+
+fn add_pace<'a>(alloc: Global, command: Command<'a>) -> Result<Command<'a>, AllocError>
+    requires { (fields_of command).has_globals ≡ false }
+    ensures { IfOk result (λ c.
+        (app_of c ≡ with_pace (app_of command.entry)) × ((fields_of c).has_globals ≡ false)) }
+{
+    let rate = "Frames of PPM in as many seconds as --scale says, 1 to 4294967295";
+    let scale = "Seconds of --rate frames, 1 to 4294967295";
+    command
+        .arg(number_arg(alloc, "rate", 1, u32::MAX, "25", rate))?
+        .arg(number_arg(alloc, "scale", 1, u32::MAX, "1", scale))
+}
+
+fn pack_command<'a>(alloc: Global, contexts: &'a [&'a str]) -> Result<Command<'a>, AllocError>
+    ensures { IfOk result (λ c.
+        (app_of c ≡ pack_app contexts.entry) × ((fields_of c).has_globals ≡ false)) }
+{
+    let about = "Code a video, YUV4MPEG2 or binary PPM, as FFV1 in AVI";
+    let input = "The video, or - for standard input: PPM where its first byte is P, else YUV4MPEG2";
+    let output = "The AVI file, or - for standard output: written anew as soon as it has a byte";
+    let command = two_files_command(alloc, "pack", about, input, output)?;
+    let command = add_model(alloc, contexts, command)?;
+    let command = add_slices(alloc, command)?;
+    let command = add_pace(alloc, command)?;
+    add_making(alloc, command)
+}
+
+fn unpack_command<'a>(alloc: Global) -> Result<Command<'a>, AllocError>
+    ensures { IfOk result (λ c.
+        (app_of c ≡ unpack_app) × ((fields_of c).has_globals ≡ false)) }
+{
+    let about = "Decode a file into YUV4MPEG2, or into PPM where it holds RGB";
+    let output = "The video, or - for standard output: written anew as soon as it has a byte";
+    let command = two_files_command(alloc, "unpack", about, AVI_FILE, output)?;
+    add_making(alloc, command)
+}
+
+fn check_command<'a>(alloc: Global) -> Result<Command<'a>, AllocError>
+    ensures { IfOk result (λ c.
+        (app_of c ≡ check_app) × ((fields_of c).has_globals ≡ false)) }
+{
+    let about = "Decode all frames of a file, and tell of each what it takes";
+    let place = "Tell where a frame is refused: slice, plane, line and column";
+    one_file_command(alloc, "check", about, AVI_FILE)?
+        .arg(flag_arg(alloc, "place", place))?
+        .arg(progress_arg(alloc))
+}
+
+fn show_command<'a>(alloc: Global) -> Result<Command<'a>, AllocError>
+    ensures { IfOk result (λ c.
+        (app_of c ≡ show_app) × ((fields_of c).has_globals ≡ false)) }
+{
+    let about = "Tell what a file says of its pictures, and how much a decoder of it holds";
+    let cost = "Decode all frames then, and tell what each costs";
+    one_file_command(alloc, "show", about, AVI_FILE)?.arg(flag_arg(alloc, "cost", cost))
+}
+
+fn trial_command<'a>(alloc: Global) -> Result<Command<'a>, AllocError>
+    ensures { IfOk result (λ c.
+        (app_of c ≡ one_file (codes "trial")) × ((fields_of c).has_globals ≡ false)) }
+{
+    let about = "Code the first picture of a mono YUV4MPEG2 text, and decode it again";
+    one_file_command(
+        alloc,
+        "trial",
+        about,
+        "The picture, or - for standard input",
+    )
+}
+
+fn top_command<'a>(alloc: Global) -> Command<'a>
+    ensures app { app_of result ≡ top_app }
+    ensures local { (fields_of result).has_globals ≡ false }
+{
+    new_command(
+        alloc,
+        NAME,
+        "Lossless video for archives: FFV1 version 3 in AVI",
+    )
+    .version(VERSION)
+    .subcommand_required(true)
+    .arg_required_else_help(true)
+}
+
+fn files_command<'a>(alloc: Global, contexts: &'a [&'a str]) -> Result<Command<'a>, AllocError>
+    ensures { IfOk result (λ c.
+        (app_of c ≡ files_app contexts.entry) × ((fields_of c).has_globals ≡ false)) }
+{
+    top_command(alloc)
+        .subcommand(pack_command(alloc, contexts)?)?
+        .subcommand(unpack_command(alloc)?)
+}
+
+fn line_command<'a>(alloc: Global, contexts: &'a [&'a str]) -> Result<Command<'a>, AllocError>
+    ensures { IfOk result (λ c.
+        (app_of c ≡ line_app contexts.entry) × ((fields_of c).has_globals ≡ false)) }
+{
+    files_command(alloc, contexts)?
+        .subcommand(check_command(alloc)?)?
+        .subcommand(show_command(alloc)?)?
+        .subcommand(trial_command(alloc)?)
+}
+
+fn refusal(alloc: Global, kind: ErrorKind, why: &str) -> Result<Error, AllocError>
+    ensures { IfOk result (λ e. kind_of e ≡ kind) }
+{
+    line_command(alloc, CONTEXTS.as_slice())?.error(kind, why)
+}
+
+fn without_conflict<'a>(alloc: Global, order: Order<'a>) -> Result<Order<'a>, Error>
+    ensures ok { IfOk result (λ o. (o ≡ order.entry) × (is_in_conflict o ≡ false)) }
+    ensures err { IfErr result (λ e. (kind_of e ≡ kind.OutOfMemory)
+        ⊎ ((kind_of e ≡ kind.ArgumentConflict) × (is_in_conflict order.entry ≡ true))) }
+{
+    match order.conflict() {
+        None => Ok(order),
+        Some(why) => Err(refusal(alloc, ErrorKind::ArgumentConflict, why)?),
+    }
+}
+
+/// `words`, by a line whose `--contexts` takes these words.
+fn read<'a>(
+    alloc: Global,
+    contexts: &'a [&'a str],
+    words: &'a [&'a str],
+) -> Result<Order<'a>, Error>
+    requires { AreContexts contexts }
+    ensures ok { IfOk result (IsOrder (line_app contexts.entry)
+        (map (λ w. w.now) words.entry.now)) }
+    ensures err { IfErr result (IsRefused (line_app contexts.entry)
+        (map (λ w. w.now) words.entry.now)) }
+    ensures taken { IfErr result (IsRefusedIfTaken (line_app contexts.entry)
+        (map (λ w. w.now) words.entry.now)) }
+{
+    let matches = line_command(alloc, contexts)?.try_get_matches_from(words)?;
+    if let Some((name, rows)) = matches.subcommand() {
+        if let Some(order) = order_of(name, rows) {
+            return without_conflict(alloc, order);
+        }
+    }
+    Err(refusal(alloc, ErrorKind::InvalidValue, "no such order")?)
+}
+
+/// Reads the words of a command line, the program's name first. The order is what the line names by
+/// clap's meaning of it, each option that is left out by its default, and its files are not in
+/// conflict. A path `-` is standard input or standard output.
+///
+/// The error is clap's own, whose text says why, of a kind that clap's meaning of the line gives;
+/// or the line names no order; or it is an `ArgumentConflict`, where `pack` or `unpack` has one
+/// text for both its files other than `-`, or writes to `/dev/stdout`, `/dev/fd/1` or
+/// `/proc/self/fd/1`; or memory was refused. A line that clap takes names an order, and fails for want of memory and for such a
+/// conflict alone.
+pub fn words<'a>(alloc: Global, words: &'a [&'a str]) -> Result<Order<'a>, Error>
+    ensures ok { IfOk result (λ o.
+        OnLine (λ line. IsOrder line (map (λ w. w.now) words.entry.now) o)) }
+    ensures err { IfErr result (λ e.
+        OnLine (λ line. IsRefused line (map (λ w. w.now) words.entry.now) e)) }
+    ensures taken { IfErr result (λ e.
+        OnLine (λ line. IsRefusedIfTaken line (map (λ w. w.now) words.entry.now) e)) }
+{
+    read(alloc, CONTEXTS.as_slice(), words)
+}

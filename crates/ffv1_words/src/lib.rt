@@ -1,0 +1,17 @@
+//! The words of a command line, read as an order: what the program `ffv1` is asked for.
+//!
+//! `words` reads a line as an `Order`, by `clap`'s meaning of it. An `Order` has the paths and
+//! switches of one command, and `Choice` how `pack` codes. The test `trials::example` of
+//! `ffv1_tests` runs this:
+//!
+//! ```text
+//! if let Order::Trial { input } = words(alloc, &["ffv1", "trial", "disc.y4m"])? { .. }
+//! ```
+#![tactic(auto)]
+
+mod command_line;
+mod matched;
+mod order;
+
+pub use command_line::{VERSION, words};
+pub use order::{Choice, CoderChoice, Order, is_hyphen};

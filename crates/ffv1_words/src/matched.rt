@@ -1,0 +1,196 @@
+//! The order that the matches of a subcommand name.
+
+ghost use Rattle.std.specs.Prelude.{◌≡◌, IfSome, IsNone, ℕ, Bool, Some, codes};
+ghost use Rattle.std.specs.Option.{option_map};
+ghost use Rattle.clap.specs.Words.{found_of, first_of, rows_of};
+ghost use Rattle.ffv1_words.specs.declared.order.Choice.{Choice};
+ghost use Rattle.ffv1_words.specs.declared.order.CoderChoice.{CoderChoice};
+ghost use Rattle.ffv1_words.specs.Order.{Names, NamesChoice, NamesFlag, NamesNone, NamesNumber};
+ghost use Rattle.ffv1_words.specs.Order.{bit_number, coder_number, contexts_word};
+
+use crate::order::{Choice, CoderChoice, Order};
+use clap::ArgMatches;
+
+fn path<'a>(rows: &ArgMatches<'a>, id: &str) -> Option<&'a str>
+    ensures { option_map (λ t. t.now) result ≡ first_of id.now (rows_of (found_of rows.now)) }
+{
+    rows.get_str(id)
+}
+
+fn number(rows: &ArgMatches<'_>, id: &str, low: u32, high: u32) -> Option<u32>
+    ensures some { IfSome result (λ n.
+        NamesNumber (rows_of (found_of rows.now)) id.now low high n) }
+    ensures none { IsNone result
+        → (n : ℕ) → NamesNumber (rows_of (found_of rows.now)) id.now low high n → ⊥ }
+{
+    let n = rows.get_one::<u32>(id)?;
+    if low <= n && n <= high { Some(n) } else { None }
+}
+
+fn coder(rows: &ArgMatches<'_>) -> Option<CoderChoice>
+    ensures some { IfSome result (λ c.
+        NamesNumber (rows_of (found_of rows.now)) (codes "coder") 1 2 (coder_number c)) }
+    ensures none { IsNone result → (c : CoderChoice)
+        → NamesNumber (rows_of (found_of rows.now)) (codes "coder") 1 2 (coder_number c) → ⊥ }
+{
+    match number(rows, "coder", 1, 2)? {
+        1 => Some(CoderChoice::Standard),
+        _ => Some(CoderChoice::Carried),
+    }
+}
+
+fn ec(rows: &ArgMatches<'_>) -> Option<bool>
+    ensures some { IfSome result (λ b.
+        NamesNumber (rows_of (found_of rows.now)) (codes "ec") 0 1 (bit_number b)) }
+    ensures none { IsNone result → (b : Bool)
+        → NamesNumber (rows_of (found_of rows.now)) (codes "ec") 0 1 (bit_number b) → ⊥ }
+{
+    match number(rows, "ec", 0, 1)? {
+        0 => Some(false),
+        _ => Some(true),
+    }
+}
+
+fn flag(rows: &ArgMatches<'_>, id: &str) -> Option<bool>
+    ensures some { IfSome result (λ b. NamesFlag (rows_of (found_of rows.now)) id.now b) }
+    ensures none { IsNone result
+        → (b : Bool) → NamesFlag (rows_of (found_of rows.now)) id.now b → ⊥ }
+{
+    let word = path(rows, id)?;
+    if word == "true" {
+        Some(true)
+    } else if word == "false" {
+        Some(false)
+    } else {
+        None
+    }
+}
+
+fn large(rows: &ArgMatches<'_>) -> Option<bool>
+    ensures some { IfSome result (λ b.
+        first_of (codes "contexts") (rows_of (found_of rows.now)) ≡ Some (contexts_word b)) }
+    ensures none { IsNone result → (b : Bool)
+        → first_of (codes "contexts") (rows_of (found_of rows.now)) ≡ Some (contexts_word b) → ⊥ }
+{
+    let word = path(rows, "contexts")?;
+    if word == "large" {
+        Some(true)
+    } else if word == "small" {
+        Some(false)
+    } else {
+        None
+    }
+}
+
+fn choice(matches: &ArgMatches<'_>) -> Option<Choice>
+    ensures some { IfSome result (λ c. NamesChoice (rows_of (found_of matches.now)) c) }
+    ensures none { IsNone result
+        → (c : Choice) → NamesChoice (rows_of (found_of matches.now)) c → ⊥ }
+{
+    let coder = coder(matches)?;
+    let large = large(matches)?;
+    let columns = number(matches, "columns", 1, 32)?;
+    let rows = number(matches, "rows", 1, 32)?;
+    let ec = ec(matches)?;
+    let rate = number(matches, "rate", 1, 4294967295)?;
+    let scale = number(matches, "scale", 1, 4294967295)?;
+    Some(Choice {
+        coder,
+        large,
+        columns,
+        rows,
+        ec,
+        rate,
+        scale,
+    })
+}
+
+fn pack_order<'a>(rows: &ArgMatches<'a>) -> Option<Order<'a>>
+    ensures some { IfSome result (λ o.
+        Names o (Some (codes "pack", rows_of (found_of rows.now)))) }
+    ensures none { IsNone result → NamesNone (Some (codes "pack", rows_of (found_of rows.now))) }
+{
+    let input = path(rows, "IN")?;
+    let output = path(rows, "OUT")?;
+    let choice = choice(rows)?;
+    let no_clobber = flag(rows, "no-clobber")?;
+    let progress = flag(rows, "progress")?;
+    Some(Order::Pack {
+        input,
+        output,
+        choice,
+        no_clobber,
+        progress,
+    })
+}
+
+fn unpack_order<'a>(rows: &ArgMatches<'a>) -> Option<Order<'a>>
+    ensures some { IfSome result (λ o.
+        Names o (Some (codes "unpack", rows_of (found_of rows.now)))) }
+    ensures none { IsNone result → NamesNone (Some (codes "unpack", rows_of (found_of rows.now))) }
+{
+    let input = path(rows, "IN")?;
+    let output = path(rows, "OUT")?;
+    let no_clobber = flag(rows, "no-clobber")?;
+    let progress = flag(rows, "progress")?;
+    Some(Order::Unpack {
+        input,
+        output,
+        no_clobber,
+        progress,
+    })
+}
+
+fn check_order<'a>(rows: &ArgMatches<'a>) -> Option<Order<'a>>
+    ensures some { IfSome result (λ o.
+        Names o (Some (codes "check", rows_of (found_of rows.now)))) }
+    ensures none { IsNone result → NamesNone (Some (codes "check", rows_of (found_of rows.now))) }
+{
+    let input = path(rows, "IN")?;
+    let place = flag(rows, "place")?;
+    let progress = flag(rows, "progress")?;
+    Some(Order::Check {
+        input,
+        place,
+        progress,
+    })
+}
+
+fn show_order<'a>(rows: &ArgMatches<'a>) -> Option<Order<'a>>
+    ensures some { IfSome result (λ o.
+        Names o (Some (codes "show", rows_of (found_of rows.now)))) }
+    ensures none { IsNone result → NamesNone (Some (codes "show", rows_of (found_of rows.now))) }
+{
+    let input = path(rows, "IN")?;
+    let cost = flag(rows, "cost")?;
+    Some(Order::Show { input, cost })
+}
+
+fn trial_order<'a>(rows: &ArgMatches<'a>) -> Option<Order<'a>>
+    ensures some { IfSome result (λ o.
+        Names o (Some (codes "trial", rows_of (found_of rows.now)))) }
+    ensures none { IsNone result → NamesNone (Some (codes "trial", rows_of (found_of rows.now))) }
+{
+    let input = path(rows, "IN")?;
+    Some(Order::Trial { input })
+}
+
+/// The order that a subcommand's name and its matches name.
+pub fn order_of<'a>(name: &str, rows: &ArgMatches<'a>) -> Option<Order<'a>>
+    ensures some { IfSome result (λ o. Names o (Some (name.now, rows_of (found_of rows.now)))) }
+    ensures none { IsNone result → NamesNone (Some (name.now, rows_of (found_of rows.now))) }
+{
+    if name == "pack" {
+        pack_order(rows)
+    } else if name == "unpack" {
+        unpack_order(rows)
+    } else if name == "check" {
+        check_order(rows)
+    } else if name == "show" {
+        show_order(rows)
+    } else if name == "trial" {
+        trial_order(rows)
+    } else {
+        None
+    }
+}

@@ -1,0 +1,123 @@
+//! What a command line asks for, and which files of it are in conflict.
+
+ghost use Rattle.std.specs.Prelude.{◌≡◌, is_some};
+ghost use Rattle.ffv1_words.specs.Order.{is_conflict, is_hyphen, is_in_conflict};
+ghost use Rattle.ffv1_words.specs.Order.{is_standard_output};
+
+/// Which state transition table `pack` codes with.
+#[derive(Clone, Copy, Debug, PartialEq, Eq)]
+pub enum CoderChoice {
+    /// The standard table.
+    Standard,
+    /// A table that the configuration record carries, whose deltas are all 0.
+    Carried,
+}
+
+/// How `pack` codes.
+#[derive(Clone, Copy, Debug, PartialEq, Eq)]
+pub struct Choice {
+    /// The state transition table.
+    pub coder: CoderChoice,
+    /// Whether contexts are of the large quantisation set, and not of the small one.
+    pub large: bool,
+    /// How many slices stand side by side, from 1 to 32.
+    pub columns: u32,
+    /// How many slices stand one below another, from 1 to 32.
+    pub rows: u32,
+    /// Whether each slice carries its parity.
+    pub ec: bool,
+    /// Frames in `scale` seconds, at least 1: of a picture whose format does not tell.
+    pub rate: u32,
+    /// In how many seconds there are `rate` frames, at least 1.
+    pub scale: u32,
+}
+
+/// What a command line asks for.
+#[derive(Clone, Copy, Debug, PartialEq, Eq)]
+pub enum Order<'a> {
+    /// A video is coded into an AVI file.
+    Pack {
+        /// The path of the video.
+        input: &'a str,
+        /// The path of the AVI file.
+        output: &'a str,
+        /// How it is coded.
+        choice: Choice,
+        /// Whether an output that exists is refused.
+        no_clobber: bool,
+        /// Whether it is told how much of the video is read.
+        progress: bool,
+    },
+    /// The video of an AVI file is decoded.
+    Unpack {
+        /// The path of the AVI file.
+        input: &'a str,
+        /// The path of the video.
+        output: &'a str,
+        /// Whether an output that exists is refused.
+        no_clobber: bool,
+        /// Whether it is told how much of the file is read.
+        progress: bool,
+    },
+    /// The video of an AVI file is decoded, and what its frames hold is told.
+    Check {
+        /// The path of the AVI file.
+        input: &'a str,
+        /// Whether the place of a fault is told too.
+        place: bool,
+        /// Whether it is told how much of the file is read.
+        progress: bool,
+    },
+    /// The configuration of an AVI file is told.
+    Show {
+        /// The path of the AVI file.
+        input: &'a str,
+        /// Whether the cost of its frames is told too.
+        cost: bool,
+    },
+    /// A mono picture of YUV4MPEG2 is coded and decoded.
+    Trial {
+        /// The path of the picture.
+        input: &'a str,
+    },
+}
+
+fn is_standard_output(path: &str) -> bool
+    ensures { result ≡ is_standard_output path.now }
+{
+    path == "/dev/stdout" || path == "/dev/fd/1" || path == "/proc/self/fd/1"
+}
+
+/// Whether a path is a hyphen alone, which is standard input as IN, and standard output as OUT. A
+/// file of that name is `./-`.
+pub fn is_hyphen(path: &str) -> bool
+    ensures { result ≡ is_hyphen path.now }
+{
+    path == "-"
+}
+
+fn conflict_of(input: &str, output: &str) -> Option<&'static str>
+    ensures { is_some result ≡ is_conflict input.now output.now }
+{
+    if input == output && !is_hyphen(output) {
+        return Some("IN and OUT are one path");
+    }
+    if is_standard_output(output) {
+        return Some("OUT is standard output, to which the number of frames is printed: give -");
+    }
+    None
+}
+
+impl<'a> Order<'a> {
+    /// Why its files are in conflict, where they are.
+    pub(crate) fn conflict(self) -> Option<&'static str>
+        ensures { is_some result ≡ is_in_conflict self.entry }
+    {
+        match self {
+            Order::Pack { input, output, .. } | Order::Unpack { input, output, .. } => {
+                conflict_of(input, output)
+            }
+            Order::Check { .. } | Order::Show { .. } | Order::Trial { .. } => None,
+        }
+    }
+}
