@@ -20,8 +20,11 @@ _ffv1() {
         case "$command" in
             "") words="pack unpack check show trial help --help --version" ;;
             help) words="pack unpack check show trial" ;;
-            pack) words="--coder --contexts --columns --rows --ec --rate --scale --progress --help" ;;
-            unpack) words="--progress --help" ;;
+            pack)
+                words="--coder --contexts --columns --rows --ec --rate --scale"
+                words="$words --no-clobber --progress --help"
+                ;;
+            unpack) words="--no-clobber --progress --help" ;;
             check) words="--place --progress --help" ;;
             show) words="--cost --help" ;;
             trial) words="--help" ;;

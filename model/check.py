@@ -34,10 +34,11 @@ def fill(folder, given):
 
 def by_model(words):
     """The status, the standard output and the line on standard error of a command line, in this
-    folder; that line is none where it is clap's text."""
+    folder, whose standard input is empty; that line is none where it is clap's text."""
     printed = []
-    status, errors = commands.run(words, printed.append)
-    return status, "".join(printed).encode(), errors
+    with open(os.devnull, "rb") as nothing:
+        status, errors = commands.run(words, printed.append, nothing.fileno())
+    return status, b"".join(commands.data_of(part) for part in printed), errors
 
 
 def is_answered(step, answer):

@@ -8,6 +8,7 @@ are those of the program; the text of clap, for help and for a line that is refu
 """
 import os
 import re
+import stat
 import sys
 
 sys.dont_write_bytecode = True
@@ -21,6 +22,10 @@ from ffv1 import Fault
 
 class Refused(Exception):
     """A command line that is refused: status 2."""
+
+
+class Kept(Exception):
+    """Files that are refused: status 2, and why, on standard error."""
 
 
 class Help(Exception):
@@ -59,8 +64,8 @@ COMMANDS = {
         "coder": (number(1, 2), 1), "contexts": (one_of("small", "large"), "small"),
         "columns": (number(1, 32), 1), "rows": (number(1, 32), 1), "ec": (number(0, 1), 1),
         "rate": (number(1, 2 ** 32 - 1), 25), "scale": (number(1, 2 ** 32 - 1), 1),
-    }, flags=["progress"]),
-    "unpack": Level(2, flags=["progress"]),
+    }, flags=["no-clobber", "progress"]),
+    "unpack": Level(2, flags=["no-clobber", "progress"]),
     "check": Level(1, flags=["place", "progress"]),
     "show": Level(1, flags=["cost"]),
     "trial": Level(1),
@@ -134,7 +139,7 @@ def words(line):
         raise Refused(name)
     level = COMMANDS[name]
     paths, found = taken(level, rest)
-    if len(paths) == 2 and (paths[0] == paths[1] or paths[1] in STANDARD_OUTPUT):
+    if len(paths) == 2 and (paths[0] == paths[1] != "-" or paths[1] in STANDARD_OUTPUT):
         raise Refused(paths[1])
     choice = {name: default for name, (_, default) in level.options.items()}
     return Order(name, paths, {**choice, **dict.fromkeys(level.flags, False), **found})
@@ -348,11 +353,23 @@ def opened_file(path, flags, number):
         raise Fault(number)
 
 
-def writer(descriptor):
-    """Writes all bytes to a file; a write that failed is 57."""
+def data_of(written):
+    """The bytes of a text, or of bytes."""
+    return written.encode() if isinstance(written, str) else written
+
+
+def writer(descriptor, anew=False):
+    """Writes all bytes to a file; a write that failed is 57. With `anew` what the file holds goes
+    when the first byte is written."""
+    is_old = anew and stat.S_ISREG(os.fstat(descriptor).st_mode)
+
     def write(data):
-        data = data.encode() if isinstance(data, str) else data
+        nonlocal is_old
+        data = data_of(data)
         try:
+            if is_old and data:
+                os.ftruncate(descriptor, 0)
+                is_old = False
             while data:
                 data = data[os.write(descriptor, data):]
         except OSError:
@@ -360,18 +377,49 @@ def writer(descriptor):
     return write
 
 
-def perform(order, output):
-    """Does what a command line asks for, and prints by `output`: IN is opened, then OUT is made
-    empty."""
-    descriptors = [opened_file(order.files[0], os.O_RDONLY, 56)]
+def is_one_file(source, path):
+    """Whether a file or block device that is read is the one of a path."""
+    kind = os.fstat(source)
+    if not (stat.S_ISREG(kind.st_mode) or stat.S_ISBLK(kind.st_mode)):
+        return False
+    try:
+        return os.path.samestat(kind, os.stat("/dev/stdout" if path == "-" else path))
+    except OSError:
+        return False
+
+
+def opened_output(path, no_clobber):
+    """The descriptor of a file that is written."""
+    if no_clobber and os.path.lexists(path):
+        raise Kept("OUT exists")
+    return opened_file(path, os.O_WRONLY | os.O_CREAT, 57)
+
+
+def make(order, source, descriptors, output):
+    """Does what `pack` or `unpack` asks for: OUT is opened where it is not the file of IN. It
+    answers what is printed on standard error, the count where OUT is standard output."""
+    path, out = order.files[1], output
+    if is_one_file(descriptors[0], path):
+        raise Kept("IN and OUT are one file")
+    if path != "-":
+        descriptors.append(opened_output(path, order.choice["no-clobber"]))
+        out = writer(descriptors[1], anew=True)
+    count = pack(source, out, order.choice) if order.command == "pack" else unpack(source, out)
+    if path == "-":
+        return count
+    output(count)
+    return ""
+
+
+def perform(order, output, standard_input):
+    """Does what a command line asks for, and prints by `output`: IN is opened, then OUT. It answers
+    what is printed on standard error."""
+    path, told = order.files[0], ""
+    descriptors = [os.dup(standard_input) if path == "-" else opened_file(path, os.O_RDONLY, 56)]
     try:
         source = files.Source(lambda count: os.read(descriptors[0], count))
         if order.command in ("pack", "unpack"):
-            flags = os.O_WRONLY | os.O_CREAT | os.O_TRUNC
-            descriptors.append(opened_file(order.files[1], flags, 57))
-            out = writer(descriptors[1])
-            is_pack = order.command == "pack"
-            output(pack(source, out, order.choice) if is_pack else unpack(source, out))
+            told = make(order, source, descriptors, output)
         elif order.command == "check":
             check(source, output, order.choice["place"])
         elif order.command == "show":
@@ -381,19 +429,21 @@ def perform(order, output):
     finally:
         for descriptor in descriptors:
             os.close(descriptor)
+    return told
 
 
-def run(line, output):
+def run(line, output, standard_input=0):
     """The exit status of a command line, and the line on standard error; none for clap's text."""
     try:
-        perform(words(line), output)
+        return 0, perform(words(line), output, standard_input)
     except Refused:
         return 2, None
+    except Kept as kept:
+        return 2, f"ffv1: {kept}\n"
     except Help:
         return 0, None
     except Fault as fault:
         return 1, f"ffv1: {fault}\n"
-    return 0, ""
 
 
 def main(line):

@@ -257,13 +257,14 @@ def option(dice, good):
 
 
 def options(dice, good):
-    """Options of pack, and its flag; where they are good, none comes twice."""
+    """Options of pack, and its flags; where they are good, none comes twice."""
     found = {}
     for _ in range(dice.choice([0, 1, 2, 2, 3])):
         words = option(dice, good)
         key = words[0].split("=")[0] if good else len(found)
         found[key] = words
-    return list(found.values()) + [["--progress"]] * (dice.random() < 0.1)
+    return list(found.values()) + [["--progress"]] * (dice.random() < 0.1) \
+        + [["--no-clobber"]] * (dice.random() < 0.1)
 
 
 def placed(dice, paths, groups):
@@ -278,8 +279,9 @@ SOME_WORDS = [
     "in", "out", "in", "out", "no", ".", "./in", "/dev/full", "/dev/null", "", "--", "-", "-h",
     "--help", "help", "--place", "--cost", "--ec", "--ec=0", "--columns", "2", "--deep", "-x", "-1",
     "pack", "check", "--place=1", "---", "\u00e9", "in/x", "--progress", "--version", "-V",
+    "--no-clobber",
 ]
-OUTPUTS = ["out"] * 40 + ["in", "./in", "no/out", "/dev/full", *commands.STANDARD_OUTPUT]
+OUTPUTS = ["out"] * 40 + ["in", "./in", "no/out", "/dev/full", "-", *commands.STANDARD_OUTPUT]
 NAMES = ["pack", "unpack", "check", "show", "trial"]
 
 
@@ -316,6 +318,8 @@ def file_line(dice):
                          ["check", "in", "--place"], ["show", "in"], ["show", "--cost", "in"]])
     if words[0] != "show" and dice.random() < 0.1:
         words = [words[0], "--progress", *words[1:]]
+    if words[0] == "unpack" and dice.random() < 0.1:
+        words = [words[0], "--no-clobber", *words[1:]]
     return words if dice.random() < 0.95 else changed(dice, words)
 
 

@@ -7,12 +7,17 @@ ANY = None      # an output that is not compared
 
 class Step:
     """One command line: its standard output, and the fault on standard error; or status 2, and
-    clap's text there."""
+    clap's text there; or the count there, where standard output has what OUT would."""
 
-    def __init__(self, words, output="", fault="", status=None):
+    def __init__(self, words, output="", fault="", status=None, errors=None):
         self.words, self.output = words, output
         self.status = status if status is not None else 1 if fault else 0
-        self.errors = f"ffv1: {fault}\n" if fault else ANY if status is not None else ""
+        self.errors = f"ffv1: {fault}\n" if fault else ANY if status is not None else errors or ""
+
+
+def kept(words, why):
+    """A command line whose files are refused, which is a line on standard error."""
+    return Step(words, "", why, status=2)
 
 
 def helped(words):

@@ -1,5 +1,5 @@
 """Command lines, taken and refused, and paths."""
-from known_answers.case import FRAME, MONO, RED, Case, Step, avi, helped, one, y4m
+from known_answers.case import FRAME, MONO, RED, Case, Step, avi, helped, kept, one, y4m
 
 WITHOUT, WITH = "frames 1 bytes 5\n", "frames 1 bytes 10\n"     # without parity, and with it
 PACKS = [
@@ -7,11 +7,12 @@ PACKS = [
     ("pack in out --ec 0", WITHOUT), ("pack in out --ec=0", WITHOUT), ("pack --ec=1 in out", WITH),
     ("pack in --ec=00 -- out", WITHOUT), ("pack --ec +0 in out", WITHOUT),
     ("pack -- in out", WITH), ("pack -- --ec out", WITH), ("pack --ec 0 -- --ec out", WITHOUT),
-    ("pack - out", WITH), ("pack trial out", WITH), ("pack in -- out", WITH),
+    ("pack ./- out", WITH), ("pack trial out", WITH), ("pack in -- out", WITH),
     ("pack --columns 1 --rows 1 --coder 1 --contexts small in out --ec 0", WITHOUT),
     ("pack --rate 4294967295 --scale 4294967295 --ec 0 in out", WITHOUT),
     ("pack --progress in out", WITH), ("pack in out --progress --ec 0", WITHOUT),
-    ("pack -- in --progress", WITH),
+    ("pack -- in --progress", WITH), ("pack --no-clobber in out", WITH),
+    ("pack --progress in out --no-clobber --ec 0", WITHOUT),
 ]
 CHECKS = [
     "check out", "check --place out", "check out --place", "check -- out", "check --progress out",
@@ -43,7 +44,8 @@ REFUSED = [
     "check", "check in out", "show", "show in out", "trial", "trial in out",
     "pack --deep in out", "pack -e 0 in out", "pack in out -1", "unpack --ec 0 in out",
     "check --cost in", "show --place in", "show --progress in", "trial --progress in",
-    "--progress check in", "check --progress --progress in", "unpack --progress=1 in out", "trial --place in", "pack --place in out",
+    "--progress check in", "check --progress --progress in", "unpack --progress=1 in out",
+    "trial --place in", "pack --place in out",
     "pack --coder 0 in out", "pack --coder 3 in out", "pack --coder x in out",
     "pack --contexts medium in out", "pack --contexts Small in out", "pack --contexts= in out",
     "pack --columns 0 in out", "pack --columns 33 in out", "pack --columns=-1 in out",
@@ -54,6 +56,8 @@ REFUSED = [
     "pack --scale 99999999999999999999 in out", "pack in out --ec", "pack in out --columns",
     "pack --ec -- 0 in out", "pack --ec 1 --ec 1 in out", "pack --ec=0 in out --ec=1",
     "pack --columns 2 --columns=2 in out", "check --place --place in", "show --cost in --cost",
+    "pack --no-clobber --no-clobber in out", "unpack --no-clobber=1 in out",
+    "check --no-clobber in", "show --no-clobber in", "trial --no-clobber in",
     "check --place=true in", "show --cost=1 in", "pack --columns 99 --help",
     "pack --columns --help", "pack --help=1 in out", "pack in out x --help", "-x --help", "--help=",
 ]
@@ -61,7 +65,7 @@ REFUSED = [
 CONFLICTS = [
     "pack in in", "unpack in in", "pack in /dev/stdout", "pack in /dev/fd/1",
     "pack in /proc/self/fd/1", "unpack in /dev/stdout", "unpack in /dev/fd/1",
-    "unpack in -- /proc/self/fd/1", "pack no no",
+    "unpack in -- /proc/self/fd/1", "pack no no", "pack - /dev/stdout",
 ]
 
 
@@ -93,19 +97,45 @@ def unopened_files():
         yield Case(f"an empty word in {words}", given, [Step(words, "", fault)], given)
 
 
-def emptied_files():
-    """OUT is made empty once IN is open, whatever comes then."""
-    given = {"in": MONO, "out": b"gone"}
+def kept_files():
+    """A file that is there is kept where nothing is written; a new one is empty then."""
+    given = {"in": MONO, "out": b"kept"}
     for line, fault in [("pack . out", "56 Read"), ("unpack . out", "56 Read"),
                         ("unpack in out", "50 NotAvi"), ("pack out in", "60 Header"),
-                        ("pack in ./in", "60 Header"), ("unpack ./in in", "52 Truncated")]:
-        words = line.split()
-        left = {**given, words[2].removeprefix("./"): b""}
-        yield Case(line, given, [Step(words, "", fault)], left)
+                        ("unpack - out", "52 Truncated"), ("pack - out", "60 Header")]:
+        yield Case(line, given, [Step(line.split(), "", fault)], given)
+    for line, fault in [("pack . new", "56 Read"), ("unpack in new", "50 NotAvi")]:
+        yield Case(line, given, [Step(line.split(), "", fault)], {**given, "new": b""})
+    file = avi(one(), [b"\1", FRAME])
+    yield Case("a payload is refused", {"in": file, "out": b"kept"},
+               [Step(["unpack", "in", "out"], "", "35 Footer")], {"in": file, "out": b"kept"})
+    for line in ["pack in ./in", "pack ./in in", "unpack in ./in", "pack --no-clobber in ./in"]:
+        yield Case(line, given, [kept(line.split(), "IN and OUT are one file")], given)
+    for line in ["pack --no-clobber in out", "unpack --no-clobber in out",
+                 "pack --no-clobber in /dev/null", "pack --no-clobber in ."]:
+        yield Case(line, given, [kept(line.split(), "OUT exists")], given)
+    yield Case("no folder for OUT", given,
+               [Step(["pack", "--no-clobber", "in", "no/out"], "", "57 Write")], given)
+
+
+def rewritten_files():
+    """A file that is there is written from its begin."""
     text = b"a longer text, which is gone" * 20
     yield Case("a shorter text than before", {"in": avi(one(), [FRAME]), "out": text},
                [Step(["unpack", "in", "out"], "frames 1\n")],
                {"out": y4m("W1 H1 F25:1 I? A0:0 Cmono", b"\0")})
+
+
+def standard_streams():
+    """A hyphen is standard output as OUT, and then the count is on standard error."""
+    text = y4m("W1 H1 F25:1 I? A0:0 Cmono", b"\0")
+    yield Case("unpack to standard output", {"in": avi(one(), [FRAME])},
+               [Step(["unpack", "in", "-"], text.decode(), errors="frames 1\n")])
+    yield Case("a fault where OUT is standard output", {"in": MONO},
+               [Step(["unpack", "--no-clobber", "in", "-"], "", "50 NotAvi")])
+    yield Case("both", {}, [Step(["pack", "-", "-"], "", "60 Header")])
+    yield Case("a file by that name", {"in": MONO},
+               [Step(["pack", "--ec", "0", "in", "./-"], WITHOUT)], {"-": avi(one(), [FRAME], 0, 0)})
 
 
 def faults_in_turn():
@@ -136,4 +166,7 @@ def trials():
         yield Case(f"trial of {name}", {"in": text}, [Step(["trial", "in"], "", fault)])
 
 
-CASES = [taken_lines, refused_lines, unopened_files, emptied_files, faults_in_turn, trials]
+CASES = [
+    taken_lines, refused_lines, unopened_files, kept_files, rewritten_files, standard_streams,
+    faults_in_turn, trials,
+]

@@ -2,135 +2,154 @@
 //! `ffv1_engine`.
 #![tactic(auto)]
 
-ghost use Rattle.std.specs.Prelude.{◌≡◌, IsOk, IsErr};
+ghost use Rattle.std.specs.Prelude.{◌≡◌, IsOk, Err};
+ghost use Rattle.ffv1.specs.declared.refusal.Refusal.TheVariants as refusal;
+ghost use Rattle.ffv1_engine.specs.declared.fault.Fault.{Fault};
 
+mod input;
+mod output;
 mod progress;
+mod refusal;
 
-use ffv1_engine::{Choice, Fault, Order, check, pack, show, trial, unpack, words};
-use ffv1_wire::{FromRead, ToWrite};
-use progress::Watched;
+use ffv1_engine::{Fault, check, pack, show, trial, unpack};
+use ffv1_wire::ToWrite;
+use ffv1_words::{Choice, Order, is_hyphen, words};
+use input::{open_input, watched};
+use output::open_output;
+use refusal::Refusal;
 use std::alloc::Global;
-use std::fs::OpenFile;
+use std::io::Input;
 use std::process::ExitCode;
 use std::rt::Files;
 use std::time::Clock;
-use std::{env, fs, io};
+use std::{env, io};
 
-/// Codes and decodes the mono picture of a file, and prints what it found.
-fn run_trial(rt: &(impl Files + Print), alloc: Global, input: &str) -> Result<(), Fault> {
-    let Ok(file) = fs::open(rt, input) else {
-        return Err(Fault::Read);
+/// Prints a count: on standard output, or on standard error where the output itself goes there.
+fn print_count(rt: &(impl Print + Eprint), output: &str, count: &str) -> Result<(), Refusal> {
+    let printed = if is_hyphen(output) {
+        eprintln!(rt; "{count}")
+    } else {
+        println!(rt; "{count}")
     };
-    let mut reader = FromRead::new(file);
-    let mut writer = ToWrite::new(io::writer(rt));
-    trial(alloc, &mut reader, &mut writer)
-}
-
-/// Opens a file whose reader tells how much was read, where that is asked for.
-fn open_watched<'a, H: Files + Eprint + Clock>(
-    rt: &'a H,
-    input: &str,
-    progress: bool,
-) -> Result<Watched<'a, FromRead<H::File>, H>, Fault> {
-    let Ok(file) = fs::open(rt, input) else {
-        return Err(Fault::Read);
-    };
-    let size = match file.metadata() {
-        Ok(metadata) if metadata.is_file() => Some(metadata.len()),
-        _ => None,
-    };
-    Ok(Watched::new(rt, FromRead::new(file), size, progress))
-}
-
-/// Packs the video of a file into another one, and prints how many frames and bytes of them there
-/// are. The input is opened first, and then the output is made empty.
-fn run_pack(
-    rt: &(impl Files + Print + Eprint + Clock),
-    alloc: Global,
-    input: &str,
-    output: &str,
-    choice: &Choice,
-    progress: bool,
-) -> Result<(), Fault> {
-    let mut reader = open_watched(rt, input, progress)?;
-    let Ok(made) = fs::create(rt, output) else {
-        return Err(Fault::Write);
-    };
-    let mut writer = ToWrite::new(made);
-    let packed = pack(alloc, &mut reader, &mut writer, choice)?;
-    if println!(rt; "frames {} bytes {}", packed.frames, packed.bytes).is_err() {
-        return Err(Fault::Write);
+    if printed.is_err() {
+        return Err(Refusal::Fault(Fault::Write));
     }
     Ok(())
+}
+
+/// What a command that makes a file is given.
+#[derive(Clone, Copy)]
+struct Making<'a> {
+    input: &'a str,
+    output: &'a str,
+    no_clobber: bool,
+    progress: bool,
+}
+
+/// Packs a video into a file, and prints how many frames and bytes of them there are. The input is
+/// opened first, and then the output.
+fn run_pack(
+    rt: &(impl Files + Input + Print + Eprint + Clock),
+    alloc: Global,
+    files: &Making<'_>,
+    choice: &Choice,
+) -> Result<(), Refusal> {
+    let (source, metadata) = open_input(rt, files.input)?;
+    let mut writer = open_output(rt, files.output, &metadata, files.no_clobber)?;
+    let mut reader = watched(rt, source, &metadata, files.progress);
+    let packed = pack(alloc, &mut reader, &mut writer, choice)?;
+    let count = format!(in alloc; "frames {} bytes {}", packed.frames, packed.bytes)?;
+    print_count(rt, files.output, &count)
 }
 
 /// Unpacks a file into a text of its pictures, and prints how many there are. The input is opened
-/// first, and then the output is made empty.
+/// first, and then the output.
 fn run_unpack(
-    rt: &(impl Files + Print + Eprint + Clock),
+    rt: &(impl Files + Input + Print + Eprint + Clock),
     alloc: Global,
-    input: &str,
-    output: &str,
-    progress: bool,
-) -> Result<(), Fault> {
-    let mut reader = open_watched(rt, input, progress)?;
-    let Ok(made) = fs::create(rt, output) else {
-        return Err(Fault::Write);
-    };
-    let (_written, answer) = unpack(alloc, &mut reader, ToWrite::new(made));
+    files: &Making<'_>,
+) -> Result<(), Refusal> {
+    let (source, metadata) = open_input(rt, files.input)?;
+    let writer = open_output(rt, files.output, &metadata, files.no_clobber)?;
+    let mut reader = watched(rt, source, &metadata, files.progress);
+    let (_written, answer) = unpack(alloc, &mut reader, writer);
     let frames = answer?;
-    if println!(rt; "frames {frames}").is_err() {
-        return Err(Fault::Write);
-    }
-    Ok(())
+    let count = format!(in alloc; "frames {frames}")?;
+    print_count(rt, files.output, &count)
 }
 
 /// Decodes all frames of a file, and prints what each took, and with `place` where one is refused.
 fn run_check(
-    rt: &(impl Files + Print + Eprint + Clock),
+    rt: &(impl Files + Input + Print + Eprint + Clock),
     alloc: Global,
     input: &str,
     place: bool,
     progress: bool,
-) -> Result<(), Fault> {
-    let mut reader = open_watched(rt, input, progress)?;
+) -> Result<(), Refusal> {
+    let (source, metadata) = open_input(rt, input)?;
+    let mut reader = watched(rt, source, &metadata, progress);
     let mut writer = ToWrite::new(io::writer(rt));
-    check(alloc, &mut reader, &mut writer, place)
+    check(alloc, &mut reader, &mut writer, place)?;
+    Ok(())
 }
 
 /// Prints what a file says, and with `cost` what its frames cost.
 fn run_show(
-    rt: &(impl Files + Print),
+    rt: &(impl Files + Input + Print),
     alloc: Global,
     input: &str,
     cost: bool,
-) -> Result<(), Fault> {
-    let Ok(file) = fs::open(rt, input) else {
-        return Err(Fault::Read);
-    };
-    let mut reader = FromRead::new(file);
+) -> Result<(), Refusal> {
+    let (mut reader, _) = open_input(rt, input)?;
     let mut writer = ToWrite::new(io::writer(rt));
-    show(alloc, &mut reader, &mut writer, cost)
+    show(alloc, &mut reader, &mut writer, cost)?;
+    Ok(())
+}
+
+/// Codes and decodes the mono picture of a file, and prints what it found.
+fn run_trial(rt: &(impl Files + Input + Print), alloc: Global, input: &str) -> Result<(), Refusal> {
+    let (mut reader, _) = open_input(rt, input)?;
+    let mut writer = ToWrite::new(io::writer(rt));
+    trial(alloc, &mut reader, &mut writer)?;
+    Ok(())
 }
 
 /// Does what an order asks for.
 fn run(
-    rt: &(impl Files + Print + Eprint + Clock),
+    rt: &(impl Files + Input + Print + Eprint + Clock),
     alloc: Global,
     order: Order<'_>,
-) -> Result<(), Fault> {
+) -> Result<(), Refusal> {
     match order {
         Order::Pack {
             input,
             output,
             choice,
+            no_clobber,
             progress,
-        } => run_pack(rt, alloc, input, output, &choice, progress),
+        } => {
+            let files = Making {
+                input,
+                output,
+                no_clobber,
+                progress,
+            };
+            run_pack(rt, alloc, &files, &choice)
+        }
         Order::Unpack {
             input,
             output,
+            no_clobber,
             progress,
-        } => run_unpack(rt, alloc, input, output, progress),
+        } => {
+            let files = Making {
+                input,
+                output,
+                no_clobber,
+                progress,
+            };
+            run_unpack(rt, alloc, &files)
+        }
         Order::Check {
             input,
             place,
@@ -141,20 +160,23 @@ fn run(
     }
 }
 
-/// The exit status of an order: 0 where it was done, 1 for a fault.
-fn status_of(done: Result<(), Fault>) -> u8
+/// The exit status of an order: 0 where it was done, 1 for a fault, 2 where its files are refused.
+fn status_of(done: Result<(), Refusal>) -> u8
     ensures ok { IsOk done → result ≡ 0 }
-    ensures err { IsErr done → result ≡ 1 }
+    ensures fault { (f : Fault) → done ≡ Err (refusal.Fault f) → result ≡ 1 }
+    ensures one_file { done ≡ Err refusal.OneFile → result ≡ 2 }
+    ensures exists { done ≡ Err refusal.Exists → result ≡ 2 }
 {
     match done {
         Ok(()) => 0,
-        Err(_) => 1,
+        Err(Refusal::Fault(_)) => 1,
+        Err(Refusal::OneFile | Refusal::Exists) => 2,
     }
 }
 
 /// Does what the words of the command line ask for: status 0 for success, 1 for a fault, which is
-/// one line on standard error, and 2 for a line that is refused. All of clap's text goes to
-/// standard error, that of help too, which ends with status 0.
+/// one line on standard error, and 2 for a line or for files that are refused. All of clap's text
+/// goes to standard error, that of help too, which ends with status 0.
 fn command(rt: &HostRuntime, alloc: Global, texts: &[&str]) -> io::Result<ExitCode> {
     match words(alloc, texts) {
         Err(error) => {
@@ -167,8 +189,8 @@ fn command(rt: &HostRuntime, alloc: Global, texts: &[&str]) -> io::Result<ExitCo
         }
         Ok(order) => {
             let done = run(rt, alloc, order);
-            if let Err(fault) = done {
-                eprintln!(rt; "ffv1: {fault}")?;
+            if let Err(refusal) = done {
+                eprintln!(rt; "ffv1: {refusal}")?;
             }
             Ok(ExitCode::from(status_of(done)))
         }

@@ -1,0 +1,83 @@
+//! Where bytes are written: a file, which keeps what it holds until a byte is written, or standard
+//! output.
+
+use crate::refusal::Refusal;
+use either::{Either, Left, Right};
+use ffv1_engine::Fault;
+use ffv1_wire::ToWrite;
+use ffv1_words::is_hyphen;
+use std::fs::{Metadata, OpenFile, OpenOptions};
+use std::io::{ErrorKind, Printer, Write};
+use std::os::unix::fs::{FileTypeExt, MetadataExt};
+use std::rt::Files;
+use std::{fs, io};
+
+/// A file that is written from its begin. What it held goes when the first byte is written.
+#[derive(Drop)]
+pub struct Anew<F: Drop> {
+    file: F,
+    // Whether it still holds what it held when it was opened.
+    is_old: bool,
+}
+
+impl<F: Write + OpenFile + Drop> Write for Anew<F> {
+    fn write(&mut self, buf: &[u8]) -> io::Result<usize> {
+        if self.is_old && !buf.is_empty() {
+            self.file.set_len(0)?;
+            self.is_old = false;
+        }
+        self.file.write(buf)
+    }
+
+    fn flush(&mut self) -> io::Result<()> {
+        self.file.flush()
+    }
+}
+
+/// A writer of a file, or of standard output.
+pub type Target<'a, H> = ToWrite<Either<Anew<<H as Files>::File>, Printer<'a, H>>>;
+
+/// Whether these are one file, by its device and number. Streams and terminals, of which nothing
+/// is lost, are none.
+fn is_one_file(input: &Metadata, output: &Metadata) -> bool {
+    let is_kept = input.is_file() || input.file_type().is_block_device();
+    is_kept && input.dev() == output.dev() && input.ino() == output.ino()
+}
+
+/// Opens OUT where it is not the file of IN, and `-` is standard output. A file that is there is
+/// left as it is until a byte is written.
+///
+/// `OneFile` where IN and OUT are one file, `Exists` where a file is there and `no_clobber` asks to
+/// refuse that, and then nothing is opened; the fault `Write` where OUT cannot be opened.
+pub fn open_output<'a, H: Files + Print>(
+    rt: &'a H,
+    path: &str,
+    input: &Option<Metadata>,
+    no_clobber: bool,
+) -> Result<Target<'a, H>, Refusal> {
+    let place = if is_hyphen(path) { "/dev/stdout" } else { path };
+    let there = fs::metadata(rt, place).ok();
+    if let (Some(input), Some(output)) = (input, &there) {
+        if is_one_file(input, output) {
+            return Err(Refusal::OneFile);
+        }
+    }
+    if is_hyphen(path) {
+        return Ok(ToWrite::new(Right(io::writer(rt))));
+    }
+    let mut options = OpenOptions::new();
+    options.write(true).create(true).create_new(no_clobber);
+    match options.open(rt, path) {
+        Ok(file) => {
+            let is_old = match file.metadata() {
+                Ok(metadata) => metadata.is_file() && metadata.len() > 0,
+                Err(_) => false,
+            };
+            Ok(ToWrite::new(Left(Anew { file, is_old })))
+        }
+        Err(error) if no_clobber && error.kind() == ErrorKind::AlreadyExists => {
+            Err(Refusal::Exists)
+        }
+        Err(_) => Err(Refusal::Fault(Fault::Write)),
+    }
+}

@@ -1,0 +1,39 @@
+//! Why an order is not done.
+
+ghost use Rattle.std.specs.Prelude.{◌≡◌};
+ghost use Rattle.ffv1.specs.declared.refusal.Refusal.TheVariants as refusal;
+ghost use Rattle.ffv1_engine.specs.declared.fault.Fault.TheVariants as fault;
+
+use ffv1_engine::Fault;
+use std::alloc::AllocError;
+use thiserror::Error;
+
+/// Why an order is not done.
+#[derive(Clone, Copy, Debug, PartialEq, Eq, Error)]
+pub enum Refusal {
+    /// The engine refused it.
+    #[error("{0}")]
+    Fault(Fault),
+    /// IN and OUT are one file, by its device and number.
+    #[error("IN and OUT are one file")]
+    OneFile,
+    /// A file is there, which `--no-clobber` keeps.
+    #[error("OUT exists")]
+    Exists,
+}
+
+impl From<Fault> for Refusal {
+    ghost from_gives = { λ f r. r ≡ refusal.Fault f };
+
+    fn from(fault: Fault) -> Refusal {
+        Refusal::Fault(fault)
+    }
+}
+
+impl From<AllocError> for Refusal {
+    ghost from_gives = { λ _ r. r ≡ refusal.Fault fault.OutOfMemory };
+
+    fn from(_: AllocError) -> Refusal {
+        Refusal::Fault(Fault::OutOfMemory)
+    }
+}
