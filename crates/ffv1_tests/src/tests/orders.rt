@@ -26,6 +26,7 @@ fn packs(rt: &impl Abort, alloc: Global, option: &str, value: &str, choice: Choi
         input: "a",
         output: "b",
         choice,
+        no_clobber: false,
         progress: false,
     };
     names(rt, alloc, &["ffv1", "pack", option, value, "a", "b"], order);
@@ -55,6 +56,7 @@ fn unpack<'a>(input: &'a str, output: &'a str, progress: bool) -> Order<'a> {
     Order::Unpack {
         input,
         output,
+        no_clobber: false,
         progress,
     }
 }
@@ -67,6 +69,7 @@ fn each_command(rt: HostRuntime) {
         input,
         output: "b",
         choice: DEFAULTS,
+        no_clobber: false,
         progress: false,
     };
     let show = Order::Show { input, cost: false };
@@ -88,12 +91,43 @@ fn each_command(rt: HostRuntime) {
 }
 
 #[test]
+fn outputs_that_exist(rt: HostRuntime) {
+    let pack = Order::Pack {
+        input: "a",
+        output: "b",
+        choice: DEFAULTS,
+        no_clobber: true,
+        progress: false,
+    };
+    let unpack = Order::Unpack {
+        input: "a",
+        output: "-",
+        no_clobber: true,
+        progress: true,
+    };
+    let alloc = rt.alloc();
+    names(
+        &rt,
+        alloc,
+        &["ffv1", "pack", "a", "--no-clobber", "b"],
+        pack,
+    );
+    names(
+        &rt,
+        alloc,
+        &["ffv1", "unpack", "--no-clobber", "--progress", "a", "-"],
+        unpack,
+    );
+}
+
+#[test]
 fn flags(rt: HostRuntime) {
     let alloc = rt.alloc();
     let pack = Order::Pack {
         input: "a",
         output: "b",
         choice: DEFAULTS,
+        no_clobber: false,
         progress: true,
     };
     let show = Order::Show {
@@ -260,6 +294,7 @@ fn all_options(rt: HostRuntime) {
             input: "a",
             output: "b",
             choice,
+            no_clobber: false,
             progress: false,
         },
     );
@@ -446,6 +481,7 @@ fn files_in_conflict(rt: HostRuntime) {
             ("a", "/dev/stdout"),
             ("a", "/dev/fd/1"),
             ("a", "/proc/self/fd/1"),
+            ("-", "/dev/stdout"),
         ] {
             refuses(
                 &rt,
@@ -466,6 +502,9 @@ fn files_not_in_conflict(rt: HostRuntime) {
         ("a", "/dev/fd/3"),
         ("a", "/dev/fd/10"),
         ("a", "/dev/stdou"),
+        ("-", "-"),
+        ("a", "-"),
+        ("-", "./-"),
     ] {
         names(
             &rt,
