@@ -1,5 +1,8 @@
 //! Where bytes are read from: a file, or standard input.
 
+ghost use Rattle.std.specs.Prelude.{◌≡◌, IfErr};
+ghost use Rattle.ffv1_engine.specs.declared.fault.Fault.TheVariants as fault;
+
 use crate::progress::Watched;
 use either::{Either, Left, Right};
 use ffv1_engine::Fault;
@@ -19,7 +22,9 @@ pub type Source<H> = FromRead<Either<<H as Files>::File, <H as Input>::Reader>>;
 pub fn open_input<H: Files + Input>(
     rt: &H,
     path: &str,
-) -> Result<(Source<H>, Option<Metadata>), Fault> {
+) -> Result<(Source<H>, Option<Metadata>), Fault>
+    ensures { IfErr result (λ f. f ≡ fault.Read) }
+{
     if is_hyphen(path) {
         let source = FromRead::new(Right(rt.reader()));
         return Ok((source, fs::metadata(rt, "/dev/stdin").ok()));

@@ -2,9 +2,10 @@
 //! `ffv1_engine`.
 #![tactic(auto)]
 
-ghost use Rattle.std.specs.Prelude.{◌≡◌, IsOk, Err};
+ghost use Rattle.std.specs.Prelude.{◌≡◌, Err, IfErr, IsOk};
 ghost use Rattle.ffv1.specs.declared.refusal.Refusal.TheVariants as refusal;
 ghost use Rattle.ffv1_engine.specs.declared.fault.Fault.{Fault};
+ghost use Rattle.ffv1_engine.specs.declared.fault.Fault.TheVariants as fault;
 
 mod input;
 mod output;
@@ -25,7 +26,9 @@ use std::time::Clock;
 use std::{env, io};
 
 /// Prints a count: on standard output, or on standard error where the output itself goes there.
-fn print_count(rt: &(impl Print + Eprint), output: &str, count: &str) -> Result<(), Refusal> {
+fn print_count(rt: &(impl Print + Eprint), output: &str, count: &str) -> Result<(), Refusal>
+    ensures { IfErr result (λ r. r ≡ refusal.Fault fault.Write) }
+{
     let printed = if is_hyphen(output) {
         eprintln!(rt; "{count}")
     } else {

@@ -1,6 +1,10 @@
 //! Where bytes are written: a file, which keeps what it holds until a byte is written, or standard
 //! output.
 
+ghost use Rattle.std.specs.Prelude.{◌≡◌, ◌⊎◌, [], IfErr, Ok, OnErr, OnOk, false, true};
+ghost use Rattle.ffv1.specs.declared.refusal.Refusal.TheVariants as refusal;
+ghost use Rattle.ffv1_engine.specs.declared.fault.Fault.TheVariants as fault;
+
 use crate::refusal::Refusal;
 use either::{Either, Left, Right};
 use ffv1_engine::Fault;
@@ -20,12 +24,24 @@ pub struct Anew<F: Drop> {
     is_old: bool,
 }
 
-impl<F: Write + OpenFile + Drop> Write for Anew<F> {
-    fn write(&mut self, buf: &[u8]) -> io::Result<usize> {
-        if self.is_old && !buf.is_empty() {
+impl<F: OpenFile + Drop> Anew<F> {
+    /// Makes room for bytes: what the file held goes before the first of them.
+    fn clear_for(&mut self, bytes: &[u8]) -> io::Result<()>
+        ensures gone { OnOk result (bytes.now ≡ [] ⊎ self.new.is_old ≡ false) }
+        ensures kept { bytes.now ≡ [] → (result ≡ Ok tt) × (self.new ≡ self.old) }
+        ensures err { OnErr result (self.new ≡ self.old) }
+    {
+        if self.is_old && !bytes.is_empty() {
             self.file.set_len(0)?;
             self.is_old = false;
         }
+        Ok(())
+    }
+}
+
+impl<F: Write + OpenFile + Drop> Write for Anew<F> {
+    fn write(&mut self, buf: &[u8]) -> io::Result<usize> {
+        self.clear_for(buf)?;
         self.file.write(buf)
     }
 
@@ -54,7 +70,10 @@ pub fn open_output<'a, H: Files + Print>(
     path: &str,
     input: &Option<Metadata>,
     no_clobber: bool,
-) -> Result<Target<'a, H>, Refusal> {
+) -> Result<Target<'a, H>, Refusal>
+    ensures { IfErr result (λ r. (r ≡ refusal.OneFile)
+        ⊎ (((r ≡ refusal.Exists) × (no_clobber ≡ true)) ⊎ (r ≡ refusal.Fault fault.Write))) }
+{
     let place = if is_hyphen(path) { "/dev/stdout" } else { path };
     let there = fs::metadata(rt, place).ok();
     if let (Some(input), Some(output)) = (input, &there) {
