@@ -17,7 +17,6 @@ ghost use Rattle.ffv1_engine.specs.Packing.{head_for, said_for, set_for};
 ghost use Rattle.ffv1_engine.specs.VideoReads.{IsHeadBy, reading_of};
 
 use crate::fault::Fault;
-use ffv1_words::{Choice, CoderChoice};
 use crate::video::VideoReader;
 use ffv1_avi::AviHead;
 use ffv1_codec::{FrameEncoder, Info, Picture};
@@ -25,6 +24,7 @@ use ffv1_plane::QuantSet;
 use ffv1_range::laws::one_table;
 use ffv1_record::{Checked, Coder, Colour, Config, Sets, write_record};
 use ffv1_wire::ByteIn;
+use ffv1_words::{Choice, CoderChoice};
 use ffv1_y4m::VideoHead;
 use std::alloc::Allocator;
 use std::mem;

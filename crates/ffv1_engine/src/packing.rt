@@ -10,11 +10,11 @@ ghost use Rattle.ffv1_engine.specs.Packing.{bytes_in};
 
 use crate::encoding::{checked_for, encode_pictures, file_head};
 use crate::fault::Fault;
-use ffv1_words::Choice;
 use crate::video::VideoReader;
 use ffv1_avi::{AviHead, write_avi};
 use ffv1_codec::FrameEncoder;
 use ffv1_wire::{ByteIn, ByteOut};
+use ffv1_words::Choice;
 use ffv1_y4m::laws::{images, texts};
 use std::alloc::{Allocator, Global};
 
