@@ -73,7 +73,7 @@ def results(top, program):
         print("the examples are left out: ffmpeg is not installed")
         return
     with open(os.path.join(top, "README.md"), encoding="utf-8") as file:
-        readme = file.read().split("## A first use")[1].split("## Two commands")[0]
+        readme = file.read().split("## A first use")[1].split("## Commands")[0]
     with open(os.path.join(top, "man", "ffv1.1"), encoding="utf-8") as file:
         manual = file.read()
     yield from examples_of("README", blocks_of_readme(readme), README, program)
