@@ -1,4 +1,5 @@
 #!/usr/bin/env python3
+# SPDX-License-Identifier: MIT OR Apache-2.0
 """Checks the model on what is known from elsewhere: the answers of `known_answers`, by the model's
 own commands, and a file of AVI byte by byte. It prints what differs, and how many passed and
 failed.

@@ -1,4 +1,5 @@
 #!/usr/bin/env python3
+# SPDX-License-Identifier: MIT OR Apache-2.0
 """The program `ffv1` in plain Python: its command line, and its commands over codec and files.
 
     python3 model/commands.py pack in.y4m out.avi

@@ -1,4 +1,5 @@
 #!/usr/bin/env python3
+# SPDX-License-Identifier: MIT OR Apache-2.0
 """FFV1 version 3, range coded (RFC 9043), in plain Python: the standard in small.
 
 It is written from the text of the standard, apart from the crates, and is there to be compared with

@@ -1,3 +1,4 @@
+# SPDX-License-Identifier: MIT OR Apache-2.0
 """AVI, YUV4MPEG2 and binary PPM, read and written, in plain Python: the formats in small.
 
 It is written from the formats: AVI RIFF File Reference (Microsoft), yuv4mpeg(5) of MJPEG Tools, and

@@ -1,4 +1,5 @@
 #!/usr/bin/env python3
+# SPDX-License-Identifier: MIT OR Apache-2.0
 """Writes the vectors that `ffv1_vectors` asks the crates: what `ffv1.py` answers, with fixed seeds.
 
     python3 model/make_vectors.py        # into crates/ffv1_vectors/data

@@ -1,3 +1,4 @@
+# SPDX-License-Identifier: MIT OR Apache-2.0
 """The examples of the README and of the manual: each is run by the shell, as it stands there, in a
 folder of its own, and what it prints is compared."""
 import os

@@ -1,3 +1,4 @@
+# SPDX-License-Identifier: MIT OR Apache-2.0
 """Command lines and files at random, good and bad, small enough for the model: each is made from
 its seed and its number alone."""
 import random

@@ -1,3 +1,4 @@
+# SPDX-License-Identifier: MIT OR Apache-2.0
 """Command lines whose answers are known, and not from the model: they were worked out by hand from
 the formats. `check.py` asks them of the model, and `tests/commands` of the built program.
 """

@@ -1,3 +1,4 @@
+# SPDX-License-Identifier: MIT OR Apache-2.0
 """What a known answer is, and the texts, files and payloads that they are about."""
 import ffv1
 import files

@@ -1,3 +1,4 @@
+# SPDX-License-Identifier: MIT OR Apache-2.0
 """Files and their chunks, and configuration records: read, or refused."""
 import struct
 

@@ -1,3 +1,4 @@
+# SPDX-License-Identifier: MIT OR Apache-2.0
 """Command lines, taken and refused, and paths."""
 from known_answers.case import FRAME, MONO, RED, Case, Step, avi, helped, kept, one, y4m
 

@@ -1,3 +1,4 @@
+# SPDX-License-Identifier: MIT OR Apache-2.0
 """Frames that are decoded, or refused at a known place."""
 import ffv1
 from known_answers.case import ANY, FRAME, Case, Step, avi, checked, coded, mono, one, sealed

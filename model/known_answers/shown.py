@@ -1,3 +1,4 @@
+# SPDX-License-Identifier: MIT OR Apache-2.0
 """What `show` prints."""
 import ffv1
 from known_answers.case import ANY, Case, Step, avi, one, ppm

@@ -1,3 +1,4 @@
+# SPDX-License-Identifier: MIT OR Apache-2.0
 """Texts that are packed: frames whose bytes are known, texts that come back in their canonical
 form, and texts that are refused."""
 from known_answers.case import ANY, MONO, RED, Case, Step, avi, mono, one, ppm, y4m

@@ -1,3 +1,4 @@
+# SPDX-License-Identifier: MIT OR Apache-2.0
 """What `unpack` writes of files that `pack` does not write, up to the fault."""
 import ffv1
 from known_answers.case import FRAME, Case, Step, avi, checked, one, ppm, sealed, y4m
