@@ -22,6 +22,7 @@ mod rows_in_passes;
 mod shows;
 mod slice;
 mod strangers;
+mod sum;
 mod trials;
 mod turns;
 mod unpacks;

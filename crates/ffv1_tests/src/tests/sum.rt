@@ -1,0 +1,35 @@
+//! The CRC-32: values that zlib gives, whole and in parts.
+
+use ffv1_sum::{crc32, more};
+
+/// The numbers from 0 to 255.
+fn bytes() -> [u8; 256] {
+    let mut bytes = [0; 256];
+    for (byte, number) in bytes.iter_mut().zip(0..=255) {
+        *byte = number;
+    }
+    bytes
+}
+
+#[test]
+fn sums() -> bool {
+    let bytes = bytes();
+    crc32(b"") == 0
+        && crc32(b"a") == 0xE8B7_BE43
+        && crc32(b"123456789") == 0xCBF4_3926
+        && crc32(&bytes[100..123]) == 0x2608_E551
+        && crc32(&bytes) == 0x2905_8C73
+}
+
+/// Of every two parts.
+#[test]
+fn in_parts() -> bool {
+    let bytes = bytes();
+    for place in 0..=bytes.len() {
+        let (first, last) = bytes.split_at(place);
+        if more(more(!0, first), last) != 0x2905_8C73 ^ !0 {
+            return false;
+        }
+    }
+    true
+}
