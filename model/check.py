@@ -99,7 +99,7 @@ EXAMPLE = bytes.fromhex(
         "4C495354 12000000 6D6F7669 30306463 05000000 FE7B000002 00")       # movi, 18
 
 
-def read(data):
+def read(data, wide):
     """The head and the frames of a file, or the fault and whether a head came before it."""
     at, head = [0], None
 
@@ -108,8 +108,8 @@ def read(data):
         return data[at[0] - count:at[0]]
 
     try:
-        head, left = files.open_avi(files.Source(some))
-        frames = list(files.avi_frames(files.Source(some), left))
+        head, frames = files.open_avi(files.Source(some), wide)
+        frames = list(frames)
     except ffv1.Fault as fault:
         return fault.number, head is not None
     return (head.width, head.height, head.rate, head.scale, head.record), frames
@@ -136,9 +136,12 @@ def example_checks():
     head = files.AviHead(2, 3, 25, 1, RECORD)
     yield "the bytes of a file", files.write_avi(head, [FRAME]), EXAMPLE
     yield "the length of a file", len(EXAMPLE), 298
-    yield "a file is read", read(EXAMPLE), ((2, 3, 25, 1, RECORD), [FRAME])
-    for length in range(298):
-        yield f"{length} bytes of a file", read(EXAMPLE[:length]), (52, length >= 284)
+    for wide in [False, True]:
+        yield "a file is read", read(EXAMPLE, wide), ((2, 3, 25, 1, RECORD), [FRAME])
+        for length in range(298):
+            yield f"{length} bytes of a file", read(EXAMPLE[:length], wide), (52, length >= 284)
+    yield "what is left of a file", read(EXAMPLE + b"xy", False), ((2, 3, 25, 1, RECORD), [FRAME])
+    yield "what is no RIFF", read(EXAMPLE + b"xyzw", True), (50, True)
     yield "the greatest file", files.riff_size(0, [2 ** 31 - 2 - 224]), 2 ** 31 - 2
     yield "a file too large", fault_of(lambda: files.write_avi(head, [Long()])), 55
     yield "the most microseconds", files.write_avi(

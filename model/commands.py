@@ -180,10 +180,11 @@ def pack(source, out, choice):
 # --------------------------------------------------------------------------- unpack, check and show
 
 def opened(source):
-    """The head of a file, its configuration, and its frames."""
-    head, left = files.open_avi(source)
+    """The head of a file, its configuration, and its frames, of every RIFF."""
+    head, frames = files.open_avi(source, True)
     config = ffv1.read_record(head.record, head.width, head.height)
-    return head, config, files.avi_frames(source, left)
+    config.wide = True
+    return head, config, frames
 
 
 def planes_of(config, lines):

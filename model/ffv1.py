@@ -216,7 +216,8 @@ def contexts_of(runs):
 # -------------------------------------------------------------------------------- parameters (4.2)
 
 class Config:
-    """The parameters of the profile, and the size of the pictures, which the container tells."""
+    """The parameters of the profile, and the size of the pictures, which the container tells; and
+    whether heads are read at the wide profile."""
 
     def __init__(self, width, height, coder=1, deltas=None, rct=False, chroma=False, log2_h=0,
                  log2_v=0, extra=False, columns=1, rows=1, sets=None, ec=1, intra=1):
@@ -226,6 +227,7 @@ class Config:
         self.extra, self.columns, self.rows = extra, columns, rows
         self.sets = sets if sets is not None else [SMALL]
         self.ec, self.intra = ec, intra
+        self.wide = False
 
     def table(self):
         return table_of(self.deltas) if self.coder == 2 else STANDARD
@@ -377,9 +379,12 @@ def place_of(config, slice):
     return [slice % config.columns, slice // config.columns, 0, 0]
 
 
-def is_aspect(num, den):
-    """4.6.8, 4.6.9. Own: both below 65536, and both 0 or neither."""
-    return num < 65536 and den < 65536 and (num == 0) == (den == 0)
+def aspect_of(config, num, den):
+    """4.6.8, 4.6.9: what two numbers say; own: 34 where one is above 65535, or, strict, just one is
+    0. Wide, that says what 0 and 0 say, that the aspect is unknown."""
+    if num > 65535 or den > 65535 or (num == 0) != (den == 0) and not config.wide:
+        raise Fault(34)
+    return (0, 0) if 0 in (num, den) else (num, den)
 
 
 def put_head(encoder, config, slice, indexes, structure, num, den):
@@ -411,9 +416,7 @@ def get_head(decoder, config, slice):
         raise Fault(33)
     num = get_number(decoder, "head")
     den = get_number(decoder, "head")
-    if not is_aspect(num, den):
-        raise Fault(34)
-    return indexes, structure, num, den
+    return indexes, structure, *aspect_of(config, num, den)
 
 
 # --------------------------------------------------------------------- slice footers, cutting (4.9)

@@ -5,6 +5,7 @@ It is written from the formats: AVI RIFF File Reference (Microsoft), yuv4mpeg(5)
 ppm(5) of Netpbm; what is this project's own choice says so. A picture is a list of planes, a plane
 a list of lines, and a line a list of samples.
 """
+import itertools
 import re
 import struct
 
@@ -290,8 +291,9 @@ def get_chunk(source, size):
     return source.exactly(padded(size), 52)[:size]
 
 
-def get_stream(source, left):
-    """The head that a stream says: its first header and its first format count."""
+def get_stream(source, left, wide):
+    """The head that a stream says, if it is FFV1 video: its first header and its first format
+    count. Wide, the record ends where biSize says, if that lies inside the format."""
     fields = {}
     for name, size in chunks(source, left):
         if name not in (b"strh", b"strf") or name in fields:
@@ -302,52 +304,85 @@ def get_stream(source, left):
         fields[name] = get_chunk(source, size)
     strh, strf = fields.get(b"strh", b""), fields.get(b"strf", b"")
     if len(strh) < 56 or strh[:4] != b"vids" or len(strf) < 40 or strf[16:20] != b"FFV1":
-        raise Fault(51)
+        return None
     scale, rate = struct.unpack("<2I", strh[20:28])
     if (scale == 0) != (rate == 0):
         raise Fault(50)
-    return AviHead(*struct.unpack("<2I", strf[4:12]), rate, scale, strf[40:])
+    (end,) = struct.unpack("<I", strf[:4])
+    record = strf[40:end] if wide and 40 < end < len(strf) else strf[40:]
+    return AviHead(*struct.unpack("<2I", strf[4:12]), rate, scale, record)
 
 
-def get_header(source, left, head):
-    """The chunks of a list hdrl; the first stream of the file counts."""
+def get_total(source, left, total):
+    """How many frames the whole file has, by the chunks of a list odml (OpenDML AVI File Format
+    Extensions): the first dmlh counts, if it has room for that number."""
     for name, size in chunks(source, left):
-        own = source.exactly(4, 52) if name == b"LIST" else b""
-        if own == b"strl" and head is None:
-            head = get_stream(source, size - 4)
-            source.skip(size % 2, 52)
+        if name == b"dmlh" and size >= 4 and total is None:
+            (total,) = struct.unpack("<I", get_chunk(source, size)[:4])
         else:
-            source.skip(padded(size) - len(own), 52)
-    return head
+            source.skip(padded(size), 52)
+    return total
 
 
-def open_avi(source):
-    """The head of a file, up to its first list movi, and how many bytes that has."""
+class Opening:
+    """What the chunks before movi say so far: how many streams came, the head that counts with the
+    number of its stream, and how many frames the whole file has."""
+
+    def __init__(self, wide):
+        self.wide, self.streams, self.head, self.number, self.total = wide, 0, None, 0, None
+
+    def stream(self, source, size):
+        """A list of a stream. The first counts; wide, the first of FFV1 video, up to number 99."""
+        if self.head is not None or self.streams > 99:
+            source.skip(padded(size) - 4, 52)
+            return
+        self.head, self.number = get_stream(source, size - 4, self.wide), self.streams
+        self.streams += 1
+        source.skip(size % 2, 52)
+        if self.head is None and not self.wide:
+            raise Fault(51)
+
+    def header(self, source, left):
+        """The chunks of a list hdrl."""
+        for name, size in chunks(source, left):
+            own = source.exactly(4, 52) if name == b"LIST" else b""
+            if own == b"strl":
+                self.stream(source, size)
+            elif own == b"odml" and self.wide:
+                self.total = get_total(source, size - 4, self.total)
+                source.skip(size % 2, 52)
+            else:
+                source.skip(padded(size) - len(own), 52)
+
+
+def open_avi(source, wide):
+    """The head of a file, and its frames in turn: those of the first list movi or, wide, those of
+    every movi of every RIFF."""
     first = source.exactly(12, 52)
     size = struct.unpack("<I", first[4:8])[0]
     if first[:4] != b"RIFF" or first[8:] != b"AVI " or size < 4:
         raise Fault(50)
-    head = None
-    for name, size in chunks(source, size - 4):
+    opening, parts = Opening(wide), chunks(source, size - 4)
+    for name, size in parts:
         own = source.exactly(4, 52) if name == b"LIST" else b""
         if own == b"movi":
-            if head is None:
+            if opening.head is None:
                 raise Fault(51)
-            return head, size - 4
+            return opening.head, avi_frames(source, opening, size - 4, parts)
         if own == b"hdrl":
-            head = get_header(source, size - 4, head)
+            opening.header(source, size - 4)
             source.skip(size % 2, 52)
         else:
             source.skip(padded(size) - len(own), 52)
     raise Fault(50)
 
 
-def avi_frames(source, left):
-    """The frames of movi, in turn."""
+def movi_frames(source, left, wanted):
+    """The frames of a movi, in turn: the chunks of this name."""
     for name, size in chunks(source, left):
         if name == b"LIST":
             raise Fault(50)
-        if name != b"00dc":
+        if name != wanted:
             source.skip(padded(size), 52)
             continue
         if size > LIMIT:
@@ -355,3 +390,37 @@ def avi_frames(source, left):
         if size == 0:
             raise Fault(54)
         yield get_chunk(source, size)
+
+
+def movi_sizes(source, parts, is_owed):
+    """How many bytes each further movi has: of the RIFF of which these chunks are left, and of those
+    behind it, up to the end of the file, where no frame may be owed."""
+    while True:
+        for name, size in parts:
+            own = source.exactly(4, 52) if name == b"LIST" else b""
+            if own == b"movi":
+                yield size - 4
+            else:
+                source.skip(padded(size) - len(own), 52)
+        riff = source.some(4)
+        if not riff and not is_owed():
+            return
+        if len(riff) < 4:
+            raise Fault(52)
+        if riff != b"RIFF":
+            raise Fault(50)
+        rest = source.exactly(8, 52)
+        size = struct.unpack("<I", rest[:4])[0]
+        if rest[4:] != b"AVIX" or size < 4:
+            raise Fault(50)
+        parts = chunks(source, size - 4)
+
+
+def avi_frames(source, opening, left, parts):
+    """The frames of a file of which the first movi has so many bytes, in turn."""
+    count, wanted = 0, b"%02ddc" % opening.number
+    more = movi_sizes(source, parts, lambda: count < (opening.total or 0)) if opening.wide else []
+    for size in itertools.chain([left], more):
+        for frame in movi_frames(source, size, wanted):
+            yield frame
+            count += 1

@@ -7,7 +7,8 @@ import commands
 import ffv1
 import files
 import make_vectors
-from known_answers.containers import chunk, chunk_list, format_of, numbers, riff
+from known_answers.containers import SOUND, chunk, chunk_list, format_of, numbers, riff
+from known_answers.riffs import further
 
 MOST_SAMPLES = 450                      # of all planes of a picture
 COUNTS = [0, 1, 1, 1, 2, 2, 2, 3]       # of pictures
@@ -150,6 +151,8 @@ def payloads_of(dice, config):
         if dice.random() < 0.15:
             other = make_vectors.info_of(dice)
             info = dice.choice([other, info[:1] + other[1:], other[:1] + info[1:]])
+        if dice.random() < 0.1:
+            info = info[:1] + dice.choice([[0, 1], [1, 0], [0, dice.randrange(65536)]])
         payload = ffv1.encode_frame(config, make_vectors.picture_of(dice, config), info)
         if not good and dice.random() < 0.5:
             payload = make_vectors.other_payload(dice, config, info, payload)
@@ -197,16 +200,38 @@ def made_file(dice, config, record, payloads):
     strh = dice.choice([b"vids"] * 30 + [b"auds"]) + bytes(16) + numbers(scale, rate) + bytes(28)
     width, height = dice.choice([(config.width, config.height)] * 30 + [(9000, 1)])
     strf = format_of(record, width, height)
+    if dice.random() < 0.2:
+        end = 40 + len(record) + dice.choice([0, 0, 0, 1, -1, 10 ** 6])
+        strf = numbers(end) + strf[4:] + dice.choice([b"", b"\0", b"ab"])
     strl = with_others(dice, [chunk(b"strh", strh), chunk(b"strf", strf)])
-    hdrl = with_others(dice, [chunk(b"avih", bytes(56)), chunk_list(b"strl", *strl)])
-    movi = with_others(dice, [chunk(b"00dc", payload) for payload in payloads])
-    parts = [chunk_list(b"hdrl", *hdrl), chunk_list(b"movi", *movi)]
-    return riff(*with_others(dice, parts))
+    stream = dice.choice([0] * 6 + [1, 2])
+    streams = [SOUND] * stream + [chunk_list(b"strl", *strl)]
+    if dice.random() < 0.2:
+        total = len(payloads) + dice.choice([0, 0, 0, 1, -1])
+        streams.append(chunk_list(b"odml", chunk(b"dmlh", numbers(max(total, 0)))))
+    hdrl = with_others(dice, [chunk(b"avih", bytes(56)), *streams])
+    return riffs_of(dice, chunk_list(b"hdrl", *hdrl), stream, payloads)
+
+
+def riffs_of(dice, hdrl, stream, payloads):
+    """A file of this list hdrl and frames, in one RIFF or in some, and in one movi or in some."""
+    frames, moving = [chunk(b"%02ddc" % stream, payload) for payload in payloads], [[[]]]
+    for frame in frames:
+        moving[-1][-1].append(frame)
+        if dice.random() < 0.1:
+            moving[-1].append([])
+        if dice.random() < 0.2:
+            moving.append([[]])
+    first, *others = [[chunk_list(b"movi", *with_others(dice, movi)) for movi in parts]
+                      for parts in moving]
+    return riff(*with_others(dice, [hdrl, *first])) + b"".join(
+        further(*with_others(dice, parts)) for parts in others)
 
 
 def with_size(dice, file):
     """A file of which one size, or another number, is spelled otherwise."""
-    names = [b"RIFF", b"LIST", b"strh", b"strf", b"00dc", b"avih", b"vids", b"movi"]
+    names = [b"RIFF", b"LIST", b"strh", b"strf", b"00dc", b"avih", b"vids", b"movi",
+             b"AVIX", b"dmlh", b"strl"]
     places = [k for k in range(len(file) - 8) if file[k:k + 4] in names]
     place = dice.choice(places) + 4
     old = int.from_bytes(file[place:place + 4], "little")

@@ -55,7 +55,8 @@ DAMAGED = [
 HEADS = [
     ([1] + [0] * 8, "31 Place"), ([0, 0, 1] + [0] * 6, "31 Place"),
     ([0] * 4 + [1] + [0] * 4, "32 SetIndex"), ([0] * 6 + [4, 0, 0], "33 Structure"),
-    ([0] * 7 + [65536, 1], "34 Aspect"), ([0] * 7 + [0, 1], "34 Aspect"),
+    ([0] * 7 + [65536, 1], "34 Aspect"), ([0] * 7 + [1, 65536], "34 Aspect"),
+    ([0] * 7 + [0, 65536], "34 Aspect"), ([0] * 7 + [65536, 0], "34 Aspect"),
 ]
 
 
@@ -75,6 +76,22 @@ def damaged_payloads():
     slices = [coded(config, 0, [0]), coded(config, 1, [0], head=[1, 0, 0, 0, 0, 0, 1, 0, 0])]
     yield checked("another structure in a slice", avi(config, [sealed(config, *slices)]), "",
                   "41 InfoDiffers")
+
+
+def unknown_aspects():
+    """An aspect of which just one number is 0 is unknown, and so says what 0 and 0 say."""
+    def of(*aspects):
+        config = one(width=len(aspects), columns=len(aspects))
+        slices = [coded(config, k, [0], head=[k, 0, 0, 0, 0, 0, 0, *aspect])
+                  for k, aspect in enumerate(aspects)]
+        return avi(config, [sealed(config, *slices)], 0, 0)
+    for aspect in [(0, 1), (1, 0), (0, 65535), (65535, 0)]:
+        yield Case(f"an aspect of {aspect}", {"in": of(aspect)},
+                   [Step(["unpack", "in", "out"], "frames 1\n")], {"out": mono(1, 1, [0])})
+    yield Case("three unknown aspects", {"in": of((0, 1), (1, 0), (0, 0))},
+               [Step(["unpack", "in", "out"], "frames 1\n")], {"out": mono(3, 1, bytes(3))})
+    yield checked("an unknown aspect and a known one", of((0, 1), (4, 3)), "", "41 InfoDiffers")
+    yield checked("a known aspect and an unknown one", of((4, 3), (1, 0)), "", "41 InfoDiffers")
 
 
 def columns_side_by_side():
@@ -125,5 +142,5 @@ def strange_payloads():
                       "frame 0: 6 bytes, 1 slices, 11 decisions\nframes 1\n")
 
 
-CASES = [flipped_bits, cut_payloads, damaged_payloads, columns_side_by_side, later_frames,
-         strange_payloads]
+CASES = [flipped_bits, cut_payloads, damaged_payloads, unknown_aspects, columns_side_by_side,
+         later_frames, strange_payloads]

@@ -12,7 +12,7 @@ mod output;
 mod progress;
 mod refusal;
 
-use ffv1_engine::{Fault, check, pack, show, trial, unpack};
+use ffv1_engine::{Fault, Profile, check, pack, show, trial, unpack};
 use ffv1_wire::ToWrite;
 use ffv1_words::{Choice, Order, is_hyphen, words};
 use input::{open_input, watched};
@@ -75,7 +75,7 @@ fn run_unpack(
     let (source, metadata) = open_input(rt, files.input)?;
     let writer = open_output(rt, files.output, &metadata, files.no_clobber)?;
     let mut reader = watched(rt, source, &metadata, files.progress);
-    let (_written, answer) = unpack(alloc, &mut reader, writer);
+    let (_written, answer) = unpack(alloc, Profile::Wide, &mut reader, writer);
     let frames = answer?;
     let count = format!(in alloc; "frames {frames}")?;
     print_count(rt, files.output, &count)
@@ -92,7 +92,7 @@ fn run_check(
     let (source, metadata) = open_input(rt, input)?;
     let mut reader = watched(rt, source, &metadata, progress);
     let mut writer = ToWrite::new(io::writer(rt));
-    check(alloc, &mut reader, &mut writer, place)?;
+    check(alloc, Profile::Wide, &mut reader, &mut writer, place)?;
     Ok(())
 }
 
@@ -105,7 +105,7 @@ fn run_show(
 ) -> Result<(), Refusal> {
     let (mut reader, _) = open_input(rt, input)?;
     let mut writer = ToWrite::new(io::writer(rt));
-    show(alloc, &mut reader, &mut writer, cost)?;
+    show(alloc, Profile::Wide, &mut reader, &mut writer, cost)?;
     Ok(())
 }
 

@@ -1,17 +1,26 @@
 -- A reading looks at no byte behind those that it takes, and a shorter beginning of these ends where more are wanted.
-use Rattle.std.proofs.Common.{◌≡◌, ℕ, suc, zero, ◌+◌, ◌-◌, ◌%◌, ◌≤◌, ◌<◌, inl, inr, ◌==◌, ◌&&◌, nat_lt, if◌then◌else◌, Bool, true, false, Option, Some, None, Ok, List, [], ◌∷◌, ◌++◌, length, take, drop, codes, ap, ◌∙◌, sym, refl, append_assoc, arith, length-append, length-drop}
-use Rattle.std.proofs.lemmas.Bool.{cases_lt}
+use Rattle.std.proofs.Common.{◌≡◌, ℕ, suc, zero, ◌+◌, ◌-◌, ◌%◌, ◌≤◌, ◌<◌, inl, inr, ◌==◌, ◌&&◌, nat_lt, if◌then◌else◌, Bool, true, false, Option, Some, None, Result, Ok, Err, List, [], ◌∷◌, ◌++◌, length, take, drop, codes, ap, ◌∙◌, sym, refl, append_assoc, arith, length-append, length-drop}
+use Rattle.std.proofs.lemmas.Bool.{cases_lt, eqb-true}
 use Rattle.std.proofs.lemmas.List.{append_cancel_right, drop-append-le, take-append-drop, take-append-le}
 use Rattle.byteorder.specs.Endian.{little_number}
 use Rattle.ffv1_avi.specs.declared.chunk.Entry.{Entry}
 use Rattle.ffv1_avi.specs.declared.fault.AviFault.{AviFault}
 use Rattle.ffv1_avi.specs.declared.fault.AviFault.TheVariants as fault
-use Rattle.ffv1_avi.specs.Files.{begins, file_read, first_stream, found_read, frame_found, frame_read, frames_read, frames_up_to, header_read, list_skipped, list_visited, more_frames, movi_reached, open_read, opened, top_read, visit_header, visit_movi, visit_top}
+use Rattle.ffv1_avi.specs.Files.{Headers, begins, extended_read, extended_visited, file_read, found_or_on, found_read, frame_found, frame_name, frame_read, frames_read, frames_up_to, header_named, header_read, list_skipped, list_visited, more_frames, movi_found, movi_reached, no_headers, open_read, opened, sought_on, stream_known, stream_visited, top_read, total_read, visit_extended, visit_header, visit_movi, visit_top}
+use Rattle.ffv1_avi.specs.Places.{amount, extent_of, frame_at}
+use Rattle.ffv1_avi.specs.declared.place.Extent.{Extent}
+use Rattle.ffv1_avi.specs.declared.place.Extent.TheVariants.{FirstMovi, EveryRiff}
+use Rattle.ffv1_avi.specs.declared.place.Place.{Place}
 use Rattle.ffv1_avi.specs.Head.{Head}
-use Rattle.ffv1_avi.specs.Reads.{EndsEarly, Kept, Looked, Reading, Want, content, given, padded, passed, read_on, refused, taken, wanted, ◌>>=◌}
-use Rattle.ffv1_avi.specs.Streams.{Format, Known, format_behind, format_in, format_rest, format_read, head_judged, limit, rates_in, rates_of, rates_read, skipped, stream_judged, stream_read, visit_field}
+use Rattle.ffv1_avi.specs.Reads.{EndsEarly, Kept, Looked, Reading, Stop, Want, content, given, padded, passed, read_on, refused, taken, wanted, ◌>>=◌}
+use Rattle.ffv1_avi.specs.Streams.{Format, Known, format_behind, format_in, format_rest, format_read, head_judged, limit, no_video, rates_in, rates_of, rates_read, record_end, skipped, stream_judged, stream_read, visit_field}
 use Rattle.ffv1_avi.specs.Walk.{Visit, entry_judged, entry_read, is_name, resumed, visited, walk, walk_up_to}
+use Rattle.ffv1_avi.proofs.FrameTurns.{read_less}
+use Rattle.ffv1_avi.proofs.HeaderLaws.{stream_end, with_frames}
+use Rattle.ffv1_avi.proofs.InnerLists.{list_read}
 use Rattle.ffv1_avi.proofs.ListWalks.{cut_back, cut_front}
+use Rattle.ffv1_avi.proofs.Moves.{frame_step, moved_first}
+use Rattle.ffv1_avi.proofs.OpenLaws.{open_sound}
 use Rattle.ffv1_avi.proofs.LoopReadings.{passed_short, wanted_short}
 use Rattle.ffv1_avi.proofs.PassedBytes.{passed_complete, passed_sound, read_on_ok, wanted_complete, wanted_sound}
 use Rattle.ffv1_avi.proofs.ChunkByChunk.{ok_is}
@@ -59,8 +68,9 @@ local_passed n text x rest h =
       early = λ a b e some. (Looked, passed_short n a (let all : length p.0 ≡ length a + length b = ap length e ∙ length-append a b in omega (arith, all, some, p.2)));
     }
 
-pub local_then : {X Y : Type 0} (r : Reading X) (k : X → Reading Y) → Local r → ((x : X) → Local (k x)) → Local (r >>= k)
-local_then {X = X} {Y = Y} r k first next text y rest h = on_parts (read_on_ok (r text) k (y, rest) h)
+-- what is read next hangs on what was read
+pub local_next : {X Y : Type 0} (r : Reading X) (k : X → Reading Y) → Local r → ((text : List ℕ) (x : X) (rest : List ℕ) → r text ≡ Ok (x, rest) → Local (k x)) → Local (r >>= k)
+local_next {X = X} {Y = Y} r k first next text y rest h = on_parts (read_on_ok (r text) k (y, rest) h)
   where
     on_parts : (p : X × List ℕ) × (r text ≡ Ok p) × (k p.0 p.1 ≡ Ok (y, rest)) → Uses (r >>= k) text y rest
     on_parts (p, one, two) =
@@ -75,7 +85,7 @@ local_then {X = X} {Y = Y} r k first next text y rest h = on_parts (read_on_ok (
         u = first text p.0 p.1 one
 
         v : Uses (k p.0) p.1 y rest
-        v = next p.0 p.1 y rest two
+        v = next text p.0 p.1 one p.1 y rest two
 
         within : (a b : List ℕ) → u.used ++ v.used ≡ a ++ b → length a < length u.used → EndsEarly (r >>= k) a
         within a b e few =
@@ -97,6 +107,15 @@ local_then {X = X} {Y = Y} r k first next text y rest h = on_parts (read_on_ok (
 
         early : (a b : List ℕ) → u.used ++ v.used ≡ a ++ b → 0 < length b → EndsEarly (r >>= k) a
         early a b e some = elim (cases_lt (length a) (length u.used)) [ inl few ↦ within a b e few | inr enough ↦ behind a b e some enough ]
+
+pub local_then : {X Y : Type 0} (r : Reading X) (k : X → Reading Y) → Local r → ((x : X) → Local (k x)) → Local (r >>= k)
+local_then r k first next = local_next r k first (λ text x rest h. next x)
+
+-- the same, read in another way
+local_same : {X : Type 0} (r s : Reading X) → ((text : List ℕ) → r text ≡ s text) → Local s → Local r
+local_same r s same is text x rest h =
+    let u = is text x rest (sym (same text) ∙ h) in
+    record { used = u.used; text_is = u.text_is; again = λ more. same (u.used ++ more) ∙ u.again more; early = λ a b e some. (let stop = u.early a b e some in (stop.0, same a ∙ stop.1)) }
 
 local_if : {X : Type 0} (b : Bool) (r s : Reading X) → Local r → Local s → Local (if b then r else s)
 local_if true r s one two = one
@@ -144,99 +163,156 @@ local_rates_in : (size : ℕ) → Local (rates_in size)
 unfolding rates_in
 local_rates_in size = local_then (content Looked size) (λ bytes. given (rates_of bytes)) (local_content Looked size) (λ bytes. local_given (rates_of bytes))
 
-local_format_in : (size : ℕ) → Local (format_in size)
+local_format_in : (extent : Extent) (size : ℕ) → Local (format_in extent size)
 unfolding format_in
-local_format_in size = local_if (nat_lt size 40) _ _ (local_then (passed (padded size)) (λ _. given None) (local_passed (padded size)) (λ _. local_given None)) (local_then (taken 40) (format_rest Kept size) (local_wanted Looked 40) on_front)
+local_format_in extent size = local_if (nat_lt size 40) _ _ (local_then (passed (padded size)) (λ _. given None) (local_passed (padded size)) (λ _. local_given None)) (local_then (taken 40) (format_rest extent Kept size) (local_wanted Looked 40) on_front)
   where
-    record_read : (front : List ℕ) → Local (wanted Kept (size - 40) >>= λ config. (passed (size % 2) >>= λ _. given (format_behind front config)))
-    record_read front = local_then (wanted Kept (size - 40)) (λ config. (passed (size % 2) >>= λ _. given (format_behind front config))) (local_wanted Kept (size - 40)) (λ config. local_then (passed (size % 2)) (λ _. given (format_behind front config)) (local_passed (size % 2)) (λ _. local_given _))
+    record_read : (end : ℕ) (front : List ℕ) → Local (wanted Kept (end - 40) >>= λ config. (passed (padded size - end) >>= λ _. given (format_behind front config)))
+    record_read end front = local_then (wanted Kept (end - 40)) (λ config. (passed (padded size - end) >>= λ _. given (format_behind front config))) (local_wanted Kept (end - 40)) (λ config. local_then (passed (padded size - end)) (λ _. given (format_behind front config)) (local_passed (padded size - end)) (λ _. local_given _))
 
-    on_front : (front : List ℕ) → Local (format_rest Kept size front)
-    on_front front = local_if (is_name (take 4 (drop 16 front)) (codes "FFV1")) _ _ (record_read front) (local_then (passed (padded size - 40)) (λ _. given None) (local_passed (padded size - 40)) (λ _. local_given None))
+    on_front : (front : List ℕ) → Local (format_rest extent Kept size front)
+    on_front front = local_if (is_name (take 4 (drop 16 front)) (codes "FFV1")) _ _ (record_read (record_end extent (little_number 4 front) size) front) (local_then (passed (padded size - 40)) (λ _. given None) (local_passed (padded size - 40)) (λ _. local_given None))
 
-local_field : (k : Known) (e : Entry) → Local (visit_field k e)
+local_field : (extent : Extent) (k : Known) (e : Entry) → Local (visit_field extent k e)
 unfolding visit_field
-local_field k e = local_if (is_name e.name (codes "strh")) _ _ (on_rates k.rates) (local_if (is_name e.name (codes "strf")) _ _ (on_format k.format) (local_skipped {Y = ⊥} k e.size))
+local_field extent k e = local_if (is_name e.name (codes "strh")) _ _ (on_rates k.rates) (local_if (is_name e.name (codes "strf")) _ _ (on_format k.format) (local_skipped {Y = ⊥} k e.size))
   where
     on_rates : (o : Option (Option (ℕ × ℕ))) → Local (rates_read k e.size o)
     on_rates None = local_then (rates_in e.size) (λ r. given (record { rates = Some r; format = k.format }, None)) (local_rates_in e.size) (λ r. local_given _)
     on_rates (Some old) = local_skipped {Y = ⊥} k e.size
 
-    on_format : (o : Option (Option Format)) → Local (format_read k e.size o)
-    on_format None = local_if (nat_lt limit e.size) _ _ (local_refused fault.ChunkTooLong) (local_then (format_in e.size) (λ f. given (record { rates = k.rates; format = Some f }, None)) (local_format_in e.size) (λ f. local_given _))
+    on_format : (o : Option (Option Format)) → Local (format_read extent k e.size o)
+    on_format None = local_if (nat_lt limit e.size) _ _ (local_refused fault.ChunkTooLong) (local_then (format_in extent e.size) (λ f. given (record { rates = k.rates; format = Some f }, None)) (local_format_in extent e.size) (λ f. local_given _))
     on_format (Some old) = local_skipped {Y = ⊥} k e.size
 
 local_head_judged : (rates : ℕ × ℕ) (format : Format) → Local (head_judged rates format)
 local_head_judged rates format = local_if (rates.0 == 0) _ _ (local_if (rates.1 == 0) _ _ (local_given _) (local_refused fault.NotAvi)) (local_if (rates.1 == 0) _ _ (local_refused fault.NotAvi) (local_given _))
 
-local_judged : (r : Option (Option (ℕ × ℕ))) (f : Option (Option Format)) → Local (stream_judged r f)
-local_judged None f = local_refused fault.NoFfv1
-local_judged (Some None) f = local_refused fault.NoFfv1
-local_judged (Some (Some rates)) None = local_refused fault.NoFfv1
-local_judged (Some (Some rates)) (Some None) = local_refused fault.NoFfv1
-local_judged (Some (Some rates)) (Some (Some format)) = local_head_judged rates format
+local_no_video : (extent : Extent) → Local (no_video extent)
+local_no_video FirstMovi = local_refused fault.NoFfv1
+local_no_video EveryRiff = local_given None
 
-local_stream : (room : ℕ) → Local (stream_read room)
+local_judged : (extent : Extent) (r : Option (Option (ℕ × ℕ))) (f : Option (Option Format)) → Local (stream_judged extent r f)
+local_judged extent None f = local_no_video extent
+local_judged extent (Some None) f = local_no_video extent
+local_judged extent (Some (Some rates)) None = local_no_video extent
+local_judged extent (Some (Some rates)) (Some None) = local_no_video extent
+local_judged extent (Some (Some rates)) (Some (Some format)) = local_then (head_judged rates format) (λ head. given (Some head)) (local_head_judged rates format) (λ head. local_given (Some head))
+
+local_stream : (extent : Extent) (room : ℕ) → Local (stream_read extent room)
 unfolding stream_read
-local_stream room = local_then (walk visit_field room _) (λ k. stream_judged k.0.rates k.0.format) (local_walk visit_field local_field room _) (λ k. local_judged k.0.rates k.0.format)
+local_stream extent room = local_then (walk (visit_field extent) room _) (λ k. stream_judged extent k.0.rates k.0.format) (local_walk (visit_field extent) (local_field extent) room _) (λ k. local_judged extent k.0.rates k.0.format)
 
-local_first_stream : (s : Option Head) (size : ℕ) → Local (first_stream s size)
-local_first_stream None size = local_then (stream_read (size - 4)) (λ head. (passed (size % 2) >>= λ _. given (Some head, None))) (local_stream (size - 4)) (λ head. local_then (passed (size % 2)) (λ _. given (Some head, None)) (local_passed (size % 2)) (λ _. local_given (Some head, None)))
-local_first_stream (Some head) size = local_list_skipped {Y = ⊥} (Some head) size
+local_stream_visited : (extent : Extent) (k : Headers) (size : ℕ) (o : Option Head) → Local (stream_visited extent k size o)
+local_stream_visited extent k size None = local_if (nat_lt k.passed 100) _ _ (local_then (stream_read extent (size - 4)) (stream_end k size) (local_stream extent (size - 4)) (λ found. local_then (passed (size % 2)) (λ _. given (stream_known k found, None)) (local_passed (size % 2)) (λ _. local_given _))) (local_list_skipped {Y = ⊥} k size)
+local_stream_visited extent k size (Some head) = local_list_skipped {Y = ⊥} k size
 
-local_header : (s : Option Head) (e : Entry) → Local (visit_header s e)
-unfolding visit_header
-local_header s e = local_if (is_name e.name (codes "LIST")) _ _ (local_then (taken 4) (λ own. if is_name own (codes "strl") then first_stream s e.size else list_skipped s e.size) (local_wanted Looked 4) (λ own. local_if (is_name own (codes "strl")) _ _ (local_first_stream s e.size) (local_list_skipped {Y = ⊥} s e.size))) (local_skipped {Y = ⊥} s e.size)
-
-local_header_read : (s : Option Head) (size : ℕ) → Local (header_read s size)
-unfolding header_read
-local_header_read s size = local_then (walk visit_header (size - 4) s) (λ p. (passed (size % 2) >>= λ _. given p.0)) (local_walk visit_header local_header (size - 4) s) (λ p. local_then (passed (size % 2)) (λ _. given p.0) (local_passed (size % 2)) (λ _. local_given p.0))
-
-local_top : (s : Option Head) (e : Entry) → Local (visit_top s e)
-unfolding visit_top
-local_top s e = local_if (is_name e.name (codes "LIST")) _ _ (local_then (taken 4) (list_visited s e.size) (local_wanted Looked 4) on_own) (local_skipped {Y = Head × ℕ} s e.size)
+local_total : (s : Option ℕ) (e : Entry) → Local (visit_extended s e)
+unfolding visit_extended
+local_total s e = local_if (is_name e.name (codes "dmlh")) _ _ (on_total s) (local_skipped {Y = ⊥} s e.size)
   where
-    on_movi : (o : Option Head) → Local (movi_reached o e.size)
+    total_end : List ℕ → Reading (Option ℕ × Option ⊥)
+    total_end bytes = passed (padded e.size - 4) >>= λ _. given (Some (little_number 4 bytes), None)
+
+    on_total : (o : Option ℕ) → Local (total_read e.size o)
+    on_total None = local_if (nat_lt e.size 4) _ _ (local_skipped {Y = ⊥} None e.size) (local_then (taken 4) total_end (local_wanted Looked 4) (λ bytes. local_then (passed (padded e.size - 4)) (λ _. given (Some (little_number 4 bytes), None)) (local_passed (padded e.size - 4)) (λ _. local_given _)))
+    on_total (Some n) = local_skipped {Y = ⊥} (Some n) e.size
+
+local_list : {S : Type 0} (visit : Visit S ⊥) → ((s : S) (e : Entry) → Local (visit s e)) → (s : S) (size : ℕ) → Local (list_read visit s size)
+local_list visit each s size = local_then (walk visit (size - 4) s) (λ p. (passed (size % 2) >>= λ _. given p.0)) (local_walk visit each (size - 4) s) (λ p. local_then (passed (size % 2)) (λ _. given p.0) (local_passed (size % 2)) (λ _. local_given p.0))
+
+local_extended : (extent : Extent) (k : Headers) (size : ℕ) → Local (extended_visited extent k size)
+unfolding extended_read
+local_extended FirstMovi k size = local_list_skipped {Y = ⊥} k size
+local_extended EveryRiff k size = local_then (extended_read k.frames size) (λ frames. given (with_frames k frames, None)) (local_list visit_extended local_total k.frames size) (λ frames. local_given _)
+
+local_header : (extent : Extent) (k : Headers) (e : Entry) → Local (visit_header extent k e)
+unfolding visit_header
+local_header extent k e = local_if (is_name e.name (codes "LIST")) _ _ (local_then (taken 4) (header_named extent k e.size) (local_wanted Looked 4) (λ own. local_if (is_name own (codes "strl")) _ _ (local_stream_visited extent k e.size k.head) (local_if (is_name own (codes "odml")) _ _ (local_extended extent k e.size) (local_list_skipped {Y = ⊥} k e.size)))) (local_skipped {Y = ⊥} k e.size)
+
+local_header_read : (extent : Extent) (k : Headers) (size : ℕ) → Local (header_read extent k size)
+unfolding header_read
+local_header_read extent k size = local_list (visit_header extent) (local_header extent) k size
+
+local_top : (extent : Extent) (k : Headers) (e : Entry) → Local (visit_top extent k e)
+unfolding visit_top
+local_top extent k e = local_if (is_name e.name (codes "LIST")) _ _ (local_then (taken 4) (list_visited extent k e.left e.size) (local_wanted Looked 4) on_own) (local_skipped {Y = Head × Place} k e.size)
+  where
+    on_movi : (o : Option Head) → Local (movi_reached extent k e.left e.size o)
     on_movi None = local_refused fault.NoFfv1
     on_movi (Some head) = local_given _
 
-    on_own : (own : List ℕ) → Local (list_visited s e.size own)
-    on_own own = local_if (is_name own (codes "hdrl")) _ _ (local_then (header_read s e.size) (λ found. given (found, None)) (local_header_read s e.size) (λ found. local_given (found, None))) (local_if (is_name own (codes "movi")) _ _ (on_movi s) (local_list_skipped {Y = Head × ℕ} s e.size))
+    on_own : (own : List ℕ) → Local (list_visited extent k e.left e.size own)
+    on_own own = local_if (is_name own (codes "hdrl")) _ _ (local_then (header_read extent k e.size) (λ found. given (found, None)) (local_header_read extent k e.size) (λ found. local_given (found, None))) (local_if (is_name own (codes "movi")) _ _ (on_movi k.head) (local_list_skipped {Y = Head × Place} k e.size))
 
-local_open : Local open_read
+pub local_open : (extent : Extent) → Local (open_read extent)
 unfolding open_read top_read
-local_open = local_then (taken 12) (λ bytes. if begins bytes then top_read (little_number 4 (drop 4 bytes) - 4) else refused fault.NotAvi) (local_wanted Looked 12) (λ bytes. local_if (begins bytes) _ _ (on_top (little_number 4 (drop 4 bytes) - 4)) (local_refused fault.NotAvi))
+local_open extent = local_then (taken 12) (λ bytes. if begins bytes then top_read extent (little_number 4 (drop 4 bytes) - 4) else refused fault.NotAvi) (local_wanted Looked 12) (λ bytes. local_if (begins bytes) _ _ (on_top (little_number 4 (drop 4 bytes) - 4)) (local_refused fault.NotAvi))
   where
-    on_found : (o : Option (Head × ℕ)) → Local (opened o)
+    on_found : (o : Option (Head × Place)) → Local (opened o)
     on_found None = local_refused fault.NotAvi
     on_found (Some p) = local_given p
 
-    on_top : (room : ℕ) → Local (top_read room)
-    on_top room = local_then (walk visit_top room None) (λ p. opened p.1) (local_walk visit_top local_top room None) (λ p. on_found p.1)
+    on_top : (room : ℕ) → Local (top_read extent room)
+    on_top room = local_then (walk (visit_top extent) room no_headers) (λ p. opened p.1) (local_walk (visit_top extent) (local_top extent) room no_headers) (λ p. on_found p.1)
 
-local_movi : (s : Unit {0}) (e : Entry) → Local (visit_movi s e)
+local_movi : (stream : ℕ) (s : Unit {0}) (e : Entry) → Local (visit_movi stream s e)
 unfolding visit_movi
-local_movi s e = local_if (is_name e.name (codes "LIST")) _ _ (local_refused fault.NotAvi) (local_if (is_name e.name (codes "00dc")) _ _ (local_if (nat_lt limit e.size) _ _ (local_refused fault.ChunkTooLong) (local_if (e.size == 0) _ _ (local_refused fault.EmptyFrame) (local_given _))) (local_skipped {Y = ℕ × ℕ} s e.size))
+local_movi stream s e = local_if (is_name e.name (codes "LIST")) _ _ (local_refused fault.NotAvi) (local_if (is_name e.name (frame_name stream)) _ _ (local_if (nat_lt limit e.size) _ _ (local_refused fault.ChunkTooLong) (local_if (e.size == 0) _ _ (local_refused fault.EmptyFrame) (local_given _))) (local_skipped {Y = ℕ × ℕ} s e.size))
 
-local_frame : (left : ℕ) → Local (frame_read left)
-unfolding frame_found
-local_frame left = local_then (frame_found left) found_read (local_then (walk visit_movi left tt) (λ p. given p.1) (local_walk visit_movi local_movi left tt) (λ p. local_given p.1)) on_found
+local_movi_found : (stream left : ℕ) → Local (movi_found stream left)
+unfolding movi_found
+local_movi_found stream left = local_then (walk (visit_movi stream) left tt) (λ p. given p.1) (local_walk (visit_movi stream) (local_movi stream) left tt) (λ p. local_given p.1)
+
+-- a place where the first movi alone is read has nothing left of the input
+first_input : (place : Place) → extent_of place ≡ FirstMovi → place.input ≡ 0
+first_input place first = on_input (place.input == 0) refl
   where
-    on_found : (o : Option (ℕ × ℕ)) → Local (found_read o)
+    on_input : (b : Bool) → (place.input == 0) ≡ b → place.input ≡ 0
+    on_input true e = eqb-true place.input 0 e
+    on_input false e = let every : ◌≡◌ {A = Extent} EveryRiff FirstMovi = rw e at first in absurd (cc)
+
+-- the frame of movi, or none
+abbrev movi_alone : Place → Option (ℕ × ℕ) → Reading (Option (ℕ × Place))
+movi_alone place None = given None
+movi_alone place (Some p) = given (Some (p.0, frame_at place p.1))
+
+found_alone : (place : Place) → extent_of place ≡ FirstMovi → (text : List ℕ) → frame_found place text ≡ (movi_found place.stream place.movi >>= movi_alone place) text
+found_alone place first text = frame_step place text ∙ on_found (movi_found place.stream place.movi text)
+  where
+    on_found : (z : Result (Option (ℕ × ℕ) × List ℕ) Stop) → read_on z (found_or_on frame_found place) ≡ read_on z (movi_alone place)
+    on_found (Err why) = refl
+    on_found (Ok (Some p, rest)) = refl
+    on_found (Ok (None, rest)) = ap (λ z. read_on z (sought_on frame_found)) (moved_first place (first_input place first) rest)
+
+local_found : (place : Place) → extent_of place ≡ FirstMovi → Local (frame_found place)
+local_found place first = local_same (frame_found place) (movi_found place.stream place.movi >>= movi_alone place) (found_alone place first) (local_then (movi_found place.stream place.movi) (movi_alone place) (local_movi_found place.stream place.movi) on_found)
+  where
+    on_found : (o : Option (ℕ × ℕ)) → Local (movi_alone place o)
+    on_found None = local_given None
+    on_found (Some p) = local_given _
+
+local_frame : (place : Place) → extent_of place ≡ FirstMovi → Local (frame_read place)
+local_frame place first = local_then (frame_found place) found_read (local_found place first) on_found
+  where
+    on_found : (o : Option (ℕ × Place)) → Local (found_read o)
     on_found None = local_given None
     on_found (Some p) = local_then (content Kept p.0) (λ bytes. given (Some (bytes, p.1))) (local_content Kept p.0) (λ bytes. local_given _)
 
-local_frames : (most left : ℕ) → Local (frames_up_to most left)
+local_frames : (most : ℕ) (place : Place) → extent_of place ≡ FirstMovi → Local (frames_up_to most place)
 unfolding frames_up_to
-local_frames zero left = local_given []
-local_frames (suc most) left = local_then (frame_read left) (more_frames (frames_up_to most)) (local_frame left) (on_frame (λ l. local_frames most l))
+local_frames zero place first = local_given []
+local_frames (suc most) place first = local_next (frame_read place) (more_frames (frames_up_to most)) (local_frame place first) (λ text o rest h. on_frame (λ p is. local_frames most p is) o text rest h)
   where
-    on_frame : ((l : ℕ) → Local (frames_up_to most l)) → (o : Option (List ℕ × ℕ)) → Local (more_frames (frames_up_to most) o)
-    on_frame again None = local_given []
-    on_frame again (Some p) = local_then (frames_up_to most p.1) (λ frames. given (p.0 ∷ frames)) (again p.1) (λ frames. local_given (p.0 ∷ frames))
+    on_frame : ((p : Place) → extent_of p ≡ FirstMovi → Local (frames_up_to most p)) → (o : Option (List ℕ × Place)) (text rest : List ℕ) → frame_read place text ≡ Ok (o, rest) → Local (more_frames (frames_up_to most) o)
+    on_frame again None text rest h = local_given []
+    on_frame again (Some p) text rest h = local_then (frames_up_to most p.1) (λ frames. given (p.0 ∷ frames)) (again p.1 ((read_less place text p rest h).1 ∙ first)) (λ frames. local_given (p.0 ∷ frames))
 
-local_file : Local file_read
-local_file = local_then open_read (λ p. (frames_read p.1 >>= λ frames. given (p.0, frames))) local_open (λ p. local_then (frames_read p.1) (λ frames. given (p.0, frames)) (local_frames p.1 p.1) (λ frames. local_given (p.0, frames)))
+local_file : Local (file_read FirstMovi)
+local_file = local_next (open_read FirstMovi) (λ p. (frames_read p.1 >>= λ frames. given (p.0, frames))) (local_open FirstMovi) (λ text p rest h. local_then (frames_read p.1) (λ frames. given (p.0, frames)) (local_frames (amount p.1) p.1 (first text p rest h)) (λ frames. local_given (p.0, frames)))
+  where
+    first : (text : List ℕ) (p : Head × Place) (rest : List ℕ) → open_read FirstMovi text ≡ Ok (p, rest) → extent_of p.1 ≡ FirstMovi
+    first text p rest h = ap (λ (z : Place). extent_of z) (open_sound FirstMovi text (p, rest) h).top.place
 
 -- a beginning of what is read ends where more is wanted
 pub beginning_ends : {X : Type 0} (r : Reading X) → Local r → (text : List ℕ) (x : X) (rest a b : List ℕ) → r text ≡ Ok (x, rest) → text ≡ (a ++ b) ++ rest → 0 < length b → EndsEarly r a
@@ -244,5 +320,5 @@ beginning_ends r is text x rest a b read parts some =
     let u = is text x rest read in
     u.early a b (append_cancel_right u.used (a ++ b) rest (sym u.text_is ∙ parts)) some
 
-pub file_beginning : (file : List ℕ) (head : Head) (frames : List (List ℕ)) (rest a b : List ℕ) → file_read file ≡ Ok ((head, frames), rest) → file ≡ (a ++ b) ++ rest → 0 < length b → EndsEarly file_read a
-file_beginning file head frames rest a b read parts some = beginning_ends file_read local_file file (head, frames) rest a b read parts some
+pub file_beginning : (file : List ℕ) (head : Head) (frames : List (List ℕ)) (rest a b : List ℕ) → file_read FirstMovi file ≡ Ok ((head, frames), rest) → file ≡ (a ++ b) ++ rest → 0 < length b → EndsEarly (file_read FirstMovi) a
+file_beginning file head frames rest a b read parts some = beginning_ends (file_read FirstMovi) local_file file (head, frames) rest a b read parts some

@@ -1,22 +1,28 @@
--- The frames of movi.
+-- The frames of a movi.
 use Rattle.std.proofs.Common.{◌≡◌, ℕ, suc, zero, ◌+◌, ◌-◌, ◌%◌, ◌≤◌, ◌<◌, ◌==◌, nat_lt, Bool, true, false, Option, Some, None, Result, Ok, Err, List, [], ◌∷◌, ◌++◌, length, codes, map, ap, ◌∙◌, sym, subst, arith, refl, append_assoc, append-nil, length-append}
 use Rattle.std.proofs.lemmas.Bool.{eqb-false, ltb-false, le-ltb, ne_eqb}
 use Rattle.std.proofs.lemmas.Grind.{flat_map-append}
 use Rattle.byteorder.specs.Endian.{little_number}
 use Rattle.ffv1_avi.specs.declared.chunk.Entry.{Entry}
 use Rattle.ffv1_avi.specs.Chunks.{AreChunks, AreFrames, AreSized, Chunk, IsChunk, chunk_text, chunks_text, is_named, those}
-use Rattle.ffv1_avi.specs.Files.{found_read, frame_found, frame_read, frames_read, frames_up_to, more_frames, visit_movi}
-use Rattle.ffv1_avi.specs.Reads.{Kept, Stop, content, given, padded, passed, read_on}
+use Rattle.ffv1_avi.specs.declared.place.Extent.{Extent}
+use Rattle.ffv1_avi.specs.declared.place.Extent.TheVariants.{FirstMovi, EveryRiff}
+use Rattle.ffv1_avi.specs.declared.place.Place.{Place}
+use Rattle.ffv1_avi.specs.Files.{found_or_on, found_read, frame_found, frame_name, frame_read, frames_read, more_frames, moved, moved_by, movi_found, movi_or_riff, movi_sought, name_or_end, riff_begun, riff_named, sought_on, visit_movi}
+use Rattle.ffv1_avi.specs.Places.{extent_of, first_place, frame_at}
+use Rattle.ffv1_avi.specs.Reads.{Kept, Reading, Stop, content, given, padded, passed, read_on, ◌>>=◌}
 use Rattle.ffv1_avi.specs.Streams.{limit}
-use Rattle.ffv1_avi.specs.Walk.{entry_read, is_name, resumed, visited, walk, walk_up_to}
+use Rattle.ffv1_avi.specs.Walk.{entry_read, is_name, resumed, visited, walk}
 use Rattle.ffv1_avi.proofs.ListWalks.{Complete, Ended, IsPassed, Run, Sound, Taking, entry_complete, walk_complete, walk_sound}
 use Rattle.ffv1_avi.proofs.Fields.{skipped_passed}
 use Rattle.ffv1_avi.proofs.PassedBytes.{content_complete, content_sound, read_on_ok, skip_complete}
+use Rattle.ffv1_avi.proofs.FrameTurns.{frames_step}
+use Rattle.ffv1_avi.proofs.Moves.{frame_step, moved_first, movi_empty}
 use Rattle.ffv1_avi.proofs.ChunkByChunk.{ok_is, some_is, walk_step}
 
 -- a chunk that is no list and no frame
-abbrev pub TakesMovi : Taking (Unit {0})
-TakesMovi s name bytes t = (is_name name (codes "LIST") ≡ false) × (is_name name (codes "00dc") ≡ false)
+abbrev pub TakesMovi : ℕ → Taking (Unit {0})
+TakesMovi stream s name bytes t = (is_name name (codes "LIST") ≡ false) × (is_name name (frame_name stream) ≡ false)
 
 abbrev M : Type 0
 M = (Unit {0} × Option (ℕ × ℕ)) × List ℕ
@@ -24,38 +30,38 @@ M = (Unit {0} × Option (ℕ × ℕ)) × List ℕ
 no_some : {X : Type 0} (x : X) → ◌≡◌ {A = Option X} (Some x) None → ⊥
 no_some x e = absurd (cc)
 
-movi_sound : Sound visit_movi TakesMovi
+movi_sound : (stream : ℕ) → Sound (visit_movi stream) (TakesMovi stream)
 unfolding visit_movi
-movi_sound s e text t rest listed h = on_names (is_name e.name (codes "LIST")) (is_name e.name (codes "00dc")) (nat_lt limit e.size) (e.size == 0) refl refl refl refl h
+movi_sound stream s e text t rest listed h = on_names (is_name e.name (codes "LIST")) (is_name e.name (frame_name stream)) (nat_lt limit e.size) (e.size == 0) refl refl refl refl h
   where
-    on_names : (a b c d : Bool) → is_name e.name (codes "LIST") ≡ a → is_name e.name (codes "00dc") ≡ b → nat_lt limit e.size ≡ c → (e.size == 0) ≡ d → visit_movi s e text ≡ Ok ((t, None), rest) → IsPassed TakesMovi s e t text rest
+    on_names : (a b c d : Bool) → is_name e.name (codes "LIST") ≡ a → is_name e.name (frame_name stream) ≡ b → nat_lt limit e.size ≡ c → (e.size == 0) ≡ d → visit_movi stream s e text ≡ Ok ((t, None), rest) → IsPassed (TakesMovi stream) s e t text rest
     on_names true b c d p q r z h = absurd (cc (rw p at h))
     on_names false true true d p q r z h = absurd (cc (rw (p, q, r) at h))
     on_names false true false true p q r z h = absurd (cc (rw (p, q, r, z) at h))
     on_names false true false false p q r z h =
         let y : ℕ × ℕ = (e.size, e.left) in
         absurd (no_some y (ap (λ (m : M). m.0.1) (ok_is ((tt, Some y), text) ((t, None), rest) (rw (p, q, r, z) at h))))
-    on_names false false c d p q r z h = skipped_passed {Y = ℕ × ℕ} TakesMovi s e text t rest (λ bytes. (p, q)) (rw (p, q) at h)
+    on_names false false c d p q r z h = skipped_passed {Y = ℕ × ℕ} (TakesMovi stream) s e text t rest (λ bytes. (p, q)) (rw (p, q) at h)
 
-movi_complete : Complete visit_movi TakesMovi
+movi_complete : (stream : ℕ) → Complete (visit_movi stream) (TakesMovi stream)
 unfolding visit_movi
-movi_complete s e bytes padding t rest listed long odd takes = rw (takes.0, takes.1) (ap (λ z. read_on z (λ _. given (tt, None))) (skip_complete e.size bytes padding rest long odd))
+movi_complete stream s e bytes padding t rest listed long odd takes = rw (takes.0, takes.1) (ap (λ z. read_on z (λ _. given (tt, None))) (skip_complete e.size bytes padding rest long odd))
 
 -- where the walk of movi stops there is a frame
-pub record IsFrame (e : Entry) (text : List ℕ) (y : ℕ × ℕ) (rest : List ℕ) : Type 0 where
+pub record IsFrame (stream : ℕ) (e : Entry) (text : List ℕ) (y : ℕ × ℕ) (rest : List ℕ) : Type 0 where
   pub no_list : is_name e.name (codes "LIST") ≡ false
-  pub named : is_name e.name (codes "00dc") ≡ true
+  pub named : is_name e.name (frame_name stream) ≡ true
   pub short : e.size ≤ limit
   pub some : 0 < e.size
   pub size : y.0 ≡ e.size
   pub left : y.1 ≡ e.left
   pub behind : text ≡ rest
 
-movi_stop : (s : Unit {0}) (e : Entry) (text : List ℕ) (t : Unit {0}) (y : ℕ × ℕ) (rest : List ℕ) → visit_movi s e text ≡ Ok ((t, Some y), rest) → IsFrame e text y rest
+movi_stop : (stream : ℕ) (s : Unit {0}) (e : Entry) (text : List ℕ) (t : Unit {0}) (y : ℕ × ℕ) (rest : List ℕ) → visit_movi stream s e text ≡ Ok ((t, Some y), rest) → IsFrame stream e text y rest
 unfolding visit_movi
-movi_stop s e text t y rest h = on_names (is_name e.name (codes "LIST")) (is_name e.name (codes "00dc")) (nat_lt limit e.size) (e.size == 0) refl refl refl refl h
+movi_stop stream s e text t y rest h = on_names (is_name e.name (codes "LIST")) (is_name e.name (frame_name stream)) (nat_lt limit e.size) (e.size == 0) refl refl refl refl h
   where
-    on_names : (a b c d : Bool) → is_name e.name (codes "LIST") ≡ a → is_name e.name (codes "00dc") ≡ b → nat_lt limit e.size ≡ c → (e.size == 0) ≡ d → visit_movi s e text ≡ Ok ((t, Some y), rest) → IsFrame e text y rest
+    on_names : (a b c d : Bool) → is_name e.name (codes "LIST") ≡ a → is_name e.name (frame_name stream) ≡ b → nat_lt limit e.size ≡ c → (e.size == 0) ≡ d → visit_movi stream s e text ≡ Ok ((t, Some y), rest) → IsFrame stream e text y rest
     on_names true b c d p q r z h = absurd (cc (rw p at h))
     on_names false true true d p q r z h = absurd (cc (rw (p, q, r) at h))
     on_names false true false true p q r z h = absurd (cc (rw (p, q, r, z) at h))
@@ -70,15 +76,15 @@ movi_stop s e text t y rest h = on_names (is_name e.name (codes "LIST")) (is_nam
         absurd (no_some y (sym (ap (λ (m : M). m.0.1) (ok_is ((tt, None), first.0.1) ((t, Some y), rest) first.2))))
 
 -- movi ends with no further frame
-pub record IsEnd (left : ℕ) (text rest : List ℕ) : Type 0 where
+pub record IsEnd (stream left : ℕ) (text rest : List ℕ) : Type 0 where
   pub chunks : List Chunk
   pub text_is : text ≡ chunks_text chunks ++ rest
   pub each : AreChunks chunks
   pub long : length (chunks_text chunks) ≡ left
-  pub run : Run TakesMovi tt chunks tt
+  pub run : Run (TakesMovi stream) tt chunks tt
 
 -- the next frame, behind chunks that are none
-pub record IsNext (left : ℕ) (text bytes : List ℕ) (after : ℕ) (rest : List ℕ) : Type 0 where
+pub record IsNext (stream left : ℕ) (text bytes : List ℕ) (after : ℕ) (rest : List ℕ) : Type 0 where
   pub chunks : List Chunk
   pub frame : Chunk
   pub text_is : text ≡ chunks_text chunks ++ (chunk_text frame ++ rest)
@@ -86,36 +92,44 @@ pub record IsNext (left : ℕ) (text bytes : List ℕ) (after : ℕ) (rest : Lis
   pub is : IsChunk frame
   pub bytes_are : frame.bytes ≡ bytes
   pub long : length (chunks_text chunks) + (length (chunk_text frame) + after) ≡ left
-  pub run : Run TakesMovi tt chunks tt
+  pub run : Run (TakesMovi stream) tt chunks tt
   pub no_list : is_named (codes "LIST") frame ≡ false
-  pub named : is_named (codes "00dc") frame ≡ true
+  pub named : is_named (frame_name stream) frame ≡ true
   pub short : length bytes ≤ limit
   pub some : 0 < length bytes
 
-abbrev pub NextIs : ℕ → List ℕ → Option (List ℕ × ℕ) × List ℕ → Type 0
-NextIs left text (None, rest) = IsEnd left text rest
-NextIs left text (Some p, rest) = IsNext left text p.0 p.1 rest
+abbrev pub movi_frame : Option (ℕ × ℕ) → Reading (Option (List ℕ × ℕ))
+movi_frame None = given None
+movi_frame (Some p) = content Kept p.0 >>= λ bytes. given (Some (bytes, p.1))
 
-pub frame_read_sound : (left : ℕ) (text : List ℕ) (w : Option (List ℕ × ℕ) × List ℕ) → frame_read left text ≡ Ok w → NextIs left text w
-unfolding frame_found
-frame_read_sound left text w h =
-    let first = read_on_ok (frame_found left text) found_read w h in
-    let second = read_on_ok (walk visit_movi left tt text) (λ p. given p.1) first.0 first.1 in
-    let walked = walk_sound visit_movi TakesMovi movi_sound left tt text second.0 second.1 in
+-- the next frame of a movi, with its bytes
+abbrev pub movi_read : ℕ → ℕ → Reading (Option (List ℕ × ℕ))
+movi_read stream left = movi_found stream left >>= movi_frame
+
+abbrev pub NextIs : ℕ → ℕ → List ℕ → Option (List ℕ × ℕ) × List ℕ → Type 0
+NextIs stream left text (None, rest) = IsEnd stream left text rest
+NextIs stream left text (Some p, rest) = IsNext stream left text p.0 p.1 rest
+
+pub movi_read_sound : (stream left : ℕ) (text : List ℕ) (w : Option (List ℕ × ℕ) × List ℕ) → movi_read stream left text ≡ Ok w → NextIs stream left text w
+unfolding movi_found
+movi_read_sound stream left text w h =
+    let first = read_on_ok (movi_found stream left text) movi_frame w h in
+    let second = read_on_ok (walk (visit_movi stream) left tt text) (λ p. given p.1) first.0 first.1 in
+    let walked = walk_sound (visit_movi stream) (TakesMovi stream) (movi_sound stream) left tt text second.0 second.1 in
     let same = ok_is (second.0.0.1, second.0.1) first.0 second.2 in
-    let Q : Option (ℕ × ℕ) × List ℕ → Type 0 = λ z. found_read z.0 z.1 ≡ Ok w in
+    let Q : Option (ℕ × ℕ) × List ℕ → Type 0 = λ z. movi_frame z.0 z.1 ≡ Ok w in
     on_end second.0.0.1 second.0.1 walked.chunks walked.behind walked.after walked.text_is walked.each walked.long walked.run walked.end (subst Q (sym same) first.2)
   where
-    on_end : (o : Option (ℕ × ℕ)) (more : List ℕ) (chunks : List Chunk) (behind : List ℕ) (after : ℕ) → text ≡ chunks_text chunks ++ behind → AreChunks chunks → length (chunks_text chunks) + after ≡ left → Run TakesMovi tt chunks tt →
-        Ended visit_movi after tt behind tt o more → found_read o more ≡ Ok w → NextIs left text w
+    on_end : (o : Option (ℕ × ℕ)) (more : List ℕ) (chunks : List Chunk) (behind : List ℕ) (after : ℕ) → text ≡ chunks_text chunks ++ behind → AreChunks chunks → length (chunks_text chunks) + after ≡ left → Run (TakesMovi stream) tt chunks tt →
+        Ended (visit_movi stream) after tt behind tt o more → movi_frame o more ≡ Ok w → NextIs stream left text w
     on_end None more chunks behind after whole each long run end k =
-        let P : Option (List ℕ × ℕ) × List ℕ → Type 0 = λ z. NextIs left text z in
-        let here : IsEnd left text more = record { chunks = chunks; text_is = whole ∙ ap (λ z. chunks_text chunks ++ z) end.2; each = each; long = omega (arith, long, end.0); run = run } in
+        let P : Option (List ℕ × ℕ) × List ℕ → Type 0 = λ z. NextIs stream left text z in
+        let here : IsEnd stream left text more = record { chunks = chunks; text_is = whole ∙ ap (λ z. chunks_text chunks ++ z) end.2; each = each; long = omega (arith, long, end.0); run = run } in
         subst P (ok_is (None, more) w k) here
     on_end (Some y) more chunks behind after whole each long run end k =
         let e = end.0 in
         let entry = end.2 in
-        let is = movi_stop tt e end.1 tt y more end.3 in
+        let is = movi_stop stream tt e end.1 tt y more end.3 in
         let third = read_on_ok (content Kept y.0 more) (λ bytes. given (Some (bytes, y.1))) w k in
         let c = content_sound Kept y.0 more third.0 third.1 in
         let bytes = third.0.0 in
@@ -126,58 +140,13 @@ frame_read_sound left text w h =
         let here : text ≡ chunks_text chunks ++ (chunk_text frame ++ third.0.1) =
         whole ∙ ap (λ z. chunks_text chunks ++ z) (entry.text_is ∙ ap (λ z. (e.name ++ entry.size) ++ z) (is.behind ∙ c.text_is) ∙ regrouped (e.name ++ entry.size) bytes c.padding third.0.1) in
         let total : length (chunk_text frame) ≡ 8 + padded e.size = omega (arith, entry.named, entry.sized, size, odd, length-append ((e.name ++ entry.size) ++ bytes) c.padding, length-append (e.name ++ entry.size) bytes, length-append e.name entry.size) in
-        let next : IsNext left text bytes y.1 third.0.1 = record { chunks = chunks; frame = frame; text_is = here; each = each; is = chunk; bytes_are = refl; long = omega (arith, long, entry.fits, total, is.left); run = run; no_list = is.no_list; named = is.named; short = rw size is.short; some = rw size is.some } in
-        let P : Option (List ℕ × ℕ) × List ℕ → Type 0 = λ z. NextIs left text z in
+        let next : IsNext stream left text bytes y.1 third.0.1 = record { chunks = chunks; frame = frame; text_is = here; each = each; is = chunk; bytes_are = refl; long = omega (arith, long, entry.fits, total, is.left); run = run; no_list = is.no_list; named = is.named; short = rw size is.short; some = rw size is.some } in
+        let P : Option (List ℕ × ℕ) × List ℕ → Type 0 = λ z. NextIs stream left text z in
         let p : List ℕ × ℕ = (bytes, y.1) in
         subst P (ok_is (Some p, third.0.1) w third.2) next
       where
         regrouped : (a b c d : List ℕ) → a ++ ((b ++ c) ++ d) ≡ ((a ++ b) ++ c) ++ d
         regrouped a b c d = simp append_assoc
-
--- movi grows shorter with each frame
-pub frame_less : (left : ℕ) (text : List ℕ) (p : List ℕ × ℕ) (rest : List ℕ) → frame_read left text ≡ Ok (Some p, rest) → p.1 < left
-frame_less left text p rest h =
-    let next = frame_read_sound left text (Some p, rest) h in
-    let c = next.frame in
-    omega (arith, next.long, next.is.named, length-append ((c.name ++ c.size) ++ c.bytes) c.padding, length-append (c.name ++ c.size) c.bytes, length-append c.name c.size)
-
-pub frame_end : (text : List ℕ) → frame_read 0 text ≡ Ok (None, text)
-unfolding frame_found walk_up_to
-frame_end text = refl
-
-frames_enough : (f g left : ℕ) (text : List ℕ) → left ≤ f → left ≤ g → frames_up_to f left text ≡ frames_up_to g left text
-unfolding frames_up_to
-frames_enough zero zero left text h k = refl
-frames_enough zero (suc g) left text h k =
-    let none : left ≡ 0 = omega (arith, h) in
-    rw none (ap (λ z. read_on z (more_frames (frames_up_to g))) (sym (frame_end text)))
-frames_enough (suc f) zero left text h k =
-    let none : left ≡ 0 = omega (arith, k) in
-    rw none (ap (λ z. read_on z (more_frames (frames_up_to f))) (frame_end text))
-frames_enough (suc f) (suc g) left text h k = on_frame (λ l more. frames_enough f g l more) (frame_read left text) refl
-  where
-    Same : Type 0
-    Same = (l : ℕ) (more : List ℕ) → l ≤ f → l ≤ g → frames_up_to f l more ≡ frames_up_to g l more
-
-    on_frame : Same → (z : Result (Option (List ℕ × ℕ) × List ℕ) Stop) → frame_read left text ≡ z → read_on z (more_frames (frames_up_to f)) ≡ read_on z (more_frames (frames_up_to g))
-    on_frame same (Err e) is = refl
-    on_frame same (Ok (None, rest)) is = refl
-    on_frame same (Ok (Some p, rest)) is =
-        let less = frame_less left text p rest is in
-        ap (λ z. read_on z (λ frames. given (p.0 ∷ frames))) (same p.1 rest (omega (arith, less, h)) (omega (arith, less, k)))
-
--- the frames are the next one and those behind it
-pub frames_step : (left : ℕ) (text : List ℕ) → frames_read left text ≡ read_on (frame_read left text) (more_frames frames_read)
-unfolding frames_up_to
-frames_step zero text = ap (λ z. read_on z (more_frames frames_read)) (sym (frame_end text))
-frames_step (suc n) text = on_frame (frame_read (suc n) text) refl
-  where
-    on_frame : (z : Result (Option (List ℕ × ℕ) × List ℕ) Stop) → frame_read (suc n) text ≡ z → read_on z (more_frames (frames_up_to n)) ≡ read_on z (more_frames frames_read)
-    on_frame (Err e) is = refl
-    on_frame (Ok (None, rest)) is = refl
-    on_frame (Ok (Some p, rest)) is =
-        let less = frame_less (suc n) text p rest is in
-        ap (λ z. read_on z (λ frames. given (p.0 ∷ frames))) (frames_enough n p.1 p.1 rest (omega (arith, less)) (omega arith))
 
 pub those_both : (test : Chunk → Bool) (xs ys : List Chunk) → those test (xs ++ ys) ≡ those test xs ++ those test ys
 those_both test [] ys = refl
@@ -192,83 +161,190 @@ chunks_both [] ys h k = k
 chunks_both (x ∷ xs) ys h k = (h.0, chunks_both xs ys h.1 k)
 
 -- chunks that are no frames
-no_frames : (cs : List Chunk) → Run TakesMovi tt cs tt → (those (is_named (codes "LIST")) cs ≡ []) × (those (is_named (codes "00dc")) cs ≡ [])
-no_frames [] run = (refl, refl)
-no_frames (c ∷ cs) run = let more = no_frames cs run.2 in (rw run.1.0 more.0, rw run.1.1 more.1)
+no_frames : (stream : ℕ) (cs : List Chunk) → Run (TakesMovi stream) tt cs tt → (those (is_named (codes "LIST")) cs ≡ []) × (those (is_named (frame_name stream)) cs ≡ [])
+no_frames stream [] run = (refl, refl)
+no_frames stream (c ∷ cs) run = let more = no_frames stream cs run.2 in (rw run.1.0 more.0, rw run.1.1 more.1)
 
-frames_more : (before behind : List Chunk) (c : Chunk) (frames : List (List ℕ)) → AreChunks before → Run TakesMovi tt before tt → IsChunk c → is_named (codes "LIST") c ≡ false → is_named (codes "00dc") c ≡ true → length c.bytes ≤ limit → 0 < length c.bytes →
-    AreFrames behind frames → AreFrames (before ++ c ∷ behind) (c.bytes ∷ frames)
-frames_more before behind c frames each run is list named short some more =
-    let none = no_frames before run in
+none_framed : (stream : ℕ) (cs : List Chunk) → AreChunks cs → Run (TakesMovi stream) tt cs tt → AreFrames (frame_name stream) cs []
+none_framed stream cs each run =
+    let none = no_frames stream cs run in
+    record { each = each; no_list = none.0; those_of = ap (map (λ (c : Chunk). c.bytes)) none.1; sized = tt }
+
+frames_more : (stream : ℕ) (before behind : List Chunk) (c : Chunk) (frames : List (List ℕ)) → AreChunks before → Run (TakesMovi stream) tt before tt → IsChunk c → is_named (codes "LIST") c ≡ false → is_named (frame_name stream) c ≡ true → length c.bytes ≤ limit → 0 < length c.bytes →
+    AreFrames (frame_name stream) behind frames → AreFrames (frame_name stream) (before ++ c ∷ behind) (c.bytes ∷ frames)
+frames_more stream before behind c frames each run is list named short some more =
+    let none = no_frames stream before run in
     let lists : those (is_named (codes "LIST")) (before ++ c ∷ behind) ≡ [] = those_both (is_named (codes "LIST")) before (c ∷ behind) ∙ rw (none.0, list) more.no_list in
-    let there : those (is_named (codes "00dc")) (before ++ c ∷ behind) ≡ c ∷ those (is_named (codes "00dc")) behind = those_both (is_named (codes "00dc")) before (c ∷ behind) ∙ rw (none.1, named) refl in
-    let all : map (λ (c : Chunk). c.bytes) (those (is_named (codes "00dc")) (before ++ c ∷ behind)) ≡ c.bytes ∷ frames = ap (map (λ (c : Chunk). c.bytes)) there ∙ ap (λ z. c.bytes ∷ z) more.those_of in
+    let there : those (is_named (frame_name stream)) (before ++ c ∷ behind) ≡ c ∷ those (is_named (frame_name stream)) behind = those_both (is_named (frame_name stream)) before (c ∷ behind) ∙ rw (none.1, named) refl in
+    let all : map (λ (c : Chunk). c.bytes) (those (is_named (frame_name stream)) (before ++ c ∷ behind)) ≡ c.bytes ∷ frames = ap (map (λ (c : Chunk). c.bytes)) there ∙ ap (λ z. c.bytes ∷ z) more.those_of in
     record { each = chunks_both before (c ∷ behind) each (is, more.each); no_list = lists; those_of = all; sized = (some, short, more.sized) }
 
--- what is read as frames are the frames of chunks
-pub record ReadFrames (left : ℕ) (text : List ℕ) (frames : List (List ℕ)) (rest : List ℕ) : Type 0 where
-  pub chunks : List Chunk
-  pub text_is : text ≡ chunks_text chunks ++ rest
-  pub long : length (chunks_text chunks) ≡ left
-  pub framed : AreFrames chunks frames
+-- the frames after the end of a movi
+abbrev pub frames_on : Option Place → Reading (List (List ℕ))
+frames_on None = given []
+frames_on (Some p) = frames_read p
 
-frames_up_to_sound : (most left : ℕ) (text : List ℕ) (w : List (List ℕ) × List ℕ) → left ≤ most → frames_up_to most left text ≡ Ok w → ReadFrames left text w.0 w.1
-unfolding frames_up_to
-frames_up_to_sound zero left text w enough h =
-    let P : List (List ℕ) × List ℕ → Type 0 = λ z. ReadFrames left text z.0 z.1 in
-    let none : AreFrames [] [] = record { each = tt; no_list = refl; those_of = refl; sized = tt } in
-    subst P (ok_is ([], text) w h) (record { chunks = []; text_is = refl; long = omega (arith, enough); framed = none })
-frames_up_to_sound (suc most) left text w enough h = on_frame (λ l more v. frames_up_to_sound most l more v) (frame_read left text) refl h
+abbrev pub frames_after : Place → Reading (List (List ℕ))
+frames_after place = moved place >>= frames_on
+
+-- a place where movi has so many bytes left, and so many frames are owed
+abbrev pub placed : Place → ℕ → ℕ → Place
+placed place movi owed = record { input = place.input; riff = place.riff; movi = movi; stream = place.stream; owed = owed }
+
+-- what is after a movi does not hang on its bytes
+begun_same : (place : Place) (movi : ℕ) (text : List ℕ) → riff_begun place text ≡ riff_begun (placed place movi place.owed) text
+unfolding riff_begun
+begun_same place movi text = on_name (name_or_end place.owed text)
+  where
+    on_name : (z : Result (Option (List ℕ) × List ℕ) Stop) → read_on z (riff_named place) ≡ read_on z (riff_named (placed place movi place.owed))
+    on_name (Err why) = refl
+    on_name (Ok (None, rest)) = refl
+    on_name (Ok (Some name, rest)) = refl
+
+moved_by_same : (extent : Extent) (place : Place) (movi : ℕ) (text : List ℕ) → moved_by extent place text ≡ moved_by extent (placed place movi place.owed) text
+moved_by_same FirstMovi place movi text = refl
+moved_by_same EveryRiff place movi text = on_found (movi_sought place.riff text)
+  where
+    on_found : (z : Result (Option (ℕ × ℕ) × List ℕ) Stop) → read_on z (movi_or_riff place) ≡ read_on z (movi_or_riff (placed place movi place.owed))
+    on_found (Err why) = refl
+    on_found (Ok (None, rest)) = begun_same place movi rest
+    on_found (Ok (Some p, rest)) = refl
+
+pub moved_same : (place : Place) (movi owed : ℕ) → place.owed ≡ owed → (text : List ℕ) → moved place text ≡ moved (placed place movi owed) text
+unfolding moved
+moved_same place movi owed is text = moved_by_same (extent_of place) place movi text ∙ ap (λ n. moved_by (extent_of place) (placed place movi n) text) is
+
+found_same : (place : Place) (movi : ℕ) (z : Result (Option (ℕ × ℕ) × List ℕ) Stop) → read_on z (found_or_on frame_found place) ≡ read_on z (found_or_on frame_found (placed place movi place.owed))
+found_same place movi (Err why) = refl
+found_same place movi (Ok (Some p, rest)) = refl
+found_same place movi (Ok (None, rest)) = ap (λ z. read_on z (sought_on frame_found)) (moved_same place movi place.owed refl rest)
+
+-- no frame is left in movi
+frames_none : (place : Place) (text more : List ℕ) → movi_found place.stream place.movi text ≡ Ok (None, more) → frames_read place text ≡ frames_after place more
+frames_none place text more is =
+    frames_step place text
+    ∙ ap (λ z. read_on (read_on z found_read) (more_frames frames_read)) (frame_step place text ∙ ap (λ z. read_on z (found_or_on frame_found place)) is)
+    ∙ on_moved (moved place more)
+  where
+    on_moved : (z : Result (Option Place × List ℕ) Stop) → read_on (read_on (read_on z (sought_on frame_found)) found_read) (more_frames frames_read) ≡ read_on z frames_on
+    on_moved (Err why) = refl
+    on_moved (Ok (None, rest)) = refl
+    on_moved (Ok (Some p, rest)) = sym (frames_step p rest)
+
+-- or one is
+pub frame_next : (place : Place) (text : List ℕ) (p : List ℕ × ℕ) (rest : List ℕ) → movi_read place.stream place.movi text ≡ Ok (Some p, rest) → frame_read place text ≡ Ok (Some (p.0, frame_at place p.1), rest)
+frame_next place text p rest h = ap (λ z. read_on z found_read) (frame_step place text) ∙ on_found (movi_found place.stream place.movi text) h
+  where
+    Framed : Type 0
+    Framed = Option (List ℕ × Place) × List ℕ
+
+    on_found : (z : Result (Option (ℕ × ℕ) × List ℕ) Stop) → read_on z movi_frame ≡ Ok (Some p, rest) → read_on (read_on z (found_or_on frame_found place)) found_read ≡ Ok (Some (p.0, frame_at place p.1), rest)
+    on_found (Err why) k = absurd (cc)
+    on_found (Ok (None, more)) k = absurd (no_some p (sym (ap (λ (z : Option (List ℕ × ℕ) × List ℕ). z.0) (ok_is (None, more) (Some p, rest) k))))
+    on_found (Ok (Some y, more)) k =
+        let first = read_on_ok (content Kept y.0 more) (λ bytes. given (Some (bytes, y.1))) (Some p, rest) k in
+        let made : List ℕ × ℕ = (first.0.0, y.1) in
+        let both = ok_is (Some made, first.0.1) (Some p, rest) first.2 in
+        let same : made ≡ p = some_is made p (ap (λ (z : Option (List ℕ × ℕ) × List ℕ). z.0) both) in
+        let here : Framed → Result Framed Stop = λ z. Ok z in
+        ap (λ z. read_on z (λ bytes. given (Some (bytes, frame_at place y.1)))) first.1
+        ∙ ap (λ (q : List ℕ × ℕ). here (Some (q.0, frame_at place q.1), first.0.1)) same
+        ∙ ap (λ r. here (Some (p.0, frame_at place p.1), r)) (ap (λ (z : Option (List ℕ × ℕ) × List ℕ). z.1) both)
+
+-- what is read as frames are those of the chunks of movi, and those after it
+pub record MoviPart (place : Place) (text : List ℕ) (frames : List (List ℕ)) (rest : List ℕ) : Type 0 where
+  pub chunks : List Chunk
+  pub more : List ℕ
+  pub here : List (List ℕ)
+  pub later : List (List ℕ)
+  pub text_is : text ≡ chunks_text chunks ++ more
+  pub long : length (chunks_text chunks) ≡ place.movi
+  pub framed : AreFrames (frame_name place.stream) chunks here
+  pub parted : frames ≡ here ++ later
+  pub after : frames_after (placed place 0 (place.owed - length here)) more ≡ Ok (later, rest)
+
+err_is_no_ok : {X : Type 0} (why : Stop) (p : X × List ℕ) → ◌≡◌ {A = Result (X × List ℕ) Stop} (Err why) (Ok p) → ⊥
+err_is_no_ok why p e = absurd (cc)
+
+-- what the record says of a first frame and of the others
+part_more : (place : Place) (text bytes : List ℕ) (left : ℕ) (more : List ℕ) (frames : List (List ℕ)) (rest : List ℕ) → IsNext place.stream place.movi text bytes left more → MoviPart (frame_at place left) more frames rest → MoviPart place text (bytes ∷ frames) rest
+part_more place text bytes left more frames rest next part =
+    let c = next.frame in
+    let chunks = next.chunks ++ c ∷ part.chunks in
+    let apart : chunks_text chunks ≡ chunks_text next.chunks ++ (chunk_text c ++ chunks_text part.chunks) = flat_map-append chunk_text next.chunks (c ∷ part.chunks) in
+    let whole : text ≡ chunks_text chunks ++ part.more = next.text_is ∙ ap (λ z. chunks_text next.chunks ++ (chunk_text c ++ z)) part.text_is ∙ regrouped (chunks_text next.chunks) (chunk_text c) (chunks_text part.chunks) part.more ∙ ap (λ z. z ++ part.more) (sym apart) in
+    let long : length (chunks_text chunks) ≡ place.movi = ap length apart ∙ length-append (chunks_text next.chunks) (chunk_text c ++ chunks_text part.chunks) ∙ (omega (arith, next.long, part.long, length-append (chunk_text c) (chunks_text part.chunks))) in
+    let short : length c.bytes ≤ limit = rw next.bytes_are next.short in
+    let some : 0 < length c.bytes = rw next.bytes_are next.some in
+    let framed = frames_more place.stream next.chunks part.chunks c part.here next.each next.run next.is next.no_list next.named short some part.framed in
+    let Q : List ℕ → Type 0 = λ b. AreFrames (frame_name place.stream) chunks (b ∷ part.here) in
+    let owes : place.owed - 1 - length part.here ≡ place.owed - suc (length part.here) = omega arith in
+    let R : ℕ → Type 0 = λ n. frames_after (placed place 0 n) part.more ≡ Ok (part.later, rest) in
+    record { chunks = chunks; more = part.more; here = bytes ∷ part.here; later = part.later; text_is = whole; long = long; framed = subst Q next.bytes_are framed; parted = ap (λ z. bytes ∷ z) part.parted; after = subst R owes part.after }
+  where
+    regrouped : (a b c d : List ℕ) → a ++ (b ++ (c ++ d)) ≡ (a ++ (b ++ c)) ++ d
+    regrouped a b c d = simp append_assoc
+
+abbrev Shorter : Place → Type 0
+Shorter place = (p : Place) (more : List ℕ) (v : List (List ℕ) × List ℕ) → p.movi < place.movi → frames_read p more ≡ Ok v → MoviPart p more v.0 v.1
+
+part_step : (place : Place) (text : List ℕ) (w : List (List ℕ) × List ℕ) → Shorter place → frames_read place text ≡ Ok w → MoviPart place text w.0 w.1
+part_step place text w again h = on_found (movi_found place.stream place.movi text) refl
   where
     P : List (List ℕ) × List ℕ → Type 0
-    P z = ReadFrames left text z.0 z.1
+    P z = MoviPart place text z.0 z.1
 
-    Again : Type 0
-    Again = (l : ℕ) (more : List ℕ) (v : List (List ℕ) × List ℕ) → l ≤ most → frames_up_to most l more ≡ Ok v → ReadFrames l more v.0 v.1
+    read : read_on (frame_read place text) (more_frames frames_read) ≡ Ok w
+    read = sym (frames_step place text) ∙ h
 
-    on_frame : Again → (z : Result (Option (List ℕ × ℕ) × List ℕ) Stop) → frame_read left text ≡ z → read_on z (more_frames (frames_up_to most)) ≡ Ok w → P w
-    on_frame again (Err e) is k = absurd (cc)
-    on_frame again (Ok (None, rest)) is k =
-        let end = frame_read_sound left text (None, rest) is in
-        let none = no_frames end.chunks end.run in
-        let framed : AreFrames end.chunks [] = record { each = end.each; no_list = none.0; those_of = ap (map (λ (c : Chunk). c.bytes)) none.1; sized = tt } in
-        subst P (ok_is ([], rest) w k) (record { chunks = end.chunks; text_is = end.text_is; long = end.long; framed = framed })
-    on_frame again (Ok (Some p, rest)) is k =
-        let next = frame_read_sound left text (Some p, rest) is in
-        let less = frame_less left text p rest is in
-        let first = read_on_ok (frames_up_to most p.1 rest) (λ frames. given (p.0 ∷ frames)) w k in
-        let more = again p.1 rest first.0 (omega (arith, less, enough)) first.1 in
+    on_found : (z : Result (Option (ℕ × ℕ) × List ℕ) Stop) → movi_found place.stream place.movi text ≡ z → P w
+    on_found (Err why) is =
+        let none : frame_read place text ≡ Err why = ap (λ z. read_on z found_read) (frame_step place text ∙ ap (λ z. read_on z (found_or_on frame_found place)) is) in
+        absurd (err_is_no_ok why w (sym (ap (λ z. read_on z (more_frames frames_read)) none) ∙ read))
+    on_found (Ok (None, more)) is =
+        let end = movi_read_sound place.stream place.movi text (None, more) (ap (λ z. read_on z movi_frame) is) in
+        let after : frames_after place more ≡ Ok w = sym (frames_none place text more is) ∙ h in
+        let same : frames_after (placed place 0 (place.owed - 0)) more ≡ Ok w = ap (λ z. read_on z frames_on) (sym (moved_same place 0 (place.owed - 0) (omega arith) more)) ∙ after in
+        record { chunks = end.chunks; more = more; here = []; later = w.0; text_is = end.text_is; long = end.long; framed = none_framed place.stream end.chunks end.each end.run; parted = refl; after = same }
+    on_found (Ok (Some y, more)) is =
+        let found : frame_read place text ≡ (content Kept y.0 >>= λ bytes. given (Some (bytes, frame_at place y.1))) more = ap (λ z. read_on z found_read) (frame_step place text ∙ ap (λ z. read_on z (found_or_on frame_found place)) is) in
+        let first = read_on_ok (frame_read place text) (more_frames frames_read) w read in
+        let second = read_on_ok (content Kept y.0 more) (λ bytes. given (Some (bytes, frame_at place y.1))) first.0 (sym found ∙ first.1) in
+        let bytes = second.0.0 in
+        let behind = second.0.1 in
+        let p : List ℕ × ℕ = (bytes, y.1) in
+        let q : List ℕ × Place = (bytes, frame_at place y.1) in
+        let there : movi_read place.stream place.movi text ≡ Ok (Some p, behind) = ap (λ z. read_on z movi_frame) is ∙ ap (λ z. read_on z (λ bytes. given (Some (bytes, y.1)))) second.1 in
+        let next = movi_read_sound place.stream place.movi text (Some p, behind) there in
+        let Q : Option (List ℕ × Place) × List ℕ → Type 0 = λ z. more_frames frames_read z.0 z.1 ≡ Ok w in
+        let others : (frames_read (frame_at place y.1) >>= λ frames. given (bytes ∷ frames)) behind ≡ Ok w = subst Q (sym (ok_is (Some q, behind) first.0 second.2)) first.2 in
+        let third = read_on_ok (frames_read (frame_at place y.1) behind) (λ frames. given (bytes ∷ frames)) w others in
         let c = next.frame in
-        let chunks = next.chunks ++ c ∷ more.chunks in
-        let apart : chunks_text chunks ≡ chunks_text next.chunks ++ (chunk_text c ++ chunks_text more.chunks) = flat_map-append chunk_text next.chunks (c ∷ more.chunks) in
-        let whole : text ≡ chunks_text chunks ++ first.0.1 =
-        next.text_is ∙ ap (λ z. chunks_text next.chunks ++ (chunk_text c ++ z)) more.text_is ∙ regrouped (chunks_text next.chunks) (chunk_text c) (chunks_text more.chunks) first.0.1 ∙ ap (λ z. z ++ first.0.1) (sym apart) in
-        let long : length (chunks_text chunks) ≡ left = ap length apart ∙ length-append (chunks_text next.chunks) (chunk_text c ++ chunks_text more.chunks) ∙ (omega (arith, next.long, more.long, length-append (chunk_text c) (chunks_text more.chunks))) in
-        let short : length c.bytes ≤ limit = rw next.bytes_are next.short in
-        let some : 0 < length c.bytes = rw next.bytes_are next.some in
-        let framed = frames_more next.chunks more.chunks c first.0.0 next.each next.run next.is next.no_list next.named short some more.framed in
-        let Q : List ℕ → Type 0 = λ b. AreFrames chunks (b ∷ first.0.0) in
-        subst P (ok_is (p.0 ∷ first.0.0, first.0.1) w first.2) (record { chunks = chunks; text_is = whole; long = long; framed = subst Q next.bytes_are framed })
-      where
-        regrouped : (a b c d : List ℕ) → a ++ (b ++ (c ++ d)) ≡ (a ++ (b ++ c)) ++ d
-        regrouped a b c d = simp append_assoc
+        let less : y.1 < place.movi = omega (arith, next.long, next.is.named, length-append ((c.name ++ c.size) ++ c.bytes) c.padding, length-append (c.name ++ c.size) c.bytes, length-append c.name c.size) in
+        let part = again (frame_at place y.1) behind third.0 less third.1 in
+        subst P (ok_is (bytes ∷ third.0.0, third.0.1) w third.2) (part_more place text bytes y.1 behind third.0.0 third.0.1 next part)
 
-pub frames_sound : (left : ℕ) (text : List ℕ) (w : List (List ℕ) × List ℕ) → frames_read left text ≡ Ok w → ReadFrames left text w.0 w.1
-frames_sound left text w h = frames_up_to_sound left left text w (omega arith) h
+movi_part_up_to : (most : ℕ) (place : Place) (text : List ℕ) (w : List (List ℕ) × List ℕ) → place.movi ≤ most → frames_read place text ≡ Ok w → MoviPart place text w.0 w.1
+movi_part_up_to zero place text w enough h = part_step place text w (λ p more v less k. absurd (omega (arith, enough, less))) h
+movi_part_up_to (suc most) place text w enough h = part_step place text w (λ p more v less k. movi_part_up_to most p more v (omega (arith, enough, less)) k) h
+
+-- the frames of a place are those of its movi, and those after it
+pub movi_part : (place : Place) (text : List ℕ) (w : List (List ℕ) × List ℕ) → frames_read place text ≡ Ok w → MoviPart place text w.0 w.1
+movi_part place text w h = movi_part_up_to place.movi place text w (omega arith) h
 
 -- a chunk that is no frame is passed
-pub frame_passed : (c : Chunk) (more : ℕ) (rest : List ℕ) → IsChunk c → is_named (codes "LIST") c ≡ false → is_named (codes "00dc") c ≡ false → frame_read (length (chunk_text c) + more) (chunk_text c ++ rest) ≡ frame_read more rest
-unfolding frame_found
-frame_passed c more rest is list named =
+pub movi_passed : (stream : ℕ) (c : Chunk) (more : ℕ) (rest : List ℕ) → IsChunk c → is_named (codes "LIST") c ≡ false → is_named (frame_name stream) c ≡ false → movi_found stream (length (chunk_text c) + more) (chunk_text c ++ rest) ≡ movi_found stream more rest
+unfolding movi_found
+movi_passed stream c more rest is list named =
     let one : chunks_text (c ∷ []) ≡ chunk_text c = append-nil (chunk_text c) in
-    let walked = walk_complete visit_movi TakesMovi movi_complete (c ∷ []) tt tt more rest (is, tt) (tt, (list, named), refl) in
-    let alone : walk visit_movi (length (chunk_text c) + more) tt (chunk_text c ++ rest) ≡ walk visit_movi more tt rest = rw one at walked in
-    ap (λ z. read_on (read_on z (λ p. given p.1)) found_read) alone
+    let walked = walk_complete (visit_movi stream) (TakesMovi stream) (movi_complete stream) (c ∷ []) tt tt more rest (is, tt) (tt, (list, named), refl) in
+    let alone : walk (visit_movi stream) (length (chunk_text c) + more) tt (chunk_text c ++ rest) ≡ walk (visit_movi stream) more tt rest = rw one at walked in
+    ap (λ z. read_on z (λ p. given p.1)) alone
 
 -- a frame is read
-frame_there : (c : Chunk) (more : ℕ) (rest : List ℕ) → IsChunk c → is_named (codes "LIST") c ≡ false → is_named (codes "00dc") c ≡ true → length c.bytes ≤ limit → 0 < length c.bytes → frame_read (length (chunk_text c) + more) (chunk_text c ++ rest) ≡ Ok (Some (c.bytes, more), rest)
-unfolding frame_found visit_movi
-frame_there c more rest is list named short some =
+movi_there : (stream : ℕ) (c : Chunk) (more : ℕ) (rest : List ℕ) → IsChunk c → is_named (codes "LIST") c ≡ false → is_named (frame_name stream) c ≡ true → length c.bytes ≤ limit → 0 < length c.bytes → movi_read stream (length (chunk_text c) + more) (chunk_text c ++ rest) ≡ Ok (Some (c.bytes, more), rest)
+unfolding movi_found visit_movi
+movi_there stream c more rest is list named short some =
     let left = length (chunk_text c) + more in
     let size = little_number 4 c.size in
     let total : length (chunk_text c) ≡ 8 + padded (length c.bytes) = omega (arith, is.named, is.sized, is.padded, length-append ((c.name ++ c.size) ++ c.bytes) c.padding, length-append (c.name ++ c.size) c.bytes, length-append c.name c.size) in
@@ -280,23 +356,44 @@ frame_there c more rest is list named short some =
     ap (entry_read left) whole ∙ entry_complete left c.name c.size ((c.bytes ++ c.padding) ++ rest) is.named is.sized (rw (← counted) (omega (arith, total))) (λ l. rw is.counted (is.listed l)) in
     let fits : nat_lt limit size ≡ false = le-ltb _ _ (rw is.counted short) in
     let not_none : (size == 0) ≡ false = ne_eqb _ _ (λ z. omega (arith, some, is.counted, z)) in
-    let stop : visit_movi tt e ((c.bytes ++ c.padding) ++ rest) ≡ Ok ((tt, Some (size, e.left)), (c.bytes ++ c.padding) ++ rest) = rw (list, named, fits, not_none) refl in
+    let stop : visit_movi stream tt e ((c.bytes ++ c.padding) ++ rest) ≡ Ok ((tt, Some (size, e.left)), (c.bytes ++ c.padding) ++ rest) = rw (list, named, fits, not_none) refl in
     let read : content Kept size ((c.bytes ++ c.padding) ++ rest) ≡ Ok (c.bytes, rest) = content_complete Kept size c.bytes c.padding rest counted (rw is.counted is.padded) in
-    ap (λ z. read_on (read_on z (λ p. given p.1)) found_read) (walk_step visit_movi left tt (chunk_text c ++ rest))
-    ∙ ap (λ z. read_on (read_on (read_on z (visited visit_movi (walk visit_movi) tt)) (λ p. given p.1)) found_read) entry
-    ∙ ap (λ z. read_on (read_on (read_on z (λ p. resumed (walk visit_movi e.left) p.0 p.1)) (λ p. given p.1)) found_read) stop
+    ap (λ z. read_on (read_on z (λ p. given p.1)) movi_frame) (walk_step (visit_movi stream) left tt (chunk_text c ++ rest))
+    ∙ ap (λ z. read_on (read_on (read_on z (visited (visit_movi stream) (walk (visit_movi stream)) tt)) (λ p. given p.1)) movi_frame) entry
+    ∙ ap (λ z. read_on (read_on (read_on z (λ p. resumed (walk (visit_movi stream) e.left) p.0 p.1)) (λ p. given p.1)) movi_frame) stop
     ∙ ap (λ z. read_on z (λ bytes. given (Some (bytes, e.left)))) read
     ∙ rw behind refl
   where
     regrouped : (a b c d e : List ℕ) → (((a ++ b) ++ c) ++ d) ++ e ≡ (a ++ b) ++ ((c ++ d) ++ e)
     regrouped a b c d e = simp append_assoc
 
-frames_complete_on : (cs : List Chunk) (rest : List ℕ) → AreChunks cs → those (is_named (codes "LIST")) cs ≡ [] → AreSized (map (λ (c : Chunk). c.bytes) (those (is_named (codes "00dc")) cs)) →
-    frames_read (length (chunks_text cs)) (chunks_text cs ++ rest) ≡ Ok (map (λ (c : Chunk). c.bytes) (those (is_named (codes "00dc")) cs), rest)
-unfolding frames_up_to
-frames_complete_on [] rest each no_list sized = refl
-frames_complete_on (c ∷ cs) rest each no_list sized =
-    on_names (is_named (codes "LIST") c) (is_named (codes "00dc") c) refl refl (λ l s. frames_complete_on cs rest each.1 l s)
+-- at a place whose movi begins with such a chunk
+pub frames_passed : (place : Place) (c : Chunk) (more : ℕ) (rest : List ℕ) → IsChunk c → is_named (codes "LIST") c ≡ false → is_named (frame_name place.stream) c ≡ false →
+    frame_found (placed place (length (chunk_text c) + more) place.owed) (chunk_text c ++ rest) ≡ frame_found (placed place more place.owed) rest
+frames_passed place c more rest is list named =
+    let here = placed place (length (chunk_text c) + more) place.owed in
+    frame_step here (chunk_text c ++ rest)
+    ∙ ap (λ z. read_on z (found_or_on frame_found here)) (movi_passed place.stream c more rest is list named)
+    ∙ found_same here more (movi_found place.stream more rest)
+    ∙ sym (frame_step (placed place more place.owed) rest)
+
+abbrev pub bytes_of : List Chunk → List (List ℕ)
+bytes_of cs = map (λ (c : Chunk). c.bytes) cs
+
+-- the frames of chunks are read, and then those after them
+pub movi_frames : (place : Place) (cs : List Chunk) (owed : ℕ) (rest : List ℕ) → AreChunks cs → those (is_named (codes "LIST")) cs ≡ [] → AreSized (bytes_of (those (is_named (frame_name place.stream)) cs)) →
+    frames_read (placed place (length (chunks_text cs)) owed) (chunks_text cs ++ rest)
+    ≡ read_on (frames_after (placed place 0 (owed - length (bytes_of (those (is_named (frame_name place.stream)) cs)))) rest) (λ frames. given (bytes_of (those (is_named (frame_name place.stream)) cs) ++ frames))
+movi_frames place [] owed rest each no_list sized =
+    frames_none (placed place 0 owed) rest rest (movi_empty place.stream rest)
+    ∙ ap (λ z. read_on z frames_on) (moved_same (placed place 0 owed) 0 (owed - 0) (omega arith) rest)
+    ∙ given_same (frames_after (placed place 0 (owed - 0)) rest)
+  where
+    given_same : (z : Result (List (List ℕ) × List ℕ) Stop) → z ≡ read_on z (λ frames. given ([] ++ frames))
+    given_same (Ok p) = refl
+    given_same (Err why) = refl
+movi_frames place (c ∷ cs) owed rest each no_list sized =
+    on_names (is_named (codes "LIST") c) (is_named (frame_name place.stream) c) refl refl (λ o l s. movi_frames place cs o rest each.1 l s)
   where
     behind : List ℕ
     behind = chunks_text cs ++ rest
@@ -304,34 +401,71 @@ frames_complete_on (c ∷ cs) rest each no_list sized =
     more : ℕ
     more = length (chunks_text cs)
 
-    bytes_of : List Chunk → List (List ℕ)
-    bytes_of xs = map (λ (c : Chunk). c.bytes) (those (is_named (codes "00dc")) xs)
+    these : List Chunk → List (List ℕ)
+    these xs = bytes_of (those (is_named (frame_name place.stream)) xs)
 
-    whole : frames_read (length (chunks_text (c ∷ cs))) (chunks_text (c ∷ cs) ++ rest) ≡ frames_read (length (chunk_text c) + more) (chunk_text c ++ behind)
-    whole = ap (λ n. frames_read n (chunks_text (c ∷ cs) ++ rest)) (length-append (chunk_text c) (chunks_text cs)) ∙ ap (frames_read (length (chunk_text c) + more)) (append_assoc (chunk_text c) (chunks_text cs) rest)
+    Later : ℕ → List Chunk → Result (List (List ℕ) × List ℕ) Stop
+    Later o xs = read_on (frames_after (placed place 0 (o - length (these xs))) rest) (λ frames. given (these xs ++ frames))
 
-    on_names : (a b : Bool) → is_named (codes "LIST") c ≡ a → is_named (codes "00dc") c ≡ b → (those (is_named (codes "LIST")) cs ≡ [] → AreSized (bytes_of cs) → frames_read more behind ≡ Ok (bytes_of cs, rest)) →
-        frames_read (length (chunks_text (c ∷ cs))) (chunks_text (c ∷ cs) ++ rest) ≡ Ok (bytes_of (c ∷ cs), rest)
+    Again : Type 0
+    Again = (o : ℕ) → those (is_named (codes "LIST")) cs ≡ [] → AreSized (these cs) → frames_read (placed place more o) behind ≡ Later o cs
+
+    whole : frames_read (placed place (length (chunks_text (c ∷ cs))) owed) (chunks_text (c ∷ cs) ++ rest) ≡ frames_read (placed place (length (chunk_text c) + more) owed) (chunk_text c ++ behind)
+    whole = ap (λ n. frames_read (placed place n owed) (chunks_text (c ∷ cs) ++ rest)) (length-append (chunk_text c) (chunks_text cs)) ∙ ap (frames_read (placed place (length (chunk_text c) + more) owed)) (append_assoc (chunk_text c) (chunks_text cs) rest)
+
+    one_more : (z : Result (List (List ℕ) × List ℕ) Stop) → read_on (read_on z (λ frames. given (these cs ++ frames))) (λ frames. given (c.bytes ∷ frames)) ≡ read_on z (λ frames. given (c.bytes ∷ (these cs ++ frames)))
+    one_more (Ok p) = refl
+    one_more (Err why) = refl
+
+    on_names : (a b : Bool) → is_named (codes "LIST") c ≡ a → is_named (frame_name place.stream) c ≡ b → Again → frames_read (placed place (length (chunks_text (c ∷ cs))) owed) (chunks_text (c ∷ cs) ++ rest) ≡ Later owed (c ∷ cs)
     on_names true b p q again = let gone : c ∷ those (is_named (codes "LIST")) cs ≡ [] = rw p at no_list in absurd (cc)
     on_names false false p q again =
-        let later = again (rw p at no_list) (rw q at sized) in
+        let later = again owed (rw p at no_list) (rw q at sized) in
+        let here = placed place (length (chunk_text c) + more) owed in
         rw q
         (whole
-        ∙ frames_step (length (chunk_text c) + more) (chunk_text c ++ behind)
-        ∙ ap (λ z. read_on z (more_frames frames_read)) (frame_passed c more behind each.0 p q)
-        ∙ sym (frames_step more behind)
+        ∙ frames_step here (chunk_text c ++ behind)
+        ∙ ap (λ z. read_on (read_on z found_read) (more_frames frames_read)) (frames_passed here c more behind each.0 p q)
+        ∙ sym (frames_step (placed place more owed) behind)
         ∙ later)
     on_names false true p q again =
-        let here = rw q at sized in
-        let later = again (rw p at no_list) here.2 in
+        let here = placed place (length (chunk_text c) + more) owed in
+        let sizes = rw q at sized in
+        let later = again (owed - 1) (rw p at no_list) sizes.2 in
+        let owes : owed - 1 - length (these cs) ≡ owed - suc (length (these cs)) = omega arith in
         rw q
         (whole
-        ∙ frames_step (length (chunk_text c) + more) (chunk_text c ++ behind)
-        ∙ ap (λ z. read_on z (more_frames frames_read)) (frame_there c more behind each.0 p q here.1 here.0)
-        ∙ ap (λ z. read_on z (λ frames. given (c.bytes ∷ frames))) later)
+        ∙ frames_step here (chunk_text c ++ behind)
+        ∙ ap (λ z. read_on z (more_frames frames_read)) (frame_next here (chunk_text c ++ behind) (c.bytes, more) behind (movi_there place.stream c more behind each.0 p q sizes.1 sizes.0))
+        ∙ ap (λ z. read_on z (λ frames. given (c.bytes ∷ frames))) later
+        ∙ one_more (frames_after (placed place 0 (owed - 1 - length (these cs))) rest)
+        ∙ ap (λ n. read_on (frames_after (placed place 0 n) rest) (λ frames. given (c.bytes ∷ (these cs ++ frames)))) owes)
 
-pub frames_complete : (chunks : List Chunk) (frames : List (List ℕ)) (rest : List ℕ) → AreFrames chunks frames → frames_read (length (chunks_text chunks)) (chunks_text chunks ++ rest) ≡ Ok (frames, rest)
+-- where the first movi alone is read
+abbrev pub in_movi : ℕ → Place
+in_movi left = first_place FirstMovi 0 left 0 0
+
+pub record ReadFrames (left : ℕ) (text : List ℕ) (frames : List (List ℕ)) (rest : List ℕ) : Type 0 where
+  pub chunks : List Chunk
+  pub text_is : text ≡ chunks_text chunks ++ rest
+  pub long : length (chunks_text chunks) ≡ left
+  pub framed : AreFrames (codes "00dc") chunks frames
+
+pub frames_sound : (left : ℕ) (text : List ℕ) (w : List (List ℕ) × List ℕ) → frames_read (in_movi left) text ≡ Ok w → ReadFrames left text w.0 w.1
+frames_sound left text w h =
+    let part = movi_part (in_movi left) text w h in
+    let end : (frames_after (placed (in_movi left) 0 (0 - length part.here))) part.more ≡ Ok ([], part.more) = ap (λ z. read_on z frames_on) (moved_first (placed (in_movi left) 0 (0 - length part.here)) refl part.more) in
+    let both = ok_is ([], part.more) (part.later, w.1) (sym end ∙ part.after) in
+    let none : part.later ≡ [] = sym (ap (λ (z : List (List ℕ) × List ℕ). z.0) both) in
+    let all : part.here ≡ w.0 = sym (part.parted ∙ ap (λ z. part.here ++ z) none ∙ append-nil part.here) in
+    let P : List (List ℕ) → Type 0 = λ z. AreFrames (codes "00dc") part.chunks z in
+    record { chunks = part.chunks; text_is = part.text_is ∙ ap (λ z. chunks_text part.chunks ++ z) (ap (λ (z : List (List ℕ) × List ℕ). z.1) both); long = part.long; framed = subst P all part.framed }
+
+pub frames_complete : (chunks : List Chunk) (frames : List (List ℕ)) (rest : List ℕ) → AreFrames (codes "00dc") chunks frames → frames_read (in_movi (length (chunks_text chunks))) (chunks_text chunks ++ rest) ≡ Ok (frames, rest)
 frames_complete chunks frames rest are =
     let P : List (List ℕ) → Type 0 = λ z. AreSized z in
-    let all = frames_complete_on chunks rest are.each are.no_list (subst P (sym are.those_of) are.sized) in
-    rw are.those_of at all
+    let here = bytes_of (those (is_named (codes "00dc")) chunks) in
+    let end : (frames_after (placed (in_movi 0) 0 (0 - length here))) rest ≡ Ok ([], rest) = ap (λ z. read_on z frames_on) (moved_first (placed (in_movi 0) 0 (0 - length here)) refl rest) in
+    movi_frames (in_movi 0) chunks 0 rest are.each are.no_list (subst P (sym are.those_of) are.sized)
+    ∙ ap (λ z. read_on z (λ frames. given (here ++ frames))) end
+    ∙ ap (λ z. Ok (z, rest)) (append-nil here ∙ are.those_of)

@@ -1,6 +1,7 @@
 -- What a call on known bytes answers.
-use Rattle.std.proofs.Common.{◌≡◌, ℕ, Option, Some, None, Ok, Err, List, ◌++◌, ap, ◌∙◌, refl}
+use Rattle.std.proofs.Common.{◌≡◌, ℕ, Option, Some, None, Ok, Err, List, [], ◌++◌, append-nil, ap, ◌∙◌, refl}
 use Rattle.ffv1_avi.specs.declared.fault.AviFault.{AviFault}
+use Rattle.ffv1_avi.specs.Ends.{Ends, Stops}
 use Rattle.ffv1_avi.specs.Reads.{Faults, Lacks, Met, Read, Reading, Short, Want}
 
 pub known_read : {X : Type 0} (reading : Reading X) (text : List ℕ) (new : Option (List ℕ)) (x : X) → Read reading (Some text) new x → (rest : List ℕ) × (new ≡ Some rest) × (reading text ≡ Ok (x, rest))
@@ -15,3 +16,15 @@ pub known_lack : {X : Type 0} (reading : Reading X) (text : List ℕ) (new : Opt
     (bytes rest : List ℕ) × (text ≡ bytes ++ rest) × (new ≡ Some rest) × (reading bytes ≡ Err (Short w))
 known_lack reading text None w h = absurd h.consumed
 known_lack reading text (Some rest) w h = (h.bytes, rest, h.consumed, refl, h.is)
+
+pub known_end : {X : Type 0} (reading : Reading X) (text : List ℕ) (new : Option (List ℕ)) (x : X) → Ends reading (Some text) new x → (new ≡ Some []) × (reading text ≡ Ok (x, []))
+known_end reading text None x h = absurd h.0.consumed
+known_end reading text (Some rest) x h =
+    let none : rest ≡ [] = h.1 in
+    let all : text ≡ h.0.bytes = h.0.consumed ∙ ap (λ z. h.0.bytes ++ z) none ∙ append-nil h.0.bytes in
+    (ap Some none, ap reading all ∙ h.0.is)
+
+pub known_stop : {X : Type 0} (reading : Reading X) (text : List ℕ) (new : Option (List ℕ)) (x : X) → Stops reading (Some text) new x →
+    (bytes rest : List ℕ) × (text ≡ bytes ++ rest) × (new ≡ Some rest) × (reading bytes ≡ Ok (x, []))
+known_stop reading text None x h = absurd h.consumed
+known_stop reading text (Some rest) x h = (h.bytes, rest, h.consumed, refl, h.is)

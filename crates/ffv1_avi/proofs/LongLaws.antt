@@ -3,10 +3,12 @@ use Rattle.std.proofs.Common.{◌≡◌, ℕ, ◌+◌, ◌-◌, ◌%◌, nat_le,
 use Rattle.std.proofs.lemmas.Bool.{le-leb}
 use Rattle.byteorder.specs.Endian.{little_number}
 use Rattle.ffv1_avi.specs.declared.fault.AviFault.TheVariants as fault
+use Rattle.ffv1_avi.specs.declared.place.Extent.TheVariants.{FirstMovi}
+use Rattle.ffv1_avi.specs.declared.place.Place.{Place}
 use Rattle.ffv1_avi.specs.Head.{Head}
 use Rattle.ffv1_avi.specs.Begun.{AreReadable, HasShortFormat, HeaderBegins, ListBegins, RiffBegins, StreamBegins, parts_text, streams_of}
 use Rattle.ffv1_avi.specs.Chunks.{AreChunks, AreParts, Chunk, Part, Passes, chunks_text, header_chunks, is_list, streams}
-use Rattle.ffv1_avi.specs.Files.{begins, first_stream, header_read, list_skipped, list_visited, open_read, opened, top_read, visit_header, visit_top}
+use Rattle.ffv1_avi.specs.Files.{Headers, begins, header_named, header_read, list_visited, no_headers, open_read, opened, top_read, visit_header, visit_top}
 use Rattle.ffv1_avi.specs.Reads.{Met, Reading, Stop, given, padded, passed, read_on, refused, taken, ◌>>=◌}
 use Rattle.ffv1_avi.specs.Streams.{Known, nothing_known, stream_judged, stream_read, visit_field}
 use Rattle.ffv1_avi.specs.Walk.{entry_read, is_name, resumed, visited, walk}
@@ -14,7 +16,7 @@ use Rattle.ffv1_avi.proofs.ListWalks.{Run, cut_back, cut_front, entry_complete, 
 use Rattle.ffv1_avi.proofs.Contents.{number_taken}
 use Rattle.ffv1_avi.proofs.Fields.{TakesField, field_complete}
 use Rattle.ffv1_avi.proofs.FrameLaws.{those_both}
-use Rattle.ffv1_avi.proofs.HeaderLaws.{TakesHeader, header_complete, run_none, run_some}
+use Rattle.ffv1_avi.proofs.HeaderLaws.{TakesHeader, header_complete, headed, run_none, run_some, stream_end}
 use Rattle.ffv1_avi.proofs.PartLaws.{chunks_of, run_part}
 use Rattle.ffv1_avi.proofs.PassedBytes.{taken_complete}
 use Rattle.ffv1_avi.proofs.RefusalLaws.{entry_long}
@@ -23,16 +25,16 @@ use Rattle.ffv1_avi.proofs.TopLaws.{TakesTop, top_complete}
 use Rattle.ffv1_avi.proofs.ChunkByChunk.{walk_step}
 
 -- chunks whose streams are readable lead to a head or to none
-readable_run : (cs : List Chunk) → AreReadable (streams_of cs) → (t : Option Head) × Run TakesHeader None cs t
+readable_run : (cs : List Chunk) → AreReadable (streams_of cs) → (t : Headers) × Run (TakesHeader FirstMovi) no_headers cs t
 readable_run cs h = go (streams_of cs) refl h
   where
-    go : (ss : List Chunk) → streams_of cs ≡ ss → AreReadable ss → (t : Option Head) × Run TakesHeader None cs t
-    go [] e h = (None, run_none cs e)
-    go (stream ∷ others) e h = (Some h.0, run_some cs stream others h.0 e h.1)
+    go : (ss : List Chunk) → streams_of cs ≡ ss → AreReadable ss → (t : Headers) × Run (TakesHeader FirstMovi) no_headers cs t
+    go [] e h = (no_headers, run_none cs no_headers e)
+    go (stream ∷ others) e h = (headed h.0, run_some cs stream others h.0 e h.1)
 
 -- RIFF is read up to its parts, and then behind them
 open_begun : (file : List ℕ) (parts : List Part) (left : ℕ) (rest : List ℕ) → RiffBegins file parts left rest →
-    open_read file ≡ top_read (length (parts_text parts) + left) (parts_text parts ++ rest)
+    open_read FirstMovi file ≡ top_read FirstMovi (length (parts_text parts) + left) (parts_text parts ++ rest)
 unfolding open_read
 open_begun file parts left rest is =
     let riff_size = is.riff_size in
@@ -44,31 +46,31 @@ open_begun file parts left rest is =
     let avi : is_name (drop 8 bytes) (codes "AVI ") ≡ true = rw third refl in
     let room : nat_le 4 (little_number 4 riff_size) ≡ true = le-leb _ _ (omega (arith, is.counted)) in
     let count : little_number 4 riff_size - 4 ≡ length (parts_text parts) + left = omega (arith, is.counted) in
-    ap open_read is.bytes
-    ∙ ap (λ z. read_on z (λ bytes. if begins bytes then top_read (little_number 4 (drop 4 bytes) - 4) else refused fault.NotAvi)) (taken_complete 12 bytes behind long)
-    ∙ rw (avi, second, room) (ap (λ n. top_read n behind) count)
+    ap (open_read FirstMovi) is.bytes
+    ∙ ap (λ z. read_on z (λ bytes. if begins bytes then top_read FirstMovi (little_number 4 (drop 4 bytes) - 4) else refused fault.NotAvi)) (taken_complete 12 bytes behind long)
+    ∙ rw (avi, second, room) (ap (λ n. top_read FirstMovi n behind) count)
   where
     spelled_length : length (codes "AVI ") ≡ 4
     spelled_length = refl
 
-top_goes : (parts : List Part) (t : Option Head) (left : ℕ) (rest : List ℕ) → AreParts parts → Run TakesHeader None (flat_map header_chunks parts) t →
-    top_read (length (parts_text parts) + left) (parts_text parts ++ rest) ≡ read_on (walk visit_top left t rest) (λ p. opened p.1)
+top_goes : (parts : List Part) (t : Headers) (left : ℕ) (rest : List ℕ) → AreParts parts → Run (TakesHeader FirstMovi) no_headers (flat_map header_chunks parts) t →
+    top_read FirstMovi (length (parts_text parts) + left) (parts_text parts ++ rest) ≡ read_on (walk (visit_top FirstMovi) left t rest) (λ p. opened p.1)
 unfolding top_read
 top_goes parts t left rest each run =
-    let chunks = chunks_of parts None t each run in
-    let walked = walk_complete visit_top TakesTop top_complete chunks.chunks None t left rest chunks.each chunks.run in
-    ap (λ z. read_on (walk visit_top (length z + left) None (z ++ rest)) (λ p. opened p.1)) (sym chunks.text)
+    let chunks = chunks_of FirstMovi parts no_headers t each run in
+    let walked = walk_complete (visit_top FirstMovi) (TakesTop FirstMovi) (top_complete FirstMovi) chunks.chunks no_headers t left rest chunks.each chunks.run in
+    ap (λ z. read_on (walk (visit_top FirstMovi) (length z + left) no_headers (z ++ rest)) (λ p. opened p.1)) (sym chunks.text)
     ∙ ap (λ z. read_on z (λ p. opened p.1)) walked
 
 pub riff_long : (file : List ℕ) (parts : List Part) (left : ℕ) (name size rest : List ℕ) → RiffBegins file parts left ((name ++ size) ++ rest) → AreReadable (streams parts) → Passes left name size →
-    open_read file ≡ Err (Met fault.Truncated rest)
+    open_read FirstMovi file ≡ Err (Met fault.Truncated rest)
 riff_long file parts left name size rest is readable passes =
     let text = (name ++ size) ++ rest in
     let run = readable_run (flat_map header_chunks parts) readable in
     open_begun file parts left text is
     ∙ top_goes parts run.0 left text is.each run.1
-    ∙ ap (λ z. read_on z (λ p. opened p.1)) (walk_step visit_top left run.0 text)
-    ∙ ap (λ z. read_on (read_on z (visited visit_top (walk visit_top) run.0)) (λ p. opened p.1)) (entry_long left name size rest passes.named passes.sized passes.header passes.passes)
+    ∙ ap (λ z. read_on z (λ p. opened p.1)) (walk_step (visit_top FirstMovi) left run.0 text)
+    ∙ ap (λ z. read_on (read_on z (visited (visit_top FirstMovi) (walk (visit_top FirstMovi)) run.0)) (λ p. opened p.1)) (entry_long left name size rest passes.named passes.sized passes.header passes.passes)
 
 -- a list's header is read, and its own name
 list_entry : (text : List ℕ) (room : ℕ) (own : List ℕ) (chunks : List Chunk) (left : ℕ) (rest : List ℕ) (is : ListBegins text room own chunks left rest) →
@@ -83,68 +85,65 @@ list_count : (text : List ℕ) (room : ℕ) (own : List ℕ) (chunks : List Chun
 list_count text room own chunks left rest is = omega (arith, is.counted)
 
 -- the chunks of hdrl are walked
-header_goes : (s t : Option Head) (size : ℕ) (chunks : List Chunk) (left : ℕ) (rest : List ℕ) → size - 4 ≡ length (chunks_text chunks) + left → AreChunks chunks → Run TakesHeader s chunks t →
-    header_read s size (chunks_text chunks ++ rest) ≡ read_on (walk visit_header left t rest) (λ p. (passed (size % 2) >>= λ _. given p.0))
+header_goes : (s t : Headers) (size : ℕ) (chunks : List Chunk) (left : ℕ) (rest : List ℕ) → size - 4 ≡ length (chunks_text chunks) + left → AreChunks chunks → Run (TakesHeader FirstMovi) s chunks t →
+    header_read FirstMovi s size (chunks_text chunks ++ rest) ≡ read_on (walk (visit_header FirstMovi) left t rest) (λ p. (passed (size % 2) >>= λ _. given p.0))
 unfolding header_read
 header_goes s t size chunks left rest count each run =
-    ap (λ n. read_on (walk visit_header n s (chunks_text chunks ++ rest)) (λ p. (passed (size % 2) >>= λ _. given p.0))) count
-    ∙ ap (λ z. read_on z (λ p. (passed (size % 2) >>= λ _. given p.0))) (walk_complete visit_header TakesHeader header_complete chunks s t left rest each run)
+    ap (λ n. read_on (walk (visit_header FirstMovi) n s (chunks_text chunks ++ rest)) (λ p. (passed (size % 2) >>= λ _. given p.0))) count
+    ∙ ap (λ z. read_on z (λ p. (passed (size % 2) >>= λ _. given p.0))) (walk_complete (visit_header FirstMovi) (TakesHeader FirstMovi) (header_complete FirstMovi) chunks s t left rest each run)
 
 -- a walk goes on behind hdrl, and behind the first stream
-abbrev going : Option Head → Reading (Option Head × Option (Head × ℕ))
+abbrev going : Headers → Reading (Headers × Option (Head × Place))
 going found = given (found, None)
-
-abbrev stream_end : ℕ → Head → Reading (Option Head × Option ⊥)
-stream_end size head = passed (size % 2) >>= λ _. given (Some head, None)
 
 -- what stands in hdrl is read as its walk says, behind parts and chunks of it
 module _ (file : List ℕ) (parts : List Part) (chunks : List Chunk) (left : ℕ) (rest : List ℕ) (is : HeaderBegins file parts chunks left rest) where
   -- a fault that the walk of hdrl comes to is the file's
-  header_fault : (s t : Option Head) (e : Stop) → Run TakesHeader None (flat_map header_chunks parts) s → Run TakesHeader s chunks t → walk visit_header left t rest ≡ Err e → open_read file ≡ Err e
+  header_fault : (s t : Headers) (e : Stop) → Run (TakesHeader FirstMovi) no_headers (flat_map header_chunks parts) s → Run (TakesHeader FirstMovi) s chunks t → walk (visit_header FirstMovi) left t rest ≡ Err e → open_read FirstMovi file ≡ Err e
   unfolding visit_top
   header_fault s t e before run fault =
       let text = chunks_text chunks ++ rest in
       let size = little_number 4 is.header.size in
       let own : taken 4 (codes "hdrl" ++ text) ≡ Ok (codes "hdrl", text) = taken_complete 4 (codes "hdrl") text refl in
-      let read : header_read s size text ≡ Err e = header_goes s t size chunks left rest (list_count is.text is.room (codes "hdrl") chunks left rest is.header) is.header.each run
+      let read : header_read FirstMovi s size text ≡ Err e = header_goes s t size chunks left rest (list_count is.text is.room (codes "hdrl") chunks left rest is.header) is.header.each run
       ∙ ap (λ z. read_on z (λ p. (passed (size % 2) >>= λ _. given p.0))) fault in
       open_begun file parts is.room is.text is.riff
       ∙ top_goes parts s is.room is.text is.riff.each before
-      ∙ ap (λ z. read_on z (λ p. opened p.1)) (walk_step visit_top is.room s is.text)
-      ∙ ap (λ z. read_on (read_on z (visited visit_top (walk visit_top) s)) (λ p. opened p.1)) (list_entry is.text is.room (codes "hdrl") chunks left rest is.header)
-      ∙ ap (λ z. read_on (read_on (read_on z (list_visited s size)) (λ p. resumed (walk visit_top (is.room - (8 + padded size))) p.0 p.1)) (λ p. opened p.1)) own
-      ∙ ap (λ z. read_on (read_on (read_on z going) (λ p. resumed (walk visit_top (is.room - (8 + padded size))) p.0 p.1)) (λ p. opened p.1)) read
+      ∙ ap (λ z. read_on z (λ p. opened p.1)) (walk_step (visit_top FirstMovi) is.room s is.text)
+      ∙ ap (λ z. read_on (read_on z (visited (visit_top FirstMovi) (walk (visit_top FirstMovi)) s)) (λ p. opened p.1)) (list_entry is.text is.room (codes "hdrl") chunks left rest is.header)
+      ∙ ap (λ z. read_on (read_on (read_on z (list_visited FirstMovi s (is.room - (8 + padded size)) size)) (λ p. resumed (walk (visit_top FirstMovi) (is.room - (8 + padded size))) p.0 p.1)) (λ p. opened p.1)) own
+      ∙ ap (λ z. read_on (read_on (read_on z going) (λ p. resumed (walk (visit_top FirstMovi) (is.room - (8 + padded size))) p.0 p.1)) (λ p. opened p.1)) read
 
 pub header_long : (file : List ℕ) (parts : List Part) (chunks : List Chunk) (left : ℕ) (name size rest : List ℕ) → HeaderBegins file parts chunks left ((name ++ size) ++ rest) →
-    AreReadable (streams parts ++ streams_of chunks) → Passes left name size → open_read file ≡ Err (Met fault.Truncated rest)
+    AreReadable (streams parts ++ streams_of chunks) → Passes left name size → open_read FirstMovi file ≡ Err (Met fault.Truncated rest)
 header_long file parts chunks left name size rest is readable passes =
     let both : streams_of (flat_map header_chunks parts ++ chunks) ≡ streams parts ++ streams_of chunks = those_both (is_list (codes "strl")) (flat_map header_chunks parts) chunks in
     let run = readable_run (flat_map header_chunks parts ++ chunks) (subst AreReadable (sym both) readable) in
-    let parted = run_part TakesHeader (flat_map header_chunks parts) chunks None run.0 run.1 in
+    let parted = run_part (TakesHeader FirstMovi) (flat_map header_chunks parts) chunks no_headers run.0 run.1 in
     let text = (name ++ size) ++ rest in
     header_fault file parts chunks left text is parted.0 run.0 (Met fault.Truncated rest) parted.1 parted.2
-    (walk_step visit_header left run.0 text
-    ∙ ap (λ z. read_on z (visited visit_header (walk visit_header) run.0)) (entry_long left name size rest passes.named passes.sized passes.header passes.passes))
+    (walk_step (visit_header FirstMovi) left run.0 text
+    ∙ ap (λ z. read_on z (visited (visit_header FirstMovi) (walk (visit_header FirstMovi)) run.0)) (entry_long left name size rest passes.named passes.sized passes.header passes.passes))
 
 pub stream_long : (file : List ℕ) (parts : List Part) (chunks fields : List Chunk) (left : ℕ) (name size rest : List ℕ) → StreamBegins file parts chunks fields left ((name ++ size) ++ rest) →
-    streams parts ≡ [] → streams_of chunks ≡ [] → HasShortFormat fields → Passes left name size → open_read file ≡ Err (Met fault.Truncated rest)
+    streams parts ≡ [] → streams_of chunks ≡ [] → HasShortFormat fields → Passes left name size → open_read FirstMovi file ≡ Err (Met fault.Truncated rest)
 unfolding visit_header stream_read
 stream_long file parts chunks fields left name size rest is none none_here short passes =
     let text = (name ++ size) ++ rest in
-    let before = run_none (flat_map header_chunks parts) none in
-    let here = run_none chunks none_here in
-    let run = run_exists fields nothing_known (λ _. short) in
+    let before = run_none (flat_map header_chunks parts) no_headers none in
+    let here = run_none chunks no_headers none_here in
+    let run = run_exists FirstMovi fields nothing_known (λ _. short) in
     let own_text = chunks_text fields ++ text in
     let count = little_number 4 is.stream.size in
     let own : taken 4 (codes "strl" ++ own_text) ≡ Ok (codes "strl", own_text) = taken_complete 4 (codes "strl") own_text refl in
-    let judged : (Known × Option ⊥) → Reading Head = λ k. stream_judged k.0.rates k.0.format in
-    let read : stream_read (count - 4) own_text ≡ Err (Met fault.Truncated rest) =
-    ap (λ n. read_on (walk visit_field n nothing_known own_text) judged) (list_count is.text is.room (codes "strl") fields left text is.stream)
-    ∙ ap (λ z. read_on z judged) (walk_complete visit_field TakesField field_complete fields nothing_known run.0 left text is.stream.each run.1)
-    ∙ ap (λ z. read_on z judged) (walk_step visit_field left run.0 text)
-    ∙ ap (λ z. read_on (read_on z (visited visit_field (walk visit_field) run.0)) judged) (entry_long left name size rest passes.named passes.sized passes.header passes.passes) in
-    header_fault file parts chunks is.room is.text is.header None None (Met fault.Truncated rest) before here
-    (walk_step visit_header is.room None is.text
-    ∙ ap (λ z. read_on z (visited visit_header (walk visit_header) None)) (list_entry is.text is.room (codes "strl") fields left text is.stream)
-    ∙ ap (λ z. read_on (read_on z (λ own. if is_name own (codes "strl") then first_stream None count else list_skipped None count)) (λ p. resumed (walk visit_header (is.room - (8 + padded count))) p.0 p.1)) own
-    ∙ ap (λ z. read_on (read_on z (stream_end count)) (λ p. resumed (walk visit_header (is.room - (8 + padded count))) p.0 p.1)) read)
+    let judged : (Known × Option ⊥) → Reading (Option Head) = λ k. stream_judged FirstMovi k.0.rates k.0.format in
+    let read : stream_read FirstMovi (count - 4) own_text ≡ Err (Met fault.Truncated rest) =
+    ap (λ n. read_on (walk (visit_field FirstMovi) n nothing_known own_text) judged) (list_count is.text is.room (codes "strl") fields left text is.stream)
+    ∙ ap (λ z. read_on z judged) (walk_complete (visit_field FirstMovi) (TakesField FirstMovi) (field_complete FirstMovi) fields nothing_known run.0 left text is.stream.each run.1)
+    ∙ ap (λ z. read_on z judged) (walk_step (visit_field FirstMovi) left run.0 text)
+    ∙ ap (λ z. read_on (read_on z (visited (visit_field FirstMovi) (walk (visit_field FirstMovi)) run.0)) judged) (entry_long left name size rest passes.named passes.sized passes.header passes.passes) in
+    header_fault file parts chunks is.room is.text is.header no_headers no_headers (Met fault.Truncated rest) before here
+    (walk_step (visit_header FirstMovi) is.room no_headers is.text
+    ∙ ap (λ z. read_on z (visited (visit_header FirstMovi) (walk (visit_header FirstMovi)) no_headers)) (list_entry is.text is.room (codes "strl") fields left text is.stream)
+    ∙ ap (λ z. read_on (read_on z (header_named FirstMovi no_headers count)) (λ p. resumed (walk (visit_header FirstMovi) (is.room - (8 + padded count))) p.0 p.1)) own
+    ∙ ap (λ z. read_on (read_on z (stream_end no_headers count)) (λ p. resumed (walk (visit_header FirstMovi) (is.room - (8 + padded count))) p.0 p.1)) read)

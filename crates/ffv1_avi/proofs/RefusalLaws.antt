@@ -1,16 +1,18 @@
 -- Files that are refused: movi before any stream, and a chunk that does not fit in movi.
-use Rattle.std.proofs.Common.{◌≡◌, ℕ, ◌+◌, ◌-◌, ◌≤◌, ◌<◌, ◌==◌, nat_lt, nat_le, if◌then◌else◌, Bool, true, false, Some, None, Ok, Err, List, [], ◌∷◌, ◌++◌, length, take, drop, codes, flat_map, ap, ◌∙◌, sym, refl, append_assoc, arith, length-append, zero-add}
+use Rattle.std.proofs.Common.{◌≡◌, ℕ, ◌+◌, ◌-◌, ◌≤◌, ◌<◌, ◌==◌, nat_lt, nat_le, if◌then◌else◌, Bool, true, false, Some, Ok, Err, List, [], ◌∷◌, ◌++◌, length, take, drop, codes, flat_map, ap, ◌∙◌, sym, refl, append_assoc, arith, length-append, zero-add}
 use Rattle.std.proofs.lemmas.Bool.{le-leb, le-ltb, lt-ltb, ne_eqb}
 use Rattle.byteorder.specs.Endian.{little_number}
 use Rattle.ffv1_avi.specs.declared.chunk.Entry.{Entry}
 use Rattle.ffv1_avi.specs.declared.fault.AviFault.TheVariants as fault
 use Rattle.ffv1_avi.specs.Chunks.{AreChunks, AreParts, Chunk, MoviBegins, Part, chunk_text, chunks_text, header_chunks, is_named, streams, those}
-use Rattle.ffv1_avi.specs.Files.{begins, found_read, frame_read, frame_found, list_visited, open_read, opened, top_read, visit_movi, visit_top}
+use Rattle.ffv1_avi.specs.Files.{begins, found_or_on, found_read, frame_read, frame_found, list_visited, movi_found, no_headers, open_read, opened, top_read, visit_movi, visit_top}
+use Rattle.ffv1_avi.specs.declared.place.Extent.TheVariants.{FirstMovi}
 use Rattle.ffv1_avi.specs.Reads.{Met, given, padded, read_on, refused, taken}
 use Rattle.ffv1_avi.specs.Walk.{entry_read, is_name, resumed, visited, walk}
 use Rattle.ffv1_avi.proofs.ListWalks.{cut_back, cut_front, entry_complete, walk_complete}
 use Rattle.ffv1_avi.proofs.Contents.{number_taken}
-use Rattle.ffv1_avi.proofs.FrameLaws.{frame_passed}
+use Rattle.ffv1_avi.proofs.FrameLaws.{frames_passed, in_movi}
+use Rattle.ffv1_avi.proofs.Moves.{frame_step}
 use Rattle.ffv1_avi.proofs.HeaderLaws.{run_none}
 use Rattle.ffv1_avi.proofs.PartLaws.{chunks_of, parts_text}
 use Rattle.ffv1_avi.proofs.PassedBytes.{taken_complete}
@@ -19,27 +21,27 @@ use Rattle.ffv1_avi.proofs.ChunkByChunk.{walk_step}
 
 top_read_none : (room : ℕ) (parts : List Part) (movi_size : List ℕ) (rest : List ℕ) → length movi_size ≡ 4 → 4 ≤ little_number 4 movi_size →
     length (parts_text parts) + (8 + padded (little_number 4 movi_size)) ≤ room → AreParts parts → streams parts ≡ [] →
-    top_read room (parts_text parts ++ ((codes "LIST" ++ movi_size ++ codes "movi") ++ rest)) ≡ Err (Met fault.NoFfv1 rest)
+    top_read FirstMovi room (parts_text parts ++ ((codes "LIST" ++ movi_size ++ codes "movi") ++ rest)) ≡ Err (Met fault.NoFfv1 rest)
 unfolding top_read visit_top
 top_read_none room parts movi_size rest sized named fits each none =
     let size = little_number 4 movi_size in
     let more = room - length (parts_text parts) in
-    let run = run_none (flat_map header_chunks parts) none in
-    let chunks = chunks_of parts None None each run in
+    let run = run_none (flat_map header_chunks parts) no_headers none in
+    let chunks = chunks_of FirstMovi parts no_headers no_headers each run in
     let behind = (codes "LIST" ++ movi_size ++ codes "movi") ++ rest in
-    let walked = walk_complete visit_top TakesTop top_complete chunks.chunks None None more behind chunks.each chunks.run in
+    let walked = walk_complete (visit_top FirstMovi) (TakesTop FirstMovi) (top_complete FirstMovi) chunks.chunks no_headers no_headers more behind chunks.each chunks.run in
     let count : room ≡ length (chunks_text chunks.chunks) + more = omega (arith, fits, ap length chunks.text) in
     let whole : behind ≡ (codes "LIST" ++ movi_size) ++ (codes "movi" ++ rest) = append_assoc (codes "LIST" ++ movi_size) (codes "movi") rest in
     let e : Entry = record { name = codes "LIST"; size = size; left = more - (8 + padded size) } in
     let entry : entry_read more behind ≡ Ok (Some e, codes "movi" ++ rest) = ap (entry_read more) whole ∙ entry_complete more (codes "LIST") movi_size (codes "movi" ++ rest) refl sized (omega (arith, fits)) (λ l. named) in
     let own : taken 4 (codes "movi" ++ rest) ≡ Ok (codes "movi", rest) = taken_complete 4 (codes "movi") rest refl in
-    ap (λ z. read_on (walk visit_top room None (z ++ behind)) (λ p. opened p.1)) (sym chunks.text)
-    ∙ ap (λ n. read_on (walk visit_top n None (chunks_text chunks.chunks ++ behind)) (λ p. opened p.1)) count
-    ∙ ap (λ z. read_on z (λ p. opened p.1)) (walked ∙ walk_step visit_top more None behind)
-    ∙ ap (λ z. read_on (read_on z (visited visit_top (walk visit_top) None)) (λ p. opened p.1)) entry
-    ∙ ap (λ z. read_on (read_on (read_on z (list_visited None size)) (λ p. resumed (walk visit_top e.left) p.0 p.1)) (λ p. opened p.1)) own
+    ap (λ z. read_on (walk (visit_top FirstMovi) room no_headers (z ++ behind)) (λ p. opened p.1)) (sym chunks.text)
+    ∙ ap (λ n. read_on (walk (visit_top FirstMovi) n no_headers (chunks_text chunks.chunks ++ behind)) (λ p. opened p.1)) count
+    ∙ ap (λ z. read_on z (λ p. opened p.1)) (walked ∙ walk_step (visit_top FirstMovi) more no_headers behind)
+    ∙ ap (λ z. read_on (read_on z (visited (visit_top FirstMovi) (walk (visit_top FirstMovi)) no_headers)) (λ p. opened p.1)) entry
+    ∙ ap (λ z. read_on (read_on (read_on z (list_visited FirstMovi no_headers e.left size)) (λ p. resumed (walk (visit_top FirstMovi) e.left) p.0 p.1)) (λ p. opened p.1)) own
 
-pub no_stream : (file : List ℕ) (parts : List Part) (rest : List ℕ) → MoviBegins file parts rest → streams parts ≡ [] → open_read file ≡ Err (Met fault.NoFfv1 rest)
+pub no_stream : (file : List ℕ) (parts : List Part) (rest : List ℕ) → MoviBegins file parts rest → streams parts ≡ [] → open_read FirstMovi file ≡ Err (Met fault.NoFfv1 rest)
 unfolding open_read
 no_stream file parts rest is none =
     let riff_size = is.riff_size in
@@ -50,8 +52,8 @@ no_stream file parts rest is none =
     let second : little_number 4 (drop 4 bytes) ≡ little_number 4 riff_size = ap (little_number 4) (ap (drop 4) (append_assoc (codes "RIFF") riff_size (codes "AVI ")) ∙ cut_back 4 (codes "RIFF") (riff_size ++ codes "AVI ") refl) ∙ sym (number_taken 4 (riff_size ++ codes "AVI ") (omega arith)) ∙ ap (little_number 4) (cut_front 4 riff_size (codes "AVI ") is.riff_sized) in
     let avi : is_name (drop 8 bytes) (codes "AVI ") ≡ true = rw third refl in
     let room : nat_le 4 (little_number 4 riff_size) ≡ true = le-leb _ _ (omega (arith, is.fits)) in
-    ap open_read is.bytes
-    ∙ ap (λ z. read_on z (λ bytes. if begins bytes then top_read (little_number 4 (drop 4 bytes) - 4) else refused fault.NotAvi)) (taken_complete 12 bytes behind long)
+    ap (open_read FirstMovi) is.bytes
+    ∙ ap (λ z. read_on z (λ bytes. if begins bytes then top_read FirstMovi (little_number 4 (drop 4 bytes) - 4) else refused fault.NotAvi)) (taken_complete 12 bytes behind long)
     ∙ rw (avi, second, room) (top_read_none (little_number 4 riff_size - 4) parts is.movi_size rest is.movi_sized is.movi_named (omega (arith, is.fits)) is.each none)
   where
     spelled_length : length (codes "AVI ") ≡ 4
@@ -73,29 +75,30 @@ entry_long left name size rest named sized enough long =
 
 pub chunk_long : (chunks : List Chunk) (left : ℕ) (name size rest : List ℕ) → AreChunks chunks → those (is_named (codes "LIST")) chunks ≡ [] → those (is_named (codes "00dc")) chunks ≡ [] →
     length name ≡ 4 → length size ≡ 4 → 8 ≤ left → left < 8 + padded (little_number 4 size) →
-    frame_read (length (chunks_text chunks) + left) (chunks_text chunks ++ ((name ++ size) ++ rest)) ≡ Err (Met fault.Truncated rest)
-unfolding frame_found
+    frame_read (in_movi (length (chunks_text chunks) + left)) (chunks_text chunks ++ ((name ++ size) ++ rest)) ≡ Err (Met fault.Truncated rest)
+unfolding movi_found
 chunk_long [] left name size rest each lists frames named sized enough long =
     let text = (name ++ size) ++ rest in
-    ap (λ n. frame_read n text) (zero-add left)
-    ∙ ap (λ z. read_on (read_on z (λ p. given p.1)) found_read) (walk_step visit_movi left tt text)
-    ∙ ap (λ z. read_on (read_on (read_on z (visited visit_movi (walk visit_movi) tt)) (λ p. given p.1)) found_read) (entry_long left name size rest named sized enough long)
+    ap (λ n. frame_read (in_movi n) text) (zero-add left)
+    ∙ ap (λ z. read_on z found_read) (frame_step (in_movi left) text)
+    ∙ ap (λ z. read_on (read_on (read_on z (λ p. given p.1)) (found_or_on frame_found (in_movi left))) found_read) (walk_step (visit_movi 0) left tt text)
+    ∙ ap (λ z. read_on (read_on (read_on (read_on z (visited (visit_movi 0) (walk (visit_movi 0)) tt)) (λ p. given p.1)) (found_or_on frame_found (in_movi left))) found_read) (entry_long left name size rest named sized enough long)
 chunk_long (c ∷ cs) left name size rest each lists frames named sized enough long = on_names (is_named (codes "LIST") c) (is_named (codes "00dc") c) refl refl (λ l f. chunk_long cs left name size rest each.1 l f named sized enough long)
   where
     text : List ℕ
     text = (name ++ size) ++ rest
 
     Again : Type 0
-    Again = those (is_named (codes "LIST")) cs ≡ [] → those (is_named (codes "00dc")) cs ≡ [] → frame_read (length (chunks_text cs) + left) (chunks_text cs ++ text) ≡ Err (Met fault.Truncated rest)
+    Again = those (is_named (codes "LIST")) cs ≡ [] → those (is_named (codes "00dc")) cs ≡ [] → frame_read (in_movi (length (chunks_text cs) + left)) (chunks_text cs ++ text) ≡ Err (Met fault.Truncated rest)
 
-    on_names : (a b : Bool) → is_named (codes "LIST") c ≡ a → is_named (codes "00dc") c ≡ b → Again → frame_read (length (chunks_text (c ∷ cs)) + left) (chunks_text (c ∷ cs) ++ text) ≡ Err (Met fault.Truncated rest)
+    on_names : (a b : Bool) → is_named (codes "LIST") c ≡ a → is_named (codes "00dc") c ≡ b → Again → frame_read (in_movi (length (chunks_text (c ∷ cs)) + left)) (chunks_text (c ∷ cs) ++ text) ≡ Err (Met fault.Truncated rest)
     on_names true b p q again = let gone : c ∷ those (is_named (codes "LIST")) cs ≡ [] = rw p at lists in absurd (cc)
     on_names false true p q again = let gone : c ∷ those (is_named (codes "00dc")) cs ≡ [] = rw q at frames in absurd (cc)
     on_names false false p q again =
         let more = length (chunks_text cs) + left in
         let all : length (chunk_text c ++ chunks_text cs) + left ≡ length (chunk_text c) + more = omega (arith, length-append (chunk_text c) (chunks_text cs)) in
         let whole : (chunk_text c ++ chunks_text cs) ++ text ≡ chunk_text c ++ (chunks_text cs ++ text) = append_assoc (chunk_text c) (chunks_text cs) text in
-        ap (λ n. frame_read n ((chunk_text c ++ chunks_text cs) ++ text)) all
-        ∙ ap (frame_read (length (chunk_text c) + more)) whole
-        ∙ frame_passed c more (chunks_text cs ++ text) each.0 p q
+        ap (λ n. frame_read (in_movi n) ((chunk_text c ++ chunks_text cs) ++ text)) all
+        ∙ ap (frame_read (in_movi (length (chunk_text c) + more))) whole
+        ∙ ap (λ z. read_on z found_read) (frames_passed (in_movi 0) c more (chunks_text cs ++ text) each.0 p q)
         ∙ again (rw p at lists) (rw q at frames)

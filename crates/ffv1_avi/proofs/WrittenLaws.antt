@@ -1,12 +1,13 @@
 -- What is written is a file by its chunks.
-use Rattle.std.proofs.Common.{◌≡◌, ℕ, ◌+◌, ◌%◌, ◌^◌, ◌≤◌, ◌<◌, nat_le, true, Result, Ok, List, [], ◌∷◌, ◌++◌, length, drop, codes, flat_map, map, sum, ap, ◌∙◌, sym, arith, refl, append-nil, length-append}
+use Rattle.std.proofs.Common.{◌≡◌, ℕ, ◌+◌, ◌-◌, ◌%◌, ◌^◌, ◌≤◌, ◌<◌, nat_le, true, Result, Ok, List, [], ◌∷◌, ◌++◌, length, take, drop, codes, flat_map, map, sum, ap, ◌∙◌, sym, arith, refl, append-nil, length-append}
 use Rattle.std.proofs.lemmas.Bool.{le-leb}
-use Rattle.std.proofs.lemmas.List.{length-replicate}
+use Rattle.std.proofs.lemmas.List.{length-replicate, take_all}
 use Rattle.std.proofs.lemmas.List.Sums.{sum_by-cons}
 use Rattle.byteorder.specs.Endian.{little_number}
 use Rattle.byteorder.specs.Numbers.{little_number-reads_back}
 use Rattle.ffv1_avi.specs.Chunks.{AreFrames, AreSized, AviFile, Chunk, IsChunk, IsPart, IsStream, IsWritable, Part, Says, chunk_text, chunks_text, part_chunk}
 use Rattle.ffv1_avi.specs.Reads.{Stop}
+use Rattle.ffv1_avi.specs.declared.place.Extent.TheVariants.{FirstMovi}
 use Rattle.ffv1_avi.specs.Head.{Head}
 use Rattle.ffv1_avi.specs.Reads.{padded}
 use Rattle.ffv1_avi.specs.Streams.{limit}
@@ -28,7 +29,7 @@ frames_text : (frames : List (List ℕ)) → chunks_text (map frame_of frames) �
 frames_text [] = refl
 frames_text (f ∷ fs) = ap (λ z. frame_chunk f ++ z) (frames_text fs)
 
-frames_are : (frames : List (List ℕ)) → AreSized frames → AreFrames (map frame_of frames) frames
+frames_are : (frames : List (List ℕ)) → AreSized frames → AreFrames (codes "00dc") (map frame_of frames) frames
 frames_are [] sized = record { each = tt; no_list = refl; those_of = refl; sized = tt }
 frames_are (f ∷ fs) sized =
     let more = frames_are fs sized.2 in
@@ -127,7 +128,7 @@ parts_long head count =
     ap length (append-nil (chunk_text c) ∙ append-nil ((c.name ++ c.size) ++ c.bytes)) ∙ length-append (c.name ++ c.size) c.bytes ∙ (omega (arith, front, header_long head count))
 
 -- what the written stream says
-written_says : (head : Head) (frames : List (List ℕ)) (count : ℕ) → IsWritable head frames → Says (fields_of head count) head
+written_says : (head : Head) (frames : List (List ℕ)) (count : ℕ) → IsWritable head frames → Says FirstMovi (fields_of head count) head
 written_says head frames count is =
     let rate = back head.rate is.rate in
     let scale = back head.scale is.scale in
@@ -135,9 +136,10 @@ written_says head frames count is =
     let height = back head.height is.height in
     let room : nat_le 40 (length (strf_of head).bytes) ≡ true = le-leb _ _ (omega (arith, strf_long head)) in
     let short : length (strf_of head).bytes ≤ limit = omega (arith, strf_long head, is.short) in
-    record { header = strh_of head count; format = strf_of head; first_header = refl; first_format = refl; short = short; video = rw (rate, scale) refl; ffv1 = rw (room, width, height) refl; both = is.both }
+    let whole : take (length (strf_of head).bytes - 40) head.config_record ≡ head.config_record = take_all (length (strf_of head).bytes - 40) head.config_record (omega (arith, strf_long head)) in
+    record { header = strh_of head count; format = strf_of head; first_header = refl; first_format = refl; short = short; video = rw (rate, scale) refl; ffv1 = rw (room, width, height, whole) refl; both = is.both }
 
-written_stream : (head : Head) (frames : List (List ℕ)) (count : ℕ) → IsWritable head frames → IsStream (stream_of head count) head
+written_stream : (head : Head) (frames : List (List ℕ)) (count : ℕ) → IsWritable head frames → IsStream FirstMovi (stream_of head count) head
 written_stream head frames count is =
     record { fields = fields_of head count; bytes = refl; each = (strh_is head count, (strf_is head is.short, tt)); says = written_says head frames count is }
 

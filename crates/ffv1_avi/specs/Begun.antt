@@ -3,6 +3,7 @@
 use Rattle.std.specs.Prelude.{◌≡◌, ℕ, ◌+◌, ◌≤◌, List, [], ◌∷◌, ◌++◌, length, codes, flat_map}
 use Rattle.std.specs.Prelude.{Some}
 use Rattle.byteorder.specs.Endian.{little_number}
+use Rattle.ffv1_avi.specs.declared.place.Extent.TheVariants.{FirstMovi}
 use Rattle.ffv1_avi.specs.Head.{Head}
 use Rattle.ffv1_avi.specs.Reads.{padded}
 use Rattle.ffv1_avi.specs.Streams.{limit}
@@ -16,7 +17,7 @@ parts_text parts = flat_map (λ p. chunk_text (part_chunk p)) parts
 -- of some streams the first is FFV1, or there is none
 abbrev pub AreReadable : List Chunk → Type 0
 AreReadable [] = Unit {0}
-AreReadable (stream ∷ others) = (head : Head) × IsStream stream head
+AreReadable (stream ∷ others) = (head : Head) × IsStream FirstMovi stream head
 
 -- a file of which RIFF has these parts, so many bytes more, and behind the parts these bytes
 pub record RiffBegins (file : List ℕ) (parts : List Part) (left : ℕ) (rest : List ℕ)

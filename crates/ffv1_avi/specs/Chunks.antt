@@ -1,8 +1,10 @@
 -- A file as lists of chunks, apart from how it is walked.
-use Rattle.std.specs.Prelude.{◌≡◌, ℕ, ◌+◌, ◌≤◌, ◌<◌, ◌%◌, ◌^◌, ◌&&◌, ◌==◌, Bool, true, false}
+use Rattle.std.specs.Prelude.{◌≡◌, ◌⊎◌, ℕ, ◌+◌, ◌≤◌, ◌<◌, ◌%◌, ◌^◌, ◌&&◌, ◌==◌, Bool, true, false}
 use Rattle.std.specs.Prelude.{if◌then◌else◌, List, [], ◌∷◌, ◌++◌, length, take, codes, flat_map}
-use Rattle.std.specs.Prelude.{map, Option, Some, None}
+use Rattle.std.specs.Prelude.{map, nat_lt, Option, Some, None}
 use Rattle.byteorder.specs.Endian.{little_number}
+use Rattle.ffv1_avi.specs.declared.place.Extent.{Extent}
+use Rattle.ffv1_avi.specs.declared.place.Extent.TheVariants.{FirstMovi, EveryRiff}
 use Rattle.ffv1_avi.specs.Head.{Head}
 use Rattle.ffv1_avi.specs.Reads.{padded}
 use Rattle.ffv1_avi.specs.Walk.{is_name}
@@ -89,14 +91,14 @@ abbrev pub streams : List Part → List Chunk
 streams parts = those (is_list (codes "strl")) (flat_map header_chunks parts)
 
 -- what the first header and the first format of a stream say is this head
-pub record Says (fields : List Chunk) (head : Head) : Type 0 where
+pub record Says (extent : Extent) (fields : List Chunk) (head : Head) : Type 0 where
   pub header : Chunk
   pub format : Chunk
   pub first_header : first_of (those (is_named (codes "strh")) fields) ≡ Some header
   pub first_format : first_of (those (is_named (codes "strf")) fields) ≡ Some format
   pub short : length format.bytes ≤ limit
   pub video : rates_of header.bytes ≡ Some (head.rate, head.scale)
-  pub ffv1 : format_of format.bytes
+  pub ffv1 : format_of extent format.bytes
       ≡ Some (record {
         width = head.width;
         height = head.height;
@@ -104,23 +106,54 @@ pub record Says (fields : List Chunk) (head : Head) : Type 0 where
       })
   pub both : (head.rate == 0) ≡ (head.scale == 0)
 
+-- what a chunk says, if it is there and says anything
+abbrev pub says_of : {X : Type 0} → (List ℕ → Option X) → Option Chunk → Option X
+says_of says None = None
+says_of says (Some c) = says c.bytes
+
+-- what the first header and the first format of a stream say is no FFV1 video
+pub record SaysOther (extent : Extent) (fields : List Chunk) : Type 0 where
+  pub short : (format : Chunk) → first_of (those (is_named (codes "strf")) fields) ≡ Some format →
+      length format.bytes ≤ limit
+  pub other : (says_of rates_of (first_of (those (is_named (codes "strh")) fields)) ≡ None)
+      ⊎ (says_of (format_of extent) (first_of (those (is_named (codes "strf")) fields)) ≡ None)
+
+-- the number of frames that a chunk dmlh of these bytes says, if none did before
+abbrev pub total_next : List ℕ → Option ℕ → Option ℕ
+total_next bytes None =
+    if nat_lt (length bytes) 4 then None else Some (little_number 4 bytes)
+total_next bytes (Some frames) = Some frames
+
 -- a stream's list has this head
-pub record IsStream (stream : Chunk) (head : Head) : Type 0 where
+pub record IsStream (extent : Extent) (stream : Chunk) (head : Head) : Type 0 where
   pub fields : List Chunk
   pub bytes : stream.bytes ≡ codes "strl" ++ chunks_text fields
   pub each : AreChunks fields
-  pub says : Says fields head
+  pub says : Says extent fields head
+
+-- a stream's list is no FFV1 video; where the first movi alone is read there is no such stream
+pub record IsOther (extent : Extent) (stream : Chunk) : Type 0 where
+  pub extent_is : extent ≡ EveryRiff
+  pub fields : List Chunk
+  pub bytes : stream.bytes ≡ codes "strl" ++ chunks_text fields
+  pub each : AreChunks fields
+  pub says : SaysOther extent fields
+
+abbrev pub AreOthers : Extent → List Chunk → Type 0
+AreOthers extent [] = Unit {0}
+AreOthers extent (s ∷ ss) = IsOther extent s × AreOthers extent ss
 
 -- frames that have bytes, and not too many
 abbrev pub AreSized : List (List ℕ) → Type 0
 AreSized [] = Unit {0}
 AreSized (f ∷ fs) = (0 < length f) × (length f ≤ limit) × AreSized fs
 
--- the frames are the chunks 00dc of movi, which has no lists
-pub record AreFrames (chunks : List Chunk) (frames : List (List ℕ)) : Type 0 where
+-- the frames are the chunks of this name in movi, which has no lists
+pub record AreFrames (name : List ℕ) (chunks : List Chunk) (frames : List (List ℕ))
+    : Type 0 where
   pub each : AreChunks chunks
   pub no_list : those (is_named (codes "LIST")) chunks ≡ []
-  pub those_of : map (λ (c : Chunk). c.bytes) (those (is_named (codes "00dc")) chunks) ≡ frames
+  pub those_of : map (λ (c : Chunk). c.bytes) (those (is_named name) chunks) ≡ frames
   pub sized : AreSized frames
 
 -- a file with this head and these frames: RIFF with its parts and then the first movi, which fits
@@ -144,8 +177,8 @@ pub record AviFile (file : List ℕ) (head : Head) (frames : List (List ℕ)) : 
       (little_number 4 movi_size)) ≤ little_number 4 riff_size
   pub each : AreParts parts
   pub first : streams parts ≡ stream ∷ others
-  pub says : IsStream stream head
-  pub framed : AreFrames chunks frames
+  pub says : IsStream FirstMovi stream head
+  pub framed : AreFrames (codes "00dc") chunks frames
 
 -- a file whose first movi begins behind these parts of RIFF, in which it fits
 pub record MoviBegins (file : List ℕ) (parts : List Part) (rest : List ℕ) : Type 0 where

@@ -1,62 +1,127 @@
--- A file is read: its head up to the first movi, and the frames in that, one after the other.
-use Rattle.std.specs.Prelude.{ℕ, suc, zero, ◌-◌, ◌%◌, ◌==◌, ◌&&◌, Bool, if◌then◌else◌, nat_lt}
-use Rattle.std.specs.Prelude.{nat_le, List, [], ◌∷◌, take, drop, codes, Option, Some, None}
+-- A file is read: its head up to the first movi, and the frames, one after the other.
+use Rattle.std.specs.Prelude.{ℕ, suc, zero, ◌+◌, ◌-◌, ◌/◌, ◌%◌, ◌==◌, ◌&&◌, Bool}
+use Rattle.std.specs.Prelude.{if◌then◌else◌, nat_lt, nat_le, List, [], ◌∷◌, take, drop, codes}
+use Rattle.std.specs.Prelude.{Option, Some, None, Ok}
 use Rattle.byteorder.specs.Endian.{little_number}
 use Rattle.ffv1_avi.specs.declared.fault.AviFault.TheVariants as fault
+use Rattle.ffv1_avi.specs.declared.place.Extent.{Extent}
+use Rattle.ffv1_avi.specs.declared.place.Extent.TheVariants.{FirstMovi, EveryRiff}
+use Rattle.ffv1_avi.specs.declared.place.Place.{Place}
 use Rattle.ffv1_avi.specs.Head.{Head}
+use Rattle.ffv1_avi.specs.Places.{amount, extent_of, first_place, frame_at, movi_at, riff_at}
 use Rattle.ffv1_avi.specs.Reads.{Kept, Reading, given, refused, taken, passed, padded, content}
 use Rattle.ffv1_avi.specs.Reads.{◌>>=◌}
 use Rattle.ffv1_avi.specs.Walk.{is_name, Visit, walk}
 use Rattle.ffv1_avi.specs.Streams.{limit, skipped, stream_read}
 
+-- what is known before the first movi: how many streams came that do not count, the head of the one
+-- that does, and how many frames the file has
+pub record Headers : Type 0 where
+  pub passed : ℕ
+  pub head : Option Head
+  pub frames : Option ℕ
+
+abbrev pub no_headers : Headers
+no_headers = record { passed = 0; head = None; frames = None }
+
+-- a stream that was read, which counts where it is FFV1 video
+abbrev pub stream_known : Headers → Option Head → Headers
+stream_known k None = record { passed = k.passed + 1; head = None; frames = k.frames }
+stream_known k (Some head) = record { passed = k.passed; head = Some head; frames = k.frames }
+
 -- what is left of a list of which its own name has been read, where it says nothing here
 abbrev pub list_skipped : {S Y : Type 0} → S → ℕ → Reading (S × Option Y)
 list_skipped s size = passed (padded size - 4) >>= λ _. given (s, None)
 
--- the first stream counts
-abbrev pub first_stream : Option Head → ℕ → Reading (Option Head × Option ⊥)
-first_stream None size =
-    stream_read (size - 4) >>= λ head. (passed (size % 2) >>= λ _. given (Some head, None))
-first_stream (Some head) size = list_skipped (Some head) size
+-- a stream is read while none counts, and its number has two digits
+abbrev pub stream_visited : Extent → Headers → ℕ → Option Head → Reading (Headers × Option ⊥)
+stream_visited extent k size None =
+    if nat_lt k.passed 100
+    then (stream_read extent (size - 4) >>= λ found.
+    (passed (size % 2) >>= λ _. given (stream_known k found, None)))
+    else list_skipped k size
+stream_visited extent k size (Some head) = list_skipped k size
 
--- a chunk of the list hdrl, with the head of the first stream so far
-unfoldable pub visit_header : Visit (Option Head) ⊥
-visit_header s e =
-    if is_name e.name (codes "LIST")
-    then (taken 4 >>= λ own. if is_name own
-    (codes "strl") then first_stream s e.size else list_skipped s e.size)
-    else skipped s e.size
+-- the first number of dmlh, of the first one that has it
+abbrev pub total_read : ℕ → Option ℕ → Reading (Option ℕ × Option ⊥)
+total_read size None =
+    if nat_lt size 4 then skipped None size
+    else (taken 4 >>= λ bytes.
+    (passed (padded size - 4) >>= λ _. given (Some (little_number 4 bytes), None)))
+total_read size (Some frames) = skipped (Some frames) size
+
+-- a chunk of the list odml
+unfoldable pub visit_extended : Visit (Option ℕ) ⊥
+visit_extended frames e =
+    if is_name e.name (codes "dmlh") then total_read e.size frames else skipped frames e.size
+
+-- the list odml, of which its own name has been read, with its padding
+unfoldable pub extended_read : Option ℕ → ℕ → Reading (Option ℕ)
+extended_read frames size =
+    walk visit_extended (size - 4) frames >>= λ p. (passed (size % 2) >>= λ _. given p.0)
+
+-- it is looked at where every RIFF is read
+abbrev pub extended_visited : Extent → Headers → ℕ → Reading (Headers × Option ⊥)
+extended_visited FirstMovi k size = list_skipped k size
+extended_visited EveryRiff k size =
+    extended_read k.frames size >>= λ frames.
+    given (record { passed = k.passed; head = k.head; frames = frames }, None)
+
+-- a list of hdrl, by its own name
+abbrev pub header_named : Extent → Headers → ℕ → List ℕ → Reading (Headers × Option ⊥)
+header_named extent k size own =
+    if is_name own (codes "strl") then stream_visited extent k size k.head
+    else if is_name own (codes "odml") then extended_visited extent k size
+    else list_skipped k size
+
+abbrev pub header_list : Extent → Headers → ℕ → Reading (Headers × Option ⊥)
+header_list extent k size = taken 4 >>= header_named extent k size
+
+-- a chunk of the list hdrl
+unfoldable pub visit_header : Extent → Visit Headers ⊥
+visit_header extent k e =
+    if is_name e.name (codes "LIST") then header_list extent k e.size
+    else skipped k e.size
 
 -- the list hdrl, of which its own name has been read, with its padding
-unfoldable pub header_read : Option Head → ℕ → Reading (Option Head)
-header_read s size = walk visit_header (size - 4) s >>= λ p. (passed (size % 2) >>= λ _. given p.0)
+unfoldable pub header_read : Extent → Headers → ℕ → Reading Headers
+header_read extent k size =
+    walk (visit_header extent) (size - 4) k >>= λ p. (passed (size % 2) >>= λ _. given p.0)
+
+-- no total owes no frame
+abbrev pub owed : Option ℕ → ℕ
+owed None = 0
+owed (Some frames) = frames
 
 -- the first movi wants a head before it
-abbrev pub movi_reached : Option Head → ℕ → Reading (Option Head × Option (Head × ℕ))
-movi_reached None size = refused fault.NoFfv1
-movi_reached (Some head) size = given (Some head, Some (head, size - 4))
+abbrev pub movi_reached : Extent → Headers → ℕ → ℕ → Option Head →
+    Reading (Headers × Option (Head × Place))
+movi_reached extent k left size None = refused fault.NoFfv1
+movi_reached extent k left size (Some head) =
+    given (k, Some (head, first_place extent left (size - 4) k.passed (owed k.frames)))
 
 -- a list of RIFF, by its own name
-abbrev pub list_visited : Option Head → ℕ → List ℕ → Reading (Option Head × Option (Head × ℕ))
-list_visited s size own =
-    if is_name own (codes "hdrl") then (header_read s size >>= λ found. given (found, None))
-    else if is_name own (codes "movi") then movi_reached s size
-    else list_skipped s size
+abbrev pub list_visited : Extent → Headers → ℕ → ℕ → List ℕ →
+    Reading (Headers × Option (Head × Place))
+list_visited extent k left size own =
+    if is_name own (codes "hdrl") then (header_read extent k size >>= λ found. given (found, None))
+    else if is_name own (codes "movi") then movi_reached extent k left size k.head
+    else list_skipped k size
 
--- a chunk of RIFF
-unfoldable pub visit_top : Visit (Option Head) (Head × ℕ)
-visit_top s e =
-    if is_name e.name (codes "LIST") then (taken 4 >>= λ own. list_visited s e.size own)
-    else skipped s e.size
+-- a chunk of RIFF, before its first movi
+unfoldable pub visit_top : Extent → Visit Headers (Head × Place)
+visit_top extent k e =
+    if is_name e.name (codes "LIST") then (taken 4 >>= list_visited extent k e.left e.size)
+    else skipped k e.size
 
--- the head, and how many bytes movi has
-abbrev pub opened : Option (Head × ℕ) → Reading (Head × ℕ)
+-- the head, and where the first movi stands
+abbrev pub opened : Option (Head × Place) → Reading (Head × Place)
 opened None = refused fault.NotAvi
 opened (Some p) = given p
 
 -- RIFF's chunks, with so many bytes, up to the first movi
-unfoldable pub top_read : ℕ → Reading (Head × ℕ)
-top_read room = walk visit_top room None >>= λ p. opened p.1
+unfoldable pub top_read : Extent → ℕ → Reading (Head × Place)
+top_read extent room = walk (visit_top extent) room no_headers >>= λ p. opened p.1
 
 -- the first twelve bytes of a file
 abbrev pub begins : List ℕ → Bool
@@ -64,10 +129,11 @@ begins bytes =
     (is_name (take 4 bytes) (codes "RIFF") && is_name (drop 8 bytes) (codes "AVI ")) && nat_le 4
     (little_number 4 (drop 4 bytes))
 
--- a file up to the first movi: the head, and how many bytes of chunks movi has
-unfoldable pub open_read : Reading (Head × ℕ)
-open_read = taken 12 >>= λ bytes.
-    if begins bytes then top_read (little_number 4 (drop 4 bytes) - 4) else refused fault.NotAvi
+-- a file up to the first movi: the head, and where that stands
+unfoldable pub open_read : Extent → Reading (Head × Place)
+open_read extent = taken 12 >>= λ bytes.
+    if begins bytes then top_read extent (little_number 4 (drop 4 bytes) - 4)
+    else refused fault.NotAvi
 
 -- a frame's size is judged before its bytes are read
 abbrev pub frame_judged : ℕ → ℕ → Reading (Unit {0} × Option (ℕ × ℕ))
@@ -76,41 +142,121 @@ frame_judged size left =
     else if size == 0 then refused fault.EmptyFrame
     else given (tt, Some (size, left))
 
+-- the name of a stream's frames: its number, in two digits, and dc
+abbrev pub frame_name : ℕ → List ℕ
+frame_name stream = (48 + stream / 10) ∷ (48 + stream % 10) ∷ codes "dc"
+
 -- a chunk of movi
-unfoldable pub visit_movi : Visit (Unit {0}) (ℕ × ℕ)
-visit_movi s e =
+unfoldable pub visit_movi : ℕ → Visit (Unit {0}) (ℕ × ℕ)
+visit_movi stream s e =
     if is_name e.name (codes "LIST") then refused fault.NotAvi
-    else if is_name e.name (codes "00dc") then frame_judged e.size e.left
+    else if is_name e.name (frame_name stream) then frame_judged e.size e.left
     else skipped s e.size
 
--- the next frame's size, and what movi has left behind it, where it has so many bytes left; none at
--- its end
-unfoldable pub frame_found : ℕ → Reading (Option (ℕ × ℕ))
-frame_found left = walk visit_movi left tt >>= λ p. given p.1
+-- the size of the next frame of a stream, and what movi has left behind it, where it has so many
+-- bytes left; none at its end
+unfoldable pub movi_found : ℕ → ℕ → Reading (Option (ℕ × ℕ))
+movi_found stream left = walk (visit_movi stream) left tt >>= λ p. given p.1
+
+-- a list of RIFF after a movi, by its own name
+abbrev pub riff_list : ℕ → ℕ → List ℕ → Reading (Unit {0} × Option (ℕ × ℕ))
+riff_list left size own =
+    if is_name own (codes "movi") then given (tt, Some (size - 4, left)) else list_skipped tt size
+
+-- a chunk of RIFF after a movi
+unfoldable pub visit_riff : Visit (Unit {0}) (ℕ × ℕ)
+visit_riff s e =
+    if is_name e.name (codes "LIST") then (taken 4 >>= riff_list e.left e.size)
+    else skipped s e.size
+
+-- the bytes of the next movi, and what RIFF has left behind it, where it has so many bytes left;
+-- none at its end
+unfoldable pub movi_sought : ℕ → Reading (Option (ℕ × ℕ))
+movi_sought left = walk visit_riff left tt >>= λ p. given p.1
+
+-- four bytes; or, where no frame is owed, the end of the input
+unfoldable pub name_or_end : ℕ → Reading (Option (List ℕ))
+name_or_end zero [] = Ok (None, [])
+name_or_end owes text = (taken 4 >>= λ name. given (Some name)) text
+
+-- the size and the form of an RIFF after the first
+abbrev pub riff_judged : Place → List ℕ → Reading (Option Place)
+riff_judged place bytes =
+    if is_name (drop 4 bytes) (codes "AVIX") && nat_le 4 (little_number 4 bytes)
+    then (if nat_lt (8 + little_number 4 bytes) place.input
+    then given (Some (riff_at place (little_number 4 bytes))) else refused fault.Truncated)
+    else refused fault.NotAvi
+
+abbrev pub riff_entered : Place → Reading (Option Place)
+riff_entered place = taken 8 >>= riff_judged place
+
+abbrev pub riff_named : Place → Option (List ℕ) → Reading (Option Place)
+riff_named place None = given None
+riff_named place (Some name) =
+    if is_name name (codes "RIFF") then riff_entered place else refused fault.NotAvi
+
+-- the next RIFF, or the end of the input
+unfoldable pub riff_begun : Place → Reading (Option Place)
+riff_begun place = name_or_end place.owed >>= riff_named place
+
+-- the next movi of RIFF, or else the next RIFF
+abbrev pub movi_or_riff : Place → Option (ℕ × ℕ) → Reading (Option Place)
+movi_or_riff place None = riff_begun place
+movi_or_riff place (Some p) = given (Some (movi_at place p))
+
+-- where frames are sought next after the end of a movi; nowhere at the end
+abbrev pub moved_by : Extent → Place → Reading (Option Place)
+moved_by FirstMovi place = given None
+moved_by EveryRiff place = movi_sought place.riff >>= movi_or_riff place
+
+unfoldable pub moved : Place → Reading (Option Place)
+moved place = moved_by (extent_of place) place
+
+-- the frame that was found in movi; or else the first one after it
+abbrev pub sought_on : (Place → Reading (Option (ℕ × Place))) → Option Place →
+    Reading (Option (ℕ × Place))
+sought_on on None = given None
+sought_on on (Some place) = on place
+
+abbrev pub found_or_on : (Place → Reading (Option (ℕ × Place))) → Place → Option (ℕ × ℕ) →
+    Reading (Option (ℕ × Place))
+found_or_on on place None = moved place >>= sought_on on
+found_or_on on place (Some p) = given (Some (p.0, frame_at place p.1))
+
+-- the next frame, in at most so many lists movi and RIFF
+unfoldable pub frame_found_up_to : ℕ → Place → Reading (Option (ℕ × Place))
+frame_found_up_to zero place = given None
+frame_found_up_to (suc most) place =
+    movi_found place.stream place.movi >>= found_or_on (frame_found_up_to most) place
+
+-- the next frame's size, and the place behind its header; none at the end
+unfoldable pub frame_found : Place → Reading (Option (ℕ × Place))
+frame_found place = frame_found_up_to (amount place) place
 
 -- a frame that was found
-abbrev pub found_read : Option (ℕ × ℕ) → Reading (Option (List ℕ × ℕ))
+abbrev pub found_read : Option (ℕ × Place) → Reading (Option (List ℕ × Place))
 found_read None = given None
 found_read (Some p) = content Kept p.0 >>= λ bytes. given (Some (bytes, p.1))
 
--- the next frame, and what movi has left behind it
-abbrev pub frame_read : ℕ → Reading (Option (List ℕ × ℕ))
-frame_read left = frame_found left >>= found_read
+-- the next frame, and the place behind it
+abbrev pub frame_read : Place → Reading (Option (List ℕ × Place))
+frame_read place = frame_found place >>= found_read
 
--- at most so many frames, one after the other, to the end of movi
-abbrev pub more_frames : (ℕ → Reading (List (List ℕ))) → Option (List ℕ × ℕ) →
+-- the frames, one after the other
+abbrev pub more_frames : (Place → Reading (List (List ℕ))) → Option (List ℕ × Place) →
     Reading (List (List ℕ))
 more_frames on None = given []
 more_frames on (Some p) = on p.1 >>= λ frames. given (p.0 ∷ frames)
 
-unfoldable pub frames_up_to : ℕ → ℕ → Reading (List (List ℕ))
-frames_up_to zero left = given []
-frames_up_to (suc most) left = frame_read left >>= more_frames (frames_up_to most)
+unfoldable pub frames_up_to : ℕ → Place → Reading (List (List ℕ))
+frames_up_to zero place = given []
+frames_up_to (suc most) place = frame_read place >>= more_frames (frames_up_to most)
 
--- all frames of a movi with so many bytes left
-abbrev pub frames_read : ℕ → Reading (List (List ℕ))
-frames_read left = frames_up_to left left
+-- all frames from a place on
+abbrev pub frames_read : Place → Reading (List (List ℕ))
+frames_read place = frames_up_to (amount place) place
 
 -- a whole file: its head and its frames
-abbrev pub file_read : Reading (Head × List (List ℕ))
-file_read = open_read >>= λ p. (frames_read p.1 >>= λ frames. given (p.0, frames))
+abbrev pub file_read : Extent → Reading (Head × List (List ℕ))
+file_read extent =
+    open_read extent >>= λ p. (frames_read p.1 >>= λ frames. given (p.0, frames))

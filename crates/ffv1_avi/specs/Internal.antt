@@ -1,2 +1,3 @@
 -- What ties registers, arrays and types of the code to the definitions. No public clause cites it.
 pub mod Views
+pub mod Ending

@@ -1,6 +1,8 @@
 pub mod Head
 pub mod Reads
 pub mod Walk
+pub mod Places
+pub mod Ends
 pub mod Streams
 pub mod Files
 pub mod Written

@@ -1,10 +1,12 @@
 -- The first stream of a file: what its header (AVISTREAMHEADER of Microsoft's AVI RIFF File
 -- Reference) and its format (BITMAPINFOHEADER, with the configuration record behind it as RFC 9043,
 -- 4.3.3 has it) say.
-use Rattle.std.specs.Prelude.{ℕ, ◌-◌, ◌%◌, ◌==◌, ◌&&◌, if◌then◌else◌, nat_lt, nat_le, List, length}
+use Rattle.std.specs.Prelude.{ℕ, ◌-◌, ◌==◌, ◌&&◌, if◌then◌else◌, nat_lt, nat_le, List, length}
 use Rattle.std.specs.Prelude.{take, drop, codes, Option, Some, None}
 use Rattle.byteorder.specs.Endian.{little_number}
 use Rattle.ffv1_avi.specs.declared.fault.AviFault.TheVariants as fault
+use Rattle.ffv1_avi.specs.declared.place.Extent.{Extent}
+use Rattle.ffv1_avi.specs.declared.place.Extent.TheVariants.{FirstMovi, EveryRiff}
 use Rattle.ffv1_avi.specs.Head.{Head}
 use Rattle.ffv1_avi.specs.Reads.{Looked, Kept, Reading, Want, given, refused, taken, wanted, passed}
 use Rattle.ffv1_avi.specs.Reads.{padded, content, ◌>>=◌}
@@ -27,14 +29,21 @@ pub record Format : Type 0 where
   pub height : ℕ
   pub config_record : List ℕ
 
+-- where the record ends in a format of such a size: where biSize, the first number, says so; or at
+-- the end of the chunk
+abbrev pub record_end : Extent → ℕ → ℕ → ℕ
+record_end FirstMovi says size = size
+record_end EveryRiff says size = if nat_lt 40 says && nat_lt says size then says else size
+
 -- a stream's format, where it is FFV1
-abbrev pub format_of : List ℕ → Option Format
-format_of bytes =
+abbrev pub format_of : Extent → List ℕ → Option Format
+format_of extent bytes =
     if nat_le 40 (length bytes) && is_name (take 4 (drop 16 bytes)) (codes "FFV1")
     then Some (record {
       width = little_number 4 (drop 4 bytes);
       height = little_number 4 (drop 8 bytes);
-      config_record = drop 40 bytes;
+      config_record =
+          take (record_end extent (little_number 4 bytes) (length bytes) - 40) (drop 40 bytes);
     })
     else None
 
@@ -67,10 +76,18 @@ head_judged rates format =
       config_record = format.config_record;
     }))
 
--- a stream is judged at its end
-abbrev pub stream_judged : Option (Option (ℕ × ℕ)) → Option (Option Format) → Reading Head
-stream_judged (Some (Some rates)) (Some (Some format)) = head_judged rates format
-stream_judged rates format = refused fault.NoFfv1
+-- a stream that is no FFV1 video: the first movi alone is read only of a file whose first stream is
+-- one
+abbrev pub no_video : Extent → Reading (Option Head)
+no_video FirstMovi = refused fault.NoFfv1
+no_video EveryRiff = given None
+
+-- a stream is judged at its end: its head, where it is FFV1 video
+abbrev pub stream_judged : Extent → Option (Option (ℕ × ℕ)) → Option (Option Format) →
+    Reading (Option Head)
+stream_judged extent (Some (Some rates)) (Some (Some format)) =
+    head_judged rates format >>= λ head. given (Some head)
+stream_judged extent rates format = no_video extent
 
 -- a chunk that says nothing here
 abbrev pub skipped : {S Y : Type 0} → S → ℕ → Reading (S × Option Y)
@@ -89,23 +106,24 @@ format_behind front config =
       config_record = config;
     })
 
--- the rest of a format of such a size, behind its first 40 bytes: the record is kept where it is
+-- the rest of a format of such a size, after its first 40 bytes: the record is kept where it is
 -- FFV1
-abbrev pub format_rest : Want → ℕ → List ℕ → Reading (Option Format)
-format_rest w size front =
+abbrev pub format_rest : Extent → Want → ℕ → List ℕ → Reading (Option Format)
+format_rest extent w size front =
     if is_name (take 4 (drop 16 front)) (codes "FFV1")
-    then (wanted w (size - 40) >>= λ config.
-    (passed (size % 2) >>= λ _. given (format_behind front config)))
+    then (wanted w (record_end extent (little_number 4 front) size - 40) >>= λ config.
+    (passed (padded size - record_end extent (little_number 4 front) size) >>= λ _.
+    given (format_behind front config)))
     else (passed (padded size - 40) >>= λ _. given None)
 
-abbrev pub format_by : Want → ℕ → Reading (Option Format)
-format_by w size =
+abbrev pub format_by : Extent → Want → ℕ → Reading (Option Format)
+format_by extent w size =
     if nat_lt size 40 then (passed (padded size) >>= λ _. given None)
-    else (taken 40 >>= format_rest w size)
+    else (taken 40 >>= format_rest extent w size)
 
 -- what a format of such a size says
-unfoldable pub format_in : ℕ → Reading (Option Format)
-format_in size = format_by Kept size
+unfoldable pub format_in : Extent → ℕ → Reading (Option Format)
+format_in extent size = format_by extent Kept size
 
 -- the first header of the stream counts
 abbrev pub rates_read : Known → ℕ → Option (Option (ℕ × ℕ)) → Reading (Known × Option ⊥)
@@ -114,19 +132,21 @@ rates_read k size None =
 rates_read k size (Some old) = skipped k size
 
 -- the first format of the stream counts; one that is too long is not read
-abbrev pub format_read : Known → ℕ → Option (Option Format) → Reading (Known × Option ⊥)
-format_read k size None =
+abbrev pub format_read : Extent → Known → ℕ → Option (Option Format) → Reading (Known × Option ⊥)
+format_read extent k size None =
     if nat_lt limit size then refused fault.ChunkTooLong else
-    (format_in size >>= λ f. given (record { rates = k.rates; format = Some f }, None))
-format_read k size (Some old) = skipped k size
+    (format_in extent size >>= λ f. given (record { rates = k.rates; format = Some f }, None))
+format_read extent k size (Some old) = skipped k size
 
 -- a chunk of a stream's list
-unfoldable pub visit_field : Visit Known ⊥
-visit_field k e =
+unfoldable pub visit_field : Extent → Visit Known ⊥
+visit_field extent k e =
     if is_name e.name (codes "strh") then rates_read k e.size k.rates
-    else if is_name e.name (codes "strf") then format_read k e.size k.format
+    else if is_name e.name (codes "strf") then format_read extent k e.size k.format
     else skipped k e.size
 
--- the head of a stream's list with so many bytes behind its own name
-unfoldable pub stream_read : ℕ → Reading Head
-stream_read room = walk visit_field room nothing_known >>= λ k. stream_judged k.0.rates k.0.format
+-- a stream's list with so many bytes behind its own name: its head, where it is FFV1 video
+unfoldable pub stream_read : Extent → ℕ → Reading (Option Head)
+stream_read extent room =
+    walk (visit_field extent) room nothing_known >>= λ k.
+    stream_judged extent k.0.rates k.0.format

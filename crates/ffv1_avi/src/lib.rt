@@ -1,9 +1,11 @@
 //! AVI, by Microsoft's AVI RIFF File Reference: files of FFV1 frames (RFC 9043, 4.3.3) are written,
 //! and read chunk by chunk.
 //!
-//! `write_avi` writes an `AviHead` and frames in one call. `AviReader::open` reads a file up to its
-//! first list `movi`; then `AviReader::head` tells its head, and each `AviReader::next_frame` gives
-//! the next frame, until it answers false. A reader holds no input, each call is lent the same one.
+//! `write_avi` writes an `AviHead` and frames in one call. `AviReader::open` and
+//! `AviReader::open_all` read a file up to its first list `movi`, the one to read the frames of that
+//! alone, the other those of every `movi` of every RIFF; then `AviReader::head` tells its head, and
+//! each `AviReader::next_frame` gives the next frame, until it answers false. A reader holds no
+//! input, each call is lent the same one.
 //! `AviFault` says why a file could not be read or written. The test `read_back` of `ffv1_tests`
 //! runs this:
 //!
@@ -20,11 +22,14 @@ mod field;
 mod head;
 pub mod laws;
 mod open;
+mod place;
 mod reader;
+mod riff;
 mod stream;
 mod write;
 
 pub use fault::AviFault;
 pub use head::AviHead;
+pub use place::Extent;
 pub use reader::AviReader;
 pub use write::write_avi;

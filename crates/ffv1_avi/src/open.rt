@@ -1,23 +1,38 @@
 //! A file up to its first movi.
 
-ghost use Rattle.std.specs.Prelude.{◌≡◌, ◌+◌, ◌≤◌, ℕ, List, Option, None, codes, true};
-ghost use Rattle.ffv1_avi.specs.Files.{first_stream, header_read, open_read, top_read};
-ghost use Rattle.ffv1_avi.specs.Files.{visit_header, visit_top};
+ghost use Rattle.std.specs.Prelude.{◌≡◌, ◌+◌, ◌<◌, ◌≤◌, ℕ, List, Option, None, Some, codes, true};
+ghost use Rattle.ffv1_avi.specs.Files.{extended_read, extended_visited, header_list, header_read};
+ghost use Rattle.ffv1_avi.specs.Files.{movi_reached, open_read, owed};
+ghost use Rattle.ffv1_avi.specs.Files.{stream_known, stream_visited, top_read, total_read};
+ghost use Rattle.ffv1_avi.specs.Files.{visit_extended, visit_header, visit_top};
 ghost use Rattle.ffv1_avi.specs.Head.{Head};
-ghost use Rattle.ffv1_wire.specs.Passage.{passage};
+ghost use Rattle.ffv1_avi.specs.Places.{first_place};
+ghost use Rattle.ffv1_wire.specs.Passage.{at_rest, passage};
 ghost use Rattle.ffv1_avi.specs.Reads.{Answers, taken};
 ghost use Rattle.ffv1_avi.specs.Walk.{is_name};
-ghost use Rattle.ffv1_avi.specs.Internal.Views.{found_next, found_with, head_with, top_with};
+ghost use Rattle.ffv1_avi.specs.Internal.Views.{found_with, head_with, headers_next, headers_with};
+ghost use Rattle.ffv1_avi.specs.Internal.Views.{top_with};
+ghost use Rattle.ffv1_avi.specs.declared.place.Place.{Place};
 
 use crate::chunk::{Entry, is_name, next_entry, padded, pass, take};
 use crate::fault::AviFault;
+use crate::place::{Extent, Place};
 use crate::stream::{Sizes, read_stream};
 use byteorder::{ByteOrder, LittleEndian};
 use ffv1_wire::ByteIn;
 use std::alloc::Allocator;
 
+/// What is known before the first movi: how many streams came that do not count, what the one that
+/// does says, and how many frames the file has.
+#[derive(Clone, Copy)]
+pub(crate) struct Found {
+    pub(crate) passed: u8,
+    pub(crate) sizes: Option<Sizes>,
+    pub(crate) frames: Option<u32>,
+}
+
 /// A list's own name.
-fn own_name<R: ByteIn>(input: &mut R) -> Result<[u8; 4], AviFault>
+pub(crate) fn own_name<R: ByteIn>(input: &mut R) -> Result<[u8; 4], AviFault>
     ensures { Answers (λ (name : List ℕ). name) (taken 4)
         (passage R.remaining R.failures input.old input.new) result }
 {
@@ -26,49 +41,171 @@ fn own_name<R: ByteIn>(input: &mut R) -> Result<[u8; 4], AviFault>
     Ok(name)
 }
 
-/// A stream's list, of such a size, behind its own name, with its padding: the first one counts.
+/// What is known with a stream that was read.
+fn stream_found(found: Found, sizes: Option<Sizes>) -> Found
+    requires none { found.sizes ≡ None }
+    requires few { found.passed < 100 }
+    ensures { (bytes : List ℕ) →
+        headers_with result bytes ≡ stream_known (headers_with found bytes) (found_with sizes bytes) }
+{
+    let mut found = found;
+    if sizes.is_none() {
+        found.passed += 1;
+    }
+    found.sizes = sizes;
+    found
+}
+
+/// A stream's list, of such a size, behind its own name, with its padding.
 fn visit_stream<R: ByteIn, A: Allocator>(
     input: &mut R,
-    found: Option<Sizes>,
+    extent: Extent,
+    found: Found,
     size: u32,
     config: &mut Vec<u8, A>,
-) -> Result<Option<Sizes>, AviFault>
+) -> Result<Found, AviFault>
     requires { 4 ≤ size }
-    ensures { Answers (λ (s : Option Sizes). found_next s config.new.items)
-        (first_stream (found_with found config.old.items) size)
+    ensures { Answers (λ (f : Found). headers_next f config.new.items)
+        (stream_visited extent (headers_with found config.old.items) size
+        (found_with found.sizes config.old.items))
         (passage R.remaining R.failures input.old input.new) result }
 {
-    if found.is_some() {
+    if found.sizes.is_some() {
         pass(input, padded(size) - 4)?;
         return Ok(found);
     }
-    let sizes = read_stream(input, size - 4, config)?;
+    if found.passed >= 100 {
+        pass(input, padded(size) - 4)?;
+        return Ok(found);
+    }
+    let sizes = read_stream(input, extent, size - 4, config)?;
     pass(input, u64::from(size % 2))?;
-    Ok(Some(sizes))
+    Ok(stream_found(found, sizes))
+}
+
+/// A chunk dmlh: the first number of the first one that has it is how many frames the file has.
+fn read_total<R: ByteIn>(
+    input: &mut R,
+    frames: Option<u32>,
+    size: u32,
+) -> Result<Option<u32>, AviFault>
+    ensures { Answers (λ (f : Option ℕ). (f, None)) (total_read size frames)
+        (passage R.remaining R.failures input.old input.new) result }
+{
+    if frames.is_some() {
+        pass(input, padded(size))?;
+        return Ok(frames);
+    }
+    if size < 4 {
+        pass(input, padded(size))?;
+        return Ok(None);
+    }
+    let mut bytes = [0u8; 4];
+    take(input, &mut bytes)?;
+    pass(input, padded(size) - 4)?;
+    Ok(Some(LittleEndian::read_u32(&bytes)))
+}
+
+/// A chunk of the list odml.
+#[tactic(auto, unfolding(crate::specs::Files::visit_extended))]
+fn visit_extended<R: ByteIn>(
+    input: &mut R,
+    frames: Option<u32>,
+    entry: Entry,
+) -> Result<Option<u32>, AviFault>
+    ensures { Answers (λ (f : Option ℕ). (f, None)) (visit_extended frames entry)
+        (passage R.remaining R.failures input.old input.new) result }
+{
+    if is_name(&entry.name, b"dmlh") {
+        return read_total(input, frames, entry.size);
+    }
+    pass(input, padded(entry.size))?;
+    Ok(frames)
+}
+
+/// The list odml of such a size behind its own name, with its padding.
+#[tactic(auto, unfolding(crate::specs::Files::extended_read))]
+fn read_extended<R: ByteIn>(
+    input: &mut R,
+    frames: Option<u32>,
+    size: u32,
+) -> Result<Option<u32>, AviFault>
+    requires { 4 ≤ size }
+    ensures { Answers (λ (f : Option ℕ). f) (extended_read frames size)
+        (passage R.remaining R.failures input.old input.new) result }
+{
+    let mut frames = frames;
+    let mut left = size - 4;
+    while let Some(entry) = next_entry(input, left)? {
+        frames = visit_extended(input, frames, entry)?;
+        left = entry.left;
+    }
+    pass(input, u64::from(size % 2))?;
+    Ok(frames)
+}
+
+/// The list odml of such a size behind its own name, which is looked at where every RIFF is read.
+fn extend<R: ByteIn>(
+    input: &mut R,
+    extent: Extent,
+    found: Found,
+    size: u32,
+) -> Result<Found, AviFault>
+    requires { 4 ≤ size }
+    ensures { (bytes : List ℕ) → Answers (λ (f : Found). headers_next f bytes)
+        (extended_visited extent (headers_with found bytes) size)
+        (passage R.remaining R.failures input.old input.new) result }
+{
+    let mut found = found;
+    match extent {
+        Extent::FirstMovi => pass(input, padded(size) - 4)?,
+        Extent::EveryRiff => found.frames = read_extended(input, found.frames, size)?,
+    }
+    Ok(found)
+}
+
+/// A list of hdrl of such a size, by its own name.
+fn visit_header_list<R: ByteIn, A: Allocator>(
+    input: &mut R,
+    extent: Extent,
+    found: Found,
+    size: u32,
+    config: &mut Vec<u8, A>,
+) -> Result<Found, AviFault>
+    requires { 4 ≤ size }
+    ensures { Answers (λ (f : Found). headers_next f config.new.items)
+        (header_list extent (headers_with found config.old.items) size)
+        (passage R.remaining R.failures input.old input.new) result }
+{
+    let own = own_name(input)?;
+    if is_name(&own, b"strl") {
+        return visit_stream(input, extent, found, size, config);
+    }
+    if is_name(&own, b"odml") {
+        return extend(input, extent, found, size);
+    }
+    pass(input, padded(size) - 4)?;
+    Ok(found)
 }
 
 /// A chunk of the list hdrl.
 #[tactic(auto, unfolding(crate::specs::Files::visit_header))]
 fn visit_header<R: ByteIn, A: Allocator>(
     input: &mut R,
-    found: Option<Sizes>,
+    extent: Extent,
+    found: Found,
     entry: Entry,
     config: &mut Vec<u8, A>,
-) -> Result<Option<Sizes>, AviFault>
+) -> Result<Found, AviFault>
     requires { is_name entry.name (codes "LIST") ≡ true → 4 ≤ entry.size }
-    ensures { Answers (λ (s : Option Sizes). found_next s config.new.items)
-        (visit_header (found_with found config.old.items) entry)
+    ensures { Answers (λ (f : Found). headers_next f config.new.items)
+        (visit_header extent (headers_with found config.old.items) entry)
         (passage R.remaining R.failures input.old input.new) result }
 {
-    if !is_name(&entry.name, b"LIST") {
-        pass(input, padded(entry.size))?;
-        return Ok(found);
+    if is_name(&entry.name, b"LIST") {
+        return visit_header_list(input, extent, found, entry.size, config);
     }
-    let own = own_name(input)?;
-    if is_name(&own, b"strl") {
-        return visit_stream(input, found, entry.size, config);
-    }
-    pass(input, padded(entry.size) - 4)?;
+    pass(input, padded(entry.size))?;
     Ok(found)
 }
 
@@ -76,44 +213,82 @@ fn visit_header<R: ByteIn, A: Allocator>(
 #[tactic(auto, unfolding(crate::specs::Files::header_read))]
 fn read_header<R: ByteIn, A: Allocator>(
     input: &mut R,
-    found: Option<Sizes>,
+    extent: Extent,
+    found: Found,
     size: u32,
     config: &mut Vec<u8, A>,
-) -> Result<Option<Sizes>, AviFault>
+) -> Result<Found, AviFault>
     requires { 4 ≤ size }
-    ensures { Answers (λ (s : Option Sizes). found_with s config.new.items)
-        (header_read (found_with found config.old.items) size)
+    ensures { Answers (λ (f : Found). headers_with f config.new.items)
+        (header_read extent (headers_with found config.old.items) size)
         (passage R.remaining R.failures input.old input.new) result }
 {
     let mut found = found;
     let mut left = size - 4;
     while let Some(entry) = next_entry(input, left)? {
-        found = visit_header(input, found, entry, config)?;
+        found = visit_header(input, extent, found, entry, config)?;
         left = entry.left;
     }
     pass(input, u64::from(size % 2))?;
     Ok(found)
 }
 
-/// Where a chunk of RIFF leads: on, with the head of the first stream so far, or to movi, with the
-/// head and the bytes of its chunks.
+/// Where a chunk of RIFF leads: on, or to movi, with what the stream says that counts.
 #[derive(Clone, Copy)]
 pub(crate) enum Top {
-    On(Option<Sizes>),
-    Movi(Sizes, u32),
+    On(Found),
+    Movi(Found, Sizes, Place),
 }
 
-/// A chunk of RIFF.
+/// The first movi, of so many bytes, where RIFF has so many after it.
+fn first_place(extent: Extent, riff: u32, movi: u32, found: Found) -> Place
+    ensures { result ≡ first_place extent riff movi found.passed (owed found.frames) }
+{
+    match extent {
+        Extent::FirstMovi => Place {
+            input: 0,
+            riff: 0,
+            movi,
+            stream: 0,
+            owed: 0,
+        },
+        Extent::EveryRiff => Place {
+            input: u64::MAX,
+            riff,
+            movi,
+            stream: found.passed,
+            owed: found.frames.unwrap_or(0),
+        },
+    }
+}
+
+/// The first movi, which wants a head before it.
+fn reach_movi(extent: Extent, found: Found, entry: Entry) -> Result<Top, AviFault>
+    requires { 4 ≤ entry.size }
+    ensures { (bytes : List ℕ) (text : Option (List ℕ)) (failures : ℕ) →
+        Answers (λ (t : Top). top_with t bytes)
+        (movi_reached extent (headers_with found bytes) entry.left entry.size
+        (found_with found.sizes bytes)) (at_rest text failures) result }
+{
+    let Some(sizes) = found.sizes else {
+        return Err(AviFault::NoFfv1);
+    };
+    let place = first_place(extent, entry.left, entry.size - 4, found);
+    Ok(Top::Movi(found, sizes, place))
+}
+
+/// A chunk of RIFF, before its first movi.
 #[tactic(auto, unfolding(crate::specs::Files::visit_top))]
 fn visit_top<R: ByteIn, A: Allocator>(
     input: &mut R,
-    found: Option<Sizes>,
+    extent: Extent,
+    found: Found,
     entry: Entry,
     config: &mut Vec<u8, A>,
 ) -> Result<Top, AviFault>
     requires { is_name entry.name (codes "LIST") ≡ true → 4 ≤ entry.size }
     ensures { Answers (λ (t : Top). top_with t config.new.items)
-        (visit_top (found_with found config.old.items) entry)
+        (visit_top extent (headers_with found config.old.items) entry)
         (passage R.remaining R.failures input.old input.new) result }
 {
     if !is_name(&entry.name, b"LIST") {
@@ -122,14 +297,11 @@ fn visit_top<R: ByteIn, A: Allocator>(
     }
     let own = own_name(input)?;
     if is_name(&own, b"hdrl") {
-        let found = read_header(input, found, entry.size, config)?;
+        let found = read_header(input, extent, found, entry.size, config)?;
         return Ok(Top::On(found));
     }
     if is_name(&own, b"movi") {
-        let Some(sizes) = found else {
-            return Err(AviFault::NoFfv1);
-        };
-        return Ok(Top::Movi(sizes, entry.size - 4));
+        return reach_movi(extent, found, entry);
     }
     pass(input, padded(entry.size) - 4)?;
     Ok(Top::On(found))
@@ -139,34 +311,39 @@ fn visit_top<R: ByteIn, A: Allocator>(
 #[tactic(auto, unfolding(crate::specs::Files::top_read))]
 fn read_top<R: ByteIn, A: Allocator>(
     input: &mut R,
+    extent: Extent,
     room: u32,
     config: &mut Vec<u8, A>,
-) -> Result<(Sizes, u32), AviFault>
-    ensures { Answers (λ (p : Sizes × ℕ). (head_with p.0 config.new.items, p.1)) (top_read room)
-        (passage R.remaining R.failures input.old input.new) result }
+) -> Result<(Sizes, Place), AviFault>
+    ensures { Answers (λ (p : Sizes × Place). (head_with p.0 config.new.items, p.1))
+        (top_read extent room) (passage R.remaining R.failures input.old input.new) result }
 {
-    let mut found = None;
+    let mut found = Found {
+        passed: 0,
+        sizes: None,
+        frames: None,
+    };
     let mut left = room;
     while let Some(entry) = next_entry(input, left)? {
-        match visit_top(input, found, entry, config)? {
-            Top::On(sizes) => found = sizes,
-            Top::Movi(sizes, movi) => return Ok((sizes, movi)),
+        match visit_top(input, extent, found, entry, config)? {
+            Top::On(more) => found = more,
+            Top::Movi(_, sizes, place) => return Ok((sizes, place)),
         }
         left = entry.left;
     }
     Err(AviFault::NotAvi)
 }
 
-/// A file up to the first movi: its sizes, its record in place of what the vector has, and the
-/// bytes of movi's chunks.
+/// A file up to the first movi: its sizes, its record in place of what the vector has, and where
+/// movi stands.
 #[tactic(auto, unfolding(crate::specs::Files::open_read))]
 pub(crate) fn read_opening<R: ByteIn, A: Allocator>(
     input: &mut R,
+    extent: Extent,
     config: &mut Vec<u8, A>,
-) -> Result<(Sizes, u32), AviFault>
-    ensures { Answers
-        (λ (p : Sizes × ℕ). (head_with p.0 config.new.items, p.1)) open_read
-        (passage R.remaining R.failures input.old input.new) result }
+) -> Result<(Sizes, Place), AviFault>
+    ensures { Answers (λ (p : Sizes × Place). (head_with p.0 config.new.items, p.1))
+        (open_read extent) (passage R.remaining R.failures input.old input.new) result }
 {
     let mut head = [0u8; 12];
     take(input, &mut head)?;
@@ -174,5 +351,5 @@ pub(crate) fn read_opening<R: ByteIn, A: Allocator>(
     if !is_name(&head[..4], b"RIFF") || !is_name(&head[8..], b"AVI ") || size < 4 {
         return Err(AviFault::NotAvi);
     }
-    read_top(input, size - 4, config)
+    read_top(input, extent, size - 4, config)
 }

@@ -3,34 +3,50 @@
 ghost use Rattle.std.specs.Prelude.{◌≡◌, ◌<◌, length, true, IfSome, OnSome, ◌+◌, ◌≤◌, ℕ, Bool};
 ghost use Rattle.std.specs.Prelude.{List, [], false, Option, None, Some, IfErr, IfOk, OnErr, Ok};
 ghost use Rattle.std.specs.Prelude.{Err};
-ghost use Rattle.ffv1_avi.specs.Files.{frame_found, frame_read, open_read, visit_movi};
+ghost use Rattle.ffv1_avi.specs.Ends.{AnswersFrom};
+ghost use Rattle.ffv1_avi.specs.Files.{frame_found, frame_name, frame_read, movi_found};
+ghost use Rattle.ffv1_avi.specs.Files.{open_read, visit_movi};
 ghost use Rattle.ffv1_avi.specs.Head.{Head, head_of};
 ghost use Rattle.ffv1_wire.specs.Passage.{passage};
+ghost use Rattle.ffv1_avi.specs.Internal.Ending.{AnswersOrNone};
+ghost use Rattle.ffv1_avi.specs.Places.{amount, ended, extent_of, frame_at};
 ghost use Rattle.ffv1_avi.specs.Reads.{Answers};
+ghost use Rattle.ffv1_avi.specs.Readers.{is_frame_fault, is_opening_fault};
 ghost use Rattle.ffv1_avi.specs.Readers.{Leaves, Standing, StandsAfter, frame_with, next_of};
 ghost use Rattle.ffv1_avi.specs.Readers.{next_with, opened_at};
 ghost use Rattle.ffv1_avi.specs.declared.fault.AviFault.{AviFault};
+ghost use Rattle.ffv1_avi.specs.declared.place.Extent.TheVariants.{FirstMovi, EveryRiff};
+ghost use Rattle.ffv1_avi.specs.declared.place.Place.{Place};
 
 use crate::chunk::{Entry, fill, is_name, next_entry, padded, pass};
 use crate::fault::AviFault;
 use crate::head::AviHead;
 use crate::open::read_opening;
+use crate::place::{Extent, Place, ended};
+use crate::riff::move_on;
 use crate::stream::LIMIT;
 use ffv1_wire::ByteIn;
 use std::alloc::{Allocator, Global};
 use std::marker::Model;
 
+/// The name of a stream's frames.
+fn frame_name(stream: u8) -> [u8; 4]
+    ensures { result ≡ frame_name stream }
+{
+    [48 + stream / 10, 48 + stream % 10, b'd', b'c']
+}
+
 /// A chunk of movi: the size of a frame, or None where it was passed.
 #[tactic(auto, unfolding(crate::specs::Files::visit_movi))]
-fn visit_movi<R: ByteIn>(input: &mut R, entry: Entry) -> Result<Option<u32>, AviFault>
+fn visit_movi<R: ByteIn>(input: &mut R, stream: u8, entry: Entry) -> Result<Option<u32>, AviFault>
     ensures sized { IfOk result (λ o. IfSome o (λ n. (0 < n) × (n ≤ 67108864))) }
     ensures answer { Answers (λ (size : Option ℕ). (tt, frame_with size entry.left))
-        (visit_movi tt entry) (passage R.remaining R.failures input.old input.new) result }
+        (visit_movi stream tt entry) (passage R.remaining R.failures input.old input.new) result }
 {
     if is_name(&entry.name, b"LIST") {
         return Err(AviFault::NotAvi);
     }
-    if !is_name(&entry.name, b"00dc") {
+    if !is_name(&entry.name, &frame_name(stream)) {
         pass(input, padded(entry.size))?;
         return Ok(None);
     }
@@ -43,16 +59,20 @@ fn visit_movi<R: ByteIn>(input: &mut R, entry: Entry) -> Result<Option<u32>, Avi
     Ok(Some(entry.size))
 }
 
-/// The size of the next frame, and what movi has left behind it; None at its end.
-#[tactic(auto, unfolding(crate::specs::Files::frame_found))]
-fn find_frame<R: ByteIn>(input: &mut R, left: u32) -> Result<Option<(u32, u32)>, AviFault>
+/// The size of a stream's next frame, and what movi has left behind it; None at its end.
+#[tactic(auto, unfolding(crate::specs::Files::movi_found))]
+fn find_in_movi<R: ByteIn>(
+    input: &mut R,
+    stream: u8,
+    left: u32,
+) -> Result<Option<(u32, u32)>, AviFault>
     ensures sized { IfOk result (λ o. IfSome o (λ p. (0 < p.0) × (p.0 ≤ 67108864))) }
-    ensures answer { Answers (λ (p : Option (ℕ × ℕ)). p) (frame_found left)
+    ensures answer { Answers (λ (p : Option (ℕ × ℕ)). p) (movi_found stream left)
         (passage R.remaining R.failures input.old input.new) result }
 {
     let mut left = left;
     while let Some(entry) = next_entry(input, left)? {
-        if let Some(size) = visit_movi(input, entry)? {
+        if let Some(size) = visit_movi(input, stream, entry)? {
             return Ok(Some((size, entry.left)));
         }
         left = entry.left;
@@ -60,22 +80,54 @@ fn find_frame<R: ByteIn>(input: &mut R, left: u32) -> Result<Option<(u32, u32)>,
     Ok(None)
 }
 
-/// The next frame in place of what the vector has, and what movi has left behind it; None at its
-/// end.
+/// The place behind a frame's header, where movi has so many bytes left.
+fn frame_at(place: Place, left: u32) -> Place
+    ensures { result ≡ frame_at place left }
+{
+    Place {
+        input: place.input,
+        riff: place.riff,
+        movi: left,
+        stream: place.stream,
+        owed: place.owed.saturating_sub(1),
+    }
+}
+
+/// The size of the next frame, and the place behind its header; None at the end.
+fn find_frame<R: ByteIn>(input: &mut R, place: Place) -> Result<Option<(u32, Place)>, AviFault>
+    ensures sized { IfOk result (λ o. IfSome o (λ p. (0 < p.0) × (p.0 ≤ 67108864))) }
+    ensures answer { AnswersOrNone (extent_of place) (λ (p : Option (ℕ × Place)). p)
+        (frame_found place) (passage R.remaining R.failures input.old input.new) result }
+{
+    let mut place = place;
+    loop {
+        if let Some((size, left)) = find_in_movi(input, place.stream, place.movi)? {
+            return Ok(Some((size, frame_at(place, left))));
+        }
+        let Some(next) = move_on(input, place)? else {
+            return Ok(None);
+        };
+        place = next;
+    }
+}
+
+/// The next frame in place of what the vector has, and the place behind it; None at the end.
 fn read_frame<R: ByteIn, A: Allocator>(
     input: &mut R,
-    left: u32,
+    place: Place,
     frame: &mut Vec<u8, A>,
-) -> Result<Option<u32>, AviFault>
-    ensures answer { Answers (λ (after : Option ℕ). next_with frame.new.items after)
-        (frame_read left) (passage R.remaining R.failures input.old input.new) result }
+) -> Result<Option<Place>, AviFault>
+    ensures answer { AnswersFrom place (λ (after : Option Place). next_with frame.new.items after)
+        (frame_read place) (passage R.remaining R.failures input.old input.new) result }
     ensures sized { IfOk result
         (λ o. OnSome o ((0 < length frame.new.items) × (length frame.new.items ≤ 67108864))) }
     ensures none { IfOk result (λ after. after ≡ None → frame.new.items ≡ []) }
-    ensures err { OnErr result (Leaves left (R.remaining input.old) frame.new.items) }
+    ensures less { IfOk result (λ o. IfSome o (λ after. amount after < amount place)) }
+    ensures same { IfOk result (λ o. IfSome o (λ after. extent_of after ≡ extent_of place)) }
+    ensures err { OnErr result (Leaves place (R.remaining input.old) frame.new.items) }
 {
     frame.clear();
-    let Some((size, after)) = find_frame(input, left)? else {
+    let Some((size, after)) = find_frame(input, place)? else {
         return Ok(None);
     };
     fill(input, size as usize, frame)?;
@@ -85,23 +137,24 @@ fn read_frame<R: ByteIn, A: Allocator>(
 
 /// A reader of the frames of a file.
 ///
-/// It holds no input: each call is lent the same one. It stands in `movi`, which has so many bytes
-/// left, or has met a fault.
+/// It holds no input: each call is lent the same one. It stands in a `movi`, or at the end, or has
+/// met a fault.
 #[derive(Drop)]
 pub struct AviReader<A: Allocator = Global> {
     head: AviHead<A>,
-    left: u32,
+    place: Place,
     fault: Option<AviFault>,
 }
 
 impl<A: Allocator> Model for AviReader<A> {
     ghost Value = { Standing };
 
-    ghost view = { λ r. record { head = head_of r.head; left = r.left; fault = r.fault } };
+    ghost view = { λ r. record { head = head_of r.head; place = r.place; fault = r.fault } };
 }
 
 impl<A: Allocator> AviReader<A> {
-    /// Reads a file up to its first `movi`, and takes memory for its configuration record alone.
+    /// Reads a file up to its first `movi`, the frames of which are then read, and takes memory for
+    /// its configuration record alone.
     ///
     /// `Truncated` where a chunk does not fit in its list or the input ends inside it; `NotAvi`
     /// where the file does not begin as an AVI, a list has no room for its own name, there is no
@@ -109,23 +162,31 @@ impl<A: Allocator> AviReader<A> {
     /// `movi` comes before any; `ChunkTooLong` where its format is above 67108864 bytes; `Read`
     /// where a read failed, `OutOfMemory`.
     pub fn open<R: ByteIn>(alloc: A, input: &mut R) -> Result<AviReader<A>, AviFault>
-        ensures answer { Answers opened_at open_read
+        ensures answer { Answers opened_at (open_read FirstMovi)
             (passage R.remaining R.failures input.old input.new) result }
         ensures sound { IfOk result (λ r. r.fault ≡ None) }
+        ensures own { IfErr result (λ f. is_opening_fault f ≡ true) }
     {
-        let mut config = Vec::new(alloc);
-        let (sizes, left) = read_opening(input, &mut config)?;
-        Ok(AviReader {
-            head: AviHead {
-                width: sizes.width,
-                height: sizes.height,
-                rate: sizes.rate,
-                scale: sizes.scale,
-                config_record: config,
-            },
-            left,
-            fault: None,
-        })
+        open_at(alloc, Extent::FirstMovi, input)
+    }
+
+    /// Reads a file up to its first `movi`, to read then the frames of every `movi` of every RIFF:
+    /// of the first, `AVI `, and of the `AVIX` after it (OpenDML AVI File Format Extensions). It
+    /// takes memory for the configuration record alone.
+    ///
+    /// The first `strl` that is FFV1 video counts, of the first 100. The record ends where the
+    /// first number of its format says, where that lies inside it. `Truncated` where a chunk does
+    /// not fit in its list or the input ends inside it; `NotAvi` where the file does not begin as
+    /// an AVI, a list has no room for its own name, there is no `movi`, or rate or scale is zero
+    /// alone; `NoFfv1` where `movi` comes and no `strl` counts; `ChunkTooLong` where a format is
+    /// above 67108864 bytes; `Read` where a read failed, `OutOfMemory`.
+    pub fn open_all<R: ByteIn>(alloc: A, input: &mut R) -> Result<AviReader<A>, AviFault>
+        ensures answer { Answers opened_at (open_read EveryRiff)
+            (passage R.remaining R.failures input.old input.new) result }
+        ensures sound { IfOk result (λ r. r.fault ≡ None) }
+        ensures own { IfErr result (λ f. is_opening_fault f ≡ true) }
+    {
+        open_at(alloc, Extent::EveryRiff, input)
     }
 
     /// The head of the file.
@@ -135,32 +196,39 @@ impl<A: Allocator> AviReader<A> {
         &self.head
     }
 
-    /// Reads the next frame in place of what the vector has, and answers true; or false at the end
-    /// of `movi`, where the vector is then empty, each time again, and then nothing is read. The
-    /// bytes behind `movi` are left unread.
+    /// Reads the next frame in place of what the vector has, and answers true; or false at the end,
+    /// where the vector is then empty, each time again, and then nothing is read. Of a reader that
+    /// `open` made the end is that of `movi`, and the bytes behind it are left unread; of one that
+    /// `open_all` made it is the end of the input, behind a whole RIFF.
     ///
     /// The input has to be the one that the reader was opened on. `Truncated` where a chunk does
-    /// not fit in `movi` or the input ends inside it, `NotAvi` where a list stands in `movi`,
-    /// `ChunkTooLong` for a frame above 67108864 bytes, of which no byte is read, `EmptyFrame` for
-    /// one of none, `Read` where a read failed, `OutOfMemory`. After a fault the vector holds a
-    /// beginning of the frame, and each further call answers the fault again, empties the vector
-    /// and reads nothing.
+    /// not fit in its list or the input ends inside it, or before as many frames as `dmlh` says;
+    /// `NotAvi` where a list stands in `movi`, a list has no room for its own name, or no RIFF
+    /// `AVIX` stands behind a RIFF; `ChunkTooLong` for a frame above 67108864 bytes, of which no
+    /// byte is read, `EmptyFrame` for one of none, `Read` where a read failed, `OutOfMemory`. After
+    /// a fault the vector holds a beginning of the frame, and each further call answers the fault
+    /// again, empties the vector and reads nothing.
     pub fn next_frame<R: ByteIn>(
         &mut self,
         input: &mut R,
         frame: &mut Vec<u8, A>,
     ) -> Result<bool, AviFault>
-        ensures answer { self.old.fault ≡ None →
-            Answers (λ (more : Bool). next_of more frame.new.items self.new.left)
-            (frame_read self.old.left) (passage R.remaining R.failures input.old input.new) result }
+        ensures answer { self.old.fault ≡ None → AnswersFrom self.old.place
+            (λ (more : Bool). next_of more frame.new.items self.new.place)
+            (frame_read self.old.place)
+            (passage R.remaining R.failures input.old input.new) result }
         ensures stands { StandsAfter self.old result self.new }
         ensures sized { IfOk result (λ more. more ≡ true → (0 < length frame.new.items)
             × (length frame.new.items ≤ 67108864)) }
         ensures end { IfOk result (λ more. more ≡ false → (frame.new.items ≡ [])
-            × (self.new.left ≡ 0)) }
-        ensures less { IfOk result (λ more. more ≡ true → self.new.left < self.old.left) }
-        ensures err { OnErr result (Leaves self.old.left (R.remaining input.old) frame.new.items) }
-        ensures over { self.old.fault ≡ None → self.old.left ≡ 0 →
+            × (self.new.place ≡ ended)) }
+        ensures less { IfOk result
+            (λ more. more ≡ true → amount self.new.place < amount self.old.place) }
+        ensures same { IfOk result
+            (λ more. more ≡ true → extent_of self.new.place ≡ extent_of self.old.place) }
+        ensures own { self.old.fault ≡ None → IfErr result (λ f. is_frame_fault f ≡ true) }
+        ensures err { OnErr result (Leaves self.old.place (R.remaining input.old) frame.new.items) }
+        ensures over { self.old.fault ≡ None → self.old.place ≡ ended →
             (result ≡ Ok false) × (self.new ≡ self.old) × (frame.new.items ≡ [])
             × (input.new ≡ input.old) }
         ensures again { (f : AviFault) → self.old.fault ≡ Some f → (result ≡ Err f)
@@ -170,16 +238,17 @@ impl<A: Allocator> AviReader<A> {
         if let Some(fault) = self.fault {
             return Err(fault);
         }
-        if self.left == 0 {
+        if self.place.input == 0 && self.place.movi == 0 {
+            self.place = ended();
             return Ok(false);
         }
-        match read_frame(input, self.left, frame) {
-            Ok(Some(left)) => {
-                self.left = left;
+        match read_frame(input, self.place, frame) {
+            Ok(Some(place)) => {
+                self.place = place;
                 Ok(true)
             }
             Ok(None) => {
-                self.left = 0;
+                self.place = ended();
                 Ok(false)
             }
             Err(fault) => {
@@ -188,4 +257,30 @@ impl<A: Allocator> AviReader<A> {
             }
         }
     }
+}
+
+/// Reads a file up to its first `movi`, so as to read it so far.
+fn open_at<R: ByteIn, A: Allocator>(
+    alloc: A,
+    extent: Extent,
+    input: &mut R,
+) -> Result<AviReader<A>, AviFault>
+    ensures answer { Answers opened_at (open_read extent)
+        (passage R.remaining R.failures input.old input.new) result }
+    ensures sound { IfOk result (λ r. r.fault ≡ None) }
+    ensures own { IfErr result (λ f. is_opening_fault f ≡ true) }
+{
+    let mut config = Vec::new(alloc);
+    let (sizes, place) = read_opening(input, extent, &mut config)?;
+    Ok(AviReader {
+        head: AviHead {
+            width: sizes.width,
+            height: sizes.height,
+            rate: sizes.rate,
+            scale: sizes.scale,
+            config_record: config,
+        },
+        place,
+        fault: None,
+    })
 }

@@ -1,14 +1,16 @@
-//! The first stream of a file, by the chunks of its list.
+//! A stream, by the chunks of its list.
 
 ghost use Rattle.std.specs.Prelude.{◌≡◌, ◌+◌, ◌*◌, ◌<◌, ◌≤◌, ℕ, List, Option, None, Some, length};
+ghost use Rattle.ffv1_avi.specs.Streams.{no_video, record_end};
 ghost use Rattle.ffv1_wire.specs.Passage.{at_rest, passage};
 ghost use Rattle.ffv1_avi.specs.Reads.{Answers};
 ghost use Rattle.ffv1_avi.specs.Streams.{format_in, format_read, rates_in, rates_read};
 ghost use Rattle.ffv1_avi.specs.Streams.{stream_judged, stream_read, visit_field};
-ghost use Rattle.ffv1_avi.specs.Internal.Views.{came_with, format_with, head_with, known_next, known_with};
+ghost use Rattle.ffv1_avi.specs.Internal.Views.{came_with, format_with, found_with, known_next, known_with};
 
 use crate::chunk::{Entry, fill, is_name, next_entry, padded, pass, take};
 use crate::fault::AviFault;
+use crate::place::Extent;
 use byteorder::{ByteOrder, LittleEndian};
 use ffv1_wire::ByteIn;
 use std::alloc::Allocator;
@@ -53,15 +55,29 @@ fn read_rates<R: ByteIn>(input: &mut R, size: u32) -> Result<Option<(u32, u32)>,
     Ok(Some((rate, scale)))
 }
 
+/// Where the record ends in a format of such a size, of which the first number is this one.
+fn record_end(extent: Extent, says: u32, size: u32) -> u32
+    requires { 40 ≤ size }
+    ensures value { result ≡ record_end extent says size }
+    ensures least { 40 ≤ result }
+    ensures most { result ≤ size }
+{
+    match extent {
+        Extent::FirstMovi => size,
+        Extent::EveryRiff => if 40 < says && says < size { says } else { size },
+    }
+}
+
 /// The width and the height of a stream's format of such a size, and its record in place of what
 /// the vector has, where it is FFV1.
 fn read_format<R: ByteIn, A: Allocator>(
     input: &mut R,
+    extent: Extent,
     size: u32,
     config: &mut Vec<u8, A>,
 ) -> Result<Option<(u32, u32)>, AviFault>
-    ensures { Answers (λ (f : Option (ℕ × ℕ)). format_with f config.new.items) (format_in size)
-        (passage R.remaining R.failures input.old input.new) result }
+    ensures { Answers (λ (f : Option (ℕ × ℕ)). format_with f config.new.items)
+        (format_in extent size) (passage R.remaining R.failures input.old input.new) result }
 {
     if size < 40 {
         pass(input, padded(size))?;
@@ -73,8 +89,9 @@ fn read_format<R: ByteIn, A: Allocator>(
         pass(input, padded(size) - 40)?;
         return Ok(None);
     }
-    fill(input, size as usize - 40, config)?;
-    pass(input, u64::from(size % 2))?;
+    let end = record_end(extent, LittleEndian::read_u32(&head), size);
+    fill(input, end as usize - 40, config)?;
+    pass(input, padded(size) - u64::from(end))?;
     let width = LittleEndian::read_u32(&head[4..]);
     let height = LittleEndian::read_u32(&head[8..]);
     Ok(Some((width, height)))
@@ -99,12 +116,13 @@ fn visit_rates<R: ByteIn>(input: &mut R, fields: Fields, size: u32) -> Result<Fi
 /// A format of a stream: the first one counts, and is not read where it is too long.
 fn visit_format<R: ByteIn, A: Allocator>(
     input: &mut R,
+    extent: Extent,
     fields: Fields,
     size: u32,
     config: &mut Vec<u8, A>,
 ) -> Result<Fields, AviFault>
     ensures { Answers (λ (k : Fields). known_next k config.new.items)
-        (format_read (known_with fields config.old.items) size
+        (format_read extent (known_with fields config.old.items) size
         (came_with fields.format config.old.items))
         (passage R.remaining R.failures input.old input.new) result }
 {
@@ -116,7 +134,7 @@ fn visit_format<R: ByteIn, A: Allocator>(
     if size > LIMIT {
         return Err(AviFault::ChunkTooLong);
     }
-    fields.format = Some(read_format(input, size, config)?);
+    fields.format = Some(read_format(input, extent, size, config)?);
     Ok(fields)
 }
 
@@ -124,56 +142,70 @@ fn visit_format<R: ByteIn, A: Allocator>(
 #[tactic(auto, unfolding(crate::specs::Streams::visit_field))]
 fn visit_field<R: ByteIn, A: Allocator>(
     input: &mut R,
+    extent: Extent,
     fields: Fields,
     entry: Entry,
     config: &mut Vec<u8, A>,
 ) -> Result<Fields, AviFault>
     ensures { Answers (λ (k : Fields). known_next k config.new.items)
-        (visit_field (known_with fields config.old.items) entry)
+        (visit_field extent (known_with fields config.old.items) entry)
         (passage R.remaining R.failures input.old input.new) result }
 {
     if is_name(&entry.name, b"strh") {
         return visit_rates(input, fields, entry.size);
     }
     if is_name(&entry.name, b"strf") {
-        return visit_format(input, fields, entry.size, config);
+        return visit_format(input, extent, fields, entry.size, config);
     }
     pass(input, padded(entry.size))?;
     Ok(fields)
 }
 
-/// What a stream says, at its end.
-fn judged(fields: Fields) -> Result<Sizes, AviFault>
+/// What a stream says that is no FFV1 video.
+fn no_video(extent: Extent) -> Result<Option<Sizes>, AviFault>
     ensures { (bytes : List ℕ) (text : Option (List ℕ)) (failures : ℕ) →
-        Answers (λ (s : Sizes). head_with s bytes)
-        (stream_judged fields.rates (came_with fields.format bytes)) (at_rest text failures)
-        result }
+        Answers (λ (s : Option Sizes). found_with s bytes) (no_video extent)
+        (at_rest text failures) result }
+{
+    match extent {
+        Extent::FirstMovi => Err(AviFault::NoFfv1),
+        Extent::EveryRiff => Ok(None),
+    }
+}
+
+/// What a stream says, at its end: None where it is no FFV1 video.
+fn judged(extent: Extent, fields: Fields) -> Result<Option<Sizes>, AviFault>
+    ensures { (bytes : List ℕ) (text : Option (List ℕ)) (failures : ℕ) →
+        Answers (λ (s : Option Sizes). found_with s bytes)
+        (stream_judged extent fields.rates (came_with fields.format bytes))
+        (at_rest text failures) result }
 {
     let (Some(Some((rate, scale))), Some(Some((width, height)))) = (fields.rates, fields.format)
     else {
-        return Err(AviFault::NoFfv1);
+        return no_video(extent);
     };
     if (rate == 0) != (scale == 0) {
         return Err(AviFault::NotAvi);
     }
-    Ok(Sizes {
+    Ok(Some(Sizes {
         width,
         height,
         rate,
         scale,
-    })
+    }))
 }
 
 /// A stream's list with so many bytes left behind its own name; its record in place of what the
-/// vector has.
+/// vector has. None where it is no FFV1 video.
 #[tactic(auto, unfolding(crate::specs::Streams::stream_read))]
 pub(crate) fn read_stream<R: ByteIn, A: Allocator>(
     input: &mut R,
+    extent: Extent,
     room: u32,
     config: &mut Vec<u8, A>,
-) -> Result<Sizes, AviFault>
-    ensures { Answers (λ (s : Sizes). head_with s config.new.items) (stream_read room)
-        (passage R.remaining R.failures input.old input.new) result }
+) -> Result<Option<Sizes>, AviFault>
+    ensures { Answers (λ (s : Option Sizes). found_with s config.new.items)
+        (stream_read extent room) (passage R.remaining R.failures input.old input.new) result }
 {
     let mut fields = Fields {
         rates: None,
@@ -181,8 +213,8 @@ pub(crate) fn read_stream<R: ByteIn, A: Allocator>(
     };
     let mut left = room;
     while let Some(entry) = next_entry(input, left)? {
-        fields = visit_field(input, fields, entry, config)?;
+        fields = visit_field(input, extent, fields, entry, config)?;
         left = entry.left;
     }
-    judged(fields)
+    judged(extent, fields)
 }

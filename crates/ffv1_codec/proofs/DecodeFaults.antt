@@ -4,6 +4,7 @@ use Rattle.std.specs.Prelude.{slice_index}
 use Rattle.ffv1_wire.specs.Runs.{LineStep}
 use Rattle.ffv1_range.specs.Symbols.{Step}
 use Rattle.ffv1_range.specs.declared.tally.Tally.{Tally}
+use Rattle.ffv1_record.specs.declared.config.Profile.{Profile}
 use Rattle.ffv1_record.specs.Configuration.{Configuration}
 use Rattle.ffv1_record.specs.Accepted.{Accepted}
 use Rattle.ffv1_slice.specs.Cutting.{IsRefused, coded_of}
@@ -47,10 +48,10 @@ indexes_own : (extra : Bool) (count : ℕ) → Each RuleIsOwn (index_rules extra
 indexes_own false count = (refl, (refl, tt))
 indexes_own true count = (refl, (refl, (refl, tt)))
 
-rules_own : (c : Configuration) (n : ℕ) → Each RuleIsOwn (head_rules c n)
-rules_own c n =
-    each_append RuleIsOwn (place_rules c n) (index_rules c.extra_plane (length c.sets) ++ info_rules) (refl, (refl, (refl, (refl, tt))))
-    (each_append RuleIsOwn (index_rules c.extra_plane (length c.sets)) info_rules (indexes_own c.extra_plane (length c.sets)) (refl, (refl, (refl, tt))))
+rules_own : (pr : Profile) (c : Configuration) (n : ℕ) → Each RuleIsOwn (head_rules pr c n)
+rules_own pr c n =
+    each_append RuleIsOwn (place_rules c n) (index_rules c.extra_plane (length c.sets) ++ info_rules pr) (refl, (refl, (refl, (refl, tt))))
+    (each_append RuleIsOwn (index_rules c.extra_plane (length c.sets)) (info_rules pr) (indexes_own c.extra_plane (length c.sets)) (refl, (refl, (refl, tt))))
 
 -- a payload is not cut for one of four faults
 cut_own : (c : Configuration) (payload : List ℕ) (f : CutFault) → IsRefused c payload f → IsOwn (of_slice f.fault)
@@ -72,7 +73,7 @@ module _ (a : Accepted) (coded : ℕ → List ℕ) where
     | inr more ↦ elim more [
       | inl key ↦ own_by f.fault fault.NotKey key.0 refl
       | inr rest ↦ elim rest [
-        | inl head ↦ own_by f.fault (of_slice head.0) head.3 (stopped (head_rules a.configuration (slice_number a.configuration r k)) 0 head.0 head.1 (rules_own a.configuration (slice_number a.configuration r k)) head.2.stops)
+        | inl head ↦ own_by f.fault (of_slice head.0) head.3 (stopped (head_rules a.profile a.configuration (slice_number a.configuration r k)) 0 head.0 head.1 (rules_own a.profile a.configuration (slice_number a.configuration r k)) head.2.stops)
         | inr differs ↦ own_by f.fault fault.InfoDiffers differs.5 refl
       ]
     ]

@@ -32,8 +32,8 @@ pub record StepLaws (a : Accepted) : Type 0 where
   pub row : (set : Set) (c : Cell) (y x : ℕ) (qs : List ℤ) → AreSmall qs → length (row_steps set c y x qs) ≡ row_decisions qs
   pub most : (v : ℤ) → unsigned_abs v < 2 ^ 31 → decisions_of v ≤ 63
   pub small : (set : Set) (bits : ℕ) (c : Cell) (y x : ℕ) (qs : List ℤ) → AreSuiting set bits c y x qs → AreSmall qs
-  pub head : (n : ℕ) (h : SliceHead) → IsHead a.configuration h → n < a.configuration.columns * a.configuration.rows → length (head_steps a.configuration n h) ≤ head_most a.configuration
-  pub stopped : (n before : ℕ) (f : SliceFault) (steps : List Step) → Stops (head_rules a.configuration n) before f steps → length steps ≤ numbers_most a.configuration
+  pub head : (n : ℕ) (h : SliceHead) → IsHead a.profile a.configuration h → n < a.configuration.columns * a.configuration.rows → length (head_steps a.configuration n h) ≤ head_most a.configuration
+  pub stopped : (n before : ℕ) (f : SliceFault) (steps : List Step) → Stops (head_rules a.profile a.configuration n) before f steps → length steps ≤ numbers_most a.configuration
 
 -- at most so many for the key and the head of a slice
 abbrev pub opening_most : Configuration → ℕ
@@ -135,7 +135,7 @@ module _ (a : Accepted) (coded : ℕ → List ℕ) (laws : StepLaws a) where
         let few = has.few in
         omega (arith, fits, few)
 
-    pub few_opened : (h : SliceHead) → slice_number a.configuration r k < a.configuration.columns * a.configuration.rows → IsHead a.configuration h → HasFew (opened a coded (slice_number a.configuration r k) h)
+    pub few_opened : (h : SliceHead) → slice_number a.configuration r k < a.configuration.columns * a.configuration.rows → IsHead a.profile a.configuration h → HasFew (opened a coded (slice_number a.configuration r k) h)
     few_opened h inside is =
         let c = a.configuration in
         let n = slice_number c r k in

@@ -34,8 +34,8 @@ module _ (a : Accepted) (coded : ℕ → List ℕ) (planes : Planes) (info : Sai
   pub record Known (k : ℕ) : Type 0 where
     pub head : SliceHead
     pub body : List Step
-    pub is_head : IsHead a.configuration head
-    pub says : said_by head ≡ info
+    pub is_head : IsHead a.profile a.configuration head
+    pub says : said_by a.profile head ≡ info
     pub coding : Coding a coded planes r k head body
     pub is_body : IsBody a.configuration head (cell_at a coded planes r k) (row_lines a.configuration r) body
 
@@ -43,15 +43,15 @@ module _ (a : Accepted) (coded : ℕ → List ℕ) (planes : Planes) (info : Sai
   abbrev pub MaySay : Option Said → Type 0
   MaySay said = (said ≡ None) ⊎ (said ≡ Some info)
 
-  agrees : (said : Option Said) (h : SliceHead) → MaySay said → said_by h ≡ info → AgreesWith said (said_by h)
+  agrees : (said : Option Said) (h : SliceHead) → MaySay said → said_by a.profile h ≡ info → AgreesWith said (said_by a.profile h)
   agrees said h may says = elim may [
-    | inl none ↦ subst (λ i. AgreesWith i (said_by h)) (sym none) tt
-    | inr some ↦ subst (λ i. AgreesWith i (said_by h)) (sym some) says
+    | inl none ↦ subst (λ i. AgreesWith i (said_by a.profile h)) (sym none) tt
+    | inr some ↦ subst (λ i. AgreesWith i (said_by a.profile h)) (sym some) says
   ]
 
   module _ (laws : PictureLaws a) (front : (k : ℕ) → k < a.configuration.columns → FrontLaws a (coded (slice_number a.configuration r k)))
       (known : (k : ℕ) → k < a.configuration.columns → Known k) where
-    codes_head : (k : ℕ) → k < a.configuration.columns → (w : Known k) → CodesHead (coded (slice_number a.configuration r k)) a.table a.configuration (slice_number a.configuration r k) w.head
+    codes_head : (k : ℕ) → k < a.configuration.columns → (w : Known k) → CodesHead (coded (slice_number a.configuration r k)) a.table a.profile a.configuration (slice_number a.configuration r k) w.head
     codes_head k inside w =
         let n = slice_number a.configuration r k in
         let c = a.configuration in
@@ -116,8 +116,8 @@ module _ (a : Accepted) (coded : ℕ → List ℕ) (planes : Planes) (info : Sai
         let inside : from < c.columns = omega (arith, fits) in
         let w = known from inside in
         let q = opened a coded n w.head in
-        let m = put_slice (record s { info = Some (said_by w.head) }) from q in
-        let m_says : Some (said_by w.head) ≡ Some info = ap Some w.says in
+        let m = put_slice (record s { info = Some (said_by a.profile w.head) }) from q in
+        let m_says : Some (said_by a.profile w.head) ≡ Some info = ap Some w.says in
         let m_long : length m.columns ≡ c.columns = length-set s.columns from q ∙ long in
         let rest = opens_go (from + 1) count m (omega (arith, fits)) m_long (inr m_says) in
         let place : from < length s.columns = rw long inside in

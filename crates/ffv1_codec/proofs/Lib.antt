@@ -8,6 +8,7 @@ pub mod Beginnings
 pub mod Lengths
 pub mod Counted
 pub mod Frames
+pub mod Aspects
 mod Sizes
 mod WrittenParts
 mod ByNumber

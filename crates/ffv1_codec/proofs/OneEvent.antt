@@ -37,7 +37,7 @@ module _ (a : Accepted) (coded : ℕ → List ℕ) (laws : BytesLaws a coded) wh
   step_same : (s x z : State) (e : Event) → IsEvent a.configuration e → StepsBy a coded s e x → StepsBy a coded s e z → x ≡ z
   step_same s x z (Open r k) kind f g =
       let n = slice_number a.configuration r k in
-      let after : SliceHead → State = λ h. put_slice (record s { info = Some (said_by h) }) k (opened a coded n h) in
+      let after : SliceHead → State = λ h. put_slice (record s { info = Some (said_by a.profile h) }) k (opened a coded n h) in
       f.3 ∙ ap after ((laws.heads r k kind.0 kind.1).head f.0 g.0 f.1 g.1) ∙ sym g.3
   step_same s x z (Read r k p y) kind f g =
       let q = slice_at s k in

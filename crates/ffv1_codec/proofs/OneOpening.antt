@@ -19,9 +19,9 @@ pub record HeadLaws (a : Accepted) (bytes : List ℕ) (n : ℕ) : Type 0 where
   pub beginnings : (xs ys : List Decision) → AreStates ys → Codes bytes (xs ++ ys) → Codes bytes xs
   pub one_bit : (past xs ys : List Decision) (state : ℕ) (b c : Bool) → IsState state → AreStates xs → AreStates ys →
       Codes bytes (past ++ (record { state = state; bit = b } ∷ xs)) → Codes bytes (past ++ (record { state = state; bit = c } ∷ ys)) → b ≡ c
-  pub head : (g h : SliceHead) → CodesHead bytes a.table a.configuration n g → CodesHead bytes a.table a.configuration n h → g ≡ h
-  pub apart : (h : SliceHead) (f : SliceFault) (steps : List Step) → CodesHead bytes a.table a.configuration n h → RefusesHead bytes a.table a.configuration n f steps → ⊥
-  pub refusal : (f g : SliceFault) (xs ys : List Step) → RefusesHead bytes a.table a.configuration n f xs → RefusesHead bytes a.table a.configuration n g ys → (f ≡ g) × (xs ≡ ys)
+  pub head : (g h : SliceHead) → CodesHead bytes a.table a.profile a.configuration n g → CodesHead bytes a.table a.profile a.configuration n h → g ≡ h
+  pub apart : (h : SliceHead) (f : SliceFault) (steps : List Step) → CodesHead bytes a.table a.profile a.configuration n h → RefusesHead bytes a.table a.profile a.configuration n f steps → ⊥
+  pub refusal : (f g : SliceFault) (xs ys : List Step) → RefusesHead bytes a.table a.profile a.configuration n f xs → RefusesHead bytes a.table a.profile a.configuration n g ys → (f ≡ g) × (xs ≡ ys)
 
 not_both : true ≡ false → ⊥
 not_both e = cc
@@ -39,7 +39,7 @@ module _ (a : Accepted) (bytes : List ℕ) (n : ℕ) (laws : HeadLaws a bytes n)
 
   -- why a slice is not opened, seen from a head that the bytes code
   pub head_or_refusal : (info : Option Said) (h : SliceHead) (f : CodecFault) (steps : List Step) →
-      CodesHead bytes a.table a.configuration n h → AgreesWith info (said_by h) → RefusesOpen a (λ _. bytes) info n f steps → ⊥
+      CodesHead bytes a.table a.profile a.configuration n h → AgreesWith info (said_by a.profile h) → RefusesOpen a (λ _. bytes) info n f steps → ⊥
   head_or_refusal info h f steps codes agrees refuses = elim refuses [
     | inl bad ↦ bad.1 (starts (key_steps n ++ head_steps a.configuration n h) codes.codes)
     | inr more ↦ elim more [
@@ -48,8 +48,8 @@ module _ (a : Accepted) (bytes : List ℕ) (n : ℕ) (laws : HeadLaws a bytes n)
         | inl head ↦ laws.apart h head.0 head.1 codes head.2
         | inr differs ↦
             let same : h ≡ differs.0 = laws.head h differs.0 codes differs.2 in
-            let agreed : said_by h ≡ differs.1 = subst (λ i. AgreesWith i (said_by h)) differs.3 agrees in
-            differs.4 (ap said_by (sym same) ∙ agreed)
+            let agreed : said_by a.profile h ≡ differs.1 = subst (λ i. AgreesWith i (said_by a.profile h)) differs.3 agrees in
+            differs.4 (ap (said_by a.profile) (sym same) ∙ agreed)
       ]
     ]
   ]
@@ -86,7 +86,7 @@ module _ (a : Accepted) (bytes : List ℕ) (n : ℕ) (laws : HeadLaws a bytes n)
     ]
   ]
 
-  bad_head : (info : Option Said) (f g : CodecFault) (xs ys more : List Step) (h : SliceFault) → RefusesHead bytes a.table a.configuration n h more → f ≡ of_slice h →
+  bad_head : (info : Option Said) (f g : CodecFault) (xs ys more : List Step) (h : SliceFault) → RefusesHead bytes a.table a.profile a.configuration n h more → f ≡ of_slice h →
       xs ≡ key_steps n ++ shifted 1 more → Reason info g ys → SameReason f g xs ys
   bad_head info f g xs ys more h refused is long other = elim other [
     | inl bad ↦ absurd (bad.1 (starts (key_steps n ++ shifted 1 more) refused.codes))
@@ -101,7 +101,7 @@ module _ (a : Accepted) (bytes : List ℕ) (n : ℕ) (laws : HeadLaws a bytes n)
     ]
   ]
 
-  bad_info : (info : Option Said) (f g : CodecFault) (xs ys : List Step) (h : SliceHead) → CodesHead bytes a.table a.configuration n h → f ≡ fault.InfoDiffers →
+  bad_info : (info : Option Said) (f g : CodecFault) (xs ys : List Step) (h : SliceHead) → CodesHead bytes a.table a.profile a.configuration n h → f ≡ fault.InfoDiffers →
       xs ≡ key_steps n ++ head_steps a.configuration n h → Reason info g ys → SameReason f g xs ys
   bad_info info f g xs ys h codes is long other = elim other [
     | inl bad ↦ absurd (bad.1 (starts (key_steps n ++ head_steps a.configuration n h) codes.codes))

@@ -218,7 +218,7 @@ module _ (a : Accepted) (coded : ℕ → List ℕ) (n : ℕ) (laws : OnlyLaws a 
             (0, no_rows c r p read (omega (arith, past)) (each_left (IsLineOf c r) read more (subst (Each (IsLineOf c r)) parts lines)))
       ]
 
-  same_head : (q : Slice) (read : List Line) (known : CodesRead a coded n q read) → CodesHead (coded n) a.table a.configuration n q.head
+  same_head : (q : Slice) (read : List Line) (known : CodesRead a coded n q read) → CodesHead (coded n) a.table a.profile a.configuration n q.head
   same_head q read known =
       let c = a.configuration in
       record {
@@ -234,7 +234,7 @@ module _ (a : Accepted) (coded : ℕ → List ℕ) (n : ℕ) (laws : OnlyLaws a 
     pub shown : ShowSame (cells_of a.configuration n q) (cells_of a.configuration n r) read
 
   pub read_same : (q r : Slice) (read more : List Line) → n < a.configuration.columns * a.configuration.rows → lines_in a.configuration n ≡ read ++ more →
-      ((g h : SliceHead) → CodesHead (coded n) a.table a.configuration n g → CodesHead (coded n) a.table a.configuration n h → g ≡ h) →
+      ((g h : SliceHead) → CodesHead (coded n) a.table a.profile a.configuration n g → CodesHead (coded n) a.table a.profile a.configuration n h → g ≡ h) →
       CodesRead a coded n q read → CodesRead a coded n r read → ReadSame q r read
   read_same q r read more inside parts one this that =
       let c = a.configuration in

@@ -63,7 +63,7 @@ module _ (a : Accepted) (n : ℕ) (old mid new : Reading) (begins : At old start
 
   pub head_read : (h : SliceHead) → ReadsAt a.table 1 32 mid new (head_steps a.configuration n h) → FindsHead a n mid h → HeadRead a n old new h
   head_read h reads finds = record {
-    codes = subst (λ b. CodesHead b a.table a.configuration n h) first.bytes (finds first.at);
+    codes = subst (λ b. CodesHead b a.table a.profile a.configuration n h) first.bytes (finds first.at);
     begun = begun_more (head_steps a.configuration n h) reads;
   }
 
@@ -173,12 +173,12 @@ module _ (a : Accepted) (payload : List ℕ) (cut : Cut) (n begin end : ℕ) (is
     told_after telling steps begun =
         tells telling (coded_by a payload cut n) a.table (paused new) steps (subst (λ b. At (resumed (paused new) b) (interval_of (decisions_after a.table [] steps))) (begun.bytes ∙ coded_is) begun.at) begun.counted
 
-    pub column_opened : (indexes : List ℕ) (h : SliceHead) (before after : Option Said) → indexes ≡ h.indexes → HeadRead a n old new h → AgreesWith before (said_by h) → after ≡ Some (said_by h) →
+    pub column_opened : (indexes : List ℕ) (h : SliceHead) (before after : Option Said) → indexes ≡ h.indexes → HeadRead a n old new h → AgreesWith before (said_by a.profile h) → after ≡ Some (said_by a.profile h) →
         ((slots : ℕ) → HasStates a.table (replicate slots 128) 33 (key_steps n ++ head_steps a.configuration n h)) →
         ColumnOpened a (coded_by a payload cut) payload n (record { parked = Some (paused new); first = begin; last = end; indexes = indexes }) before after
     column_opened indexes h before after indexes_are read agrees says has = record {
       head = h;
-      codes = subst (λ b. CodesHead b a.table a.configuration n h) coded_is read.codes;
+      codes = subst (λ b. CodesHead b a.table a.profile a.configuration n h) coded_is read.codes;
       agrees = agrees;
       says = says;
       bytes_are = bytes_are;
@@ -186,11 +186,11 @@ module _ (a : Accepted) (payload : List ℕ) (cut : Cut) (n begin end : ℕ) (is
       stands = stands_after (key_steps n ++ head_steps a.configuration n h) read.begun has;
     }
 
-    pub column_differs : Telling → (column : Column) (h : SliceHead) (before : Option Said) (s : Said) → column.parked ≡ Some (paused new) → HeadRead a n old new h → before ≡ Some s → said_by h ≢ s →
+    pub column_differs : Telling → (column : Column) (h : SliceHead) (before : Option Said) (s : Said) → column.parked ≡ Some (paused new) → HeadRead a n old new h → before ≡ Some s → said_by a.profile h ≢ s →
         ColumnRefused a (coded_by a payload cut) n column before fault.InfoDiffers
     column_differs telling column h before s parked read was differs = record {
       steps = key_steps n ++ head_steps a.configuration n h;
-      refuses = inr (inr (inr (h, s, subst (λ b. CodesHead b a.table a.configuration n h) coded_is read.codes, was, differs, refl, refl)));
+      refuses = inr (inr (inr (h, s, subst (λ b. CodesHead b a.table a.profile a.configuration n h) coded_is read.codes, was, differs, refl, refl)));
       told = ap told_by parked ∙ told_after telling (key_steps n ++ head_steps a.configuration n h) read.begun;
     }
 
@@ -199,7 +199,7 @@ module _ (a : Accepted) (payload : List ℕ) (cut : Cut) (n begin end : ℕ) (is
       steps = refused.steps;
       refuses = elim refused.why [
         | inl key ↦ inr (inl (key.0, subst (λ b. RefusesKey b a.table n) coded_is key.1, key.2))
-        | inr head ↦ inr (inr (inl (head.0, head.1, subst (λ b. RefusesHead b a.table a.configuration n head.0 head.1) coded_is head.2, head.3, head.4)))
+        | inr head ↦ inr (inr (inl (head.0, head.1, subst (λ b. RefusesHead b a.table a.profile a.configuration n head.0 head.1) coded_is head.2, head.3, head.4)))
       ];
       told = ap told_by parked ∙ told_after telling refused.steps refused.begun;
     }

@@ -66,17 +66,17 @@ module _ (a : Accepted) (coded : ℕ → List ℕ) (payload : List ℕ) (r : ℕ
     pub one_opened : Telling → (new : Option Said) → ColumnOpened a coded payload (slice_number a.configuration r n) column first new → RowOpened a coded payload r (suc n) (slice_set columns n column) new s
     one_opened telling new made =
         let num = slice_number a.configuration r n in
-        let m : State = record before.state { info = Some (said_by made.head) } in
+        let m : State = record before.state { info = Some (said_by a.profile made.head) } in
         let q = opened a coded num made.head in
         let t = put_slice m n q in
         let few : n < length m.columns = omega (arith, inside, known) in
-        let step : StepsBy a coded before.state (Open r n) t = (made.head, made.codes, subst (λ z. AgreesWith z (said_by made.head)) (sym info_is) made.agrees, refl) in
+        let step : StepsBy a coded before.state (Open r n) t = (made.head, made.codes, subst (λ z. AgreesWith z (said_by a.profile made.head)) (sym info_is) made.agrees, refl) in
         let zero_is : 0 + n ≡ n = omega arith in
         record {
           state = t;
           runs = subst (λ es. Runs (StepsBy a coded) s es t) (sym (mapped_more (Open r) 0 n ∙ ap (λ k. map (Open r) (range_with_len 0 n) ++ (Open r k ∷ [])) zero_is))
               (runs_append (StepsBy a coded) s before.state t (map (Open r) (range_with_len 0 n)) (Open r n ∷ []) before.runs (runs_one (StepsBy a coded) before.state t (Open r n) step));
-          same = ap (λ (z : State). record z { columns = t.columns; info = Some (said_by made.head) }) before.same ∙ ap (λ z. record s { columns = t.columns; info = z }) (sym made.says);
+          same = ap (λ (z : State). record z { columns = t.columns; info = Some (said_by a.profile made.head) }) before.same ∙ ap (λ z. record s { columns = t.columns; info = z }) (sym made.says);
           told = told_with m refl q (stands_tells telling (coded num) a.table 33 column.parked (replicate 0 128) q.past (made.stands 0));
           each = λ k h. elim (cases_eq k n) [
             | inl at ↦

@@ -29,7 +29,7 @@ unfolding IsBody
 nothing_read c h cell = refl
 
 module _ (a : Accepted) (coded : ℕ → List ℕ) (r : ℕ) where
-  has_opened : (k : ℕ) (h : SliceHead) → CodesHead (coded (slice_number a.configuration r k)) a.table a.configuration (slice_number a.configuration r k) h →
+  has_opened : (k : ℕ) (h : SliceHead) → CodesHead (coded (slice_number a.configuration r k)) a.table a.profile a.configuration (slice_number a.configuration r k) h →
       HasRead a coded r k [] (opened a coded (slice_number a.configuration r k) h)
   has_opened k h codes =
       let c = a.configuration in
@@ -46,7 +46,7 @@ module _ (a : Accepted) (coded : ℕ → List ℕ) (r : ℕ) where
 
   -- what slices of the row say
   abbrev pub Says : State → ℕ → Type 0
-  Says s k = s.info ≡ Some (said_by (slice_at s k).head)
+  Says s k = s.info ≡ Some (said_by a.profile (slice_at s k).head)
 
   -- the slices from a column on are opened
   pub record Opened (from count : ℕ) (s t : State) : Type 0 where
@@ -88,13 +88,13 @@ module _ (a : Accepted) (coded : ℕ → List ℕ) (r : ℕ) where
       let m_long : length m.columns ≡ length s.columns = ap (λ (z : State). length z.columns) f.1.3 ∙ length-set s.columns from q in
       let rest = opens (from + 1) count m t (omega (arith, fits, m_long)) f.2 in
       let here : slice_at t from ≡ q = rest.before from (omega arith) ∙ ap (λ z. slice_at z from) f.1.3 ∙ get_or-set_same s.columns from q unread inside in
-      let m_info : m.info ≡ Some (said_by h) = ap (λ (z : State). z.info) f.1.3 in
-      let t_info : t.info ≡ Some (said_by h) = rest.info (said_by h) m_info in
+      let m_info : m.info ≡ Some (said_by a.profile h) = ap (λ (z : State). z.info) f.1.3 in
+      let t_info : t.info ≡ Some (said_by a.profile h) = rest.info (said_by a.profile h) m_info in
       record {
         each = λ k least most. elim (cases_eq k from) [
           | inl same ↦
               subst (λ j. HasRead a coded r j [] (slice_at t j) × Says t j) (sym same)
-              (subst (HasRead a coded r from []) (sym here) (has_opened from h f.1.1), t_info ∙ ap (λ (z : Slice). Some (said_by z.head)) (sym here))
+              (subst (HasRead a coded r from []) (sym here) (has_opened from h f.1.1), t_info ∙ ap (λ (z : Slice). Some (said_by a.profile z.head)) (sym here))
           | inr other ↦ rest.each k (omega (arith, least, other)) (omega (arith, most))
         ];
         empty = λ k least most. elim (cases_eq k from) [
@@ -110,7 +110,7 @@ module _ (a : Accepted) (coded : ℕ → List ℕ) (r : ℕ) where
         done = rest.done ∙ ap (λ (z : State). z.done) f.1.3;
         lines = rest.lines ∙ ap (λ (z : State). z.lines) f.1.3;
         long = rest.long ∙ m_long;
-        info = λ i is. t_info ∙ agreed s.info i (said_by h) is f.1.2;
+        info = λ i is. t_info ∙ agreed s.info i (said_by a.profile h) is f.1.2;
       }
 
   pub info_kept : (es : List Event) (s t : State) → Each (IsOfRow a.configuration r) es → Runs (StepsBy a coded) s es t → t.info ≡ s.info
@@ -188,7 +188,7 @@ module _ (a : Accepted) (coded : ℕ → List ℕ) (laws : CellLaws) (few : Suit
   pub record RowPart (r : ℕ) (info : Option Said) (ls : List wire.Line) : Type 0 where
     pub slice : ℕ → Slice
     pub done : (k : ℕ) → k < a.configuration.columns → HasRead a coded r k (row_lines a.configuration r) (slice k)
-    pub says : (k : ℕ) → k < a.configuration.columns → info ≡ Some (said_by (slice k).head)
+    pub says : (k : ℕ) → k < a.configuration.columns → info ≡ Some (said_by a.profile (slice k).head)
     pub small : (k p i : ℕ) → k < a.configuration.columns → get_or (plane (slice k).cells p) i 0 < 2 ^ bits_of a.configuration
     pub made : MadeOf a.configuration r slice (groups_of a.configuration r) ls
 
@@ -227,7 +227,7 @@ module _ (a : Accepted) (coded : ℕ → List ℕ) (laws : CellLaws) (few : Suit
               (have_more a coded r laws some events [] o e all o_long run have k inside);
           says = λ k inside.
               let heads : (slice_at e k).head ≡ (slice_at o k).head = (goes_on a coded r k events o e all (rw o_long inside) (have k inside).many run).head in
-              t_info ∙ (opened.each k (omega arith) (omega (arith, inside))).1 ∙ ap (λ h. Some (said_by h)) (sym heads);
+              t_info ∙ (opened.each k (omega arith) (omega (arith, inside))).1 ∙ ap (λ h. Some (said_by a.profile h)) (sym heads);
           small = λ k p i inside.
               small_along a coded r k few events o e all (rw o_long inside) (have k inside).many (opened.empty k (omega arith) (omega (arith, inside))) run p i;
           made = made.made;
@@ -270,7 +270,7 @@ module _ (a : Accepted) (coded : ℕ → List ℕ) (laws : CellLaws) (few : Suit
           record {
             slice = first.part.slice;
             done = first.part.done;
-            says = λ k inside. rest.info (said_by (first.part.slice k).head) (first.part.says k inside);
+            says = λ k inside. rest.info (said_by a.profile (first.part.slice k).head) (first.part.says k inside);
             small = first.part.small;
             made = first.part.made;
           },

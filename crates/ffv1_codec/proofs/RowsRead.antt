@@ -33,7 +33,7 @@ module _ (a : Accepted) (coded : ℕ → List ℕ) (planes : Planes) (info : Sai
   pub record Standing (k : ℕ) (more : List Line) (q : Slice) : Type 0 where
     pub head : SliceHead
     pub body : List Step
-    pub says : said_by head ≡ info
+    pub says : said_by a.profile head ≡ info
     pub coding : Coding a coded planes r k head body
     pub stands : StandsBefore a coded planes r k head body more q
 

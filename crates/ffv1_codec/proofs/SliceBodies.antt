@@ -85,7 +85,7 @@ module _ (a : Accepted) (coded : ℕ → List ℕ) (r k : ℕ) where
 
   -- a slice that was opened, and of which these lines were read
   pub record HasRead (ls : List Line) (q : Slice) : Type 0 where
-    pub is_head : IsHead a.configuration q.head
+    pub is_head : IsHead a.profile a.configuration q.head
     pub many : length q.cells ≡ plane_count a.configuration
     pub are : Each (IsRead q) ls
     pub body : List Step
@@ -167,7 +167,7 @@ module _ (a : Accepted) (coded : ℕ → List ℕ) (r k : ℕ) where
           let long = ap (λ (xs : List ℕ). length xs) now ∙ length-append samples next.row in
           omega (arith, long, next.reads.above, next.reads.row_long) in
           subst (λ more. HasRead (ls ++ more) t) (sym next.line) (record {
-            is_head = subst (IsHead c) (sym more.head) has.is_head;
+            is_head = subst (IsHead a.profile c) (sym more.head) has.is_head;
             many = more.many ∙ has.many;
             are = each_append (IsRead t) ls (l ∷ []) (reads_later q t ls more has.are) (is_read, tt);
             body = has.body ++ line_steps c q.head (cells_of t) l next.qs;

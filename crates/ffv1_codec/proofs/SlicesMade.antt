@@ -138,7 +138,7 @@ module _ (a : Accepted) (laws : PictureLaws a) (coded : ℕ → List ℕ) (info 
           column x (column_inside n a.configuration.columns some) inside;
     }
 
-    same_said : Some info ≡ Some (said_by read.head) → said_by read.head ≡ info
+    same_said : Some info ≡ Some (said_by a.profile read.head) → said_by a.profile read.head ≡ info
     same_said e = cc
 
     pub slice_codes : n < a.configuration.columns * a.configuration.rows → CodesSlice (coded n) a planes info n
@@ -182,7 +182,7 @@ is_made a laws payload spans t cuts decodes =
     let planes = planes_made a laws done.lines in
     let lines = lines_are a laws done.lines sized keys in
     let top = part_at a laws coded t.info planes 0 0 conf.rows done.lines (omega arith) (omega (arith, laws.rows)) done.parts lines in
-    let info = said_by (top.1.slice 0).head in
+    let info = said_by a.profile (top.1.slice 0).head in
     let says : t.info ≡ Some info = top.1.says 0 laws.columns in
     let rows : Rows a laws coded (Some info) (range_with_len 0 conf.rows) done.lines = subst (λ i. Rows a laws coded i (range_with_len 0 conf.rows) done.lines) says done.parts in
     record {

@@ -200,10 +200,11 @@ module _ (a : Accepted) (coded : ℕ → List ℕ) where
       ((f ≡ fault.BadStart) × (Codes (coded n) [] → ⊥) × (steps ≡ []))
       ⊎ ((f ≡ fault.NotKey) × RefusesKey (coded n) a.table n × (steps ≡ no_key))
       ⊎ ((g : SliceFault) × (more : List Step)
-      × RefusesHead (coded n) a.table a.configuration n g more × (f ≡ of_slice g)
+      × RefusesHead (coded n) a.table a.profile a.configuration n g more × (f ≡ of_slice g)
       × (steps ≡ key_steps n ++ shifted 1 more))
-      ⊎ ((h : SliceHead) × (first : Said) × CodesHead (coded n) a.table a.configuration n h
-      × (info ≡ Some first) × (said_by h ≢ first) × (f ≡ fault.InfoDiffers)
+      ⊎ ((h : SliceHead) × (first : Said)
+      × CodesHead (coded n) a.table a.profile a.configuration n h
+      × (info ≡ Some first) × (said_by a.profile h ≢ first) × (f ≡ fault.InfoDiffers)
       × (steps ≡ key_steps n ++ head_steps a.configuration n h))
 
   -- what is known once slice n is opened
@@ -218,9 +219,9 @@ module _ (a : Accepted) (coded : ℕ → List ℕ) where
   abbrev pub StepsBy : State → Event → State → Type 0
   StepsBy s (Open r k) t =
       let n = slice_number a.configuration r k in
-      (h : SliceHead) × CodesHead (coded n) a.table a.configuration n h
-      × AgreesWith s.info (said_by h)
-      × (t ≡ put_slice (record s { info = Some (said_by h) }) k (opened n h))
+      (h : SliceHead) × CodesHead (coded n) a.table a.profile a.configuration n h
+      × AgreesWith s.info (said_by a.profile h)
+      × (t ≡ put_slice (record s { info = Some (said_by a.profile h) }) k (opened n h))
   StepsBy s (Read r k p y) t =
       let q = slice_at s k in
       let width = width_in a.configuration p k in

@@ -19,7 +19,7 @@ cells_of c n q p = cell_of (width_in c p (n % c.columns)) (plane q.cells p)
 -- samples of these lines
 pub record CodesRead (a : Accepted) (coded : ℕ → List ℕ) (n : ℕ) (q : Slice) (read : List Line)
     : Type 0 where
-  pub is_head : IsHead a.configuration q.head
+  pub is_head : IsHead a.profile a.configuration q.head
   pub body : List Step
   pub is_body : IsBody a.configuration q.head (cells_of a.configuration n q) read body
   pub past : q.past ≡ key_steps n ++ (head_steps a.configuration n q.head ++ body)

@@ -44,7 +44,7 @@ pub record Begun (a : Accepted) (old new : Reading) (steps : List Step) : Type 0
 
 -- it read the key and the head
 pub record HeadRead (a : Accepted) (n : ℕ) (old new : Reading) (h : SliceHead) : Type 0 where
-  pub codes : CodesHead old.bytes a.table a.configuration n h
+  pub codes : CodesHead old.bytes a.table a.profile a.configuration n h
   pub begun : Begun a old new (key_steps n ++ head_steps a.configuration n h)
 
 -- or was refused in them
@@ -52,7 +52,7 @@ pub record HeadRefused (a : Accepted) (n : ℕ) (old new : Reading) (f : CodecFa
   pub steps : List Step
   pub why : ((f ≡ of_slice slice.NotKey) × RefusesKey old.bytes a.table n × (steps ≡ no_key))
       ⊎ ((g : SliceFault) × (more : List Step)
-      × RefusesHead old.bytes a.table a.configuration n g more × (f ≡ of_slice g)
+      × RefusesHead old.bytes a.table a.profile a.configuration n g more × (f ≡ of_slice g)
       × (steps ≡ key_steps n ++ shifted 1 more))
   pub begun : Begun a old new steps
 
@@ -60,9 +60,9 @@ pub record HeadRefused (a : Accepted) (n : ℕ) (old new : Reading) (f : CodecFa
 pub record ColumnOpened (a : Accepted) (coded : ℕ → List ℕ) (payload : List ℕ) (n : ℕ)
     (column : Column) (old new : Option Said) : Type 0 where
   pub head : SliceHead
-  pub codes : CodesHead (coded n) a.table a.configuration n head
-  pub agrees : AgreesWith old (said_by head)
-  pub says : new ≡ Some (said_by head)
+  pub codes : CodesHead (coded n) a.table a.profile a.configuration n head
+  pub agrees : AgreesWith old (said_by a.profile head)
+  pub says : new ≡ Some (said_by a.profile head)
   pub bytes_are : bytes_in payload column ≡ coded n
   pub indexes : column.indexes ≡ head.indexes
   pub stands : (slots : ℕ) → Stands (coded n) a.table 33 column.parked (replicate slots 128)

@@ -14,9 +14,10 @@ use Rattle.ffv1_line.specs.Cell.{Cell}
 use Rattle.ffv1_line.specs.Row.{AreSuiting, row_steps, chosen_row}
 use Rattle.ffv1_record.specs.Configuration.{Configuration, is_rct}
 use Rattle.ffv1_record.specs.Sets.{most_contexts}
+use Rattle.ffv1_record.specs.declared.config.Profile.{Profile}
 use Rattle.ffv1_record.specs.Accepted.{Accepted}
 use Rattle.ffv1_slice.specs.declared.head.SliceHead.{SliceHead}
-use Rattle.ffv1_slice.specs.Head.{IsHead, key_steps, head_steps}
+use Rattle.ffv1_slice.specs.Head.{IsHead, key_steps, head_steps, aspect_of}
 use Rattle.ffv1_codec.specs.Picture.{Planes, plane_count, cell_in, cell_height}
 
 -- no set
@@ -95,15 +96,28 @@ pub record Said : Type 0 where
   pub sar_num : ℕ
   pub sar_den : ℕ
 
-abbrev pub said_by : SliceHead → Said
-said_by h = record { structure = h.structure; sar_num = h.sar_num; sar_den = h.sar_den }
+-- the aspect that two numbers say in a profile, and 0 and 0, unknown, where they say none
+abbrev pub aspect_or_unknown : Option (ℕ × ℕ) → ℕ × ℕ
+aspect_or_unknown None = (0, 0)
+aspect_or_unknown (Some aspect) = aspect
+
+unfoldable pub said_aspect : Profile → ℕ → ℕ → ℕ × ℕ
+said_aspect p num den = aspect_or_unknown (aspect_of p num den)
+
+-- what a head says in a profile
+abbrev pub said_by : Profile → SliceHead → Said
+said_by p h = record {
+  structure = h.structure;
+  sar_num = (said_aspect p h.sar_num h.sar_den).0;
+  sar_den = (said_aspect p h.sar_num h.sar_den).1;
+}
 
 -- the bytes code slice n of a picture: its key, a head that says this, and its samples
 pub record CodesSlice (bytes : List ℕ) (a : Accepted) (planes : Planes) (info : Said) (n : ℕ)
     : Type 0 where
   pub head : SliceHead
-  pub is_head : IsHead a.configuration head
-  pub says : said_by head ≡ info
+  pub is_head : IsHead a.profile a.configuration head
+  pub says : said_by a.profile head ≡ info
   pub body : List Step
   pub is_body : IsBody a.configuration head (cell_in a.configuration planes n)
       (lines_in a.configuration n) body

@@ -3,6 +3,7 @@ use Rattle.std.specs.Prelude.{ℕ, Bool, true, [], ◌∷◌}
 use Rattle.ffv1_range.specs.Standard.{standard}
 use Rattle.ffv1_plane.specs.Quantisation.{small_set}
 use Rattle.ffv1_record.specs.declared.config.Colour.{Colour}
+use Rattle.ffv1_record.specs.declared.config.Profile.TheVariants as profile
 use Rattle.ffv1_record.specs.declared.config.Coder.TheVariants as coder
 use Rattle.ffv1_record.specs.Accepted.{Accepted}
 use Rattle.ffv1_codec.specs.SliceList.{Said}
@@ -26,6 +27,7 @@ small_pictures colour chroma extra width height columns ec = record {
     intra = true;
   };
   table = standard;
+  profile = profile.Strict;
 }
 
 -- nothing is known of structure and aspect

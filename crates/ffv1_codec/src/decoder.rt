@@ -163,9 +163,9 @@ fn cut_payload<A: Allocator, B: Allocator>(
 }
 
 impl<A: Allocator + Copy> FrameDecoder<A> {
-    /// A decoder of pictures of this configuration. All the memory that it ever takes is taken
-    /// here, in five vectors as long as `Checked::held` says, whatever the pictures' height.
-    /// Answers `OutOfMemory` where one of them was refused.
+    /// A decoder of pictures of this configuration, in its profile. All the memory that it ever
+    /// takes is taken here, in five vectors as long as `Checked::held` says, whatever the pictures'
+    /// height. Answers `OutOfMemory` where one of them was refused.
     pub fn new(alloc: A, checked: Checked<A>) -> Result<FrameDecoder<A>, CodecFault>
         ensures ok { IfOk result (λ d. d ≡ record {
           accepted = checked;
@@ -251,6 +251,9 @@ impl<A: Allocator> FrameDecoder<A> {
     /// where a slice is opened, `SymbolTooLong` in a sample, `Colour` in a line that was read, and
     /// `Sink` exactly where the sink refused the line that came next. The sink then has the lines
     /// before it and nothing is decided behind it; the decoder is ready for the next frame.
+    ///
+    /// Heads are read in the profile of the configuration: at `Wide` an aspect of which just one
+    /// number is 0 says what 0:0 says, that it is unknown.
     ///
     /// With parity, a payload that differs from a good one within 32 neighbouring bits of one
     /// slice, its slice_size aside, is `SliceParity` in that slice, before any line.

@@ -34,7 +34,7 @@ pub enum CodecFault {
     /// The picture structure is above 3.
     #[error("33 Structure")]
     Structure,
-    /// A number of the sample aspect is above 65535, or one of them is zero alone.
+    /// A number of the sample aspect is above 65535, or at `Strict` one of them is zero alone.
     #[error("34 Aspect")]
     Aspect,
     /// Going from the end, fewer bytes are left than a footer, or fewer before the footer than its
@@ -53,7 +53,7 @@ pub enum CodecFault {
     /// A slice's coded bytes pass 16777215.
     #[error("40 SliceTooLong")]
     SliceTooLong,
-    /// A slice's structure or aspect differ from the first slice's.
+    /// A slice says another structure or aspect than the first slice.
     #[error("41 InfoDiffers")]
     InfoDiffers,
     /// The sink refused a line.

@@ -49,7 +49,7 @@ pub fn sides()
 /// residuals that suit the samples of its slice.
 pub fn chosen_slices()
     ensures head { (a : Accepted) (info : Said) → IsAccepted a.configuration a.table →
-        IsSaid info → IsHead a.configuration (chosen_head a.configuration info) }
+        IsSaid info → IsHead a.profile a.configuration (chosen_head a.configuration info) }
     ensures body { (a : Accepted) (planes : Planes) (info : Said) (n : ℕ) →
         IsAccepted a.configuration a.table → IsPicture a.configuration planes →
         IsBody a.configuration (chosen_head a.configuration info)

@@ -9,7 +9,7 @@ ghost use Rattle.ffv1_slice.specs.Coding.{IsSlice};
 ghost use Rattle.ffv1_slice.specs.Head.{IsHead};
 ghost use Rattle.ffv1_codec.specs.declared.fault.CodecFault.TheVariants as fault;
 ghost use Rattle.ffv1_codec.specs.SliceList.{Said, said_by};
-ghost use Rattle.ffv1_codec.specs.Frame.{IsSaid};
+ghost use Rattle.ffv1_record.specs.declared.config.Profile.{Profile};
 ghost use Rattle.ffv1_codec.specs.Decoding.{State, AgreesWith, of_slice, slice_at};
 ghost use Rattle.ffv1_codec.specs.Decoding.{unread};
 ghost use Rattle.ffv1_codec.specs.Tied.{IsFrame, IsOpen, AreOpen, AreTold, column_at};
@@ -60,7 +60,7 @@ fn read_head<A: Allocator>(
     requires begins { At decoder.old start }
     requires counts { decoder.old.counts ≡ uncounted }
     ensures ok { IfOk result (HeadRead checked.now slice decoder.old decoder.new) }
-    ensures head { IfOk result (IsHead checked.now.configuration) }
+    ensures head { IfOk result (IsHead checked.now.profile checked.now.configuration) }
     ensures err { IfErr result (HeadRefused checked.now slice decoder.old decoder.new) }
     ensures own { IfErr result (λ f. f ≢ fault.Sink) }
 {
@@ -75,22 +75,31 @@ fn read_head<A: Allocator>(
     }
 }
 
-/// Whether a head says what the first one said, which it is if there was none.
-fn agrees(first: &mut Option<Info>, head: &SliceHead) -> bool
-    requires { IsSaid (said_by head.now) }
-    ensures yes { IsTrue result → AgreesWith first.old (said_by head.now)
-        × (first.new ≡ Some (said_by head.now)) }
-    ensures no { IsFalse result → (s : Said) × (first.old ≡ Some s) × (said_by head.now ≢ s) }
+/// What a head says, in whichever profile it is one.
+fn said(head: &SliceHead) -> Info
+    requires { head.now.structure < 4 }
+    ensures { (p : Profile) → result ≡ said_by p head.now }
+{
+    if (head.sar_num == 0) != (head.sar_den == 0) {
+        return Info::new(head.structure, 0, 0).unwrap();
+    }
+    Info::new(head.structure, head.sar_num, head.sar_den).unwrap()
+}
+
+/// Whether this was said first, which it is if nothing was.
+fn agrees(first: &mut Option<Info>, info: Info) -> bool
+    ensures yes { IsTrue result → AgreesWith first.old info × (first.new ≡ Some info) }
+    ensures no { IsFalse result → (s : Said) × (first.old ≡ Some s) × (info ≢ s) }
 {
     match *first {
         None => {
-            *first = Info::new(head.structure, head.sar_num, head.sar_den);
+            *first = Some(info);
             true
         }
-        Some(info) => {
-            info.structure() == head.structure
-                && info.sar_num() == head.sar_num
-                && info.sar_den() == head.sar_den
+        Some(before) => {
+            before.structure() == info.structure()
+                && before.sar_num() == info.sar_num()
+                && before.sar_den() == info.sar_den()
         }
     }
 }
@@ -131,7 +140,7 @@ fn open_column<A: Allocator, B: Allocator>(
     column.first = begin;
     column.last = end;
     column.indexes = head.indexes;
-    if agrees(first, &head) {
+    if agrees(first, said(&head)) {
         return Ok(());
     }
     Err(CodecFault::InfoDiffers)

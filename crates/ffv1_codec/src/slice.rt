@@ -67,7 +67,8 @@ impl<'a, A: Allocator, B: Allocator> Slice<'a, A, B> {
     pub(crate) fn head(&self) -> SliceHead
         ensures value { result ≡
             chosen_head self.now.checked.now.configuration self.now.info }
-        ensures head { IsHead self.now.checked.now.configuration result }
+        ensures head { IsHead self.now.checked.now.profile
+            self.now.checked.now.configuration result }
     {
         accepted();
         chosen_slices();

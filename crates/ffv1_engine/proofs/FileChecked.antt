@@ -8,11 +8,16 @@ use Rattle.ffv1_wire.specs.Failures.{one_more}
 use Rattle.ffv1_wire.specs.Passage.{between}
 use Rattle.ffv1_record.specs.Accepted.{Accepted}
 use Rattle.ffv1_record.specs.Configuration.{Configuration}
+use Rattle.ffv1_avi.specs.declared.place.Extent.TheVariants.{FirstMovi}
+use Rattle.ffv1_avi.specs.declared.place.Place.{Place}
 use Rattle.ffv1_avi.specs.Chunks.{AviFile}
 use Rattle.ffv1_avi.specs.Files.{file_read, frame_read, frames_read, more_frames}
 use Rattle.ffv1_avi.specs.Head.{Head}
 use Rattle.ffv1_avi.specs.Readers.{Standing}
 use Rattle.ffv1_avi.specs.Reads as avi
+use Rattle.ffv1_engine.specs.declared.profile.Profile.{Profile}
+use Rattle.ffv1_engine.specs.Profiles.{extent_in}
+use Rattle.ffv1_engine.specs.declared.profile.Profile.TheVariants.{Strict, Wide}
 use Rattle.ffv1_engine.specs.declared.fault.Fault.{Fault}
 use Rattle.ffv1_engine.specs.declared.fault.Fault.TheVariants as fault
 use Rattle.ffv1_engine.specs.declared.frame_line.FrameLine.TheVariants as line
@@ -23,8 +28,8 @@ use Rattle.ffv1_engine.specs.FrameLines.{frame_line, frame_lines, lines_from}
 use Rattle.ffv1_engine.specs.Opens.{LacksOpeningBy, OpensKnown, OpensStream, stream_of}
 use Rattle.ffv1_engine.specs.Play.{BeginsSome, End, EndsKnown, Played, but_last}
 use Rattle.ffv1_engine.specs.Play.End.{File, Payload, Over}
-use Rattle.ffv1_engine.specs.Stream.{AreFrames, BeginsKnown, Frame, ReadsFile, ReadsFrames, Stream, payloads}
-use Rattle.ffv1_engine.specs.Told.{EndsMovi, LineFails, PayloadStops, ReadsKnown, ReadsSome, TellingStops, TellingStopsBy, ToldAll, ToldSome, WritesFrame}
+use Rattle.ffv1_engine.specs.Stream.{AreFrames, BeginsKnown, Frame, IsRead, ReadsFile, ReadsFrames, Stream, payloads}
+use Rattle.ffv1_engine.specs.Told.{EndsFrom, LineFails, PayloadStops, ReadsKnown, ReadsSome, TellingStops, TellingStopsBy, ToldAll, ToldSome, WritesFrame}
 use Rattle.ffv1_engine.proofs.FramesTold.{take_past}
 
 fewer_lines : (c : Configuration) (i : ℕ) (frames : List Frame) → length (lines_from line.Sizes c i (but_last frames)) ≤ length (lines_from line.Sizes c i frames)
@@ -46,40 +51,40 @@ positive [] none = absurd (none refl)
 positive (f ∷ fs) none = omega arith
 
 -- behind the head frames begin, or end, as they do in movi
-pub begins_some : (old mid : Option (List ℕ)) (s : Stream) (left : ℕ) (frames : List Frame) → OpensKnown old mid s.head left → ReadsSome left mid frames → BeginsSome old s frames
-begins_some None mid s left frames opens reads = tt
-begins_some (Some file) None s left frames opens reads = absurd opens
-begins_some (Some file) (Some behind) s left frames opens reads = (reads.0, reads.1, record { most = left; behind = behind; opened = opens; read = reads.2 })
+pub begins_some : (profile : Profile) (old mid : Option (List ℕ)) (s : Stream) (from : Place) (frames : List Frame) → OpensKnown profile old mid s.head from → ReadsSome from mid frames → BeginsSome profile old s frames
+begins_some profile None mid s from frames opens reads = tt
+begins_some profile (Some file) None s from frames opens reads = absurd opens
+begins_some profile (Some file) (Some behind) s from frames opens reads = (reads.0, reads.1, record { from = from; behind = behind; opened = opens; read = reads.2 })
 
-pub begins_known : (old mid new : Option (List ℕ)) (s : Stream) (left least : ℕ) (frames : List Frame) → OpensKnown old mid s.head left → ReadsKnown left mid new frames least → BeginsKnown old new s frames
-begins_known None mid new s left least frames opens reads = tt
-begins_known (Some file) None new s left least frames opens reads = absurd opens
-begins_known (Some file) (Some behind) None s left least frames opens reads = absurd reads
-begins_known (Some file) (Some behind) (Some rest) s left least frames opens reads = (least, record { most = left; behind = behind; opened = opens; read = reads })
+pub begins_known : (profile : Profile) (old mid new : Option (List ℕ)) (s : Stream) (from to : Place) (frames : List Frame) → OpensKnown profile old mid s.head from → ReadsKnown from mid new frames to → BeginsKnown profile old new s frames
+begins_known profile None mid new s from to frames opens reads = tt
+begins_known profile (Some file) None new s from to frames opens reads = absurd opens
+begins_known profile (Some file) (Some behind) None s from to frames opens reads = absurd reads
+begins_known profile (Some file) (Some behind) (Some rest) s from to frames opens reads = (to, record { from = from; behind = behind; opened = opens; read = reads })
 
-pub ends_known : (old mid new : Option (List ℕ)) (s : Stream) (left : ℕ) (frames : List Frame) (e : End) → OpensKnown old mid s.head left → EndsMovi left mid new frames e → EndsKnown old new s frames e
-ends_known None mid new s left frames e opens ends = tt
-ends_known (Some file) None new s left frames e opens ends = absurd opens
-ends_known (Some file) (Some behind) None s left frames e opens ends = absurd ends
-ends_known (Some file) (Some behind) (Some rest) s left frames e opens ends =
-    (ends.0, ends.1, record { most = left; behind = behind; opened = opens; read = ends.2 }, ends.3)
+pub ends_known : (profile : Profile) (old mid new : Option (List ℕ)) (s : Stream) (from : Place) (frames : List Frame) (e : End) → OpensKnown profile old mid s.head from → EndsFrom from mid new frames e → EndsKnown profile old new s frames e
+ends_known profile None mid new s from frames e opens ends = tt
+ends_known profile (Some file) None new s from frames e opens ends = absurd opens
+ends_known profile (Some file) (Some behind) None s from frames e opens ends = absurd ends
+ends_known profile (Some file) (Some behind) (Some rest) s from frames e opens ends =
+    (ends.0, ends.1, record { from = from; behind = behind; opened = opens; read = ends.2 }, ends.3)
 
-pub some_of_end : (left : ℕ) (old new : Option (List ℕ)) (frames : List Frame) (e : End) → EndsMovi left old new frames e → ReadsSome left old frames
-some_of_end left None new frames e ends = tt
-some_of_end left (Some text) None frames e ends = absurd ends
-some_of_end left (Some text) (Some rest) frames e ends = (ends.0, ends.1, ends.2)
+pub some_of_end : (from : Place) (old new : Option (List ℕ)) (frames : List Frame) (e : End) → EndsFrom from old new frames e → ReadsSome from old frames
+some_of_end from None new frames e ends = tt
+some_of_end from (Some text) None frames e ends = absurd ends
+some_of_end from (Some text) (Some rest) frames e ends = (ends.0, ends.1, ends.2)
 
-module _ (next : (left : ℕ) (text : List ℕ) → frames_read left text ≡ avi.read_on (frame_read left text) (more_frames frames_read))
-    (is_file : (file : List ℕ) (head : Head) (frames : List (List ℕ)) (rest : List ℕ) → file_read file ≡ Ok ((head, frames), rest) → AviFile file head frames)
-    (is_read : (file : List ℕ) (head : Head) (frames : List (List ℕ)) (is : AviFile file head frames) → file_read file ≡ Ok ((head, frames), is.rest)) where
-  all_read : (left : ℕ) (text : List ℕ) (frames : List Frame) (least : ℕ) (at rest : List ℕ) → ReadsFrames left text (payloads frames) least at → frame_read least at ≡ Ok (None, rest) →
-      frames_read left text ≡ Ok (payloads frames, rest)
-  all_read left text [] least at rest h over =
-      let here : frame_read left text ≡ Ok (None, rest) = subst (λ l. frame_read l text ≡ Ok (None, rest)) h.0 (subst (λ t. frame_read least t ≡ Ok (None, rest)) h.1 over) in
-      next left text ∙ ap (λ z. avi.read_on z (more_frames frames_read)) here
-  all_read left text (f ∷ fs) least at rest h over =
-      next left text ∙ ap (λ z. avi.read_on z (more_frames frames_read)) h.2
-      ∙ ap (λ z. avi.read_on z (λ frames. avi.given (f.payload ∷ frames))) (all_read h.0 h.1 fs least at rest h.3 over)
+module _ (next : (place : Place) (text : List ℕ) → frames_read place text ≡ avi.read_on (frame_read place text) (more_frames frames_read))
+    (is_file : (file : List ℕ) (head : Head) (frames : List (List ℕ)) (rest : List ℕ) → file_read FirstMovi file ≡ Ok ((head, frames), rest) → AviFile file head frames)
+    (is_read : (file : List ℕ) (head : Head) (frames : List (List ℕ)) (is : AviFile file head frames) → file_read FirstMovi file ≡ Ok ((head, frames), is.rest)) where
+  all_read : (from : Place) (text : List ℕ) (frames : List Frame) (to : Place) (at rest : List ℕ) → ReadsFrames from text (payloads frames) to at → frame_read to at ≡ Ok (None, rest) →
+      frames_read from text ≡ Ok (payloads frames, rest)
+  all_read from text [] to at rest h over =
+      let here : frame_read from text ≡ Ok (None, rest) = subst (λ l. frame_read l text ≡ Ok (None, rest)) h.0 (subst (λ t. frame_read to t ≡ Ok (None, rest)) h.1 over) in
+      next from text ∙ ap (λ z. avi.read_on z (more_frames frames_read)) here
+  all_read from text (f ∷ fs) to at rest h over =
+      next from text ∙ ap (λ z. avi.read_on z (more_frames frames_read)) h.2
+      ∙ ap (λ z. avi.read_on z (λ frames. avi.given (f.payload ∷ frames))) (all_read h.0 h.1 fs to at rest h.3 over)
 
   same_pair : {X : Type 0} (p q : X × List ℕ) (r : Result (X × List ℕ) avi.Stop) → r ≡ Ok p → r ≡ Ok q → p ≡ q
   same_pair p q r e f = cc
@@ -87,33 +92,39 @@ module _ (next : (left : ℕ) (text : List ℕ) → frames_read left text ≡ av
   same_rest : {X : Type 0} (x y : X) (rest more : List ℕ) (r : Result (X × List ℕ) avi.Stop) → r ≡ Ok (x, rest) → r ≡ Ok (y, more) → rest ≡ more
   same_rest {X = X} x y rest more r e f = ap (λ (z : X × List ℕ). z.1) (same_pair (x, rest) (y, more) r e f)
 
-  pub reads_file : (old mid new : Option (List ℕ)) (s : Stream) (left : ℕ) (frames : List Frame) → OpensKnown old mid s.head left → EndsMovi left mid new frames Over → ReadsFile old new s frames
-  reads_file None mid new s left frames opens ends = tt
-  reads_file (Some file) None new s left frames opens ends = absurd opens
-  reads_file (Some file) (Some behind) None s left frames opens ends = absurd ends
-  reads_file (Some file) (Some behind) (Some rest) s left frames opens ends =
-      let movi = all_read left behind frames ends.0 ends.1 rest ends.2 ends.3 in
-      let whole : file_read file ≡ Ok ((s.head, payloads frames), rest) =
-      ap (λ z. avi.read_on z (λ (p : Head × ℕ) (text : List ℕ). avi.read_on (frames_read p.1 text) (λ frames. avi.given (p.0, frames)))) opens ∙ ap (λ z. avi.read_on z (λ frames. avi.given (s.head, frames))) movi in
+  whole_read : (profile : Profile) (file rest : List ℕ) (s : Stream) (frames : List Frame) → file_read (extent_in profile) file ≡ Ok ((s.head, payloads frames), rest) → IsRead profile file rest s frames
+  whole_read Strict file rest s frames whole =
       let is = is_file file s.head (payloads frames) rest whole in
-      (is, same_rest (s.head, payloads frames) (s.head, payloads frames) rest is.rest (file_read file) whole (is_read file s.head (payloads frames) is))
+      (is, same_rest (s.head, payloads frames) (s.head, payloads frames) rest is.rest (file_read FirstMovi file) whole (is_read file s.head (payloads frames) is))
+  whole_read Wide file rest s frames whole = whole
 
-module _ (place : Bool) (i0 i1 i2 o0 o1 o2 : Option (List ℕ)) (ib im ia ob om oa : ℕ) where
+  pub reads_file : (profile : Profile) (old mid new : Option (List ℕ)) (s : Stream) (from : Place) (frames : List Frame) → OpensKnown profile old mid s.head from → EndsFrom from mid new frames Over →
+      ReadsFile profile old new s frames
+  reads_file profile None mid new s from frames opens ends = tt
+  reads_file profile (Some file) None new s from frames opens ends = absurd opens
+  reads_file profile (Some file) (Some behind) None s from frames opens ends = absurd ends
+  reads_file profile (Some file) (Some behind) (Some rest) s from frames opens ends =
+      let frames_are = all_read from behind frames ends.0 ends.1 rest ends.2 ends.3 in
+      whole_read profile file rest s frames
+      (ap (λ z. avi.read_on z (λ (p : Head × Place) (text : List ℕ). avi.read_on (frames_read p.1 text) (λ frames. avi.given (p.0, frames)))) opens
+      ∙ ap (λ z. avi.read_on z (λ frames. avi.given (s.head, frames))) frames_are)
+
+module _ (profile : Profile) (place : Bool) (i0 i1 i2 o0 o1 o2 : Option (List ℕ)) (ib im ia ob om oa : ℕ) where
   -- a file that is not opened
-  pub lacks_opening : (f : Fault) (why : Cause) → LacksOpeningBy (between i0 i1 ib im) f why → CheckStopsBy place (between i0 i1 ib im) (between o0 o0 ob ob) f why
+  pub lacks_opening : (f : Fault) (why : Cause) → LacksOpeningBy profile (between i0 i1 ib im) f why → CheckStopsBy profile place (between i0 i1 ib im) (between o0 o0 ob ob) f why
   lacks_opening f Writing h = absurd h
   lacks_opening f Reading h = (inl (record { written = refl; none = Keeps-refl o0 }), h)
   lacks_opening f Memory h = (inl (record { written = refl; none = Keeps-refl o0 }), h)
   lacks_opening f Content h = (h.0, inl (record { written = refl; none = Keeps-refl o0 }, h.1))
 
-  module _ (r : Standing) (a : Accepted) (opens : OpensStream r a (between i0 i1 ib im)) where
-    played : (frames : List Frame) → AreFrames a frames → Played (stream_of r a) frames
+  module _ (r : Standing) (a : Accepted) (opens : OpensStream profile r a (between i0 i1 ib im)) where
+    played : (frames : List Frame) → AreFrames a frames → Played profile (stream_of r a) frames
     played frames are = record { stream = opens.stream; decoded = are }
 
-    some : (frames : List Frame) → ToldSome line.Sizes place a r.left (between i1 i2 im ia) (between o0 o1 ob om) frames → ChecksSome place (between i0 i2 ib ia) (between o0 o1 ob om) (stream_of r a) frames
+    some : (frames : List Frame) → ToldSome line.Sizes place a r.place (between i1 i2 im ia) (between o0 o1 ob om) frames → ChecksSome profile place (between i0 i2 ib ia) (between o0 o1 ob om) (stream_of r a) frames
     some frames told = record {
       played = played frames told.are;
-      begins = begins_some i0 i1 (stream_of r a) r.left frames opens.known told.begins;
+      begins = begins_some profile i0 i1 (stream_of r a) r.place frames opens.known told.begins;
       written = told.written;
       writes = told.writes;
     }
@@ -125,7 +136,7 @@ module _ (place : Bool) (i0 i1 i2 o0 o1 o2 : Option (List ℕ)) (ib im ia ob om 
         let most : k ≤ length (frame_lines line.Sizes a.configuration frames) = omega (arith, short) in
         sym (take-append-le k (frame_lines line.Sizes a.configuration frames) (count_line (saturated (length frames))) most)
 
-    line_fails : (frames : List Frame) → LineFails line.Sizes place a r.left (between i1 i2 im ia) (between o0 o1 ob om) frames → CheckLineFails place (between i0 i2 ib ia) (between o0 o1 ob om)
+    line_fails : (frames : List Frame) → LineFails line.Sizes place a r.place (between i1 i2 im ia) (between o0 o1 ob om) frames → CheckLineFails profile place (between i0 i2 ib ia) (between o0 o1 ob om)
     line_fails frames h =
         let lines = frame_lines line.Sizes a.configuration frames in
         let long : length (lines ++ count_line (saturated (length frames))) ≡ length lines + length (count_line (saturated (length frames))) = length-append lines (count_line (saturated (length frames))) in
@@ -133,7 +144,7 @@ module _ (place : Bool) (i0 i1 i2 o0 o1 o2 : Option (List ℕ)) (ib im ia ob om 
           stream = stream_of r a;
           frames = frames;
           played = played frames h.are;
-          begins = begins_some i0 i1 (stream_of r a) r.left frames opens.known h.begins;
+          begins = begins_some profile i0 i1 (stream_of r a) r.place frames opens.known h.begins;
           kept = h.kept ∙ opens.kept;
           written = h.written;
           writes = record {
@@ -144,7 +155,7 @@ module _ (place : Bool) (i0 i1 i2 o0 o1 o2 : Option (List ℕ)) (ib im ia ob om 
           };
         }
 
-    stops_by : (f : Fault) (why : Cause) → TellingStopsBy line.Sizes place a r.left (between i1 i2 im ia) (between o0 o1 ob om) f why → CheckStopsBy place (between i0 i2 ib ia) (between o0 o1 ob om) f why
+    stops_by : (f : Fault) (why : Cause) → TellingStopsBy line.Sizes place a r.place (between i1 i2 im ia) (between o0 o1 ob om) f why → CheckStopsBy profile place (between i0 i2 ib ia) (between o0 o1 ob om) f why
     stops_by f Writing h = line_fails h.0 h.1
     stops_by f Reading h = (inr (stream_of r a, h.0, some h.0 h.1), h.2 ∙ ap one_more opens.kept)
     stops_by f Memory h = (inr (stream_of r a, h.0, some h.0 h.1), h.2 ∙ opens.kept)
@@ -156,12 +167,12 @@ module _ (place : Bool) (i0 i1 i2 o0 o1 o2 : Option (List ℕ)) (ib im ia ob om 
         end = File f;
         file = tt;
         checks = some h.0 h.1;
-        ends = ends_known i0 i1 i2 (stream_of r a) r.left h.0 (File f) opens.known h.3;
+        ends = ends_known profile i0 i1 i2 (stream_of r a) r.place h.0 (File f) opens.known h.3;
         is = refl;
       }),
     )
 
-    payload_stops : (f : Fault) → PayloadStops line.Sizes place a r.left (between i1 i2 im ia) (between o0 o1 ob om) f → CheckPayload place (between i0 i2 ib ia) (between o0 o1 ob om) f
+    payload_stops : (f : Fault) → PayloadStops line.Sizes place a r.place (between i1 i2 im ia) (between o0 o1 ob om) f → CheckPayload profile place (between i0 i2 ib ia) (between o0 o1 ob om) f
     payload_stops f h = record {
       stream = stream_of r a;
       frames = h.frames;
@@ -169,29 +180,29 @@ module _ (place : Bool) (i0 i1 i2 o0 o1 o2 : Option (List ℕ)) (ib im ia ob om 
       fault = h.fault;
       tally = h.tally;
       played = played h.frames h.are;
-      ends = ends_known i0 i1 i2 (stream_of r a) r.left h.frames (Payload h.payload h.fault h.tally) opens.known h.ends;
+      ends = ends_known profile i0 i1 i2 (stream_of r a) r.place h.frames (Payload h.payload h.fault h.tally) opens.known h.ends;
       faulty = h.faulty;
       is = h.is;
       kept = h.kept ∙ opens.kept;
       writes = h.writes;
     }
 
-    pub telling_stops : (f : Fault) → TellingStops line.Sizes place a r.left (between i1 i2 im ia) (between o0 o1 ob om) f → CheckStops place (between i0 i2 ib ia) (between o0 o1 ob om) f
+    pub telling_stops : (f : Fault) → TellingStops line.Sizes place a r.place (between i1 i2 im ia) (between o0 o1 ob om) f → CheckStops profile place (between i0 i2 ib ia) (between o0 o1 ob om) f
     telling_stops f h = elim h [
       | inl payload ↦ inl (payload_stops f payload)
       | inr other ↦ inr (stops_by f (cause_of f) other)
     ]
 
-    module _ (frames : List Frame) (count : ℕ) (is : count ≡ saturated (length frames)) (told : ToldAll line.Sizes place a r.left (between i1 i2 im ia) (between o0 o1 ob om) frames) where
-      all_some : ChecksSome place (between i0 i2 ib ia) (between o0 o1 ob om) (stream_of r a) frames
+    module _ (frames : List Frame) (count : ℕ) (is : count ≡ saturated (length frames)) (told : ToldAll line.Sizes place a r.place (between i1 i2 im ia) (between o0 o1 ob om) frames) where
+      all_some : ChecksSome profile place (between i0 i2 ib ia) (between o0 o1 ob om) (stream_of r a) frames
       all_some = record {
         played = played frames told.are;
-        begins = begins_some i0 i1 (stream_of r a) r.left frames opens.known (some_of_end r.left i1 i2 frames Over told.ends);
+        begins = begins_some profile i0 i1 (stream_of r a) r.place frames opens.known (some_of_end r.place i1 i2 frames Over told.ends);
         written = told.written;
         writes = told.writes;
       }
 
-      pub no_frames : count ≡ 0 → CheckStops place (between i0 i2 ib ia) (between o0 o1 ob om) fault.NoFrames
+      pub no_frames : count ≡ 0 → CheckStops profile place (between i0 i2 ib ia) (between o0 o1 ob om) fault.NoFrames
       no_frames none = inr (
         told.kept ∙ opens.kept,
         inr (record {
@@ -200,12 +211,12 @@ module _ (place : Bool) (i0 i1 i2 o0 o1 o2 : Option (List ℕ)) (ib im ia ob om 
           end = Over;
           file = tt;
           checks = all_some;
-          ends = ends_known i0 i1 i2 (stream_of r a) r.left frames Over opens.known told.ends;
+          ends = ends_known profile i0 i1 i2 (stream_of r a) r.place frames Over opens.known told.ends;
           is = (no_frame frames (let few : length frames ≡ 0 = omega (arith, is, none) in few), refl);
         }),
       )
 
-      pub done : (count ≡ 0 → ⊥) → ReadsFile i0 i2 (stream_of r a) frames → oa ≡ om → Appends o1 o2 (count_line count) → CheckDone place (between i0 i2 ib ia) (between o0 o2 ob oa)
+      pub done : (count ≡ 0 → ⊥) → ReadsFile profile i0 i2 (stream_of r a) frames → oa ≡ om → Appends o1 o2 (count_line count) → CheckDone profile place (between i0 i2 ib ia) (between o0 o2 ob oa)
       done some_frames reads kept writes = record {
         stream = stream_of r a;
         frames = frames;
@@ -219,7 +230,7 @@ module _ (place : Bool) (i0 i1 i2 o0 o1 o2 : Option (List ℕ)) (ib im ia ob om 
             (Appends-trans o0 o1 o2 (frame_lines line.Sizes a.configuration frames) (count_line count) told.writes writes);
       }
 
-      count_fails : (k : ℕ) → k < length (count_line count) → oa ≡ one_more om → Appends o1 o2 (take k (count_line count)) → CheckLineFails place (between i0 i2 ib ia) (between o0 o2 ob oa)
+      count_fails : (k : ℕ) → k < length (count_line count) → oa ≡ one_more om → Appends o1 o2 (take k (count_line count)) → CheckLineFails profile place (between i0 i2 ib ia) (between o0 o2 ob oa)
       count_fails k short counted writes =
           let lines = frame_lines line.Sizes a.configuration frames in
           let long : length (lines ++ count_line count) ≡ length lines + length (count_line count) = length-append lines (count_line count) in
@@ -241,12 +252,12 @@ module _ (place : Bool) (i0 i1 i2 o0 o1 o2 : Option (List ℕ)) (ib im ia ob om 
             };
           }
 
-      pub count_stops : (f : Fault) → WritesFrame (count_line count) (between o1 o2 om oa) (Err f) → CheckStops place (between i0 i2 ib ia) (between o0 o2 ob oa) f
+      pub count_stops : (f : Fault) → WritesFrame (count_line count) (between o1 o2 om oa) (Err f) → CheckStops profile place (between i0 i2 ib ia) (between o0 o2 ob oa) f
       count_stops f h = elim h [
         | inl write ↦
-            inr (subst (λ z. CheckStopsBy place (between i0 i2 ib ia) (between o0 o2 ob oa) z (cause_of z)) (sym write.0) (count_fails write.2.0 write.2.1 write.1 write.2.2))
+            inr (subst (λ z. CheckStopsBy profile place (between i0 i2 ib ia) (between o0 o2 ob oa) z (cause_of z)) (sym write.0) (count_fails write.2.0 write.2.1 write.1 write.2.2))
         | inr none ↦
-            inr (subst (λ z. CheckStopsBy place (between i0 i2 ib ia) (between o0 o2 ob oa) z (cause_of z)) (sym none.0) (
+            inr (subst (λ z. CheckStopsBy profile place (between i0 i2 ib ia) (between o0 o2 ob oa) z (cause_of z)) (sym none.0) (
               inr (
                 stream_of r a,
                 frames,

@@ -5,7 +5,9 @@ use Rattle.std.proofs.KnownBytes.{Appends-nil, Appends-trans, Keeps-refl}
 use Rattle.ffv1_wire.specs.Failures.{one_more}
 use Rattle.ffv1_wire.specs.Passage.{Passage, between}
 use Rattle.ffv1_record.specs.Accepted.{Accepted}
+use Rattle.ffv1_avi.specs.declared.place.Place.{Place}
 use Rattle.ffv1_avi.specs.Readers.{Standing}
+use Rattle.ffv1_engine.specs.declared.profile.Profile.{Profile}
 use Rattle.ffv1_engine.specs.declared.fault.Fault.{Fault}
 use Rattle.ffv1_engine.specs.declared.fault.Fault.TheVariants as fault
 use Rattle.ffv1_engine.specs.declared.frame_line.FrameLine.TheVariants as line
@@ -23,13 +25,13 @@ use Rattle.ffv1_engine.proofs.FileChecked.{begins_some, ends_known, some_of_end}
 use Rattle.ffv1_engine.proofs.FramesTold.{reads_none, reads_some, take_past}
 
 -- where the lines of the stream were not written, it does not matter whether costs were asked for
-pub before_costs : (input output : Passage) (cost : Bool) (f : Fault) → StreamStopsBy input output f (cause_of f) → ShowStops input output cost f
-before_costs input output false f h = h
-before_costs input output true f h = inl h
+pub before_costs : (profile : Profile) (input output : Passage) (cost : Bool) (f : Fault) → StreamStopsBy profile input output f (cause_of f) → ShowStops profile input output cost f
+before_costs profile input output false f h = h
+before_costs profile input output true f h = inl h
 
 -- a decoder that was refused its memory
-pub no_player : (a : Accepted) (left : ℕ) (i o : Option (List ℕ)) (ib ob : ℕ) → TellingStops line.Cost false a left (between i i ib ib) (between o o ob ob) fault.OutOfMemory
-no_player a left i o ib ob = inr ([], record { are = tt; begins = reads_some left left i i [] (reads_none left i); written = refl; writes = Appends-nil o }, refl)
+pub no_player : (a : Accepted) (from : Place) (i o : Option (List ℕ)) (ib ob : ℕ) → TellingStops line.Cost false a from (between i i ib ib) (between o o ob ob) fault.OutOfMemory
+no_player a from i o ib ob = inr ([], record { are = tt; begins = reads_some from from i i [] (reads_none from i); written = refl; writes = Appends-nil o }, refl)
 
 -- an empty line behind others
 nothing_behind : (lines : List ℕ) (p : Passage) → WritesLine lines [] p → (p.after ≡ p.before) × Appends p.old p.new lines
@@ -41,56 +43,56 @@ nothing_behind lines p h = elim h [
   ]
 ]
 
-module _ (i0 i1 o0 o1 : Option (List ℕ)) (ib im ob om : ℕ) where
+module _ (profile : Profile) (i0 i1 o0 o1 : Option (List ℕ)) (ib im ob om : ℕ) where
   -- a file that is not opened
-  pub lacks_stream : (f : Fault) (why : Cause) → LacksOpeningBy (between i0 i1 ib im) f why → StreamStopsBy (between i0 i1 ib im) (between o0 o0 ob ob) f why
+  pub lacks_stream : (f : Fault) (why : Cause) → LacksOpeningBy profile (between i0 i1 ib im) f why → StreamStopsBy profile (between i0 i1 ib im) (between o0 o0 ob ob) f why
   lacks_stream f Writing h = absurd h
   lacks_stream f Reading h = (record { kept = Keeps-refl o0; same = refl }, h)
   lacks_stream f Memory h = (record { kept = Keeps-refl o0; same = refl }, h)
   lacks_stream f Content h = (record { kept = Keeps-refl o0; same = refl }, h.0, h.1)
 
-  module _ (r : Standing) (a : Accepted) (opens : OpensStream r a (between i0 i1 ib im)) where
+  module _ (r : Standing) (a : Accepted) (opens : OpensStream profile r a (between i0 i1 ib im)) where
     -- its lines are written, or not
-    pub shows : om ≡ ob → Appends o0 o1 (show_text (stream_of r a)) → ShowsStream (between i0 i1 ib im) (between o0 o1 ob om)
+    pub shows : om ≡ ob → Appends o0 o1 (show_text (stream_of r a)) → ShowsStream profile (between i0 i1 ib im) (between o0 o1 ob om)
     shows same writes = record {
       stream = stream_of r a;
       is = opens.stream;
-      left = r.left;
+      place = r.place;
       opens = opens.known;
       kept = opens.kept;
       written = same;
       writes = writes;
     }
 
-    pub text_stops : (f : Fault) → WritesFrame (show_text (stream_of r a)) (between o0 o1 ob om) (Err f) → StreamStopsBy (between i0 i1 ib im) (between o0 o1 ob om) f (cause_of f)
+    pub text_stops : (f : Fault) → WritesFrame (show_text (stream_of r a)) (between o0 o1 ob om) (Err f) → StreamStopsBy profile (between i0 i1 ib im) (between o0 o1 ob om) f (cause_of f)
     text_stops f h = elim h [
       | inl write ↦
-          subst (λ z. StreamStopsBy (between i0 i1 ib im) (between o0 o1 ob om) z (cause_of z)) (sym write.0) (record {
+          subst (λ z. StreamStopsBy profile (between i0 i1 ib im) (between o0 o1 ob om) z (cause_of z)) (sym write.0) (record {
             stream = stream_of r a;
             is = opens.stream;
-            left = r.left;
+            place = r.place;
             opens = opens.known;
             kept = opens.kept;
             written = write.1;
             writes = write.2;
           })
-      | inr none ↦ subst (λ z. StreamStopsBy (between i0 i1 ib im) (between o0 o1 ob om) z (cause_of z)) (sym none.0) (record { kept = none.2; same = none.1 }, opens.kept)
+      | inr none ↦ subst (λ z. StreamStopsBy profile (between i0 i1 ib im) (between o0 o1 ob om) z (cause_of z)) (sym none.0) (record { kept = none.2; same = none.1 }, opens.kept)
     ]
 
-module _ (i0 i1 i2 o0 o1 o2 : Option (List ℕ)) (ib im ia ob om oa : ℕ) (r : Standing) (a : Accepted) (opens : OpensStream r a (between i0 i1 ib im)) (same : om ≡ ob)
+module _ (profile : Profile) (i0 i1 i2 o0 o1 o2 : Option (List ℕ)) (ib im ia ob om oa : ℕ) (r : Standing) (a : Accepted) (opens : OpensStream profile r a (between i0 i1 ib im)) (same : om ≡ ob)
     (writes : Appends o0 o1 (show_text (stream_of r a))) where
   behind : (lines : List ℕ) → Appends o1 o2 lines → Appends o0 o2 (show_text (stream_of r a) ++ lines)
   behind lines more = Appends-trans o0 o1 o2 (show_text (stream_of r a)) lines writes more
 
-  some : (frames : List Frame) → ToldSome line.Cost false a r.left (between i1 i2 im ia) (between o1 o2 om oa) frames → CostsSome (between i0 i2 ib ia) (between o0 o2 ob oa) (stream_of r a) frames
+  some : (frames : List Frame) → ToldSome line.Cost false a r.place (between i1 i2 im ia) (between o1 o2 om oa) frames → CostsSome profile (between i0 i2 ib ia) (between o0 o2 ob oa) (stream_of r a) frames
   some frames told = record {
     played = record { stream = opens.stream; decoded = told.are };
-    begins = begins_some i0 i1 (stream_of r a) r.left frames opens.known told.begins;
+    begins = begins_some profile i0 i1 (stream_of r a) r.place frames opens.known told.begins;
     written = told.written ∙ same;
     writes = behind (frame_lines line.Cost a.configuration frames) told.writes;
   }
 
-  line_fails : (frames : List Frame) → LineFails line.Cost false a r.left (between i1 i2 im ia) (between o1 o2 om oa) frames → CostFails (between i0 i2 ib ia) (between o0 o2 ob oa)
+  line_fails : (frames : List Frame) → LineFails line.Cost false a r.place (between i1 i2 im ia) (between o1 o2 om oa) frames → CostFails profile (between i0 i2 ib ia) (between o0 o2 ob oa)
   line_fails frames h =
       let text = show_text (stream_of r a) in
       let lines = frame_lines line.Cost a.configuration frames in
@@ -101,7 +103,7 @@ module _ (i0 i1 i2 o0 o1 o2 : Option (List ℕ)) (ib im ia ob om oa : ℕ) (r : 
         stream = stream_of r a;
         frames = frames;
         played = record { stream = opens.stream; decoded = h.are };
-        begins = begins_some i0 i1 (stream_of r a) r.left frames opens.known h.begins;
+        begins = begins_some profile i0 i1 (stream_of r a) r.place frames opens.known h.begins;
         kept = h.kept ∙ opens.kept;
         written = h.written ∙ ap one_more same;
         writes = record {
@@ -112,7 +114,7 @@ module _ (i0 i1 i2 o0 o1 o2 : Option (List ℕ)) (ib im ia ob om oa : ℕ) (r : 
         };
       }
 
-  stops_by : (f : Fault) (why : Cause) → TellingStopsBy line.Cost false a r.left (between i1 i2 im ia) (between o1 o2 om oa) f why → CostStopsBy (between i0 i2 ib ia) (between o0 o2 ob oa) f why
+  stops_by : (f : Fault) (why : Cause) → TellingStopsBy line.Cost false a r.place (between i1 i2 im ia) (between o1 o2 om oa) f why → CostStopsBy profile (between i0 i2 ib ia) (between o0 o2 ob oa) f why
   stops_by f Writing h = line_fails h.0 h.1
   stops_by f Reading h = ((stream_of r a, h.0, some h.0 h.1), h.2 ∙ ap one_more opens.kept)
   stops_by f Memory h = ((stream_of r a, h.0, some h.0 h.1), h.2 ∙ opens.kept)
@@ -121,10 +123,10 @@ module _ (i0 i1 i2 o0 o1 o2 : Option (List ℕ)) (ib im ia ob om oa : ℕ) (r : 
     frames = h.0;
     costs = some h.0 h.1;
     kept = h.2 ∙ opens.kept;
-    ends = ends_known i0 i1 i2 (stream_of r a) r.left h.0 (File f) opens.known h.3;
+    ends = ends_known profile i0 i1 i2 (stream_of r a) r.place h.0 (File f) opens.known h.3;
   }
 
-  payload_stops : (f : Fault) → PayloadStops line.Cost false a r.left (between i1 i2 im ia) (between o1 o2 om oa) f → CostPayload (between i0 i2 ib ia) (between o0 o2 ob oa) f
+  payload_stops : (f : Fault) → PayloadStops line.Cost false a r.place (between i1 i2 im ia) (between o1 o2 om oa) f → CostPayload profile (between i0 i2 ib ia) (between o0 o2 ob oa) f
   payload_stops f h =
       let silent = nothing_behind (frame_lines line.Cost a.configuration h.frames) (between o1 o2 om oa) h.writes in
       record {
@@ -132,7 +134,7 @@ module _ (i0 i1 i2 o0 o1 o2 : Option (List ℕ)) (ib im ia ob om oa : ℕ) (r : 
         frames = h.frames;
         costs = some h.frames (record {
           are = h.are;
-          begins = some_of_end r.left i1 i2 h.frames (Payload h.payload h.fault h.tally) h.ends;
+          begins = some_of_end r.place i1 i2 h.frames (Payload h.payload h.fault h.tally) h.ends;
           written = silent.0;
           writes = silent.1;
         });
@@ -140,18 +142,18 @@ module _ (i0 i1 i2 o0 o1 o2 : Option (List ℕ)) (ib im ia ob om oa : ℕ) (r : 
         payload = h.payload;
         fault = h.fault;
         tally = h.tally;
-        ends = ends_known i0 i1 i2 (stream_of r a) r.left h.frames (Payload h.payload h.fault h.tally) opens.known h.ends;
+        ends = ends_known profile i0 i1 i2 (stream_of r a) r.place h.frames (Payload h.payload h.fault h.tally) opens.known h.ends;
         faulty = h.faulty;
         is = h.is;
       }
 
-  pub costs_stop : (f : Fault) → TellingStops line.Cost false a r.left (between i1 i2 im ia) (between o1 o2 om oa) f → CostStops (between i0 i2 ib ia) (between o0 o2 ob oa) f
+  pub costs_stop : (f : Fault) → TellingStops line.Cost false a r.place (between i1 i2 im ia) (between o1 o2 om oa) f → CostStops profile (between i0 i2 ib ia) (between o0 o2 ob oa) f
   costs_stop f h = elim h [
     | inl payload ↦ inl (payload_stops f payload)
     | inr other ↦ inr (stops_by f (cause_of f) other)
   ]
 
-  pub shows_costs : (frames : List Frame) → ToldAll line.Cost false a r.left (between i1 i2 im ia) (between o1 o2 om oa) frames → ReadsFile i0 i2 (stream_of r a) frames → ShowsCosts (between i0 i2 ib ia) (between o0 o2 ob oa)
+  pub shows_costs : (frames : List Frame) → ToldAll line.Cost false a r.place (between i1 i2 im ia) (between o1 o2 om oa) frames → ReadsFile profile i0 i2 (stream_of r a) frames → ShowsCosts profile (between i0 i2 ib ia) (between o0 o2 ob oa)
   shows_costs frames told reads = record {
     stream = stream_of r a;
     frames = frames;

@@ -1,5 +1,7 @@
 -- A file that is read whole, frame by frame.
 use Rattle.std.proofs.Common.{◌≡◌, refl, ℕ, Option, Some, None, Result, Ok, Err, List, [], ◌∷◌, ◌++◌, inl, inr, ap, sym, subst, ◌∙◌}
+use Rattle.ffv1_avi.specs.declared.place.Extent.{Extent}
+use Rattle.ffv1_avi.specs.declared.place.Place.{Place}
 use Rattle.ffv1_avi.specs.Files.{file_read, frame_read, frames_read, more_frames, open_read}
 use Rattle.ffv1_avi.specs.Head.{Head}
 use Rattle.ffv1_avi.specs.Reads as avi
@@ -24,11 +26,11 @@ no_fault reading text rest f x (inl h) e = no_read (reading text) _ x h.1 e
 no_fault reading text rest f x (inr h) e = no_read (reading text) _ x h.1 e
 
 -- a file is its head and then its frames
-pub record Opened (file : List ℕ) (head : Head) (frames : List (List ℕ)) (rest : List ℕ) : Type 0 where
-  pub most : ℕ
+pub record Opened (extent : Extent) (file : List ℕ) (head : Head) (frames : List (List ℕ)) (rest : List ℕ) : Type 0 where
+  pub from : Place
   pub behind : List ℕ
-  pub opened : open_read file ≡ Ok ((head, most), behind)
-  pub read : frames_read most behind ≡ Ok (frames, rest)
+  pub opened : open_read extent file ≡ Ok ((head, from), behind)
+  pub read : frames_read from behind ≡ Ok (frames, rest)
 
 abbrev Pair : Type 0
 Pair = Head × List (List ℕ)
@@ -40,23 +42,23 @@ frames_with (Ok p) first head frames rest e =
     let same : ((first, p.0), p.1) ≡ ((head, frames), rest) = same_read (Ok ((first, p.0), p.1)) _ _ refl e in
     (ap (λ (z : Pair × List ℕ). z.0.0) same, ap (λ (z : Pair × List ℕ). Ok (z.0.1, z.1)) same)
 
-opened_with : (r : Result ((Head × ℕ) × List ℕ) avi.Stop) (file : List ℕ) (head : Head) (frames : List (List ℕ)) (rest : List ℕ) → open_read file ≡ r →
-    avi.read_on {Y = Pair} r (λ p text. avi.read_on {Y = Pair} (frames_read p.1 text) (λ fs. avi.given (p.0, fs))) ≡ Ok ((head, frames), rest) → Opened file head frames rest
-opened_with (Err why) file head frames rest is e = absurd (cc)
-opened_with (Ok p) file head frames rest is e =
+opened_with : (extent : Extent) (r : Result ((Head × Place) × List ℕ) avi.Stop) (file : List ℕ) (head : Head) (frames : List (List ℕ)) (rest : List ℕ) → open_read extent file ≡ r →
+    avi.read_on {Y = Pair} r (λ p text. avi.read_on {Y = Pair} (frames_read p.1 text) (λ fs. avi.given (p.0, fs))) ≡ Ok ((head, frames), rest) → Opened extent file head frames rest
+opened_with extent (Err why) file head frames rest is e = absurd (cc)
+opened_with extent (Ok p) file head frames rest is e =
     let parts = frames_with (frames_read p.0.1 p.1) p.0.0 head frames rest e in
-    record { most = p.0.1; behind = p.1; opened = is ∙ ap (λ h. Ok ((h, p.0.1), p.1)) parts.0; read = parts.1 }
+    record { from = p.0.1; behind = p.1; opened = is ∙ ap (λ h. Ok ((h, p.0.1), p.1)) parts.0; read = parts.1 }
 
-pub opened : (file : List ℕ) (head : Head) (frames : List (List ℕ)) (rest : List ℕ) → file_read file ≡ Ok ((head, frames), rest) → Opened file head frames rest
-opened file head frames rest e = opened_with (open_read file) file head frames rest refl e
+pub opened : (extent : Extent) (file : List ℕ) (head : Head) (frames : List (List ℕ)) (rest : List ℕ) → file_read extent file ≡ Ok ((head, frames), rest) → Opened extent file head frames rest
+opened extent file head frames rest e = opened_with extent (open_read extent file) file head frames rest refl e
 
 -- so many frames are a beginning of them all, and behind them the others are read
-pub record Others (left : ℕ) (at : List ℕ) (frames all : List (List ℕ)) (rest : List ℕ) : Type 0 where
+pub record Others (from : Place) (at : List ℕ) (frames all : List (List ℕ)) (rest : List ℕ) : Type 0 where
   pub more : List (List ℕ)
   pub parts : all ≡ frames ++ more
-  pub read : frames_read left at ≡ Ok (more, rest)
+  pub read : frames_read from at ≡ Ok (more, rest)
 
-module _ (next : (left : ℕ) (text : List ℕ) → frames_read left text ≡ avi.read_on (frame_read left text) (more_frames frames_read)) where
+module _ (next : (from : Place) (text : List ℕ) → frames_read from text ≡ avi.read_on (frame_read from text) (more_frames frames_read)) where
   tail_with : (r : Result (List (List ℕ) × List ℕ) avi.Stop) (f : List ℕ) (all : List (List ℕ)) (rest : List ℕ) →
       avi.read_on r (λ fs. avi.given (f ∷ fs)) ≡ Ok (all, rest) → (more : List (List ℕ)) × (all ≡ f ∷ more) × (r ≡ Ok (more, rest))
   tail_with (Err why) f all rest e = absurd (cc)
@@ -65,32 +67,32 @@ module _ (next : (left : ℕ) (text : List ℕ) → frames_read left text ≡ av
       (p.0, sym (ap (λ (z : List (List ℕ) × List ℕ). z.0) same), ap (λ (z : List (List ℕ) × List ℕ). Ok (p.0, z.1)) same)
 
   -- one frame more
-  pub one_more : (left most : ℕ) (text behind f : List ℕ) (all : List (List ℕ)) (rest : List ℕ) → frame_read left text ≡ Ok (Some (f, most), behind) → frames_read left text ≡ Ok (all, rest) →
-      (more : List (List ℕ)) × (all ≡ f ∷ more) × (frames_read most behind ≡ Ok (more, rest))
-  one_more left most text behind f all rest here is =
-      tail_with (frames_read most behind) f all rest (ap (λ z. avi.read_on z (more_frames frames_read)) (sym here) ∙ sym (next left text) ∙ is)
+  pub one_more : (from after : Place) (text behind f : List ℕ) (all : List (List ℕ)) (rest : List ℕ) → frame_read from text ≡ Ok (Some (f, after), behind) → frames_read from text ≡ Ok (all, rest) →
+      (more : List (List ℕ)) × (all ≡ f ∷ more) × (frames_read after behind ≡ Ok (more, rest))
+  one_more from after text behind f all rest here is =
+      tail_with (frames_read after behind) f all rest (ap (λ z. avi.read_on z (more_frames frames_read)) (sym here) ∙ sym (next from text) ∙ is)
 
   -- no frame more
-  pub no_more : (left : ℕ) (text behind : List ℕ) (all : List (List ℕ)) (rest : List ℕ) → frame_read left text ≡ Ok (None, behind) → frames_read left text ≡ Ok (all, rest) → all ≡ []
-  no_more left text behind all rest here is =
-      let none : Ok ([], behind) ≡ frames_read left text = ap (λ z. avi.read_on z (more_frames frames_read)) (sym here) ∙ sym (next left text) in
-      ap (λ (z : List (List ℕ) × List ℕ). z.0) (same_read (frames_read left text) (all, rest) ([], behind) is (sym none))
+  pub no_more : (from : Place) (text behind : List ℕ) (all : List (List ℕ)) (rest : List ℕ) → frame_read from text ≡ Ok (None, behind) → frames_read from text ≡ Ok (all, rest) → all ≡ []
+  no_more from text behind all rest here is =
+      let none : Ok ([], behind) ≡ frames_read from text = ap (λ z. avi.read_on z (more_frames frames_read)) (sym here) ∙ sym (next from text) in
+      ap (λ (z : List (List ℕ) × List ℕ). z.0) (same_read (frames_read from text) (all, rest) ([], behind) is (sym none))
 
   -- nor a fault in the place of one
-  pub no_stop : (left : ℕ) (text behind : List ℕ) (f : Fault) (all : List (List ℕ)) (rest : List ℕ) → FaultsRead (frame_read left) text behind f → frames_read left text ≡ Ok (all, rest) → ⊥
-  no_stop left text behind f all rest (inl h) is =
-      no_read (frames_read left text) _ (all, rest) (next left text ∙ ap (λ z. avi.read_on z (more_frames frames_read)) h.1) is
-  no_stop left text behind f all rest (inr h) is =
-      no_read (frames_read left text) _ (all, rest) (next left text ∙ ap (λ z. avi.read_on z (more_frames frames_read)) h.1) is
+  pub no_stop : (from : Place) (text behind : List ℕ) (f : Fault) (all : List (List ℕ)) (rest : List ℕ) → FaultsRead (frame_read from) text behind f → frames_read from text ≡ Ok (all, rest) → ⊥
+  no_stop from text behind f all rest (inl h) is =
+      no_read (frames_read from text) _ (all, rest) (next from text ∙ ap (λ z. avi.read_on z (more_frames frames_read)) h.1) is
+  no_stop from text behind f all rest (inr h) is =
+      no_read (frames_read from text) _ (all, rest) (next from text ∙ ap (λ z. avi.read_on z (more_frames frames_read)) h.1) is
 
-  pub others : (left : ℕ) (text : List ℕ) (frames : List (List ℕ)) (least : ℕ) (at : List ℕ) (all : List (List ℕ)) (rest : List ℕ) → ReadsFrames left text frames least at → frames_read left text ≡ Ok (all, rest) →
-      Others least at frames all rest
-  others left text [] least at all rest h is = record {
+  pub others : (from : Place) (text : List ℕ) (frames : List (List ℕ)) (to : Place) (at : List ℕ) (all : List (List ℕ)) (rest : List ℕ) → ReadsFrames from text frames to at → frames_read from text ≡ Ok (all, rest) →
+      Others to at frames all rest
+  others from text [] to at all rest h is = record {
     more = all;
     parts = refl;
-    read = subst (λ l. frames_read l at ≡ Ok (all, rest)) (sym h.0) (subst (λ t. frames_read left t ≡ Ok (all, rest)) (sym h.1) is);
+    read = subst (λ l. frames_read l at ≡ Ok (all, rest)) (sym h.0) (subst (λ t. frames_read from t ≡ Ok (all, rest)) (sym h.1) is);
   }
-  others left text (f ∷ fs) least at all rest (most, behind, here, more) is =
-      let turn = one_more left most text behind f all rest here is in
-      let rest_of = others most behind fs least at turn.0 rest more turn.2 in
+  others from text (f ∷ fs) to at all rest (after, behind, here, more) is =
+      let turn = one_more from after text behind f all rest here is in
+      let rest_of = others after behind fs to at turn.0 rest more turn.2 in
       record { more = rest_of.more; parts = turn.1 ∙ ap (λ z. f ∷ z) rest_of.parts; read = rest_of.read }

@@ -6,6 +6,7 @@ use Rattle.ffv1_wire.specs.Passage.{Passage, at_rest, between}
 use Rattle.ffv1_record.specs.Accepted.{Accepted}
 use Rattle.ffv1_record.specs.Configuration.{Configuration}
 use Rattle.ffv1_avi.specs.Readers.{Standing}
+use Rattle.ffv1_engine.specs.declared.profile.Profile.{Profile}
 use Rattle.ffv1_engine.specs.declared.fault.Fault.{Fault}
 use Rattle.ffv1_engine.specs.declared.fault.Fault.TheVariants as fault
 use Rattle.ffv1_engine.specs.Faults.{Cause, cause_of}
@@ -23,14 +24,14 @@ use Rattle.ffv1_engine.proofs.PicturesWritten.{silent}
 use Rattle.ffv1_engine.proofs.FileChecked.{begins_known, begins_some, ends_known, no_frame, positive, some_of_end}
 
 -- a file that is not opened
-lacks_opening_by : (p : Passage) (f : Fault) (why : Cause) → LacksOpeningBy p f why → LacksUnpackingBy p f why
-lacks_opening_by p f Reading h = h
-lacks_opening_by p f Writing h = h
-lacks_opening_by p f Memory h = h
-lacks_opening_by p f Content h = (h.0, inl h.1)
+lacks_opening_by : (profile : Profile) (p : Passage) (f : Fault) (why : Cause) → LacksOpeningBy profile p f why → LacksUnpackingBy profile p f why
+lacks_opening_by profile p f Reading h = h
+lacks_opening_by profile p f Writing h = h
+lacks_opening_by profile p f Memory h = h
+lacks_opening_by profile p f Content h = (h.0, inl h.1)
 
-pub lacks_opening : (p : Passage) (f : Fault) → LacksOpening p f → LacksUnpacking p f
-lacks_opening p f h = lacks_opening_by p f (cause_of f) h
+pub lacks_opening : (profile : Profile) (p : Passage) (f : Fault) → LacksOpening profile p f → LacksUnpacking profile p f
+lacks_opening profile p f h = lacks_opening_by profile p f (cause_of f) h
 
 -- or whose pictures have no text
 fault_of_text : (ppm : Bool) (c : Configuration) (f : Fault) → LacksTextBy ppm c f → cause_of f ≡ Content
@@ -41,21 +42,21 @@ pub text_own : (ppm : Bool) (c : Configuration) (f : Fault) → LacksTextBy ppm 
 text_own false c f lacks = inr (inr (inr (inr (inl lacks.1))))
 text_own true c f lacks = inr (inr (inr (inr (inr lacks.1))))
 
-pub lacks_text : (i0 i1 : Option (List ℕ)) (ib im : ℕ) (r : Standing) (a : Accepted) (f : Fault) → OpensStream r a (between i0 i1 ib im) →
-    LacksTextBy (is_ppm_stream (stream_of r a)) a.configuration f → LacksUnpacking (between i0 i1 ib im) f
-lacks_text i0 i1 ib im r a f opens lacks =
-    subst (LacksUnpackingBy (between i0 i1 ib im) f) (sym (fault_of_text (is_ppm_stream (stream_of r a)) a.configuration f lacks)) (
+pub lacks_text : (profile : Profile) (i0 i1 : Option (List ℕ)) (ib im : ℕ) (r : Standing) (a : Accepted) (f : Fault) → OpensStream profile r a (between i0 i1 ib im) →
+    LacksTextBy (is_ppm_stream (stream_of r a)) a.configuration f → LacksUnpacking profile (between i0 i1 ib im) f
+lacks_text profile i0 i1 ib im r a f opens lacks =
+    subst (LacksUnpackingBy profile (between i0 i1 ib im) f) (sym (fault_of_text (is_ppm_stream (stream_of r a)) a.configuration f lacks)) (
       opens.kept,
       inr (record {
         stream = stream_of r a;
         is = opens.stream;
-        begins = begins_some i0 i1 (stream_of r a) r.left [] opens.known (reads_some r.left r.left i1 i1 [] (reads_none r.left i1));
+        begins = begins_some profile i0 i1 (stream_of r a) r.place [] opens.known (reads_some r.place r.place i1 i1 [] (reads_none r.place i1));
         lacks = lacks;
       }),
     )
 
-module _ (i0 i1 i2 o0 o1 : Option (List ℕ)) (ib im ia ob om : ℕ) where
-  lacks_by : (f : Fault) (why : Cause) → LacksUnpackingBy (between i0 i1 ib im) f why → UnpackStopsBy (between i0 i1 ib im) (between o0 o0 ob ob) f why
+module _ (profile : Profile) (i0 i1 i2 o0 o1 : Option (List ℕ)) (ib im ia ob om : ℕ) where
+  lacks_by : (f : Fault) (why : Cause) → LacksUnpackingBy profile (between i0 i1 ib im) f why → UnpackStopsBy profile (between i0 i1 ib im) (between o0 o0 ob ob) f why
   lacks_by f Reading h = (inl (silent o0 ob), h)
   lacks_by f Writing h = absurd h
   lacks_by f Memory h = (inl (silent o0 ob), h)
@@ -67,38 +68,38 @@ module _ (i0 i1 i2 o0 o1 : Option (List ℕ)) (ib im ia ob om : ℕ) where
     ],
   )
 
-  pub lacks_unpacking : (f : Fault) → LacksUnpacking (between i0 i1 ib im) f → UnpackStops (between i0 i1 ib im) (between o0 o0 ob ob) f
+  pub lacks_unpacking : (f : Fault) → LacksUnpacking profile (between i0 i1 ib im) f → UnpackStops profile (between i0 i1 ib im) (between o0 o0 ob ob) f
   lacks_unpacking f h = lacks_by f (cause_of f) h
 
-  module _ (r : Standing) (a : Accepted) (opens : OpensStream r a (between i0 i1 ib im)) (text : HasText (stream_of r a)) where
-    played : (frames : List Frame) → AreFrames a frames → Played (stream_of r a) frames
+  module _ (r : Standing) (a : Accepted) (opens : OpensStream profile r a (between i0 i1 ib im)) (text : HasText (stream_of r a)) where
+    played : (frames : List Frame) → AreFrames a frames → Played profile (stream_of r a) frames
     played frames are = record { stream = opens.stream; decoded = are }
 
-    some : (frames : List Frame) → UnpackedSome (stream_of r a) r.left (between i1 i2 im ia) (between o0 o1 ob om) frames →
-        UnpacksSome (between i0 i2 ib ia) (between o0 o1 ob om) (stream_of r a) frames
+    some : (frames : List Frame) → UnpackedSome (stream_of r a) r.place (between i1 i2 im ia) (between o0 o1 ob om) frames →
+        UnpacksSome profile (between i0 i2 ib ia) (between o0 o1 ob om) (stream_of r a) frames
     some frames h = record {
       text = text;
       played = played frames h.are;
       alike = h.alike;
-      begins = begins_some i0 i1 (stream_of r a) r.left frames opens.known h.begins;
+      begins = begins_some profile i0 i1 (stream_of r a) r.place frames opens.known h.begins;
       written = h.written;
       writes = h.writes;
     }
 
-    picture_fails : PictureFails (stream_of r a) r.left (between i1 i2 im ia) (between o0 o1 ob om) → UnpackPictureFails (between i0 i2 ib ia) (between o0 o1 ob om)
+    picture_fails : PictureFails (stream_of r a) r.place (between i1 i2 im ia) (between o0 o1 ob om) → UnpackPictureFails profile (between i0 i2 ib ia) (between o0 o1 ob om)
     picture_fails h = record {
       stream = stream_of r a;
       frames = h.frames;
       text = text;
       played = played h.frames h.are;
       alike = h.alike;
-      begins = begins_known i0 i1 i2 (stream_of r a) r.left h.least h.frames opens.known h.read;
+      begins = begins_known profile i0 i1 i2 (stream_of r a) r.place h.to h.frames opens.known h.read;
       kept = h.kept ∙ opens.kept;
       written = h.written;
       writes = h.writes;
     }
 
-    row_fails : RowFails (stream_of r a) r.left (between i1 i2 im ia) (between o0 o1 ob om) → UnpackRowFails (between i0 i2 ib ia) (between o0 o1 ob om)
+    row_fails : RowFails (stream_of r a) r.place (between i1 i2 im ia) (between o0 o1 ob om) → UnpackRowFails profile (between i0 i2 ib ia) (between o0 o1 ob om)
     row_fails h = record {
       stream = stream_of r a;
       frames = h.frames;
@@ -110,14 +111,14 @@ module _ (i0 i1 i2 o0 o1 : Option (List ℕ)) (ib im ia ob om : ℕ) where
       tally = h.tally;
       lines = h.lines;
       next = h.next;
-      ends = ends_known i0 i1 i2 (stream_of r a) r.left h.frames (Payload h.payload h.fault h.tally) opens.known h.ends;
+      ends = ends_known profile i0 i1 i2 (stream_of r a) r.place h.frames (Payload h.payload h.fault h.tally) opens.known h.ends;
       hands = h.hands;
       kept = h.kept ∙ opens.kept;
       written = h.written;
       writes = h.writes;
     }
 
-    payload_faults : (f : Fault) → PayloadFaults (stream_of r a) r.left (between i1 i2 im ia) (between o0 o1 ob om) f → UnpackPayload (between i0 i2 ib ia) (between o0 o1 ob om) f
+    payload_faults : (f : Fault) → PayloadFaults (stream_of r a) r.place (between i1 i2 im ia) (between o0 o1 ob om) f → UnpackPayload profile (between i0 i2 ib ia) (between o0 o1 ob om) f
     payload_faults f h = record {
       stream = stream_of r a;
       frames = h.frames;
@@ -127,14 +128,14 @@ module _ (i0 i1 i2 o0 o1 : Option (List ℕ)) (ib im ia ob om : ℕ) where
       text = text;
       played = played h.frames h.are;
       alike = h.alike;
-      ends = ends_known i0 i1 i2 (stream_of r a) r.left h.frames (Payload h.payload h.fault h.tally) opens.known h.ends;
+      ends = ends_known profile i0 i1 i2 (stream_of r a) r.place h.frames (Payload h.payload h.fault h.tally) opens.known h.ends;
       faulty = h.faulty;
       is = h.is;
       written = h.written;
       writes = h.writes;
     }
 
-    format_changes : (f : Fault) → FormatChanges (stream_of r a) r.left (between i1 i2 im ia) (between o0 o1 ob om) f → UnpackChanges (between i0 i2 ib ia) (between o0 o1 ob om) f
+    format_changes : (f : Fault) → FormatChanges (stream_of r a) r.place (between i1 i2 im ia) (between o0 o1 ob om) f → UnpackChanges profile (between i0 i2 ib ia) (between o0 o1 ob om) f
     format_changes f h = record {
       stream = stream_of r a;
       frames = h.frames;
@@ -143,25 +144,25 @@ module _ (i0 i1 i2 o0 o1 : Option (List ℕ)) (ib im ia ob om : ℕ) where
       played = played (h.frames ++ (h.last ∷ [])) h.are;
       alike = h.alike;
       changed = h.changed;
-      begins = begins_known i0 i1 i2 (stream_of r a) r.left h.least (h.frames ++ (h.last ∷ [])) opens.known h.read;
+      begins = begins_known profile i0 i1 i2 (stream_of r a) r.place h.to (h.frames ++ (h.last ∷ [])) opens.known h.read;
       is = h.is;
       written = h.written;
       writes = h.writes;
     }
 
-    file_faults : (f : Fault) → FileFaults (stream_of r a) r.left (between i1 i2 im ia) (between o0 o1 ob om) f → UnpackEnds (between i0 i2 ib ia) (between o0 o1 ob om) f
+    file_faults : (f : Fault) → FileFaults (stream_of r a) r.place (between i1 i2 im ia) (between o0 o1 ob om) f → UnpackEnds profile (between i0 i2 ib ia) (between o0 o1 ob om) f
     file_faults f h = record {
       stream = stream_of r a;
       frames = h.frames;
       end = File f;
       some = some h.frames h.some;
-      ends = ends_known i0 i1 i2 (stream_of r a) r.left h.frames (File f) opens.known h.ends;
+      ends = ends_known profile i0 i1 i2 (stream_of r a) r.place h.frames (File f) opens.known h.ends;
       file = tt;
       is = refl;
     }
 
-    stops_by : (f : Fault) (why : Cause) → UnpackingStopsBy (stream_of r a) r.left (between i1 i2 im ia) (between o0 o1 ob om) f why →
-        UnpackStopsBy (between i0 i2 ib ia) (between o0 o1 ob om) f why
+    stops_by : (f : Fault) (why : Cause) → UnpackingStopsBy (stream_of r a) r.place (between i1 i2 im ia) (between o0 o1 ob om) f why →
+        UnpackStopsBy profile (between i0 i2 ib ia) (between o0 o1 ob om) f why
     stops_by f Writing h = elim h [
       | inl picture ↦ inl (picture_fails picture)
       | inr row ↦ inr (row_fails row)
@@ -179,22 +180,22 @@ module _ (i0 i1 i2 o0 o1 : Option (List ℕ)) (ib im ia ob om : ℕ) where
       ],
     )
 
-    pub unpack_stops : (f : Fault) → UnpackingStops (stream_of r a) r.left (between i1 i2 im ia) (between o0 o1 ob om) f → UnpackStops (between i0 i2 ib ia) (between o0 o1 ob om) f
+    pub unpack_stops : (f : Fault) → UnpackingStops (stream_of r a) r.place (between i1 i2 im ia) (between o0 o1 ob om) f → UnpackStops profile (between i0 i2 ib ia) (between o0 o1 ob om) f
     unpack_stops f h = stops_by f (cause_of f) h
 
     module _ (frames : List Frame) (count : ℕ) (is : count ≡ saturated (length frames))
-        (all : UnpackedAll (stream_of r a) r.left (between i1 i2 im ia) (between o0 o1 ob om) frames) where
-      all_some : UnpacksSome (between i0 i2 ib ia) (between o0 o1 ob om) (stream_of r a) frames
+        (all : UnpackedAll (stream_of r a) r.place (between i1 i2 im ia) (between o0 o1 ob om) frames) where
+      all_some : UnpacksSome profile (between i0 i2 ib ia) (between o0 o1 ob om) (stream_of r a) frames
       all_some = record {
         text = text;
         played = played frames all.are;
         alike = all.alike;
-        begins = begins_some i0 i1 (stream_of r a) r.left frames opens.known (some_of_end r.left i1 i2 frames Over all.ends);
+        begins = begins_some profile i0 i1 (stream_of r a) r.place frames opens.known (some_of_end r.place i1 i2 frames Over all.ends);
         written = all.written;
         writes = all.writes;
       }
 
-      pub no_frames : count ≡ 0 → UnpackStops (between i0 i2 ib ia) (between o0 o1 ob om) fault.NoFrames
+      pub no_frames : count ≡ 0 → UnpackStops profile (between i0 i2 ib ia) (between o0 o1 ob om) fault.NoFrames
       no_frames none = (
         all.kept ∙ opens.kept,
         inr (inr (inl (record {
@@ -202,13 +203,13 @@ module _ (i0 i1 i2 o0 o1 : Option (List ℕ)) (ib im ia ob om : ℕ) where
           frames = frames;
           end = Over;
           some = all_some;
-          ends = ends_known i0 i1 i2 (stream_of r a) r.left frames Over opens.known all.ends;
+          ends = ends_known profile i0 i1 i2 (stream_of r a) r.place frames Over opens.known all.ends;
           file = tt;
           is = (no_frame frames (let few : length frames ≡ 0 = omega (arith, is, none) in few), refl);
         }))),
       )
 
-      pub done : (count ≡ 0 → ⊥) → ReadsFile i0 i2 (stream_of r a) frames → UnpackDone (between i0 i2 ib ia) (between o0 o1 ob om) count
+      pub done : (count ≡ 0 → ⊥) → ReadsFile profile i0 i2 (stream_of r a) frames → UnpackDone profile (between i0 i2 ib ia) (between o0 o1 ob om) count
       done some_frames reads = record {
         stream = stream_of r a;
         frames = frames;

@@ -11,6 +11,7 @@ use Rattle.ffv1_codec.specs.Answer.{AnswersCut, Answers, cut_fault}
 use Rattle.ffv1_codec.specs.SliceList.{Said}
 use Rattle.ffv1_codec.specs.declared.fault.CodecFault.TheVariants as codec_fault
 use Rattle.ffv1_codec.specs.declared.fault.FrameFault.{FrameFault}
+use Rattle.ffv1_avi.specs.declared.place.Place.{Place}
 use Rattle.ffv1_engine.specs.declared.fault.Fault.{Fault}
 use Rattle.ffv1_engine.specs.declared.frame_line.FrameLine.{FrameLine}
 use Rattle.ffv1_engine.specs.Faults.{cause_of}
@@ -55,10 +56,10 @@ line_written line p (Err f) some h = elim h [
   | inr none ↦ inr (inr (some, none.1, Appends-kept p.old p.old p.new [] (Appends-nil p.old) none.2))
 ]
 
-pub frame_fails : (kind : FrameLine) (place : Bool) (a : Accepted) (i left least : ℕ) (input output : Passage) (frame : Frame) (f : Fault) → PlaysFrame a left least input frame →
+pub frame_fails : (kind : FrameLine) (place : Bool) (a : Accepted) (i : ℕ) (from to : Place) (input output : Passage) (frame : Frame) (f : Fault) → PlaysFrame a from to input frame →
     WritesFrame (frame_line kind a.configuration i frame.payload frame.tally) output (Err f) →
-    FrameStops kind place a i left least input output f ⊎ FrameStopsBy kind place a i left least input output f (cause_of f)
-frame_fails kind place a i left least input output frame f told h = elim h [
-  | inl write ↦ inr (subst (λ z. FrameStopsBy kind place a i left least input output z (cause_of z)) (sym write.0) (frame, told, write.1, write.2))
-  | inr none ↦ inr (subst (λ z. FrameStopsBy kind place a i left least input output z (cause_of z)) (sym none.0) (record { written = none.1; none = none.2 }, told.reads.kept))
+    FrameStops kind place a i from to input output f ⊎ FrameStopsBy kind place a i from to input output f (cause_of f)
+frame_fails kind place a i from to input output frame f told h = elim h [
+  | inl write ↦ inr (subst (λ z. FrameStopsBy kind place a i from to input output z (cause_of z)) (sym write.0) (frame, told, write.1, write.2))
+  | inr none ↦ inr (subst (λ z. FrameStopsBy kind place a i from to input output z (cause_of z)) (sym none.0) (record { written = none.1; none = none.2 }, told.reads.kept))
 ]

@@ -9,6 +9,7 @@ use Rattle.ffv1_wire.specs.Passage.{Passage, between}
 use Rattle.ffv1_record.specs.Configuration.{Configuration}
 use Rattle.ffv1_record.specs.Accepted.{Accepted}
 use Rattle.ffv1_codec.specs.declared.fault.FrameFault.{FrameFault}
+use Rattle.ffv1_avi.specs.declared.place.Place.{Place}
 use Rattle.ffv1_avi.specs.Files.{frame_read}
 use Rattle.ffv1_engine.specs.declared.fault.Fault.{Fault}
 use Rattle.ffv1_engine.specs.declared.frame_line.FrameLine.{FrameLine}
@@ -18,7 +19,7 @@ use Rattle.ffv1_engine.specs.Stream.{AreFrames, Frame, IsFrame, ReadsFrames, pay
 use Rattle.ffv1_engine.specs.Play.{but_last}
 use Rattle.ffv1_engine.specs.Play.End.{File, Payload, Over}
 use Rattle.ffv1_engine.specs.FrameLines.{frame_line, frame_lines, lines_from, place_text}
-use Rattle.ffv1_engine.specs.Told.{NextIs, FaultsKnown, ReadsKnown, ReadsSome, EndsMovi, WritesLine, Told, ToldAll, ToldSome, LineFails, PayloadStops, TellingStopsBy, TellingStops, PlaysFrame, FrameStops, FrameStopsBy, ReadsEnd, Silent}
+use Rattle.ffv1_engine.specs.Told.{NextIs, FaultsKnown, ReadsKnown, ReadsSome, EndsFrom, WritesLine, Told, ToldAll, ToldSome, LineFails, PayloadStops, TellingStopsBy, TellingStops, PlaysFrame, FrameStops, FrameStopsBy, ReadsEnd, Silent}
 
 pub take_past : (xs ys : List ℕ) (k : ℕ) → take (length xs + k) (xs ++ ys) ≡ xs ++ take k ys
 take_past [] ys k =
@@ -61,50 +62,50 @@ pub counted_more : (frames : List Frame) (f : Frame) → suc (length frames) ≡
 counted_more [] f = refl
 counted_more (g ∷ gs) f = ap suc (counted_more gs f)
 
-frames_more : (left : ℕ) (text : List ℕ) (frames : List Frame) (least : ℕ) (at : List ℕ) (f : Frame) (last : ℕ) (rest : List ℕ) →
-    ReadsFrames left text (payloads frames) least at → frame_read least at ≡ Ok (Some (f.payload, last), rest) → ReadsFrames left text (payloads (frames ++ (f ∷ []))) last rest
-frames_more left text [] least at f last rest h next = (
+frames_more : (from : Place) (text : List ℕ) (frames : List Frame) (to : Place) (at : List ℕ) (f : Frame) (last : Place) (rest : List ℕ) →
+    ReadsFrames from text (payloads frames) to at → frame_read to at ≡ Ok (Some (f.payload, last), rest) → ReadsFrames from text (payloads (frames ++ (f ∷ []))) last rest
+frames_more from text [] to at f last rest h next = (
   last,
   rest,
-  subst (λ l. frame_read l text ≡ Ok (Some (f.payload, last), rest)) h.0 (subst (λ t. frame_read least t ≡ Ok (Some (f.payload, last), rest)) h.1 next),
+  subst (λ l. frame_read l text ≡ Ok (Some (f.payload, last), rest)) h.0 (subst (λ t. frame_read to t ≡ Ok (Some (f.payload, last), rest)) h.1 next),
   (refl, refl),
 )
-frames_more left text (g ∷ gs) least at f last rest h next = (h.0, h.1, h.2, frames_more h.0 h.1 gs least at f last rest h.3 next)
+frames_more from text (g ∷ gs) to at f last rest h next = (h.0, h.1, h.2, frames_more h.0 h.1 gs to at f last rest h.3 next)
 
-pub reads_none : (left : ℕ) (o : Option (List ℕ)) → ReadsKnown left o o [] left
-reads_none left None = tt
-reads_none left (Some text) = (refl, refl)
+pub reads_none : (from : Place) (o : Option (List ℕ)) → ReadsKnown from o o [] from
+reads_none from None = tt
+reads_none from (Some text) = (refl, refl)
 
-pub reads_more : (left least last : ℕ) (o m n : Option (List ℕ)) (frames : List Frame) (f : Frame) → ReadsKnown left o m frames least → NextIs least m n (Some (f.payload, last)) →
-    ReadsKnown left o n (frames ++ (f ∷ [])) last
-reads_more left least last None m n frames f h next = tt
-reads_more left least last (Some text) None n frames f h next = absurd h
-reads_more left least last (Some text) (Some at) None frames f h next = absurd next
-reads_more left least last (Some text) (Some at) (Some rest) frames f h next = frames_more left text frames least at f last rest h next
+pub reads_more : (from to last : Place) (o m n : Option (List ℕ)) (frames : List Frame) (f : Frame) → ReadsKnown from o m frames to → NextIs to m n (Some (f.payload, last)) →
+    ReadsKnown from o n (frames ++ (f ∷ [])) last
+reads_more from to last None m n frames f h next = tt
+reads_more from to last (Some text) None n frames f h next = absurd h
+reads_more from to last (Some text) (Some at) None frames f h next = absurd next
+reads_more from to last (Some text) (Some at) (Some rest) frames f h next = frames_more from text frames to at f last rest h next
 
-pub reads_some : (left least : ℕ) (o m : Option (List ℕ)) (frames : List Frame) → ReadsKnown left o m frames least → ReadsSome left o frames
-reads_some left least None m frames h = tt
-reads_some left least (Some text) None frames h = absurd h
-reads_some left least (Some text) (Some at) frames h = (least, at, h)
+pub reads_some : (from to : Place) (o m : Option (List ℕ)) (frames : List Frame) → ReadsKnown from o m frames to → ReadsSome from o frames
+reads_some from to None m frames h = tt
+reads_some from to (Some text) None frames h = absurd h
+reads_some from to (Some text) (Some at) frames h = (to, at, h)
 
-pub ends_over : (left least : ℕ) (o m n : Option (List ℕ)) (frames : List Frame) → ReadsKnown left o m frames least → NextIs least m n None → EndsMovi left o n frames Over
-ends_over left least None m n frames h next = tt
-ends_over left least (Some text) None n frames h next = absurd h
-ends_over left least (Some text) (Some at) None frames h next = absurd next
-ends_over left least (Some text) (Some at) (Some rest) frames h next = (least, at, h, next)
+pub ends_over : (from to : Place) (o m n : Option (List ℕ)) (frames : List Frame) → ReadsKnown from o m frames to → NextIs to m n None → EndsFrom from o n frames Over
+ends_over from to None m n frames h next = tt
+ends_over from to (Some text) None n frames h next = absurd h
+ends_over from to (Some text) (Some at) None frames h next = absurd next
+ends_over from to (Some text) (Some at) (Some rest) frames h next = (to, at, h, next)
 
-pub ends_payload : (left least last : ℕ) (o m n : Option (List ℕ)) (frames : List Frame) (payload : List ℕ) (f : FrameFault) (t : Tally) → ReadsKnown left o m frames least →
-    NextIs least m n (Some (payload, last)) → EndsMovi left o n frames (Payload payload f t)
-ends_payload left least last None m n frames payload f t h next = tt
-ends_payload left least last (Some text) None n frames payload f t h next = absurd h
-ends_payload left least last (Some text) (Some at) None frames payload f t h next = absurd next
-ends_payload left least last (Some text) (Some at) (Some rest) frames payload f t h next = (least, at, h, (last, next))
+pub ends_payload : (from to last : Place) (o m n : Option (List ℕ)) (frames : List Frame) (payload : List ℕ) (f : FrameFault) (t : Tally) → ReadsKnown from o m frames to →
+    NextIs to m n (Some (payload, last)) → EndsFrom from o n frames (Payload payload f t)
+ends_payload from to last None m n frames payload f t h next = tt
+ends_payload from to last (Some text) None n frames payload f t h next = absurd h
+ends_payload from to last (Some text) (Some at) None frames payload f t h next = absurd next
+ends_payload from to last (Some text) (Some at) (Some rest) frames payload f t h next = (to, at, h, (last, next))
 
-pub ends_file : (left least : ℕ) (o m n : Option (List ℕ)) (frames : List Frame) (f : Fault) → ReadsKnown left o m frames least → FaultsKnown (frame_read least) m n f → EndsMovi left o n frames (File f)
-ends_file left least None m n frames f h next = tt
-ends_file left least (Some text) None n frames f h next = absurd h
-ends_file left least (Some text) (Some at) None frames f h next = absurd next
-ends_file left least (Some text) (Some at) (Some rest) frames f h next = (least, at, h, next)
+pub ends_file : (from to : Place) (o m n : Option (List ℕ)) (frames : List Frame) (f : Fault) → ReadsKnown from o m frames to → FaultsKnown (frame_read to) m n f → EndsFrom from o n frames (File f)
+ends_file from to None m n frames f h next = tt
+ends_file from to (Some text) None n frames f h next = absurd h
+ends_file from to (Some text) (Some at) None frames f h next = absurd next
+ends_file from to (Some text) (Some at) (Some rest) frames f h next = (to, at, h, next)
 
 -- behind lines that were written a further one is
 pub line_behind : (o m n : Option (List ℕ)) (b c a : ℕ) (lines last : List ℕ) → c ≡ b → Appends o m lines → WritesLine [] last (between m n c a) → WritesLine lines last (between o n b a)
@@ -116,17 +117,17 @@ line_behind o m n b c a lines last same first next = elim next [
   ]
 ]
 
-module _ (kind : FrameLine) (place : Bool) (a : Accepted) (left : ℕ) where
-  pub told_none : (i o : Option (List ℕ)) (ib ob : ℕ) → Told kind place a left (between i i ib ib) (between o o ob ob) [] left
-  told_none i o ib ob = record { are = tt; read = reads_none left i; kept = refl; written = refl; writes = Appends-nil o }
+module _ (kind : FrameLine) (place : Bool) (a : Accepted) (from : Place) where
+  pub told_none : (i o : Option (List ℕ)) (ib ob : ℕ) → Told kind place a from (between i i ib ib) (between o o ob ob) [] from
+  told_none i o ib ob = record { are = tt; read = reads_none from i; kept = refl; written = refl; writes = Appends-nil o }
 
-  module _ (least last number : ℕ) (i0 i1 i2 o0 o1 o2 : Option (List ℕ)) (ib im ia ob om oa : ℕ) (frames : List Frame) (is : number ≡ saturated (length frames))
-      (told : Told kind place a left (between i0 i1 ib im) (between o0 o1 ob om) frames least) where
-    pub told_more : (f : Frame) → PlaysFrame a least last (between i1 i2 im ia) f → oa ≡ om →
-        Appends o1 o2 (frame_line kind a.configuration number f.payload f.tally) → Told kind place a left (between i0 i2 ib ia) (between o0 o2 ob oa) (frames ++ (f ∷ [])) last
+  module _ (to last : Place) (number : ℕ) (i0 i1 i2 o0 o1 o2 : Option (List ℕ)) (ib im ia ob om oa : ℕ) (frames : List Frame) (is : number ≡ saturated (length frames))
+      (told : Told kind place a from (between i0 i1 ib im) (between o0 o1 ob om) frames to) where
+    pub told_more : (f : Frame) → PlaysFrame a to last (between i1 i2 im ia) f → oa ≡ om →
+        Appends o1 o2 (frame_line kind a.configuration number f.payload f.tally) → Told kind place a from (between i0 i2 ib ia) (between o0 o2 ob oa) (frames ++ (f ∷ [])) last
     told_more f here same writes = record {
       are = are_more a frames f told.are here.is;
-      read = reads_more left least last i0 i1 i2 frames f told.read here.reads.next;
+      read = reads_more from to last i0 i1 i2 frames f told.read here.reads.next;
       kept = here.reads.kept ∙ told.kept;
       written = same ∙ told.written;
       writes =
@@ -134,27 +135,27 @@ module _ (kind : FrameLine) (place : Bool) (a : Accepted) (left : ℕ) where
           (Appends-trans o0 o1 o2 (frame_lines kind a.configuration frames) (frame_line kind a.configuration number f.payload f.tally) told.writes writes);
     }
 
-    pub told_over : ReadsEnd least (between i1 i2 im ia) → Silent kind place a number least last (between i1 i2 im ia) (between o1 o2 om oa) →
-        ToldAll kind place a left (between i0 i2 ib ia) (between o0 o2 ob oa) frames
+    pub told_over : ReadsEnd to (between i1 i2 im ia) → Silent kind place a number to last (between i1 i2 im ia) (between o1 o2 om oa) →
+        ToldAll kind place a from (between i0 i2 ib ia) (between o0 o2 ob oa) frames
     told_over over silent = record {
       are = told.are;
-      ends = ends_over left least i0 i1 i2 frames told.read over.over;
+      ends = ends_over from to i0 i1 i2 frames told.read over.over;
       kept = over.kept ∙ told.kept;
       written = silent.written ∙ told.written;
       writes = Appends-kept o0 o1 o2 (frame_lines kind a.configuration frames) told.writes silent.none;
     }
 
-    some : Silent kind place a number least last (between i1 i2 im ia) (between o1 o2 om oa) → ToldSome kind place a left (between i0 i2 ib ia) (between o0 o2 ob oa) frames
+    some : Silent kind place a number to last (between i1 i2 im ia) (between o1 o2 om oa) → ToldSome kind place a from (between i0 i2 ib ia) (between o0 o2 ob oa) frames
     some silent = record {
       are = told.are;
-      begins = reads_some left least i0 i1 frames told.read;
+      begins = reads_some from to i0 i1 frames told.read;
       written = silent.written ∙ told.written;
       writes = Appends-kept o0 o1 o2 (frame_lines kind a.configuration frames) told.writes silent.none;
     }
 
-    line_fails : (f : Frame) → PlaysFrame a least last (between i1 i2 im ia) f → oa ≡ one_more om →
+    line_fails : (f : Frame) → PlaysFrame a to last (between i1 i2 im ia) f → oa ≡ one_more om →
         (k : ℕ) → k < length (frame_line kind a.configuration number f.payload f.tally) → Appends o1 o2 (take k (frame_line kind a.configuration number f.payload f.tally)) →
-        LineFails kind place a left (between i0 i2 ib ia) (between o0 o2 ob oa) (frames ++ (f ∷ []))
+        LineFails kind place a from (between i0 i2 ib ia) (between o0 o2 ob oa) (frames ++ (f ∷ []))
     line_fails f here counted k short writes =
         let c = a.configuration in
         let lines = frame_lines kind c frames in
@@ -163,7 +164,7 @@ module _ (kind : FrameLine) (place : Bool) (a : Accepted) (left : ℕ) where
         let long : length (lines ++ last_line) ≡ length lines + length last_line = length-append lines last_line in
         record {
           are = are_more a frames f told.are here.is;
-          begins = reads_some left last i0 i2 (frames ++ (f ∷ [])) (reads_more left least last i0 i1 i2 frames f told.read here.reads.next);
+          begins = reads_some from last i0 i2 (frames ++ (f ∷ [])) (reads_more from to last i0 i1 i2 frames f told.read here.reads.next);
           kept = here.reads.kept ∙ told.kept;
           written = counted ∙ ap one_more told.written;
           writes = record {
@@ -174,21 +175,21 @@ module _ (kind : FrameLine) (place : Bool) (a : Accepted) (left : ℕ) where
           };
         }
 
-    pub stops_by : (f : Fault) (why : Cause) → FrameStopsBy kind place a number least last (between i1 i2 im ia) (between o1 o2 om oa) f why →
-        TellingStopsBy kind place a left (between i0 i2 ib ia) (between o0 o2 ob oa) f why
+    pub stops_by : (f : Fault) (why : Cause) → FrameStopsBy kind place a number to last (between i1 i2 im ia) (between o1 o2 om oa) f why →
+        TellingStopsBy kind place a from (between i0 i2 ib ia) (between o0 o2 ob oa) f why
     stops_by f Writing h = (frames ++ (h.0 ∷ []), line_fails h.0 h.1 h.2 h.3.0 h.3.1 h.3.2)
     stops_by f Reading h = (frames, some h.0, h.1 ∙ ap one_more told.kept)
     stops_by f Memory h = (frames, some h.0, h.1 ∙ told.kept)
-    stops_by f Content h = (frames, some h.0, h.1 ∙ told.kept, ends_file left least i0 i1 i2 frames f told.read h.2)
+    stops_by f Content h = (frames, some h.0, h.1 ∙ told.kept, ends_file from to i0 i1 i2 frames f told.read h.2)
 
-    payload_stops : (f : Fault) → FrameStops kind place a number least last (between i1 i2 im ia) (between o1 o2 om oa) f → PayloadStops kind place a left (between i0 i2 ib ia) (between o0 o2 ob oa) f
+    payload_stops : (f : Fault) → FrameStops kind place a number to last (between i1 i2 im ia) (between o1 o2 om oa) f → PayloadStops kind place a from (between i0 i2 ib ia) (between o0 o2 ob oa) f
     payload_stops f h = record {
       frames = frames;
       are = told.are;
       payload = h.payload;
       fault = h.fault;
       tally = h.tally;
-      ends = ends_payload left least last i0 i1 i2 frames h.payload h.fault h.tally told.read h.reads.next;
+      ends = ends_payload from to last i0 i1 i2 frames h.payload h.fault h.tally told.read h.reads.next;
       faulty = h.faulty;
       is = h.is;
       kept = h.reads.kept ∙ told.kept;
@@ -197,15 +198,15 @@ module _ (kind : FrameLine) (place : Bool) (a : Accepted) (left : ℕ) where
           (line_behind o0 o1 o2 ob om oa (frame_lines kind a.configuration frames) (place_text place number h.fault h.tally) told.written told.writes h.writes);
     }
 
-    pub telling_stops : (f : Fault) → FrameStops kind place a number least last (between i1 i2 im ia) (between o1 o2 om oa) f ⊎
-        FrameStopsBy kind place a number least last (between i1 i2 im ia) (between o1 o2 om oa) f (cause_of f) → TellingStops kind place a left (between i0 i2 ib ia) (between o0 o2 ob oa) f
+    pub telling_stops : (f : Fault) → FrameStops kind place a number to last (between i1 i2 im ia) (between o1 o2 om oa) f ⊎
+        FrameStopsBy kind place a number to last (between i1 i2 im ia) (between o1 o2 om oa) f (cause_of f) → TellingStops kind place a from (between i0 i2 ib ia) (between o0 o2 ob oa) f
     telling_stops f h = elim h [
       | inl payload ↦ inl (payload_stops f payload)
       | inr other ↦ inr (stops_by f (cause_of f) other)
     ]
 
 -- so many frames were told
-pub record ToldSo (kind : FrameLine) (place : Bool) (a : Accepted) (left : ℕ) (input output : Passage) (count least : ℕ) : Type 0 where
+pub record ToldSo (kind : FrameLine) (place : Bool) (a : Accepted) (from : Place) (input output : Passage) (count : ℕ) (to : Place) : Type 0 where
   pub frames : List Frame
   pub is : count ≡ saturated (length frames)
-  pub told : Told kind place a left input output frames least
+  pub told : Told kind place a from input output frames to

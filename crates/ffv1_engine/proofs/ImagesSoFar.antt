@@ -9,6 +9,7 @@ use Rattle.ffv1_wire.specs.Runs.{Line}
 use Rattle.ffv1_codec.specs.Answer.{no_tally}
 use Rattle.ffv1_codec.specs.Decoding.{in_slice}
 use Rattle.ffv1_codec.specs.declared.fault.CodecFault.TheVariants as codec_fault
+use Rattle.ffv1_avi.specs.declared.place.Place.{Place}
 use Rattle.ffv1_avi.specs.Files.{frame_read}
 use Rattle.ffv1_y4m.specs.Images.{image_text}
 use Rattle.ffv1_engine.specs.declared.fault.Fault.{Fault}
@@ -30,7 +31,7 @@ text_more s (g ∷ gs) f =
     let image = image_text s.accepted.configuration.width s.accepted.configuration.height in
     ap (λ z. image g.planes ++ z) (text_more s gs f) ∙ sym (append_assoc (image g.planes) (ppm_text s gs) (image f.planes))
 
-module _ (s : Stream) (ppm : is_ppm_stream s ≡ true) (left : ℕ) where
+module _ (s : Stream) (ppm : is_ppm_stream s ≡ true) (from : Place) where
   all_alike : (frames : List Frame) → AlikeBy (is_ppm_stream s) frames
   all_alike frames = subst (λ b. AlikeBy b frames) (sym ppm) tt
 
@@ -46,25 +47,25 @@ module _ (s : Stream) (ppm : is_ppm_stream s ≡ true) (left : ℕ) where
       images_text (frames ++ (f ∷ [])) ∙ text_more s frames f
       ∙ ap (λ z. z ++ image_text s.accepted.configuration.width s.accepted.configuration.height f.planes) (sym (images_text frames))
 
-  pub images_none : (i o : Option (List ℕ)) (ib ob : ℕ) → Unpacked s left (between i i ib ib) (between o o ob ob) [] left
+  pub images_none : (i o : Option (List ℕ)) (ib ob : ℕ) → Unpacked s from (between i i ib ib) (between o o ob ob) [] from
   images_none i o ib ob = record {
     are = tt;
     alike = all_alike [];
-    read = reads_none left i;
+    read = reads_none from i;
     kept = refl;
     written = refl;
     writes = subst (Appends o o) (sym (images_text [])) (Appends-nil o);
   }
 
-  module _ (least last : ℕ) (i0 i1 i2 o0 o1 o2 : Option (List ℕ)) (ib im ia ob om oa : ℕ) (frames : List Frame)
-      (un : Unpacked s left (between i0 i1 ib im) (between o0 o1 ob om) frames least) where
-    pub images_more : (f : Frame) → PlaysFrame s.accepted least last (between i1 i2 im ia) f → oa ≡ om →
+  module _ (to last : Place) (i0 i1 i2 o0 o1 o2 : Option (List ℕ)) (ib im ia ob om oa : ℕ) (frames : List Frame)
+      (un : Unpacked s from (between i0 i1 ib im) (between o0 o1 ob om) frames to) where
+    pub images_more : (f : Frame) → PlaysFrame s.accepted to last (between i1 i2 im ia) f → oa ≡ om →
         Appends o1 o2 (image_text s.accepted.configuration.width s.accepted.configuration.height f.planes) →
-        Unpacked s left (between i0 i2 ib ia) (between o0 o2 ob oa) (frames ++ (f ∷ [])) last
+        Unpacked s from (between i0 i2 ib ia) (between o0 o2 ob oa) (frames ++ (f ∷ [])) last
     images_more f plays same writes = record {
       are = are_more s.accepted frames f un.are plays.is;
       alike = all_alike (frames ++ (f ∷ []));
-      read = reads_more left least last i0 i1 i2 frames f un.read plays.reads.next;
+      read = reads_more from to last i0 i1 i2 frames f un.read plays.reads.next;
       kept = plays.reads.kept ∙ un.kept;
       written = same ∙ un.written;
       writes =
@@ -72,26 +73,26 @@ module _ (s : Stream) (ppm : is_ppm_stream s ≡ true) (left : ℕ) where
           (Appends-trans o0 o1 o2 (text_by (is_ppm_stream s) s frames) (image_text s.accepted.configuration.width s.accepted.configuration.height f.planes) un.writes writes);
     }
 
-    pub images_over : ReadsEnd least (between i1 i2 im ia) → Silent (between o1 o2 om oa) → UnpackedAll s left (between i0 i2 ib ia) (between o0 o2 ob oa) frames
+    pub images_over : ReadsEnd to (between i1 i2 im ia) → Silent (between o1 o2 om oa) → UnpackedAll s from (between i0 i2 ib ia) (between o0 o2 ob oa) frames
     images_over over silent = record {
       are = un.are;
       alike = un.alike;
-      ends = ends_over left least i0 i1 i2 frames un.read over.over;
+      ends = ends_over from to i0 i1 i2 frames un.read over.over;
       kept = over.kept ∙ un.kept;
       written = silent.same ∙ un.written;
       writes = Appends-kept o0 o1 o2 (text_by (is_ppm_stream s) s frames) un.writes silent.kept;
     }
 
-    some : Silent (between o1 o2 om oa) → UnpackedSome s left (between i0 i2 ib ia) (between o0 o2 ob oa) frames
+    some : Silent (between o1 o2 om oa) → UnpackedSome s from (between i0 i2 ib ia) (between o0 o2 ob oa) frames
     some silent = record {
       are = un.are;
       alike = un.alike;
-      begins = reads_some left least i0 i1 frames un.read;
+      begins = reads_some from to i0 i1 frames un.read;
       written = silent.same ∙ un.written;
       writes = Appends-kept o0 o1 o2 (text_by (is_ppm_stream s) s frames) un.writes silent.kept;
     }
 
-    row_fails : RowCut s.accepted least last (between i1 i2 im ia) (between o1 o2 om oa) → RowFails s left (between i0 i2 ib ia) (between o0 o2 ob oa)
+    row_fails : RowCut s.accepted to last (between i1 i2 im ia) (between o1 o2 om oa) → RowFails s from (between i0 i2 ib ia) (between o0 o2 ob oa)
     row_fails p =
         let text = text_by (is_ppm_stream s) s frames in
         let before = rows_so_far s.accepted.configuration p.lines in
@@ -112,7 +113,7 @@ module _ (s : Stream) (ppm : is_ppm_stream s ≡ true) (left : ℕ) where
           tally = no_tally;
           lines = p.lines;
           next = p.next;
-          ends = ends_payload left least last i0 i1 i2 frames p.payload fault no_tally un.read p.reads.next;
+          ends = ends_payload from to last i0 i1 i2 frames p.payload fault no_tally un.read p.reads.next;
           hands = p.hands s.head;
           kept = p.reads.kept ∙ un.kept;
           written = p.written ∙ ap one_more un.written;
@@ -124,7 +125,7 @@ module _ (s : Stream) (ppm : is_ppm_stream s ≡ true) (left : ℕ) where
           };
         }
 
-    payload_faults : (f : Fault) → ImageFaults s.accepted least last (between i1 i2 im ia) (between o1 o2 om oa) f → PayloadFaults s left (between i0 i2 ib ia) (between o0 o2 ob oa) f
+    payload_faults : (f : Fault) → ImageFaults s.accepted to last (between i1 i2 im ia) (between o1 o2 om oa) f → PayloadFaults s from (between i0 i2 ib ia) (between o0 o2 ob oa) f
     payload_faults f p =
         let text = text_by (is_ppm_stream s) s frames in
         let rows = rows_so_far s.accepted.configuration (lines_before p.faulty) in
@@ -135,18 +136,18 @@ module _ (s : Stream) (ppm : is_ppm_stream s ≡ true) (left : ℕ) where
           payload = p.payload;
           fault = p.fault;
           tally = p.tally;
-          ends = ends_payload left least last i0 i1 i2 frames p.payload p.fault p.tally un.read p.reads.next;
+          ends = ends_payload from to last i0 i1 i2 frames p.payload p.fault p.tally un.read p.reads.next;
           faulty = p.faulty;
           is = p.is;
           written = p.written ∙ un.written;
           writes = subst (λ t. Appends o0 o2 (text ++ t)) (rows_text (lines_before p.faulty)) (Appends-trans o0 o1 o2 text rows un.writes p.writes);
         }
 
-    file_faults : (f : Fault) → Silent (between o1 o2 om oa) → FaultsKnown (frame_read least) i1 i2 f → FileFaults s left (between i0 i2 ib ia) (between o0 o2 ob oa) f
-    file_faults f silent h = record { frames = frames; some = some silent; ends = ends_file left least i0 i1 i2 frames f un.read h }
+    file_faults : (f : Fault) → Silent (between o1 o2 om oa) → FaultsKnown (frame_read to) i1 i2 f → FileFaults s from (between i0 i2 ib ia) (between o0 o2 ob oa) f
+    file_faults f silent h = record { frames = frames; some = some silent; ends = ends_file from to i0 i1 i2 frames f un.read h }
 
-    pub images_stop : (f : Fault) (why : Cause) → ImageStopsBy s.accepted least last (between i1 i2 im ia) (between o1 o2 om oa) f why →
-        UnpackingStopsBy s left (between i0 i2 ib ia) (between o0 o2 ob oa) f why
+    pub images_stop : (f : Fault) (why : Cause) → ImageStopsBy s.accepted to last (between i1 i2 im ia) (between o1 o2 om oa) f why →
+        UnpackingStopsBy s from (between i0 i2 ib ia) (between o0 o2 ob oa) f why
     images_stop f Writing p = inr (row_fails p)
     images_stop f Reading p = (frames, some p.0, p.1 ∙ ap one_more un.kept)
     images_stop f Memory p = (frames, some p.0, p.1 ∙ un.kept)
@@ -159,7 +160,7 @@ module _ (s : Stream) (ppm : is_ppm_stream s ≡ true) (left : ℕ) where
     )
 
 -- so many images were written
-pub record ImagesSo (s : Stream) (left : ℕ) (input output : Passage) (count least : ℕ) : Type 0 where
+pub record ImagesSo (s : Stream) (from : Place) (input output : Passage) (count : ℕ) (to : Place) : Type 0 where
   pub frames : List Frame
   pub is : count ≡ saturated (length frames)
-  pub un : Unpacked s left input output frames least
+  pub un : Unpacked s from input output frames to

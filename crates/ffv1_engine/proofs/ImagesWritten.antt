@@ -24,6 +24,7 @@ use Rattle.ffv1_codec.specs.declared.fault.CodecFault.TheVariants as codec_fault
 use Rattle.ffv1_codec.specs.declared.fault.FrameFault.{FrameFault}
 use Rattle.ffv1_y4m.specs.Images.{AtImage, image_lines, image_text, text_of_lines}
 use Rattle.ffv1_y4m.specs.Sink.{PpmSink, Takes, Refuses, kept_behind, line_text, row_with, text_with}
+use Rattle.ffv1_avi.specs.declared.place.Place.{Place}
 use Rattle.ffv1_engine.specs.Faults.{cause_of, of_codec}
 use Rattle.ffv1_engine.specs.Faults.Cause.{Content}
 use Rattle.ffv1_engine.specs.ImagesOut.{ImageFaults, ImageStopsBy, IsSinkFor, RowCut, rows_so_far}
@@ -103,9 +104,9 @@ module _ {W : Type 0} (contents : W → Option (List ℕ)) (failed : W → ℕ) 
   pub line_long : (c : Configuration) (s : PpmSink W) (p y : ℕ) (samples : List ℕ) → IsSinkFor c s → plane_width c p ≡ c.width → IsLine (division_of c) p y samples → length samples ≡ s.width
   line_long c s p y samples is wide line = line.long ∙ wide ∙ sym is.width
 
-  module _ (a : Accepted) (left least : ℕ) (input : Passage) (payload : List ℕ) (reads : ReadsPayload left least payload input) (s u : PpmSink W) (tally : Tally) (f : FrameFault) (is : IsSinkFor a.configuration s) where
+  module _ (a : Accepted) (from to : Place) (input : Passage) (payload : List ℕ) (reads : ReadsPayload from to payload input) (s u : PpmSink W) (tally : Tally) (f : FrameFault) (is : IsSinkFor a.configuration s) where
     pub image_faults : (h : Faulty taking (Refuses contents failed) a payload s u tally f) → Appends (contents s.out) (contents u.out) (sink_text s (lines_before h.faulty)) → failed u.out ≡ failed s.out →
-        ImageFaults a left least input (between (contents s.out) (contents u.out) (failed s.out) (failed u.out)) (of_codec f.fault)
+        ImageFaults a from to input (between (contents s.out) (contents u.out) (failed s.out) (failed u.out)) (of_codec f.fault)
     image_faults h writes same = record {
       payload = payload;
       fault = f;
@@ -123,7 +124,7 @@ module _ {W : Type 0} (contents : W → Option (List ℕ)) (failed : W → ℕ) 
 
       pub row_cut : Appends (contents s.out) (contents r.sink.between.out) (sink_text s r.sink.state.lines) → failed r.sink.between.out ≡ failed s.out →
           AppendsBeginning (contents r.sink.between.out) (contents u.out) (line_text r.sink.between (get_or r.sink.state.out r.sink.number [])) → failed u.out ≡ one_more (failed r.sink.between.out) →
-          RowCut a left least input (between (contents s.out) (contents u.out) (failed s.out) (failed u.out))
+          RowCut a from to input (between (contents s.out) (contents u.out) (failed s.out) (failed u.out))
       row_cut before same cut fails =
           let c = a.configuration in
           let lines = r.sink.state.lines in
@@ -178,7 +179,7 @@ module _ {W : Type 0} (contents : W → Option (List ℕ)) (failed : W → ℕ) 
       (subst (Appends (contents s.out) (contents t.out)) text whole.0, record { at = whole.1; width = sizes.0 ∙ is.width; height = sizes.1 ∙ is.height })
 
 -- a payload's fault
-pub payload_stops : (a : Accepted) (left least : ℕ) (input output : Passage) (f : CodecFault) → ImageFaults a left least input output (of_codec f) → cause_of (of_codec f) ≡ Content →
-    ImageStopsBy a left least input output (of_codec f) (cause_of (of_codec f))
-payload_stops a left least input output f faults content =
-    subst (ImageStopsBy a left least input output (of_codec f)) (sym content) (faults.reads.kept, inr faults)
+pub payload_stops : (a : Accepted) (from to : Place) (input output : Passage) (f : CodecFault) → ImageFaults a from to input output (of_codec f) → cause_of (of_codec f) ≡ Content →
+    ImageStopsBy a from to input output (of_codec f) (cause_of (of_codec f))
+payload_stops a from to input output f faults content =
+    subst (ImageStopsBy a from to input output (of_codec f)) (sym content) (faults.reads.kept, inr faults)

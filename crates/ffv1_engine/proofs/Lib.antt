@@ -25,7 +25,7 @@ mod ImagesWritten
 mod ImagesSoFar
 mod StreamText
 mod FileShown
-mod ReadingFaults
+mod FileSteps
 mod OwnFaults
 mod ByteLists
 mod RecordShort

@@ -7,15 +7,14 @@ use Rattle.ffv1_codec.specs.declared.fault.CodecFault.{CodecFault}
 use Rattle.ffv1_codec.specs.declared.fault.CodecFault.TheVariants as codec_fault
 use Rattle.ffv1_codec.specs.DecodeFaults.{is_decode_fault}
 use Rattle.ffv1_avi.specs.declared.fault.AviFault.{AviFault}
-use Rattle.ffv1_avi.specs.Files.{frame_read, open_read}
-use Rattle.ffv1_avi.specs.Reads.{Refused}
+use Rattle.ffv1_avi.specs.declared.fault.AviFault.TheVariants as avi_fault
+use Rattle.ffv1_avi.specs.Readers as avi
 use Rattle.ffv1_engine.specs.declared.fault.Fault.{Fault}
 use Rattle.ffv1_engine.specs.declared.fault.Fault.TheVariants as fault
 use Rattle.ffv1_engine.specs.Faults.{of_avi, of_codec, of_record}
 use Rattle.ffv1_engine.specs.Opens.{is_opening_fault}
 use Rattle.ffv1_engine.specs.Show.{is_show_fault, is_write}
 use Rattle.ffv1_engine.specs.Told.{WritesFrame, is_telling_fault}
-use Rattle.ffv1_engine.proofs.ReadingFaults.{of_frame, of_open, of_refusal}
 
 pub record_opens : (r : RecordFault) → is_opening_fault (of_record r) ≡ true
 record_opens record_fault.StateTable = refl
@@ -41,12 +40,28 @@ record_opens record_fault.Ec = refl
 record_opens record_fault.Intra = refl
 record_opens record_fault.ExtraPlane = refl
 
-pub file_opens : (old new : Option (List ℕ)) (before after : ℕ) (f : AviFault) → Refused open_read old new before after f → is_opening_fault (of_avi f) ≡ true
-file_opens old new before after f h = of_refusal (λ g. is_opening_fault (of_avi g)) open_read old new before after (of_open (λ g. is_opening_fault (of_avi g)) refl refl refl refl) refl refl refl f h
+-- those of the reader of files
+pub file_opens : (f : AviFault) → avi.is_opening_fault f ≡ true → is_opening_fault (of_avi f) ≡ true
+file_opens avi_fault.OutOfMemory own = refl
+file_opens avi_fault.NotAvi own = refl
+file_opens avi_fault.NoFfv1 own = refl
+file_opens avi_fault.Truncated own = refl
+file_opens avi_fault.ChunkTooLong own = refl
+file_opens avi_fault.EmptyFrame own = absurd (let no : false ≡ true = own in cc)
+file_opens avi_fault.TooLarge own = absurd (let no : false ≡ true = own in cc)
+file_opens avi_fault.Read own = refl
+file_opens avi_fault.Write own = absurd (let no : false ≡ true = own in cc)
 
-pub frame_tells : (left : ℕ) (old new : Option (List ℕ)) (before after : ℕ) (f : AviFault) → Refused (frame_read left) old new before after f → is_telling_fault (of_avi f) ≡ true
-frame_tells left old new before after f h =
-    of_refusal (λ g. is_telling_fault (of_avi g)) (frame_read left) old new before after (of_frame (λ g. is_telling_fault (of_avi g)) refl refl refl refl left) refl refl refl f h
+pub frame_tells : (f : AviFault) → avi.is_frame_fault f ≡ true → is_telling_fault (of_avi f) ≡ true
+frame_tells avi_fault.OutOfMemory own = refl
+frame_tells avi_fault.NotAvi own = refl
+frame_tells avi_fault.NoFfv1 own = absurd (let no : false ≡ true = own in cc)
+frame_tells avi_fault.Truncated own = refl
+frame_tells avi_fault.ChunkTooLong own = refl
+frame_tells avi_fault.EmptyFrame own = refl
+frame_tells avi_fault.TooLarge own = absurd (let no : false ≡ true = own in cc)
+frame_tells avi_fault.Read own = refl
+frame_tells avi_fault.Write own = absurd (let no : false ≡ true = own in cc)
 
 pub payload_tells : (g : CodecFault) → is_decode_fault g ≡ true → g ≢ codec_fault.Sink → is_telling_fault (of_codec g) ≡ true
 payload_tells codec_fault.OutOfMemory decode own = refl

@@ -9,6 +9,8 @@ use Rattle.ffv1_record.specs.Accepted.{Accepted}
 use Rattle.ffv1_codec.specs.Frame.{IsSaid, frame_of}
 use Rattle.ffv1_codec.specs.Picture.{Planes}
 use Rattle.ffv1_codec.specs.declared.fault.FrameFault.{FrameFault}
+use Rattle.ffv1_avi.specs.declared.place.Extent.TheVariants.{FirstMovi}
+use Rattle.ffv1_avi.specs.declared.place.Place.{Place}
 use Rattle.ffv1_avi.specs.Chunks.{AviFile, IsWritable}
 use Rattle.ffv1_avi.specs.Files.{file_read, frame_read, frames_read, more_frames, open_read}
 use Rattle.ffv1_avi.specs.Head.{Head}
@@ -19,6 +21,9 @@ use Rattle.ffv1_y4m.specs.HeaderLine.{IsHeaderLine}
 use Rattle.ffv1_y4m.specs.Text.{AllFit, IsText}
 use Rattle.ffv1_y4m.specs.VideoHead.{IsHead, IsRatio}
 use Rattle.ffv1_y4m.specs.declared.head.VideoHead.{VideoHead}
+use Rattle.ffv1_engine.specs.declared.profile.Profile.{Profile}
+use Rattle.ffv1_engine.specs.declared.profile.Profile.TheVariants.{Strict, Wide}
+use Rattle.ffv1_engine.specs.Profiles.{extent_in, record_profile}
 use Rattle.ffv1_engine.specs.declared.fault.Fault.{Fault}
 use Rattle.ffv1_engine.specs.declared.fault.Fault.TheVariants as fault
 use Rattle.ffv1_words.specs.declared.order.Choice.{Choice}
@@ -27,11 +32,11 @@ use Rattle.ffv1_engine.specs.Show.{CostStopsBy, ShowStops, StreamStopsBy}
 use Rattle.ffv1_engine.specs.Faults.{cause_of}
 use Rattle.ffv1_engine.specs.Faults.Cause.{Content}
 use Rattle.ffv1_engine.specs.Pack.{IsPackable}
-use Rattle.ffv1_engine.specs.Packing.{configuration_for, packed_file, packed_frames, packed_head, said_for}
+use Rattle.ffv1_engine.specs.Packing.{AllShort, configuration_for, packed_file, packed_frames, packed_head, said_for}
 use Rattle.ffv1_engine.specs.Play.{End, EndsKnown, EndsWith, FaultsRead, IsOfFile, LacksStream, Played}
 use Rattle.ffv1_engine.specs.Play.End.{File, Payload, Over}
 use Rattle.ffv1_engine.specs.RoundTrip.{AreReadable, Holds, IsNoContent, IsUnpacked, WasPacked, canonical_by, canonical_of, video_in}
-use Rattle.ffv1_engine.specs.Stream.{AreFrames, Begins, BeginsKnown, FaultsFrame, Frame, IsStream, ReadsFile, ReadsFrames, Stream, payloads}
+use Rattle.ffv1_engine.specs.Stream.{AreFrames, Begins, BeginsKnown, FaultsFrame, Frame, IsRead, IsStream, ReadsFile, ReadsFrames, Stream, payloads}
 use Rattle.ffv1_engine.specs.Unpack.{LacksTextIn, UnpackDone, UnpackStops, UnpackStopsBy}
 use Rattle.ffv1_engine.specs.Unpacked.{AllSay, AreAlike, HasTextBy, LacksText, LacksTextBy, is_ppm_stream, pictures, text_of}
 use Rattle.ffv1_engine.specs.Video.{IsVideo, IsVideoBy, ReadsVideo, Video}
@@ -43,12 +48,11 @@ use Rattle.ffv1_engine.proofs.PackedText.{RecordLaws, alike_given, canonical_giv
 use Rattle.ffv1_record.specs.Configuration.{Configuration}
 
 -- what is known of files and of texts
-pub record FileLaws : Type 0 where
+pub record FileLaws (profile : Profile) : Type 0 where
   pub file : (head : Head) (frames : List (List ℕ)) → IsWritable head frames → AviFile (file_of head frames) head frames
-  pub read : (head : Head) (frames : List (List ℕ)) → IsWritable head frames → file_read (file_of head frames) ≡ Ok ((head, frames), [])
-  pub is_read : (file : List ℕ) (head : Head) (frames : List (List ℕ)) (is : AviFile file head frames) → file_read file ≡ Ok ((head, frames), is.rest)
-  pub only : (file : List ℕ) (head other : Head) (frames others : List (List ℕ)) → AviFile file head frames → AviFile file other others → (head ≡ other) × (frames ≡ others)
-  pub next : (left : ℕ) (text : List ℕ) → frames_read left text ≡ avi.read_on (frame_read left text) (more_frames frames_read)
+  pub read : (head : Head) (frames : List (List ℕ)) → IsWritable head frames → file_read (extent_in profile) (file_of head frames) ≡ Ok ((head, frames), [])
+  pub is_read : (file : List ℕ) (head : Head) (frames : List (List ℕ)) (is : AviFile file head frames) → file_read FirstMovi file ≡ Ok ((head, frames), is.rest)
+  pub next : (place : Place) (text : List ℕ) → frames_read place text ≡ avi.read_on (frame_read place text) (more_frames frames_read)
   pub said : (line : List ℕ) (h : VideoHead) → IsHeaderLine line h → IsHead h
   pub canonical : (h : VideoHead) (ps : List Planes) → IsHead h → AllFit h ps → IsText (canonical_text h ps) h ps
 
@@ -69,7 +73,7 @@ text_or_none true c f has lacks = absurd (let wrong : true ≡ false = sym lacks
 text_or_none false c f has lacks = absurd (let wrong : true ≡ false = sym has ∙ lacks.0 in cc)
 
 -- the canonical text is one of the same video
-same_by : FileLaws → (ppm : Bool) (text : List ℕ) (h : VideoHead) (ps : List Planes) → IsVideoBy ppm text h ps → IsVideoBy ppm (canonical_by ppm h ps) h ps
+same_by : {profile : Profile} → FileLaws profile → (ppm : Bool) (text : List ℕ) (h : VideoHead) (ps : List Planes) → IsVideoBy ppm text h ps → IsVideoBy ppm (canonical_by ppm h ps) h ps
 same_by laws true text h ps v = (v.0, record { sized = v.1.sized; whole = refl; fit = v.1.fit })
 same_by laws false text h ps v = laws.canonical h ps (laws.said v.line h v.said) v.fit
 
@@ -84,24 +88,30 @@ no_content fault.Read h = inr (inl refl)
 no_content fault.Write h = inr (inr refl)
 no_content f h = absurd (h refl)
 
-file_of_reads : (file : List ℕ) (new : Option (List ℕ)) (s : Stream) (frames : List Frame) → ReadsFile (Some file) new s frames → AviFile file s.head (payloads frames)
-file_of_reads file None s frames h = absurd h
-file_of_reads file (Some rest) s frames h = h.0
+-- where the file is known, it was read to its end
+record Whole (profile : Profile) (file : List ℕ) (new : Option (List ℕ)) (s : Stream) (frames : List Frame) : Type 0 where
+  rest : List ℕ
+  is : file_read (extent_in profile) file ≡ Ok ((s.head, payloads frames), rest)
+  left : new ≡ Some rest
 
-rest_of_reads : (file : List ℕ) (new : Option (List ℕ)) (s : Stream) (frames : List Frame) (h : ReadsFile (Some file) new s frames) → new ≡ Some (file_of_reads file new s frames h).rest
-unfolding file_of_reads
-rest_of_reads file None s frames h = absurd h
-rest_of_reads file (Some rest) s frames h = ap (λ t. Some t) h.1
+module _ (profile : Profile) (files : FileLaws profile) where
+  whole_by : (p : Profile) (file rest : List ℕ) (s : Stream) (frames : List Frame) → IsRead p file rest s frames → Whole p file (Some rest) s frames
+  whole_by Strict file rest s frames h = record { rest = rest; is = files.is_read file s.head (payloads frames) h.0 ∙ ap (λ t. Ok ((s.head, payloads frames), t)) (sym h.1); left = refl }
+  whole_by Wide file rest s frames h = record { rest = rest; is = h; left = refl }
+
+  whole_of : (file : List ℕ) (new : Option (List ℕ)) (s : Stream) (frames : List Frame) → ReadsFile profile (Some file) new s frames → Whole profile file new s frames
+  whole_of file None s frames h = absurd h
+  whole_of file (Some rest) s frames h = whole_by profile file rest s frames h
 
 -- where the file is known, it begins so
-record Known (file : List ℕ) (s : Stream) (frames : List Frame) : Type 0 where
-  left : ℕ
+record Known (profile : Profile) (file : List ℕ) (s : Stream) (frames : List Frame) : Type 0 where
+  to : Place
   at : List ℕ
-  begins : Begins file s frames left at
+  begins : Begins profile file s frames to at
 
-begins_in : (file : List ℕ) (new : Option (List ℕ)) (s : Stream) (frames : List Frame) → BeginsKnown (Some file) new s frames → Known file s frames
-begins_in file None s frames h = absurd h
-begins_in file (Some rest) s frames h = record { left = h.0; at = rest; begins = h.1 }
+begins_in : (profile : Profile) (file : List ℕ) (new : Option (List ℕ)) (s : Stream) (frames : List Frame) → BeginsKnown profile (Some file) new s frames → Known profile file s frames
+begins_in profile file None s frames h = absurd h
+begins_in profile file (Some rest) s frames h = record { to = h.0; at = rest; begins = h.1 }
 
 -- a text that is packed
 pub record Given (choice : Choice) (text : List ℕ) (v : Video) (a : Accepted) : Type 0 where
@@ -111,7 +121,8 @@ pub record Given (choice : Choice) (text : List ℕ) (v : Video) (a : Accepted) 
   pub readable : AreReadable (packed_frames v a)
   pub rated : v.ppm ≡ true → IsRatio 4294967295 choice.rate choice.scale
 
-module _ (files : FileLaws) (frame_laws : FrameLaws) (records : RecordLaws) (choice : Choice) (text : List ℕ) (v : Video) (a : Accepted) (g : Given choice text v a) where
+module _ (profile : Profile) (files : FileLaws profile) (frame_laws : FrameLaws) (records : RecordLaws) (choice : Choice) (text : List ℕ) (v : Video) (a : Accepted) (profiled : a.profile ≡ record_profile profile)
+    (g : Given choice text v a) where
   for : a.configuration ≡ configuration_for choice v.ppm v.head
   for = g.packable.for.configuration
 
@@ -125,7 +136,7 @@ module _ (files : FileLaws) (frame_laws : FrameLaws) (records : RecordLaws) (cho
   coded = all_coded frame_laws a g.packable.for.accepted choice v.ppm v.head for head said v.pictures (pictures_given v.ppm text v.head v.pictures g.is g.bytes) g.packable.short
 
   can_write : IsWritable (packed_head choice v a) (packed_frames v a)
-  can_write = writable records choice v.ppm v.head a for g.packable.for.accepted head g.rated v.pictures coded g.readable g.packable.small
+  can_write = writable profile records choice v.ppm v.head a for g.packable.for.accepted profiled head g.rated v.pictures coded g.readable g.packable.small
 
   stream : Stream
   stream = stream_for choice v.ppm v.head a
@@ -133,18 +144,21 @@ module _ (files : FileLaws) (frame_laws : FrameLaws) (records : RecordLaws) (cho
   file_is : AviFile (packed_file choice v a) (packed_head choice v a) (packed_frames v a)
   file_is = files.file (packed_head choice v a) (packed_frames v a) can_write
 
-  whole : Opened (packed_file choice v a) (packed_head choice v a) (packed_frames v a) []
-  whole = opened (packed_file choice v a) (packed_head choice v a) (packed_frames v a) [] (files.read (packed_head choice v a) (packed_frames v a) can_write)
+  reads_whole : file_read (extent_in profile) (packed_file choice v a) ≡ Ok ((packed_head choice v a, packed_frames v a), [])
+  reads_whole = files.read (packed_head choice v a) (packed_frames v a) can_write
+
+  whole : Opened (extent_in profile) (packed_file choice v a) (packed_head choice v a) (packed_frames v a) []
+  whole = opened (extent_in profile) (packed_file choice v a) (packed_head choice v a) (packed_frames v a) [] reads_whole
 
   -- what the file holds
-  pub holds : Holds (packed_file choice v a) v
+  pub holds : Holds profile (packed_file choice v a) v
   unfolding stream
   holds =
       let m = made frame_laws a g.packable.for.accepted (said_for v.head) v.pictures coded in record {
         stream = stream;
         frames = m.frames;
         is = subst (λ ps. AviFile (packed_file choice v a) (packed_head choice v a) ps) (sym m.payloads_are) file_is;
-        played = record { stream = stream_is records choice v.ppm v.head a for g.packable.for.accepted head; decoded = m.are };
+        played = record { stream = stream_is profile records choice v.ppm v.head a for g.packable.for.accepted profiled head; decoded = m.are };
         pictures_are = m.pictures_are;
         say = m.say;
         text = text_given choice v.ppm v.head a for head;
@@ -153,9 +167,9 @@ module _ (files : FileLaws) (frame_laws : FrameLaws) (records : RecordLaws) (cho
       }
 
   -- a stream with that head is the one
-  the_stream : (s : Stream) → IsStream s → s.head ≡ packed_head choice v a → s ≡ stream
+  the_stream : (s : Stream) → IsStream profile s → s.head ≡ packed_head choice v a → s ≡ stream
   unfolding stream
-  the_stream s is e = one_stream records choice v.ppm v.head a for g.packable.for.accepted head s is e
+  the_stream s is e = one_stream profile records choice v.ppm v.head a for g.packable.for.accepted profiled head s is e
 
   -- frames of it that the file begins with are those of the first pictures
   the_frames : (s : Stream) (frames : List Frame) (more : List (List ℕ)) → s ≡ stream → AreFrames s.accepted frames → packed_frames v a ≡ payloads frames ++ more → Same a (said_for v.head) frames more v.pictures
@@ -163,37 +177,31 @@ module _ (files : FileLaws) (frame_laws : FrameLaws) (records : RecordLaws) (cho
   the_frames s frames more e are parts =
       same frame_laws a g.packable.for.accepted (said_for v.head) frames more v.pictures (subst (λ (t : Stream). AreFrames t.accepted frames) e are) coded parts
 
-  -- all of them
-  all_frames : (s : Stream) (frames : List Frame) → Played s frames → AviFile (packed_file choice v a) s.head (payloads frames) → (s ≡ stream) × AllSay (said_for v.head) frames × (pictures frames ≡ v.pictures)
-  all_frames s frames played is =
-      let only = files.only (packed_file choice v a) s.head (packed_head choice v a) (payloads frames) (packed_frames v a) is file_is in
-      let e = the_stream s played.stream only.0 in
-      let same_of = the_frames s frames [] e played.decoded (sym only.1 ∙ sym (append-nil (payloads frames))) in
+  -- all of them, and nothing is left behind them
+  all_frames : (s : Stream) (frames : List Frame) (rest : List ℕ) → Played profile s frames → file_read (extent_in profile) (packed_file choice v a) ≡ Ok ((s.head, payloads frames), rest) →
+      (s ≡ stream) × AllSay (said_for v.head) frames × (pictures frames ≡ v.pictures) × (rest ≡ [])
+  all_frames s frames rest played is =
+      let both : ((s.head, payloads frames), rest) ≡ ((packed_head choice v a, packed_frames v a), []) = same_ok (file_read (extent_in profile) (packed_file choice v a)) _ _ is reads_whole in
+      let e = the_stream s played.stream (ap (λ (z : (Head × List (List ℕ)) × List ℕ). z.0.0) both) in
+      let same_of = the_frames s frames [] e played.decoded (sym (ap (λ (z : (Head × List (List ℕ)) × List ℕ). z.0.1) both) ∙ sym (append-nil (payloads frames))) in
       let none : same_of.others ≡ [] = no_others same_of.others same_of.more_are in
-      (e, same_of.say, sym (same_of.parts ∙ ap (λ ps. pictures frames ++ ps) none ∙ append-nil (pictures frames)))
+      (e, same_of.say, sym (same_of.parts ∙ ap (λ ps. pictures frames ++ ps) none ∙ append-nil (pictures frames)), ap (λ (z : (Head × List (List ℕ)) × List ℕ). z.1) both)
     where
       no_others : (ps : List Planes) → map (λ planes. frame_of a planes (said_for v.head)) ps ≡ [] → ps ≡ []
       no_others [] e = refl
       no_others (p ∷ ps) e = absurd (cc)
 
-  -- nothing is left behind them
-  all_read : (s : Stream) (frames : List Frame) (is : AviFile (packed_file choice v a) s.head (payloads frames)) → is.rest ≡ []
-  all_read s frames is =
-      let once = files.is_read (packed_file choice v a) s.head (payloads frames) is in
-      let again = files.read (packed_head choice v a) (packed_frames v a) can_write in
-      ap (λ (z : (Head × List (List ℕ)) × List ℕ). z.1) (same_ok (file_read (packed_file choice v a)) ((s.head, payloads frames), is.rest) ((packed_head choice v a, packed_frames v a), []) once again)
-
   -- what unpack wrote
-  pub written : (input output : Passage) (count : ℕ) → input.old ≡ Some (packed_file choice v a) → UnpackDone input output count → IsUnpacked v input output count
+  pub written : (input output : Passage) (count : ℕ) → input.old ≡ Some (packed_file choice v a) → UnpackDone profile input output count → IsUnpacked v input output count
   unfolding stream
   written input output count known done =
-      let reads = subst (λ o. ReadsFile o input.new done.stream done.frames) known done.reads in
-      let is = file_of_reads (packed_file choice v a) input.new done.stream done.frames reads in
-      let all = all_frames done.stream done.frames done.played is in
+      let reads = subst (λ o. ReadsFile profile o input.new done.stream done.frames) known done.reads in
+      let read = whole_of profile files (packed_file choice v a) input.new done.stream done.frames reads in
+      let all = all_frames done.stream done.frames read.rest done.played read.is in
       let bytes : text_of done.stream done.frames ≡ canonical_of v =
       ap (λ s. text_of s done.frames) all.0 ∙ canonical_given choice v.ppm v.head a for done.frames v.pictures all.1 all.2 g.packable.some in
       let long : length done.frames ≡ length v.pictures = sym (many (λ (f : Frame). f.planes) done.frames) ∙ ap (λ ps. length ps) all.2 in record {
-        left = rest_of_reads (packed_file choice v a) input.new done.stream done.frames reads ∙ ap (λ t. Some t) (all_read done.stream done.frames is);
+        left = read.left ∙ ap (λ t. Some t) all.3;
         counted = done.counted ∙ ap saturated long;
         writes = subst (λ text. Appends output.old output.new text) bytes done.writes;
       }
@@ -207,125 +215,125 @@ module _ (files : FileLaws) (frame_laws : FrameLaws) (records : RecordLaws) (cho
       no_fault frame_laws a g.packable.for.accepted (said_for v.head) p f tally coded.0 (subst (λ bytes. FaultsFrame a bytes f tally) (sym here) faulty)
 
   -- where the file begins with frames, the others are read behind them
-  module _ (s : Stream) (frames : List Frame) (b : Known (packed_file choice v a) s frames) where
-    first : (s.head ≡ packed_head choice v a) × Others b.left b.at (payloads frames) (packed_frames v a) []
+  module _ (s : Stream) (frames : List Frame) (b : Known profile (packed_file choice v a) s frames) where
+    first : (s.head ≡ packed_head choice v a) × Others b.to b.at (payloads frames) (packed_frames v a) []
     first =
-        let e : ((s.head, b.begins.most), b.begins.behind) ≡ ((packed_head choice v a, whole.most), whole.behind) = same_ok (open_read (packed_file choice v a)) _ _ b.begins.opened whole.opened in
-        let most : b.begins.most ≡ whole.most = ap (λ (z : (Head × ℕ) × List ℕ). z.0.1) e in
-        let behind : b.begins.behind ≡ whole.behind = ap (λ (z : (Head × ℕ) × List ℕ). z.1) e in (
-          ap (λ (z : (Head × ℕ) × List ℕ). z.0.0) e,
-          others files.next whole.most whole.behind (payloads frames) b.left b.at (packed_frames v a) []
-              (subst (λ m. ReadsFrames m whole.behind (payloads frames) b.left b.at) most (subst (λ t. ReadsFrames b.begins.most t (payloads frames) b.left b.at) behind b.begins.read))
+        let e : ((s.head, b.begins.from), b.begins.behind) ≡ ((packed_head choice v a, whole.from), whole.behind) = same_ok (open_read (extent_in profile) (packed_file choice v a)) _ _ b.begins.opened whole.opened in
+        let from : b.begins.from ≡ whole.from = ap (λ (z : (Head × Place) × List ℕ). z.0.1) e in
+        let behind : b.begins.behind ≡ whole.behind = ap (λ (z : (Head × Place) × List ℕ). z.1) e in (
+          ap (λ (z : (Head × Place) × List ℕ). z.0.0) e,
+          others files.next whole.from whole.behind (payloads frames) b.to b.at (packed_frames v a) []
+              (subst (λ m. ReadsFrames m whole.behind (payloads frames) b.to b.at) from (subst (λ t. ReadsFrames b.begins.from t (payloads frames) b.to b.at) behind b.begins.read))
               whole.read,
         )
 
-    same_frames : Played s frames → Same a (said_for v.head) frames first.1.more v.pictures
+    same_frames : Played profile s frames → Same a (said_for v.head) frames first.1.more v.pictures
     same_frames played = the_frames s frames first.1.more (the_stream s played.stream first.0) played.decoded first.1.parts
 
     -- no fault stands in the place of a frame
-    never_stops : (rest : List ℕ) (f : Fault) → FaultsRead (frame_read b.left) b.at rest f → ⊥
-    never_stops rest f h = no_stop files.next b.left b.at rest f first.1.more [] h first.1.read
+    never_stops : (rest : List ℕ) (f : Fault) → FaultsRead (frame_read b.to) b.at rest f → ⊥
+    never_stops rest f h = no_stop files.next b.to b.at rest f first.1.more [] h first.1.read
 
     -- nor does movi end before the first one
-    never_empty : (rest : List ℕ) → frame_read b.left b.at ≡ Ok (None, rest) → frames ≡ [] → ⊥
+    never_empty : (rest : List ℕ) → frame_read b.to b.at ≡ Ok (None, rest) → frames ≡ [] → ⊥
     never_empty rest h none =
-        let over = no_more files.next b.left b.at rest first.1.more [] h first.1.read in
+        let over = no_more files.next b.to b.at rest first.1.more [] h first.1.read in
         let all : packed_frames v a ≡ [] = first.1.parts ∙ ap (λ fs. payloads fs ++ first.1.more) none ∙ over in
         some_in (λ planes. frame_of a planes (said_for v.head)) v.pictures (sym all) g.packable.some
 
     -- the next payload has none
-    never_faulty : Played s frames → (payload rest : List ℕ) (least : ℕ) (f : FrameFault) (tally : Tally) → frame_read b.left b.at ≡ Ok (Some (payload, least), rest) → FaultsFrame s.accepted payload f tally → ⊥
+    never_faulty : Played profile s frames → (payload rest : List ℕ) (to : Place) (f : FrameFault) (tally : Tally) → frame_read b.to b.at ≡ Ok (Some (payload, to), rest) → FaultsFrame s.accepted payload f tally → ⊥
     unfolding stream
-    never_faulty played payload rest least f tally h faulty =
-        let turn = one_more files.next b.left least b.at rest payload first.1.more [] h first.1.read in
+    never_faulty played payload rest to f tally h faulty =
+        let turn = one_more files.next b.to to b.at rest payload first.1.more [] h first.1.read in
         let of = same_frames played in
         not_next of.others payload turn.0 f tally of.coded (of.more_are ∙ turn.1) (subst (λ (t : Stream). FaultsFrame t.accepted payload f tally) (the_stream s played.stream first.0) faulty)
 
   -- so the file has a stream
-  lacks_stream : (new : Option (List ℕ)) (f : Fault) → LacksStream (Some (packed_file choice v a)) new f → ⊥
+  lacks_stream : (new : Option (List ℕ)) (f : Fault) → LacksStream profile (Some (packed_file choice v a)) new f → ⊥
   lacks_stream None f h = h
-  lacks_stream (Some rest) f (inl h) = no_read_fault open_read (packed_file choice v a) rest f _ h whole.opened
+  lacks_stream (Some rest) f (inl h) = no_read_fault (open_read (extent_in profile)) (packed_file choice v a) rest f _ h whole.opened
   lacks_stream (Some rest) f (inr h) =
-      let e : ((h.head, h.left), rest) ≡ ((packed_head choice v a, whole.most), whole.behind) = same_ok (open_read (packed_file choice v a)) _ _ h.opened whole.opened in
-      none_refused records choice v.ppm v.head a for g.packable.for.accepted head h.head h.refusal (ap (λ (z : (Head × ℕ) × List ℕ). z.0.0) e) h.refused
+      let e : ((h.head, h.place), rest) ≡ ((packed_head choice v a, whole.from), whole.behind) = same_ok (open_read (extent_in profile) (packed_file choice v a)) _ _ h.opened whole.opened in
+      none_refused profile records choice v.ppm v.head a for g.packable.for.accepted profiled head h.head h.refusal (ap (λ (z : (Head × Place) × List ℕ). z.0.0) e) h.refused
 
   -- which has a text
-  lacks_text : (f : Fault) → LacksTextIn (Some (packed_file choice v a)) f → ⊥
+  lacks_text : (f : Fault) → LacksTextIn profile (Some (packed_file choice v a)) f → ⊥
   unfolding stream
   lacks_text f h =
-      let e = the_stream h.stream h.is (first h.stream [] (record { left = h.begins.0; at = h.begins.1; begins = h.begins.2 })).0 in
+      let e = the_stream h.stream h.is (first h.stream [] (record { to = h.begins.0; at = h.begins.1; begins = h.begins.2 })).0 in
       text_or_none (is_ppm_stream stream) a.configuration f (text_given choice v.ppm v.head a for head) (subst (λ s. LacksText s f) e h.lacks)
 
   -- behind its frames it ends without a fault, and not before the first
-  file_ends : (new : Option (List ℕ)) (s : Stream) (frames : List Frame) (e : End) (f : Fault) → EndsKnown (Some (packed_file choice v a)) new s frames e → IsOfFile e → EndsWith frames e f → ⊥
+  file_ends : (new : Option (List ℕ)) (s : Stream) (frames : List Frame) (e : End) (f : Fault) → EndsKnown profile (Some (packed_file choice v a)) new s frames e → IsOfFile e → EndsWith frames e f → ⊥
   file_ends None s frames e f h is with_ = h
-  file_ends (Some rest) s frames (File fault) f (left, at, begins, h) is with_ = never_stops s frames (record { left = left; at = at; begins = begins }) rest fault h
+  file_ends (Some rest) s frames (File fault) f (to, at, begins, h) is with_ = never_stops s frames (record { to = to; at = at; begins = begins }) rest fault h
   file_ends (Some rest) s frames (Payload payload fault tally) f h is with_ = is
-  file_ends (Some rest) s frames Over f (left, at, begins, h) is with_ = never_empty s frames (record { left = left; at = at; begins = begins }) rest h with_.0
+  file_ends (Some rest) s frames Over f (to, at, begins, h) is with_ = never_empty s frames (record { to = to; at = at; begins = begins }) rest h with_.0
 
   -- no payload of it has a fault
-  payload_ends : (new : Option (List ℕ)) (s : Stream) (frames : List Frame) (payload : List ℕ) (f : FrameFault) (tally : Tally) → Played s frames →
-      EndsKnown (Some (packed_file choice v a)) new s frames (Payload payload f tally) → FaultsFrame s.accepted payload f tally → ⊥
+  payload_ends : (new : Option (List ℕ)) (s : Stream) (frames : List Frame) (payload : List ℕ) (f : FrameFault) (tally : Tally) → Played profile s frames →
+      EndsKnown profile (Some (packed_file choice v a)) new s frames (Payload payload f tally) → FaultsFrame s.accepted payload f tally → ⊥
   payload_ends None s frames payload f tally played h faulty = h
-  payload_ends (Some rest) s frames payload f tally played (left, at, begins, (least, h)) faulty =
-      never_faulty s frames (record { left = left; at = at; begins = begins }) played payload rest least f tally h faulty
+  payload_ends (Some rest) s frames payload f tally played (to, at, begins, (last, h)) faulty =
+      never_faulty s frames (record { to = to; at = at; begins = begins }) played payload rest last f tally h faulty
 
   -- and its frames say the same
-  alike : (new : Option (List ℕ)) (s : Stream) (frames : List Frame) → Played s frames → BeginsKnown (Some (packed_file choice v a)) new s frames → AreAlike s frames
+  alike : (new : Option (List ℕ)) (s : Stream) (frames : List Frame) → Played profile s frames → BeginsKnown profile (Some (packed_file choice v a)) new s frames → AreAlike s frames
   unfolding stream
   alike new s frames played h =
-      let b = begins_in (packed_file choice v a) new s frames h in
+      let b = begins_in profile (packed_file choice v a) new s frames h in
       let e = the_stream s played.stream (first s frames b).0 in
       subst (λ t. AreAlike t frames) (sym e) (alike_given choice v.ppm v.head a for frames (same_frames s frames b played).say)
 
   module _ (input output : Passage) (known : input.old ≡ Some (packed_file choice v a)) where
-    stream_lacks : (f : Fault) → LacksStream input.old input.new f → ⊥
-    stream_lacks f h = lacks_stream input.new f (subst (λ o. LacksStream o input.new f) known h)
+    stream_lacks : (f : Fault) → LacksStream profile input.old input.new f → ⊥
+    stream_lacks f h = lacks_stream input.new f (subst (λ o. LacksStream profile o input.new f) known h)
 
-    file_ended : (s : Stream) (frames : List Frame) (e : End) (f : Fault) → EndsKnown input.old input.new s frames e → IsOfFile e → EndsWith frames e f → ⊥
-    file_ended s frames e f h = file_ends input.new s frames e f (subst (λ o. EndsKnown o input.new s frames e) known h)
+    file_ended : (s : Stream) (frames : List Frame) (e : End) (f : Fault) → EndsKnown profile input.old input.new s frames e → IsOfFile e → EndsWith frames e f → ⊥
+    file_ended s frames e f h = file_ends input.new s frames e f (subst (λ o. EndsKnown profile o input.new s frames e) known h)
 
-    payload_ended : (s : Stream) (frames : List Frame) (payload : List ℕ) (f : FrameFault) (tally : Tally) → Played s frames → EndsKnown input.old input.new s frames (Payload payload f tally) →
+    payload_ended : (s : Stream) (frames : List Frame) (payload : List ℕ) (f : FrameFault) (tally : Tally) → Played profile s frames → EndsKnown profile input.old input.new s frames (Payload payload f tally) →
         FaultsFrame s.accepted payload f tally → ⊥
-    payload_ended s frames payload f tally played h = payload_ends input.new s frames payload f tally played (subst (λ o. EndsKnown o input.new s frames (Payload payload f tally)) known h)
+    payload_ended s frames payload f tally played h = payload_ends input.new s frames payload f tally played (subst (λ o. EndsKnown profile o input.new s frames (Payload payload f tally)) known h)
 
     -- unpack
-    no_unpack_fault : (f : Fault) → UnpackStopsBy input output f Content → ⊥
+    no_unpack_fault : (f : Fault) → UnpackStopsBy profile input output f Content → ⊥
     no_unpack_fault f (kept, inl (none, h)) = stream_lacks f h
-    no_unpack_fault f (kept, inr (inl (none, h))) = lacks_text f (subst (λ o. LacksTextIn o f) known h)
+    no_unpack_fault f (kept, inr (inl (none, h))) = lacks_text f (subst (λ o. LacksTextIn profile o f) known h)
     no_unpack_fault f (kept, inr (inr (inl h))) = file_ended h.stream h.frames h.end f h.ends h.file h.is
     no_unpack_fault f (kept, inr (inr (inr (inl h)))) = payload_ended h.stream h.frames h.payload h.fault h.tally h.played h.ends h.faulty
     no_unpack_fault f (kept, inr (inr (inr (inr h)))) =
         let all = h.frames ++ (h.last ∷ []) in
-        h.changed (alike input.new h.stream all h.played (subst (λ o. BeginsKnown o input.new h.stream all) known h.begins))
+        h.changed (alike input.new h.stream all h.played (subst (λ o. BeginsKnown profile o input.new h.stream all) known h.begins))
 
-    pub unpack_refused : (f : Fault) → UnpackStops input output f → IsNoContent f
-    unpack_refused f h = no_content f (λ e. no_unpack_fault f (subst (λ why. UnpackStopsBy input output f why) e h))
+    pub unpack_refused : (f : Fault) → UnpackStops profile input output f → IsNoContent f
+    unpack_refused f h = no_content f (λ e. no_unpack_fault f (subst (λ why. UnpackStopsBy profile input output f why) e h))
 
     -- check
-    no_check_fault : (place : Bool) (f : Fault) → CheckStopsBy place input output f Content → ⊥
+    no_check_fault : (place : Bool) (f : Fault) → CheckStopsBy profile place input output f Content → ⊥
     no_check_fault place f (kept, inl (none, h)) = stream_lacks f h
     no_check_fault place f (kept, inr h) = file_ended h.stream h.frames h.end f h.ends h.file h.is
 
-    pub check_refused : (place : Bool) (f : Fault) → CheckStops place input output f → IsNoContent f
+    pub check_refused : (place : Bool) (f : Fault) → CheckStops profile place input output f → IsNoContent f
     check_refused place f (inl h) = absurd (payload_ended h.stream h.frames h.payload h.fault h.tally h.played h.ends h.faulty)
-    check_refused place f (inr h) = no_content f (λ e. no_check_fault place f (subst (λ why. CheckStopsBy place input output f why) e h))
+    check_refused place f (inr h) = no_content f (λ e. no_check_fault place f (subst (λ why. CheckStopsBy profile place input output f why) e h))
 
     -- show
-    no_show_fault : (f : Fault) → StreamStopsBy input output f Content → ⊥
+    no_show_fault : (f : Fault) → StreamStopsBy profile input output f Content → ⊥
     no_show_fault f h = stream_lacks f h.2
 
-    stream_refused : (f : Fault) → StreamStopsBy input output f (cause_of f) → IsNoContent f
-    stream_refused f h = no_content f (λ e. no_show_fault f (subst (λ why. StreamStopsBy input output f why) e h))
+    stream_refused : (f : Fault) → StreamStopsBy profile input output f (cause_of f) → IsNoContent f
+    stream_refused f h = no_content f (λ e. no_show_fault f (subst (λ why. StreamStopsBy profile input output f why) e h))
 
-    no_cost_fault : (f : Fault) → CostStopsBy input output f Content → ⊥
+    no_cost_fault : (f : Fault) → CostStopsBy profile input output f Content → ⊥
     no_cost_fault f h = file_ended h.stream h.frames (File f) f h.ends tt refl
 
-    pub show_refused : (cost : Bool) (f : Fault) → ShowStops input output cost f → IsNoContent f
+    pub show_refused : (cost : Bool) (f : Fault) → ShowStops profile input output cost f → IsNoContent f
     show_refused false f h = stream_refused f h
     show_refused true f (inl h) = stream_refused f h
     show_refused true f (inr (inl h)) = absurd (payload_ended h.stream h.frames h.payload h.fault h.tally h.costs.played h.ends h.faulty)
-    show_refused true f (inr (inr h)) = no_content f (λ e. no_cost_fault f (subst (λ why. CostStopsBy input output f why) e h))
+    show_refused true f (inr (inr h)) = no_content f (λ e. no_cost_fault f (subst (λ why. CostStopsBy profile input output f why) e h))
 
 -- a text that was packed is such a text
 reads_is : (text : List ℕ) (old new : Option (List ℕ)) (v : Video) → old ≡ Some text → ReadsVideo old new v → IsVideo text v
@@ -335,17 +343,25 @@ reads_is text old new v known h = is_video new (subst (λ o. ReadsVideo o new v)
     is_video None k = absurd k
     is_video (Some rest) k = k.0
 
-pub given : (choice : Choice) (text : List ℕ) (w : WasPacked choice text) → Given choice text (video_in w) w.packs.accepted
-given choice text w = record {
+-- what was accepted, in the profile that the file is read in
+abbrev pub accepted_in : {choice : Choice} → {text : List ℕ} → Profile → WasPacked choice text → Accepted
+accepted_in profile w = record { configuration = w.packs.accepted.configuration; table = w.packs.accepted.table; profile = record_profile profile }
+
+short_in : (profile : Profile) (a : Accepted) (h : VideoHead) (ps : List Planes) → AllShort a h ps → AllShort (record { configuration = a.configuration; table = a.table; profile = record_profile profile }) h ps
+short_in profile a h [] short = tt
+short_in profile a h (p ∷ ps) short = (λ long. short.0 (record { slice = long.slice; inside = long.inside; long = long.long }), short_in profile a h ps short.1)
+
+pub given : (profile : Profile) (choice : Choice) (text : List ℕ) (w : WasPacked choice text) → Given choice text (video_in w) (accepted_in profile w)
+given profile choice text w = record {
   is = reads_is text w.input.old w.input.new w.packs.video w.known w.packs.reads;
   bytes = w.bytes;
-  packable = w.packs.packable;
+  packable = record { for = record { configuration = w.packs.packable.for.configuration; accepted = w.packs.packable.for.accepted }; some = w.packs.packable.some; short = short_in profile w.packs.accepted w.packs.video.head w.packs.video.pictures w.packs.packable.short; small = w.packs.packable.small };
   readable = w.readable;
   rated = w.rated;
 }
 
-pub same_video : FileLaws → (choice : Choice) (text : List ℕ) (w : WasPacked choice text) → IsVideo (canonical_of (video_in w)) (video_in w)
-same_video files choice text w = same_by files w.packs.video.ppm text w.packs.video.head w.packs.video.pictures (given choice text w).is
+pub same_video : {profile : Profile} → FileLaws profile → (choice : Choice) (text : List ℕ) (w : WasPacked choice text) → IsVideo (canonical_of (video_in w)) (video_in w)
+same_video files choice text w = same_by files w.packs.video.ppm text w.packs.video.head w.packs.video.pictures (given Strict choice text w).is
 
 pub same_ppm : (choice : Choice) (text : List ℕ) (w : WasPacked choice text) → (video_in w).ppm ≡ true → canonical_of (video_in w) ≡ text
-same_ppm choice text w = ppm_by w.packs.video.ppm text w.packs.video.head w.packs.video.pictures (given choice text w).is
+same_ppm choice text w = ppm_by w.packs.video.ppm text w.packs.video.head w.packs.video.pictures (given Strict choice text w).is

@@ -18,6 +18,9 @@ use Rattle.ffv1_y4m.specs.Canonical.{canonical_text}
 use Rattle.ffv1_y4m.specs.VideoHead.{IsRatio, IsSized}
 use Rattle.ffv1_y4m.specs.declared.head.VideoHead.{VideoHead}
 use Rattle.ffv1_words.specs.declared.order.Choice.{Choice}
+use Rattle.ffv1_record.specs.declared.config.Profile.{Profile as RecordProfile}
+use Rattle.ffv1_engine.specs.declared.profile.Profile.{Profile}
+use Rattle.ffv1_engine.specs.Profiles.{record_profile}
 use Rattle.ffv1_engine.specs.Packing.{configuration_for, head_for, said_for}
 use Rattle.ffv1_engine.specs.RoundTrip.{AreReadable, canonical_by}
 use Rattle.ffv1_engine.specs.Stream.{Frame, IsStream, Stream}
@@ -55,8 +58,8 @@ sized_frames : (a : Accepted) (said : Said) (ps : List Planes) → AllCoded a sa
 sized_frames a said [] coded readable = tt
 sized_frames a said (p ∷ ps) coded readable = (coded.0.some, readable.0, sized_frames a said ps coded.1 readable.1)
 
-module _ (laws : RecordLaws) (choice : Choice) (ppm : Bool) (h : VideoHead) (a : Accepted) (for : a.configuration ≡ configuration_for choice ppm h) (accepted : IsAccepted a.configuration a.table)
-    (is : IsHeadBy ppm h) where
+module _ (profile : Profile) (laws : RecordLaws) (choice : Choice) (ppm : Bool) (h : VideoHead) (a : Accepted) (for : a.configuration ≡ configuration_for choice ppm h) (accepted : IsAccepted a.configuration a.table)
+    (profiled : a.profile ≡ record_profile profile) (is : IsHeadBy ppm h) where
   pub writable : (rated : ppm ≡ true → IsRatio 4294967295 choice.rate choice.scale) (ps : List Planes) → AllCoded a (said_for h) ps → AreReadable (map (λ planes. frame_of a planes (said_for h)) ps) →
       riff_size (head_for choice ppm h a.configuration) (map (λ planes. frame_of a planes (said_for h)) ps) ≤ most →
       IsWritable (head_for choice ppm h a.configuration) (map (λ planes. frame_of a planes (said_for h)) ps)
@@ -80,11 +83,11 @@ module _ (laws : RecordLaws) (choice : Choice) (ppm : Bool) (h : VideoHead) (a :
   high : a.configuration.height ≡ h.height
   high = ap (λ (c : Configuration). c.height) for
 
-  pub stream_is : IsStream (stream_for choice ppm h a)
-  stream_is = record { coded = laws.written a.configuration; width = wide; height = high; accepted = accepted }
+  pub stream_is : IsStream profile (stream_for choice ppm h a)
+  stream_is = record { coded = laws.written a.configuration; width = wide; height = high; accepted = accepted; profiled = profiled }
 
   -- a file with that head has this stream and no other
-  pub one_stream : (s : Stream) → IsStream s → s.head ≡ head_for choice ppm h a.configuration → s ≡ stream_for choice ppm h a
+  pub one_stream : (s : Stream) → IsStream profile s → s.head ≡ head_for choice ppm h a.configuration → s ≡ stream_for choice ppm h a
   one_stream s stream same =
       let c : Configuration = s.accepted.configuration in
       let bytes : AreBytes s.head.config_record = subst AreBytes (sym (ap (λ (k : Head). k.config_record) same)) (record_are_bytes a.configuration) in
@@ -93,9 +96,9 @@ module _ (laws : RecordLaws) (choice : Choice) (ppm : Bool) (h : VideoHead) (a :
       let down : c.height ≡ a.configuration.height = stream.height ∙ ap (λ (k : Head). k.height) same ∙ sym high in
       let one = laws.one s.head.config_record c a.configuration s.accepted.table a.table bytes stream.accepted accepted across down stream.coded written in
       let tables = laws.table a.configuration s.accepted.table a.table (subst (λ k. IsAccepted k s.accepted.table) one stream.accepted) accepted in
-      let pair : Configuration → Table → Accepted = λ k t. record { configuration = k; table = t } in
+      let named : Configuration → Table → RecordProfile → Accepted = λ k t p. record { configuration = k; table = t; profile = p } in
       let whole : Head → Accepted → Stream = λ k b. record { head = k; accepted = b } in
-      let both : s.accepted ≡ a = ap₂ pair one tables in
+      let both : s.accepted ≡ a = ap₂ (λ k t. named k t s.accepted.profile) one tables ∙ ap (named a.configuration a.table) (stream.profiled ∙ sym profiled) in
       ap₂ whole same both
 
   -- its record has no fault
@@ -106,33 +109,33 @@ module _ (laws : RecordLaws) (choice : Choice) (ppm : Bool) (h : VideoHead) (a :
       subst (λ m. IsRefused (record_of a.configuration) m a.configuration.height f) (sym wide) (subst (λ n. IsRefused (record_of a.configuration) h.width n f) (sym high) here) in
       laws.none (record_of a.configuration) a.configuration a.table f (record_are_bytes a.configuration) accepted (laws.written a.configuration) sizes
 
-abbrev with_table : Configuration → Table → Accepted
-with_table c t = record { configuration = c; table = t }
+abbrev with_table : Configuration → Table → RecordProfile → Accepted
+with_table c t p = record { configuration = c; table = t; profile = p }
 
-text_with : (choice : Choice) (ppm : Bool) (h : VideoHead) → IsHeadBy ppm h → (t : Table) → HasText (stream_for choice ppm h (with_table (configuration_for choice ppm h) t))
-text_with choice true h is t = ap (λ (k : VideoHead). k.extra_plane) is.1
-text_with choice false h is t = is.chroma
+text_with : (choice : Choice) (ppm : Bool) (h : VideoHead) → IsHeadBy ppm h → (t : Table) (p : RecordProfile) → HasText (stream_for choice ppm h (with_table (configuration_for choice ppm h) t p))
+text_with choice true h is t p = ap (λ (k : VideoHead). k.extra_plane) is.1
+text_with choice false h is t p = is.chroma
 
 pub text_given : (choice : Choice) (ppm : Bool) (h : VideoHead) (a : Accepted) → a.configuration ≡ configuration_for choice ppm h → IsHeadBy ppm h → HasText (stream_for choice ppm h a)
-text_given choice ppm h a for is = subst (λ c. HasText (stream_for choice ppm h (with_table c a.table))) (sym for) (text_with choice ppm h is a.table)
+text_given choice ppm h a for is = subst (λ c. HasText (stream_for choice ppm h (with_table c a.table a.profile))) (sym for) (text_with choice ppm h is a.table a.profile)
 
-alike_with : (choice : Choice) (ppm : Bool) (h : VideoHead) (t : Table) (frames : List Frame) → AllSay (said_for h) frames → AreAlike (stream_for choice ppm h (with_table (configuration_for choice ppm h) t)) frames
-alike_with choice true h t frames say = tt
-alike_with choice false h t [] say = tt
-alike_with choice false h t (f ∷ fs) say = subst (λ s. AllSay s fs) (sym say.0) say.1
+alike_with : (choice : Choice) (ppm : Bool) (h : VideoHead) (t : Table) (p : RecordProfile) (frames : List Frame) → AllSay (said_for h) frames → AreAlike (stream_for choice ppm h (with_table (configuration_for choice ppm h) t p)) frames
+alike_with choice true h t p frames say = tt
+alike_with choice false h t p [] say = tt
+alike_with choice false h t p (f ∷ fs) say = subst (λ s. AllSay s fs) (sym say.0) say.1
 
 pub alike_given : (choice : Choice) (ppm : Bool) (h : VideoHead) (a : Accepted) → a.configuration ≡ configuration_for choice ppm h → (frames : List Frame) → AllSay (said_for h) frames → AreAlike (stream_for choice ppm h a) frames
-alike_given choice ppm h a for frames say = subst (λ c. AreAlike (stream_for choice ppm h (with_table c a.table)) frames) (sym for) (alike_with choice ppm h a.table frames say)
+alike_given choice ppm h a for frames say = subst (λ c. AreAlike (stream_for choice ppm h (with_table c a.table a.profile)) frames) (sym for) (alike_with choice ppm h a.table a.profile frames say)
 
-canonical_with : (choice : Choice) (ppm : Bool) (h : VideoHead) (t : Table) (frames : List Frame) → AllSay (said_for h) frames → 0 < length (pictures frames) →
-    text_of (stream_for choice ppm h (with_table (configuration_for choice ppm h) t)) frames ≡ canonical_by ppm h (pictures frames)
-canonical_with choice true h t frames say some = refl
-canonical_with choice false h t [] say some = absurd (omega (arith, some))
-canonical_with choice false h t (f ∷ fs) say some =
-    ap (λ s. canonical_text (video_of (stream_for choice false h (with_table (configuration_for choice false h) t)) s) (pictures (f ∷ fs))) say.0
+canonical_with : (choice : Choice) (ppm : Bool) (h : VideoHead) (t : Table) (p : RecordProfile) (frames : List Frame) → AllSay (said_for h) frames → 0 < length (pictures frames) →
+    text_of (stream_for choice ppm h (with_table (configuration_for choice ppm h) t p)) frames ≡ canonical_by ppm h (pictures frames)
+canonical_with choice true h t p frames say some = refl
+canonical_with choice false h t p [] say some = absurd (omega (arith, some))
+canonical_with choice false h t p (f ∷ fs) say some =
+    ap (λ s. canonical_text (video_of (stream_for choice false h (with_table (configuration_for choice false h) t p)) s) (pictures (f ∷ fs))) say.0
 
 pub canonical_given : (choice : Choice) (ppm : Bool) (h : VideoHead) (a : Accepted) → a.configuration ≡ configuration_for choice ppm h → (frames : List Frame) (ps : List Planes) → AllSay (said_for h) frames → pictures frames ≡ ps →
     0 < length ps → text_of (stream_for choice ppm h a) frames ≡ canonical_by ppm h ps
 canonical_given choice ppm h a for frames ps say are some =
-    subst (λ c. text_of (stream_for choice ppm h (with_table c a.table)) frames ≡ canonical_by ppm h ps) (sym for)
-    (canonical_with choice ppm h a.table frames say (subst (λ qs. 0 < length qs) (sym are) some) ∙ ap (canonical_by ppm h) are)
+    subst (λ c. text_of (stream_for choice ppm h (with_table c a.table a.profile)) frames ≡ canonical_by ppm h ps) (sym for)
+    (canonical_with choice ppm h a.table a.profile frames say (subst (λ qs. 0 < length qs) (sym are) some) ∙ ap (canonical_by ppm h) are)

@@ -22,6 +22,7 @@ use Rattle.ffv1_codec.specs.declared.fault.FrameFault.{FrameFault}
 use Rattle.ffv1_y4m.specs.Canonical.{header_text}
 use Rattle.ffv1_y4m.specs.Pictures.{picture_text}
 use Rattle.ffv1_y4m.specs.declared.head.VideoHead.{VideoHead}
+use Rattle.ffv1_avi.specs.declared.place.Place.{Place}
 use Rattle.ffv1_avi.specs.Files.{frame_read}
 use Rattle.ffv1_avi.specs.Head.{Head}
 use Rattle.ffv1_engine.specs.declared.fault.Fault.{Fault}
@@ -82,7 +83,7 @@ text_more s h (g ∷ gs) f heads =
     ap (λ z. header_text (video_of s g.said) ++ z) (texts_more (g ∷ gs) f)
     ∙ sym (append_assoc (header_text (video_of s g.said)) (flat_map picture_text (pictures (g ∷ gs))) (picture_text f.planes))
 
-module _ (s : Stream) (h : VideoHead) (heads : (said : Said) → head_saying h said ≡ video_of s said) (plain : is_ppm_stream s ≡ false) (left : ℕ) where
+module _ (s : Stream) (h : VideoHead) (heads : (said : Said) → head_saying h said ≡ video_of s said) (plain : is_ppm_stream s ≡ false) (from : Place) where
   plain_alike : (frames : List Frame) → AlikeBy false frames → AlikeBy (is_ppm_stream s) frames
   plain_alike frames alike = subst (λ b. AlikeBy b frames) (sym plain) alike
 
@@ -99,27 +100,27 @@ module _ (s : Stream) (h : VideoHead) (heads : (said : Said) → head_saying h s
       let behind = text_behind h (said_in (begun_behind h frames)) f.said f.planes in
       plain_text (frames ++ (f ∷ [])) ∙ text_more s h frames f heads ∙ ap (λ z. z ++ behind) (sym (plain_text frames))
 
-  pub unpacked_none : (i o : Option (List ℕ)) (ib ob : ℕ) → Unpacked s left (between i i ib ib) (between o o ob ob) [] left
+  pub unpacked_none : (i o : Option (List ℕ)) (ib ob : ℕ) → Unpacked s from (between i i ib ib) (between o o ob ob) [] from
   unpacked_none i o ib ob = record {
     are = tt;
     alike = plain_alike [] tt;
-    read = reads_none left i;
+    read = reads_none from i;
     kept = refl;
     written = refl;
     writes = subst (Appends o o) (sym (plain_text [])) (Appends-nil o);
   }
 
-  module _ (least last : ℕ) (i0 i1 i2 o0 o1 o2 : Option (List ℕ)) (ib im ia ob om oa : ℕ) (frames : List Frame)
-      (un : Unpacked s left (between i0 i1 ib im) (between o0 o1 ob om) frames least) where
+  module _ (to last : Place) (i0 i1 i2 o0 o1 o2 : Option (List ℕ)) (ib im ia ob om oa : ℕ) (frames : List Frame)
+      (un : Unpacked s from (between i0 i1 ib im) (between o0 o1 ob om) frames to) where
     more_alike : (f : Frame) → SaysAgain (said_in (begun_behind h frames)) f.said → AlikeBy (is_ppm_stream s) (frames ++ (f ∷ []))
     more_alike f again = plain_alike (frames ++ (f ∷ [])) (alike_more h frames f (alike_plain frames un.alike) again)
 
-    pub unpacked_more : (f : Frame) → PlaysFrame s.accepted least last (between i1 i2 im ia) f → SaysAgain (said_in (begun_behind h frames)) f.said → oa ≡ om →
-        Appends o1 o2 (text_behind h (said_in (begun_behind h frames)) f.said f.planes) → Unpacked s left (between i0 i2 ib ia) (between o0 o2 ob oa) (frames ++ (f ∷ [])) last
+    pub unpacked_more : (f : Frame) → PlaysFrame s.accepted to last (between i1 i2 im ia) f → SaysAgain (said_in (begun_behind h frames)) f.said → oa ≡ om →
+        Appends o1 o2 (text_behind h (said_in (begun_behind h frames)) f.said f.planes) → Unpacked s from (between i0 i2 ib ia) (between o0 o2 ob oa) (frames ++ (f ∷ [])) last
     unpacked_more f plays again same writes = record {
       are = are_more s.accepted frames f un.are plays.is;
       alike = more_alike f again;
-      read = reads_more left least last i0 i1 i2 frames f un.read plays.reads.next;
+      read = reads_more from to last i0 i1 i2 frames f un.read plays.reads.next;
       kept = plays.reads.kept ∙ un.kept;
       written = same ∙ un.written;
       writes =
@@ -127,28 +128,28 @@ module _ (s : Stream) (h : VideoHead) (heads : (said : Said) → head_saying h s
           (Appends-trans o0 o1 o2 (text_by (is_ppm_stream s) s frames) (text_behind h (said_in (begun_behind h frames)) f.said f.planes) un.writes writes);
     }
 
-    pub unpacked_over : ReadsEnd least (between i1 i2 im ia) → Silent (between o1 o2 om oa) → UnpackedAll s left (between i0 i2 ib ia) (between o0 o2 ob oa) frames
+    pub unpacked_over : ReadsEnd to (between i1 i2 im ia) → Silent (between o1 o2 om oa) → UnpackedAll s from (between i0 i2 ib ia) (between o0 o2 ob oa) frames
     unpacked_over over silent = record {
       are = un.are;
       alike = un.alike;
-      ends = ends_over left least i0 i1 i2 frames un.read over.over;
+      ends = ends_over from to i0 i1 i2 frames un.read over.over;
       kept = over.kept ∙ un.kept;
       written = silent.same ∙ un.written;
       writes = Appends-kept o0 o1 o2 (text_by (is_ppm_stream s) s frames) un.writes silent.kept;
     }
 
-    some : Silent (between o1 o2 om oa) → UnpackedSome s left (between i0 i2 ib ia) (between o0 o2 ob oa) frames
+    some : Silent (between o1 o2 om oa) → UnpackedSome s from (between i0 i2 ib ia) (between o0 o2 ob oa) frames
     some silent = record {
       are = un.are;
       alike = un.alike;
-      begins = reads_some left least i0 i1 frames un.read;
+      begins = reads_some from to i0 i1 frames un.read;
       written = silent.same ∙ un.written;
       writes = Appends-kept o0 o1 o2 (text_by (is_ppm_stream s) s frames) un.writes silent.kept;
     }
 
-    picture_fails : (f : Frame) → PlaysFrame s.accepted least last (between i1 i2 im ia) f → SaysAgain (said_in (begun_behind h frames)) f.said → oa ≡ one_more om →
+    picture_fails : (f : Frame) → PlaysFrame s.accepted to last (between i1 i2 im ia) f → SaysAgain (said_in (begun_behind h frames)) f.said → oa ≡ one_more om →
         (k : ℕ) → k < length (text_behind h (said_in (begun_behind h frames)) f.said f.planes) → Appends o1 o2 (take k (text_behind h (said_in (begun_behind h frames)) f.said f.planes)) →
-        PictureFails s left (between i0 i2 ib ia) (between o0 o2 ob oa)
+        PictureFails s from (between i0 i2 ib ia) (between o0 o2 ob oa)
     picture_fails f plays again counted k short writes =
         let text = text_by (is_ppm_stream s) s frames in
         let behind = text_behind h (said_in (begun_behind h frames)) f.said f.planes in
@@ -157,10 +158,10 @@ module _ (s : Stream) (h : VideoHead) (heads : (said : Said) → head_saying h s
         let few : length text + k < length (text ++ behind) = omega (arith, long, short) in
         record {
           frames = frames ++ (f ∷ []);
-          least = last;
+          to = last;
           are = are_more s.accepted frames f un.are plays.is;
           alike = more_alike f again;
-          read = reads_more left least last i0 i1 i2 frames f un.read plays.reads.next;
+          read = reads_more from to last i0 i1 i2 frames f un.read plays.reads.next;
           kept = plays.reads.kept ∙ un.kept;
           written = counted ∙ ap one_more un.written;
           writes = record {
@@ -173,8 +174,8 @@ module _ (s : Stream) (h : VideoHead) (heads : (said : Said) → head_saying h s
           };
         }
 
-    payload_faults : (f : Fault) → Silent (between o1 o2 om oa) → PayloadRefused s.accepted h (said_in (begun_behind h frames)) least last (between i1 i2 im ia) (between o1 o2 om oa) f →
-        PayloadFaults s left (between i0 i2 ib ia) (between o0 o2 ob oa) f
+    payload_faults : (f : Fault) → Silent (between o1 o2 om oa) → PayloadRefused s.accepted h (said_in (begun_behind h frames)) to last (between i1 i2 im ia) (between o1 o2 om oa) f →
+        PayloadFaults s from (between i0 i2 ib ia) (between o0 o2 ob oa) f
     payload_faults f silent p =
         let text = text_by (is_ppm_stream s) s frames in
         let rows : text ++ rows_by (is_ppm_stream s) s (lines_before p.faulty) ≡ text = ap (λ b. text ++ rows_by b s (lines_before p.faulty)) plain ∙ append-nil text in
@@ -185,33 +186,33 @@ module _ (s : Stream) (h : VideoHead) (heads : (said : Said) → head_saying h s
           payload = p.payload;
           fault = p.fault;
           tally = p.tally;
-          ends = ends_payload left least last i0 i1 i2 frames p.payload p.fault p.tally un.read p.reads.next;
+          ends = ends_payload from to last i0 i1 i2 frames p.payload p.fault p.tally un.read p.reads.next;
           faulty = p.faulty;
           is = p.is;
           written = silent.same ∙ un.written;
           writes = subst (Appends o0 o2) (sym rows) (Appends-kept o0 o1 o2 text un.writes silent.kept);
         }
 
-    format_changes : (f : Fault) → Silent (between o1 o2 om oa) → FrameChanges s.accepted h (said_in (begun_behind h frames)) least last (between i1 i2 im ia) (between o1 o2 om oa) f →
-        FormatChanges s left (between i0 i2 ib ia) (between o0 o2 ob oa) f
+    format_changes : (f : Fault) → Silent (between o1 o2 om oa) → FrameChanges s.accepted h (said_in (begun_behind h frames)) to last (between i1 i2 im ia) (between o1 o2 om oa) f →
+        FormatChanges s from (between i0 i2 ib ia) (between o0 o2 ob oa) f
     format_changes f silent p = record {
       frames = frames;
       last = p.frame;
-      least = last;
+      to = last;
       are = are_more s.accepted frames p.frame un.are p.plays.is;
       alike = un.alike;
       changed = λ alike. p.changed (last_alike h frames p.frame (alike_plain (frames ++ (p.frame ∷ [])) alike));
-      read = reads_more left least last i0 i1 i2 frames p.frame un.read p.plays.reads.next;
+      read = reads_more from to last i0 i1 i2 frames p.frame un.read p.plays.reads.next;
       is = p.is;
       written = silent.same ∙ un.written;
       writes = Appends-kept o0 o1 o2 (text_by (is_ppm_stream s) s frames) un.writes silent.kept;
     }
 
-    file_faults : (f : Fault) → Silent (between o1 o2 om oa) → FaultsKnown (frame_read least) i1 i2 f → FileFaults s left (between i0 i2 ib ia) (between o0 o2 ob oa) f
-    file_faults f silent h = record { frames = frames; some = some silent; ends = ends_file left least i0 i1 i2 frames f un.read h }
+    file_faults : (f : Fault) → Silent (between o1 o2 om oa) → FaultsKnown (frame_read to) i1 i2 f → FileFaults s from (between i0 i2 ib ia) (between o0 o2 ob oa) f
+    file_faults f silent h = record { frames = frames; some = some silent; ends = ends_file from to i0 i1 i2 frames f un.read h }
 
-    pub unpacking_stops : (f : Fault) (why : Cause) → NextStopsBy s.accepted h (said_in (begun_behind h frames)) least last (between i1 i2 im ia) (between o1 o2 om oa) f why →
-        UnpackingStopsBy s left (between i0 i2 ib ia) (between o0 o2 ob oa) f why
+    pub unpacking_stops : (f : Fault) (why : Cause) → NextStopsBy s.accepted h (said_in (begun_behind h frames)) to last (between i1 i2 im ia) (between o1 o2 om oa) f why →
+        UnpackingStopsBy s from (between i0 i2 ib ia) (between o0 o2 ob oa) f why
     unpacking_stops f Writing p = inl (picture_fails p.0 p.1 p.2 p.3 p.4.0 p.4.1 p.4.2)
     unpacking_stops f Reading p = (frames, some p.0, p.1 ∙ ap one_more un.kept)
     unpacking_stops f Memory p = (frames, some p.0, p.1 ∙ un.kept)
@@ -273,50 +274,50 @@ heads_of x y b a h head same heads =
     (subst (λ z. (said : Said) → head_saying h said ≡ video_of (record { head = z; accepted = b }) said) head heads)
 
 -- memory for the sink was refused
-pub wants_memory : (s : Stream) (left : ℕ) (i o : Option (List ℕ)) (ib ob : ℕ) (f : CodecFault) → is_ppm_stream s ≡ false → f ≡ codec_fault.OutOfMemory →
-    UnpackingStops s left (between i i ib ib) (between o o ob ob) (of_codec f)
-wants_memory s left i o ib ob f plain is =
-    subst (λ z. UnpackingStops s left (between i i ib ib) (between o o ob ob) (of_codec z)) (sym is) (
+pub wants_memory : (s : Stream) (from : Place) (i o : Option (List ℕ)) (ib ob : ℕ) (f : CodecFault) → is_ppm_stream s ≡ false → f ≡ codec_fault.OutOfMemory →
+    UnpackingStops s from (between i i ib ib) (between o o ob ob) (of_codec f)
+wants_memory s from i o ib ob f plain is =
+    subst (λ z. UnpackingStops s from (between i i ib ib) (between o o ob ob) (of_codec z)) (sym is) (
       [],
       record {
         are = tt;
         alike = subst (λ b. AlikeBy b []) (sym plain) tt;
-        begins = reads_some left left i i [] (reads_none left i);
+        begins = reads_some from from i i [] (reads_none from i);
         written = refl;
         writes = subst (λ b. Appends o o (text_by b s [])) (sym plain) (Appends-nil o);
       },
       refl,
     )
 
-module _ (a : Accepted) (h : VideoHead) (first : Option Said) (left least : ℕ) (input : Passage) where
+module _ (a : Accepted) (h : VideoHead) (first : Option Said) (from to : Place) (input : Passage) where
   -- a frame was decoded, and its picture was not written
-  pub picture_stops : (output : Passage) (after : Begun) (frame : Frame) (f : Fault) → PlaysFrame a left least input frame → WritesPicture h first frame.said frame.planes output after (Err f) →
-      NextStopsBy a h first left least input output f (cause_of f)
+  pub picture_stops : (output : Passage) (after : Begun) (frame : Frame) (f : Fault) → PlaysFrame a from to input frame → WritesPicture h first frame.said frame.planes output after (Err f) →
+      NextStopsBy a h first from to input output f (cause_of f)
   picture_stops output after frame f plays answer = elim answer [
     | inl write ↦
-        subst (λ z. NextStopsBy a h first left least input output z (cause_of z)) (sym write.0) (frame, plays, write.1, write.2, write.3)
+        subst (λ z. NextStopsBy a h first from to input output z (cause_of z)) (sym write.0) (frame, plays, write.1, write.2, write.3)
     | inr other ↦
-        subst (λ z. NextStopsBy a h first left least input output z (cause_of z)) (sym other.0)
+        subst (λ z. NextStopsBy a h first from to input output z (cause_of z)) (sym other.0)
         (other.2, plays.reads.kept, inr (inr (record { frame = frame; plays = plays; changed = other.1; is = refl })))
   ]
 
   -- there is none
-  pub file_stops : (o : Option (List ℕ)) (n : ℕ) (f : Fault) (why : Cause) → FileStopsBy (frame_read left) input f why → NextStopsBy a h first left least input (between o o n n) f why
+  pub file_stops : (o : Option (List ℕ)) (n : ℕ) (f : Fault) (why : Cause) → FileStopsBy (frame_read from) input f why → NextStopsBy a h first from to input (between o o n n) f why
   file_stops o n f Reading stops = (silent o n, stops)
   file_stops o n f Writing stops = absurd stops
   file_stops o n f Memory stops = (silent o n, stops)
   file_stops o n f Content stops = (silent o n, stops.0, inl stops.1)
 
   -- its payload has a fault
-  pub payload_stops : (o : Option (List ℕ)) (n : ℕ) (payload : List ℕ) (f : FrameFault) (tally : Tally) → ReadsPayload left least payload input → FaultsFrame a payload f tally →
-      cause_of (of_codec f.fault) ≡ Content → NextStopsBy a h first left least input (between o o n n) (of_codec f.fault) (cause_of (of_codec f.fault))
+  pub payload_stops : (o : Option (List ℕ)) (n : ℕ) (payload : List ℕ) (f : FrameFault) (tally : Tally) → ReadsPayload from to payload input → FaultsFrame a payload f tally →
+      cause_of (of_codec f.fault) ≡ Content → NextStopsBy a h first from to input (between o o n n) (of_codec f.fault) (cause_of (of_codec f.fault))
   payload_stops o n payload f tally reads faulty content =
-      subst (NextStopsBy a h first left least input (between o o n n) (of_codec f.fault)) (sym content)
+      subst (NextStopsBy a h first from to input (between o o n n) (of_codec f.fault)) (sym content)
       (silent o n, reads.kept, inr (inl (record { payload = payload; fault = f; tally = tally; reads = reads; faulty = faulty; is = refl })))
 
 -- so many frames were unpacked
-pub record UnpackedSo (s : Stream) (h : VideoHead) (left : ℕ) (input output : Passage) (begun : Begun) (count least : ℕ) : Type 0 where
+pub record UnpackedSo (s : Stream) (h : VideoHead) (from : Place) (input output : Passage) (begun : Begun) (count : ℕ) (to : Place) : Type 0 where
   pub frames : List Frame
   pub is : count ≡ saturated (length frames)
-  pub un : Unpacked s left input output frames least
+  pub un : Unpacked s from input output frames to
   pub begun_is : begun ≡ begun_behind h frames

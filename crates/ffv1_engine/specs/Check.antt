@@ -7,6 +7,7 @@ use Rattle.ffv1_wire.specs.Failures.{one_more}
 use Rattle.ffv1_wire.specs.Passage.{Passage}
 use Rattle.ffv1_record.specs.Configuration.{Configuration}
 use Rattle.ffv1_codec.specs.declared.fault.FrameFault.{FrameFault}
+use Rattle.ffv1_engine.specs.declared.profile.Profile.{Profile}
 use Rattle.ffv1_engine.specs.declared.fault.Fault.{Fault}
 use Rattle.ffv1_engine.specs.declared.fault.Fault.TheVariants as fault
 use Rattle.ffv1_engine.specs.declared.frame_line.FrameLine.TheVariants as line
@@ -28,14 +29,14 @@ count_line n = codes "frames " ++ decimal n ++ codes "\n"
 abbrev pub check_text : Configuration → List Frame → List ℕ
 check_text c frames = frame_lines line.Sizes c frames ++ count_line (saturated (length frames))
 
-module _ (place : Bool) (input output : Passage) where
+module _ (profile : Profile) (place : Bool) (input output : Passage) where
   -- all frames of the file, at least one, were decoded, and the text of them was written
   pub record CheckDone : Type 0 where
     pub stream : Stream
     pub frames : List Frame
     pub some : 0 < length frames
-    pub played : Played stream frames
-    pub reads : ReadsFile input.old input.new stream frames
+    pub played : Played profile stream frames
+    pub reads : ReadsFile profile input.old input.new stream frames
     pub kept : input.after ≡ input.before
     pub written : output.after ≡ output.before
     pub writes : Appends output.old output.new (check_text stream.accepted.configuration frames)
@@ -47,8 +48,8 @@ module _ (place : Bool) (input output : Passage) where
 
   -- the file begins with these frames, and their lines were written
   pub record ChecksSome (stream : Stream) (frames : List Frame) : Type 0 where
-    pub played : Played stream frames
-    pub begins : BeginsSome input.old stream frames
+    pub played : Played profile stream frames
+    pub begins : BeginsSome profile input.old stream frames
     pub written : output.after ≡ output.before
     pub writes : Appends output.old output.new
         (frame_lines line.Sizes stream.accepted.configuration frames)
@@ -60,8 +61,8 @@ module _ (place : Bool) (input output : Passage) where
   pub record CheckLineFails : Type 0 where
     pub stream : Stream
     pub frames : List Frame
-    pub played : Played stream frames
-    pub begins : BeginsSome input.old stream frames
+    pub played : Played profile stream frames
+    pub begins : BeginsSome profile input.old stream frames
     pub kept : input.after ≡ input.before
     pub written : output.after ≡ one_more output.before
     pub writes : WritesUpTo output.old output.new
@@ -75,7 +76,7 @@ module _ (place : Bool) (input output : Passage) where
     pub end : End
     pub file : IsOfFile end
     pub checks : ChecksSome stream frames
-    pub ends : EndsKnown input.old input.new stream frames end
+    pub ends : EndsKnown profile input.old input.new stream frames end
     pub is : EndsWith frames end f
 
   -- the payload behind these frames has its first fault
@@ -85,8 +86,8 @@ module _ (place : Bool) (input output : Passage) where
     pub payload : List ℕ
     pub fault : FrameFault
     pub tally : Tally
-    pub played : Played stream frames
-    pub ends : EndsKnown input.old input.new stream frames (Payload payload fault tally)
+    pub played : Played profile stream frames
+    pub ends : EndsKnown profile input.old input.new stream frames (Payload payload fault tally)
     pub faulty : FaultsFrame stream.accepted payload fault tally
     pub is : f ≡ of_codec fault.fault
     pub kept : input.after ≡ input.before
@@ -102,7 +103,7 @@ module _ (place : Bool) (input output : Passage) where
   CheckStopsBy f Memory = ChecksUpTo × (input.after ≡ input.before)
   CheckStopsBy f Content =
       (input.after ≡ input.before)
-      × ((Unwritten × LacksStream input.old input.new f) ⊎ CheckEnds f)
+      × ((Unwritten × LacksStream profile input.old input.new f) ⊎ CheckEnds f)
 
   -- why it is refused
   abbrev pub CheckStops : Fault → Type 0

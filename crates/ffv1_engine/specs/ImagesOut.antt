@@ -10,6 +10,7 @@ use Rattle.ffv1_wire.specs.Runs.{Line}
 use Rattle.ffv1_record.specs.Accepted.{Accepted}
 use Rattle.ffv1_record.specs.Configuration.{Configuration}
 use Rattle.ffv1_codec.specs.declared.fault.FrameFault.{FrameFault}
+use Rattle.ffv1_avi.specs.declared.place.Place.{Place}
 use Rattle.ffv1_avi.specs.Files.{frame_read}
 use Rattle.ffv1_avi.specs.Head.{Head}
 use Rattle.ffv1_y4m.specs.Images.{AtImage, image_text, text_of_lines}
@@ -35,13 +36,13 @@ abbrev pub rows_so_far : Configuration → List Line → List ℕ
 rows_so_far c lines = text_of_lines c.width c.height [] 0 lines
 
 -- of the next frame, behind whole images
-module _ (a : Accepted) (left least : ℕ) (input output : Passage) where
+module _ (a : Accepted) (from to : Place) (input output : Passage) where
   -- a row was not written whole, which a line was to bring
   pub record RowCut : Type 0 where
     pub payload : List ℕ
     pub lines : List Line
     pub next : Line
-    pub reads : ReadsPayload left least payload input
+    pub reads : ReadsPayload from to payload input
     pub hands : (head : Head) →
         HandsOver (record { head = head; accepted = a }) payload lines next
     pub written : output.after ≡ one_more output.before
@@ -53,7 +54,7 @@ module _ (a : Accepted) (left least : ℕ) (input output : Passage) where
     pub payload : List ℕ
     pub fault : FrameFault
     pub tally : Tally
-    pub reads : ReadsPayload left least payload input
+    pub reads : ReadsPayload from to payload input
     pub faulty : FaultsFrame a payload fault tally
     pub is : f ≡ of_codec fault.fault
     pub written : output.after ≡ output.before
@@ -67,13 +68,13 @@ module _ (a : Accepted) (left least : ℕ) (input output : Passage) where
   ImageStopsBy f Memory = Silent output × (input.after ≡ input.before)
   ImageStopsBy f Content =
       (input.after ≡ input.before)
-      × ((Silent output × FaultsKnown (frame_read left) input.old input.new f) ⊎ ImageFaults f)
+      × ((Silent output × FaultsKnown (frame_read from) input.old input.new f) ⊎ ImageFaults f)
 
   -- what it answers: its image was written, there is none, or why it was not
   abbrev pub WritesImage : Result Bool Fault → Type 0
   WritesImage (Ok true) =
-      (frame : Frame) × PlaysFrame a left least input frame × (output.after ≡ output.before)
+      (frame : Frame) × PlaysFrame a from to input frame × (output.after ≡ output.before)
       × Appends output.old output.new
       (image_text a.configuration.width a.configuration.height frame.planes)
-  WritesImage (Ok false) = ReadsEnd left input × Silent output
+  WritesImage (Ok false) = ReadsEnd from input × Silent output
   WritesImage (Err f) = ImageStopsBy f (cause_of f)

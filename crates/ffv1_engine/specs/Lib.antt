@@ -1,4 +1,5 @@
 pub mod Faults
+pub mod Profiles
 pub mod Picture
 pub mod Plane
 pub mod Report

@@ -3,9 +3,12 @@ use Rattle.std.specs.Prelude.{◌≡◌, ℕ, Bool, true, false, List, Option, S
 use Rattle.ffv1_wire.specs.Failures.{one_more}
 use Rattle.ffv1_wire.specs.Passage.{Passage}
 use Rattle.ffv1_record.specs.Accepted.{Accepted}
+use Rattle.ffv1_avi.specs.declared.place.Place.{Place}
 use Rattle.ffv1_avi.specs.Files.{open_read}
 use Rattle.ffv1_avi.specs.Head.{Head}
 use Rattle.ffv1_avi.specs.Readers.{Standing}
+use Rattle.ffv1_engine.specs.declared.profile.Profile.{Profile}
+use Rattle.ffv1_engine.specs.Profiles.{extent_in}
 use Rattle.ffv1_engine.specs.declared.fault.Fault.{Fault}
 use Rattle.ffv1_engine.specs.declared.fault.Fault.TheVariants as fault
 use Rattle.ffv1_engine.specs.Faults.{Cause, cause_of}
@@ -13,32 +16,33 @@ use Rattle.ffv1_engine.specs.Faults.Cause.{Reading, Writing, Memory, Content}
 use Rattle.ffv1_engine.specs.Stream.{IsStream, Stream}
 use Rattle.ffv1_engine.specs.Play.{LacksStream}
 
--- where the text is known, it begins with this head, and movi has so many bytes
-abbrev pub OpensKnown : Option (List ℕ) → Option (List ℕ) → Head → ℕ → Type 0
-OpensKnown None new head left = ⊤
-OpensKnown (Some file) None head left = ⊥
-OpensKnown (Some file) (Some rest) head left = open_read file ≡ Ok ((head, left), rest)
+-- where the text is known, it begins with this head, and its frames come from this place
+abbrev pub OpensKnown : Profile → Option (List ℕ) → Option (List ℕ) → Head → Place → Type 0
+OpensKnown profile None new head place = ⊤
+OpensKnown profile (Some file) None head place = ⊥
+OpensKnown profile (Some file) (Some rest) head place =
+    open_read (extent_in profile) file ≡ Ok ((head, place), rest)
 
 abbrev pub stream_of : Standing → Accepted → Stream
 stream_of r a = record { head = r.head; accepted = a }
 
 -- a file was opened
-pub record OpensStream (r : Standing) (a : Accepted) (p : Passage) : Type 0 where
-  pub stream : IsStream (stream_of r a)
-  pub known : OpensKnown p.old p.new r.head r.left
+pub record OpensStream (profile : Profile) (r : Standing) (a : Accepted) (p : Passage) : Type 0 where
+  pub stream : IsStream profile (stream_of r a)
+  pub known : OpensKnown profile p.old p.new r.head r.place
   pub sound : r.fault ≡ None
   pub kept : p.after ≡ p.before
 
 -- or why it was not, by the cause: a read failed, which was counted; memory was refused; or the
 -- file has this fault
-abbrev pub LacksOpeningBy : Passage → Fault → Cause → Type 0
-LacksOpeningBy p f Reading = p.after ≡ one_more p.before
-LacksOpeningBy p f Writing = ⊥
-LacksOpeningBy p f Memory = p.after ≡ p.before
-LacksOpeningBy p f Content = (p.after ≡ p.before) × LacksStream p.old p.new f
+abbrev pub LacksOpeningBy : Profile → Passage → Fault → Cause → Type 0
+LacksOpeningBy profile p f Reading = p.after ≡ one_more p.before
+LacksOpeningBy profile p f Writing = ⊥
+LacksOpeningBy profile p f Memory = p.after ≡ p.before
+LacksOpeningBy profile p f Content = (p.after ≡ p.before) × LacksStream profile p.old p.new f
 
-abbrev pub LacksOpening : Passage → Fault → Type 0
-LacksOpening p f = LacksOpeningBy p f (cause_of f)
+abbrev pub LacksOpening : Profile → Passage → Fault → Type 0
+LacksOpening profile p f = LacksOpeningBy profile p f (cause_of f)
 
 -- the faults that opening has, whatever the file: those of its chunks before the first frame, and
 -- those of its record

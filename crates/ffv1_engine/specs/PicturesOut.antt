@@ -13,6 +13,7 @@ use Rattle.ffv1_codec.specs.Kept.{Kept}
 use Rattle.ffv1_codec.specs.Picture.{AreOf, Planes}
 use Rattle.ffv1_codec.specs.SliceList.{Said}
 use Rattle.ffv1_codec.specs.declared.fault.FrameFault.{FrameFault}
+use Rattle.ffv1_avi.specs.declared.place.Place.{Place}
 use Rattle.ffv1_avi.specs.Files.{frame_read}
 use Rattle.ffv1_y4m.specs.Canonical.{next_text}
 use Rattle.ffv1_y4m.specs.Writes.{Y4mWriting}
@@ -80,43 +81,43 @@ pub record IsKeptFor (a : Accepted) (kept : Kept) : Type 0 where
   pub planes : AreOf kept.grid kept.planes
 
 -- of the next frame, behind pictures that say this
-module _ (a : Accepted) (h : VideoHead) (first : Option Said) (left least : ℕ)
+module _ (a : Accepted) (h : VideoHead) (first : Option Said) (from to : Place)
     (input output : Passage) where
   -- its payload has its first fault
   pub record PayloadRefused (f : Fault) : Type 0 where
     pub payload : List ℕ
     pub fault : FrameFault
     pub tally : Tally
-    pub reads : ReadsPayload left least payload input
+    pub reads : ReadsPayload from to payload input
     pub faulty : FaultsFrame a payload fault tally
     pub is : f ≡ of_codec fault.fault
 
   -- it was decoded, and says something else
   pub record FrameChanges (f : Fault) : Type 0 where
     pub frame : Frame
-    pub plays : PlaysFrame a left least input frame
+    pub plays : PlaysFrame a from to input frame
     pub changed : SaysAgain first frame.said → ⊥
     pub is : f ≡ fault.FormatChanged
 
   -- why there is none, or it is not written, by the cause
   abbrev pub NextStopsBy : Fault → Cause → Type 0
   NextStopsBy f Writing =
-      (frame : Frame) × PlaysFrame a left least input frame × SaysAgain first frame.said
+      (frame : Frame) × PlaysFrame a from to input frame × SaysAgain first frame.said
       × (output.after ≡ one_more output.before)
       × AppendsBeginning output.old output.new (text_behind h first frame.said frame.planes)
   NextStopsBy f Reading = Silent output × (input.after ≡ one_more input.before)
   NextStopsBy f Memory = Silent output × (input.after ≡ input.before)
   NextStopsBy f Content =
       Silent output × (input.after ≡ input.before)
-      × (FaultsKnown (frame_read left) input.old input.new f ⊎ PayloadRefused f ⊎ FrameChanges f)
+      × (FaultsKnown (frame_read from) input.old input.new f ⊎ PayloadRefused f ⊎ FrameChanges f)
 
   -- what its writing answers, and the text behind it: its picture was written, there is none, or
   -- why it was not
   abbrev pub WritesNext : Begun → Result Bool Fault → Type 0
   WritesNext after (Ok true) =
-      (frame : Frame) × PlaysFrame a left least input frame × SaysAgain first frame.said
+      (frame : Frame) × PlaysFrame a from to input frame × SaysAgain first frame.said
       × (output.after ≡ output.before)
       × Appends output.old output.new (text_behind h first frame.said frame.planes)
       × (after ≡ Some (frame.said, writer_behind h frame.said))
-  WritesNext after (Ok false) = ReadsEnd left input × Silent output
+  WritesNext after (Ok false) = ReadsEnd from input × Silent output
   WritesNext after (Err f) = NextStopsBy f (cause_of f)

@@ -8,10 +8,13 @@ use Rattle.ffv1_record.specs.Accepted.{Accepted}
 use Rattle.ffv1_record.specs.Reading.{IsRefused}
 use Rattle.ffv1_record.specs.declared.fault.RecordFault.{RecordFault}
 use Rattle.ffv1_codec.specs.declared.fault.FrameFault.{FrameFault}
+use Rattle.ffv1_avi.specs.declared.place.Place.{Place}
 use Rattle.ffv1_avi.specs.Files.{frame_read, open_read}
 use Rattle.ffv1_avi.specs.Head.{Head}
 use Rattle.ffv1_avi.specs.Reads.{Reading, Want, Short, Met}
 use Rattle.ffv1_avi.specs.declared.fault.AviFault.{AviFault}
+use Rattle.ffv1_engine.specs.declared.profile.Profile.{Profile}
+use Rattle.ffv1_engine.specs.Profiles.{extent_in}
 use Rattle.ffv1_engine.specs.declared.fault.Fault.{Fault}
 use Rattle.ffv1_engine.specs.declared.fault.Fault.TheVariants as fault
 use Rattle.ffv1_engine.specs.Faults.{of_avi, of_codec, of_record}
@@ -26,22 +29,23 @@ FaultsRead reading text rest f =
     ⊎ ((g : AviFault) × (reading text ≡ Err (Met g rest)) × (f ≡ of_avi g))
 
 -- a file with a head whose record is refused
-pub record LacksRecord (file rest : List ℕ) (f : Fault) : Type 0 where
+pub record LacksRecord (profile : Profile) (file rest : List ℕ) (f : Fault) : Type 0 where
   pub head : Head
-  pub left : ℕ
-  pub opened : open_read file ≡ Ok ((head, left), rest)
+  pub place : Place
+  pub opened : open_read (extent_in profile) file ≡ Ok ((head, place), rest)
   pub refusal : RecordFault
   pub refused : IsRefused head.config_record head.width head.height refusal
   pub is : f ≡ of_record refusal
 
 -- the first fault of a file that has no stream, where it is known
-abbrev pub LacksStream : Option (List ℕ) → Option (List ℕ) → Fault → Type 0
-LacksStream None new f = ⊤
-LacksStream (Some file) None f = ⊥
-LacksStream (Some file) (Some rest) f = FaultsRead open_read file rest f ⊎ LacksRecord file rest f
+abbrev pub LacksStream : Profile → Option (List ℕ) → Option (List ℕ) → Fault → Type 0
+LacksStream profile None new f = ⊤
+LacksStream profile (Some file) None f = ⊥
+LacksStream profile (Some file) (Some rest) f =
+    FaultsRead (open_read (extent_in profile)) file rest f ⊎ LacksRecord profile file rest f
 
 -- why there is no further frame: the file has a fault, or the next payload has one, where so much
--- was decided, or movi has ended
+-- was decided, or there is none
 pub data End : Type 0 where
   File : Fault → End
   Payload : List ℕ → FrameFault → Tally → End
@@ -53,19 +57,20 @@ IsOfFile (File f) = ⊤
 IsOfFile (Payload payload f tally) = ⊥
 IsOfFile Over = ⊤
 
--- so the reading ends of a text where movi has so many bytes left, and this is left of it
-abbrev pub EndsReading : ℕ → List ℕ → List ℕ → End → Type 0
-EndsReading left text rest (File f) = FaultsRead (frame_read left) text rest f
-EndsReading left text rest (Payload payload f tally) =
-    (least : ℕ) × (frame_read left text ≡ Ok (Some (payload, least), rest))
-EndsReading left text rest Over = frame_read left text ≡ Ok (None, rest)
+-- from this place of the file the reading of this text ends so, and this is left of it
+abbrev pub EndsReading : Place → List ℕ → List ℕ → End → Type 0
+EndsReading from text rest (File f) = FaultsRead (frame_read from) text rest f
+EndsReading from text rest (Payload payload f tally) =
+    (to : Place) × (frame_read from text ≡ Ok (Some (payload, to), rest))
+EndsReading from text rest Over = frame_read from text ≡ Ok (None, rest)
 
 -- where the file is known, so it ends behind these frames
-abbrev pub EndsKnown : Option (List ℕ) → Option (List ℕ) → Stream → List Frame → End → Type 0
-EndsKnown None new s frames e = ⊤
-EndsKnown (Some file) None s frames e = ⊥
-EndsKnown (Some file) (Some rest) s frames e =
-    (left : ℕ) × (at : List ℕ) × Begins file s frames left at × EndsReading left at rest e
+abbrev pub EndsKnown : Profile → Option (List ℕ) → Option (List ℕ) → Stream → List Frame → End →
+    Type 0
+EndsKnown profile None new s frames e = ⊤
+EndsKnown profile (Some file) None s frames e = ⊥
+EndsKnown profile (Some file) (Some rest) s frames e =
+    (to : Place) × (at : List ℕ) × Begins profile file s frames to at × EndsReading to at rest e
 
 -- the payload at which it ends has its fault
 abbrev pub IsFaulty : Accepted → End → Type 0
@@ -80,13 +85,14 @@ EndsWith frames (Payload payload f tally) g = g ≡ of_codec f.fault
 EndsWith frames Over g = (frames ≡ []) × (g ≡ fault.NoFrames)
 
 -- the file, where it is known, begins with these frames
-abbrev pub BeginsSome : Option (List ℕ) → Stream → List Frame → Type 0
-BeginsSome None s frames = ⊤
-BeginsSome (Some file) s frames = (left : ℕ) × (at : List ℕ) × Begins file s frames left at
+abbrev pub BeginsSome : Profile → Option (List ℕ) → Stream → List Frame → Type 0
+BeginsSome profile None s frames = ⊤
+BeginsSome profile (Some file) s frames =
+    (to : Place) × (at : List ℕ) × Begins profile file s frames to at
 
 -- frames of a stream
-pub record Played (s : Stream) (frames : List Frame) : Type 0 where
-  pub stream : IsStream s
+pub record Played (profile : Profile) (s : Stream) (frames : List Frame) : Type 0 where
+  pub stream : IsStream profile s
   pub decoded : AreFrames s.accepted frames
 
 -- all but the last

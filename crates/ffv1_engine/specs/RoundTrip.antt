@@ -13,6 +13,7 @@ use Rattle.ffv1_y4m.specs.Canonical.{canonical_text}
 use Rattle.ffv1_y4m.specs.Images.{image_text}
 use Rattle.ffv1_y4m.specs.VideoHead.{IsRatio}
 use Rattle.ffv1_y4m.specs.declared.head.VideoHead.{VideoHead}
+use Rattle.ffv1_engine.specs.declared.profile.Profile.{Profile}
 use Rattle.ffv1_engine.specs.declared.fault.Fault.{Fault}
 use Rattle.ffv1_engine.specs.declared.fault.Fault.TheVariants as fault
 use Rattle.ffv1_words.specs.declared.order.Choice.{Choice}
@@ -60,11 +61,11 @@ canonical_of v = canonical_by v.ppm v.head v.pictures
 
 -- a file is a stream of frames, one for each picture of a video, which code those pictures and say
 -- what the video's head says; and their text is the canonical text of the video
-pub record Holds (file : List ℕ) (v : Video) : Type 0 where
+pub record Holds (profile : Profile) (file : List ℕ) (v : Video) : Type 0 where
   pub stream : Stream
   pub frames : List Frame
   pub is : AviFile file stream.head (payloads frames)
-  pub played : Played stream frames
+  pub played : Played profile stream frames
   pub pictures_are : pictures frames ≡ v.pictures
   pub say : AllSay (said_for v.head) frames
   pub text : HasText stream

@@ -6,6 +6,8 @@ use Rattle.ffv1_wire.specs.Failures.{one_more}
 use Rattle.ffv1_wire.specs.Passage.{Passage}
 use Rattle.ffv1_wire.specs.Writes.{AppendsBeginning}
 use Rattle.ffv1_codec.specs.declared.fault.FrameFault.{FrameFault}
+use Rattle.ffv1_avi.specs.declared.place.Place.{Place}
+use Rattle.ffv1_engine.specs.declared.profile.Profile.{Profile}
 use Rattle.ffv1_engine.specs.declared.fault.Fault.{Fault}
 use Rattle.ffv1_engine.specs.declared.fault.Fault.TheVariants as fault
 use Rattle.ffv1_engine.specs.declared.frame_line.FrameLine.TheVariants as line
@@ -24,13 +26,13 @@ use Rattle.ffv1_engine.specs.Trial.{Silent}
 abbrev pub cost_text : Stream → List Frame → List ℕ
 cost_text s frames = show_text s ++ frame_lines line.Cost s.accepted.configuration frames
 
-module _ (input output : Passage) where
+module _ (profile : Profile) (input output : Passage) where
   -- the file begins with the head of a stream, and the lines of that were written
   pub record ShowsStream : Type 0 where
     pub stream : Stream
-    pub is : IsStream stream
-    pub left : ℕ
-    pub opens : OpensKnown input.old input.new stream.head left
+    pub is : IsStream profile stream
+    pub place : Place
+    pub opens : OpensKnown profile input.old input.new stream.head place
     pub kept : input.after ≡ input.before
     pub written : output.after ≡ output.before
     pub writes : Appends output.old output.new (show_text stream)
@@ -39,8 +41,8 @@ module _ (input output : Passage) where
   pub record ShowsCosts : Type 0 where
     pub stream : Stream
     pub frames : List Frame
-    pub played : Played stream frames
-    pub reads : ReadsFile input.old input.new stream frames
+    pub played : Played profile stream frames
+    pub reads : ReadsFile profile input.old input.new stream frames
     pub kept : input.after ≡ input.before
     pub written : output.after ≡ output.before
     pub writes : Appends output.old output.new (cost_text stream frames)
@@ -53,9 +55,9 @@ module _ (input output : Passage) where
   -- the lines of the stream were not written whole
   pub record StreamFails : Type 0 where
     pub stream : Stream
-    pub is : IsStream stream
-    pub left : ℕ
-    pub opens : OpensKnown input.old input.new stream.head left
+    pub is : IsStream profile stream
+    pub place : Place
+    pub opens : OpensKnown profile input.old input.new stream.head place
     pub kept : input.after ≡ input.before
     pub written : output.after ≡ one_more output.before
     pub writes : AppendsBeginning output.old output.new (show_text stream)
@@ -68,12 +70,12 @@ module _ (input output : Passage) where
   StreamStopsBy f Reading = Silent output × (input.after ≡ one_more input.before)
   StreamStopsBy f Memory = Silent output × (input.after ≡ input.before)
   StreamStopsBy f Content =
-      Silent output × (input.after ≡ input.before) × LacksStream input.old input.new f
+      Silent output × (input.after ≡ input.before) × LacksStream profile input.old input.new f
 
   -- the file begins with these frames, and what each cost was written behind those lines
   pub record CostsSome (stream : Stream) (frames : List Frame) : Type 0 where
-    pub played : Played stream frames
-    pub begins : BeginsSome input.old stream frames
+    pub played : Played profile stream frames
+    pub begins : BeginsSome profile input.old stream frames
     pub written : output.after ≡ output.before
     pub writes : Appends output.old output.new (cost_text stream frames)
 
@@ -81,8 +83,8 @@ module _ (input output : Passage) where
   pub record CostFails : Type 0 where
     pub stream : Stream
     pub frames : List Frame
-    pub played : Played stream frames
-    pub begins : BeginsSome input.old stream frames
+    pub played : Played profile stream frames
+    pub begins : BeginsSome profile input.old stream frames
     pub kept : input.after ≡ input.before
     pub written : output.after ≡ one_more output.before
     pub writes : WritesUpTo output.old output.new (length (cost_text stream (but_last frames)))
@@ -94,7 +96,7 @@ module _ (input output : Passage) where
     pub frames : List Frame
     pub costs : CostsSome stream frames
     pub kept : input.after ≡ input.before
-    pub ends : EndsKnown input.old input.new stream frames (File f)
+    pub ends : EndsKnown profile input.old input.new stream frames (File f)
 
   -- the payload behind these frames has its first fault
   pub record CostPayload (f : Fault) : Type 0 where
@@ -105,7 +107,7 @@ module _ (input output : Passage) where
     pub payload : List ℕ
     pub fault : FrameFault
     pub tally : Tally
-    pub ends : EndsKnown input.old input.new stream frames (Payload payload fault tally)
+    pub ends : EndsKnown profile input.old input.new stream frames (Payload payload fault tally)
     pub faulty : FaultsFrame stream.accepted payload fault tally
     pub is : f ≡ of_codec fault.fault
 

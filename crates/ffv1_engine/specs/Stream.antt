@@ -14,21 +14,27 @@ use Rattle.ffv1_codec.specs.Frame.{CodesPicture}
 use Rattle.ffv1_codec.specs.Picture.{Planes}
 use Rattle.ffv1_codec.specs.SliceList.{Said}
 use Rattle.ffv1_codec.specs.declared.fault.FrameFault.{FrameFault}
+use Rattle.ffv1_avi.specs.declared.place.Place.{Place}
 use Rattle.ffv1_avi.specs.Chunks.{AviFile}
-use Rattle.ffv1_avi.specs.Files.{frame_read, open_read}
+use Rattle.ffv1_avi.specs.Files.{file_read, frame_read, open_read}
 use Rattle.ffv1_avi.specs.Head.{Head}
+use Rattle.ffv1_avi.specs.declared.place.Extent.TheVariants.{EveryRiff}
+use Rattle.ffv1_engine.specs.declared.profile.Profile.{Profile}
+use Rattle.ffv1_engine.specs.declared.profile.Profile.TheVariants.{Strict, Wide}
+use Rattle.ffv1_engine.specs.Profiles.{extent_in, record_profile}
 
 -- the head of a file, and the configuration of its frames
 pub record Stream : Type 0 where
   pub head : Head
   pub accepted : Accepted
 
--- the head's record is of that configuration, for pictures of the head's size
-pub record IsStream (s : Stream) : Type 0 where
+-- the head's record is of that configuration, for pictures of the head's size, in the profile
+pub record IsStream (profile : Profile) (s : Stream) : Type 0 where
   pub coded : IsRecord s.head.config_record s.accepted.configuration
   pub width : s.accepted.configuration.width ≡ s.head.width
   pub height : s.accepted.configuration.height ≡ s.head.height
   pub accepted : IsAccepted s.accepted.configuration s.accepted.table
+  pub profiled : s.accepted.profile ≡ record_profile profile
 
 -- a frame: its payload, the picture that it codes, what it says of it, and what was decided
 pub record Frame : Type 0 where
@@ -75,33 +81,39 @@ FaultsFrame a payload f tally =
     × (tally ≡ no_tally))
     ⊎ FaultsBehindCut a payload f tally
 
--- movi has so many bytes left, and this text begins with these frames; so many are left then, and
--- this text
-abbrev pub ReadsFrames : ℕ → List ℕ → List (List ℕ) → ℕ → List ℕ → Type 0
-ReadsFrames left text [] least rest = (least ≡ left) × (rest ≡ text)
-ReadsFrames left text (frame ∷ frames) least rest =
-    (most : ℕ) × (behind : List ℕ) × (frame_read left text ≡ Ok (Some (frame, most), behind))
-    × ReadsFrames most behind frames least rest
+-- from this place of the file this text begins with these frames; then come that place and that
+-- text
+abbrev pub ReadsFrames : Place → List ℕ → List (List ℕ) → Place → List ℕ → Type 0
+ReadsFrames from text [] to rest = (to ≡ from) × (rest ≡ text)
+ReadsFrames from text (frame ∷ frames) to rest =
+    (after : Place) × (behind : List ℕ) × (frame_read from text ≡ Ok (Some (frame, after), behind))
+    × ReadsFrames after behind frames to rest
 
--- a file begins with the head of a stream and these frames; movi has so many bytes left then, and
--- this is left of the file
-pub record Begins (file : List ℕ) (s : Stream) (frames : List Frame) (left : ℕ) (rest : List ℕ)
-    : Type 0 where
-  pub most : ℕ
+-- a file begins with the head of a stream and these frames; then comes this place of it, and this
+-- is left of it
+pub record Begins (profile : Profile) (file : List ℕ) (s : Stream) (frames : List Frame)
+    (to : Place) (rest : List ℕ) : Type 0 where
+  pub from : Place
   pub behind : List ℕ
-  pub opened : open_read file ≡ Ok ((s.head, most), behind)
-  pub read : ReadsFrames most behind (payloads frames) left rest
+  pub opened : open_read (extent_in profile) file ≡ Ok ((s.head, from), behind)
+  pub read : ReadsFrames from behind (payloads frames) to rest
 
 -- where the file is known, so it begins, and this is left of it
-abbrev pub BeginsKnown : Option (List ℕ) → Option (List ℕ) → Stream → List Frame → Type 0
-BeginsKnown None new s frames = ⊤
-BeginsKnown (Some file) None s frames = ⊥
-BeginsKnown (Some file) (Some rest) s frames = (left : ℕ) × Begins file s frames left rest
+abbrev pub BeginsKnown : Profile → Option (List ℕ) → Option (List ℕ) → Stream → List Frame → Type 0
+BeginsKnown profile None new s frames = ⊤
+BeginsKnown profile (Some file) None s frames = ⊥
+BeginsKnown profile (Some file) (Some rest) s frames =
+    (to : Place) × Begins profile file s frames to rest
 
--- where the file is known, it is one of this head and these frames, by its chunks, and what stands
--- behind them is left
-abbrev pub ReadsFile : Option (List ℕ) → Option (List ℕ) → Stream → List Frame → Type 0
-ReadsFile None new s frames = ⊤
-ReadsFile (Some file) None s frames = ⊥
-ReadsFile (Some file) (Some rest) s frames =
+-- a file was read to its end, with this head and these frames, and this is left of it: a file by
+-- its chunks, behind whose first movi that stands; or all of an AVI
+abbrev pub IsRead : Profile → List ℕ → List ℕ → Stream → List Frame → Type 0
+IsRead Strict file rest s frames =
     (is : AviFile file s.head (payloads frames)) × (rest ≡ is.rest)
+IsRead Wide file rest s frames = file_read EveryRiff file ≡ Ok ((s.head, payloads frames), rest)
+
+-- where the file is known, it was read so
+abbrev pub ReadsFile : Profile → Option (List ℕ) → Option (List ℕ) → Stream → List Frame → Type 0
+ReadsFile profile None new s frames = ⊤
+ReadsFile profile (Some file) None s frames = ⊥
+ReadsFile profile (Some file) (Some rest) s frames = IsRead profile file rest s frames

@@ -1,4 +1,4 @@
--- The frames of movi are decoded one after the other, and a line is written of each at once: how
+-- The frames of a file are decoded one after the other, and a line is written of each at once: how
 -- far that goes, and why it goes no further.
 use Rattle.std.specs.Prelude.{◌≡◌, ◌⊎◌, ℕ, ◌<◌, Bool, true, false, List, [], ◌++◌, length, take}
 use Rattle.std.specs.Prelude.{Option, Some, None, Result, Ok, Err, ⊤}
@@ -13,6 +13,7 @@ use Rattle.ffv1_record.specs.Accepted.{Accepted}
 use Rattle.ffv1_codec.specs.Answer.{Answers}
 use Rattle.ffv1_codec.specs.SliceList.{Said}
 use Rattle.ffv1_codec.specs.declared.fault.FrameFault.{FrameFault}
+use Rattle.ffv1_avi.specs.declared.place.Place.{Place}
 use Rattle.ffv1_avi.specs.Files.{frame_read}
 use Rattle.ffv1_avi.specs.Reads as avi
 use Rattle.ffv1_engine.specs.declared.fault.Fault.{Fault}
@@ -27,11 +28,12 @@ use Rattle.ffv1_engine.specs.Play.{End, EndsReading, FaultsRead, WritesUpTo, but
 use Rattle.ffv1_engine.specs.Play.End.{File, Payload, Over}
 use Rattle.ffv1_engine.specs.FrameLines.{frame_line, frame_lines, place_text}
 
--- where the text is known, movi with so many bytes left reads so
-abbrev pub NextIs : ℕ → Option (List ℕ) → Option (List ℕ) → Option (List ℕ × ℕ) → Type 0
-NextIs left None new next = ⊤
-NextIs left (Some text) None next = ⊥
-NextIs left (Some text) (Some rest) next = frame_read left text ≡ Ok (next, rest)
+-- where the text is known, it reads so from this place of the file
+abbrev pub NextIs : Place → Option (List ℕ) → Option (List ℕ) →
+    Option (List ℕ × Place) → Type 0
+NextIs from None new next = ⊤
+NextIs from (Some text) None next = ⊥
+NextIs from (Some text) (Some rest) next = frame_read from text ≡ Ok (next, rest)
 
 -- where the text is known, it has this fault
 abbrev pub FaultsKnown : {X : Type 0} → avi.Reading X → Option (List ℕ) → Option (List ℕ) → Fault →
@@ -52,48 +54,50 @@ FileStopsBy reading p f Content =
 abbrev pub FileStops : {X : Type 0} → avi.Reading X → Passage → Fault → Type 0
 FileStops reading p f = FileStopsBy reading p f (cause_of f)
 
--- nothing failed, and movi with so many bytes left reads as this payload, with so many left behind
-pub record ReadsPayload (left least : ℕ) (payload : List ℕ) (p : Passage) : Type 0 where
+-- nothing failed, and from this place of the file comes this payload, and then that place
+pub record ReadsPayload (from to : Place) (payload : List ℕ) (p : Passage) : Type 0 where
   pub kept : p.after ≡ p.before
-  pub next : NextIs left p.old p.new (Some (payload, least))
+  pub next : NextIs from p.old p.new (Some (payload, to))
 
--- nothing failed, and movi has ended
-pub record ReadsEnd (left : ℕ) (p : Passage) : Type 0 where
+-- nothing failed, and from this place of the file there is no frame
+pub record ReadsEnd (from : Place) (p : Passage) : Type 0 where
   pub kept : p.after ≡ p.before
-  pub over : NextIs left p.old p.new None
+  pub over : NextIs from p.old p.new None
 
 -- a payload was read, and decoding answers so
-abbrev pub StepAnswers : {S : Type 0} → LineStep S → LineStep S → Accepted → ℕ → ℕ → List ℕ →
+abbrev pub StepAnswers : {S : Type 0} → LineStep S → LineStep S → Accepted → Place → Place →
+    List ℕ →
     Tally → Passage → S → S → Result (Option Said) Stop → Type 0
-StepAnswers takes refuses a left least payload tally p old new (Ok None) =
-    ReadsEnd left p × (new ≡ old)
-StepAnswers takes refuses a left least payload tally p old new (Ok (Some info)) =
-    ReadsPayload left least payload p × Answers takes refuses a payload old new tally (Ok info)
-StepAnswers takes refuses a left least payload tally p old new (Err (stop.File f)) =
-    FileStops (frame_read left) p (of_avi f) × (new ≡ old)
-StepAnswers takes refuses a left least payload tally p old new (Err (stop.Payload f)) =
-    ReadsPayload left least payload p × Answers takes refuses a payload old new tally (Err f)
+StepAnswers takes refuses a from to payload tally p old new (Ok None) =
+    ReadsEnd from p × (new ≡ old)
+StepAnswers takes refuses a from to payload tally p old new (Ok (Some info)) =
+    ReadsPayload from to payload p × Answers takes refuses a payload old new tally (Ok info)
+StepAnswers takes refuses a from to payload tally p old new (Err (stop.File f)) =
+    FileStops (frame_read from) p (of_avi f) × (new ≡ old)
+StepAnswers takes refuses a from to payload tally p old new (Err (stop.Payload f)) =
+    ReadsPayload from to payload p × Answers takes refuses a payload old new tally (Err f)
 
--- where the text is known, movi with so many bytes left begins with these frames
-abbrev pub ReadsKnown : ℕ → Option (List ℕ) → Option (List ℕ) → List Frame → ℕ → Type 0
-ReadsKnown left None new frames least = ⊤
-ReadsKnown left (Some text) None frames least = ⊥
-ReadsKnown left (Some text) (Some rest) frames least =
-    ReadsFrames left text (payloads frames) least rest
+-- where the text is known, from this place of the file it begins with these frames, and then comes
+-- that place
+abbrev pub ReadsKnown : Place → Option (List ℕ) → Option (List ℕ) → List Frame → Place → Type 0
+ReadsKnown from None new frames to = ⊤
+ReadsKnown from (Some text) None frames to = ⊥
+ReadsKnown from (Some text) (Some rest) frames to =
+    ReadsFrames from text (payloads frames) to rest
 
 -- the same of some of its beginning
-abbrev pub ReadsSome : ℕ → Option (List ℕ) → List Frame → Type 0
-ReadsSome left None frames = ⊤
-ReadsSome left (Some text) frames =
-    (least : ℕ) × (at : List ℕ) × ReadsFrames left text (payloads frames) least at
+abbrev pub ReadsSome : Place → Option (List ℕ) → List Frame → Type 0
+ReadsSome from None frames = ⊤
+ReadsSome from (Some text) frames =
+    (to : Place) × (at : List ℕ) × ReadsFrames from text (payloads frames) to at
 
--- where the text is known, movi ends so behind these frames
-abbrev pub EndsMovi : ℕ → Option (List ℕ) → Option (List ℕ) → List Frame → End → Type 0
-EndsMovi left None new frames e = ⊤
-EndsMovi left (Some text) None frames e = ⊥
-EndsMovi left (Some text) (Some rest) frames e =
-    (least : ℕ) × (at : List ℕ) × ReadsFrames left text (payloads frames) least at
-    × EndsReading least at rest e
+-- where the text is known, from this place of the file it has these frames, and ends so
+abbrev pub EndsFrom : Place → Option (List ℕ) → Option (List ℕ) → List Frame → End → Type 0
+EndsFrom from None new frames e = ⊤
+EndsFrom from (Some text) None frames e = ⊥
+EndsFrom from (Some text) (Some rest) frames e =
+    (to : Place) × (at : List ℕ) × ReadsFrames from text (payloads frames) to at
+    × EndsReading to at rest e
 
 -- behind other lines this line was written; or a write failed, which was counted, behind a
 -- beginning of it; or memory for it was refused
@@ -104,11 +108,12 @@ WritesLine lines last p =
     × Appends p.old p.new (lines ++ take k last))
     ⊎ ((0 < length last) × (p.after ≡ p.before) × Appends p.old p.new lines)
 
-module _ (kind : FrameLine) (place : Bool) (a : Accepted) (left : ℕ) (input output : Passage) where
+module _ (kind : FrameLine) (place : Bool) (a : Accepted) (from : Place)
+    (input output : Passage) where
   -- these frames were decoded, and their lines written
-  pub record Told (frames : List Frame) (least : ℕ) : Type 0 where
+  pub record Told (frames : List Frame) (to : Place) : Type 0 where
     pub are : AreFrames a frames
-    pub read : ReadsKnown left input.old input.new frames least
+    pub read : ReadsKnown from input.old input.new frames to
     pub kept : input.after ≡ input.before
     pub written : output.after ≡ output.before
     pub writes : Appends output.old output.new (frame_lines kind a.configuration frames)
@@ -116,7 +121,7 @@ module _ (kind : FrameLine) (place : Bool) (a : Accepted) (left : ℕ) (input ou
   -- they are all
   pub record ToldAll (frames : List Frame) : Type 0 where
     pub are : AreFrames a frames
-    pub ends : EndsMovi left input.old input.new frames Over
+    pub ends : EndsFrom from input.old input.new frames Over
     pub kept : input.after ≡ input.before
     pub written : output.after ≡ output.before
     pub writes : Appends output.old output.new (frame_lines kind a.configuration frames)
@@ -124,14 +129,14 @@ module _ (kind : FrameLine) (place : Bool) (a : Accepted) (left : ℕ) (input ou
   -- behind these frames nothing was written
   pub record ToldSome (frames : List Frame) : Type 0 where
     pub are : AreFrames a frames
-    pub begins : ReadsSome left input.old frames
+    pub begins : ReadsSome from input.old frames
     pub written : output.after ≡ output.before
     pub writes : Appends output.old output.new (frame_lines kind a.configuration frames)
 
   -- the line of the last of these frames was not written whole
   pub record LineFails (frames : List Frame) : Type 0 where
     pub are : AreFrames a frames
-    pub begins : ReadsSome left input.old frames
+    pub begins : ReadsSome from input.old frames
     pub kept : input.after ≡ input.before
     pub written : output.after ≡ one_more output.before
     pub writes : WritesUpTo output.old output.new
@@ -145,7 +150,7 @@ module _ (kind : FrameLine) (place : Bool) (a : Accepted) (left : ℕ) (input ou
     pub payload : List ℕ
     pub fault : FrameFault
     pub tally : Tally
-    pub ends : EndsMovi left input.old input.new frames (Payload payload fault tally)
+    pub ends : EndsFrom from input.old input.new frames (Payload payload fault tally)
     pub faulty : FaultsFrame a payload fault tally
     pub is : f ≡ of_codec fault.fault
     pub kept : input.after ≡ input.before
@@ -162,25 +167,25 @@ module _ (kind : FrameLine) (place : Bool) (a : Accepted) (left : ℕ) (input ou
       (frames : List Frame) × ToldSome frames × (input.after ≡ input.before)
   TellingStopsBy f Content =
       (frames : List Frame) × ToldSome frames × (input.after ≡ input.before)
-      × EndsMovi left input.old input.new frames (File f)
+      × EndsFrom from input.old input.new frames (File f)
 
   abbrev pub TellingStops : Fault → Type 0
   TellingStops f = PayloadStops f ⊎ TellingStopsBy f (cause_of f)
 
 -- a frame was read and decoded
-pub record PlaysFrame (a : Accepted) (left least : ℕ) (input : Passage) (f : Frame) : Type 0 where
+pub record PlaysFrame (a : Accepted) (from to : Place) (input : Passage) (f : Frame) : Type 0 where
   pub is : IsFrame a f
-  pub reads : ReadsPayload left least f.payload input
+  pub reads : ReadsPayload from to f.payload input
 
 -- of the frame with this number
-module _ (kind : FrameLine) (place : Bool) (a : Accepted) (i left least : ℕ)
+module _ (kind : FrameLine) (place : Bool) (a : Accepted) (i : ℕ) (from to : Place)
     (input output : Passage) where
   -- it has its first fault
   pub record FrameStops (f : Fault) : Type 0 where
     pub payload : List ℕ
     pub fault : FrameFault
     pub tally : Tally
-    pub reads : ReadsPayload left least payload input
+    pub reads : ReadsPayload from to payload input
     pub faulty : FaultsFrame a payload fault tally
     pub is : f ≡ of_codec fault.fault
     pub writes : WritesLine [] (place_text place i fault tally) output
@@ -193,7 +198,7 @@ module _ (kind : FrameLine) (place : Bool) (a : Accepted) (i left least : ℕ)
   -- or why there is none, or it is not told, by the cause
   abbrev pub FrameStopsBy : Fault → Cause → Type 0
   FrameStopsBy f Writing =
-      (frame : Frame) × PlaysFrame a left least input frame
+      (frame : Frame) × PlaysFrame a from to input frame
       × (output.after ≡ one_more output.before)
       × AppendsBeginning output.old output.new
       (frame_line kind a.configuration i frame.payload frame.tally)
@@ -201,15 +206,15 @@ module _ (kind : FrameLine) (place : Bool) (a : Accepted) (i left least : ℕ)
   FrameStopsBy f Memory = Silent × (input.after ≡ input.before)
   FrameStopsBy f Content =
       Silent × (input.after ≡ input.before)
-      × FaultsKnown (frame_read left) input.old input.new f
+      × FaultsKnown (frame_read from) input.old input.new f
 
   -- what telling a frame answers: that it was told, that there is none, or why it was not
   abbrev pub FrameAnswers : Result Bool Fault → Type 0
   FrameAnswers (Ok true) =
-      (frame : Frame) × PlaysFrame a left least input frame × (output.after ≡ output.before)
+      (frame : Frame) × PlaysFrame a from to input frame × (output.after ≡ output.before)
       × Appends output.old output.new
       (frame_line kind a.configuration i frame.payload frame.tally)
-  FrameAnswers (Ok false) = ReadsEnd left input × Silent
+  FrameAnswers (Ok false) = ReadsEnd from input × Silent
   FrameAnswers (Err f) = FrameStops f ⊎ FrameStopsBy f (cause_of f)
 
 -- a line was written; or a write failed, which was counted, behind a beginning of it; or memory for

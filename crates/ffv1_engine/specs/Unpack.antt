@@ -7,6 +7,7 @@ use Rattle.ffv1_wire.specs.Failures.{one_more}
 use Rattle.ffv1_wire.specs.Passage.{Passage}
 use Rattle.ffv1_wire.specs.Runs.{Line}
 use Rattle.ffv1_codec.specs.declared.fault.FrameFault.{FrameFault}
+use Rattle.ffv1_engine.specs.declared.profile.Profile.{Profile}
 use Rattle.ffv1_engine.specs.declared.fault.Fault.{Fault}
 use Rattle.ffv1_engine.specs.declared.fault.Fault.TheVariants as fault
 use Rattle.ffv1_engine.specs.Faults.{Cause, cause_of, of_codec}
@@ -24,25 +25,25 @@ use Rattle.ffv1_engine.specs.Unpacked.{rows_of, text_of}
 use Rattle.ffv1_engine.specs.Unpacking.{HandsOver}
 
 -- the file is opened, and its pictures have no text
-pub record LacksTextIn (file : Option (List ℕ)) (f : Fault) : Type 0 where
+pub record LacksTextIn (profile : Profile) (file : Option (List ℕ)) (f : Fault) : Type 0 where
   pub stream : Stream
-  pub is : IsStream stream
-  pub begins : BeginsSome file stream []
+  pub is : IsStream profile stream
+  pub begins : BeginsSome profile file stream []
   pub lacks : LacksText stream f
 
 -- why a file is not opened for that, by the cause: a read failed, which was counted; memory was
 -- refused; or the file has no stream, or one that has no text
-abbrev pub LacksUnpackingBy : Passage → Fault → Cause → Type 0
-LacksUnpackingBy p f Reading = p.after ≡ one_more p.before
-LacksUnpackingBy p f Writing = ⊥
-LacksUnpackingBy p f Memory = p.after ≡ p.before
-LacksUnpackingBy p f Content =
-    (p.after ≡ p.before) × (LacksStream p.old p.new f ⊎ LacksTextIn p.old f)
+abbrev pub LacksUnpackingBy : Profile → Passage → Fault → Cause → Type 0
+LacksUnpackingBy profile p f Reading = p.after ≡ one_more p.before
+LacksUnpackingBy profile p f Writing = ⊥
+LacksUnpackingBy profile p f Memory = p.after ≡ p.before
+LacksUnpackingBy profile p f Content =
+    (p.after ≡ p.before) × (LacksStream profile p.old p.new f ⊎ LacksTextIn profile p.old f)
 
-abbrev pub LacksUnpacking : Passage → Fault → Type 0
-LacksUnpacking p f = LacksUnpackingBy p f (cause_of f)
+abbrev pub LacksUnpacking : Profile → Passage → Fault → Type 0
+LacksUnpacking profile p f = LacksUnpackingBy profile p f (cause_of f)
 
-module _ (input output : Passage) where
+module _ (profile : Profile) (input output : Passage) where
   -- all frames of the file, at least one, were decoded, and the text of them was written
   pub record UnpackDone (count : ℕ) : Type 0 where
     pub stream : Stream
@@ -50,9 +51,9 @@ module _ (input output : Passage) where
     pub some : 0 < length frames
     pub counted : count ≡ saturated (length frames)
     pub text : HasText stream
-    pub played : Played stream frames
+    pub played : Played profile stream frames
     pub alike : AreAlike stream frames
-    pub reads : ReadsFile input.old input.new stream frames
+    pub reads : ReadsFile profile input.old input.new stream frames
     pub kept : input.after ≡ input.before
     pub written : output.after ≡ output.before
     pub writes : Appends output.old output.new (text_of stream frames)
@@ -60,9 +61,9 @@ module _ (input output : Passage) where
   -- the file begins with these frames, and their text was written
   pub record UnpacksSome (stream : Stream) (frames : List Frame) : Type 0 where
     pub text : HasText stream
-    pub played : Played stream frames
+    pub played : Played profile stream frames
     pub alike : AreAlike stream frames
-    pub begins : BeginsSome input.old stream frames
+    pub begins : BeginsSome profile input.old stream frames
     pub written : output.after ≡ output.before
     pub writes : Appends output.old output.new (text_of stream frames)
 
@@ -71,9 +72,9 @@ module _ (input output : Passage) where
     pub stream : Stream
     pub frames : List Frame
     pub text : HasText stream
-    pub played : Played stream frames
+    pub played : Played profile stream frames
     pub alike : AreAlike stream frames
-    pub begins : BeginsKnown input.old input.new stream frames
+    pub begins : BeginsKnown profile input.old input.new stream frames
     pub kept : input.after ≡ input.before
     pub written : output.after ≡ one_more output.before
     pub writes : WritesUpTo output.old output.new
@@ -84,14 +85,14 @@ module _ (input output : Passage) where
     pub stream : Stream
     pub frames : List Frame
     pub text : HasText stream
-    pub played : Played stream frames
+    pub played : Played profile stream frames
     pub ppm : is_ppm_stream stream ≡ true
     pub payload : List ℕ
     pub fault : FrameFault
     pub tally : Tally
     pub lines : List Line
     pub next : Line
-    pub ends : EndsKnown input.old input.new stream frames (Payload payload fault tally)
+    pub ends : EndsKnown profile input.old input.new stream frames (Payload payload fault tally)
     pub hands : HandsOver stream payload lines next
     pub kept : input.after ≡ input.before
     pub written : output.after ≡ one_more output.before
@@ -105,7 +106,7 @@ module _ (input output : Passage) where
     pub frames : List Frame
     pub end : End
     pub some : UnpacksSome stream frames
-    pub ends : EndsKnown input.old input.new stream frames end
+    pub ends : EndsKnown profile input.old input.new stream frames end
     pub file : IsOfFile end
     pub is : EndsWith frames end f
 
@@ -117,9 +118,9 @@ module _ (input output : Passage) where
     pub fault : FrameFault
     pub tally : Tally
     pub text : HasText stream
-    pub played : Played stream frames
+    pub played : Played profile stream frames
     pub alike : AreAlike stream frames
-    pub ends : EndsKnown input.old input.new stream frames (Payload payload fault tally)
+    pub ends : EndsKnown profile input.old input.new stream frames (Payload payload fault tally)
     pub faulty : FaultsFrame stream.accepted payload fault tally
     pub is : f ≡ of_codec fault.fault
     pub written : output.after ≡ output.before
@@ -132,10 +133,10 @@ module _ (input output : Passage) where
     pub frames : List Frame
     pub last : Frame
     pub text : HasText stream
-    pub played : Played stream (frames ++ (last ∷ []))
+    pub played : Played profile stream (frames ++ (last ∷ []))
     pub alike : AreAlike stream frames
     pub changed : AreAlike stream (frames ++ (last ∷ [])) → ⊥
-    pub begins : BeginsKnown input.old input.new stream (frames ++ (last ∷ []))
+    pub begins : BeginsKnown profile input.old input.new stream (frames ++ (last ∷ []))
     pub is : f ≡ fault.FormatChanged
     pub written : output.after ≡ output.before
     pub writes : Appends output.old output.new (text_of stream frames)
@@ -154,8 +155,8 @@ module _ (input output : Passage) where
   UnpackStopsBy f Memory = UnpacksUpTo × (input.after ≡ input.before)
   UnpackStopsBy f Content =
       (input.after ≡ input.before)
-      × ((Silent output × LacksStream input.old input.new f)
-      ⊎ (Silent output × LacksTextIn input.old f)
+      × ((Silent output × LacksStream profile input.old input.new f)
+      ⊎ (Silent output × LacksTextIn profile input.old f)
       ⊎ UnpackEnds f ⊎ UnpackPayload f ⊎ UnpackChanges f)
 
   abbrev pub UnpackStops : Fault → Type 0

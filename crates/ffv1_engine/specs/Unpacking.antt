@@ -1,4 +1,4 @@
--- The frames of movi are decoded one after the other, and each picture is written: how far that
+-- The frames of a file are decoded one after the other, and each picture is written: how far that
 -- goes, and why it goes no further.
 use Rattle.std.specs.Prelude.{◌≡◌, ◌⊎◌, ◌+◌, ℕ, List, [], ◌∷◌, ◌++◌, length, Option, slice_index}
 use Rattle.std.specs.Prelude.{Ok}
@@ -13,6 +13,7 @@ use Rattle.ffv1_slice.specs.Footer.{foot_length}
 use Rattle.ffv1_codec.specs.Decoding.{Offers, State, top_of}
 use Rattle.ffv1_codec.specs.SliceList.{Said}
 use Rattle.ffv1_codec.specs.declared.fault.FrameFault.{FrameFault}
+use Rattle.ffv1_avi.specs.declared.place.Place.{Place}
 use Rattle.ffv1_engine.specs.declared.fault.Fault.{Fault}
 use Rattle.ffv1_engine.specs.declared.fault.Fault.TheVariants as fault
 use Rattle.ffv1_engine.specs.Faults.{Cause, cause_of, of_codec}
@@ -20,7 +21,7 @@ use Rattle.ffv1_engine.specs.Faults.Cause.{Reading, Writing, Memory, Content}
 use Rattle.ffv1_engine.specs.Stream.{AreFrames, FaultsFrame, Frame, Stream}
 use Rattle.ffv1_engine.specs.Play.{WritesUpTo, but_last}
 use Rattle.ffv1_engine.specs.Play.End.{File, Payload, Over}
-use Rattle.ffv1_engine.specs.Told.{EndsMovi, ReadsKnown, ReadsSome}
+use Rattle.ffv1_engine.specs.Told.{EndsFrom, ReadsKnown, ReadsSome}
 use Rattle.ffv1_engine.specs.Unpacked.{AreAlike, is_ppm_stream, lines_before, rows_of, text_of}
 use Rattle.std.specs.Prelude.{true}
 
@@ -43,12 +44,12 @@ pub record HandsOver (s : Stream) (payload : List ℕ) (lines : List Line) (next
     samples = get_or state.out number [];
   }
 
-module _ (s : Stream) (left : ℕ) (input output : Passage) where
+module _ (s : Stream) (from : Place) (input output : Passage) where
   -- these frames were decoded, and their text was written
-  pub record Unpacked (frames : List Frame) (least : ℕ) : Type 0 where
+  pub record Unpacked (frames : List Frame) (to : Place) : Type 0 where
     pub are : AreFrames s.accepted frames
     pub alike : AreAlike s frames
-    pub read : ReadsKnown left input.old input.new frames least
+    pub read : ReadsKnown from input.old input.new frames to
     pub kept : input.after ≡ input.before
     pub written : output.after ≡ output.before
     pub writes : Appends output.old output.new (text_of s frames)
@@ -57,7 +58,7 @@ module _ (s : Stream) (left : ℕ) (input output : Passage) where
   pub record UnpackedAll (frames : List Frame) : Type 0 where
     pub are : AreFrames s.accepted frames
     pub alike : AreAlike s frames
-    pub ends : EndsMovi left input.old input.new frames Over
+    pub ends : EndsFrom from input.old input.new frames Over
     pub kept : input.after ≡ input.before
     pub written : output.after ≡ output.before
     pub writes : Appends output.old output.new (text_of s frames)
@@ -66,17 +67,17 @@ module _ (s : Stream) (left : ℕ) (input output : Passage) where
   pub record UnpackedSome (frames : List Frame) : Type 0 where
     pub are : AreFrames s.accepted frames
     pub alike : AreAlike s frames
-    pub begins : ReadsSome left input.old frames
+    pub begins : ReadsSome from input.old frames
     pub written : output.after ≡ output.before
     pub writes : Appends output.old output.new (text_of s frames)
 
   -- the picture of the last of these frames was not written whole
   pub record PictureFails : Type 0 where
     pub frames : List Frame
-    pub least : ℕ
+    pub to : Place
     pub are : AreFrames s.accepted frames
     pub alike : AreAlike s frames
-    pub read : ReadsKnown left input.old input.new frames least
+    pub read : ReadsKnown from input.old input.new frames to
     pub kept : input.after ≡ input.before
     pub written : output.after ≡ one_more output.before
     pub writes : WritesUpTo output.old output.new (length (text_of s (but_last frames)))
@@ -92,7 +93,7 @@ module _ (s : Stream) (left : ℕ) (input output : Passage) where
     pub tally : Tally
     pub lines : List Line
     pub next : Line
-    pub ends : EndsMovi left input.old input.new frames (Payload payload fault tally)
+    pub ends : EndsFrom from input.old input.new frames (Payload payload fault tally)
     pub hands : HandsOver s payload lines next
     pub kept : input.after ≡ input.before
     pub written : output.after ≡ one_more output.before
@@ -108,7 +109,7 @@ module _ (s : Stream) (left : ℕ) (input output : Passage) where
     pub payload : List ℕ
     pub fault : FrameFault
     pub tally : Tally
-    pub ends : EndsMovi left input.old input.new frames (Payload payload fault tally)
+    pub ends : EndsFrom from input.old input.new frames (Payload payload fault tally)
     pub faulty : FaultsFrame s.accepted payload fault tally
     pub is : f ≡ of_codec fault.fault
     pub written : output.after ≡ output.before
@@ -119,11 +120,11 @@ module _ (s : Stream) (left : ℕ) (input output : Passage) where
   pub record FormatChanges (f : Fault) : Type 0 where
     pub frames : List Frame
     pub last : Frame
-    pub least : ℕ
+    pub to : Place
     pub are : AreFrames s.accepted (frames ++ (last ∷ []))
     pub alike : AreAlike s frames
     pub changed : AreAlike s (frames ++ (last ∷ [])) → ⊥
-    pub read : ReadsKnown left input.old input.new (frames ++ (last ∷ [])) least
+    pub read : ReadsKnown from input.old input.new (frames ++ (last ∷ [])) to
     pub is : f ≡ fault.FormatChanged
     pub written : output.after ≡ output.before
     pub writes : Appends output.old output.new (text_of s frames)
@@ -132,7 +133,7 @@ module _ (s : Stream) (left : ℕ) (input output : Passage) where
   pub record FileFaults (f : Fault) : Type 0 where
     pub frames : List Frame
     pub some : UnpackedSome frames
-    pub ends : EndsMovi left input.old input.new frames (File f)
+    pub ends : EndsFrom from input.old input.new frames (File f)
 
   -- why no further picture is written, by the cause: a write failed, which was counted; a read
   -- failed, which was counted; memory was refused; or the file has this fault

@@ -8,6 +8,7 @@ ghost use Rattle.ffv1_engine.specs.Told.{WritesFrame};
 use crate::fault::Fault;
 use crate::frame_line::{FrameLine, put_count};
 use crate::player::open_player;
+use crate::profile::Profile;
 use crate::telling::tell_frames;
 use ffv1_avi::laws::{file_is_read, frames_in_turn, read_is_file};
 use ffv1_wire::{ByteIn, ByteOut, write_all};
@@ -30,8 +31,8 @@ fn write_count<W: ByteOut, A: Allocator + Copy>(
     Ok(())
 }
 
-/// Decodes all frames of a file, and writes a line of each as soon as it is decoded, and at the end
-/// how many there were:
+/// Decodes all frames of a file that the profile reads, and writes a line of each as soon as it is
+/// decoded, and at the end how many there were:
 ///
 /// ```text
 /// frame {i}: {length} bytes, {slices} slices, {decisions} decisions
@@ -42,9 +43,11 @@ fn write_count<W: ByteOut, A: Allocator + Copy>(
 /// decoder holds, one payload and one line are held.
 ///
 /// The first fault ends it, behind the lines of the frames before: those of the file up to its
-/// first frame (`NotAvi`, `NoFfv1`, `Truncated`, `ChunkTooLong`), of its record, of `movi`
-/// (`EmptyFrame`, too), of a payload; `NoFrames` at the end where there was none; `Read`,
-/// `OutOfMemory` and `Write` as they come. With `place`, where a payload is refused, and only
+/// first frame (`NotAvi`, `NoFfv1`, `Truncated`, `ChunkTooLong`), of its record, of the chunks of
+/// its frames (`EmptyFrame`, too), of a payload; `NoFrames` at the end where there was none;
+/// `Read`, `OutOfMemory` and `Write` as they come. At `Wide`, `Truncated` is also a file that ends inside a
+/// `RIFF`, or that has fewer frames than its `dmlh` says, and `NotAvi` one where something that is
+/// no `RIFF` comes after the last one. With `place`, where a payload is refused, and only
 /// there, one line more is written, and where that cannot be, the fault stays the payload's:
 ///
 /// ```text
@@ -52,14 +55,15 @@ fn write_count<W: ByteOut, A: Allocator + Copy>(
 /// ```
 pub fn check<R: ByteIn, W: ByteOut, A: Allocator + Copy>(
     alloc: A,
+    profile: Profile,
     input: &mut R,
     output: &mut W,
     place: bool,
 ) -> Result<(), Fault>
-    ensures ok { OnOk result (CheckDone place
+    ensures ok { OnOk result (CheckDone profile place
         (passage R.remaining R.failures input.old input.new)
         (passage W.contents W.failures output.old output.new)) }
-    ensures err { IfErr result (CheckStops place
+    ensures err { IfErr result (CheckStops profile place
         (passage R.remaining R.failures input.old input.new)
         (passage W.contents W.failures output.old output.new)) }
     ensures own { IfErr result IsCheckFault }
@@ -67,7 +71,7 @@ pub fn check<R: ByteIn, W: ByteOut, A: Allocator + Copy>(
     frames_in_turn();
     read_is_file();
     file_is_read();
-    let mut player = open_player(alloc, input)?;
+    let mut player = open_player(alloc, profile, input)?;
     let count = tell_frames(alloc, &mut player, input, output, FrameLine::Sizes, place)?;
     if count == 0 {
         return Err(Fault::NoFrames);

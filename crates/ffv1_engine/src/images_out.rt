@@ -6,6 +6,7 @@ ghost use Rattle.ffv1_wire.specs.Passage.{passage};
 ghost use Rattle.ffv1_range.specs.Counts.{saturated};
 ghost use Rattle.ffv1_record.specs.Accepted.{IsAccepted};
 ghost use Rattle.ffv1_record.specs.Configuration.{is_rct};
+ghost use Rattle.ffv1_avi.specs.Places.{amount};
 ghost use Rattle.ffv1_engine.specs.ImagesOut.{IsSinkFor, WritesImage};
 ghost use Rattle.ffv1_engine.specs.Opens.{stream_of};
 ghost use Rattle.ffv1_engine.specs.Stream.{Frame};
@@ -35,13 +36,13 @@ fn write_next<R: ByteIn, W: ByteOut, A: Allocator>(
     requires colour { is_rct player.old.decoder.accepted.configuration.colour ≡ true }
     requires opaque { player.old.decoder.accepted.configuration.extra_plane ≡ false }
     requires sink { IsSinkFor player.old.decoder.accepted.configuration sink.old }
-    ensures answer { WritesImage player.old.decoder.accepted player.old.reader.left
-        player.new.reader.left (passage R.remaining R.failures input.old input.new)
+    ensures answer { WritesImage player.old.decoder.accepted player.old.reader.place
+        player.new.reader.place (passage R.remaining R.failures input.old input.new)
         (passage W.contents W.failures sink.old.out sink.new.out) result }
     ensures sink { OnOk result (IsSinkFor player.old.decoder.accepted.configuration sink.new) }
     ensures sound { OnOk result (player.new.reader.fault ≡ None) }
     ensures less { IfOk result (λ more. more ≡ true →
-        player.new.reader.left < player.old.reader.left) }
+        amount player.new.reader.place < amount player.old.reader.place) }
     ensures same { player.new.decoder.accepted ≡ player.old.decoder.accepted }
     ensures own { IfErr result IsUnpackFault }
 {
@@ -82,10 +83,10 @@ fn write_all_images<R: ByteIn, W: ByteOut, A: Allocator>(
     requires sink { IsSinkFor player.old.decoder.accepted.configuration sink.old }
     ensures ok { IfOk result (λ n. (frames : List Frame) × (n ≡ saturated (length frames))
         × UnpackedAll (stream_of player.old.reader player.old.decoder.accepted)
-        player.old.reader.left (passage R.remaining R.failures input.old input.new)
+        player.old.reader.place (passage R.remaining R.failures input.old input.new)
         (passage W.contents W.failures sink.old.out sink.new.out) frames) }
     ensures err { IfErr result (UnpackingStops
-        (stream_of player.old.reader player.old.decoder.accepted) player.old.reader.left
+        (stream_of player.old.reader player.old.decoder.accepted) player.old.reader.place
         (passage R.remaining R.failures input.old input.new)
         (passage W.contents W.failures sink.old.out sink.new.out)) }
     ensures own { IfErr result IsUnpackFault }
@@ -112,10 +113,10 @@ pub(crate) fn write_images<R: ByteIn, W: ByteOut, A: Allocator + Copy>(
     requires opaque { player.old.decoder.accepted.configuration.extra_plane ≡ false }
     ensures ok { IfOk result.1 (λ n. (frames : List Frame) × (n ≡ saturated (length frames))
         × UnpackedAll (stream_of player.old.reader player.old.decoder.accepted)
-        player.old.reader.left (passage R.remaining R.failures input.old input.new)
+        player.old.reader.place (passage R.remaining R.failures input.old input.new)
         (passage W.contents W.failures output result.0) frames) }
     ensures err { IfErr result.1 (UnpackingStops
-        (stream_of player.old.reader player.old.decoder.accepted) player.old.reader.left
+        (stream_of player.old.reader player.old.decoder.accepted) player.old.reader.place
         (passage R.remaining R.failures input.old input.new)
         (passage W.contents W.failures output result.0)) }
     ensures own { IfErr result.1 IsUnpackFault }

@@ -8,6 +8,7 @@ ghost use Rattle.ffv1_record.specs.Configuration.{is_rct};
 ghost use Rattle.ffv1_codec.specs.Picture.{planes_of};
 ghost use Rattle.ffv1_codec.specs.SliceList.{Said};
 ghost use Rattle.ffv1_avi.specs.Head.{head_of};
+ghost use Rattle.ffv1_avi.specs.Places.{amount};
 ghost use Rattle.ffv1_engine.specs.Opens.{stream_of};
 ghost use Rattle.ffv1_engine.specs.PicturesOut.{IsBegun, IsKeptFor, WritesNext, WritesPicture};
 ghost use Rattle.ffv1_engine.specs.PicturesOut.{head_saying, said_in};
@@ -106,7 +107,7 @@ fn write_next<R: ByteIn, W: ByteOut, A: Allocator>(
     requires kept { IsKeptFor player.old.decoder.accepted kept.old }
     requires begun { IsBegun text.old.head text.old.begun }
     ensures answer { WritesNext player.old.decoder.accepted text.old.head
-        (said_in text.old.begun) player.old.reader.left player.new.reader.left
+        (said_in text.old.begun) player.old.reader.place player.new.reader.place
         (passage R.remaining R.failures input.old input.new)
         (passage W.contents W.failures output.old output.new) text.new.begun result }
     ensures kept { OnOk result (IsKeptFor player.old.decoder.accepted kept.new) }
@@ -114,7 +115,7 @@ fn write_next<R: ByteIn, W: ByteOut, A: Allocator>(
     ensures head { text.new.head ≡ text.old.head }
     ensures sound { OnOk result (player.new.reader.fault ≡ None) }
     ensures less { IfOk result (λ more. more ≡ true →
-        player.new.reader.left < player.old.reader.left) }
+        amount player.new.reader.place < amount player.old.reader.place) }
     ensures same { player.new.decoder.accepted ≡ player.old.decoder.accepted }
     ensures own { IfErr result IsUnpackFault }
 {
@@ -147,10 +148,10 @@ pub(crate) fn write_pictures<R: ByteIn, W: ByteOut, A: Allocator + Copy>(
     requires colour { is_rct player.old.decoder.accepted.configuration.colour ≡ false }
     ensures ok { IfOk result (λ n. (frames : List Frame) × (n ≡ saturated (length frames))
         × UnpackedAll (stream_of player.old.reader player.old.decoder.accepted)
-        player.old.reader.left (passage R.remaining R.failures input.old input.new)
+        player.old.reader.place (passage R.remaining R.failures input.old input.new)
         (passage W.contents W.failures output.old output.new) frames) }
     ensures err { IfErr result (UnpackingStops
-        (stream_of player.old.reader player.old.decoder.accepted) player.old.reader.left
+        (stream_of player.old.reader player.old.decoder.accepted) player.old.reader.place
         (passage R.remaining R.failures input.old input.new)
         (passage W.contents W.failures output.old output.new)) }
     ensures own { IfErr result IsUnpackFault }

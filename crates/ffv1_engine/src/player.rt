@@ -2,18 +2,25 @@
 
 ghost use Rattle.std.specs.Prelude.{◌≡◌, ◌⊎◌, ◌<◌, IfErr, IfOk, IfSome, None, OnOk, Some, true};
 ghost use Rattle.ffv1_wire.specs.Passage.{passage};
+ghost use Rattle.ffv1_avi.specs.Files.{open_read};
 ghost use Rattle.ffv1_avi.specs.Head.{head_of};
+ghost use Rattle.ffv1_avi.specs.Places.{amount};
+ghost use Rattle.ffv1_avi.specs.Readers as readers;
+ghost use Rattle.ffv1_avi.specs.Readers.{opened_at};
+ghost use Rattle.ffv1_avi.specs.Reads.{Answers};
 ghost use Rattle.ffv1_record.specs.Reading.{IsRefused};
 ghost use Rattle.ffv1_record.specs.declared.fault.RecordFault.TheVariants as record_fault;
 ghost use Rattle.ffv1_engine.specs.declared.fault.Fault.TheVariants as fault;
 ghost use Rattle.ffv1_engine.specs.Opens.{OpensStream, LacksOpening, is_opening_fault};
+ghost use Rattle.ffv1_engine.specs.Profiles.{extent_in};
 ghost use Rattle.ffv1_engine.specs.Stream.{IsStream};
 ghost use Rattle.ffv1_engine.specs.Told.{IsOwnStop, StepAnswers};
 
 use crate::fault::Fault;
+use crate::profile::Profile;
 use ffv1_avi::{AviFault, AviHead, AviReader};
 use ffv1_codec::{FrameDecoder, FrameFault, Info};
-use ffv1_record::{Checked, RecordFault, read_record};
+use ffv1_record::{Checked, RecordFault, read_record_in};
 use ffv1_wire::{ByteIn, LineSink};
 use std::alloc::{Allocator, Global};
 
@@ -26,33 +33,63 @@ pub enum Stop {
     Payload(FrameFault),
 }
 
-/// The configuration of a head's record, for pictures of the head's size.
-fn read_head<A: Allocator + Copy>(alloc: A, head: &AviHead<A>) -> Result<Checked<A>, RecordFault>
-    ensures ok { IfOk result (λ c. IsStream (record { head = head_of head.now; accepted = c })) }
+/// The configuration of a head's record, for pictures of the head's size, in the profile.
+fn read_head<A: Allocator + Copy>(
+    alloc: A,
+    profile: Profile,
+    head: &AviHead<A>,
+) -> Result<Checked<A>, RecordFault>
+    ensures ok { IfOk result (λ c.
+        IsStream profile (record { head = head_of head.now; accepted = c })) }
     ensures err { IfErr result (λ f. (f ≡ record_fault.OutOfMemory)
         ⊎ IsRefused head.now.config_record.items head.now.width head.now.height f) }
 {
     // Both arms are written out, so that the clauses are proved by arm.
-    match read_record(alloc, &head.config_record, head.width, head.height) {
+    match read_record_in(
+        alloc,
+        &head.config_record,
+        head.width,
+        head.height,
+        profile.of_record(),
+    ) {
         Ok(checked) => Ok(checked),
         Err(fault) => Err(fault),
     }
 }
 
-/// Opens a file, and reads the configuration of its frames. The faults are those of the file up to
-/// `movi`, then those of its record; `Read` and `OutOfMemory` as they come.
+/// Opens a file, as far as the profile reads it.
+fn open_reader<R: ByteIn, A: Allocator>(
+    alloc: A,
+    profile: Profile,
+    input: &mut R,
+) -> Result<AviReader<A>, AviFault>
+    ensures answer { Answers opened_at (open_read (extent_in profile))
+        (passage R.remaining R.failures input.old input.new) result }
+    ensures sound { IfOk result (λ r. r.fault ≡ None) }
+    ensures own { IfErr result (λ f. readers.is_opening_fault f ≡ true) }
+{
+    match profile {
+        Profile::Strict => AviReader::open(alloc, input),
+        Profile::Wide => AviReader::open_all(alloc, input),
+    }
+}
+
+/// Opens a file, as the profile says, and reads the configuration of its frames. The faults are
+/// those of the file up to its first `movi`, then those of its record; `Read` and `OutOfMemory` as
+/// they come.
 pub(crate) fn open_stream<R: ByteIn, A: Allocator + Copy>(
     alloc: A,
+    profile: Profile,
     input: &mut R,
 ) -> Result<(AviReader<A>, Checked<A>), Fault>
-    ensures ok { IfOk result (λ p. OpensStream p.0 p.1
+    ensures ok { IfOk result (λ p. OpensStream profile p.0 p.1
         (passage R.remaining R.failures input.old input.new)) }
-    ensures err { IfErr result (LacksOpening
+    ensures err { IfErr result (LacksOpening profile
         (passage R.remaining R.failures input.old input.new)) }
     ensures own { IfErr result (λ f. is_opening_fault f ≡ true) }
 {
-    let reader = AviReader::open(alloc, input)?;
-    let checked = read_head(alloc, reader.head())?;
+    let reader = open_reader(alloc, profile, input)?;
+    let checked = read_head(alloc, profile, reader.head())?;
     Ok((reader, checked))
 }
 
@@ -97,15 +134,16 @@ pub(crate) fn player_of<A: Allocator + Copy>(
 /// `OutOfMemory` where the decoder is refused its memory.
 pub(crate) fn open_player<R: ByteIn, A: Allocator + Copy>(
     alloc: A,
+    profile: Profile,
     input: &mut R,
 ) -> Result<Player<A>, Fault>
-    ensures ok { IfOk result (λ p. OpensStream p.reader p.decoder.accepted
+    ensures ok { IfOk result (λ p. OpensStream profile p.reader p.decoder.accepted
         (passage R.remaining R.failures input.old input.new)) }
-    ensures err { IfErr result (LacksOpening
+    ensures err { IfErr result (LacksOpening profile
         (passage R.remaining R.failures input.old input.new)) }
     ensures own { IfErr result (λ f. is_opening_fault f ≡ true) }
 {
-    let (reader, checked) = open_stream(alloc, input)?;
+    let (reader, checked) = open_stream(alloc, profile, input)?;
     let player = player_of(alloc, reader, checked)?;
     Ok(player)
 }
@@ -119,12 +157,12 @@ pub(crate) fn play<R: ByteIn, S: LineSink, A: Allocator>(
 ) -> Result<Option<Info>, Stop>
     requires sound { player.old.reader.fault ≡ None }
     ensures answer { StepAnswers S.takes S.refuses player.old.decoder.accepted
-        player.old.reader.left player.new.reader.left player.new.payload.items
+        player.old.reader.place player.new.reader.place player.new.payload.items
         player.new.decoder.tally (passage R.remaining R.failures input.old input.new)
         sink.old sink.new result }
     ensures sound { OnOk result (player.new.reader.fault ≡ None) }
     ensures less { IfOk result (λ o. IfSome o (λ _.
-        player.new.reader.left < player.old.reader.left)) }
+        amount player.new.reader.place < amount player.old.reader.place)) }
     ensures same { player.new.decoder.accepted ≡ player.old.decoder.accepted }
     ensures own { IfErr result IsOwnStop }
 {

@@ -13,6 +13,7 @@ ghost use Rattle.ffv1_engine.specs.Told.{TellingStops, ToldAll, WritesFrame, is_
 use crate::fault::Fault;
 use crate::frame_line::FrameLine;
 use crate::player::{open_stream, player_of};
+use crate::profile::Profile;
 use crate::stream_lines::show_text;
 use crate::telling::tell_frames;
 use ffv1_avi::laws::{file_is_read, frames_in_turn, read_is_file};
@@ -49,10 +50,10 @@ fn tell_costs<R: ByteIn, W: ByteOut, A: Allocator + Copy>(
     requires sound { reader.fault ≡ None }
     requires accepted { IsAccepted checked.configuration checked.table }
     ensures ok { OnOk result ((frames : List Frame)
-        × ToldAll line.Cost false checked reader.left
+        × ToldAll line.Cost false checked reader.place
         (passage R.remaining R.failures input.old input.new)
         (passage W.contents W.failures output.old output.new) frames) }
-    ensures err { IfErr result (TellingStops line.Cost false checked reader.left
+    ensures err { IfErr result (TellingStops line.Cost false checked reader.place
         (passage R.remaining R.failures input.old input.new)
         (passage W.contents W.failures output.old output.new)) }
     ensures own { IfErr result (λ f. is_telling_fault f ≡ true) }
@@ -79,32 +80,36 @@ fn tell_costs<R: ByteIn, W: ByteOut, A: Allocator + Copy>(
 /// ```
 ///
 /// The line `extra 1` is there where there is a plane of transparency. What is held is told as
-/// `Checked::held` says it. A file without frames is none the worse. With `cost` all frames are
-/// then decoded, and a line of each is written as soon as it is decoded:
+/// `Checked::held` says it. Which stream of the file is told, and where its record ends, is by the
+/// profile. A file without frames is none the worse. With `cost` all frames that the profile reads
+/// are then decoded, and a line of each is written as soon as it is decoded:
 ///
 /// ```text
 /// cost frame {i}: ones {n} zeros {n} renormalisations {n}
 /// ```
 ///
 /// Frames are counted from 0; a count of 64 bits stays at its greatest value. Without `cost`
-/// nothing behind the header of `movi` is read, and no decoder is made; with it, beside what the
-/// decoder holds, one payload and one line are held.
+/// nothing after the header of the first `movi` is read, and no decoder is made; with it, beside
+/// what the decoder holds, one payload and one line are held.
 ///
 /// The faults are those of the file up to its first frame (`NotAvi`, `NoFfv1`, `Truncated`,
-/// `ChunkTooLong`) and of its record, with nothing written; with `cost` then those of `movi`
-/// (`EmptyFrame`, too) and of a payload, behind the lines of the stream and of the frames before.
-/// `Read`, `OutOfMemory` and `Write` come as they come; where a write failed, a beginning of what
-/// was to be written is.
+/// `ChunkTooLong`) and of its record, with nothing written; with `cost` then those of the chunks of
+/// its frames (`EmptyFrame`, too) and of a payload, after the lines of the stream and of the frames
+/// before. With `cost`, at `Wide`, `Truncated` is also a file that ends inside a `RIFF`, or that
+/// has fewer frames than its `dmlh` says, and `NotAvi` one where something that is no `RIFF` comes
+/// after the last one. `Read`, `OutOfMemory` and `Write` come as they come; where a write failed, a
+/// beginning of what was to be written is.
 pub fn show<R: ByteIn, W: ByteOut, A: Allocator + Copy>(
     alloc: A,
+    profile: Profile,
     input: &mut R,
     output: &mut W,
     cost: bool,
 ) -> Result<(), Fault>
-    ensures ok { OnOk result (ShowDone
+    ensures ok { OnOk result (ShowDone profile
         (passage R.remaining R.failures input.old input.new)
         (passage W.contents W.failures output.old output.new) cost) }
-    ensures err { IfErr result (ShowStops
+    ensures err { IfErr result (ShowStops profile
         (passage R.remaining R.failures input.old input.new)
         (passage W.contents W.failures output.old output.new) cost) }
     ensures own { IfErr result (λ f. is_show_fault cost f ≡ true) }
@@ -112,7 +117,7 @@ pub fn show<R: ByteIn, W: ByteOut, A: Allocator + Copy>(
     frames_in_turn();
     read_is_file();
     file_is_read();
-    let (reader, checked) = open_stream(alloc, input)?;
+    let (reader, checked) = open_stream(alloc, profile, input)?;
     write_stream(alloc, output, reader.head(), &checked)?;
     if cost {
         tell_costs(alloc, reader, checked, input, output)?;

@@ -5,6 +5,7 @@ ghost use Rattle.ffv1_wire.specs.Passage.{passage};
 ghost use Rattle.ffv1_range.specs.Counts.{saturated};
 ghost use Rattle.ffv1_record.specs.Accepted.{IsAccepted};
 ghost use Rattle.ffv1_codec.specs.Answer.{decided_by};
+ghost use Rattle.ffv1_avi.specs.Places.{amount};
 ghost use Rattle.ffv1_engine.specs.FrameLines.{frame_line, place_line, place_text};
 ghost use Rattle.ffv1_engine.specs.Stream.{Frame};
 ghost use Rattle.ffv1_engine.specs.Told.{FrameAnswers, TellingStops, ToldAll, WritesFrame};
@@ -120,12 +121,12 @@ fn tell_frame<R: ByteIn, W: ByteOut, A: Allocator>(
     requires accepted { IsAccepted player.old.decoder.accepted.configuration
         player.old.decoder.accepted.table }
     ensures answer { FrameAnswers kind place player.old.decoder.accepted number
-        player.old.reader.left player.new.reader.left
+        player.old.reader.place player.new.reader.place
         (passage R.remaining R.failures input.old input.new)
         (passage W.contents W.failures output.old output.new) result }
     ensures sound { OnOk result (player.new.reader.fault ≡ None) }
     ensures less { IfOk result (λ more. more ≡ true →
-        player.new.reader.left < player.old.reader.left) }
+        amount player.new.reader.place < amount player.old.reader.place) }
     ensures same { player.new.decoder.accepted ≡ player.old.decoder.accepted }
     ensures own { IfErr result (λ f. is_telling_fault f ≡ true) }
 {
@@ -161,11 +162,11 @@ pub(crate) fn tell_frames<R: ByteIn, W: ByteOut, A: Allocator + Copy>(
     requires accepted { IsAccepted player.old.decoder.accepted.configuration
         player.old.decoder.accepted.table }
     ensures ok { IfOk result (λ n. (frames : List Frame) × (n ≡ saturated (length frames))
-        × ToldAll kind place player.old.decoder.accepted player.old.reader.left
+        × ToldAll kind place player.old.decoder.accepted player.old.reader.place
         (passage R.remaining R.failures input.old input.new)
         (passage W.contents W.failures output.old output.new) frames) }
     ensures err { IfErr result (TellingStops kind place player.old.decoder.accepted
-        player.old.reader.left (passage R.remaining R.failures input.old input.new)
+        player.old.reader.place (passage R.remaining R.failures input.old input.new)
         (passage W.contents W.failures output.old output.new)) }
     ensures own { IfErr result (λ f. is_telling_fault f ≡ true) }
 {

@@ -15,6 +15,7 @@ use crate::fault::Fault;
 use crate::images_out::write_images;
 use crate::pictures_out::write_pictures;
 use crate::player::{Player, open_stream, player_of};
+use crate::profile::Profile;
 use ffv1_avi::laws::{file_is_read, frames_in_turn, read_is_file};
 use ffv1_record::{Checked, Colour};
 use ffv1_wire::{ByteIn, ByteOut};
@@ -46,16 +47,17 @@ fn check_text<A: Allocator>(checked: &Checked<A>) -> Result<(), Fault>
 /// Opens a file whose pictures have a text, and makes the decoder of its frames.
 fn open_unpacking<R: ByteIn, A: Allocator + Copy>(
     alloc: A,
+    profile: Profile,
     input: &mut R,
 ) -> Result<Player<A>, Fault>
-    ensures ok { IfOk result (λ p. OpensStream p.reader p.decoder.accepted
+    ensures ok { IfOk result (λ p. OpensStream profile p.reader p.decoder.accepted
         (passage R.remaining R.failures input.old input.new)) }
     ensures text { IfOk result (λ p. HasText (stream_of p.reader p.decoder.accepted)) }
-    ensures err { IfErr result (LacksUnpacking
+    ensures err { IfErr result (LacksUnpacking profile
         (passage R.remaining R.failures input.old input.new)) }
     ensures own { IfErr result IsUnpackFault }
 {
-    let (reader, checked) = open_stream(alloc, input)?;
+    let (reader, checked) = open_stream(alloc, profile, input)?;
     check_text(&checked)?;
     let player = player_of(alloc, reader, checked)?;
     Ok(player)
@@ -74,10 +76,10 @@ fn write_frames<R: ByteIn, W: ByteOut, A: Allocator + Copy>(
     requires text { HasText (stream_of player.old.reader player.old.decoder.accepted) }
     ensures ok { IfOk result.1 (λ n. (frames : List Frame) × (n ≡ saturated (length frames))
         × UnpackedAll (stream_of player.old.reader player.old.decoder.accepted)
-        player.old.reader.left (passage R.remaining R.failures input.old input.new)
+        player.old.reader.place (passage R.remaining R.failures input.old input.new)
         (passage W.contents W.failures output result.0) frames) }
     ensures err { IfErr result.1 (UnpackingStops
-        (stream_of player.old.reader player.old.decoder.accepted) player.old.reader.left
+        (stream_of player.old.reader player.old.decoder.accepted) player.old.reader.place
         (passage R.remaining R.failures input.old input.new)
         (passage W.contents W.failures output result.0)) }
     ensures own { IfErr result.1 IsUnpackFault }
@@ -91,9 +93,9 @@ fn write_frames<R: ByteIn, W: ByteOut, A: Allocator + Copy>(
     }
 }
 
-/// Decodes all frames of a file, and writes their pictures: those of YCbCr as YUV4MPEG2 in its
-/// canonical form, and those of RCT as PPM, one image behind the other. It answers how many frames
-/// there were, at most 2^64 - 1, and hands the writer back.
+/// Decodes all frames of a file that the profile reads, and writes their pictures: those of YCbCr
+/// as YUV4MPEG2 in its canonical form, and those of RCT as PPM, one image after the other. It
+/// answers how many frames there were, at most 2^64 - 1, and hands the writer back.
 ///
 /// A picture of YCbCr is written when it is decoded, the header before the first one; a row of an
 /// image as soon as it is decoded. Beside what the decoder holds, one payload and one picture are
@@ -102,19 +104,23 @@ fn write_frames<R: ByteIn, W: ByteOut, A: Allocator + Copy>(
 /// The first fault ends it. Nothing is written where it is one of the file up to its first frame
 /// (`NotAvi`, `NoFfv1`, `Truncated`, `ChunkTooLong`) or of its record, or `NoY4mName` where
 /// YUV4MPEG2 has no name for the chroma, or `NoPpm` for RCT with transparency. Then come those of
-/// `movi` (`EmptyFrame`, too), of a payload, `FormatChanged` where a later frame's structure or
-/// aspect are not those of the header, and `NoFrames` at the end where there was none; `Read`,
-/// `OutOfMemory` and `Write` as they come. What is written then is the text of the frames before,
-/// and of an image the rows before the fault; behind `Write` a beginning of the next picture or
-/// row, too.
+/// the chunks of its frames (`EmptyFrame`, too), of a payload, `FormatChanged` where a later
+/// frame's structure or aspect are not those of the header, and `NoFrames` where there was none;
+/// `Read`, `OutOfMemory` and `Write` as they come. At `Wide`, `Truncated` is also a file that ends
+/// inside a `RIFF`, or that has fewer frames than its `dmlh` says, and `NotAvi` one where something
+/// that is no `RIFF` comes after the last one. What is written then is the text of the frames
+/// before, and of an image the rows before the fault; after `Write` a beginning of the next picture
+/// or row, too.
 pub fn unpack<R: ByteIn, W: ByteOut, A: Allocator + Copy>(
     alloc: A,
+    profile: Profile,
     input: &mut R,
     output: W,
 ) -> (W, Result<u64, Fault>)
-    ensures ok { IfOk result.1 (UnpackDone (passage R.remaining R.failures input.old input.new)
+    ensures ok { IfOk result.1 (UnpackDone profile
+        (passage R.remaining R.failures input.old input.new)
         (passage W.contents W.failures output result.0)) }
-    ensures err { IfErr result.1 (UnpackStops
+    ensures err { IfErr result.1 (UnpackStops profile
         (passage R.remaining R.failures input.old input.new)
         (passage W.contents W.failures output result.0)) }
     ensures own { IfErr result.1 IsUnpackFault }
@@ -122,7 +128,7 @@ pub fn unpack<R: ByteIn, W: ByteOut, A: Allocator + Copy>(
     frames_in_turn();
     read_is_file();
     file_is_read();
-    match open_unpacking(alloc, input) {
+    match open_unpacking(alloc, profile, input) {
         Err(fault) => (output, Err(fault)),
         Ok(mut player) => {
             let (output, answer) = write_frames(alloc, &mut player, input, output);

@@ -7,7 +7,8 @@ use Rattle.ffv1_record.specs.declared.config.Coder.{Coder}
 use Rattle.ffv1_record.specs.declared.config.Coder.TheVariants as coder
 use Rattle.ffv1_record.specs.Configuration.{Configuration}
 use Rattle.ffv1_record.specs.Accepted.{Accepted, IsAccepted, IsTableFor}
-use Rattle.ffv1_record.specs.Equal.{is_same, same_configuration}
+use Rattle.ffv1_record.specs.declared.config.Profile.{Profile}
+use Rattle.ffv1_record.specs.Equal.{is_same_checked, profiled_of, same_profiled}
 use Rattle.std.proofs.lemmas.Bool.Decides.{Decides-at, Decides-like}
 use Rattle.ffv1_record.specs.Record.{IsRecord, IsCoded, body_of}
 use Rattle.ffv1_record.specs.Reader.{Spot}
@@ -33,16 +34,16 @@ pub one_table_for : (c : Coder) (t u : Table) → IsTableFor c t → IsTableFor 
 one_table_for coder.One t u p q = p ∙ sym q
 one_table_for (coder.Two deltas) t u p q = one_table deltas t u p q
 
--- two checked configurations are equal where the configurations are
-pub same_checked : (a b : Accepted) (test : Bool) → test ≡ is_same a.configuration b.configuration → IsAccepted a.configuration a.table → IsAccepted b.configuration b.table → Decides test (a ≡ b)
+-- two checked configurations are equal where the configurations and the profiles are
+pub same_checked : (a b : Accepted) (test : Bool) → test ≡ is_same_checked a b → IsAccepted a.configuration a.table → IsAccepted b.configuration b.table → Decides test (a ≡ b)
 same_checked a b test is is_a is_b =
-    let configurations = same_configuration a.configuration b.configuration in
-    Decides-at test (is_same a.configuration b.configuration) is (Decides-like (is_same a.configuration b.configuration)
-    (λ e. join e (one_table_for b.configuration.coder a.table b.table (subst (λ (c : Configuration). IsTableFor c.coder a.table) e is_a.table) is_b.table))
-    (λ e. ap (λ (z : Accepted). z.configuration) e) configurations)
+    Decides-at test (is_same_checked a b) is (Decides-like (is_same_checked a b)
+    (λ e. let same : a.configuration ≡ b.configuration = ap (λ (z : Profile × Configuration). z.1) e in
+    join same (one_table_for b.configuration.coder a.table b.table (subst (λ (c : Configuration). IsTableFor c.coder a.table) same is_a.table) is_b.table) (ap (λ (z : Profile × Configuration). z.0) e))
+    (λ e. ap profiled_of e) (same_profiled (profiled_of a) (profiled_of b)))
   where
-    pair : Configuration → Table → Accepted
-    pair c t = record { configuration = c; table = t }
+    triple : Configuration → Table → Profile → Accepted
+    triple c t p = record { configuration = c; table = t; profile = p }
 
-    join : a.configuration ≡ b.configuration → a.table ≡ b.table → a ≡ b
-    join e f = ap (λ c. pair c a.table) e ∙ ap (pair b.configuration) f
+    join : a.configuration ≡ b.configuration → a.table ≡ b.table → a.profile ≡ b.profile → a ≡ b
+    join e f p = ap (λ c. triple c a.table a.profile) e ∙ ap (λ t. triple b.configuration t a.profile) f ∙ ap (triple b.configuration b.table) p

@@ -9,6 +9,7 @@ use Rattle.ffv1_record.specs.Sets.{AreSets}
 use Rattle.ffv1_record.specs.Writable.{IsWritable}
 use Rattle.ffv1_record.specs.declared.config.Coder.{Coder}
 use Rattle.ffv1_record.specs.declared.config.Coder.TheVariants as coder
+use Rattle.ffv1_record.specs.declared.config.Profile.{Profile}
 use Rattle.ffv1_record.specs.declared.fault.RecordFault.{RecordFault}
 use Rattle.ffv1_record.specs.declared.fault.RecordFault.TheVariants as fault
 use Rattle.ffv1_record.specs.Configuration.{Configuration, is_rct}
@@ -79,10 +80,12 @@ abbrev pub IsFirst : List RecordFault → Configuration → RecordFault → Type
 IsFirst [] c found = ⊥
 IsFirst (f ∷ fs) c found = ((Passes f c → ⊥) × (found ≡ f)) ⊎ (Passes f c × IsFirst fs c found)
 
--- a configuration that was checked, and its state transition table
+-- a configuration that was checked, its state transition table, and the profile that it was checked
+-- in
 pub record Accepted : Type 0 where
   pub configuration : Configuration
   pub table : Table
+  pub profile : Profile
 
 -- what holds of each configuration that was checked
 pub record IsAccepted (c : Configuration) (t : Table) : Type 0 where

@@ -12,6 +12,9 @@ use Rattle.ffv1_record.specs.declared.config.Coder.{Coder}
 use Rattle.ffv1_record.specs.declared.config.Coder.TheVariants as coder
 use Rattle.ffv1_record.specs.declared.config.Colour.{Colour}
 use Rattle.ffv1_record.specs.declared.config.Colour.TheVariants as colour
+use Rattle.ffv1_record.specs.declared.config.Profile.{Profile}
+use Rattle.ffv1_record.specs.declared.config.Profile.TheVariants as profile
+use Rattle.ffv1_record.specs.Accepted.{Accepted}
 use Rattle.ffv1_record.specs.Configuration.{Configuration, is_rct}
 
 abbrev pub is_same_truth : Bool → Bool → Bool
@@ -25,6 +28,12 @@ is_same_colour colour.YCbCr colour.YCbCr = true
 is_same_colour colour.YCbCr colour.Rct = false
 is_same_colour colour.Rct colour.YCbCr = false
 is_same_colour colour.Rct colour.Rct = true
+
+abbrev pub is_same_profile : Profile → Profile → Bool
+is_same_profile profile.Strict profile.Strict = true
+is_same_profile profile.Strict profile.Wide = false
+is_same_profile profile.Wide profile.Strict = false
+is_same_profile profile.Wide profile.Wide = true
 
 abbrev pub is_same_coder : Coder → Coder → Bool
 is_same_coder coder.One coder.One = true
@@ -58,6 +67,16 @@ is_same_coding c d =
 abbrev pub is_same : Configuration → Configuration → Bool
 is_same c d = is_same_grid c d && (are_same_planes c d && is_same_coding c d)
 
+-- a profile and a configuration, which determine what was checked
+abbrev pub profiled_of : Accepted → Profile × Configuration
+profiled_of a = (a.profile, a.configuration)
+
+abbrev pub is_same_profiled : Profile × Configuration → Profile × Configuration → Bool
+is_same_profiled x y = is_same_profile x.0 y.0 && is_same x.1 y.1
+
+abbrev pub is_same_checked : Accepted → Accepted → Bool
+is_same_checked a b = is_same_profiled (profiled_of a) (profiled_of b)
+
 -- ---- each decides whether two values are equal
 
 pub same_truth : (a b : Bool) → Decides (is_same_truth a b) (a ≡ b)
@@ -71,6 +90,18 @@ same_colour colour.YCbCr colour.YCbCr = (λ e. refl, λ e. refl)
 same_colour colour.YCbCr colour.Rct = (λ e. absurd (true≢false (sym e)), λ e. ap is_rct e)
 same_colour colour.Rct colour.YCbCr = (λ e. absurd (true≢false (sym e)), λ e. sym (ap is_rct e))
 same_colour colour.Rct colour.Rct = (λ e. refl, λ e. refl)
+
+is_wide : Profile → Bool
+is_wide profile.Strict = false
+is_wide profile.Wide = true
+
+pub same_profile : (a b : Profile) → Decides (is_same_profile a b) (a ≡ b)
+unfolding is_wide
+same_profile profile.Strict profile.Strict = (λ e. refl, λ e. refl)
+same_profile profile.Strict profile.Wide = (λ e. absurd (true≢false (sym e)), λ e. ap is_wide e)
+same_profile profile.Wide profile.Strict =
+    (λ e. absurd (true≢false (sym e)), λ e. sym (ap is_wide e))
+same_profile profile.Wide profile.Wide = (λ e. refl, λ e. refl)
 
 deltas_in : List ℤ → Coder → List ℤ
 deltas_in none coder.One = none
@@ -209,7 +240,24 @@ same_configuration c d =
     ))
     all
 
+pub same_profiled : (x y : Profile × Configuration) → Decides (is_same_profiled x y) (x ≡ y)
+same_profiled x y =
+    Decides-like (is_same_profiled x y)
+    (λ h. ap (λ (p : Profile). (p, x.1)) h.0 ∙ ap (λ (c : Configuration). (y.0, c)) h.1)
+    (λ e. (
+      ap (λ (z : Profile × Configuration). z.0) e,
+      ap (λ (z : Profile × Configuration). z.1) e,
+    ))
+    (Decides-and (is_same_profile x.0 y.0) (is_same x.1 y.1) (same_profile x.0 y.0)
+    (same_configuration x.1 y.1))
+
 -- so each comparison is an equivalence
+pub profile_equivalence : IsEquivalence is_same_profile
+profile_equivalence = decided is_same_profile same_profile
+
+pub profiled_equivalence : IsEquivalence is_same_profiled
+profiled_equivalence = decided is_same_profiled same_profiled
+
 pub coder_equivalence : IsEquivalence is_same_coder
 coder_equivalence = decided is_same_coder same_coder
 

@@ -6,7 +6,7 @@ ghost use Rattle.ffv1_record.specs.Accepted.{IsAccepted};
 ghost use Rattle.ffv1_record.specs.Held.{held_of};
 ghost use Rattle.ffv1_range.specs.Table.{IsTable};
 
-use crate::config::{Colour, Config};
+use crate::config::{Colour, Config, Profile};
 use ffv1_range::StateTable;
 use std::alloc::{Allocator, Global};
 use std::marker::Model;
@@ -27,11 +27,13 @@ pub struct Held {
     pub offsets: usize,
 }
 
-/// A configuration that was checked, and its state transition table.
+/// A configuration that was checked, its state transition table, and the profile that it was
+/// checked in.
 #[derive(Drop)]
 pub struct Checked<A: Allocator = Global> {
     config: Config<A>,
     table: StateTable,
+    profile: Profile,
 }
 
 impl<A: Allocator> Model for Checked<A> {
@@ -40,19 +42,31 @@ impl<A: Allocator> Model for Checked<A> {
 
     ghost Value = { Accepted };
 
-    ghost view = { λ c. record { configuration = configuration_of c.config; table = c.table } };
+    ghost view = { λ c. record {
+      configuration = configuration_of c.config;
+      table = c.table;
+      profile = c.profile;
+    } };
 
     ghost invariant = { λ c. IsAccepted (configuration_of c.config) c.table };
 }
 
 impl<A: Allocator> Checked<A> {
-    /// A configuration and its table.
-    pub(crate) fn new(config: Config<A>, table: StateTable) -> Checked<A>
+    /// A configuration, its table, and a profile.
+    pub(crate) fn new(config: Config<A>, table: StateTable, profile: Profile) -> Checked<A>
         requires { IsAccepted (configuration_of config) table }
-        ensures value { result ≡ record { configuration = configuration_of config; table = table } }
+        ensures value { result ≡ record {
+          configuration = configuration_of config;
+          table = table;
+          profile = profile;
+        } }
         ensures accepted { IsAccepted result.configuration result.table }
     {
-        Checked { config, table }
+        Checked {
+            config,
+            table,
+            profile,
+        }
     }
 
     /// The configuration.
@@ -69,6 +83,13 @@ impl<A: Allocator> Checked<A> {
         ensures accepted { IsAccepted self.now.configuration self.now.table }
     {
         &self.table
+    }
+
+    /// The profile that it was checked in.
+    pub fn profile(&self) -> Profile
+        ensures { result ≡ self.now.profile }
+    {
+        self.profile
     }
 
     /// How much a decoder of its pictures holds.

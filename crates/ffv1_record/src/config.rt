@@ -35,6 +35,16 @@ pub enum Colour {
     Rct,
 }
 
+/// What a configuration and the heads of its slices may say.
+#[derive(Clone, Copy, Debug)]
+pub enum Profile {
+    /// What this crate accepts of a configuration, and a head whose sample aspect has two numbers
+    /// that are both 0, which is unknown, or neither (RFC 9043, 4.6.8 and 4.6.9).
+    Strict,
+    /// The same, and a head of which just one of these numbers is 0: it is read as 0:0, unknown.
+    Wide,
+}
+
 /// What a stream is coded by: the parameters of RFC 9043, 4.2, for pictures of 8 bits a sample,
 /// each a key frame, and the size of the pictures.
 #[derive(Drop)]
@@ -220,17 +230,35 @@ impl<A: Allocator> Config<A> {
         Ok(table)
     }
 
-    /// The configuration, checked. Refuses with the first of these that stands: `Size`,
-    /// `Subsampling`, `ExtraPlane`, `Sets`, `StateTable`, `Grid`, `ChromaEdge`; else accepts. It
-    /// takes no memory.
+    /// The configuration, checked in the profile `Strict`. Refuses with the first of these that
+    /// stands: `Size`, `Subsampling`, `ExtraPlane`, `Sets`, `StateTable`, `Grid`, `ChromaEdge`;
+    /// else accepts. It takes no memory.
     pub fn check(self) -> Result<Checked<A>, RecordFault>
         ensures ok { IfOk result (λ c. c.configuration ≡ configuration_of self) }
+        ensures profile { IfOk result (λ c. c.profile ≡ Profile.Strict) }
+        ensures accepted { IfOk result (λ c. IsAccepted c.configuration c.table) }
+        ensures refused { IfErr result (λ f. IsFirst checks (configuration_of self) f) }
+        ensures memory { IfErr result (λ f. f ≢ RecordFault.OutOfMemory) }
+    {
+        match self.check_in(Profile::Strict) {
+            Ok(checked) => Ok(checked),
+            Err(fault) => Err(fault),
+        }
+    }
+
+    /// The configuration, checked in a profile, which it keeps. Refuses with the first of these
+    /// that stands: `Size`, `Subsampling`, `ExtraPlane`, `Sets`, `StateTable`, `Grid`,
+    /// `ChromaEdge`; else accepts. Both profiles accept the same configurations. It takes no
+    /// memory.
+    pub fn check_in(self, profile: Profile) -> Result<Checked<A>, RecordFault>
+        ensures ok { IfOk result (λ c. c.configuration ≡ configuration_of self) }
+        ensures profile { IfOk result (λ c. c.profile ≡ profile) }
         ensures accepted { IfOk result (λ c. IsAccepted c.configuration c.table) }
         ensures refused { IfErr result (λ f. IsFirst checks (configuration_of self) f) }
         ensures memory { IfErr result (λ f. f ≢ RecordFault.OutOfMemory) }
     {
         match self.judged() {
-            Ok(table) => Ok(Checked::new(self, table)),
+            Ok(table) => Ok(Checked::new(self, table, profile)),
             Err(fault) => Err(fault),
         }
     }

@@ -3,9 +3,10 @@
 ghost use Rattle.std.specs.Prelude.{◌≡◌, ◌↔◌, IsTrue};
 ghost use Rattle.ffv1_record.specs.Configuration.{configuration_of};
 ghost use Rattle.ffv1_record.specs.Equal.{is_same_grid, are_same_planes, is_same_coding, is_same};
+ghost use Rattle.ffv1_record.specs.Equal.{is_same_checked};
 
 use crate::checked::Checked;
-use crate::config::{Coder, Colour, Config};
+use crate::config::{Coder, Colour, Config, Profile};
 use crate::sets::Sets;
 use std::alloc::Allocator;
 
@@ -62,6 +63,33 @@ impl Eq for Colour {
     ghost use Rattle.ffv1_record.specs.Equal.{colour_equivalence};
 
     ghost laws = { colour_equivalence };
+}
+
+impl PartialEq for Profile {
+    ghost use Rattle.std.specs.Prelude.{◌≡◌, ◌↔◌, IsTrue};
+    ghost use Rattle.std.specs.Cmp.{partial_equiv_from_equiv};
+    ghost use Rattle.ffv1_record.specs.Equal.{is_same_profile};
+    ghost use Rattle.ffv1_record.specs.Equal.{profile_equivalence};
+
+    ghost eq = { is_same_profile };
+
+    ghost laws = { partial_equiv_from_equiv profile_equivalence };
+
+    fn eq(&self, other: &Profile) -> bool
+        ensures value { result ≡ is_same_profile self.now other.now }
+        ensures same { IsTrue result ↔ (self.now ≡ other.now) }
+    {
+        matches!(
+            (self, other),
+            (Profile::Strict, Profile::Strict) | (Profile::Wide, Profile::Wide)
+        )
+    }
+}
+
+impl Eq for Profile {
+    ghost use Rattle.ffv1_record.specs.Equal.{profile_equivalence};
+
+    ghost laws = { profile_equivalence };
 }
 
 /// Sets are equal where each is, one after the other.
@@ -146,28 +174,28 @@ impl<A: Allocator> Eq for Config<A> {
     ghost laws = { on_equiv configuration_of configuration_equivalence };
 }
 
-/// Checked configurations are equal where the configurations are: then their tables are, too.
+/// Checked configurations are equal where the configurations and the profiles are: then their
+/// tables are, too.
 impl<A: Allocator> PartialEq for Checked<A> {
     ghost use Rattle.std.specs.Prelude.{◌≡◌, ◌↔◌, IsTrue};
     ghost use Rattle.std.specs.Cmp.{partial_equiv_from_equiv, on_equiv};
-    ghost use Rattle.ffv1_record.specs.Equal.{is_same, configuration_equivalence};
+    ghost use Rattle.ffv1_record.specs.Equal.{is_same_checked, profiled_of, profiled_equivalence};
 
-    ghost eq = { λ a b. is_same a.configuration b.configuration };
+    ghost eq = { is_same_checked };
 
-    ghost laws = { partial_equiv_from_equiv (on_equiv
-        (λ c. c.configuration) configuration_equivalence) };
+    ghost laws = { partial_equiv_from_equiv (on_equiv profiled_of profiled_equivalence) };
 
     fn eq(&self, other: &Checked<A>) -> bool
-        ensures value { result ≡ is_same self.now.configuration other.now.configuration }
+        ensures value { result ≡ is_same_checked self.now other.now }
         ensures same { IsTrue result ↔ (self.now ≡ other.now) }
     {
-        self.config() == other.config()
+        self.profile() == other.profile() && self.config() == other.config()
     }
 }
 
 impl<A: Allocator> Eq for Checked<A> {
     ghost use Rattle.std.specs.Cmp.{on_equiv};
-    ghost use Rattle.ffv1_record.specs.Equal.{configuration_equivalence};
+    ghost use Rattle.ffv1_record.specs.Equal.{profiled_of, profiled_equivalence};
 
-    ghost laws = { on_equiv (λ c. c.configuration) configuration_equivalence };
+    ghost laws = { on_equiv profiled_of profiled_equivalence };
 }

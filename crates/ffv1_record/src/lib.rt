@@ -3,10 +3,11 @@
 //! (4.3.2, 4.9.3).
 //!
 //! A `Config` is what a stream is coded by, with its quantisation table `Sets`. `Config::check`
-//! comes first: it refuses what the profile does not take, and makes a `Checked`, which has the
-//! state transition table, too, and says how much a decoder holds. `write_record` writes a
-//! `Checked`, and `read_record` gives it back; `parity` is a function of bytes alone. `laws` has
-//! what holds of the definitions.
+//! comes first: it refuses what is not accepted, and makes a `Checked`, which has the state
+//! transition table, too, and says how much a decoder holds. `write_record` writes a `Checked`, and
+//! `read_record` gives it back; `parity` is a function of bytes alone. `laws` has what holds of the
+//! definitions. A `Checked` keeps its `Profile`, which is `Strict` where none is named:
+//! `Config::check_in` and `read_record_in` take one.
 //!
 //! ```
 //! let mut sets = Sets::new(heap);
@@ -36,9 +37,9 @@ pub mod write;
 mod writer;
 
 pub use checked::{Checked, Held};
-pub use config::{Coder, Colour, Config};
+pub use config::{Coder, Colour, Config, Profile};
 pub use fault::RecordFault;
-pub use read::read_record;
+pub use read::{read_record, read_record_in};
 pub use remainder::parity;
 pub use sets::Sets;
 pub use write::write_record;

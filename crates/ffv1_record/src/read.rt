@@ -16,7 +16,7 @@ ghost use Rattle.ffv1_range.specs.Table.{Table};
 ghost use Rattle.ffv1_plane.specs.Quantisation.{is_filled, are_filled, contexts_of};
 
 use crate::checked::Checked;
-use crate::config::{Coder, Colour, Config};
+use crate::config::{Coder, Colour, Config, Profile};
 use crate::fault::RecordFault;
 use crate::laws::guarded;
 use crate::planes::Planes;
@@ -270,16 +270,9 @@ fn read_parameters<A: Allocator + Copy>(
     })
 }
 
-/// The configuration of a record (RFC 9043, 4.3), for pictures of a size that the container tells.
-///
-/// Refuses with `Short` where there are fewer than 5 bytes; else with `Parity` where their
-/// remainder is not 0; else with `BadStart` where the first two are 65280 or more; else with the
-/// first in the order of the bytes of `SymbolTooLong`, `Version` to `ExtraPlane`, `StateTable`,
-/// `Runs`, `Contexts` and `Sets`, each judged where its symbol has been read, the deltas behind
-/// their last; else with the first that `Config::check` finds. `OutOfMemory` where a growth was
-/// refused before another fault was met: no memory is taken before the first set, so a fault that
-/// stands before it is told first. Bytes between the parameters and the parity are ignored, and 0
-/// bits of a sample mean 8. After a refusal the bytes are as they were, and may be read again.
+/// The configuration of a record (RFC 9043, 4.3), for pictures of a size that the container tells,
+/// in the profile `Strict`. It is refused as `read_record_in` refuses it, which says when each fault
+/// comes and what it leaves.
 pub fn read_record<A: Allocator + Copy>(
     alloc: A,
     bytes: &[u8],
@@ -289,6 +282,43 @@ pub fn read_record<A: Allocator + Copy>(
     ensures found { IfOk result (λ c. IsRecord bytes.now c.configuration) }
     ensures width { IfOk result (λ c. c.configuration.width ≡ width) }
     ensures height { IfOk result (λ c. c.configuration.height ≡ height) }
+    ensures profile { IfOk result (λ c. c.profile ≡ Profile.Strict) }
+    ensures accepted { IfOk result (λ c. IsAccepted c.configuration c.table) }
+    ensures only { (c : Configuration) (t : Table) → c.width ≡ width → c.height ≡ height →
+        IsAccepted c t → IsRecord bytes.now c →
+        MatchResult result (λ r. r.configuration ≡ c) (λ f. f ≡ fault.OutOfMemory) }
+    ensures exact { IfErr result
+        (λ f. (f ≡ fault.OutOfMemory) ⊎ IsRefused bytes.now width height f) }
+    ensures memory { IfErr result (λ f. f ≡ fault.OutOfMemory → ReachesSets bytes.now) }
+{
+    match read_record_in(alloc, bytes, width, height, Profile::Strict) {
+        Ok(checked) => Ok(checked),
+        Err(fault) => Err(fault),
+    }
+}
+
+/// The configuration of a record (RFC 9043, 4.3), for pictures of a size that the container tells,
+/// checked in a profile, which it keeps.
+///
+/// Refuses with `Short` where there are fewer than 5 bytes; else with `Parity` where their
+/// remainder is not 0; else with `BadStart` where the first two are 65280 or more; else with the
+/// first in the order of the bytes of `SymbolTooLong`, `Version` to `ExtraPlane`, `StateTable`,
+/// `Runs`, `Contexts` and `Sets`, each judged where its symbol has been read, the deltas behind
+/// their last; else with the first that `Config::check_in` finds. `OutOfMemory` where a growth was
+/// refused before another fault was met: no memory is taken before the first set, so a fault that
+/// stands before it is told first. Bytes between the parameters and the parity are ignored, and 0
+/// bits of a sample mean 8. After a refusal the bytes are as they were, and may be read again.
+pub fn read_record_in<A: Allocator + Copy>(
+    alloc: A,
+    bytes: &[u8],
+    width: u32,
+    height: u32,
+    profile: Profile,
+) -> Result<Checked<A>, RecordFault>
+    ensures found { IfOk result (λ c. IsRecord bytes.now c.configuration) }
+    ensures width { IfOk result (λ c. c.configuration.width ≡ width) }
+    ensures height { IfOk result (λ c. c.configuration.height ≡ height) }
+    ensures profile { IfOk result (λ c. c.profile ≡ profile) }
     ensures accepted { IfOk result (λ c. IsAccepted c.configuration c.table) }
     ensures only { (c : Configuration) (t : Table) → c.width ≡ width → c.height ≡ height →
         IsAccepted c t → IsRecord bytes.now c →
@@ -307,7 +337,7 @@ pub fn read_record<A: Allocator + Copy>(
     let mut reader = RecordReader::new(&bytes[..bytes.len() - 4])?;
     let config = read_parameters(alloc, &mut reader, width, height)?;
     // Both arms are written out, so that the clauses are proved by arm.
-    match config.check() {
+    match config.check_in(profile) {
         Ok(checked) => Ok(checked),
         Err(fault) => Err(fault),
     }

@@ -14,9 +14,10 @@ use Rattle.ffv1_range.proofs.Growth.{refused_first, refused_second}
 use Rattle.ffv1_range.proofs.Steps.{follows_append, puts_append}
 use Rattle.ffv1_range.proofs.Windows.{AreBelow-append, too_long_below}
 use Rattle.ffv1_range.proofs.Unsigned.{unsigned_below}
+use Rattle.ffv1_record.specs.declared.config.Profile.{Profile}
 use Rattle.ffv1_slice.specs.declared.fault.SliceFault.{SliceFault}
 use Rattle.ffv1_slice.specs.declared.fault.SliceFault.TheVariants as fault
-use Rattle.ffv1_slice.specs.Head.{Rule, Meets, Stops, values_steps, indexes_of, placed, indexed, structured, unjudged, proportioned, is_aspect, index_rules}
+use Rattle.ffv1_slice.specs.Head.{Rule, Meets, Stops, values_steps, indexes_of, placed, indexed, structured, unjudged, proportioned, has_aspect, index_rules}
 use Rattle.ffv1_slice.specs.Internal.Values.{Given, Gives, seen}
 
 pub values_steps-append : (vs ws : List ℕ) → values_steps (vs ++ ws) ≡ values_steps vs ++ values_steps ws
@@ -163,14 +164,14 @@ pub refuses_structured : (t : Table) (a b : Reading) (ss ts : List ℕ) (v : ℕ
 refuses_structured t a b ss ts v above small follows = refuses_value t structured a b ss ts v small (λ before. le-ltb v 4 above) follows
 
 -- an aspect
-module _ (t : Table) (a b c : Reading) (ss ts us : List ℕ) (num : ℕ) (small : num < 2 ^ 31) (first : Follows t a ss b ts (unsigned_steps num)) where
-  pub aspect_long : (f : SliceFault) → f ≡ fault.SymbolTooLong → Follows t b ts c us too_long → Gives t (unjudged ∷ proportioned ∷ []) a ss c us (Err f)
+module _ (pr : Profile) (t : Table) (a b c : Reading) (ss ts us : List ℕ) (num : ℕ) (small : num < 2 ^ 31) (first : Follows t a ss b ts (unsigned_steps num)) where
+  pub aspect_long : (f : SliceFault) → f ≡ fault.SymbolTooLong → Follows t b ts c us too_long → Gives t (unjudged ∷ proportioned pr ∷ []) a ss c us (Err f)
   unfolding Stops
   aspect_long f is second = record {
     gives = λ before. (unsigned_steps num ++ too_long, inr (inr (num, too_long, small, refl, inl (is, refl), refl)), follows_append t a b c ss ts us (unsigned_steps num) too_long first second);
   }
 
-  pub gives_aspect : (den : ℕ) → den < 2 ^ 31 → is_aspect num den ≡ true → Follows t b ts c us (unsigned_steps den) → Gives t (unjudged ∷ proportioned ∷ []) a ss c us (Ok (num ∷ den ∷ []))
+  pub gives_aspect : (den : ℕ) → den < 2 ^ 31 → has_aspect pr num den ≡ true → Follows t b ts c us (unsigned_steps den) → Gives t (unjudged ∷ proportioned pr ∷ []) a ss c us (Ok (num ∷ den ∷ []))
   unfolding Meets
   gives_aspect den small_den is second = record {
     gives = λ before. (
@@ -179,7 +180,7 @@ module _ (t : Table) (a b c : Reading) (ss ts us : List ℕ) (num : ℕ) (small 
     );
   }
 
-  pub refuses_aspect : (den : ℕ) → den < 2 ^ 31 → is_aspect num den ≡ false → Follows t b ts c us (unsigned_steps den) → Gives t (unjudged ∷ proportioned ∷ []) a ss c us (Err fault.Aspect)
+  pub refuses_aspect : (den : ℕ) → den < 2 ^ 31 → has_aspect pr num den ≡ false → Follows t b ts c us (unsigned_steps den) → Gives t (unjudged ∷ proportioned pr ∷ []) a ss c us (Err fault.Aspect)
   unfolding Stops
   refuses_aspect den small_den is second = record {
     gives = λ before. (

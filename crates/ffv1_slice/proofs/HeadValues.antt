@@ -10,45 +10,49 @@ use Rattle.ffv1_range.specs.Reading.{Reading, At}
 use Rattle.ffv1_range.specs.History.{decisions_after, AreOutside}
 use Rattle.std.proofs.lemmas.Nat.{mul-le}
 use Rattle.ffv1_range.specs.Symbols.{Step, shifted}
+use Rattle.ffv1_record.specs.declared.config.Profile.{Profile}
+use Rattle.ffv1_record.specs.declared.config.Profile.TheVariants as profile
+use Rattle.std.specs.Prelude.{is_some, Some, None, if◌then◌else◌}
+use mathlib.Core.Bool.{true≢false}
 use Rattle.ffv1_record.specs.Configuration.{Configuration}
 use Rattle.ffv1_slice.specs.declared.head.SliceHead.{SliceHead}
 use Rattle.ffv1_slice.specs.declared.fault.SliceFault.{SliceFault}
-use Rattle.ffv1_slice.specs.Head.{Rule, Meets, Stops, head_rules, head_values, head_steps, values_steps, index_rules, info_rules, indexes_of, is_aspect, IsHead, IsThird, key_steps}
+use Rattle.ffv1_slice.specs.Head.{Rule, Meets, Stops, head_rules, head_values, head_steps, values_steps, index_rules, info_rules, indexes_of, is_aspect, half_aspect, has_aspect, IsHead, IsThird, key_steps}
 use Rattle.ffv1_slice.specs.Coding.{ReadsAt, StandsBehind}
 use Rattle.ffv1_slice.specs.Internal.Values.{Gives}
 use Rattle.ffv1_slice.proofs.Symbols.{reads_at}
 use Rattle.ffv1_slice.proofs.CallsGive.{values_below, stops_below}
 
-pub refused_head : (c : Configuration) (n : ℕ) (t : Table) (old new : Reading) (after : List ℕ) {f : SliceFault} (result : Result SliceHead SliceFault) → IsErrAnd result (λ g. g ≡ f) →
-    Gives t (head_rules c n) old (replicate 32 128) new after (Err f) → IfErr result (λ f. (steps : List Step) × Stops (head_rules c n) 0 f steps × ReadsAt t 1 32 old new (shifted 1 steps))
-refused_head c n t old new after {f = f} result err one =
+pub refused_head : (pr : Profile) (c : Configuration) (n : ℕ) (t : Table) (old new : Reading) (after : List ℕ) {f : SliceFault} (result : Result SliceHead SliceFault) → IsErrAnd result (λ g. g ≡ f) →
+    Gives t (head_rules pr c n) old (replicate 32 128) new after (Err f) → IfErr result (λ f. (steps : List Step) × Stops (head_rules pr c n) 0 f steps × ReadsAt t 1 32 old new (shifted 1 steps))
+refused_head pr c n t old new after {f = f} result err one =
     let p = err_from_is_err_and result err in
     let given = one.gives 0 in
-    rw (p.1, p.2) (given.0, given.1, reads_at t 1 32 old new after given.0 (stops_below (head_rules c n) 0 f given.0 given.1) given.2)
+    rw (p.1, p.2) (given.0, given.1, reads_at t 1 32 old new after given.0 (stops_below (head_rules pr c n) 0 f given.0 given.1) given.2)
 
-pub found_head : (c : Configuration) (n : ℕ) (h : SliceHead) (t : Table) (old new : Reading) (after : List ℕ) → Gives t (head_rules c n) old (replicate 32 128) new after (Ok (head_values c n h)) →
+pub found_head : (pr : Profile) (c : Configuration) (n : ℕ) (h : SliceHead) (t : Table) (old new : Reading) (after : List ℕ) → Gives t (head_rules pr c n) old (replicate 32 128) new after (Ok (head_values c n h)) →
     ReadsAt t 1 32 old new (head_steps c n h)
-found_head c n h t old new after one = reads_at t 1 32 old new after (values_steps (head_values c n h)) (values_below (head_values c n h)) (one.gives 0).1
+found_head pr c n h t old new after one = reads_at t 1 32 old new after (values_steps (head_values c n h)) (values_below (head_values c n h)) (one.gives 0).1
 
 -- what the rules say of the values behind the place
-pub record Judged (extra : Bool) (count : ℕ) (xs : List ℕ) (s num den : ℕ) : Type 0 where
+pub record Judged (pr : Profile) (extra : Bool) (count : ℕ) (xs : List ℕ) (s num den : ℕ) : Type 0 where
   pub first : get_or xs 0 0 < count
   pub second : get_or xs 1 0 < count
   pub third : (extra ≡ false → get_or xs 2 0 ≡ 0) → IsThird extra (get_or xs 2 0) count
   pub structure : s < 4
-  pub aspect : is_aspect num den ≡ true
+  pub aspect : has_aspect pr num den ≡ true
 
-judged : (extra : Bool) (count before : ℕ) (xs : List ℕ) (structure num den : ℕ) → Meets (index_rules extra count ++ info_rules) before (indexes_of extra xs ++ (structure ∷ num ∷ den ∷ [])) →
-    Judged extra count xs structure num den
+judged : (pr : Profile) (extra : Bool) (count before : ℕ) (xs : List ℕ) (structure num den : ℕ) → Meets (index_rules extra count ++ info_rules pr) before (indexes_of extra xs ++ (structure ∷ num ∷ den ∷ [])) →
+    Judged pr extra count xs structure num den
 unfolding Meets
-judged false count before xs structure num den m = record {
+judged pr false count before xs structure num den m = record {
   first = ltb-true (get_or xs 0 0) count m.1;
   second = ltb-true (get_or xs 1 0) count m.2.1;
   third = λ none. none refl;
   structure = ltb-true structure 4 m.2.2.1;
   aspect = m.2.2.2.2.1;
 }
-judged true count before xs structure num den m = record {
+judged pr true count before xs structure num den m = record {
   first = ltb-true (get_or xs 0 0) count m.1;
   second = ltb-true (get_or xs 1 0) count m.2.1;
   third = λ none. ltb-true (get_or xs 2 0) count m.2.2.1;
@@ -57,29 +61,46 @@ judged true count before xs structure num den m = record {
 }
 
 -- values that meet the rules are those of a head of the profile
-pub is_head : (c : Configuration) (n before : ℕ) (h : SliceHead) → Meets (head_rules c n) before (head_values c n h) → length h.indexes ≡ 3 → (c.extra_plane ≡ false → get_or h.indexes 2 0 ≡ 0) → IsHead c h
+pub is_head : (pr : Profile) (c : Configuration) (n before : ℕ) (h : SliceHead) → Meets (head_rules pr c n) before (head_values c n h) → length h.indexes ≡ 3 → (c.extra_plane ≡ false → get_or h.indexes 2 0 ≡ 0) → IsHead pr c h
 unfolding Meets
-is_head c n before h m long none =
-    let j = judged c.extra_plane (length c.sets) 0 h.indexes h.structure h.sar_num h.sar_den m.2.2.2.2 in
+is_head pr c n before h m long none =
+    let j = judged pr c.extra_plane (length c.sets) 0 h.indexes h.structure h.sar_num h.sar_den m.2.2.2.2 in
     record { long = long; first = j.first; second = j.second; third = j.third none; structure = j.structure; aspect = j.aspect }
 
 below_sets : {count : ℕ} (k : ℕ) → count ≤ 8 → k < count → k < 2 ^ 31
 below_sets k few h = omega (arith, few, h)
 
 -- the numbers of an aspect are small
-small_aspect : (num den : ℕ) → is_aspect num den ≡ true → (num < 2 ^ 31) × (den < 2 ^ 31)
-small_aspect num den is =
-    let both = (and_parts (nat_lt num 65536 && nat_lt den 65536) _ is).0 in
-    let each = and_parts (nat_lt num 65536) (nat_lt den 65536) both in
-    let first = ltb-true num 65536 each.0 in
-    let second = ltb-true den 65536 each.1 in
-    (omega (arith, first), omega (arith, second))
+both_short : (num den : ℕ) → nat_lt num 65536 && nat_lt den 65536 ≡ true → (num < 65536) × (den < 65536)
+both_short num den is =
+    let each = and_parts (nat_lt num 65536) (nat_lt den 65536) is in
+    (ltb-true num 65536 each.0, ltb-true den 65536 each.1)
 
-meets_rest : (extra : Bool) (count before : ℕ) (xs : List ℕ) (structure num den : ℕ) → count ≤ 8 → get_or xs 0 0 < count → get_or xs 1 0 < count → IsThird extra (get_or xs 2 0) count → structure < 4 →
-    is_aspect num den ≡ true → Meets (index_rules extra count ++ info_rules) before (indexes_of extra xs ++ (structure ∷ num ∷ den ∷ []))
+half_short : (pr : Profile) (num den : ℕ) → is_some (half_aspect pr num den) ≡ true → (num < 65536) × (den < 65536)
+half_short profile.Strict num den is = absurd (true≢false (sym is))
+half_short profile.Wide num den is = by_test (nat_lt num 65536 && nat_lt den 65536) refl is
+  where
+    by_test : (test : Bool) → nat_lt num 65536 && nat_lt den 65536 ≡ test → is_some {T = ℕ × ℕ} (if test then Some (0, 0) else None) ≡ true → (num < 65536) × (den < 65536)
+    by_test true e given = both_short num den e
+    by_test false e given = absurd (true≢false (sym given))
+
+pub aspect_short : (pr : Profile) (num den : ℕ) → has_aspect pr num den ≡ true → (num < 65536) × (den < 65536)
+aspect_short pr num den is = by_test (is_aspect num den) refl is
+  where
+    by_test : (test : Bool) → is_aspect num den ≡ test → is_some {T = ℕ × ℕ} (if test then Some (num, den) else half_aspect pr num den) ≡ true → (num < 65536) × (den < 65536)
+    by_test true e given = both_short num den (and_parts (nat_lt num 65536 && nat_lt den 65536) _ e).0
+    by_test false e given = half_short pr num den given
+
+small_aspect : (pr : Profile) (num den : ℕ) → has_aspect pr num den ≡ true → (num < 2 ^ 31) × (den < 2 ^ 31)
+small_aspect pr num den is =
+    let both = aspect_short pr num den is in
+    (omega (arith, both.0), omega (arith, both.1))
+
+meets_rest : (pr : Profile) (extra : Bool) (count before : ℕ) (xs : List ℕ) (structure num den : ℕ) → count ≤ 8 → get_or xs 0 0 < count → get_or xs 1 0 < count → IsThird extra (get_or xs 2 0) count → structure < 4 →
+    has_aspect pr num den ≡ true → Meets (index_rules extra count ++ info_rules pr) before (indexes_of extra xs ++ (structure ∷ num ∷ den ∷ []))
 unfolding Meets
-meets_rest false count before xs structure num den few first second third low is =
-    let small = small_aspect num den is in (
+meets_rest pr false count before xs structure num den few first second third low is =
+    let small = small_aspect pr num den is in (
       below_sets (get_or xs 0 0) few first,
       lt-ltb (get_or xs 0 0) count first,
       (
@@ -88,8 +109,8 @@ meets_rest false count before xs structure num den few first second third low is
         (omega (arith, low), lt-ltb structure 4 low, (small.0, refl, (small.1, is, tt))),
       ),
     )
-meets_rest true count before xs structure num den few first second third low is =
-    let small = small_aspect num den is in (
+meets_rest pr true count before xs structure num den few first second third low is =
+    let small = small_aspect pr num den is in (
       below_sets (get_or xs 0 0) few first,
       lt-ltb (get_or xs 0 0) count first,
       (
@@ -106,9 +127,9 @@ remainder_le : (n m : ℕ) → n % m ≤ n
 remainder_le n m = grind arith
 
 -- the values of a head of the profile meet the rules
-pub meets_head : (c : Configuration) (n : ℕ) (h : SliceHead) → n < 2 ^ 31 → length c.sets ≤ 8 → IsHead c h → Meets (head_rules c n) 0 (head_values c n h)
+pub meets_head : (pr : Profile) (c : Configuration) (n : ℕ) (h : SliceHead) → n < 2 ^ 31 → length c.sets ≤ 8 → IsHead pr c h → Meets (head_rules pr c n) 0 (head_values c n h)
 unfolding Meets
-meets_head c n h small few is =
+meets_head pr c n h small few is =
     let row = quotient_le n c.columns in
     let column = remainder_le n c.columns in (
       omega (arith, small, column),
@@ -116,7 +137,7 @@ meets_head c n h small few is =
       (
         omega (arith, small, row),
         eq-eqb (n / c.columns) (n / c.columns) refl,
-        (omega arith, refl, (omega arith, refl, meets_rest c.extra_plane (length c.sets) 0 h.indexes h.structure h.sar_num h.sar_den few is.first is.second is.third is.structure is.aspect)),
+        (omega arith, refl, (omega arith, refl, meets_rest pr c.extra_plane (length c.sets) 0 h.indexes h.structure h.sar_num h.sar_den few is.first is.second is.third is.structure is.aspect)),
       ),
     )
 
@@ -155,8 +176,8 @@ same_values true count xs ys s num den u wide high p q e = record {
   sar_den = ap (λ l. get_or l 5 0) e;
 }
 
-pub same_head : (c : Configuration) (n : ℕ) (g h : SliceHead) → IsHead c g → IsHead c h → head_values c n g ≡ head_values c n h → g ≡ h
-same_head c n g h p q e =
+pub same_head : (pr : Profile) (c : Configuration) (n : ℕ) (g h : SliceHead) → IsHead pr c g → IsHead pr c h → head_values c n g ≡ head_values c n h → g ≡ h
+same_head pr c n g h p q e =
     let make : List ℕ → ℕ → ℕ → ℕ → SliceHead = λ xs s num den. record { indexes = xs; structure = s; sar_num = num; sar_den = den } in
     let row : ℕ → ℕ → ℕ → List ℕ = λ x y z. x ∷ y ∷ z ∷ [] in
     let rest = ap (drop 4) e in

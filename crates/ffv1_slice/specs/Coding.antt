@@ -74,7 +74,7 @@ PutsHead a n old new h = PutsAt a.table 1 32 old new (head_steps a.configuration
 
 abbrev pub StopsInHead : Accepted → ℕ → Reading → Reading → SliceFault → Type 0
 StopsInHead a n old new f =
-    (steps : List Step) × Stops (head_rules a.configuration n) 0 f steps
+    (steps : List Step) × Stops (head_rules a.profile a.configuration n) 0 f steps
     × ReadsAt a.table 1 32 old new (shifted 1 steps)
 
 -- the decoder stands where slice n begins, of bytes that code its key or refuse it
@@ -90,15 +90,15 @@ StandsAtHead a n r = StandsBehind r a.table (key_steps n)
 
 -- where it does, its bytes code this head; or they are refused so
 abbrev pub FindsHead : Accepted → ℕ → Reading → SliceHead → Type 0
-FindsHead a n r h = StandsAtHead a n r → CodesHead r.bytes a.table a.configuration n h
+FindsHead a n r h = StandsAtHead a n r → CodesHead r.bytes a.table a.profile a.configuration n h
 
 abbrev pub MissesHead : Accepted → ℕ → Reading → SliceFault → Type 0
 MissesHead a n r f =
     StandsAtHead a n r →
-    (steps : List Step) × RefusesHead r.bytes a.table a.configuration n f steps
+    (steps : List Step) × RefusesHead r.bytes a.table a.profile a.configuration n f steps
 
 -- it stands there, of bytes that code this head
 pub record IsAtHead (a : Accepted) (n : ℕ) (r : Reading) (h : SliceHead) : Type 0 where
   pub bytes : AreBytes r.bytes
   pub behind : StandsAtHead a n r
-  pub codes : CodesHead r.bytes a.table a.configuration n h
+  pub codes : CodesHead r.bytes a.table a.profile a.configuration n h

@@ -27,7 +27,7 @@ pub enum SliceFault {
     /// The picture structure is above 3.
     #[error("33 Structure")]
     Structure,
-    /// A number of the sample aspect is above 65535, or one of them is zero alone.
+    /// A number of the sample aspect is above 65535, or at `Strict` one of them is zero alone.
     #[error("34 Aspect")]
     Aspect,
     /// Going from the end, fewer bytes are left than a footer, or fewer before the footer than its

@@ -23,7 +23,8 @@ pub struct SliceHead {
     pub indexes: [u8; 3],
     /// How the picture is interlaced: 0 unknown, 1 top first, 2 bottom first, 3 progressive.
     pub structure: u8,
-    /// The width of a sample in the unit of its height, or 0 where the sample aspect is unknown.
+    /// The width of a sample in the unit of its height, or 0 where the sample aspect is unknown. It
+    /// is unknown, too, where just one of the two numbers is 0, which a head of `Wide` may have.
     pub sar_num: u16,
     /// The height of a sample, or 0 where the sample aspect is unknown.
     pub sar_den: u16,
@@ -90,7 +91,7 @@ fn read_head<A: Allocator>(
     slice: u32,
 ) -> Result<SliceHead, SliceFault>
     requires { IsSlice checked.now slice }
-    ensures head { IfOk result (IsHead checked.now.configuration) }
+    ensures head { IfOk result (IsHead checked.now.profile checked.now.configuration) }
     ensures ok { IfOk result (ReadsHead checked.now slice decoder.old decoder.new) }
     ensures refused { IfErr result (StopsInHead checked.now slice decoder.old decoder.new) }
 {
@@ -113,7 +114,7 @@ fn read_head<A: Allocator>(
         config.extra_plane,
         config.sets.len(),
     )?;
-    let (structure, sar_num, sar_den) = get_info(decoder, table, &mut states)?;
+    let (structure, sar_num, sar_den) = get_info(decoder, table, &mut states, checked.profile())?;
     Ok(SliceHead {
         indexes,
         structure,
@@ -127,15 +128,16 @@ fn read_head<A: Allocator>(
 /// Of a decoder that stands behind the key of its slice, what is read is the one head that its
 /// bytes code. Where they code none, the answer is the first of `SymbolTooLong`, `Place`,
 /// `SetIndex`, `Structure` and `Aspect` in the order of the symbols, each told behind its own
-/// symbol, and `Aspect` behind both its numbers; the decoder then stands behind that symbol. It
-/// takes no memory.
+/// symbol, and `Aspect` behind both its numbers; the decoder then stands behind that symbol. Where
+/// just one of these is 0, that is `Aspect` at `Strict`, and read as it is at `Wide`. It takes no
+/// memory.
 pub fn get_head<A: Allocator>(
     decoder: &mut RangeDecoder<'_>,
     checked: &Checked<A>,
     slice: u32,
 ) -> Result<SliceHead, SliceFault>
     requires { IsSlice checked.now slice }
-    ensures head { IfOk result (IsHead checked.now.configuration) }
+    ensures head { IfOk result (IsHead checked.now.profile checked.now.configuration) }
     ensures ok { IfOk result (ReadsHead checked.now slice decoder.old decoder.new) }
     ensures refused { IfErr result (StopsInHead checked.now slice decoder.old decoder.new) }
     ensures found { IfOk result (FindsHead checked.now slice decoder.old) }
@@ -152,8 +154,9 @@ pub fn get_head<A: Allocator>(
 }
 
 /// Puts the head of a slice, whose number in raster order gives its place, by 32 fresh states. The
-/// head is one of the profile: set indexes below the number of sets, a third of 0 without an extra
-/// plane, a structure of 0 to 3, and aspect numbers that are both 0 or neither.
+/// head is one of the configuration's profile: set indexes below the number of sets, a third of 0
+/// without an extra plane, a structure of 0 to 3, and aspect numbers that are both 0 or neither; at
+/// `Wide` just one of them may be 0, too.
 ///
 /// Answers `OutOfMemory` where the encoder was refused memory, now that its bytes grow or before;
 /// then it has failed for good.
@@ -164,7 +167,7 @@ pub fn put_head<A: Allocator, B: Allocator>(
     head: &SliceHead,
 ) -> Result<(), SliceFault>
     requires slice { IsSlice checked.now slice }
-    requires head { IsHead checked.now.configuration head.now }
+    requires head { IsHead checked.now.profile checked.now.configuration head.now }
     ensures ok { OnOk result (PutsHead checked.now slice encoder.old encoder.new head.now) }
     ensures refused { OnErr result (MayRefuseHead checked.now slice encoder.old head.now) }
     ensures err { IfErr result (λ f. (f ≡ SliceFault.OutOfMemory) × IsTrue encoder.new.failed) }

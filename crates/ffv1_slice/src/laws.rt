@@ -6,6 +6,7 @@ ghost use Rattle.std.proofs.Common.{suc};
 ghost use Rattle.ffv1_range.specs.Codes.{AreBytes};
 ghost use Rattle.ffv1_range.specs.Table.{Table, IsTable};
 ghost use Rattle.ffv1_range.specs.Symbols.{Step};
+ghost use Rattle.ffv1_record.specs.declared.config.Profile.{Profile};
 ghost use Rattle.ffv1_record.specs.Configuration.{Configuration};
 ghost use Rattle.ffv1_record.specs.Accepted.{IsAccepted};
 ghost use Rattle.ffv1_slice.specs.declared.cutting.CutFault.{CutFault};
@@ -91,10 +92,12 @@ pub fn footing()
 /// A head takes few decisions, and so do numbers in the place of a head up to the first that is
 /// refused.
 pub fn lengths()
-    ensures head { (c : Configuration) (t : Table) (n : ℕ) (h : SliceHead) → IsAccepted c t →
-        IsHead c h → n < c.columns * c.rows → length (head_steps c n h) ≤ head_most c }
-    ensures refused { (c : Configuration) (n before : ℕ) (f : SliceFault) (steps : List Step) →
-        Stops (head_rules c n) before f steps → length steps ≤ numbers_most c }
+    ensures head { (p : Profile) (c : Configuration) (t : Table) (n : ℕ) (h : SliceHead) →
+        IsAccepted c t →
+        IsHead p c h → n < c.columns * c.rows → length (head_steps c n h) ≤ head_most c }
+    ensures refused { (p : Profile) (c : Configuration) (n before : ℕ) (f : SliceFault)
+        (steps : List Step) →
+        Stops (head_rules p c n) before f steps → length steps ≤ numbers_most c }
 {
     accepted();
 }
@@ -108,14 +111,15 @@ pub fn divided()
 
 /// Behind its key bytes code one head at most, or are refused in one way.
 pub fn one_head()
-    ensures head { (bytes : List ℕ) (t : Table) (c : Configuration) (n : ℕ) (g h : SliceHead) →
-        AreBytes bytes → IsTable t.floor t.one → n < 2 ^ 31 → length c.sets ≤ 8 →
-        CodesHead bytes t c n g → CodesHead bytes t c n h → g ≡ h }
-    ensures apart { (bytes : List ℕ) (t : Table) (c : Configuration) (n : ℕ) (h : SliceHead)
-        (f : SliceFault) (steps : List Step) → AreBytes bytes → IsTable t.floor t.one → n < 2 ^ 31 →
+    ensures head { (bytes : List ℕ) (t : Table) (p : Profile) (c : Configuration) (n : ℕ)
+        (g h : SliceHead) → AreBytes bytes → IsTable t.floor t.one → n < 2 ^ 31 →
         length c.sets ≤ 8 →
-        CodesHead bytes t c n h → RefusesHead bytes t c n f steps → ⊥ }
-    ensures refusal { (bytes : List ℕ) (t : Table) (c : Configuration) (n : ℕ) (f g : SliceFault)
-        (xs ys : List Step) → AreBytes bytes → IsTable t.floor t.one →
-        RefusesHead bytes t c n f xs → RefusesHead bytes t c n g ys → (f ≡ g) × (xs ≡ ys) }
+        CodesHead bytes t p c n g → CodesHead bytes t p c n h → g ≡ h }
+    ensures apart { (bytes : List ℕ) (t : Table) (p : Profile) (c : Configuration) (n : ℕ)
+        (h : SliceHead) (f : SliceFault) (steps : List Step) → AreBytes bytes →
+        IsTable t.floor t.one → n < 2 ^ 31 → length c.sets ≤ 8 →
+        CodesHead bytes t p c n h → RefusesHead bytes t p c n f steps → ⊥ }
+    ensures refusal { (bytes : List ℕ) (t : Table) (p : Profile) (c : Configuration) (n : ℕ)
+        (f g : SliceFault) (xs ys : List Step) → AreBytes bytes → IsTable t.floor t.one →
+        RefusesHead bytes t p c n f xs → RefusesHead bytes t p c n g ys → (f ≡ g) × (xs ≡ ys) }
 {}

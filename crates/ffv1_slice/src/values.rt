@@ -7,11 +7,12 @@ ghost use Rattle.ffv1_range.specs.Symbols.{AreHeld, unsigned_steps, too_long};
 ghost use Rattle.ffv1_range.specs.Follows.{Follows};
 ghost use Rattle.ffv1_range.specs.Puts.{Puts, MayBeRefused};
 ghost use Rattle.ffv1_slice.specs.Head.{placed, indexed, index_rules, info_rules, indexes_of};
-ghost use Rattle.ffv1_slice.specs.Head.{is_aspect, values_steps};
+ghost use Rattle.ffv1_slice.specs.Head.{is_aspect, has_aspect, values_steps};
 ghost use Rattle.ffv1_slice.specs.Internal.Values.{Gives, seen};
 
 use crate::fault::SliceFault;
 use ffv1_range::{Fault, RangeDecoder, RangeEncoder, StateTable};
+use ffv1_record::Profile;
 use std::alloc::Allocator;
 
 /// The next number.
@@ -129,14 +130,29 @@ fn is_aspect(num: u32, den: u32) -> bool
     (num < 65536 && den < 65536) && (if num == 0 { den == 0 } else { 0 < den })
 }
 
+/// Whether two numbers say an aspect in a profile.
+fn has_aspect(num: u32, den: u32, profile: Profile) -> bool
+    ensures { result ≡ has_aspect profile num den }
+{
+    if is_aspect(num, den) {
+        return true;
+    }
+    match profile {
+        Profile::Strict => false,
+        Profile::Wide => num < 65536 && den < 65536,
+    }
+}
+
 /// The structure, and the numbers of the aspect.
 pub(crate) fn get_info(
     decoder: &mut RangeDecoder<'_>,
     table: &StateTable,
     states: &mut [u8],
+    profile: Profile,
 ) -> Result<(u8, u16, u16), SliceFault>
     requires held { AreHeld table.now states.old }
-    ensures gives { Gives table.now info_rules decoder.old states.old decoder.new states.new
+    ensures gives { Gives table.now
+        (info_rules profile) decoder.old states.old decoder.new states.new
         (seen (λ i. i.0 ∷ i.1 ∷ i.2 ∷ []) result) }
     ensures held { AreHeld table.now states.new }
 {
@@ -146,7 +162,7 @@ pub(crate) fn get_info(
     }
     let num = number(decoder, table, states)?;
     let den = number(decoder, table, states)?;
-    if !is_aspect(num, den) {
+    if !has_aspect(num, den, profile) {
         return Err(SliceFault::Aspect);
     }
     Ok((structure as u8, num as u16, den as u16))

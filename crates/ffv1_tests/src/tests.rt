@@ -1,5 +1,6 @@
 //! Tests of each crate by what it makes public, and those that cross crates.
 
+mod aspects;
 mod avi;
 mod checks;
 mod decoded;
@@ -13,6 +14,7 @@ mod orders;
 mod packs;
 mod pictures;
 mod plane;
+mod profiles;
 mod range;
 mod rct;
 mod record;

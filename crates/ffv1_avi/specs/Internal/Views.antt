@@ -2,8 +2,11 @@
 use Rattle.std.specs.Prelude.{ℕ, List, Option, Some, None}
 use Rattle.ffv1_avi.specs.declared.stream.Sizes.{Sizes}
 use Rattle.ffv1_avi.specs.declared.stream.Fields.{Fields}
+use Rattle.ffv1_avi.specs.declared.open.Found.{Found}
 use Rattle.ffv1_avi.specs.declared.open.Top.{Top}
 use Rattle.ffv1_avi.specs.declared.open.Top.TheVariants.{On, Movi}
+use Rattle.ffv1_avi.specs.declared.place.Place.{Place}
+use Rattle.ffv1_avi.specs.Files.{Headers}
 use Rattle.ffv1_avi.specs.Head.{Head}
 use Rattle.ffv1_avi.specs.Streams.{Format, Known}
 
@@ -40,10 +43,16 @@ known_with fields bytes = record { rates = fields.rates; format = came_with fiel
 abbrev pub known_next : Fields → List ℕ → Known × Option ⊥
 known_next fields bytes = (known_with fields bytes, None)
 
-abbrev pub found_next : Option Sizes → List ℕ → Option Head × Option ⊥
-found_next found bytes = (found_with found bytes, None)
+-- what is known before the first movi
+abbrev pub headers_with : Found → List ℕ → Headers
+headers_with found bytes =
+    record { passed = found.passed; head = found_with found.sizes bytes; frames = found.frames }
+
+abbrev pub headers_next : Found → List ℕ → Headers × Option ⊥
+headers_next found bytes = (headers_with found bytes, None)
 
 -- where a chunk of RIFF leads
-abbrev pub top_with : Top → List ℕ → Option Head × Option (Head × ℕ)
-top_with (On s) bytes = (found_with s bytes, None)
-top_with (Movi s left) bytes = (Some (head_with s bytes), Some (head_with s bytes, left))
+abbrev pub top_with : Top → List ℕ → Headers × Option (Head × Place)
+top_with (On found) bytes = (headers_with found bytes, None)
+top_with (Movi found sizes place) bytes =
+    (headers_with found bytes, Some (head_with sizes bytes, place))

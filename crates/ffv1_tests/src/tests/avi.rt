@@ -5,4 +5,5 @@ mod example;
 mod failing;
 mod files;
 mod large;
+pub(super) mod riffs;
 mod scarce;

@@ -2,7 +2,7 @@
 
 use crate::tests::made;
 use ffv1_avi::{AviHead, write_avi};
-use ffv1_engine::{Fault, check};
+use ffv1_engine::{Fault, Profile, check};
 use ffv1_record::{Checked, RecordFault, write_record};
 use ffv1_wire::{FromRead, ToWrite};
 use std::alloc::Allocator;
@@ -48,7 +48,13 @@ fn checked<A: Allocator + Copy>(
     place: bool,
 ) -> (Result<(), Fault>, Vec<u8, A>) {
     let mut output = ToWrite::new(Vec::new(alloc));
-    let answer = check(alloc, &mut FromRead::new(file), &mut output, place);
+    let answer = check(
+        alloc,
+        Profile::Strict,
+        &mut FromRead::new(file),
+        &mut output,
+        place,
+    );
     (answer, output.into_inner())
 }
 

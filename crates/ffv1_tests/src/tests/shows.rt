@@ -3,7 +3,7 @@
 
 use crate::tests::made;
 use ffv1_avi::{AviHead, write_avi};
-use ffv1_engine::{Fault, show};
+use ffv1_engine::{Fault, Profile, show};
 use ffv1_plane::QuantSet;
 use ffv1_record::{Coder, Colour, Config, RecordFault, Sets, write_record};
 use ffv1_wire::{FromRead, ToWrite};
@@ -79,7 +79,13 @@ fn shown<A: Allocator + Copy>(
     cost: bool,
 ) -> (Result<(), Fault>, Vec<u8, A>) {
     let mut output = ToWrite::new(Vec::new(alloc));
-    let answer = show(alloc, &mut FromRead::new(file), &mut output, cost);
+    let answer = show(
+        alloc,
+        Profile::Strict,
+        &mut FromRead::new(file),
+        &mut output,
+        cost,
+    );
     (answer, output.into_inner())
 }
 

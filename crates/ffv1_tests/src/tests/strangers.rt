@@ -3,7 +3,7 @@
 
 use super::decoded::{KeepSamples, decodes, fault, mono, pictures};
 use ffv1_codec::{CodecFault, FrameDecoder, FrameFault};
-use ffv1_engine::{Choice, CoderChoice, Fault, check, pack};
+use ffv1_engine::{Choice, CoderChoice, Fault, Profile, check, pack};
 use ffv1_wire::{FromRead, ToWrite};
 use std::alloc::Global;
 use std::test::Fail;
@@ -129,7 +129,13 @@ fn checked(alloc: Global, file: &mut [u8], place: usize, bits: u8) -> (Result<()
         file[place] ^= bits;
     }
     let mut output = ToWrite::new(Vec::new(alloc));
-    let answer = check(alloc, &mut FromRead::new(&*file), &mut output, true);
+    let answer = check(
+        alloc,
+        Profile::Strict,
+        &mut FromRead::new(&*file),
+        &mut output,
+        true,
+    );
     if place < file.len() {
         file[place] ^= bits;
     }

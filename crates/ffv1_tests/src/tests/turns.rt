@@ -3,7 +3,7 @@
 //! what `model/commands.py` writes of the same input.
 
 use ffv1_doubles::{FailingReader, Scarce, ShortWriter};
-use ffv1_engine::{Choice, CoderChoice, Fault, check, pack, show, trial, unpack};
+use ffv1_engine::{Choice, CoderChoice, Fault, Profile, check, pack, show, trial, unpack};
 use ffv1_wire::{ByteIn, ByteOut, FromRead, ToWrite};
 use std::alloc::Allocator;
 use std::io::ErrorKind;
@@ -94,7 +94,7 @@ fn unpack_all<R: ByteIn, W: ByteOut, A: Allocator + Copy>(
     input: &mut R,
     output: W,
 ) -> (W, Result<(), Fault>) {
-    let (output, answer) = unpack(alloc, input, output);
+    let (output, answer) = unpack(alloc, Profile::Strict, input, output);
     match answer {
         Ok(_) => (output, Ok(())),
         Err(fault) => (output, Err(fault)),
@@ -112,8 +112,8 @@ fn run<R: ByteIn, W: ByteOut, A: Allocator + Copy>(
     let answer = match command {
         Command::Unpack => return unpack_all(alloc, input, output),
         Command::Pack => pack_plain(alloc, input, &mut output),
-        Command::Check => check(alloc, input, &mut output, true),
-        Command::Show => show(alloc, input, &mut output, true),
+        Command::Check => check(alloc, Profile::Strict, input, &mut output, true),
+        Command::Show => show(alloc, Profile::Strict, input, &mut output, true),
         Command::Trial => trial(alloc, input, &mut output),
     };
     (output, answer)

@@ -1,7 +1,7 @@
 //! Files that are unpacked, with texts computed outside the program, and their faults.
 
 use ffv1_avi::{AviHead, write_avi};
-use ffv1_engine::{Choice, CoderChoice, Fault, pack, unpack};
+use ffv1_engine::{Choice, CoderChoice, Fault, Profile, pack, unpack};
 use ffv1_plane::QuantSet;
 use ffv1_record::{Coder, Colour, Config, Sets, write_record};
 use ffv1_wire::{FromRead, ToWrite};
@@ -49,7 +49,7 @@ fn comes_to<A: Allocator + Copy>(
     text: &[u8],
 ) {
     let output = ToWrite::new(Vec::new(alloc));
-    let (written, found) = unpack(alloc, &mut FromRead::new(file), output);
+    let (written, found) = unpack(alloc, Profile::Strict, &mut FromRead::new(file), output);
     assert!(rt; found == answer);
     assert!(rt; written.into_inner().as_slice() == text);
 }

@@ -6,6 +6,8 @@ use Rattle.ffv1_avi.specs.declared.fault.AviFault.TheVariants as fault
 use Rattle.ffv1_avi.specs.declared.stream.Sizes.{Sizes}
 use Rattle.ffv1_avi.specs.Files.{begins, open_read, top_read}
 use Rattle.ffv1_avi.specs.Head.{Head}
+use Rattle.ffv1_avi.specs.declared.place.Extent.{Extent}
+use Rattle.ffv1_avi.specs.declared.place.Place.{Place}
 use Rattle.ffv1_avi.specs.Reads.{Looked, Reading, refused, taken, ◌>>=◌}
 use Rattle.ffv1_avi.specs.Internal.Views.{head_with}
 use Rattle.ffv1_avi.specs.Walk.{is_name}
@@ -15,18 +17,18 @@ use Rattle.ffv1_avi.proofs.Reading.{faults_here, goes_fault, goes_last, goes_non
 use Rattle.ffv1_avi.proofs.open.read_opening.Goals as goal
 use Rattle.ffv1_avi.proofs.open.read_opening.Goals.{then-not-is_name-via-then-not-is_name, then-not-is_name-via-else-not-is_name+then-not-is_name-2, then-not-is_name-via-else-not-is_name+else-not-is_name-2+then-size-lt4}
 
-abbrev behind : List ℕ → Reading (Head × ℕ)
-behind bytes = if begins bytes then top_read (little_number 4 (drop 4 bytes) - 4) else refused fault.NotAvi
+abbrev behind : Extent → List ℕ → Reading (Head × Place)
+behind extent bytes = if begins bytes then top_read extent (little_number 4 (drop 4 bytes) - 4) else refused fault.NotAvi
 
-opened : (text : List ℕ) → open_read text ≡ (taken 12 >>= behind) text
+opened : (extent : Extent) (text : List ℕ) → open_read extent text ≡ (taken 12 >>= behind extent) text
 unfolding open_read
-opened text = refl
+opened extent text = refl
 
-begun : (bytes : List ℕ) → begins bytes ≡ true → (text : List ℕ) → behind bytes text ≡ top_read (little_number 4 (drop 4 bytes) - 4) text
-begun bytes is text = rw is refl
+begun : (extent : Extent) (bytes : List ℕ) → begins bytes ≡ true → (text : List ℕ) → behind extent bytes text ≡ top_read extent (little_number 4 (drop 4 bytes) - 4) text
+begun extent bytes is text = rw is refl
 
-not_begun : (bytes : List ℕ) → begins bytes ≡ false → (text : List ℕ) → behind bytes text ≡ refused fault.NotAvi text
-not_begun bytes is text = rw is refl
+not_begun : (extent : Extent) (bytes : List ℕ) → begins bytes ≡ false → (text : List ℕ) → behind extent bytes text ≡ refused fault.NotAvi text
+not_begun extent bytes is text = rw is refl
 
 all_three : (a b c : Bool) → a ≡ true → b ≡ true → c ≡ true → ((a && b) && c) ≡ true
 all_three a b c p q r = rw (p, q, r) refl
@@ -50,9 +52,9 @@ returns-then-not-is_name g c =
     let b = is_name (drop 8 head) (codes "AVI ") in
     let z = nat_le 4 (little_number 4 (drop 4 head)) in
     let other : begins head ≡ false = elim c.then-not-is_name.branch [ then-not-is_name-via-then-not-is_name w ↦ no_first a b z (sym w.if-not-is_name.ensures) | then-not-is_name-via-else-not-is_name+then-not-is_name-2 w ↦ no_second a b z (sym w.if-not-is_name.ensures) (ap (λ y. is_name y (codes "AVI ")) (sym form) ∙ sym w.if-not-is_name-2.ensures) | then-not-is_name-via-else-not-is_name+else-not-is_name-2+then-size-lt4 w ↦ no_third a b z (sym w.if-not-is_name.ensures) (ap (λ y. is_name y (codes "AVI ")) (sym form) ∙ sym w.if-not-is_name-2.ensures) (lt-leb _ _ (omega (arith, size, w.if-size-lt4.true))) ] in
-    let start = goes_same _ (taken 12 >>= behind) opened (goes_none open_read (g.R.ByteIn.remaining c.args.input.now) (g.R.ByteIn.failures c.args.input.now)) in
-    let here = goes_same _ (refused fault.NotAvi) (not_begun head other) (goes_read (taken 12) behind _ _ head start c.in_ok-take.ensures) in
-    goes_fault fault.NotAvi here (refl, faults_here (Head × ℕ) fault.NotAvi _)
+    let start = goes_same _ (taken 12 >>= behind c.args.extent) (opened c.args.extent) (goes_none (open_read c.args.extent) (g.R.ByteIn.remaining c.args.input.now) (g.R.ByteIn.failures c.args.input.now)) in
+    let here = goes_same _ (refused fault.NotAvi) (not_begun c.args.extent head other) (goes_read (taken 12) (behind c.args.extent) _ _ head start c.in_ok-take.ensures) in
+    goes_fault fault.NotAvi here (refl, faults_here (Head × Place) fault.NotAvi _)
 
 pub returns : goal.returns
 returns g c =
@@ -62,6 +64,6 @@ returns g c =
     let size : c.read_u32-size.result ≡ little_number 4 (drop 4 head) = c.read_u32-size.ensures ∙ number_taken 8 (drop 4 head) (omega arith) in
     let enough : nat_le 4 (little_number 4 (drop 4 head)) ≡ true = le-leb _ _ (omega (arith, size, c.if-size-lt4.false)) in
     let here : begins head ≡ true = all_three _ _ _ (sym c.if-not-is_name.ensures) (ap (λ y. is_name y (codes "AVI ")) (sym form) ∙ sym c.if-not-is_name-2.ensures) enough in
-    let start = goes_same _ (taken 12 >>= behind) opened (goes_none open_read (g.R.ByteIn.remaining c.args.input.now) (g.R.ByteIn.failures c.args.input.now)) in
-    let next = goes_same _ (top_read (little_number 4 (drop 4 head) - 4)) (begun head here) (goes_read (taken 12) behind _ _ head start c.in_ok-take.ensures) in
-    goes_last (top_read (little_number 4 (drop 4 head) - 4)) (λ (p : Sizes × ℕ). (head_with p.0 c.read_top.new.config.items, p.1)) _ _ c.read_top.result next (rw size at c.read_top.ensures)
+    let start = goes_same _ (taken 12 >>= behind c.args.extent) (opened c.args.extent) (goes_none (open_read c.args.extent) (g.R.ByteIn.remaining c.args.input.now) (g.R.ByteIn.failures c.args.input.now)) in
+    let next = goes_same _ (top_read c.args.extent (little_number 4 (drop 4 head) - 4)) (begun c.args.extent head here) (goes_read (taken 12) (behind c.args.extent) _ _ head start c.in_ok-take.ensures) in
+    goes_last (top_read c.args.extent (little_number 4 (drop 4 head) - 4)) (λ (p : Sizes × Place). (head_with p.0 c.read_top.new.config.items, p.1)) _ _ c.read_top.result next (rw size at c.read_top.ensures)

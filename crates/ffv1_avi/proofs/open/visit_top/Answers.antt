@@ -1,78 +1,81 @@
 use Rattle.std.proofs.Common.{◌≡◌, ◌-◌, ℕ, List, Option, None, true, false, codes, refl, sym}
 use Rattle.std.proofs.lemmas.Result.{err_from_is_err_and}
-use Rattle.ffv1_avi.specs.declared.fault.AviFault.TheVariants as fault
-use Rattle.ffv1_avi.specs.Files.{header_read, list_skipped, list_visited, movi_reached, visit_top}
+use Rattle.ffv1_avi.specs.Files.{Headers, header_read, list_skipped, list_visited, movi_reached, visit_top}
 use Rattle.ffv1_avi.specs.Head.{Head}
+use Rattle.ffv1_avi.specs.declared.open.Top.{Top}
+use Rattle.ffv1_avi.specs.declared.place.Extent.{Extent}
+use Rattle.ffv1_avi.specs.declared.place.Place.{Place}
 use Rattle.ffv1_avi.specs.Reads.{Reading, given, padded, passed, taken, ◌>>=◌}
-use Rattle.ffv1_avi.specs.Internal.Views.{found_with}
+use Rattle.ffv1_avi.specs.Internal.Views.{headers_with, top_with}
 use Rattle.ffv1_avi.specs.Walk.{is_name}
 use Rattle.ffv1_avi.specs.declared.chunk.Entry.{Entry}
-use Rattle.ffv1_avi.proofs.Reading.{faults_here, goes_fault, goes_given, goes_none, goes_read, goes_refused, goes_same}
+use Rattle.ffv1_avi.proofs.Reading.{goes_given, goes_last, goes_none, goes_read, goes_refused, goes_same}
 use Rattle.ffv1_avi.proofs.open.visit_top.Goals as goal
 
 abbrev Next : Type 0
-Next = Option Head × Option (Head × ℕ)
+Next = Headers × Option (Head × Place)
 
-abbrev header_next : Option Head → Reading Next
+abbrev header_next : Headers → Reading Next
 header_next found = given (found, None)
 
-list_read : (s : Option Head) (e : Entry) → is_name e.name (codes "LIST") ≡ true → (text : List ℕ) → visit_top s e text ≡ (taken 4 >>= list_visited s e.size) text
+list_read : (extent : Extent) (s : Headers) (e : Entry) → is_name e.name (codes "LIST") ≡ true → (text : List ℕ) → visit_top extent s e text ≡ (taken 4 >>= list_visited extent s e.left e.size) text
 unfolding visit_top
-list_read s e list text = rw list refl
+list_read extent s e list text = rw list refl
 
-header_named : (s : Option Head) (size : ℕ) (own : List ℕ) → is_name own (codes "hdrl") ≡ true → (text : List ℕ) → list_visited s size own text ≡ (header_read s size >>= header_next) text
-header_named s size own is text = rw is refl
+header_named : (extent : Extent) (s : Headers) (left size : ℕ) (own : List ℕ) → is_name own (codes "hdrl") ≡ true → (text : List ℕ) → list_visited extent s left size own text ≡ (header_read extent s size >>= header_next) text
+header_named extent s left size own is text = rw is refl
 
-movi_named : (s : Option Head) (size : ℕ) (own : List ℕ) → is_name own (codes "hdrl") ≡ false → is_name own (codes "movi") ≡ true → (text : List ℕ) → list_visited s size own text ≡ movi_reached s size text
-movi_named s size own other is text = rw (other, is) refl
+movi_named : (extent : Extent) (s : Headers) (left size : ℕ) (own : List ℕ) → is_name own (codes "hdrl") ≡ false → is_name own (codes "movi") ≡ true → (text : List ℕ) → list_visited extent s left size own text ≡ movi_reached extent s left size s.head text
+movi_named extent s left size own other is text = rw (other, is) refl
 
-other_named : (s : Option Head) (size : ℕ) (own : List ℕ) → is_name own (codes "hdrl") ≡ false → is_name own (codes "movi") ≡ false → (text : List ℕ) → list_visited s size own text ≡ list_skipped {Y = Head × ℕ} s size text
-other_named s size own header movi text = rw (header, movi) refl
+other_named : (extent : Extent) (s : Headers) (left size : ℕ) (own : List ℕ) → is_name own (codes "hdrl") ≡ false → is_name own (codes "movi") ≡ false → (text : List ℕ) → list_visited extent s left size own text ≡ list_skipped {Y = Head × Place} s size text
+other_named extent s left size own header movi text = rw (header, movi) refl
 
 pub returns-in_err-found : goal.returns-in_err-found
 returns-in_err-found g c =
     let p = err_from_is_err_and c.from_residual-in_err-found.result c.from_residual-in_err-found.ensures.1 in
     let e = c.args.entry in
     let own = c.in_ok-own.own in
-    let found = found_with c.args.found c.args.config.now.items in
-    let start = goes_same _ (taken 4 >>= list_visited found e.size) (list_read found e (sym c.if-not-is_name.ensures)) (goes_none (visit_top found e) (g.R.ByteIn.remaining c.args.input.now) (g.R.ByteIn.failures c.args.input.now)) in
-    let here = goes_same _ (header_read found e.size >>= header_next) (header_named found e.size own (sym c.if-is_name.ensures)) (goes_read (taken 4) (list_visited found e.size) _ _ own start c.in_ok-own.ensures) in
-    rw (p.1, p.2) (goes_refused (header_read found e.size) header_next _ _ c.in_err-found.field-0.0 here c.in_err-found.ensures)
+    let found = headers_with c.args.found c.args.config.now.items in
+    let start = goes_same _ (taken 4 >>= list_visited c.args.extent found e.left e.size) (list_read c.args.extent found e (sym c.if-not-is_name.ensures)) (goes_none (visit_top c.args.extent found e) (g.R.ByteIn.remaining c.args.input.now) (g.R.ByteIn.failures c.args.input.now)) in
+    let here = goes_same _ (header_read c.args.extent found e.size >>= header_next) (header_named c.args.extent found e.left e.size own (sym c.if-is_name.ensures)) (goes_read (taken 4) (list_visited c.args.extent found e.left e.size) _ _ own start c.in_ok-own.ensures) in
+    rw (p.1, p.2) (goes_refused (header_read c.args.extent found e.size) header_next _ _ c.in_err-found.field-0.0 here c.in_err-found.ensures)
 
 pub returns-then-is_name : goal.returns-then-is_name
 returns-then-is_name g c =
     let e = c.args.entry in
     let own = c.in_ok-own.own in
-    let found = found_with c.args.found c.args.config.now.items in
-    let head = found_with c.in_ok-found.found c.read_header.new.config.items in
-    let start = goes_same _ (taken 4 >>= list_visited found e.size) (list_read found e (sym c.if-not-is_name.ensures)) (goes_none (visit_top found e) (g.R.ByteIn.remaining c.args.input.now) (g.R.ByteIn.failures c.args.input.now)) in
-    let here = goes_same _ (header_read found e.size >>= header_next) (header_named found e.size own (sym c.if-is_name.ensures)) (goes_read (taken 4) (list_visited found e.size) _ _ own start c.in_ok-own.ensures) in
-    goes_given (head, None) (goes_read (header_read found e.size) header_next _ _ head here c.in_ok-found.ensures)
+    let found = headers_with c.args.found c.args.config.now.items in
+    let head = headers_with c.in_ok-found.found c.read_header.new.config.items in
+    let start = goes_same _ (taken 4 >>= list_visited c.args.extent found e.left e.size) (list_read c.args.extent found e (sym c.if-not-is_name.ensures)) (goes_none (visit_top c.args.extent found e) (g.R.ByteIn.remaining c.args.input.now) (g.R.ByteIn.failures c.args.input.now)) in
+    let here = goes_same _ (header_read c.args.extent found e.size >>= header_next) (header_named c.args.extent found e.left e.size own (sym c.if-is_name.ensures)) (goes_read (taken 4) (list_visited c.args.extent found e.left e.size) _ _ own start c.in_ok-own.ensures) in
+    goes_given (head, None) (goes_read (header_read c.args.extent found e.size) header_next _ _ head here c.in_ok-found.ensures)
 
-pub returns-in_default : goal.returns-in_default
-returns-in_default g c =
+pub returns-then-is_name-2 : goal.returns-then-is_name-2
+returns-then-is_name-2 g c =
     let e = c.args.entry in
     let own = c.in_ok-own.own in
-    let none : c.args.found ≡ None = c.in_default.is in
-    let start = goes_same _ (taken 4 >>= list_visited None e.size) (list_read None e (sym c.if-not-is_name.ensures)) (goes_none (visit_top None e) (g.R.ByteIn.remaining c.args.input.now) (g.R.ByteIn.failures c.args.input.now)) in
-    let here = goes_same _ (movi_reached None e.size) (movi_named None e.size own (sym c.if-is_name.ensures) (sym c.if-is_name-2.ensures)) (goes_read (taken 4) (list_visited None e.size) _ _ own start c.in_ok-own.ensures) in
-    rw none (goes_fault fault.NoFfv1 here (refl, faults_here Next fault.NoFfv1 _))
+    let bytes = c.args.config.now.items in
+    let found = headers_with c.args.found bytes in
+    let start = goes_same _ (taken 4 >>= list_visited c.args.extent found e.left e.size) (list_read c.args.extent found e (sym c.if-not-is_name.ensures)) (goes_none (visit_top c.args.extent found e) (g.R.ByteIn.remaining c.args.input.now) (g.R.ByteIn.failures c.args.input.now)) in
+    let here = goes_same _ (movi_reached c.args.extent found e.left e.size found.head) (movi_named c.args.extent found e.left e.size own (sym c.if-is_name.ensures) (sym c.if-is_name-2.ensures)) (goes_read (taken 4) (list_visited c.args.extent found e.left e.size) _ _ own start c.in_ok-own.ensures) in
+    goes_last (movi_reached c.args.extent found e.left e.size found.head) (λ (t : Top). top_with t bytes) _ _ c.reach_movi.result here (c.reach_movi.ensures bytes _ _)
 
 pub returns-in_err-pass-2 : goal.returns-in_err-pass-2
 returns-in_err-pass-2 g c =
     let p = err_from_is_err_and c.from_residual-in_err-pass-2.result c.from_residual-in_err-pass-2.ensures.1 in
     let e = c.args.entry in
     let own = c.in_ok-own.own in
-    let found = found_with c.args.found c.args.config.now.items in
-    let start = goes_same _ (taken 4 >>= list_visited found e.size) (list_read found e (sym c.if-not-is_name.ensures)) (goes_none (visit_top found e) (g.R.ByteIn.remaining c.args.input.now) (g.R.ByteIn.failures c.args.input.now)) in
-    let here = goes_same _ (list_skipped {Y = Head × ℕ} found e.size) (other_named found e.size own (sym c.if-is_name.ensures) (sym c.if-is_name-2.ensures)) (goes_read (taken 4) (list_visited found e.size) _ _ own start c.in_ok-own.ensures) in
+    let found = headers_with c.args.found c.args.config.now.items in
+    let start = goes_same _ (taken 4 >>= list_visited c.args.extent found e.left e.size) (list_read c.args.extent found e (sym c.if-not-is_name.ensures)) (goes_none (visit_top c.args.extent found e) (g.R.ByteIn.remaining c.args.input.now) (g.R.ByteIn.failures c.args.input.now)) in
+    let here = goes_same _ (list_skipped {Y = Head × Place} found e.size) (other_named c.args.extent found e.left e.size own (sym c.if-is_name.ensures) (sym c.if-is_name-2.ensures)) (goes_read (taken 4) (list_visited c.args.extent found e.left e.size) _ _ own start c.in_ok-own.ensures) in
     rw (p.1, p.2) (goes_refused (passed (padded e.size - 4)) (λ _. given (found, None)) _ _ c.in_err-pass-2.field-0.0 here (rw c.padded-2.ensures at c.in_err-pass-2.ensures))
 
 pub returns : goal.returns
 returns g c =
     let e = c.args.entry in
     let own = c.in_ok-own.own in
-    let found = found_with c.args.found c.args.config.now.items in
-    let start = goes_same _ (taken 4 >>= list_visited found e.size) (list_read found e (sym c.if-not-is_name.ensures)) (goes_none (visit_top found e) (g.R.ByteIn.remaining c.args.input.now) (g.R.ByteIn.failures c.args.input.now)) in
-    let here = goes_same _ (list_skipped {Y = Head × ℕ} found e.size) (other_named found e.size own (sym c.if-is_name.ensures) (sym c.if-is_name-2.ensures)) (goes_read (taken 4) (list_visited found e.size) _ _ own start c.in_ok-own.ensures) in
+    let found = headers_with c.args.found c.args.config.now.items in
+    let start = goes_same _ (taken 4 >>= list_visited c.args.extent found e.left e.size) (list_read c.args.extent found e (sym c.if-not-is_name.ensures)) (goes_none (visit_top c.args.extent found e) (g.R.ByteIn.remaining c.args.input.now) (g.R.ByteIn.failures c.args.input.now)) in
+    let here = goes_same _ (list_skipped {Y = Head × Place} found e.size) (other_named c.args.extent found e.left e.size own (sym c.if-is_name.ensures) (sym c.if-is_name-2.ensures)) (goes_read (taken 4) (list_visited c.args.extent found e.left e.size) _ _ own start c.in_ok-own.ensures) in
     goes_given (found, None) (goes_read (passed (padded e.size - 4)) (λ _. given (found, None)) _ _ tt here (rw c.padded-2.ensures at c.in_ok-pass-2.ensures))

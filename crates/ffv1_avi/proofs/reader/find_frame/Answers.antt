@@ -1,38 +1,59 @@
-use Rattle.std.proofs.Common.{ℕ, Option, Some, None}
+use Rattle.std.proofs.Common.{◌++◌, [], ℕ, Some, None, ◌∙◌, refl}
 use Rattle.std.proofs.lemmas.Result.{err_from_is_err_and}
-use Rattle.ffv1_avi.specs.Files.{visit_movi}
-use Rattle.ffv1_avi.specs.Reads.{Reading, given}
-use Rattle.ffv1_avi.proofs.Reading.{goes_given, goes_read, goes_refused}
-use Rattle.ffv1_avi.proofs.ChunkByChunk.{behind_chunk, goes_end, goes_entry, goes_no_entry}
+use Rattle.ffv1_avi.specs.declared.place.Place.{Place}
+use Rattle.ffv1_avi.specs.Files.{found_or_on, frame_found, moved, movi_found, sought_on}
+use Rattle.ffv1_avi.specs.Places.{extent_of, frame_at}
+use Rattle.ffv1_avi.specs.Reads.{◌>>=◌}
+use Rattle.ffv1_avi.proofs.EndReadings.{none_ends, none_given, none_read, none_refused, none_refused_end, read_extent, refused_extent, some_read}
+use Rattle.ffv1_avi.proofs.Moves.{frame_step, moved_less}
+use Rattle.ffv1_avi.proofs.Reading.{goes_read, goes_same}
 use Rattle.ffv1_avi.proofs.reader.find_frame.Goals as goal
-
-abbrev found : Unit {0} × Option (ℕ × ℕ) → Reading (Option (ℕ × ℕ))
-found p = given p.1
-
-pub returns-in_err-entry-clause-answer : goal.returns-in_err-entry-clause-answer
-returns-in_err-entry-clause-answer g c =
-    let p = err_from_is_err_and c.from_residual.result c.from_residual.ensures.1 in
-    rw (p.1, p.2) (goes_no_entry visit_movi c.loop-entry.left tt found _ _ c.in_err-entry.field-0.0 c.loop-entry.invariant c.in_err-entry.ensures.answer)
 
 pub returns-in_err-size-clause-answer : goal.returns-in_err-size-clause-answer
 returns-in_err-size-clause-answer g c =
-    let p = err_from_is_err_and c.from_residual-in_err-size.result c.from_residual-in_err-size.ensures.1 in
-    let e = c.in-Some.entry in
-    let here = goes_entry visit_movi c.loop-entry.left tt found _ _ e c.loop-entry.invariant (rw c.in-Some.is at c.in_ok-entry.ensures.answer) in
-    rw (p.1, p.2) (goes_refused (visit_movi tt e) (behind_chunk visit_movi e.left found) _ _ c.in_err-size.field-0.0 here c.in_err-size.ensures.answer)
+    let p = err_from_is_err_and c.from_residual.result c.from_residual.ensures.1 in
+    let place = c.loop-size.place in
+    let start = goes_same _ (movi_found place.stream place.movi >>= found_or_on frame_found place) (frame_step place) c.loop-size.invariant.0 in
+    rw (p.1, p.2) (none_refused (extent_of c.args.place) (movi_found place.stream place.movi) (found_or_on frame_found place) _ _ c.in_err-size.field-0.0 start c.in_err-size.ensures.answer)
 
-pub returns-in-Some-2-clause-answer : goal.returns-in-Some-2-clause-answer
-returns-in-Some-2-clause-answer g c =
-    let e = c.in-Some.entry in
-    let here = goes_entry visit_movi c.loop-entry.left tt found _ _ e c.loop-entry.invariant (rw c.in-Some.is at c.in_ok-entry.ensures.answer) in
-    goes_given (Some (c.in-Some-2.size, e.left)) (goes_read (visit_movi tt e) (behind_chunk visit_movi e.left found) _ _ (tt, Some (c.in-Some-2.size, e.left)) here (rw c.in-Some-2.is at c.in_ok-size.ensures.answer))
+pub returns-in-Some-clause-answer : goal.returns-in-Some-clause-answer
+returns-in-Some-clause-answer g c =
+    let place = c.loop-size.place in
+    let found : ℕ × ℕ = (c.in-Some.size, c.in-Some.left) in
+    let start = goes_same _ (movi_found place.stream place.movi >>= found_or_on frame_found place) (frame_step place) c.loop-size.invariant.0 in
+    let frame : ℕ × Place = (c.in-Some.size, frame_at place c.in-Some.left) in
+    rw c.frame_at.ensures (none_given (extent_of c.args.place) (Some frame) (goes_read (movi_found place.stream place.movi) (found_or_on frame_found place) _ _ (Some found) start (rw c.in-Some.is at c.in_ok-size.ensures.answer)))
 
-pub loop-entry-preserved : goal.loop-entry-preserved
-loop-entry-preserved g c =
-    let e = c.in-Some.entry in
-    let here = goes_entry visit_movi c.loop-entry.left tt found _ _ e c.loop-entry.invariant (rw c.in-Some.is at c.in_ok-entry.ensures.answer) in
-    goes_read (visit_movi tt e) (behind_chunk visit_movi e.left found) _ _ (tt, None) here (rw c.in_default-2.is at c.in_ok-size.ensures.answer)
+pub returns-in_err-next-clause-answer : goal.returns-in_err-next-clause-answer
+returns-in_err-next-clause-answer g c =
+    let p = err_from_is_err_and c.from_residual-in_err-next.result c.from_residual-in_err-next.ensures.1 in
+    let place = c.loop-size.place in
+    let f = c.in_err-next.field-0.0 in
+    let start = goes_same _ (movi_found place.stream place.movi >>= found_or_on frame_found place) (frame_step place) c.loop-size.invariant.0 in
+    let here = goes_read (movi_found place.stream place.movi) (found_or_on frame_found place) _ _ None start (rw c.in_default.is at c.in_ok-size.ensures.answer) in
+    rw (p.1, p.2) (none_refused_end (extent_of c.args.place) (moved place) (sought_on frame_found) _ _ f (λ text. refl) here (refused_extent (extent_of place) (extent_of c.args.place) (moved place) _ _ _ _ f c.loop-size.invariant.1 c.in_err-next.ensures))
 
-pub returns-clause-answer : goal.returns-clause-answer
-returns-clause-answer g c =
-    goes_given None (goes_end visit_movi c.loop-entry.left tt found _ _ c.loop-entry.invariant (rw c.in_default.is at c.in_ok-entry.ensures.answer))
+pub returns-in_default-2-clause-answer : goal.returns-in_default-2-clause-answer
+returns-in_default-2-clause-answer g c =
+    let place = c.loop-size.place in
+    let start = goes_same _ (movi_found place.stream place.movi >>= found_or_on frame_found place) (frame_step place) c.loop-size.invariant.0 in
+    let here = goes_read (movi_found place.stream place.movi) (found_or_on frame_found place) _ _ None start (rw c.in_default.is at c.in_ok-size.ensures.answer) in
+    let end = rw c.in_default-2.is at c.in_ok-next.ensures in
+    none_ends (extent_of c.args.place) (moved place) (sought_on frame_found) _ _ (λ text. refl) here (end.0, read_extent (extent_of place) (extent_of c.args.place) (moved place) _ _ None c.loop-size.invariant.1 end.1)
+
+pub loop-size-smaller : goal.loop-size-smaller
+loop-size-smaller g c =
+    let place = c.loop-size.place in
+    let next = c.in-Some-2.next in
+    let read = some_read (extent_of place) (moved place) _ _ next (rw c.in-Some-2.is at c.in_ok-next.ensures).1 in
+    (moved_less place next (read.bytes ++ []) [] (read.is [])).0
+
+pub loop-size-preserved : goal.loop-size-preserved
+loop-size-preserved g c =
+    let place = c.loop-size.place in
+    let next = c.in-Some-2.next in
+    let answer = rw c.in-Some-2.is at c.in_ok-next.ensures in
+    let read = some_read (extent_of place) (moved place) _ _ next answer.1 in
+    let start = goes_same _ (movi_found place.stream place.movi >>= found_or_on frame_found place) (frame_step place) c.loop-size.invariant.0 in
+    let here = goes_read (movi_found place.stream place.movi) (found_or_on frame_found place) _ _ None start (rw c.in_default.is at c.in_ok-size.ensures.answer) in
+    (none_read (extent_of place) (moved place) (sought_on frame_found) _ _ next here answer, (moved_less place next (read.bytes ++ []) [] (read.is [])).1 ∙ c.loop-size.invariant.1)

@@ -1,13 +1,13 @@
-use Rattle.ffv1_avi.specs.Files.{frame_found, visit_movi}
-use Rattle.ffv1_avi.specs.Reads.{given, ◌>>=◌}
-use Rattle.ffv1_avi.specs.Walk.{walk}
+use Rattle.std.proofs.Common.{◌≡◌}
+use Rattle.ffv1_avi.specs.Files.{frame_found}
+use Rattle.ffv1_avi.specs.Places.{amount, extent_of}
 use Rattle.ffv1_avi.proofs.Reading.{Goes}
 use Rattle.ffv1_avi.proofs.reader.find_frame.Given as goal
 
-abbrev pub invariant-loop-entry : goal.invariant-loop-entry
-invariant-loop-entry g l =
-    Goes (frame_found l.fn.left) (g.R.ByteIn.remaining l.initial.input) (g.R.ByteIn.failures l.initial.input)
-    (walk visit_movi l.left tt >>= λ p. given p.1) (g.R.ByteIn.remaining l.input) (g.R.ByteIn.failures l.input)
+abbrev pub invariant-loop-size : goal.invariant-loop-size
+invariant-loop-size g l =
+    Goes (frame_found l.fn.place) (g.R.ByteIn.remaining l.initial.input) (g.R.ByteIn.failures l.initial.input) (frame_found l.place) (g.R.ByteIn.remaining l.input) (g.R.ByteIn.failures l.input)
+    × (extent_of l.place ≡ extent_of l.fn.place)
 
-abbrev pub decreases-loop-entry : goal.decreases-loop-entry
-decreases-loop-entry g l = l.left
+abbrev pub decreases-loop-size : goal.decreases-loop-size
+decreases-loop-size g l = amount l.place

@@ -1,33 +1,37 @@
-use Rattle.std.proofs.Common.{◌≡◌, ◌%◌, ◌∙◌, ◌++◌, take, ℕ, List, Option, Some, None, inr, arith, ap, sym}
+use Rattle.std.proofs.Common.{◌≡◌, ◌%◌, ◌∙◌, ◌++◌, [], take, ℕ, List, Option, Some, None, inr, arith, ap, sym, refl}
 use Rattle.std.proofs.lemmas.Result.{err_from_is_err_and}
 use Rattle.ffv1_avi.specs.Files.{found_read, frame_found, frame_read}
 use Rattle.ffv1_avi.specs.Readers.{Leaves}
 use Rattle.ffv1_avi.specs.Reads.{Begins, Kept, Read, Reading, given, passed, wanted, ◌>>=◌}
 use Rattle.ffv1_avi.proofs.ListWalks.{cut_front}
 use Rattle.ffv1_avi.proofs.PassedBytes.{wanted_sound}
-use Rattle.ffv1_avi.proofs.Reading.{goes_given, goes_none, goes_read, goes_refused, goes_same}
+use Rattle.ffv1_avi.specs.declared.place.Place.{Place}
+use Rattle.ffv1_avi.specs.Places.{extent_of}
+use Rattle.ffv1_avi.proofs.EndReadings.{answers_by, none_ends, none_given, none_read, none_refused, none_refused_end, some_read}
+use Rattle.ffv1_avi.proofs.Moves.{frame_less_at}
+use Rattle.ffv1_avi.proofs.Reading.{goes_none, goes_read, goes_same}
 use Rattle.ffv1_avi.proofs.ChunkByChunk.{read_on_twice}
 use Rattle.ffv1_avi.proofs.reader.read_frame.Goals as goal
 
-abbrev framed : ℕ → List ℕ → Reading (Option (List ℕ × ℕ))
+abbrev framed : Place → List ℕ → Reading (Option (List ℕ × Place))
 framed after bytes = given (Some (bytes, after))
 
 abbrev behind : ℕ → List ℕ → Reading (List ℕ)
 behind size bytes = passed (size % 2) >>= λ _. given bytes
 
-abbrev rest : ℕ → ℕ → List ℕ → Reading (Option (List ℕ × ℕ))
+abbrev rest : ℕ → Place → List ℕ → Reading (Option (List ℕ × Place))
 rest size after bytes = behind size bytes >>= framed after
 
-abbrev last : ℕ → ℕ → List ℕ → Reading (Option (List ℕ × ℕ))
+abbrev last : ℕ → Place → List ℕ → Reading (Option (List ℕ × Place))
 last size after bytes = passed (size % 2) >>= λ _. given (Some (bytes, after))
 
-found_twice : (size after : ℕ) (text : List ℕ) → found_read (Some (size, after)) text ≡ (wanted Kept size >>= rest size after) text
+found_twice : (size : ℕ) (after : Place) (text : List ℕ) → found_read (Some (size, after)) text ≡ (wanted Kept size >>= rest size after) text
 found_twice size after text = read_on_twice (wanted Kept size text) (behind size) (framed after)
 
-rest_twice : (size after : ℕ) (bytes text : List ℕ) → rest size after bytes text ≡ last size after bytes text
+rest_twice : (size : ℕ) (after : Place) (bytes text : List ℕ) → rest size after bytes text ≡ last size after bytes text
 rest_twice size after bytes text = read_on_twice (passed (size % 2) text) (λ _. given bytes) (framed after)
 
-leaves_begun : (left : ℕ) (old now : Option (List ℕ)) (size after : ℕ) (bytes : List ℕ) → Read (frame_found left) old now (Some (size, after)) → Begins now size bytes → Leaves left old bytes
+leaves_begun : (left : Place) (old now : Option (List ℕ)) (size : ℕ) (after : Place) (bytes : List ℕ) → Read (frame_found left) old now (Some (size, after)) → Begins now size bytes → Leaves left old bytes
 leaves_begun left None now size after bytes read begins = tt
 leaves_begun left (Some text) None size after bytes read begins = absurd read.consumed
 leaves_begun left (Some text) (Some more) size after bytes read begins = inr (size, after, more, ap (frame_found left) read.consumed ∙ read.is more, begins.0, begins.1, begins.2)
@@ -39,21 +43,35 @@ begins_all (Some text) (Some left) size bytes read =
     let all = wanted_sound Kept size (read.bytes ++ left) (bytes, left) (read.is left) in
     (size, omega arith, sym (cut_front size bytes left all.1) ∙ ap (λ z. take size z) (sym (read.consumed ∙ all.0)))
 
+pub returns-in_err-size-clause-answer : goal.returns-in_err-size-clause-answer
+returns-in_err-size-clause-answer g c =
+    let p = err_from_is_err_and c.from_residual.result c.from_residual.ensures.1 in
+    let place = c.args.place in
+    let start = goes_none (frame_read place) (g.R.ByteIn.remaining c.args.input.now) (g.R.ByteIn.failures c.args.input.now) in
+    rw (p.1, p.2) (answers_by (extent_of place) _ (frame_read place) _ _ (none_refused_end (extent_of place) (frame_found place) found_read _ _ c.in_err-size.field-0.0 (λ text. refl) start c.in_err-size.ensures.answer))
+
+pub returns-in_default-clause-answer : goal.returns-in_default-clause-answer
+returns-in_default-clause-answer g c =
+    let place = c.args.place in
+    let start = goes_none (frame_read place) (g.R.ByteIn.remaining c.args.input.now) (g.R.ByteIn.failures c.args.input.now) in
+    answers_by (extent_of place) _ (frame_read place) _ _ (none_ends (extent_of place) (frame_found place) found_read _ _ (λ text. refl) start (rw c.in_default.is at c.in_ok-size.ensures.answer))
+
 pub returns-in_err-fill-clause-answer : goal.returns-in_err-fill-clause-answer
 returns-in_err-fill-clause-answer g c =
     let p = err_from_is_err_and c.from_residual-in_err-fill.result c.from_residual-in_err-fill.ensures.1 in
     let size = c.in-Some.size in
     let after = c.in-Some.after in
-    let start = goes_none (frame_read c.args.left) (g.R.ByteIn.remaining c.args.input.now) (g.R.ByteIn.failures c.args.input.now) in
-    let found = goes_read (frame_found c.args.left) found_read _ _ (Some (size, after)) start (rw c.in-Some.is at c.in_ok-size.ensures.answer) in
+    let start = goes_none (frame_read c.args.place) (g.R.ByteIn.remaining c.args.input.now) (g.R.ByteIn.failures c.args.input.now) in
+    let found = none_read (extent_of c.args.place) (frame_found c.args.place) found_read _ _ (size, after) start (rw c.in-Some.is at c.in_ok-size.ensures.answer) in
     let here = goes_same _ (wanted Kept size >>= rest size after) (found_twice size after) found in
-    rw (p.1, p.2) (goes_refused (wanted Kept size) (rest size after) _ _ c.in_err-fill.field-0.0 here c.in_err-fill.ensures.answer)
+    rw (p.1, p.2) (answers_by (extent_of c.args.place) _ (frame_read c.args.place) _ _ (none_refused (extent_of c.args.place) (wanted Kept size) (rest size after) _ _ c.in_err-fill.field-0.0 here c.in_err-fill.ensures.answer))
 
 pub returns-in_err-fill-clause-err : goal.returns-in_err-fill-clause-err
 returns-in_err-fill-clause-err g c =
     let p = err_from_is_err_and c.from_residual-in_err-fill.result c.from_residual-in_err-fill.ensures.1 in
-    let read = rw c.in-Some.is at c.in_ok-size.ensures.answer in
-    rw p.1 (leaves_begun c.args.left _ _ c.in-Some.size c.in-Some.after c.fill.new.bytes.items read.1 c.in_err-fill.ensures.err)
+    let frame : ℕ × Place = (c.in-Some.size, c.in-Some.after) in
+    let read = some_read (extent_of c.args.place) (frame_found c.args.place) _ _ frame (rw c.in-Some.is at c.in_ok-size.ensures.answer).1 in
+    rw p.1 (leaves_begun c.args.place _ _ c.in-Some.size c.in-Some.after c.fill.new.bytes.items read c.in_err-fill.ensures.err)
 
 pub returns-in_err-pass-clause-answer : goal.returns-in_err-pass-clause-answer
 returns-in_err-pass-clause-answer g c =
@@ -61,25 +79,38 @@ returns-in_err-pass-clause-answer g c =
     let size = c.in-Some.size in
     let after = c.in-Some.after in
     let bytes = c.fill.new.bytes.items in
-    let start = goes_none (frame_read c.args.left) (g.R.ByteIn.remaining c.args.input.now) (g.R.ByteIn.failures c.args.input.now) in
-    let found = goes_read (frame_found c.args.left) found_read _ _ (Some (size, after)) start (rw c.in-Some.is at c.in_ok-size.ensures.answer) in
+    let start = goes_none (frame_read c.args.place) (g.R.ByteIn.remaining c.args.input.now) (g.R.ByteIn.failures c.args.input.now) in
+    let found = none_read (extent_of c.args.place) (frame_found c.args.place) found_read _ _ (size, after) start (rw c.in-Some.is at c.in_ok-size.ensures.answer) in
     let here = goes_same _ (wanted Kept size >>= rest size after) (found_twice size after) found in
     let next = goes_same _ (last size after bytes) (rest_twice size after bytes) (goes_read (wanted Kept size) (rest size after) _ _ bytes here c.in_ok-fill.ensures.answer) in
-    rw (p.1, p.2) (goes_refused (passed (size % 2)) (λ _. given (Some (bytes, after))) _ _ c.in_err-pass.field-0.0 next (rw c.from.ensures at c.in_err-pass.ensures))
+    rw (p.1, p.2) (answers_by (extent_of c.args.place) _ (frame_read c.args.place) _ _ (none_refused (extent_of c.args.place) (passed (size % 2)) (λ _. given (Some (bytes, after))) _ _ c.in_err-pass.field-0.0 next (rw c.from.ensures at c.in_err-pass.ensures)))
 
 pub returns-in_err-pass-clause-err : goal.returns-in_err-pass-clause-err
 returns-in_err-pass-clause-err g c =
     let p = err_from_is_err_and c.from_residual-in_err-pass.result c.from_residual-in_err-pass.ensures.1 in
-    let read = rw c.in-Some.is at c.in_ok-size.ensures.answer in
-    rw p.1 (leaves_begun c.args.left _ _ c.in-Some.size c.in-Some.after c.fill.new.bytes.items read.1 (begins_all _ _ c.in-Some.size c.fill.new.bytes.items c.in_ok-fill.ensures.answer.1))
+    let frame : ℕ × Place = (c.in-Some.size, c.in-Some.after) in
+    let read = some_read (extent_of c.args.place) (frame_found c.args.place) _ _ frame (rw c.in-Some.is at c.in_ok-size.ensures.answer).1 in
+    rw p.1 (leaves_begun c.args.place _ _ c.in-Some.size c.in-Some.after c.fill.new.bytes.items read (begins_all _ _ c.in-Some.size c.fill.new.bytes.items c.in_ok-fill.ensures.answer.1))
 
 pub returns-clause-answer : goal.returns-clause-answer
 returns-clause-answer g c =
     let size = c.in-Some.size in
     let after = c.in-Some.after in
     let bytes = c.fill.new.bytes.items in
-    let start = goes_none (frame_read c.args.left) (g.R.ByteIn.remaining c.args.input.now) (g.R.ByteIn.failures c.args.input.now) in
-    let found = goes_read (frame_found c.args.left) found_read _ _ (Some (size, after)) start (rw c.in-Some.is at c.in_ok-size.ensures.answer) in
+    let start = goes_none (frame_read c.args.place) (g.R.ByteIn.remaining c.args.input.now) (g.R.ByteIn.failures c.args.input.now) in
+    let found = none_read (extent_of c.args.place) (frame_found c.args.place) found_read _ _ (size, after) start (rw c.in-Some.is at c.in_ok-size.ensures.answer) in
     let here = goes_same _ (wanted Kept size >>= rest size after) (found_twice size after) found in
     let next = goes_same _ (last size after bytes) (rest_twice size after bytes) (goes_read (wanted Kept size) (rest size after) _ _ bytes here c.in_ok-fill.ensures.answer) in
-    goes_given (Some (bytes, after)) (goes_read (passed (size % 2)) (λ _. given (Some (bytes, after))) _ _ tt next (rw c.from.ensures at c.in_ok-pass.ensures))
+    answers_by (extent_of c.args.place) _ (frame_read c.args.place) _ _ (none_given (extent_of c.args.place) (Some (bytes, after)) (goes_read (passed (size % 2)) (λ _. given (Some (bytes, after))) _ _ tt next (rw c.from.ensures at c.in_ok-pass.ensures)))
+
+pub returns-clause-less : goal.returns-clause-less
+returns-clause-less g c =
+    let frame : ℕ × Place = (c.in-Some.size, c.in-Some.after) in
+    let read = some_read (extent_of c.args.place) (frame_found c.args.place) _ _ frame (rw c.in-Some.is at c.in_ok-size.ensures.answer).1 in
+    (frame_less_at c.args.place c.in-Some.after c.in-Some.size (read.bytes ++ []) [] (read.is [])).0
+
+pub returns-clause-same : goal.returns-clause-same
+returns-clause-same g c =
+    let frame : ℕ × Place = (c.in-Some.size, c.in-Some.after) in
+    let read = some_read (extent_of c.args.place) (frame_found c.args.place) _ _ frame (rw c.in-Some.is at c.in_ok-size.ensures.answer).1 in
+    (frame_less_at c.args.place c.in-Some.after c.in-Some.size (read.bytes ++ []) [] (read.is [])).1

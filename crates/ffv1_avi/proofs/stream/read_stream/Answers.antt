@@ -1,7 +1,7 @@
-use Rattle.std.proofs.Common.{None}
+use Rattle.std.proofs.Common.{None, Option}
 use Rattle.std.proofs.lemmas.Result.{err_from_is_err_and}
 use Rattle.ffv1_avi.specs.Streams.{stream_judged, visit_field}
-use Rattle.ffv1_avi.specs.Internal.Views.{head_with, known_with}
+use Rattle.ffv1_avi.specs.Internal.Views.{found_with, known_with}
 use Rattle.ffv1_avi.specs.declared.stream.Sizes.{Sizes}
 use Rattle.ffv1_avi.proofs.Reading.{goes_last, goes_read, goes_refused}
 use Rattle.ffv1_avi.proofs.ChunkByChunk.{behind_chunk, goes_end, goes_entry, goes_no_entry}
@@ -12,26 +12,26 @@ pub returns-in_err-entry : goal.returns-in_err-entry
 returns-in_err-entry g c =
     let p = err_from_is_err_and c.from_residual.result c.from_residual.ensures.1 in
     let known = known_with c.loop-entry.fields c.loop-entry.config.items in
-    rw (p.1, p.2) (goes_no_entry visit_field c.loop-entry.left known judged _ _ c.in_err-entry.field-0.0 c.loop-entry.invariant c.in_err-entry.ensures.answer)
+    rw (p.1, p.2) (goes_no_entry (visit_field c.args.extent) c.loop-entry.left known (judged c.args.extent) _ _ c.in_err-entry.field-0.0 c.loop-entry.invariant c.in_err-entry.ensures.answer)
 
 pub returns-in_err-fields : goal.returns-in_err-fields
 returns-in_err-fields g c =
     let p = err_from_is_err_and c.from_residual-in_err-fields.result c.from_residual-in_err-fields.ensures.1 in
     let e = c.in-Some.entry in
     let known = known_with c.loop-entry.fields c.loop-entry.config.items in
-    let here = goes_entry visit_field c.loop-entry.left known judged _ _ e c.loop-entry.invariant (rw c.in-Some.is at c.in_ok-entry.ensures.answer) in
-    rw (p.1, p.2) (goes_refused (visit_field known e) (behind_chunk visit_field e.left judged) _ _ c.in_err-fields.field-0.0 here c.in_err-fields.ensures)
+    let here = goes_entry (visit_field c.args.extent) c.loop-entry.left known (judged c.args.extent) _ _ e c.loop-entry.invariant (rw c.in-Some.is at c.in_ok-entry.ensures.answer) in
+    rw (p.1, p.2) (goes_refused (visit_field c.args.extent known e) (behind_chunk (visit_field c.args.extent) e.left (judged c.args.extent)) _ _ c.in_err-fields.field-0.0 here c.in_err-fields.ensures)
 
 pub loop-entry-preserved : goal.loop-entry-preserved
 loop-entry-preserved g c =
     let e = c.in-Some.entry in
     let known = known_with c.loop-entry.fields c.loop-entry.config.items in
-    let here = goes_entry visit_field c.loop-entry.left known judged _ _ e c.loop-entry.invariant (rw c.in-Some.is at c.in_ok-entry.ensures.answer) in
-    goes_read (visit_field known e) (behind_chunk visit_field e.left judged) _ _ (known_with c.in_ok-fields.fields c.visit_field.new.config.items, None) here c.in_ok-fields.ensures
+    let here = goes_entry (visit_field c.args.extent) c.loop-entry.left known (judged c.args.extent) _ _ e c.loop-entry.invariant (rw c.in-Some.is at c.in_ok-entry.ensures.answer) in
+    goes_read (visit_field c.args.extent known e) (behind_chunk (visit_field c.args.extent) e.left (judged c.args.extent)) _ _ (known_with c.in_ok-fields.fields c.visit_field.new.config.items, None) here c.in_ok-fields.ensures
 
 pub returns : goal.returns
 returns g c =
     let items = c.loop-entry.config.items in
     let known = known_with c.loop-entry.fields items in
-    let here = goes_end visit_field c.loop-entry.left known judged _ _ c.loop-entry.invariant (rw c.in_default.is at c.in_ok-entry.ensures.answer) in
-    goes_last (stream_judged known.rates known.format) (λ (s : Sizes). head_with s items) _ _ c.judged.result here (c.judged.ensures items _ _)
+    let here = goes_end (visit_field c.args.extent) c.loop-entry.left known (judged c.args.extent) _ _ c.loop-entry.invariant (rw c.in_default.is at c.in_ok-entry.ensures.answer) in
+    goes_last (stream_judged c.args.extent known.rates known.format) (λ (s : Option Sizes). found_with s items) _ _ c.judged.result here (c.judged.ensures items _ _)

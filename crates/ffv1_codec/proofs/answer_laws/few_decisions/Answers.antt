@@ -23,8 +23,8 @@ steps g c a is = record {
   row = c.lengths.ensures.row;
   most = c.lengths.ensures.most;
   small = c.suiting_rows.ensures.small;
-  head = λ n h. c.lengths-2.ensures.head a.configuration a.table n h is;
-  stopped = c.lengths-2.ensures.refused a.configuration;
+  head = λ n h. c.lengths-2.ensures.head a.profile a.configuration a.table n h is;
+  stopped = c.lengths-2.ensures.refused a.profile a.configuration;
 }
 
 reached : (g : given.Over) (c : goal.After-sides g) (a : Accepted) (coded : ℕ → List ℕ) (t : State) → IsAccepted a.configuration a.table →

@@ -51,9 +51,9 @@ bytes_laws c a coded is are = record {
         named = λ past steps. c.named_states.ensures.named a.table past steps is.closed;
         beginnings = λ xs ys. c.beginnings.ensures (coded n) xs ys (are n);
         one_bit = λ past xs ys state b d. c.one_bit.ensures (coded n) past xs ys state b d (are n);
-        head = λ g h. c.one_head.ensures.head (coded n) a.table a.configuration n g h (are n) is.closed few sets.1;
-        apart = λ h f steps. c.one_head.ensures.apart (coded n) a.table a.configuration n h f steps (are n) is.closed few sets.1;
-        refusal = λ f g xs ys. c.one_head.ensures.refusal (coded n) a.table a.configuration n f g xs ys (are n) is.closed;
+        head = λ g h. c.one_head.ensures.head (coded n) a.table a.profile a.configuration n g h (are n) is.closed few sets.1;
+        apart = λ h f steps. c.one_head.ensures.apart (coded n) a.table a.profile a.configuration n h f steps (are n) is.closed few sets.1;
+        refusal = λ f g xs ys. c.one_head.ensures.refusal (coded n) a.table a.profile a.configuration n f g xs ys (are n) is.closed;
       };
   wide = λ p k inside.
       c.parts.ensures.some (across (division_of a.configuration) p) k

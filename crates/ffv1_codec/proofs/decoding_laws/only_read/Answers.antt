@@ -30,5 +30,5 @@ returns c = λ a coded n q r read more is are inside parts this that.
     let sets = c.accepted.ensures.sets conf a.table is in
     let few = few_slices n conf.columns conf.rows inside columns.1 rows.1 in
     let same = read_same a coded n (laws c a (coded n) is are) (c.sides.ensures conf a.table is) q r read more inside parts
-    (λ g h. c.one_head.ensures.head (coded n) a.table conf n g h are is.closed few sets.1) this that in
+    (λ g h. c.one_head.ensures.head (coded n) a.table a.profile conf n g h are is.closed few sets.1) this that in
     (same.head, same.past, same.shown)

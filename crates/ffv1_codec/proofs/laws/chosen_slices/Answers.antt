@@ -8,6 +8,7 @@ use Rattle.ffv1_slice.specs.Grid.{division_of, across}
 use Rattle.ffv1_slice.specs.Head.{IsThird}
 use Rattle.ffv1_codec.specs.Picture.{cell_in}
 use Rattle.ffv1_codec.specs.SliceList.{IsBody, Line, bits_of, set_in, chosen_index, chosen_body, lines_in, chosen_head}
+use Rattle.ffv1_codec.proofs.Aspects.{has_itself}
 use Rattle.ffv1_codec.proofs.laws.chosen_slices.Goals as goal
 
 index_below : (c : Configuration) (k : ℕ) → 1 ≤ length c.sets → chosen_index c k < length c.sets
@@ -49,7 +50,7 @@ returns-clause-head c = λ a info is said.
       second = index_below a.configuration 1 some;
       third = third_index a.configuration a.configuration.extra_plane some;
       structure = said.structure;
-      aspect = said.aspect;
+      aspect = has_itself a.profile info.sar_num info.sar_den said.aspect;
     }
 
 pub returns-clause-body : goal.returns-clause-body

@@ -1,4 +1,4 @@
-use Rattle.std.proofs.Common.{◌≡◌, refl, ℕ, zero, suc, ◌+◌, ◌*◌, ◌<◌, ◌≤◌, List, [], length, map, slice_get, Some, arith, subst, sym, ap, ◌∙◌, inl, inr}
+use Rattle.std.proofs.Common.{◌≡◌, ℕ, zero, suc, ◌+◌, ◌*◌, ◌<◌, ◌≤◌, List, [], length, map, slice_get, Some, arith, subst, sym, ap, ◌∙◌, inl, inr}
 use Rattle.std.specs.List.{range_with_len}
 use Rattle.std.proofs.lemmas.Bool.{cases_lt}
 use Rattle.std.proofs.lemmas.List.FromFn.{length-map-range_with_len}
@@ -11,6 +11,7 @@ use Rattle.ffv1_slice.specs.Cutting.{AreCodedBytes, coded_of, offset_in}
 use Rattle.ffv1_codec.specs.Picture.{Planes, cell_in}
 use Rattle.ffv1_codec.specs.SliceList.{Said, CodesSlice, chosen_slice, chosen_head, chosen_body, lines_in}
 use Rattle.ffv1_codec.specs.Frame.{HasLongSlice, slice_bytes, slices_bytes, frame_of}
+use Rattle.ffv1_codec.proofs.Aspects.{said_chosen}
 use Rattle.ffv1_codec.proofs.laws.encoded_frame.Goals as goal
 
 coded_list : (f : ℕ → List ℕ) (from count : ℕ) → ((n : ℕ) → AreBytes (f n)) → ((n : ℕ) → from ≤ n → n < from + count → length (f n) ≤ 16777215) → AreCodedBytes (map f (range_with_len from count))
@@ -57,7 +58,7 @@ returns c = λ a planes info is picture said none.
           let slice : CodesSlice (f n) a planes info n = record {
             head = head;
             is_head = c.chosen_slices.ensures.head a info is said;
-            says = refl;
+            says = said_chosen a.profile conf info said.aspect;
             body = chosen_body conf head (cell_in conf planes n) (lines_in conf n);
             is_body = c.chosen_slices.ensures.body a planes info n is picture;
             codes = c.sentinel_ending.ensures.codes (decisions_after a.table [] steps) (c.named_states.ensures.named a.table [] steps is.closed);

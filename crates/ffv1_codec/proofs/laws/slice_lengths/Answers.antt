@@ -24,7 +24,7 @@ returns-clause-few c = λ a planes info n is inside.
 pub returns-clause-beginning : goal.returns-clause-beginning
 returns-clause-beginning c = λ a info n is said inside.
     let conf = a.configuration in
-    let head = c.lengths-3.ensures.head conf a.table n (chosen_head conf info) is (c.chosen_slices.ensures.head a info is said) inside in
+    let head = c.lengths-3.ensures.head a.profile conf a.table n (chosen_head conf info) is (c.chosen_slices.ensures.head a info is said) inside in
     let both = length-append (key_steps n) (head_steps conf n (chosen_head conf info)) in
     let key = key_few n in
     omega (arith, head, both, key)
@@ -34,7 +34,7 @@ returns-clause-bytes c = λ a planes info n is said inside.
     let conf = a.configuration in
     let rows : Rows = record { row = c.lengths.ensures.row; most = c.lengths.ensures.most; small = c.lengths.ensures.chosen_small; long = c.chosen.ensures.long; shifted_long = c.lengths-2.ensures.shifted } in
     let body = body_long rows conf (chosen_head conf info) (cell_in conf planes n) (lines_in conf n) in
-    let head = c.lengths-3.ensures.head conf a.table n (chosen_head conf info) is (c.chosen_slices.ensures.head a info is said) inside in
+    let head = c.lengths-3.ensures.head a.profile conf a.table n (chosen_head conf info) is (c.chosen_slices.ensures.head a info is said) inside in
     let rest = length-append (head_steps conf n (chosen_head conf info)) (chosen_body conf (chosen_head conf info) (cell_in conf planes n) (lines_in conf n)) in
     let all = length-append (key_steps n) (head_steps conf n (chosen_head conf info) ++ chosen_body conf (chosen_head conf info) (cell_in conf planes n) (lines_in conf n)) in
     let most = sealed_most a.table (chosen_slice conf planes info n) in

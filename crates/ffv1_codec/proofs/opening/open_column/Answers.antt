@@ -1,10 +1,11 @@
-use Rattle.std.proofs.Common.{rules, ◌≡◌, ℕ, ◌+◌, ◌-◌, ◌<◌, ◌≤◌, refl, Some, length, replicate, ◌++◌, arith}
+use Rattle.std.proofs.Common.{rules, ◌≡◌, ℕ, ◌+◌, ◌-◌, ◌<◌, ◌≤◌, refl, ap, subst, ◌∙◌, Some, length, replicate, ◌++◌, arith}
 use Rattle.std.proofs.lemmas.Result.{err_from_is_err_and}
 use Rattle.ffv1_codec.specs.Stands.{window}
 use Rattle.ffv1_range.specs.Codes.{value}
 use Rattle.ffv1_range.specs.History.{HasStates}
 use Rattle.ffv1_slice.specs.Cutting.{span_of}
 use Rattle.ffv1_slice.specs.Head.{key_steps, head_steps}
+use Rattle.ffv1_codec.specs.Decoding.{AgreesWith}
 use Rattle.ffv1_codec.proofs.Openings.{span_known, begins_before, ends_inside, opening_below, fresh_has, column_opened, column_differs, column_stopped, column_bad, indexes_few}
 use Rattle.ffv1_codec.proofs.opening.open_column.Goals as goal
 
@@ -51,8 +52,9 @@ returns-then-agrees-clause-exact g c =
     let below = opening_below c.two_parts.ensures.below c.slots.ensures.unsigned c.slots.ensures.shifted a.configuration n c.in_ok-head.head in
     let has : (slots : ℕ) → HasStates a.table (replicate slots 128) 33 (key_steps n ++ head_steps a.configuration n c.in_ok-head.head) =
     λ slots. fresh_has c.kept_states.ensures.fresh c.kept_states.ensures.others a.table (key_steps n ++ head_steps a.configuration n c.in_ok-head.head) slots below in
+    let said = c.said.ensures a.profile in
     let agreed = c.if-agrees.ensures.yes refl in
-    rw c.park.ensures (column_opened a c.args.frame.now.payload.now cut n begin end c.requires.cut known.0 known.1 c.in-Ok.decoder c.read_head-read.new.decoder old_is c.in_ok-head.head.indexes c.in_ok-head.head c.args.first.now c.agrees.new.first refl c.in_ok-head.ensures.ok agreed.0 agreed.1 has)
+    rw c.park.ensures (column_opened a c.args.frame.now.payload.now cut n begin end c.requires.cut known.0 known.1 c.in-Ok.decoder c.read_head-read.new.decoder old_is c.in_ok-head.head.indexes c.in_ok-head.head c.args.first.now c.agrees.new.first refl c.in_ok-head.ensures.ok (subst (AgreesWith c.args.first.now) said agreed.0) (agreed.1 ∙ ap Some said) has)
 
 pub returns-then-agrees-clause-open : goal.returns-then-agrees-clause-open
 returns-then-agrees-clause-open g c =
@@ -85,8 +87,9 @@ returns-clause-exact g c =
     let known = span_known cut n c.unwrap-begin.result next found in
     let inside : end ≤ length c.args.frame.now.payload.now = ends_inside a c.args.frame.now.payload.now cut n begin end c.requires.cut known.0 known.1 c.requires.slice in
     let old_is : c.in-Ok.decoder.bytes ≡ window begin (end - begin) c.args.frame.now.payload.now = c.in-Ok.ensures.bytes in
+    let said = c.said.ensures a.profile in
     let differs = c.if-agrees.ensures.no refl in
-    rw c.park.ensures (column_differs a c.args.frame.now.payload.now cut n begin end c.requires.cut known.0 known.1 c.in-Ok.decoder c.read_head-read.new.decoder old_is c.counted_from_nothing.ensures _ c.in_ok-head.head c.args.first.now differs.0 refl c.in_ok-head.ensures.ok differs.1 differs.2)
+    rw c.park.ensures (column_differs a c.args.frame.now.payload.now cut n begin end c.requires.cut known.0 known.1 c.in-Ok.decoder c.read_head-read.new.decoder old_is c.counted_from_nothing.ensures _ c.in_ok-head.head c.args.first.now differs.0 refl c.in_ok-head.ensures.ok differs.1 (λ same. differs.2 (said ∙ same)))
 
 pub returns-in_err-head-clause-exact : goal.returns-in_err-head-clause-exact
 returns-in_err-head-clause-exact g c =

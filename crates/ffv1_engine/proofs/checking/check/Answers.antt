@@ -12,7 +12,7 @@ returns-in_err-player-clause-err g c =
     let o = g.W.ByteOut.contents c.args.output.now in
     let n = g.W.ByteOut.failures c.args.output.now in
     rw (p.1, p.2)
-    (inr (lacks_opening c.args.place i (g.R.ByteIn.remaining c.open_player.new.input) i o o o (g.R.ByteIn.failures c.args.input.now) (g.R.ByteIn.failures c.open_player.new.input)
+    (inr (lacks_opening c.args.profile c.args.place i (g.R.ByteIn.remaining c.open_player.new.input) i o o o (g.R.ByteIn.failures c.args.input.now) (g.R.ByteIn.failures c.open_player.new.input)
     (g.R.ByteIn.failures c.args.input.now) n n n c.in_err-player.field-0.0 (cause_of c.in_err-player.field-0.0) c.in_err-player.ensures.err))
 
 pub returns-in_err-count-clause-err : goal.returns-in_err-count-clause-err
@@ -21,7 +21,7 @@ returns-in_err-count-clause-err g c =
     let o = g.W.ByteOut.contents c.args.output.now in
     let n = g.W.ByteOut.failures c.args.output.now in
     rw (p.1, p.2)
-    (telling_stops c.args.place (g.R.ByteIn.remaining c.args.input.now) (g.R.ByteIn.remaining c.open_player.new.input) (g.R.ByteIn.remaining c.tell_frames.new.input)
+    (telling_stops c.args.profile c.args.place (g.R.ByteIn.remaining c.args.input.now) (g.R.ByteIn.remaining c.open_player.new.input) (g.R.ByteIn.remaining c.tell_frames.new.input)
     o (g.W.ByteOut.contents c.tell_frames.new.output) o (g.R.ByteIn.failures c.args.input.now) (g.R.ByteIn.failures c.open_player.new.input) (g.R.ByteIn.failures c.tell_frames.new.input)
     n (g.W.ByteOut.failures c.tell_frames.new.output) n c.in_ok-player.player.reader c.in_ok-player.player.decoder.accepted c.in_ok-player.ensures.ok
     c.in_err-count.field-0.0 c.in_err-count.ensures.err)
@@ -32,7 +32,7 @@ returns-then-count-eq0-clause-err g c =
     let n = g.W.ByteOut.failures c.args.output.now in
     let told = c.in_ok-count.ensures.ok in
     let none : c.in_ok-count.count ≡ 0 = search rules in
-    no_frames c.args.place (g.R.ByteIn.remaining c.args.input.now) (g.R.ByteIn.remaining c.open_player.new.input) (g.R.ByteIn.remaining c.tell_frames.new.input)
+    no_frames c.args.profile c.args.place (g.R.ByteIn.remaining c.args.input.now) (g.R.ByteIn.remaining c.open_player.new.input) (g.R.ByteIn.remaining c.tell_frames.new.input)
     o (g.W.ByteOut.contents c.tell_frames.new.output) o (g.R.ByteIn.failures c.args.input.now) (g.R.ByteIn.failures c.open_player.new.input) (g.R.ByteIn.failures c.tell_frames.new.input)
     n (g.W.ByteOut.failures c.tell_frames.new.output) n c.in_ok-player.player.reader c.in_ok-player.player.decoder.accepted c.in_ok-player.ensures.ok
     told.0 c.in_ok-count.count told.1 told.2 none
@@ -42,7 +42,7 @@ returns-in_err-write_count-clause-err g c =
     let p = err_from_is_err_and c.from_residual-in_err-write_count.result c.from_residual-in_err-write_count.ensures.1 in
     let told = c.in_ok-count.ensures.ok in
     rw (p.1, p.2)
-    (count_stops c.args.place (g.R.ByteIn.remaining c.args.input.now) (g.R.ByteIn.remaining c.open_player.new.input) (g.R.ByteIn.remaining c.tell_frames.new.input)
+    (count_stops c.args.profile c.args.place (g.R.ByteIn.remaining c.args.input.now) (g.R.ByteIn.remaining c.open_player.new.input) (g.R.ByteIn.remaining c.tell_frames.new.input)
     (g.W.ByteOut.contents c.args.output.now) (g.W.ByteOut.contents c.tell_frames.new.output) (g.W.ByteOut.contents c.write_count.new.output)
     (g.R.ByteIn.failures c.args.input.now) (g.R.ByteIn.failures c.open_player.new.input) (g.R.ByteIn.failures c.tell_frames.new.input)
     (g.W.ByteOut.failures c.args.output.now) (g.W.ByteOut.failures c.tell_frames.new.output) (g.W.ByteOut.failures c.write_count.new.output)
@@ -54,9 +54,9 @@ returns-clause-ok g c =
     let told = c.in_ok-count.ensures.ok in
     let opens = c.in_ok-player.ensures.ok in
     let reads =
-    reads_file c.frames_in_turn.ensures.next c.read_is_file.ensures c.file_is_read.ensures.read (g.R.ByteIn.remaining c.args.input.now) (g.R.ByteIn.remaining c.open_player.new.input)
-    (g.R.ByteIn.remaining c.tell_frames.new.input) (stream_of c.in_ok-player.player.reader c.in_ok-player.player.decoder.accepted) c.in_ok-player.player.reader.left told.0 opens.known told.2.ends in
-    done c.args.place (g.R.ByteIn.remaining c.args.input.now) (g.R.ByteIn.remaining c.open_player.new.input) (g.R.ByteIn.remaining c.tell_frames.new.input)
+    reads_file c.frames_in_turn.ensures.next c.read_is_file.ensures c.file_is_read.ensures.read c.args.profile (g.R.ByteIn.remaining c.args.input.now) (g.R.ByteIn.remaining c.open_player.new.input)
+    (g.R.ByteIn.remaining c.tell_frames.new.input) (stream_of c.in_ok-player.player.reader c.in_ok-player.player.decoder.accepted) c.in_ok-player.player.reader.place told.0 opens.known told.2.ends in
+    done c.args.profile c.args.place (g.R.ByteIn.remaining c.args.input.now) (g.R.ByteIn.remaining c.open_player.new.input) (g.R.ByteIn.remaining c.tell_frames.new.input)
     (g.W.ByteOut.contents c.args.output.now) (g.W.ByteOut.contents c.tell_frames.new.output) (g.W.ByteOut.contents c.write_count.new.output)
     (g.R.ByteIn.failures c.args.input.now) (g.R.ByteIn.failures c.open_player.new.input) (g.R.ByteIn.failures c.tell_frames.new.input)
     (g.W.ByteOut.failures c.args.output.now) (g.W.ByteOut.failures c.tell_frames.new.output) (g.W.ByteOut.failures c.write_count.new.output)

@@ -91,7 +91,7 @@ returns-in-Sink-clause-answer g c =
           let line = c.offered_lines.ensures a coded sink.row sink.number sink.plane sink.line sink.state is sink.offers in
           let long = line_long contents failed k old sink.plane y samples c.requires.sink (c.colour_planes.ensures.wide a sink.plane is rct) line in
           let cut = c.next_lines.ensures.refused old sink.between new sink.state.lines sink.plane y samples placed.0 at sink.grows (placed.1 ∙ order) long sink.last in
-          row_cut contents failed a c.args.player.now.reader.left c.play.new.player.reader.left (passage g.R.ByteIn.remaining g.R.ByteIn.failures c.args.input.now c.play.new.input) payload answer.0 old new tally f
+          row_cut contents failed a c.args.player.now.reader.place c.play.new.player.reader.place (passage g.R.ByteIn.remaining g.R.ByteIn.failures c.args.input.now c.play.new.input) payload answer.0 old new tally f
           c.requires.sink r (c.line_runs.ensures.taken old sink.between sink.state.lines sink.grows) (c.next_lines.ensures.taken old sink.between sink.state.lines sink.grows) cut.0 cut.1
     ]
 
@@ -105,24 +105,24 @@ returns-in_default g c =
     let f = c.in-Err-Payload.fault in
     let old = c.args.sink.now in
     let new = c.play.new.sink in
-    let left = c.args.player.now.reader.left in
-    let least = c.play.new.player.reader.left in
+    let from = c.args.player.now.reader.place in
+    let to = c.play.new.player.reader.place in
     let input = passage g.R.ByteIn.remaining g.R.ByteIn.failures c.args.input.now c.play.new.input in
     let output = passage contents failed old.out new.out in
     let answer = rw c.in-Err-Payload.field-0-is at c.in-Err-Payload.ensures.answer in
     let is = c.decode_faults.ensures a payload old new tally f answer.1 in
     let content = decode_cause f.fault is c.in_default.not-Sink in
-    let stops : ImageStopsBy a left least input output (of_codec f.fault) (cause_of (of_codec f.fault)) =
+    let stops : ImageStopsBy a from to input output (of_codec f.fault) (cause_of (of_codec f.fault)) =
     elim (either (Takes contents failed) (Refuses contents failed) a payload old new tally f answer.1) [
       | inl faulty ↦
-          payload_stops a left least input output f.fault
-          (image_faults contents failed a left least input payload answer.0 old new tally f c.requires.sink faulty (c.line_runs.ensures.taken old new (lines_before faulty.faulty) faulty.grows)
+          payload_stops a from to input output f.fault
+          (image_faults contents failed a from to input payload answer.0 old new tally f c.requires.sink faulty (c.line_runs.ensures.taken old new (lines_before faulty.faulty) faulty.grows)
           (c.next_lines.ensures.taken old new (lines_before faulty.faulty) faulty.grows))
           content
       | inr r ↦ absurd (c.in_default.not-Sink (sinks_own (Takes contents failed) (Refuses contents failed) a payload old new tally f r))
     ] in
     record {
-      answer = subst (λ z. ImageStopsBy a left least input output z (cause_of z)) (sym c.from-in_default.ensures) stops;
+      answer = subst (λ z. ImageStopsBy a from to input output z (cause_of z)) (sym c.from-in_default.ensures) stops;
       sink = tt;
       sound = tt;
       less = tt;

@@ -31,10 +31,10 @@ returns-in_err-write_picture-in-Ok-Some-clause-answer g c =
     let kept = c.kept_picture.ensures.picture a found.0 c.args.kept.now c.play.new.sink c.requires.accepted found.1.picture.fits c.requires.kept.grid c.requires.kept.planes found.2 in
     let planes : planes_of c.planes.result.now ≡ found.0 = sym c.planes.ensures.value ∙ kept.0 in
     let frame : Frame = record { payload = payload; planes = found.0; said = info; tally = tally } in
-    let plays : PlaysFrame a c.args.player.now.reader.left c.play.new.player.reader.left input frame =
+    let plays : PlaysFrame a c.args.player.now.reader.place c.play.new.player.reader.place input frame =
     record { is = record { codes = found.1; decided = is_decided Keeps KeepsNot a payload c.args.kept.now c.play.new.sink tally info answer.1 }; reads = answer.0 } in
     let writes = subst (λ (z : Planes). WritesPicture h first info z output c.write_picture.new.text.begun (Err f)) planes c.in_err-write_picture-in-Ok-Some.ensures.answer in
-    rw (p.1, p.2) (picture_stops a h first c.args.player.now.reader.left c.play.new.player.reader.left input output c.write_picture.new.text.begun frame f plays writes)
+    rw (p.1, p.2) (picture_stops a h first c.args.player.now.reader.place c.play.new.player.reader.place input output c.write_picture.new.text.begun frame f plays writes)
 
 pub returns-in_ok-write_picture-in-Ok-Some-clause-answer :
     goal.returns-in_ok-write_picture-in-Ok-Some-clause-answer
@@ -52,7 +52,7 @@ returns-in_ok-write_picture-in-Ok-Some-clause-answer g c =
     let kept = c.kept_picture.ensures.picture a found.0 c.args.kept.now c.play.new.sink c.requires.accepted found.1.picture.fits c.requires.kept.grid c.requires.kept.planes found.2 in
     let planes : planes_of c.planes.result.now ≡ found.0 = sym c.planes.ensures.value ∙ kept.0 in
     let frame : Frame = record { payload = payload; planes = found.0; said = info; tally = tally } in
-    let plays : PlaysFrame a c.args.player.now.reader.left c.play.new.player.reader.left input frame =
+    let plays : PlaysFrame a c.args.player.now.reader.place c.play.new.player.reader.place input frame =
     record { is = record { codes = found.1; decided = is_decided Keeps KeepsNot a payload c.args.kept.now c.play.new.sink tally info answer.1 }; reads = answer.0 } in
     let writes = subst (λ (z : Planes). WritesPicture h first info z output c.write_picture.new.text.begun (Ok tt)) planes c.in_ok-write_picture-in-Ok-Some.ensures.answer in
     (frame, plays, writes.0, writes.1, writes.2, writes.3)
@@ -79,8 +79,8 @@ returns-in-Err-Payload-clause-answer g c =
     let content = decode_cause f.fault (c.decode_faults.ensures a payload c.args.kept.now c.play.new.sink tally f answer.1) own in
     let h = c.args.text.now.head in
     let first = said_in c.args.text.now.begun in
-    subst (λ z. NextStopsBy a h first c.args.player.now.reader.left c.play.new.player.reader.left input output z (cause_of z)) (sym c.from-in-Err-Payload.ensures)
-    (payload_stops a h first c.args.player.now.reader.left c.play.new.player.reader.left input (g.W.ByteOut.contents c.args.output.now) (g.W.ByteOut.failures c.args.output.now) payload f tally
+    subst (λ z. NextStopsBy a h first c.args.player.now.reader.place c.play.new.player.reader.place input output z (cause_of z)) (sym c.from-in-Err-Payload.ensures)
+    (payload_stops a h first c.args.player.now.reader.place c.play.new.player.reader.place input (g.W.ByteOut.contents c.args.output.now) (g.W.ByteOut.failures c.args.output.now) payload f tally
     answer.0 (is_faulty Keeps KeepsNot a payload c.args.kept.now c.play.new.sink tally f own answer.1) content)
 
 pub returns-in-Err-Payload-clause-own : goal.returns-in-Err-Payload-clause-own

@@ -15,7 +15,7 @@ pub returns-in_err-kept-clause-err : goal.returns-in_err-kept-clause-err
 returns-in_err-kept-clause-err g c =
     let p = err_from_is_err_and c.from_residual.result c.from_residual.ensures.1 in
     rw (p.1, p.2)
-    (wants_memory (stream_of c.args.player.now.reader c.args.player.now.decoder.accepted) c.args.player.now.reader.left (g.R.ByteIn.remaining c.args.input.now) (g.W.ByteOut.contents c.args.output.now)
+    (wants_memory (stream_of c.args.player.now.reader c.args.player.now.decoder.accepted) c.args.player.now.reader.place (g.R.ByteIn.remaining c.args.input.now) (g.W.ByteOut.contents c.args.output.now)
     (g.R.ByteIn.failures c.args.input.now) (g.W.ByteOut.failures c.args.output.now) c.in_err-kept.field-0.0 c.requires.colour c.in_err-kept.ensures.err)
 
 pub loop-kept-init : goal.loop-kept-init
@@ -29,7 +29,7 @@ loop-kept-init g c =
       record {
         frames = [];
         is = none;
-        un = unpacked_none (stream_of c.args.player.now.reader c.args.player.now.decoder.accepted) c.text_head.result heads c.requires.colour c.args.player.now.reader.left
+        un = unpacked_none (stream_of c.args.player.now.reader c.args.player.now.decoder.accepted) c.text_head.result heads c.requires.colour c.args.player.now.reader.place
             (g.R.ByteIn.remaining c.args.input.now) (g.W.ByteOut.contents c.args.output.now) (g.R.ByteIn.failures c.args.input.now) (g.W.ByteOut.failures c.args.output.now);
         begun_is = refl;
       },
@@ -43,15 +43,15 @@ returns-in_err-write_next-clause-err g c =
     let i = c.loop-kept.invariant in
     let so = i.4 in
     let f = c.in_err-write_next.field-0.0 in
-    let least = c.loop-kept.player.reader.left in
-    let last = c.write_next.new.player.reader.left in
+    let to = c.loop-kept.player.reader.place in
+    let last = c.write_next.new.player.reader.place in
     let input = passage g.R.ByteIn.remaining g.R.ByteIn.failures c.loop-kept.input c.write_next.new.input in
     let output = passage g.W.ByteOut.contents g.W.ByteOut.failures c.loop-kept.output c.write_next.new.output in
     let answer =
-    subst (λ z. WritesNext a h (said_in z) least last input output c.write_next.new.text.begun (Err f)) so.begun_is
-    (subst (λ z. WritesNext z h (said_in c.loop-kept.text.begun) least last input output c.write_next.new.text.begun (Err f)) i.1 c.in_err-write_next.ensures.answer) in
+    subst (λ z. WritesNext a h (said_in z) to last input output c.write_next.new.text.begun (Err f)) so.begun_is
+    (subst (λ z. WritesNext z h (said_in c.loop-kept.text.begun) to last input output c.write_next.new.text.begun (Err f)) i.1 c.in_err-write_next.ensures.answer) in
     rw (p.1, p.2)
-    (unpacking_stops (stream_of c.args.player.now.reader a) h i.3 c.requires.colour c.args.player.now.reader.left least last
+    (unpacking_stops (stream_of c.args.player.now.reader a) h i.3 c.requires.colour c.args.player.now.reader.place to last
     (g.R.ByteIn.remaining c.args.input.now) (g.R.ByteIn.remaining c.loop-kept.input) (g.R.ByteIn.remaining c.write_next.new.input)
     (g.W.ByteOut.contents c.args.output.now) (g.W.ByteOut.contents c.loop-kept.output) (g.W.ByteOut.contents c.write_next.new.output)
     (g.R.ByteIn.failures c.args.input.now) (g.R.ByteIn.failures c.loop-kept.input) (g.R.ByteIn.failures c.write_next.new.input)
@@ -65,25 +65,25 @@ loop-kept-preserved g c =
     let h = c.loop-kept.text.head in
     let i = c.loop-kept.invariant in
     let so = i.4 in
-    let least = c.loop-kept.player.reader.left in
-    let last = c.write_next.new.player.reader.left in
+    let to = c.loop-kept.player.reader.place in
+    let last = c.write_next.new.player.reader.place in
     let input = passage g.R.ByteIn.remaining g.R.ByteIn.failures c.loop-kept.input c.write_next.new.input in
     let output = passage g.W.ByteOut.contents g.W.ByteOut.failures c.loop-kept.output c.write_next.new.output in
     let answer =
-    subst (λ b. WritesNext a h (said_in (begun_behind h so.frames)) least last input output c.write_next.new.text.begun (Ok b)) c.if-branch.true
-    (subst (λ z. WritesNext a h (said_in z) least last input output c.write_next.new.text.begun (Ok c.in_ok-write_next.field-0)) so.begun_is
-    (subst (λ z. WritesNext z h (said_in c.loop-kept.text.begun) least last input output c.write_next.new.text.begun (Ok c.in_ok-write_next.field-0)) i.1
+    subst (λ b. WritesNext a h (said_in (begun_behind h so.frames)) to last input output c.write_next.new.text.begun (Ok b)) c.if-branch.true
+    (subst (λ z. WritesNext a h (said_in z) to last input output c.write_next.new.text.begun (Ok c.in_ok-write_next.field-0)) so.begun_is
+    (subst (λ z. WritesNext z h (said_in c.loop-kept.text.begun) to last input output c.write_next.new.text.begun (Ok c.in_ok-write_next.field-0)) i.1
     c.in_ok-write_next.ensures.answer)) in
     let f = answer.0 in
     let next : c.saturating_add-count.result ≡ saturated (length (so.frames ++ (f ∷ []))) = omega (arith, c.saturating_add-count.ensures, so.is, counted_more so.frames f) in
     let all_input = passage g.R.ByteIn.remaining g.R.ByteIn.failures c.args.input.now c.write_next.new.input in
     let all_output = passage g.W.ByteOut.contents g.W.ByteOut.failures c.args.output.now c.write_next.new.output in
-    let unpacked : UnpackedSo s h c.args.player.now.reader.left all_input all_output c.write_next.new.text.begun c.saturating_add-count.result last =
+    let unpacked : UnpackedSo s h c.args.player.now.reader.place all_input all_output c.write_next.new.text.begun c.saturating_add-count.result last =
     record {
       frames = so.frames ++ (f ∷ []);
       is = next;
       un =
-          unpacked_more s h i.3 c.requires.colour c.args.player.now.reader.left least last
+          unpacked_more s h i.3 c.requires.colour c.args.player.now.reader.place to last
           (g.R.ByteIn.remaining c.args.input.now) (g.R.ByteIn.remaining c.loop-kept.input) (g.R.ByteIn.remaining c.write_next.new.input)
           (g.W.ByteOut.contents c.args.output.now) (g.W.ByteOut.contents c.loop-kept.output) (g.W.ByteOut.contents c.write_next.new.output)
           (g.R.ByteIn.failures c.args.input.now) (g.R.ByteIn.failures c.loop-kept.input) (g.R.ByteIn.failures c.write_next.new.input)
@@ -96,7 +96,7 @@ loop-kept-preserved g c =
       c.in_ok-write_next.ensures.same ∙ i.1,
       subst (λ z. IsKeptFor z c.write_next.new.kept) i.1 c.in_ok-write_next.ensures.kept,
       subst (λ z. (said : Said) → head_saying z said ≡ video_of s said) head i.3,
-      subst (λ z. UnpackedSo s z c.args.player.now.reader.left all_input all_output c.write_next.new.text.begun c.saturating_add-count.result last) head unpacked,
+      subst (λ z. UnpackedSo s z c.args.player.now.reader.place all_input all_output c.write_next.new.text.begun c.saturating_add-count.result last) head unpacked,
     )
 
 pub returns-clause-ok : goal.returns-clause-ok
@@ -105,17 +105,17 @@ returns-clause-ok g c =
     let h = c.loop-kept.text.head in
     let i = c.loop-kept.invariant in
     let so = i.4 in
-    let least = c.loop-kept.player.reader.left in
-    let last = c.write_next.new.player.reader.left in
+    let to = c.loop-kept.player.reader.place in
+    let last = c.write_next.new.player.reader.place in
     let input = passage g.R.ByteIn.remaining g.R.ByteIn.failures c.loop-kept.input c.write_next.new.input in
     let output = passage g.W.ByteOut.contents g.W.ByteOut.failures c.loop-kept.output c.write_next.new.output in
     let answer =
-    subst (λ b. WritesNext a h (said_in c.loop-kept.text.begun) least last input output c.write_next.new.text.begun (Ok b)) c.if-branch.false
-    (subst (λ z. WritesNext z h (said_in c.loop-kept.text.begun) least last input output c.write_next.new.text.begun (Ok c.in_ok-write_next.field-0)) i.1
+    subst (λ b. WritesNext a h (said_in c.loop-kept.text.begun) to last input output c.write_next.new.text.begun (Ok b)) c.if-branch.false
+    (subst (λ z. WritesNext z h (said_in c.loop-kept.text.begun) to last input output c.write_next.new.text.begun (Ok c.in_ok-write_next.field-0)) i.1
     c.in_ok-write_next.ensures.answer) in (
       so.frames,
       so.is,
-      unpacked_over (stream_of c.args.player.now.reader a) h i.3 c.requires.colour c.args.player.now.reader.left least last
+      unpacked_over (stream_of c.args.player.now.reader a) h i.3 c.requires.colour c.args.player.now.reader.place to last
           (g.R.ByteIn.remaining c.args.input.now) (g.R.ByteIn.remaining c.loop-kept.input) (g.R.ByteIn.remaining c.write_next.new.input)
           (g.W.ByteOut.contents c.args.output.now) (g.W.ByteOut.contents c.loop-kept.output) (g.W.ByteOut.contents c.write_next.new.output)
           (g.R.ByteIn.failures c.args.input.now) (g.R.ByteIn.failures c.loop-kept.input) (g.R.ByteIn.failures c.write_next.new.input)

@@ -14,7 +14,7 @@ returns-in_err-checked-clause-err g c =
     let p = err_from_is_err_and c.from_residual-in_err-checked.result c.from_residual-in_err-checked.ensures.1 in
     let f = c.in_err-checked.field-0.0 in
     rw (p.1, p.2)
-    (lacks_record (passage g.R.ByteIn.remaining g.R.ByteIn.failures c.args.input.now c.open.new.input) c.in_ok-reader.reader.head c.in_ok-reader.reader.left f
+    (lacks_record c.args.profile (passage g.R.ByteIn.remaining g.R.ByteIn.failures c.args.input.now c.open_reader.new.input) c.in_ok-reader.reader.head c.in_ok-reader.reader.place f
     c.in_ok-reader.ensures.answer.0 c.in_ok-reader.ensures.answer.1
     (subst (λ (z : Head). (f ≡ record_fault.OutOfMemory) ⊎ IsRefused z.config_record z.width z.height f) c.head.ensures c.in_err-checked.ensures.err))
 
@@ -26,13 +26,13 @@ returns-in_err-checked-clause-own g c =
 pub returns-in_err-reader-clause-own : goal.returns-in_err-reader-clause-own
 returns-in_err-reader-clause-own g c =
     let p = err_from_is_err_and c.from_residual.result c.from_residual.ensures.1 in
-    rw (p.1, p.2) (file_opens (g.R.ByteIn.remaining c.args.input.now) (g.R.ByteIn.remaining c.open.new.input) (g.R.ByteIn.failures c.args.input.now) (g.R.ByteIn.failures c.open.new.input) c.in_err-reader.field-0.0 c.in_err-reader.ensures.answer)
+    rw (p.1, p.2) (file_opens c.in_err-reader.field-0.0 c.in_err-reader.ensures.own)
 
 pub returns-clause-ok : goal.returns-clause-ok
 returns-clause-ok g c = record {
-  stream = subst (λ (z : Head). IsStream (record { head = z; accepted = c.in_ok-checked.checked })) c.head.ensures c.in_ok-checked.ensures.ok;
+  stream = subst (λ (z : Head). IsStream c.args.profile (record { head = z; accepted = c.in_ok-checked.checked })) c.head.ensures c.in_ok-checked.ensures.ok;
   known =
-      opens_known (g.R.ByteIn.remaining c.args.input.now) (g.R.ByteIn.remaining c.open.new.input) c.in_ok-reader.reader.head c.in_ok-reader.reader.left
+      opens_known c.args.profile (g.R.ByteIn.remaining c.args.input.now) (g.R.ByteIn.remaining c.open_reader.new.input) c.in_ok-reader.reader.head c.in_ok-reader.reader.place
       c.in_ok-reader.ensures.answer.1;
   sound = c.in_ok-reader.ensures.sound;
   kept = c.in_ok-reader.ensures.answer.0;

@@ -1,3 +1,4 @@
+use Rattle.std.proofs.Common.{◌≡◌, ◌∙◌}
 use Rattle.ffv1_engine.proofs.player.read_head.Goals as goal
 
 pub returns-in-Ok-clause-ok : goal.returns-in-Ok-clause-ok
@@ -6,6 +7,7 @@ returns-in-Ok-clause-ok g c = record {
   width = c.in-Ok.ensures.width;
   height = c.in-Ok.ensures.height;
   accepted = c.in-Ok.ensures.accepted;
+  profiled = c.in-Ok.ensures.profile ∙ c.of_record.ensures;
 }
 
 pub returns-in-Err-clause-err : goal.returns-in-Err-clause-err

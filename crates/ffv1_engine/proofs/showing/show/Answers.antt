@@ -1,4 +1,4 @@
-use Rattle.std.proofs.Common.{◌≡◌, true, Err, Ok, inr, subst, sym}
+use Rattle.std.proofs.Common.{◌≡◌, false, true, Err, Ok, inr, subst, sym}
 use Rattle.std.proofs.lemmas.Result.{err_from_is_err_and}
 use Rattle.ffv1_wire.specs.Passage.{passage}
 use Rattle.ffv1_avi.specs.Head.{Head, head_of}
@@ -8,7 +8,7 @@ use Rattle.ffv1_engine.specs.Show.{ShowDone, ShowStops, is_show_fault}
 use Rattle.ffv1_engine.specs.StreamLines.{show_text}
 use Rattle.ffv1_engine.specs.Told.{WritesFrame}
 use Rattle.ffv1_engine.proofs.FileChecked.{reads_file}
-use Rattle.ffv1_engine.proofs.FileShown.{before_costs, costs_stop, lacks_stream, shows_costs, text_stops}
+use Rattle.ffv1_engine.proofs.FileShown.{before_costs, costs_stop, lacks_stream, shows, shows_costs, text_stops}
 use Rattle.ffv1_engine.proofs.OwnFaults.{line_shows, telling_shows}
 use Rattle.ffv1_engine.proofs.showing.show.Goals as goal
 
@@ -18,7 +18,7 @@ returns-in_err-reader-clause-err g c =
     let input = passage g.R.ByteIn.remaining g.R.ByteIn.failures c.args.input.now c.open_stream.new.input in
     let output = passage g.W.ByteOut.contents g.W.ByteOut.failures c.args.output.now c.args.output.now in
     let f = c.in_err-reader.field-0.0 in
-    rw (p.1, p.2) (before_costs input output c.args.cost f (lacks_stream input.old input.new output.old output.new input.before input.after output.before output.after f (cause_of f) c.in_err-reader.ensures.err))
+    rw (p.1, p.2) (before_costs c.args.profile input output c.args.cost f (lacks_stream c.args.profile input.old input.new output.old output.new input.before input.after output.before output.after f (cause_of f) c.in_err-reader.ensures.err))
 
 pub returns-in_err-write_stream-clause-err : goal.returns-in_err-write_stream-clause-err
 returns-in_err-write_stream-clause-err g c =
@@ -29,7 +29,7 @@ returns-in_err-write_stream-clause-err g c =
     let r = c.in_ok-reader.reader in
     let a = c.in_ok-reader.checked in
     let writes = subst (λ (h : Head). WritesFrame (show_text (record { head = h; accepted = a })) output (Err f)) c.head.ensures c.in_err-write_stream.ensures in
-    rw (p.1, p.2) (before_costs input output c.args.cost f (text_stops _ _ _ _ _ _ _ _ r a c.in_ok-reader.ensures.ok f writes))
+    rw (p.1, p.2) (before_costs c.args.profile input output c.args.cost f (text_stops _ _ _ _ _ _ _ _ _ r a c.in_ok-reader.ensures.ok f writes))
 
 pub returns-in_err-tell_costs-clause-err : goal.returns-in_err-tell_costs-clause-err
 returns-in_err-tell_costs-clause-err g c =
@@ -41,8 +41,8 @@ returns-in_err-tell_costs-clause-err g c =
     let r = c.in_ok-reader.reader in
     let a = c.in_ok-reader.checked in
     let writes = subst (λ (h : Head). WritesFrame (show_text (record { head = h; accepted = a })) between (Ok c.in_ok-write_stream.field-0)) c.head.ensures c.in_ok-write_stream.ensures in
-    rw (p.1, p.2) (subst (λ b. ShowStops input output b f) (sym c.if-cost.true)
-    (inr (costs_stop _ _ _ _ _ _ _ _ _ _ _ _ r a c.in_ok-reader.ensures.ok writes.0 writes.1 f c.in_err-tell_costs.ensures.err)))
+    rw (p.1, p.2) (subst (λ b. ShowStops c.args.profile input output b f) (sym c.if-cost.true)
+    (inr (costs_stop _ _ _ _ _ _ _ _ _ _ _ _ _ r a c.in_ok-reader.ensures.ok writes.0 writes.1 f c.in_err-tell_costs.ensures.err)))
 
 pub returns-in_ok-tell_costs-clause-ok : goal.returns-in_ok-tell_costs-clause-ok
 returns-in_ok-tell_costs-clause-ok g c =
@@ -54,8 +54,8 @@ returns-in_ok-tell_costs-clause-ok g c =
     let opens = c.in_ok-reader.ensures.ok in
     let told = c.in_ok-tell_costs.ensures.ok in
     let writes = subst (λ (h : Head). WritesFrame (show_text (record { head = h; accepted = a })) between (Ok c.in_ok-write_stream.field-0)) c.head.ensures c.in_ok-write_stream.ensures in
-    let reads = reads_file c.frames_in_turn.ensures.next c.read_is_file.ensures c.file_is_read.ensures.read _ _ _ (stream_of r a) r.left told.0 opens.known told.1.ends in
-    subst (λ b. ShowDone input output b) (sym c.if-cost.true) (shows_costs _ _ _ _ _ _ _ _ _ _ _ _ r a opens writes.0 writes.1 told.0 told.1 reads)
+    let reads = reads_file c.frames_in_turn.ensures.next c.read_is_file.ensures c.file_is_read.ensures.read c.args.profile _ _ _ (stream_of r a) r.place told.0 opens.known told.1.ends in
+    subst (λ b. ShowDone c.args.profile input output b) (sym c.if-cost.true) (shows_costs _ _ _ _ _ _ _ _ _ _ _ _ _ r a opens writes.0 writes.1 told.0 told.1 reads)
 
 pub returns-in_err-write_stream-clause-own : goal.returns-in_err-write_stream-clause-own
 returns-in_err-write_stream-clause-own g c =
@@ -69,3 +69,12 @@ returns-in_err-tell_costs-clause-own g c =
     let p = err_from_is_err_and c.from_residual-in_err-tell_costs.result c.from_residual-in_err-tell_costs.ensures.1 in
     let f = c.in_err-tell_costs.field-0.0 in
     rw (p.1, p.2) (subst (λ b. is_show_fault b f ≡ true) (sym c.if-cost.true) (telling_shows f c.in_err-tell_costs.ensures.own))
+
+pub returns-else-cost-clause-ok : goal.returns-else-cost-clause-ok
+returns-else-cost-clause-ok g c =
+    let input = passage g.R.ByteIn.remaining g.R.ByteIn.failures c.args.input.now c.open_stream.new.input in
+    let output = passage g.W.ByteOut.contents g.W.ByteOut.failures c.args.output.now c.write_stream.new.output in
+    let r = c.in_ok-reader.reader in
+    let a = c.in_ok-reader.checked in
+    let writes = subst (λ (h : Head). WritesFrame (show_text (record { head = h; accepted = a })) output (Ok c.in_ok-write_stream.field-0)) c.head.ensures c.in_ok-write_stream.ensures in
+    subst (λ b. ShowDone c.args.profile input output b) (sym c.if-cost.false) (shows c.args.profile _ _ _ _ _ _ _ _ r a c.in_ok-reader.ensures.ok writes.0 writes.1)

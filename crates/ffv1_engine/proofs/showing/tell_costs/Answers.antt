@@ -9,4 +9,4 @@ returns-in_err-player-clause-err g c =
     let o = g.W.ByteOut.contents c.args.output.now in
     let n = g.R.ByteIn.failures c.args.input.now in
     let m = g.W.ByteOut.failures c.args.output.now in
-    rw (p.1, p.2, c.in_err-player.ensures.err) (no_player c.args.checked c.args.reader.left i o n m)
+    rw (p.1, p.2, c.in_err-player.ensures.err) (no_player c.args.checked c.args.reader.place i o n m)

@@ -23,7 +23,7 @@ returns-in_err-write_line-in-Ok-Some-clause-answer g c =
     let frame : Frame = record { payload = payload; planes = found.0; said = info; tally = tally } in
     let decided = is_decided Drops DropsNot a payload c.new-sink.result c.play.new.sink tally info answer.1 in
     rw (p.1, p.2)
-    (frame_fails c.args.kind c.args.place a c.args.number c.args.player.now.reader.left c.play.new.player.reader.left
+    (frame_fails c.args.kind c.args.place a c.args.number c.args.player.now.reader.place c.play.new.player.reader.place
     (passage g.R.ByteIn.remaining g.R.ByteIn.failures c.args.input.now c.play.new.input)
     (passage g.W.ByteOut.contents g.W.ByteOut.failures c.args.output.now c.write_line.new.output) frame c.in_err-write_line-in-Ok-Some.field-0.0
     (record { is = record { codes = found.1; decided = decided }; reads = answer.0 })

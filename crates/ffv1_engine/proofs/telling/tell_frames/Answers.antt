@@ -14,7 +14,7 @@ loop-text-init g c =
       record {
         frames = [];
         is = none;
-        told = told_none c.args.kind c.args.place c.args.player.now.decoder.accepted c.args.player.now.reader.left (g.R.ByteIn.remaining c.args.input.now) (g.W.ByteOut.contents c.args.output.now)
+        told = told_none c.args.kind c.args.place c.args.player.now.decoder.accepted c.args.player.now.reader.place (g.R.ByteIn.remaining c.args.input.now) (g.W.ByteOut.contents c.args.output.now)
             (g.R.ByteIn.failures c.args.input.now) (g.W.ByteOut.failures c.args.output.now);
       },
     )
@@ -25,7 +25,7 @@ returns-in_err-tell_frame-clause-err g c =
     let same = c.loop-text.invariant.1 in
     let so = c.loop-text.invariant.2 in
     rw (p.1, p.2)
-    (telling_stops c.args.kind c.args.place c.args.player.now.decoder.accepted c.args.player.now.reader.left c.loop-text.player.reader.left c.tell_frame.new.player.reader.left c.loop-text.count
+    (telling_stops c.args.kind c.args.place c.args.player.now.decoder.accepted c.args.player.now.reader.place c.loop-text.player.reader.place c.tell_frame.new.player.reader.place c.loop-text.count
     (g.R.ByteIn.remaining c.args.input.now) (g.R.ByteIn.remaining c.loop-text.input) (g.R.ByteIn.remaining c.tell_frame.new.input)
     (g.W.ByteOut.contents c.args.output.now) (g.W.ByteOut.contents c.loop-text.output) (g.W.ByteOut.contents c.tell_frame.new.output)
     (g.R.ByteIn.failures c.args.input.now) (g.R.ByteIn.failures c.loop-text.input) (g.R.ByteIn.failures c.tell_frame.new.input)
@@ -38,8 +38,8 @@ loop-text-preserved g c =
     let so = c.loop-text.invariant.2 in
     let reading = passage g.R.ByteIn.remaining g.R.ByteIn.failures c.loop-text.input c.tell_frame.new.input in
     let writing = passage g.W.ByteOut.contents g.W.ByteOut.failures c.loop-text.output c.tell_frame.new.output in
-    let answer = subst (λ b. FrameAnswers c.args.kind c.args.place c.args.player.now.decoder.accepted c.loop-text.count c.loop-text.player.reader.left c.tell_frame.new.player.reader.left reading writing (Ok b)) c.if-branch.true
-    (subst (λ z. FrameAnswers c.args.kind c.args.place z c.loop-text.count c.loop-text.player.reader.left c.tell_frame.new.player.reader.left reading writing (Ok c.in_ok-tell_frame.field-0)) same
+    let answer = subst (λ b. FrameAnswers c.args.kind c.args.place c.args.player.now.decoder.accepted c.loop-text.count c.loop-text.player.reader.place c.tell_frame.new.player.reader.place reading writing (Ok b)) c.if-branch.true
+    (subst (λ z. FrameAnswers c.args.kind c.args.place z c.loop-text.count c.loop-text.player.reader.place c.tell_frame.new.player.reader.place reading writing (Ok c.in_ok-tell_frame.field-0)) same
     c.in_ok-tell_frame.ensures.answer) in
     let f = answer.0 in
     let next : c.saturating_add-count.result ≡ saturated (length (so.frames ++ (f ∷ []))) = omega (arith, c.saturating_add-count.ensures, so.is, counted_more so.frames f) in (
@@ -49,7 +49,7 @@ loop-text-preserved g c =
         frames = so.frames ++ (f ∷ []);
         is = next;
         told =
-            told_more c.args.kind c.args.place c.args.player.now.decoder.accepted c.args.player.now.reader.left c.loop-text.player.reader.left c.tell_frame.new.player.reader.left
+            told_more c.args.kind c.args.place c.args.player.now.decoder.accepted c.args.player.now.reader.place c.loop-text.player.reader.place c.tell_frame.new.player.reader.place
             c.loop-text.count (g.R.ByteIn.remaining c.args.input.now) (g.R.ByteIn.remaining c.loop-text.input) (g.R.ByteIn.remaining c.tell_frame.new.input)
             (g.W.ByteOut.contents c.args.output.now) (g.W.ByteOut.contents c.loop-text.output) (g.W.ByteOut.contents c.tell_frame.new.output)
             (g.R.ByteIn.failures c.args.input.now) (g.R.ByteIn.failures c.loop-text.input) (g.R.ByteIn.failures c.tell_frame.new.input)
@@ -64,12 +64,12 @@ returns-clause-ok g c =
     let so = c.loop-text.invariant.2 in
     let reading = passage g.R.ByteIn.remaining g.R.ByteIn.failures c.loop-text.input c.tell_frame.new.input in
     let writing = passage g.W.ByteOut.contents g.W.ByteOut.failures c.loop-text.output c.tell_frame.new.output in
-    let answer = subst (λ b. FrameAnswers c.args.kind c.args.place c.args.player.now.decoder.accepted c.loop-text.count c.loop-text.player.reader.left c.tell_frame.new.player.reader.left reading writing (Ok b)) c.if-branch.false
-    (subst (λ z. FrameAnswers c.args.kind c.args.place z c.loop-text.count c.loop-text.player.reader.left c.tell_frame.new.player.reader.left reading writing (Ok c.in_ok-tell_frame.field-0)) same
+    let answer = subst (λ b. FrameAnswers c.args.kind c.args.place c.args.player.now.decoder.accepted c.loop-text.count c.loop-text.player.reader.place c.tell_frame.new.player.reader.place reading writing (Ok b)) c.if-branch.false
+    (subst (λ z. FrameAnswers c.args.kind c.args.place z c.loop-text.count c.loop-text.player.reader.place c.tell_frame.new.player.reader.place reading writing (Ok c.in_ok-tell_frame.field-0)) same
     c.in_ok-tell_frame.ensures.answer) in (
       so.frames,
       so.is,
-      told_over c.args.kind c.args.place c.args.player.now.decoder.accepted c.args.player.now.reader.left c.loop-text.player.reader.left c.tell_frame.new.player.reader.left
+      told_over c.args.kind c.args.place c.args.player.now.decoder.accepted c.args.player.now.reader.place c.loop-text.player.reader.place c.tell_frame.new.player.reader.place
           c.loop-text.count (g.R.ByteIn.remaining c.args.input.now) (g.R.ByteIn.remaining c.loop-text.input) (g.R.ByteIn.remaining c.tell_frame.new.input)
           (g.W.ByteOut.contents c.args.output.now) (g.W.ByteOut.contents c.loop-text.output) (g.W.ByteOut.contents c.tell_frame.new.output)
           (g.R.ByteIn.failures c.args.input.now) (g.R.ByteIn.failures c.loop-text.input) (g.R.ByteIn.failures c.tell_frame.new.input)

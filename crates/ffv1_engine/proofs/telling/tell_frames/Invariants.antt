@@ -1,14 +1,15 @@
 use Rattle.std.proofs.Common.{◌≡◌, None}
 use Rattle.ffv1_wire.specs.Passage.{passage}
+use Rattle.ffv1_avi.specs.Places.{amount}
 use Rattle.ffv1_engine.proofs.FramesTold.{ToldSo}
 use Rattle.ffv1_engine.proofs.telling.tell_frames.Given as goal
 
 abbrev pub invariant-loop-text : goal.invariant-loop-text
 invariant-loop-text g l =
     (l.player.reader.fault ≡ None) × (l.player.decoder.accepted ≡ l.fn.player.decoder.accepted)
-    × ToldSo l.kind l.place l.fn.player.decoder.accepted l.fn.player.reader.left
+    × ToldSo l.kind l.place l.fn.player.decoder.accepted l.fn.player.reader.place
     (passage g.R.ByteIn.remaining g.R.ByteIn.failures l.initial.input l.input)
-    (passage g.W.ByteOut.contents g.W.ByteOut.failures l.initial.output l.output) l.count l.player.reader.left
+    (passage g.W.ByteOut.contents g.W.ByteOut.failures l.initial.output l.output) l.count l.player.reader.place
 
 abbrev pub decreases-loop-text : goal.decreases-loop-text
-decreases-loop-text g l = l.player.reader.left
+decreases-loop-text g l = amount l.player.reader.place

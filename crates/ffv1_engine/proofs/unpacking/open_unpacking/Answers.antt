@@ -7,7 +7,7 @@ pub returns-in_err-check_text-clause-err : goal.returns-in_err-check_text-clause
 returns-in_err-check_text-clause-err g c =
     let p = err_from_is_err_and c.from_residual-in_err-check_text.result c.from_residual-in_err-check_text.ensures.1 in
     rw (p.1, p.2)
-    (lacks_text (g.R.ByteIn.remaining c.args.input.now) (g.R.ByteIn.remaining c.open_stream.new.input) (g.R.ByteIn.failures c.args.input.now) (g.R.ByteIn.failures c.open_stream.new.input)
+    (lacks_text c.args.profile (g.R.ByteIn.remaining c.args.input.now) (g.R.ByteIn.remaining c.open_stream.new.input) (g.R.ByteIn.failures c.args.input.now) (g.R.ByteIn.failures c.open_stream.new.input)
     c.in_ok-reader.reader c.in_ok-reader.checked c.in_err-check_text.field-0.0 c.in_ok-reader.ensures.ok c.in_err-check_text.ensures.err)
 
 pub returns-in_err-check_text-clause-own : goal.returns-in_err-check_text-clause-own

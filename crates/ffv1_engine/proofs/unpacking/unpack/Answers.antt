@@ -9,14 +9,14 @@ returns-in-Err-clause-err g c =
     let i = g.R.ByteIn.remaining c.args.input.now in
     let o = g.W.ByteOut.contents c.args.output in
     let n = g.W.ByteOut.failures c.args.output in
-    lacks_unpacking i (g.R.ByteIn.remaining c.open_unpacking.new.input) i o o (g.R.ByteIn.failures c.args.input.now) (g.R.ByteIn.failures c.open_unpacking.new.input)
+    lacks_unpacking c.args.profile i (g.R.ByteIn.remaining c.open_unpacking.new.input) i o o (g.R.ByteIn.failures c.args.input.now) (g.R.ByteIn.failures c.open_unpacking.new.input)
     (g.R.ByteIn.failures c.args.input.now) n n c.in-Err.fault c.in-Err.ensures.err
 
 pub returns-in-Ok-eq0-clause-err : goal.returns-in-Ok-eq0-clause-err
 returns-in-Ok-eq0-clause-err g c =
     let all = rw c.in-Ok-eq0.is at c.write_frames-output.ensures.ok in
     let none : c.in-Ok-eq0.field-0 ≡ 0 = rw c.in-Ok-eq0.field-0-is at c.in-Ok-eq0.field-0-test in
-    no_frames (g.R.ByteIn.remaining c.args.input.now) (g.R.ByteIn.remaining c.open_unpacking.new.input) (g.R.ByteIn.remaining c.write_frames-output.new.input)
+    no_frames c.args.profile (g.R.ByteIn.remaining c.args.input.now) (g.R.ByteIn.remaining c.open_unpacking.new.input) (g.R.ByteIn.remaining c.write_frames-output.new.input)
     (g.W.ByteOut.contents c.args.output) (g.W.ByteOut.contents c.write_frames-output.result.0) (g.R.ByteIn.failures c.args.input.now) (g.R.ByteIn.failures c.open_unpacking.new.input)
     (g.R.ByteIn.failures c.write_frames-output.new.input) (g.W.ByteOut.failures c.args.output) (g.W.ByteOut.failures c.write_frames-output.result.0)
     c.in-Ok.player.reader c.in-Ok.player.decoder.accepted c.in-Ok.ensures.ok c.in-Ok.ensures.text all.0 c.in-Ok-eq0.field-0 all.1 all.2 none
@@ -31,14 +31,14 @@ returns-in-Ok-answer-clause-ok g c =
     let a = c.in-Ok.player.decoder.accepted in
     let opens = c.in-Ok.ensures.ok in
     let some : c.in-Ok-answer.count ≡ 0 → ⊥ = rw c.in-Ok-answer.is at c.in-Ok-answer.count-test.1 in
-    let reads = reads_file c.frames_in_turn.ensures.next c.read_is_file.ensures c.file_is_read.ensures.read i0 i1 i2 (stream_of r a) r.left all.0 opens.known all.2.ends in
-    done i0 i1 i2 (g.W.ByteOut.contents c.args.output) (g.W.ByteOut.contents c.write_frames-output.result.0) (g.R.ByteIn.failures c.args.input.now) (g.R.ByteIn.failures c.open_unpacking.new.input)
+    let reads = reads_file c.frames_in_turn.ensures.next c.read_is_file.ensures c.file_is_read.ensures.read c.args.profile i0 i1 i2 (stream_of r a) r.place all.0 opens.known all.2.ends in
+    done c.args.profile i0 i1 i2 (g.W.ByteOut.contents c.args.output) (g.W.ByteOut.contents c.write_frames-output.result.0) (g.R.ByteIn.failures c.args.input.now) (g.R.ByteIn.failures c.open_unpacking.new.input)
     (g.R.ByteIn.failures c.write_frames-output.new.input) (g.W.ByteOut.failures c.args.output) (g.W.ByteOut.failures c.write_frames-output.result.0)
     r a opens c.in-Ok.ensures.text all.0 c.in-Ok-answer.count all.1 all.2 some reads
 
 pub returns-clause-err : goal.returns-clause-err
 returns-clause-err g c =
-    unpack_stops (g.R.ByteIn.remaining c.args.input.now) (g.R.ByteIn.remaining c.open_unpacking.new.input) (g.R.ByteIn.remaining c.write_frames-output.new.input)
+    unpack_stops c.args.profile (g.R.ByteIn.remaining c.args.input.now) (g.R.ByteIn.remaining c.open_unpacking.new.input) (g.R.ByteIn.remaining c.write_frames-output.new.input)
     (g.W.ByteOut.contents c.args.output) (g.W.ByteOut.contents c.write_frames-output.result.0) (g.R.ByteIn.failures c.args.input.now) (g.R.ByteIn.failures c.open_unpacking.new.input)
     (g.R.ByteIn.failures c.write_frames-output.new.input) (g.W.ByteOut.failures c.args.output) (g.W.ByteOut.failures c.write_frames-output.result.0)
     c.in-Ok.player.reader c.in-Ok.player.decoder.accepted c.in-Ok.ensures.ok c.in-Ok.ensures.text c.in-Err-answer.fault (rw c.in-Err-answer.is at c.write_frames-output.ensures.err)

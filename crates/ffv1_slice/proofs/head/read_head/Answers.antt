@@ -14,35 +14,35 @@ pub returns-in_err-get_place-clause-refused : goal.returns-in_err-get_place-clau
 returns-in_err-get_place-clause-refused g c =
     let config = configuration_of c.config-config.result.now in
     rw (← c.table-table.ensures.value, c.config-config.ensures.value)
-    (refused_head config c.args.slice c.table-table.result.now c.args.decoder.now c.get_place.new.decoder c.get_place.new.states c.from_residual.result c.from_residual.ensures.1
-    (stops (index_rules config.extra_plane (length config.sets) ++ info_rules) c.in_err-get_place.ensures.gives))
+    (refused_head c.args.checked.now.profile config c.args.slice c.table-table.result.now c.args.decoder.now c.get_place.new.decoder c.get_place.new.states c.from_residual.result c.from_residual.ensures.1
+    (stops (index_rules config.extra_plane (length config.sets) ++ info_rules c.args.checked.now.profile) c.in_err-get_place.ensures.gives))
 
 pub returns-in_err-indexes-clause-refused : goal.returns-in_err-indexes-clause-refused
 returns-in_err-indexes-clause-refused g c =
     let config = configuration_of c.config-config.result.now in
     rw (← c.table-table.ensures.value, c.config-config.ensures.value)
-    (refused_head config c.args.slice c.table-table.result.now c.args.decoder.now c.get_indexes.new.decoder c.get_indexes.new.states c.from_residual-in_err-indexes.result c.from_residual-in_err-indexes.ensures.1
-    (rw (← c.len.ensures.count) (and_stops c.in_ok-get_place.ensures.gives (stops info_rules c.in_err-indexes.ensures.gives))))
+    (refused_head c.args.checked.now.profile config c.args.slice c.table-table.result.now c.args.decoder.now c.get_indexes.new.decoder c.get_indexes.new.states c.from_residual-in_err-indexes.result c.from_residual-in_err-indexes.ensures.1
+    (rw (← c.len.ensures.count) (and_stops c.in_ok-get_place.ensures.gives (stops (info_rules c.args.checked.now.profile) c.in_err-indexes.ensures.gives))))
 
 pub returns-in_err-structure-clause-refused : goal.returns-in_err-structure-clause-refused
 returns-in_err-structure-clause-refused g c =
     let config = configuration_of c.config-config.result.now in
     rw (← c.table-table.ensures.value, c.config-config.ensures.value)
-    (refused_head config c.args.slice c.table-table.result.now c.args.decoder.now c.get_info.new.decoder c.get_info.new.states c.from_residual-in_err-structure.result c.from_residual-in_err-structure.ensures.1
-    (rw (← c.len.ensures.count) (and_stops c.in_ok-get_place.ensures.gives (and_stops c.in_ok-indexes.ensures.gives c.in_err-structure.ensures.gives))))
+    (refused_head c.args.checked.now.profile config c.args.slice c.table-table.result.now c.args.decoder.now c.get_info.new.decoder c.get_info.new.states c.from_residual-in_err-structure.result c.from_residual-in_err-structure.ensures.1
+    (rw (← c.len.ensures.count, ← c.profile.ensures) (and_stops c.in_ok-get_place.ensures.gives (and_stops c.in_ok-indexes.ensures.gives c.in_err-structure.ensures.gives))))
 
 pub returns-clause-head : goal.returns-clause-head
 returns-clause-head g c =
     let config = configuration_of c.config-config.result.now in
     let h : SliceHead = record { indexes = c.in_ok-indexes.indexes; structure = c.in_ok-structure.structure; sar_num = c.in_ok-structure.sar_num; sar_den = c.in_ok-structure.sar_den } in
-    let all : Gives c.table-table.result.now (head_rules config c.args.slice) c.args.decoder.now (replicate 32 128) c.get_info.new.decoder c.get_info.new.states (Ok (head_values config c.args.slice h)) =
-    rw (← c.len.ensures.count) (and_gives c.in_ok-get_place.ensures.gives (and_gives c.in_ok-indexes.ensures.gives c.in_ok-structure.ensures.gives)) in
-    rw c.config-config.ensures.value (is_head config c.args.slice 0 h (all.gives 0).0 c.in_ok-indexes.ensures.long c.in_ok-indexes.ensures.third)
+    let all : Gives c.table-table.result.now (head_rules c.args.checked.now.profile config c.args.slice) c.args.decoder.now (replicate 32 128) c.get_info.new.decoder c.get_info.new.states (Ok (head_values config c.args.slice h)) =
+    rw (← c.len.ensures.count, ← c.profile.ensures) (and_gives c.in_ok-get_place.ensures.gives (and_gives c.in_ok-indexes.ensures.gives c.in_ok-structure.ensures.gives)) in
+    rw c.config-config.ensures.value (is_head c.args.checked.now.profile config c.args.slice 0 h (all.gives 0).0 c.in_ok-indexes.ensures.long c.in_ok-indexes.ensures.third)
 
 pub returns-clause-ok : goal.returns-clause-ok
 returns-clause-ok g c =
     let config = configuration_of c.config-config.result.now in
     let h : SliceHead = record { indexes = c.in_ok-indexes.indexes; structure = c.in_ok-structure.structure; sar_num = c.in_ok-structure.sar_num; sar_den = c.in_ok-structure.sar_den } in
     rw (← c.table-table.ensures.value, c.config-config.ensures.value)
-    (found_head config c.args.slice h c.table-table.result.now c.args.decoder.now c.get_info.new.decoder c.get_info.new.states
-    (rw (← c.len.ensures.count) (and_gives c.in_ok-get_place.ensures.gives (and_gives c.in_ok-indexes.ensures.gives c.in_ok-structure.ensures.gives))))
+    (found_head c.args.checked.now.profile config c.args.slice h c.table-table.result.now c.args.decoder.now c.get_info.new.decoder c.get_info.new.states
+    (rw (← c.len.ensures.count, ← c.profile.ensures) (and_gives c.in_ok-get_place.ensures.gives (and_gives c.in_ok-indexes.ensures.gives c.in_ok-structure.ensures.gives))))

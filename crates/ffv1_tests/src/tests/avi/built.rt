@@ -10,7 +10,12 @@ use std::process::Abort;
 use std::test::Fail;
 
 /// A chunk of two parts behind others: its header, its bytes, its padding.
-fn chunk(out: &mut Vec<u8>, name: &[u8; 4], first: &[u8], others: &[u8]) -> Result<(), AllocError> {
+pub(super) fn chunk(
+    out: &mut Vec<u8>,
+    name: &[u8; 4],
+    first: &[u8],
+    others: &[u8],
+) -> Result<(), AllocError> {
     let len = first.len().saturating_add(others.len());
     let size = len.min(1 << 20) as u32;
     out.extend_from_slice(name)?;
@@ -21,7 +26,7 @@ fn chunk(out: &mut Vec<u8>, name: &[u8; 4], first: &[u8], others: &[u8]) -> Resu
 }
 
 /// One chunk of two parts.
-fn one_chunk(
+pub(super) fn one_chunk(
     alloc: Global,
     name: &[u8; 4],
     first: &[u8],
@@ -40,7 +45,7 @@ pub fn zeros(alloc: Global, count: usize) -> Result<Vec<u8>, AllocError> {
 }
 
 /// The 56 bytes of a stream's header.
-fn header(kind: &[u8; 4], rate: u8, scale: u8) -> [u8; 56] {
+pub(super) fn header(kind: &[u8; 4], rate: u8, scale: u8) -> [u8; 56] {
     let mut bytes = [0u8; 56];
     bytes[..4].copy_from_slice(kind);
     bytes[4..8].copy_from_slice(b"FFV1");
@@ -54,7 +59,7 @@ const FORMAT: [u8; 40] =
     *b"\x28\0\0\0\0\0\0\0\x02\0\0\0\x01\0\x18\0FFV1\0\0\0\0\0\0\0\0\0\0\0\0\0\0\0\0\0\0\0\0";
 
 /// The 40 bytes of a format, before its record.
-fn format(width: u8) -> [u8; 40] {
+pub(super) fn format(width: u8) -> [u8; 40] {
     let mut bytes = FORMAT;
     bytes[4] = width;
     bytes
@@ -69,7 +74,12 @@ fn stream_chunks(out: &mut Vec<u8>, width: u8, record: &[u8]) -> Result<(), Allo
 }
 
 /// A stream's list behind others.
-fn stream(alloc: Global, out: &mut Vec<u8>, width: u8, record: &[u8]) -> Result<(), AllocError> {
+pub(super) fn stream(
+    alloc: Global,
+    out: &mut Vec<u8>,
+    width: u8,
+    record: &[u8],
+) -> Result<(), AllocError> {
     let mut chunks = Vec::new(alloc);
     stream_chunks(&mut chunks, width, record)?;
     chunk(out, b"LIST", b"strl", chunks.as_slice())
@@ -106,7 +116,7 @@ fn riff_chunks(
 }
 
 /// A file of hdrl's and movi's chunks.
-fn file(alloc: Global, streams: &[u8], movi: &[u8]) -> Result<Vec<u8>, AllocError> {
+pub(super) fn file(alloc: Global, streams: &[u8], movi: &[u8]) -> Result<Vec<u8>, AllocError> {
     let mut riff = Vec::new(alloc);
     riff_chunks(alloc, &mut riff, streams, movi)?;
     one_chunk(alloc, b"RIFF", b"AVI ", riff.as_slice())
@@ -121,7 +131,7 @@ fn two_streams(alloc: Global) -> Result<Vec<u8>, AllocError> {
 }
 
 /// Two frames, and an index between them.
-fn two_frames(alloc: Global) -> Result<Vec<u8>, AllocError> {
+pub(super) fn two_frames(alloc: Global) -> Result<Vec<u8>, AllocError> {
     let mut movi = Vec::new(alloc);
     chunk(&mut movi, b"00dc", b"hello", b"")?;
     chunk(&mut movi, b"ix00", b"index", b"")?;

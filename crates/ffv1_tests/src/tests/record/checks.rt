@@ -1,9 +1,13 @@
 //! Which configurations are accepted.
 
 use super::made::mono;
+use super::stored::SMALL;
 use crate::tests::made::shows;
-use ffv1_record::{Coder, Colour, Config, RecordFault, Sets, parity};
+use ffv1_record::{
+    Coder, Colour, Config, Profile, RecordFault, Sets, parity, read_record, read_record_in,
+};
 use std::alloc::Global;
+use std::test::Fail;
 
 /// What is said of a configuration of pictures one sample high.
 #[derive(Clone, Copy)]
@@ -149,4 +153,36 @@ fn parities(rt: HostRuntime) {
 #[test]
 fn numbers_and_names(rt: HostRuntime) {
     assert!(rt; shows(rt.alloc(), &RecordFault::ChromaEdge, "12 ChromaEdge"));
+}
+
+/// The profiles of a configuration that is checked, and of its record that is read: where none is
+/// named, and where one is.
+fn profiles(alloc: Global, profile: Profile) -> Result<[Profile; 4], RecordFault> {
+    let checked = mono(alloc, 1, 1)?.check()?;
+    let checked_in = mono(alloc, 1, 1)?.check_in(profile)?;
+    let read = read_record(alloc, &SMALL, 1, 1)?;
+    let read_in = read_record_in(alloc, &SMALL, 1, 1, profile)?;
+    Ok([
+        checked.profile(),
+        checked_in.profile(),
+        read.profile(),
+        read_in.profile(),
+    ])
+}
+
+/// Whether a record that is read in two profiles is the same.
+fn are_same(alloc: Global, first: Profile, second: Profile) -> Result<bool, RecordFault> {
+    let one = read_record_in(alloc, &SMALL, 1, 1, first)?;
+    let other = read_record_in(alloc, &SMALL, 1, 1, second)?;
+    Ok(one == other)
+}
+
+#[test]
+fn kept_profiles(rt: HostRuntime) -> Result<(), Fail> {
+    let (strict, wide) = (Profile::Strict, Profile::Wide);
+    assert!(rt; profiles(rt.alloc(), strict)? == [strict; 4]);
+    assert!(rt; profiles(rt.alloc(), wide)? == [strict, wide, strict, wide]);
+    let same = are_same(rt.alloc(), wide, wide)?;
+    assert!(rt; same && !are_same(rt.alloc(), strict, wide)?);
+    Ok(())
 }

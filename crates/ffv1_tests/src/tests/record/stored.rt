@@ -6,7 +6,8 @@ use super::made::{MONO, Made, made_record, mono, mono_large};
 use ffv1_plane::QuantSet;
 use ffv1_record::laws::one_configuration;
 use ffv1_record::{
-    Checked, Coder, Colour, Config, RecordFault, Sets, parity, read_record, write_record,
+    Checked, Coder, Colour, Config, RecordFault, Sets, parity, read_record, read_record_in,
+    write_record,
 };
 use std::alloc::Global;
 use std::process::Abort;
@@ -88,7 +89,8 @@ fn example(rt: HostRuntime) -> Result<(), Fail> {
     Ok(())
 }
 
-/// What is written of a checked configuration is read as that one, but for want of memory.
+/// What is written of a checked configuration is read in its profile as that one, but for want of
+/// memory.
 fn written_and_read_back(
     alloc: Global,
     checked: &Checked<Global>,
@@ -99,7 +101,7 @@ fn written_and_read_back(
     let (width, height) = (checked.config().width, checked.config().height);
     let record = write_record(alloc, checked)?;
     one_configuration();
-    match read_record(alloc, &record, width, height) {
+    match read_record_in(alloc, &record, width, height, checked.profile()) {
         Ok(again) => Ok(again),
         Err(fault) => Err(fault),
     }

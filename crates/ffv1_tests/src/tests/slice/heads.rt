@@ -4,10 +4,10 @@ ghost use Rattle.std.specs.Prelude.{◌≡◌, ◌*◌, ◌<◌, length};
 ghost use Rattle.ffv1_range.specs.Symbols.{AreHeld};
 ghost use Rattle.ffv1_slice.specs.Coding.{IsSlice};
 
-use super::made::mono;
+use super::made::{mono, pair};
 use super::slices::plain;
 use ffv1_range::{RangeDecoder, RangeEncoder, StateTable};
-use ffv1_record::Checked;
+use ffv1_record::{Checked, Profile};
 use ffv1_slice::{SliceFault, SliceHead, get_head, get_key, put_key};
 use std::process::Abort;
 use std::test::Fail;
@@ -185,5 +185,43 @@ fn four_aspects(rt: &impl Abort, host: &HostRuntime, two: &Checked) -> Result<()
 #[test]
 fn aspects(rt: HostRuntime) -> Result<(), Fail> {
     let two = mono(rt.alloc(), 2, 1, 2, false)?;
+    four_aspects(&rt, &rt, &two)
+}
+
+/// A head of zeros, but for its aspect.
+fn proportioned(sar_num: u16, sar_den: u16) -> SliceHead {
+    SliceHead {
+        indexes: [0, 0, 0],
+        structure: 0,
+        sar_num,
+        sar_den,
+    }
+}
+
+/// At `Wide`, aspects of which one number is 0, as they are coded, and what is above 65535.
+fn wide_aspects(rt: &impl Abort, host: &HostRuntime, two: &Checked) -> Result<(), Fail>
+    requires { IsSlice two.now 0 }
+{
+    let (first, second) = (Ok(proportioned(0, 1)), Ok(proportioned(65535, 0)));
+    answers_made(rt, host, two, &[0, 0, 0, 0, 0, 0, 0, 0, 1], first)?;
+    answers_made(rt, host, two, &[0, 0, 0, 0, 0, 0, 0, 65535, 0], second)?;
+    let (unknown, known) = (Ok(proportioned(0, 0)), Ok(proportioned(4, 3)));
+    answers_made(rt, host, two, &[0, 0, 0, 0, 0, 0, 0, 0, 0], unknown)?;
+    answers_made(rt, host, two, &[0, 0, 0, 0, 0, 0, 0, 4, 3], known)?;
+    let aspect = Err(SliceFault::Aspect);
+    answers_made(rt, host, two, &[0, 0, 0, 0, 0, 0, 0, 0, 65536], aspect)?;
+    answers_made(rt, host, two, &[0, 0, 0, 0, 0, 0, 0, 65536, 0], aspect)?;
+    answers_made(rt, host, two, &[0, 0, 0, 0, 0, 0, 0, 65536, 1], aspect)
+}
+
+#[test]
+fn aspects_at_wide(rt: HostRuntime) -> Result<(), Fail> {
+    let two = pair(rt.alloc(), Profile::Wide)?;
+    wide_aspects(&rt, &rt, &two)
+}
+
+#[test]
+fn aspects_at_strict(rt: HostRuntime) -> Result<(), Fail> {
+    let two = pair(rt.alloc(), Profile::Strict)?;
     four_aspects(&rt, &rt, &two)
 }

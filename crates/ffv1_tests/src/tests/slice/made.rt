@@ -3,7 +3,7 @@
 ghost use Rattle.std.specs.Prelude.{◌≡◌, IfOk, length, false};
 
 use crate::tests::made;
-use ffv1_record::Checked;
+use ffv1_record::{Checked, Profile};
 use std::alloc::Global;
 use std::test::Fail;
 
@@ -22,5 +22,17 @@ pub(super) fn mono(
 {
     let config = made::mono(alloc, width, height, columns, ec)?;
     let checked = config.check()?;
+    Ok(checked)
+}
+
+/// Pictures of two samples beside one another, each a slice, in a profile.
+pub(super) fn pair(alloc: Global, profile: Profile) -> Result<Checked, Fail>
+    ensures columns { IfOk result (λ c. c.configuration.columns ≡ 2) }
+    ensures rows { IfOk result (λ c. c.configuration.rows ≡ 1) }
+    ensures sets { IfOk result (λ c. length c.configuration.sets ≡ 1) }
+    ensures extra { IfOk result (λ c. c.configuration.extra_plane ≡ false) }
+{
+    let config = made::mono(alloc, 2, 1, 2, false)?;
+    let checked = config.check_in(profile)?;
     Ok(checked)
 }

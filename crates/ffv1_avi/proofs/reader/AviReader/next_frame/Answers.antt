@@ -1,14 +1,18 @@
-use Rattle.std.proofs.Common.{rules, ◌≡◌, ◌++◌, [], refl}
-use Rattle.ffv1_avi.proofs.FrameLaws.{frame_end, frame_less}
+use Rattle.std.proofs.Common.{rules, ◌≡◌, [], false, Ok, inl, refl}
+use Rattle.ffv1_avi.specs.Files.{frame_read}
+use Rattle.ffv1_avi.specs.Places.{extent_of}
+use Rattle.ffv1_avi.proofs.EndReadings.{answers_by}
+use Rattle.ffv1_avi.proofs.Moves.{frame_ends}
+use Rattle.ffv1_avi.proofs.ReadingFaults.{frame_own}
 use Rattle.ffv1_avi.proofs.Reading.{consumes_none}
 use Rattle.ffv1_avi.proofs.reader.AviReader.next_frame.Goals as goal
 
-pub returns-then-self-eq0-clause-answer : goal.returns-then-self-eq0-clause-answer
-returns-then-self-eq0-clause-answer g c =
-    let none : c.args.self.now.left ≡ 0 = search rules in
-    rw none (λ sound. (refl, record { bytes = []; consumed = consumes_none (g.R.ByteIn.remaining c.args.input.now); is = frame_end }))
+pub returns-then-self-eq0-2-clause-answer : goal.returns-then-self-eq0-2-clause-answer
+returns-then-self-eq0-2-clause-answer g c =
+    let place = c.args.self.now.place in
+    let movi : place.movi ≡ 0 = search rules in
+    let input : place.input ≡ 0 = search rules in
+    λ sound. answers_by (extent_of place) _ (frame_read place) _ (Ok false) (refl, inl (record { bytes = []; consumed = consumes_none (g.R.ByteIn.remaining c.args.input.now); is = frame_ends place movi input }))
 
-pub returns-in-Ok-Some-clause-less : goal.returns-in-Ok-Some-clause-less
-returns-in-Ok-Some-clause-less g c = λ more.
-    let read = rw c.in-Ok-Some.field-0-is at c.in-Ok-Some.ensures.answer in
-    rw (← c.self.view_is) (frame_less c.self.inside.left (read.1.bytes ++ []) (c.read_frame.new.frame.items, c.in-Ok-Some.left) [] (read.1.is []))
+pub returns-in-Err-clause-own : goal.returns-in-Err-clause-own
+returns-in-Err-clause-own g c = rw (← c.self.view_is) (λ sound. frame_own c.self.inside.place _ _ c.in-Err.fault c.in-Err.ensures.answer)

@@ -9,7 +9,7 @@ use Rattle.ffv1_record.specs.Configuration.{Configuration, configuration_of}
 use Rattle.ffv1_record.specs.Parity.{remainder_of}
 use Rattle.ffv1_record.proofs.ReadIsRecord.{record_found, found_width, found_height, not_read, not_checked, seen, seen_err}
 use Rattle.ffv1_record.proofs.CallsGive.{told}
-use Rattle.ffv1_record.proofs.read.read_record.Goals as goal
+use Rattle.ffv1_record.proofs.read.read_record_in.Goals as goal
 
 pub returns-in-Ok-clause-found : goal.returns-in-Ok-clause-found
 returns-in-Ok-clause-found g c =

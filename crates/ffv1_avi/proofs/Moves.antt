@@ -1,0 +1,291 @@
+-- Where frames are sought after a movi.
+use Rattle.std.proofs.Common.{◌≡◌, ℕ, suc, zero, ◌+◌, ◌-◌, ◌≤◌, ◌<◌, ◌==◌, nat_le, nat_lt, Bool, true, false, Option, Some, None, Result, Ok, Err, List, codes, drop, ap, ◌∙◌, sym, subst, arith, refl}
+use Rattle.std.proofs.lemmas.Bool.{eqb-false, eqb-true, leb-true, ltb-true, ne_eqb}
+use Rattle.byteorder.specs.Endian.{little_number}
+use Rattle.ffv1_avi.specs.declared.chunk.Entry.{Entry}
+use Rattle.ffv1_avi.specs.declared.place.Extent.TheVariants.{FirstMovi, EveryRiff}
+use Rattle.ffv1_avi.specs.declared.place.Place.{Place}
+use Rattle.ffv1_avi.specs.Files.{found_read, frame_found, frame_found_up_to, frame_read, frame_name, found_or_on, moved, moved_by, movi_found, movi_or_riff, movi_sought, name_or_end, riff_begun, riff_judged, riff_list, riff_named, sought_on, visit_movi, visit_riff}
+use Rattle.ffv1_avi.specs.Places.{amount, extent_of, frame_at, movi_at, riff_at}
+use Rattle.ffv1_avi.specs.Reads.{Stop, given, padded, passed, read_on, taken, ◌>>=◌}
+use Rattle.ffv1_avi.specs.Streams.{limit}
+use Rattle.ffv1_avi.specs.Walk.{Visit, entry_read, is_name, resumed, visited, walk, walk_up_to}
+use Rattle.ffv1_avi.proofs.ListWalks.{entry_sound}
+use Rattle.ffv1_avi.proofs.PassedBytes.{read_on_ok}
+use Rattle.ffv1_avi.proofs.ChunkByChunk.{ok_is, some_is}
+
+no_some : {X : Type 0} (x : X) → ◌≡◌ {A = Option X} (Some x) None → ⊥
+no_some x e = absurd (cc)
+
+-- the chunk at which a walk stops
+pub record StopsAt {S Y : Type 0} (visit : Visit S Y) (left : ℕ) (t : S) (y : Y) (rest : List ℕ) : Type 0 where
+  pub state : S
+  pub entry : Entry
+  pub text : List ℕ
+  pub fits : entry.left + (8 + padded entry.size) ≤ left
+  pub is : visit state entry text ≡ Ok ((t, Some y), rest)
+
+stops_up_to : {S Y : Type 0} (visit : Visit S Y) (most left : ℕ) (s : S) (text : List ℕ) (t : S) (y : Y) (rest : List ℕ) → walk_up_to visit most left s text ≡ Ok ((t, Some y), rest) → StopsAt visit left t y rest
+unfolding walk_up_to
+stops_up_to {S = S} {Y = Y} visit zero left s text t y rest h = absurd (no_some y (sym (ap (λ (z : (S × Option Y) × List ℕ). z.0.1) (ok_is ((s, None), text) ((t, Some y), rest) h))))
+stops_up_to {S = S} {Y = Y} visit (suc most) left s text t y rest h =
+    let first = read_on_ok (entry_read left text) (visited visit (walk_up_to visit most) s) ((t, Some y), rest) h in
+    on_entry (λ l u after k. stops_up_to visit most l u after t y rest k) first.0.0 first.0.1 first.1 first.2
+  where
+    Again : Type 0
+    Again = (l : ℕ) (u : S) (after : List ℕ) → walk_up_to visit most l u after ≡ Ok ((t, Some y), rest) → StopsAt visit l t y rest
+
+    on_visit : Again → (e : Entry) (more : List ℕ) → e.left + (8 + padded e.size) ≤ left → (u : S) (o : Option Y) (after : List ℕ) → visit s e more ≡ Ok ((u, o), after) → resumed (walk_up_to visit most e.left) u o after ≡ Ok ((t, Some y), rest) → StopsAt visit left t y rest
+    on_visit again e more fits u (Some x) after is k = record { state = s; entry = e; text = more; fits = fits; is = is ∙ k }
+    on_visit again e more fits u None after is k =
+        let later = again e.left u after k in
+        record { state = later.state; entry = later.entry; text = later.text; fits = omega (arith, later.fits, fits); is = later.is }
+
+    on_entry : Again → (o : Option Entry) (more : List ℕ) → entry_read left text ≡ Ok (o, more) → visited visit (walk_up_to visit most) s o more ≡ Ok ((t, Some y), rest) → StopsAt visit left t y rest
+    on_entry again None more is k = absurd (no_some y (sym (ap (λ (z : (S × Option Y) × List ℕ). z.0.1) (ok_is ((s, None), more) ((t, Some y), rest) k))))
+    on_entry again (Some e) more is k =
+        let entry = entry_sound left text e more is in
+        let second = read_on_ok (visit s e more) (λ p. resumed (walk_up_to visit most e.left) p.0 p.1) ((t, Some y), rest) k in
+        on_visit again e more (omega (arith, entry.fits)) second.0.0.0 second.0.0.1 second.0.1 second.1 second.2
+
+-- the state and the outcome of a walk that stops
+walk_given : {S Y : Type 0} (visit : Visit S Y) (left : ℕ) (s : S) (text : List ℕ) (y : Y) (rest : List ℕ) → (walk visit left s >>= λ p. given p.1) text ≡ Ok (Some y, rest) → (t : S) × (walk visit left s text ≡ Ok ((t, Some y), rest))
+walk_given {S = S} {Y = Y} visit left s text y rest h =
+    let first = read_on_ok (walk visit left s text) (λ p. given p.1) (Some y, rest) h in
+    let same = ok_is (first.0.0.1, first.0.1) (Some y, rest) first.2 in
+    let P : Option Y × List ℕ → Type 0 = λ z. walk visit left s text ≡ Ok ((first.0.0.0, z.0), z.1) in
+    (first.0.0.0, subst P same first.1)
+
+-- the bytes of a movi, and those that RIFF has after it, are fewer than RIFF had
+riff_stop : (s : Unit {0}) (e : Entry) (text : List ℕ) (t : Unit {0}) (y : ℕ × ℕ) (rest : List ℕ) → visit_riff s e text ≡ Ok ((t, Some y), rest) → (y.0 ≡ e.size - 4) × (y.1 ≡ e.left)
+unfolding visit_riff
+riff_stop s e text t y rest h = on_list (is_name e.name (codes "LIST")) refl h
+  where
+    Z : Type 0
+    Z = (Unit {0} × Option (ℕ × ℕ)) × List ℕ
+
+    on_own : (own more : List ℕ) (b : Bool) → is_name own (codes "movi") ≡ b → riff_list e.left e.size own more ≡ Ok ((t, Some y), rest) → (y.0 ≡ e.size - 4) × (y.1 ≡ e.left)
+    on_own own more true p k =
+        let x : ℕ × ℕ = (e.size - 4, e.left) in
+        let same : x ≡ y = some_is x y (ap (λ (z : Z). z.0.1) (ok_is ((tt, Some x), more) ((t, Some y), rest) (rw p at k))) in
+        (ap (λ (z : ℕ × ℕ). z.0) (sym same), ap (λ (z : ℕ × ℕ). z.1) (sym same))
+    on_own own more false p k =
+        let first = read_on_ok (passed (padded e.size - 4) more) (λ _. given (tt, None)) ((t, Some y), rest) (rw p at k) in
+        absurd (no_some y (sym (ap (λ (z : Z). z.0.1) (ok_is ((tt, None), first.0.1) ((t, Some y), rest) first.2))))
+
+    on_list : (a : Bool) → is_name e.name (codes "LIST") ≡ a → visit_riff s e text ≡ Ok ((t, Some y), rest) → (y.0 ≡ e.size - 4) × (y.1 ≡ e.left)
+    on_list false p h =
+        let first = read_on_ok (passed (padded e.size) text) (λ _. given (s, None)) ((t, Some y), rest) (rw p at h) in
+        absurd (no_some y (sym (ap (λ (z : Z). z.0.1) (ok_is ((s, None), first.0.1) ((t, Some y), rest) first.2))))
+    on_list true p h =
+        let first = read_on_ok (taken 4 text) (riff_list e.left e.size) ((t, Some y), rest) (rw p at h) in
+        on_own first.0.0 first.0.1 (is_name first.0.0 (codes "movi")) refl first.2
+
+sought_less : (left : ℕ) (text : List ℕ) (y : ℕ × ℕ) (rest : List ℕ) → movi_sought left text ≡ Ok (Some y, rest) → y.0 + y.1 + 8 ≤ left
+unfolding movi_sought
+sought_less left text y rest h =
+    let walked = walk_given visit_riff left tt text y rest h in
+    let stop = stops_up_to visit_riff left left tt text walked.0 y rest walked.1 in
+    let movi = riff_stop stop.state stop.entry stop.text walked.0 y rest stop.is in
+    omega (arith, stop.fits, movi.0, movi.1)
+
+-- the next RIFF is counted
+begun_less : (place next : Place) (text rest : List ℕ) → riff_begun place text ≡ Ok (Some next, rest) → (amount next < place.input) × (0 < next.input)
+unfolding riff_begun
+begun_less place next text rest h =
+    let first = read_on_ok (name_or_end place.owed text) (riff_named place) (Some next, rest) h in
+    on_name first.0.0 first.0.1 first.2
+  where
+    Goal : Type 0
+    Goal = (amount next < place.input) × (0 < next.input)
+
+    on_head : (bytes more : List ℕ) (a b c : Bool) → is_name (drop 4 bytes) (codes "AVIX") ≡ a → nat_le 4 (little_number 4 bytes) ≡ b → nat_lt (8 + little_number 4 bytes) place.input ≡ c → riff_judged place bytes more ≡ Ok (Some next, rest) → Goal
+    on_head bytes more false b c p q r k = absurd (cc (rw p at k))
+    on_head bytes more true false c p q r k = absurd (cc (rw (p, q) at k))
+    on_head bytes more true true false p q r k = absurd (cc (rw (p, q, r) at k))
+    on_head bytes more true true true p q r k =
+        let made = riff_at place (little_number 4 bytes) in
+        let same : made ≡ next = some_is made next (ap (λ (z : Option Place × List ℕ). z.0) (ok_is (Some made, more) (Some next, rest) (rw (p, q, r) at k))) in
+        let room : 4 ≤ little_number 4 bytes = leb-true _ _ q in
+        let fits : 8 + little_number 4 bytes < place.input = ltb-true _ _ r in
+        let P : Place → Type 0 = λ z. (amount z < place.input) × (0 < z.input) in
+        subst P same (omega (arith, room, fits), omega (arith, fits))
+
+    on_riff : (name more : List ℕ) (a : Bool) → is_name name (codes "RIFF") ≡ a → riff_named place (Some name) more ≡ Ok (Some next, rest) → Goal
+    on_riff name more false p k = absurd (cc (rw p at k))
+    on_riff name more true p k =
+        let second = read_on_ok (taken 8 more) (riff_judged place) (Some next, rest) (rw p at k) in
+        let bytes = second.0.0 in
+        on_head bytes second.0.1 (is_name (drop 4 bytes) (codes "AVIX")) (nat_le 4 (little_number 4 bytes)) (nat_lt (8 + little_number 4 bytes) place.input) refl refl refl second.2
+
+    on_name : (o : Option (List ℕ)) (more : List ℕ) → riff_named place o more ≡ Ok (Some next, rest) → Goal
+    on_name None more k = absurd (no_some next (sym (ap (λ (z : Option Place × List ℕ). z.0) (ok_is (None, more) (Some next, rest) k))))
+    on_name (Some name) more k = on_riff name more (is_name name (codes "RIFF")) refl k
+
+-- the extent of a place, by what it has left of the input
+pub extent_first : (place : Place) → place.input ≡ 0 → extent_of place ≡ FirstMovi
+extent_first place none = rw none refl
+
+pub extent_every : (place : Place) → (place.input ≡ 0 → ⊥) → extent_of place ≡ EveryRiff
+extent_every place some = rw (ne_eqb _ _ some) refl
+
+pub moved_first : (place : Place) → place.input ≡ 0 → (text : List ℕ) → moved place text ≡ Ok (None, text)
+unfolding moved
+moved_first place none text = ap (λ z. moved_by z place text) (extent_first place none)
+
+pub moved_every : (place : Place) → (place.input ≡ 0 → ⊥) → (text : List ℕ) → moved place text ≡ (movi_sought place.riff >>= movi_or_riff place) text
+unfolding moved
+moved_every place some text = ap (λ z. moved_by z place text) (extent_every place some)
+
+-- less is left after a move, and as much is read
+pub moved_less : (place next : Place) (text rest : List ℕ) → moved place text ≡ Ok (Some next, rest) → (amount next < amount place) × (extent_of next ≡ extent_of place)
+moved_less place next text rest h = on_input (place.input == 0) refl
+  where
+    Goal : Type 0
+    Goal = (amount next < amount place) × (extent_of next ≡ extent_of place)
+
+    on_found : (o : Option (ℕ × ℕ)) (more : List ℕ) → (place.input ≡ 0 → ⊥) → movi_sought place.riff text ≡ Ok (o, more) → movi_or_riff place o more ≡ Ok (Some next, rest) → Goal
+    on_found None more some is k =
+        let begun = begun_less place next more rest k in
+        (omega (arith, begun.0), extent_every next (λ e. omega (arith, e, begun.1)) ∙ sym (extent_every place some))
+    on_found (Some p) more some is k =
+        let made = movi_at place p in
+        let same : made ≡ next = some_is made next (ap (λ (z : Option Place × List ℕ). z.0) (ok_is (Some made, more) (Some next, rest) k)) in
+        let less = sought_less place.riff text p more is in
+        let P : Place → Type 0 = λ z. (amount z < amount place) × (extent_of z ≡ extent_of place) in
+        subst P same (omega (arith, less), refl)
+
+    on_input : (b : Bool) → (place.input == 0) ≡ b → Goal
+    on_input true e = absurd (no_some next (sym (ap (λ (z : Option Place × List ℕ). z.0) (ok_is (None, text) (Some next, rest) (sym (moved_first place (eqb-true place.input 0 e) text) ∙ h)))))
+    on_input false e =
+        let some : place.input ≡ 0 → ⊥ = eqb-false place.input 0 e in
+        let first = read_on_ok (movi_sought place.riff text) (movi_or_riff place) (Some next, rest) (sym (moved_every place some text) ∙ h) in
+        on_found first.0.0 first.0.1 some first.1 first.2
+
+-- the frame at which the walk of a movi stops
+movi_stop_at : (stream : ℕ) (s : Unit {0}) (e : Entry) (text : List ℕ) (t : Unit {0}) (y : ℕ × ℕ) (rest : List ℕ) → visit_movi stream s e text ≡ Ok ((t, Some y), rest) → (y.0 ≡ e.size) × (y.1 ≡ e.left)
+unfolding visit_movi
+movi_stop_at stream s e text t y rest h = on_names (is_name e.name (codes "LIST")) (is_name e.name (frame_name stream)) (nat_lt limit e.size) (e.size == 0) refl refl refl refl h
+  where
+    Z : Type 0
+    Z = (Unit {0} × Option (ℕ × ℕ)) × List ℕ
+
+    on_names : (a b c d : Bool) → is_name e.name (codes "LIST") ≡ a → is_name e.name (frame_name stream) ≡ b → nat_lt limit e.size ≡ c → (e.size == 0) ≡ d → visit_movi stream s e text ≡ Ok ((t, Some y), rest) → (y.0 ≡ e.size) × (y.1 ≡ e.left)
+    on_names true b c d p q r z h = absurd (cc (rw p at h))
+    on_names false true true d p q r z h = absurd (cc (rw (p, q, r) at h))
+    on_names false true false true p q r z h = absurd (cc (rw (p, q, r, z) at h))
+    on_names false true false false p q r z h =
+        let x : ℕ × ℕ = (e.size, e.left) in
+        let same : x ≡ y = some_is x y (ap (λ (m : Z). m.0.1) (ok_is ((tt, Some x), text) ((t, Some y), rest) (rw (p, q, r, z) at h))) in
+        (ap (λ (n : ℕ × ℕ). n.0) (sym same), ap (λ (n : ℕ × ℕ). n.1) (sym same))
+    on_names false false c d p q r z h =
+        let first = read_on_ok (passed (padded e.size) text) (λ _. given (tt, None)) ((t, Some y), rest) (rw (p, q) at h) in
+        absurd (no_some y (sym (ap (λ (m : Z). m.0.1) (ok_is ((tt, None), first.0.1) ((t, Some y), rest) first.2))))
+
+found_less : (stream left : ℕ) (text : List ℕ) (y : ℕ × ℕ) (rest : List ℕ) → movi_found stream left text ≡ Ok (Some y, rest) → y.0 + y.1 + 8 ≤ left
+unfolding movi_found
+found_less stream left text y rest h =
+    let walked = walk_given (visit_movi stream) left tt text y rest h in
+    let stop = stops_up_to (visit_movi stream) left left tt text walked.0 y rest walked.1 in
+    let frame = movi_stop_at stream stop.state stop.entry stop.text walked.0 y rest stop.is in
+    omega (arith, stop.fits, frame.0, frame.1)
+
+-- less is left after a frame, and as much is read
+frame_up_to_less : (most : ℕ) (place next : Place) (size : ℕ) (text rest : List ℕ) → frame_found_up_to most place text ≡ Ok (Some (size, next), rest) → (amount next < amount place) × (extent_of next ≡ extent_of place)
+unfolding frame_found_up_to
+frame_up_to_less zero place next size text rest h =
+    let y : ℕ × Place = (size, next) in
+    absurd (no_some y (sym (ap (λ (z : Option (ℕ × Place) × List ℕ). z.0) (ok_is (None, text) (Some y, rest) h))))
+frame_up_to_less (suc most) place next size text rest h =
+    let first = read_on_ok (movi_found place.stream place.movi text) (found_or_on (frame_found_up_to most) place) (Some (size, next), rest) h in
+    on_found (λ p more k. frame_up_to_less most p next size more rest k) first.0.0 first.0.1 first.1 first.2
+  where
+    Goal : Type 0
+    Goal = (amount next < amount place) × (extent_of next ≡ extent_of place)
+
+    Again : Type 0
+    Again = (p : Place) (more : List ℕ) → frame_found_up_to most p more ≡ Ok (Some (size, next), rest) → (amount next < amount p) × (extent_of next ≡ extent_of p)
+
+    y : ℕ × Place
+    y = (size, next)
+
+    on_moved : Again → (o : Option Place) (more behind : List ℕ) → moved place more ≡ Ok (o, behind) → sought_on (frame_found_up_to most) o behind ≡ Ok (Some (size, next), rest) → Goal
+    on_moved again None more behind is k = absurd (no_some y (sym (ap (λ (z : Option (ℕ × Place) × List ℕ). z.0) (ok_is (None, behind) (Some y, rest) k))))
+    on_moved again (Some p) more behind is k =
+        let later = again p behind k in
+        let less = moved_less place p more behind is in
+        (omega (arith, later.0, less.0), later.1 ∙ less.1)
+
+    on_found : Again → (o : Option (ℕ × ℕ)) (more : List ℕ) → movi_found place.stream place.movi text ≡ Ok (o, more) → found_or_on (frame_found_up_to most) place o more ≡ Ok (Some (size, next), rest) → Goal
+    on_found again None more is k =
+        let second = read_on_ok (moved place more) (sought_on (frame_found_up_to most)) (Some (size, next), rest) k in
+        on_moved again second.0.0 more second.0.1 second.1 second.2
+    on_found again (Some p) more is k =
+        let x : ℕ × Place = (p.0, frame_at place p.1) in
+        let same : x ≡ y = some_is x y (ap (λ (z : Option (ℕ × Place) × List ℕ). z.0) (ok_is (Some x, more) (Some y, rest) k)) in
+        let less = found_less place.stream place.movi text p more is in
+        let P : Place → Type 0 = λ z. (amount z < amount place) × (extent_of z ≡ extent_of place) in
+        subst P (ap (λ (z : ℕ × Place). z.1) same) (omega (arith, less), refl)
+
+pub frame_less_at : (place next : Place) (size : ℕ) (text rest : List ℕ) → frame_found place text ≡ Ok (Some (size, next), rest) → (amount next < amount place) × (extent_of next ≡ extent_of place)
+unfolding frame_found
+frame_less_at place next size text rest h = frame_up_to_less (amount place) place next size text rest h
+
+-- an empty movi has no frame
+pub movi_empty : (stream : ℕ) (text : List ℕ) → movi_found stream 0 text ≡ Ok (None, text)
+unfolding movi_found walk_up_to
+movi_empty stream text = refl
+
+-- where nothing is left there is no frame
+pub found_nothing : (most : ℕ) (place : Place) (text : List ℕ) → place.movi ≡ 0 → place.input ≡ 0 → frame_found_up_to most place text ≡ Ok (None, text)
+unfolding frame_found_up_to
+found_nothing zero place text movi input = refl
+found_nothing (suc most) place text movi input =
+    ap (λ n. read_on (movi_found place.stream n text) (found_or_on (frame_found_up_to most) place)) movi
+    ∙ ap (λ z. read_on z (found_or_on (frame_found_up_to most) place)) (movi_empty place.stream text)
+    ∙ ap (λ z. read_on z (sought_on (frame_found_up_to most))) (moved_first place input text)
+
+-- more lists than there can be make no difference
+found_enough : (f g : ℕ) (place : Place) (text : List ℕ) → amount place ≤ f → amount place ≤ g → frame_found_up_to f place text ≡ frame_found_up_to g place text
+unfolding frame_found_up_to
+found_enough zero zero place text h k = refl
+found_enough zero (suc g) place text h k = sym (found_nothing (suc g) place text (omega (arith, h)) (omega (arith, h)))
+found_enough (suc f) zero place text h k = found_nothing (suc f) place text (omega (arith, k)) (omega (arith, k))
+found_enough (suc f) (suc g) place text h k = on_found (λ p more. found_enough f g p more) (movi_found place.stream place.movi text) refl
+  where
+    Same : Type 0
+    Same = (p : Place) (more : List ℕ) → amount p ≤ f → amount p ≤ g → frame_found_up_to f p more ≡ frame_found_up_to g p more
+
+    on_moved : Same → (text : List ℕ) (z : Result (Option Place × List ℕ) Stop) → moved place text ≡ z → read_on z (sought_on (frame_found_up_to f)) ≡ read_on z (sought_on (frame_found_up_to g))
+    on_moved same text (Err why) is = refl
+    on_moved same text (Ok (None, rest)) is = refl
+    on_moved same text (Ok (Some p, rest)) is =
+        let less = moved_less place p text rest is in
+        same p rest (omega (arith, less.0, h)) (omega (arith, less.0, k))
+
+    on_found : Same → (z : Result (Option (ℕ × ℕ) × List ℕ) Stop) → movi_found place.stream place.movi text ≡ z → read_on z (found_or_on (frame_found_up_to f) place) ≡ read_on z (found_or_on (frame_found_up_to g) place)
+    on_found same (Err why) is = refl
+    on_found same (Ok (Some p, rest)) is = refl
+    on_found same (Ok (None, rest)) is = on_moved same rest (moved place rest) refl
+
+-- a frame is that of movi, or the first one after it
+pub frame_step : (place : Place) (text : List ℕ) → frame_found place text ≡ (movi_found place.stream place.movi >>= found_or_on frame_found place) text
+unfolding frame_found frame_found_up_to
+frame_step place text = found_enough (amount place) (suc (amount place)) place text (omega arith) (omega arith) ∙ on_found (movi_found place.stream place.movi text) refl
+  where
+    on_moved : (more : List ℕ) (z : Result (Option Place × List ℕ) Stop) → moved place more ≡ z → read_on z (sought_on (frame_found_up_to (amount place))) ≡ read_on z (sought_on frame_found)
+    on_moved more (Err why) is = refl
+    on_moved more (Ok (None, rest)) is = refl
+    on_moved more (Ok (Some p, rest)) is =
+        let less = moved_less place p more rest is in
+        found_enough (amount place) (amount p) p rest (omega (arith, less.0)) (omega arith)
+
+    on_found : (z : Result (Option (ℕ × ℕ) × List ℕ) Stop) → movi_found place.stream place.movi text ≡ z → read_on z (found_or_on (frame_found_up_to (amount place)) place) ≡ read_on z (found_or_on frame_found place)
+    on_found (Err why) is = refl
+    on_found (Ok (Some p, rest)) is = refl
+    on_found (Ok (None, rest)) is = on_moved rest (moved place rest) refl
+
+-- where movi has nothing left, and nothing is left of the input, there is no frame
+pub frame_ends : (place : Place) → place.movi ≡ 0 → place.input ≡ 0 → (text : List ℕ) → frame_read place text ≡ Ok (None, text)
+unfolding frame_found
+frame_ends place movi input text = ap (λ z. read_on z found_read) (found_nothing (amount place) place text movi input)

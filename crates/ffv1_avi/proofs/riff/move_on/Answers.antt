@@ -1,0 +1,35 @@
+use Rattle.std.proofs.Common.{ℕ, [], Option, Some, None, inl, refl}
+use Rattle.std.proofs.lemmas.Result.{err_from_is_err_and}
+use Rattle.ffv1_avi.specs.declared.place.Extent.TheVariants.{EveryRiff}
+use Rattle.ffv1_avi.specs.declared.place.Place.{Place}
+use Rattle.ffv1_avi.specs.Files.{moved, movi_or_riff, movi_sought, riff_begun}
+use Rattle.ffv1_avi.specs.Places.{extent_of, movi_at}
+use Rattle.ffv1_avi.specs.Reads.{◌>>=◌}
+use Rattle.ffv1_avi.proofs.EndReadings.{none_given, none_last, none_refused}
+use Rattle.ffv1_avi.proofs.Moves.{extent_every, moved_every, moved_first}
+use Rattle.ffv1_avi.proofs.Reading.{consumes_none, goes_none, goes_read, goes_same}
+use Rattle.ffv1_avi.proofs.riff.move_on.Goals as goal
+
+pub returns-then-place-eq0 : goal.returns-then-place-eq0
+returns-then-place-eq0 g c = (refl, inl (record { bytes = []; consumed = consumes_none (g.R.ByteIn.remaining c.args.input.now); is = moved_first c.args.place c.if-place-eq0.true }))
+
+pub returns-in_err-movi : goal.returns-in_err-movi
+returns-in_err-movi g c =
+    let p = err_from_is_err_and c.from_residual.result c.from_residual.ensures.1 in
+    let place = c.args.place in
+    let start = goes_same _ (movi_sought place.riff >>= movi_or_riff place) (moved_every place c.if-place-eq0.false) (goes_none (moved place) (g.R.ByteIn.remaining c.args.input.now) (g.R.ByteIn.failures c.args.input.now)) in
+    rw (p.1, p.2) (none_refused (extent_of place) (movi_sought place.riff) (movi_or_riff place) _ _ c.in_err-movi.field-0.0 start c.in_err-movi.ensures)
+
+pub returns-in_default : goal.returns-in_default
+returns-in_default g c =
+    let place = c.args.place in
+    let start = goes_same _ (movi_sought place.riff >>= movi_or_riff place) (moved_every place c.if-place-eq0.false) (goes_none (moved place) (g.R.ByteIn.remaining c.args.input.now) (g.R.ByteIn.failures c.args.input.now)) in
+    let here = goes_read (movi_sought place.riff) (movi_or_riff place) _ _ None start (rw c.in_default.is at c.in_ok-movi.ensures) in
+    rw (extent_every place c.if-place-eq0.false) (none_last EveryRiff (riff_begun place) (λ (q : Option Place). q) _ _ c.begin_riff.result here c.begin_riff.ensures)
+
+pub returns : goal.returns
+returns g c =
+    let place = c.args.place in
+    let movi : ℕ × ℕ = (c.in-Some.movi, c.in-Some.riff) in
+    let start = goes_same _ (movi_sought place.riff >>= movi_or_riff place) (moved_every place c.if-place-eq0.false) (goes_none (moved place) (g.R.ByteIn.remaining c.args.input.now) (g.R.ByteIn.failures c.args.input.now)) in
+    none_given (extent_of place) (Some (movi_at place movi)) (goes_read (movi_sought place.riff) (movi_or_riff place) _ _ (Some movi) start (rw c.in-Some.is at c.in_ok-movi.ensures))

@@ -1,0 +1,61 @@
+-- Where a reader stands in a file, and how far it reads.
+use Rattle.std.specs.Prelude.{ℕ, ◌+◌, ◌-◌, ◌==◌, if◌then◌else◌}
+use Rattle.ffv1_avi.specs.declared.place.Extent.{Extent}
+use Rattle.ffv1_avi.specs.declared.place.Extent.TheVariants.{FirstMovi, EveryRiff}
+use Rattle.ffv1_avi.specs.declared.place.Place.{Place}
+
+-- how far is read: bytes after this RIFF are looked at only where every RIFF is read
+abbrev pub extent_of : Place → Extent
+extent_of place = if place.input == 0 then FirstMovi else EveryRiff
+
+-- where a reader stands after the end
+abbrev pub ended : Place
+ended = record { input = 0; riff = 0; movi = 0; stream = 0; owed = 0 }
+
+-- a number of bytes that no reading from here passes
+abbrev pub amount : Place → ℕ
+amount place = place.movi + place.riff + place.input
+
+-- the bytes that are read at most after the first RIFF: 2^64 - 1
+abbrev pub most_input : ℕ
+most_input = 18446744073709551615
+
+-- the first movi, in an RIFF that has so many bytes after it
+abbrev pub first_place : Extent → ℕ → ℕ → ℕ → ℕ → Place
+first_place FirstMovi riff movi stream owed =
+    record { input = 0; riff = 0; movi = movi; stream = 0; owed = 0 }
+first_place EveryRiff riff movi stream owed =
+    record { input = most_input; riff = riff; movi = movi; stream = stream; owed = owed }
+
+-- a movi in the same RIFF
+abbrev pub movi_at : Place → ℕ × ℕ → Place
+movi_at place p =
+    record {
+      input = place.input;
+      riff = p.1;
+      movi = p.0;
+      stream = place.stream;
+      owed = place.owed;
+    }
+
+-- the next RIFF, of so many bytes, before its first movi
+abbrev pub riff_at : Place → ℕ → Place
+riff_at place size =
+    record {
+      input = place.input - (8 + size);
+      riff = size - 4;
+      movi = 0;
+      stream = place.stream;
+      owed = place.owed;
+    }
+
+-- after a frame, where movi has so many bytes left
+abbrev pub frame_at : Place → ℕ → Place
+frame_at place left =
+    record {
+      input = place.input;
+      riff = place.riff;
+      movi = left;
+      stream = place.stream;
+      owed = place.owed - 1;
+    }

@@ -1,0 +1,42 @@
+//! Where a reader stands in a file, and how far it reads.
+
+ghost use Rattle.std.specs.Prelude.{◌≡◌};
+ghost use Rattle.ffv1_avi.specs.Places.{ended};
+
+/// How far a file is read.
+#[derive(Clone, Copy, Debug, PartialEq, Eq)]
+pub enum Extent {
+    /// The first list `movi` alone.
+    FirstMovi,
+    /// Every list `movi` of every RIFF: of the first, which is `AVI `, and of those after it, which
+    /// are `AVIX` (OpenDML AVI File Format Extensions).
+    EveryRiff,
+}
+
+/// Where a reader stands: in a movi.
+#[derive(Clone, Copy)]
+pub(crate) struct Place {
+    /// Bytes that are read at most after this RIFF; 0 where the first movi is read alone.
+    pub(crate) input: u64,
+    /// Bytes that this RIFF has after movi.
+    pub(crate) riff: u32,
+    /// Bytes that movi has left.
+    pub(crate) movi: u32,
+    /// Number of the stream among all `strl`; its frames are the chunks `NNdc`.
+    pub(crate) stream: u8,
+    /// Frames that `dmlh` says are still to come; 0 where there is none.
+    pub(crate) owed: u32,
+}
+
+/// Where a reader stands after the end.
+pub(crate) fn ended() -> Place
+    ensures { result ≡ ended }
+{
+    Place {
+        input: 0,
+        riff: 0,
+        movi: 0,
+        stream: 0,
+        owed: 0,
+    }
+}

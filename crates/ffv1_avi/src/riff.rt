@@ -1,0 +1,140 @@
+//! What follows a movi: the next one in its RIFF, or the next RIFF.
+
+ghost use Rattle.std.specs.Prelude.{◌≡◌, ◌+◌, ◌≤◌, ℕ, List, Option, Some, codes, true};
+ghost use Rattle.ffv1_avi.specs.Files.{moved, movi_sought, name_or_end, riff_begun, riff_entered};
+ghost use Rattle.ffv1_avi.specs.Files.{visit_riff};
+ghost use Rattle.ffv1_avi.specs.Internal.Ending.{AnswersOrNone, byte_or_end};
+ghost use Rattle.ffv1_avi.specs.Places.{extent_of};
+ghost use Rattle.ffv1_avi.specs.Reads.{Answers};
+ghost use Rattle.ffv1_avi.specs.Walk.{is_name};
+ghost use Rattle.ffv1_avi.specs.declared.place.Extent.TheVariants.{EveryRiff};
+ghost use Rattle.ffv1_avi.specs.declared.place.Place.{Place};
+ghost use Rattle.ffv1_wire.specs.Passage.{passage};
+
+use crate::chunk::{Entry, is_name, next_entry, padded, pass, take};
+use crate::fault::AviFault;
+use crate::open::own_name;
+use crate::place::Place;
+use byteorder::{ByteOrder, LittleEndian};
+use ffv1_wire::{ByteIn, read_byte};
+
+/// A chunk of RIFF after a movi: the bytes of the next movi, or None where it was passed.
+#[tactic(auto, unfolding(crate::specs::Files::visit_riff))]
+fn visit_riff<R: ByteIn>(input: &mut R, entry: Entry) -> Result<Option<(u32, u32)>, AviFault>
+    requires { is_name entry.name (codes "LIST") ≡ true → 4 ≤ entry.size }
+    ensures { Answers (λ (p : Option (ℕ × ℕ)). (tt, p)) (visit_riff tt entry)
+        (passage R.remaining R.failures input.old input.new) result }
+{
+    if !is_name(&entry.name, b"LIST") {
+        pass(input, padded(entry.size))?;
+        return Ok(None);
+    }
+    let own = own_name(input)?;
+    if is_name(&own, b"movi") {
+        return Ok(Some((entry.size - 4, entry.left)));
+    }
+    pass(input, padded(entry.size) - 4)?;
+    Ok(None)
+}
+
+/// The bytes of the next movi of RIFF, and what that has left behind it; None at its end.
+#[tactic(auto, unfolding(crate::specs::Files::movi_sought))]
+fn seek_movi<R: ByteIn>(input: &mut R, left: u32) -> Result<Option<(u32, u32)>, AviFault>
+    ensures { Answers (λ (p : Option (ℕ × ℕ)). p) (movi_sought left)
+        (passage R.remaining R.failures input.old input.new) result }
+{
+    let mut left = left;
+    while let Some(entry) = next_entry(input, left)? {
+        if let Some(movi) = visit_riff(input, entry)? {
+            return Ok(Some(movi));
+        }
+        left = entry.left;
+    }
+    Ok(None)
+}
+
+/// The next byte, or None at the end of the input.
+fn first_byte<R: ByteIn>(input: &mut R) -> Result<Option<u8>, AviFault>
+    ensures { AnswersOrNone EveryRiff (λ (b : Option ℕ). b) byte_or_end
+        (passage R.remaining R.failures input.old input.new) result }
+{
+    match read_byte(input) {
+        Ok(byte) => Ok(byte),
+        Err(_) => Err(AviFault::Read),
+    }
+}
+
+/// The next four bytes; or None at the end of the input, where no frame is owed.
+fn name_or_end<R: ByteIn>(input: &mut R, owed: u32) -> Result<Option<[u8; 4]>, AviFault>
+    ensures { AnswersOrNone EveryRiff (λ (name : Option (List ℕ)). name) (name_or_end owed)
+        (passage R.remaining R.failures input.old input.new) result }
+{
+    if owed > 0 {
+        return Ok(Some(own_name(input)?));
+    }
+    let Some(first) = first_byte(input)? else {
+        return Ok(None);
+    };
+    let mut others = [0u8; 3];
+    take(input, &mut others)?;
+    Ok(Some([first, others[0], others[1], others[2]]))
+}
+
+/// The size and the form of an RIFF after the first, behind its name.
+fn enter_riff<R: ByteIn>(input: &mut R, place: Place) -> Result<Place, AviFault>
+    ensures { Answers (λ (p : Place). Some p) (riff_entered place)
+        (passage R.remaining R.failures input.old input.new) result }
+{
+    let mut head = [0u8; 8];
+    take(input, &mut head)?;
+    let size = LittleEndian::read_u32(&head);
+    if !is_name(&head[4..], b"AVIX") || size < 4 {
+        return Err(AviFault::NotAvi);
+    }
+    let whole = 8 + u64::from(size);
+    if place.input <= whole {
+        return Err(AviFault::Truncated);
+    }
+    Ok(Place {
+        input: place.input - whole,
+        riff: size - 4,
+        movi: 0,
+        stream: place.stream,
+        owed: place.owed,
+    })
+}
+
+/// The next RIFF, or None at the end of the input.
+#[tactic(auto, unfolding(crate::specs::Files::riff_begun))]
+fn begin_riff<R: ByteIn>(input: &mut R, place: Place) -> Result<Option<Place>, AviFault>
+    ensures { AnswersOrNone EveryRiff (λ (p : Option Place). p) (riff_begun place)
+        (passage R.remaining R.failures input.old input.new) result }
+{
+    let Some(name) = name_or_end(input, place.owed)? else {
+        return Ok(None);
+    };
+    if !is_name(&name, b"RIFF") {
+        return Err(AviFault::NotAvi);
+    }
+    Ok(Some(enter_riff(input, place)?))
+}
+
+/// Where frames are sought next after the end of a movi; None at the end.
+pub(crate) fn move_on<R: ByteIn>(input: &mut R, place: Place) -> Result<Option<Place>, AviFault>
+    ensures { AnswersOrNone (extent_of place) (λ (p : Option Place). p) (moved place)
+        (passage R.remaining R.failures input.old input.new) result }
+{
+    if place.input == 0 {
+        return Ok(None);
+    }
+    let Some((movi, riff)) = seek_movi(input, place.riff)? else {
+        return begin_riff(input, place);
+    };
+    Ok(Some(Place {
+        input: place.input,
+        riff,
+        movi,
+        stream: place.stream,
+        owed: place.owed,
+    }))
+}

@@ -1,0 +1,17 @@
+-- How a file is read, by the profile.
+use Rattle.ffv1_avi.specs.declared.place.Extent.{Extent}
+use Rattle.ffv1_avi.specs.declared.place.Extent.TheVariants.{FirstMovi, EveryRiff}
+use Rattle.ffv1_record.specs.declared.config.Profile.{Profile as RecordProfile}
+use Rattle.ffv1_record.specs.declared.config.Profile.TheVariants as of_record
+use Rattle.ffv1_engine.specs.declared.profile.Profile.{Profile}
+use Rattle.ffv1_engine.specs.declared.profile.Profile.TheVariants.{Strict, Wide}
+
+-- how far a file is read
+abbrev pub extent_in : Profile → Extent
+extent_in Strict = FirstMovi
+extent_in Wide = EveryRiff
+
+-- the profile of its record and of the heads of its slices
+abbrev pub record_profile : Profile → RecordProfile
+record_profile Strict = of_record.Strict
+record_profile Wide = of_record.Wide

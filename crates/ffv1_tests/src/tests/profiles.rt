@@ -1,0 +1,105 @@
+//! Files of more than one RIFF: at the wide profile each frame of them, at the strict one those of
+//! the first `movi`.
+
+use crate::tests::avi::riffs::MORE;
+use crate::tests::made;
+use ffv1_avi::{AviHead, write_avi};
+use ffv1_engine::{Fault, Profile, check, show, unpack};
+use ffv1_record::write_record;
+use ffv1_wire::{FromRead, ToWrite};
+use std::alloc::Global;
+use std::test::Fail;
+
+/// A file of one frame of 1 by 1, and so many RIFFs of one frame behind it; then these bytes.
+fn file_of(alloc: Global, riffs: usize, last: &[u8]) -> Result<Vec<u8>, Fault> {
+    let checked = made::mono(alloc, 1, 1, 1, false)?.check()?;
+    let head = AviHead {
+        width: 1,
+        height: 1,
+        rate: 25,
+        scale: 1,
+        config_record: write_record(alloc, &checked)?,
+    };
+    let mut frames = Vec::new(alloc);
+    frames.push(Vec::from_slice(alloc, b"\xFE\x7B\x00\x00\x02")?)?;
+    let mut out = ToWrite::new(Vec::new(alloc));
+    write_avi(&mut out, &head, frames.as_slice())?;
+    let mut file = out.into_inner();
+    for _riff in 0..riffs {
+        file.extend_from_slice(&MORE)?;
+    }
+    file.extend_from_slice(last)?;
+    Ok(file)
+}
+
+/// Whether a check answers so, and writes this.
+fn checks(
+    alloc: Global,
+    profile: Profile,
+    file: &[u8],
+    answer: Result<(), Fault>,
+    text: &[u8],
+) -> bool {
+    let mut output = ToWrite::new(Vec::new(alloc));
+    let found = check(alloc, profile, &mut FromRead::new(file), &mut output, false);
+    let same = output.into_inner().as_slice() == text;
+    found == answer && same
+}
+
+/// Whether the frames are unpacked as so many, and written as this text.
+fn unpacks(alloc: Global, profile: Profile, file: &[u8], count: u64, text: &[u8]) -> bool {
+    let output = ToWrite::new(Vec::new(alloc));
+    let (written, found) = unpack(alloc, profile, &mut FromRead::new(file), output);
+    let same = written.into_inner().as_slice() == text;
+    found == Ok(count) && same
+}
+
+/// Whether what a file says ends with this text, with what its frames cost.
+fn shows(alloc: Global, profile: Profile, file: &[u8], end: &[u8]) -> bool {
+    let mut output = ToWrite::new(Vec::new(alloc));
+    let found = show(alloc, profile, &mut FromRead::new(file), &mut output, true);
+    let same = output.into_inner().as_slice().ends_with(end);
+    found == Ok(()) && same
+}
+
+const ONE: &[u8] = b"frame 0: 5 bytes, 1 slices, 11 decisions\nframes 1\n";
+
+const TWO: &[u8] =
+    b"frame 0: 5 bytes, 1 slices, 11 decisions\nframe 1: 5 bytes, 1 slices, 11 decisions\n\
+    frame 2: 5 bytes, 1 slices, 11 decisions\n";
+
+const THREE: &[u8] =
+    b"frame 0: 5 bytes, 1 slices, 11 decisions\nframe 1: 5 bytes, 1 slices, 11 decisions\n\
+    frame 2: 5 bytes, 1 slices, 11 decisions\nframes 3\n";
+
+#[test]
+fn each_frame_is_checked(rt: HostRuntime) -> Result<(), Fail> {
+    let file = file_of(rt.alloc(), 2, b"")?;
+    assert!(rt; checks(rt.alloc(), Profile::Wide, &file, Ok(()), THREE));
+    assert!(rt; checks(rt.alloc(), Profile::Strict, &file, Ok(()), ONE));
+    Ok(())
+}
+
+#[test]
+fn what_stands_behind_is_looked_at(rt: HostRuntime) -> Result<(), Fail> {
+    let file = file_of(rt.alloc(), 2, b"\0\0\0")?;
+    assert!(rt; checks(rt.alloc(), Profile::Wide, &file, Err(Fault::Truncated), TWO));
+    assert!(rt; checks(rt.alloc(), Profile::Strict, &file, Ok(()), ONE));
+    Ok(())
+}
+
+#[test]
+fn each_frame_is_unpacked(rt: HostRuntime) -> Result<(), Fail> {
+    let file = file_of(rt.alloc(), 1, b"")?;
+    let two = b"YUV4MPEG2 W1 H1 F25:1 I? A0:0 Cmono\nFRAME\n\0FRAME\n\0";
+    assert!(rt; unpacks(rt.alloc(), Profile::Wide, &file, 2, two));
+    assert!(rt; unpacks(rt.alloc(), Profile::Strict, &file, 1, &two[..43]));
+    Ok(())
+}
+
+#[test]
+fn each_frame_is_shown(rt: HostRuntime) -> Result<(), Fail> {
+    let file = file_of(rt.alloc(), 1, b"")?;
+    assert!(rt; shows(rt.alloc(), Profile::Wide, &file, b"frames 2\n"));
+    Ok(())
+}

@@ -1,0 +1,147 @@
+# SPDX-License-Identifier: MIT OR Apache-2.0
+"""Files of more than one RIFF and of more than one stream, and records that end where biSize says."""
+import ffv1
+from known_answers.case import FRAME, checked, one
+from known_answers.containers import GOOD, INDEX, JUNK, MOVI, SOUND, STRF, STRH, chunk, chunk_list
+from known_answers.containers import header, numbers, riff, spelled
+
+
+def further(*chunks):
+    """A RIFF behind the first, of OpenDML."""
+    return chunk(b"RIFF", b"AVIX" + b"".join(chunks))
+
+
+def lines(count, end=""):
+    """What `check` prints of so many frames."""
+    return "".join(f"frame {k}: 5 bytes, 1 slices, 11 decisions\n" for k in range(count)) + end
+
+
+def whole(count):
+    return lines(count, f"frames {count}\n")
+
+
+def streams(*before, total=None):
+    """The list hdrl of these streams, the one of FFV1 behind them, and, where the frames of the
+    whole file are counted, that count in so many bytes."""
+    counted = [] if total is None else [chunk_list(b"odml", chunk(b"dmlh", total))]
+    return chunk_list(b"hdrl", *before, header()[12:], *counted)
+
+
+FIRST, MORE = riff(header(), MOVI, INDEX), further(MOVI)
+SECOND_DMLH = chunk_list(b"odml", chunk(b"dmlh", numbers(9)))
+SHORT_DMLH = chunk_list(b"odml", JUNK, chunk(b"dmlh", b"abc"), chunk(b"dmlh", numbers(1)))
+FIRST_COUNTS = chunk_list(b"hdrl", header()[12:], SHORT_DMLH, SECOND_DMLH)
+FRAME_OF_1, OTHERS = chunk(b"01dc", FRAME), [chunk(b"01wb", b"a"), chunk(b"00wb", b"b")]
+
+
+# ---------------------------------------------------------------------------------------- all RIFFs
+
+READ = [
+    ("one more RIFF", FIRST + MORE, 2),
+    ("two more", FIRST + MORE + MORE, 3),
+    ("a RIFF with an index", FIRST + further(chunk(b"ix00", b"abcd"), MOVI, INDEX, JUNK), 2),
+    ("a RIFF without movi", FIRST + further() + further(JUNK) + MORE, 2),
+    ("a movi without frames", FIRST + further(chunk_list(b"movi", JUNK)), 1),
+    ("two movi in a RIFF", riff(header(), MOVI, INDEX, MOVI) + further(MOVI, MOVI), 4),
+    ("a list hdrl in a further RIFF", FIRST + further(chunk_list(b"hdrl", b"x"), MOVI), 2),
+    ("as many frames as dmlh says", riff(streams(total=numbers(2)), MOVI) + MORE, 2),
+    ("more frames than dmlh says", riff(streams(total=numbers(1)), MOVI) + MORE, 2),
+    ("dmlh says 0", riff(streams(total=numbers(0)), MOVI) + MORE, 2),
+    ("dmlh of 248 bytes", riff(streams(total=numbers(1) + bytes(244)), MOVI), 1),
+    ("the first dmlh with a number counts", riff(FIRST_COUNTS, MOVI), 1),
+]
+CUT = [
+    ("a byte", FIRST + b"x", 1, "52 Truncated"),
+    ("three zero bytes", FIRST + bytes(3), 1, "52 Truncated"),
+    ("four zero bytes", FIRST + bytes(4), 1, "50 NotAvi"),
+    ("four zero bytes behind all", FIRST + MORE + bytes(4), 2, "50 NotAvi"),
+    ("a name alone", FIRST + b"RIFF", 1, "52 Truncated"),
+    ("another name", FIRST + b"RIFX" + MORE[4:], 1, "50 NotAvi"),
+    ("another form", FIRST + FIRST, 1, "50 NotAvi"),
+    ("a size of 3", FIRST + spelled(3, MORE), 1, "50 NotAvi"),
+    ("a RIFF of odd size", FIRST + spelled(len(MORE) - 7, MORE) + bytes(2), 2, "52 Truncated"),
+    ("a RIFF that is not whole", spelled(10 ** 6, FIRST), 1, "52 Truncated"),
+    ("a further RIFF that is not whole", FIRST + spelled(10 ** 6, MORE), 2, "52 Truncated"),
+    ("a chunk that passes its RIFF", riff(header(), MOVI, spelled(10 ** 6, JUNK)), 1,
+     "52 Truncated"),
+    ("a list without a name", FIRST + further(chunk(b"LIST", b"")), 1, "50 NotAvi"),
+    ("a second movi that is not whole", riff(header(), MOVI, chunk_list(b"movi", b"x")), 1,
+     "52 Truncated"),
+    ("fewer frames than dmlh says", riff(streams(total=numbers(3)), MOVI) + MORE, 2,
+     "52 Truncated"),
+]
+
+
+def all_riffs():
+    """The frames of all RIFFs, and why a file has none behind them."""
+    for name, file, count in READ:
+        yield checked(name, file, whole(count))
+    for name, file, count, fault in CUT:
+        yield checked(name, file, lines(count), fault)
+
+
+def cut_riffs():
+    """A file of three RIFFs that is cut off: at the edge of a RIFF it reads as the frames before,
+    but where dmlh says how many there are."""
+    for total in [None, numbers(3)]:
+        first = riff(streams(total=total), MOVI)
+        file = first + MORE + MORE
+        edges = [len(first), len(first + MORE), len(file)]
+        for length in range(len(first), len(file) + 1):
+            frames, name = sum(edge <= length for edge in edges), f"{length} bytes of three RIFFs"
+            if length in edges and (total is None or length == len(file)):
+                yield checked(name, file[:length], whole(frames))
+            else:
+                yield checked(name, file[:length], lines(frames), "52 Truncated")
+
+
+# ------------------------------------------------------------------------------- streams and records
+
+RECORD = ffv1.write_record(one())
+BROKEN = chunk_list(b"strl", chunk(b"strh", STRH), chunk(b"strf", b"x"))
+
+
+def named(stream):
+    """A movi of which this stream has the frame, and others their chunks."""
+    frame = chunk(b"%02ddc" % stream, FRAME)
+    other = chunk(b"%02ddc" % ((stream + 1) % 100), b"\0\0")
+    return chunk_list(b"movi", *OTHERS, other, frame, *OTHERS)
+
+
+def ending(size, more):
+    """A list hdrl whose format says this biSize and has more bytes behind the record."""
+    return header(STRH, numbers(size) + STRF[4:] + more)
+
+
+OF_STREAMS = [
+    ("sound first", riff(streams(SOUND), named(1)), whole(1), ""),
+    ("sound first, and frames of 00dc", riff(streams(SOUND), MOVI), "", "70 NoFrames"),
+    ("another video first", riff(streams(BROKEN), named(1)), whole(1), ""),
+    ("stream 12", riff(streams(*[SOUND] * 12), named(12)), whole(1), ""),
+    ("stream 99", riff(streams(*[SOUND] * 99), named(99)), whole(1), ""),
+    ("stream 100", riff(streams(*[SOUND] * 100), MOVI), "", "51 NoFfv1"),
+    ("the second of two", riff(streams(header()[12:]), named(0)), whole(1), ""),
+    ("frames of another stream", riff(header(), chunk_list(b"movi", FRAME_OF_1, GOOD)), whole(1),
+     ""),
+]
+OF_RECORDS = [
+    ("the record ends where biSize says", ending(40 + len(RECORD), b"\0"), whole(1), ""),
+    ("some bytes before it", ending(40 + len(RECORD), b"abc"), whole(1), ""),
+    ("biSize inside the record", ending(44, b""), "", "15 Short"),
+    ("biSize of the chunk", ending(40 + len(RECORD), b""), whole(1), ""),
+    ("biSize above the chunk", ending(41 + len(RECORD), b""), whole(1), ""),
+    ("the greatest biSize", ending(2 ** 32 - 1, b""), whole(1), ""),
+    ("biSize of 0", ending(0, b""), whole(1), ""),
+    ("biSize of 40 and a byte more", ending(40, b"\1"), "", "16 Parity"),
+]
+
+
+def streams_and_records():
+    """Which stream counts, and where its record ends."""
+    for name, file, output, fault in OF_STREAMS:
+        yield checked(name, file, output, fault)
+    for name, hdrl, output, fault in OF_RECORDS:
+        yield checked(name, riff(hdrl, MOVI), output, fault)
+
+
+CASES = [all_riffs, cut_riffs, streams_and_records]
