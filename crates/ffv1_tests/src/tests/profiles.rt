@@ -72,6 +72,9 @@ const THREE: &[u8] =
     b"frame 0: 5 bytes, 1 slices, 11 decisions\nframe 1: 5 bytes, 1 slices, 11 decisions\n\
     frame 2: 5 bytes, 1 slices, 11 decisions\nframes 3\n";
 
+/// What the second of two frames cost.
+const COST: &[u8] = b"cost frame 1: ones 11 zeros 0 renormalisations 1\n";
+
 #[test]
 fn each_frame_is_checked(rt: HostRuntime) -> Result<(), Fail> {
     let file = file_of(rt.alloc(), 2, b"")?;
@@ -100,6 +103,6 @@ fn each_frame_is_unpacked(rt: HostRuntime) -> Result<(), Fail> {
 #[test]
 fn each_frame_is_shown(rt: HostRuntime) -> Result<(), Fail> {
     let file = file_of(rt.alloc(), 1, b"")?;
-    assert!(rt; shows(rt.alloc(), Profile::Wide, &file, b"frames 2\n"));
+    assert!(rt; shows(rt.alloc(), Profile::Wide, &file, COST));
     Ok(())
 }
