@@ -220,7 +220,7 @@ found_same place movi (Ok (Some p, rest)) = refl
 found_same place movi (Ok (None, rest)) = ap (λ z. read_on z (sought_on frame_found)) (moved_same place movi place.owed refl rest)
 
 -- no frame is left in movi
-frames_none : (place : Place) (text more : List ℕ) → movi_found place.stream place.movi text ≡ Ok (None, more) → frames_read place text ≡ frames_after place more
+pub frames_none : (place : Place) (text more : List ℕ) → movi_found place.stream place.movi text ≡ Ok (None, more) → frames_read place text ≡ frames_after place more
 frames_none place text more is =
     frames_step place text
     ∙ ap (λ z. read_on (read_on z found_read) (more_frames frames_read)) (frame_step place text ∙ ap (λ z. read_on z (found_or_on frame_found place)) is)

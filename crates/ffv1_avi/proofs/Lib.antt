@@ -19,6 +19,8 @@ pub mod PartLaws
 pub mod OpenLaws
 pub mod FrameLaws
 pub mod FileLaws
+pub mod RiffLaws
+pub mod WholeLaws
 pub mod WrittenLaws
 pub mod BeginningLaws
 pub mod RefusalLaws

@@ -8,6 +8,7 @@ pub mod Files
 pub mod Written
 pub mod Chunks
 pub mod Begun
+pub mod Riffs
 pub mod Writes
 pub mod Readers
 pub mod Internal

@@ -13,6 +13,7 @@ ghost use Rattle.ffv1_avi.specs.Head.{Head};
 ghost use Rattle.ffv1_avi.specs.Places.{ended, first_place};
 ghost use Rattle.ffv1_avi.specs.Reads.{EndsEarly, Faults, Lacks, Met, Read, Reading, Short, Want};
 ghost use Rattle.ffv1_avi.specs.Reads.{read_on};
+ghost use Rattle.ffv1_avi.specs.Riffs.{RiffFile};
 ghost use Rattle.ffv1_avi.specs.Written.{file_of};
 ghost use Rattle.ffv1_avi.specs.declared.fault.AviFault.TheVariants as fault;
 ghost use Rattle.ffv1_avi.specs.declared.fault.AviFault.{AviFault};
@@ -30,6 +31,15 @@ pub fn frames_in_turn()
 pub fn read_is_file()
     ensures { (file : List ℕ) (head : Head) (frames : List (List ℕ)) (rest : List ℕ) →
         file_read FirstMovi file ≡ Ok ((head, frames), rest) → AviFile file head frames }
+{}
+
+/// Where every RIFF is read and the frames come to an end, nothing is left of the input, and it is a
+/// file of that head and those frames: each chunk of the stream's frames, in every movi of every
+/// RIFF, was given, in order.
+pub fn whole()
+    ensures { (file : List ℕ) (head : Head) (frames : List (List ℕ)) (rest : List ℕ) →
+        file_read EveryRiff file ≡ Ok ((head, frames), rest) →
+        RiffFile file head frames × (rest ≡ []) }
 {}
 
 /// Where the bytes are known, a value that a call answers is what they read as, and a fault is the

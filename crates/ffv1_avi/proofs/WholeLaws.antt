@@ -1,0 +1,154 @@
+-- A whole file, of which every RIFF is read.
+use Rattle.std.proofs.Common.{◌≡◌, ℕ, ◌+◌, ◌-◌, ◌%◌, ◌≤◌, ◌<◌, ◌&&◌, nat_le, nat_lt, Bool, true, false, Option, Some, None, Ok, List, [], ◌∷◌, ◌++◌, length, take, codes, flat_map, ap, ◌∙◌, sym, subst, arith, refl, length-append}
+use Rattle.std.proofs.lemmas.Bool.{le-ltb, leb-false, leb-true, lt-ltb}
+use Rattle.byteorder.specs.Endian.{little_number}
+use Rattle.ffv1_avi.specs.declared.place.Extent.TheVariants.{EveryRiff}
+use Rattle.ffv1_avi.specs.declared.place.Place.{Place}
+use Rattle.ffv1_avi.specs.Chunks.{AreChunks, AreFrames, Chunk, chunks_text, first_of, header_chunks, is_list, is_named, those, total_next}
+use Rattle.ffv1_avi.specs.Files.{Headers, file_read, frame_name, frames_read, no_headers, open_read, owed, stream_known}
+use Rattle.ffv1_avi.specs.Head.{Head}
+use Rattle.ffv1_avi.specs.Places.{first_place}
+use Rattle.ffv1_avi.specs.Reads.{given, ◌>>=◌}
+use Rattle.ffv1_avi.specs.Riffs.{AreExtended, RiffFile, is_total, movis, riff_movis, riffs_text, sections_text, total, total_of}
+use Rattle.ffv1_avi.specs.Walk.{is_name}
+use Rattle.ffv1_avi.proofs.FrameLaws.{movi_part, placed, those_both}
+use Rattle.ffv1_avi.proofs.HeaderLaws.{StreamTakes, TakesHeader, run_streams}
+use Rattle.ffv1_avi.proofs.ListWalks.{Run}
+use Rattle.ffv1_avi.proofs.OpenLaws.{open_sound}
+use Rattle.ffv1_avi.proofs.PartLaws.{parts_text}
+use Rattle.ffv1_avi.proofs.PassedBytes.{read_on_ok}
+use Rattle.ffv1_avi.proofs.RiffLaws.{after_sound, chunks_even, framed_both}
+use Rattle.ffv1_avi.proofs.StreamLaws.{one_name}
+use Rattle.ffv1_avi.proofs.TotalLaws.{TakesTotal}
+use Rattle.ffv1_avi.proofs.ChunkByChunk.{ok_is}
+
+-- the number of frames after a chunk that may say it
+abbrev pub total_after : Option ℕ → Option Chunk → Option ℕ
+total_after (Some n) c = Some n
+total_after None None = None
+total_after None (Some c) = Some (little_number 4 c.bytes)
+
+total_twice : (n : Option ℕ) (xs ys : List Chunk) → total_after (total_after n (first_of xs)) (first_of ys) ≡ total_after n (first_of (xs ++ ys))
+total_twice (Some n) xs ys = refl
+total_twice None [] ys = refl
+total_twice None (x ∷ xs) ys = refl
+
+total_nothing : (n : Option ℕ) → n ≡ total_after n None
+total_nothing None = refl
+total_nothing (Some n) = refl
+
+-- what a chunk dmlh says
+next_total : (n : Option ℕ) (c : Chunk) (b : Bool) → nat_le 4 (length c.bytes) ≡ b → is_named (codes "dmlh") c ≡ true → total_next c.bytes n ≡ total_after n (first_of (those is_total (c ∷ [])))
+next_total (Some n) c b p q = refl
+next_total None c true p q = let room : 4 ≤ length c.bytes = leb-true _ _ p in rw (q, p, le-ltb _ _ room) refl
+next_total None c false p q = let few : length c.bytes < 4 = leb-false _ _ p in rw (q, p, lt-ltb _ _ few) refl
+
+run_total : (cs : List Chunk) (n m : Option ℕ) → Run TakesTotal n cs m → m ≡ total_after n (first_of (those is_total cs))
+run_total [] n m run = run ∙ total_nothing n
+run_total (c ∷ cs) n m run = on_name (is_named (codes "dmlh") c) refl run.0 run.1 (run_total cs run.0 m run.2)
+  where
+    parted : those is_total (c ∷ cs) ≡ those is_total (c ∷ []) ++ those is_total cs
+    parted = those_both is_total (c ∷ []) cs
+
+    on_name : (a : Bool) → is_named (codes "dmlh") c ≡ a → (k : Option ℕ) → TakesTotal n c.name c.bytes k → m ≡ total_after k (first_of (those is_total cs)) → m ≡ total_after n (first_of (those is_total (c ∷ cs)))
+    on_name true p k takes more =
+        let next : k ≡ total_after n (first_of (those is_total (c ∷ []))) = (rw p at takes) ∙ next_total n c (nat_le 4 (length c.bytes)) refl p in
+        more ∙ ap (λ z. total_after z (first_of (those is_total cs))) next ∙ total_twice n (those is_total (c ∷ [])) (those is_total cs) ∙ ap (λ z. total_after n (first_of z)) (sym parted)
+    on_name false p k takes more =
+        let next : k ≡ n = rw p at takes in
+        let none : those is_total (c ∷ cs) ≡ those is_total cs = rw p refl in
+        more ∙ ap (λ z. total_after z (first_of (those is_total cs))) next ∙ ap (λ z. total_after n (first_of z)) (sym none)
+
+abbrev pub all_of : List (List Chunk) → List Chunk
+all_of inners = flat_map (λ (cs : List Chunk). cs) inners
+
+-- the chunks of the lists odml, and the number of frames that they say
+pub record IsExtended (cs : List Chunk) (n m : Option ℕ) : Type 0 where
+  pub inners : List (List Chunk)
+  pub are : AreExtended (those (is_list (codes "odml")) cs) inners
+  pub says : m ≡ total_after n (first_of (those is_total (all_of inners)))
+
+pub run_extended : (cs : List Chunk) (s t : Headers) → Run (TakesHeader EveryRiff) s cs t → IsExtended cs s.frames t.frames
+run_extended [] s t run = record { inners = []; are = tt; says = ap (λ (z : Headers). z.frames) run ∙ total_nothing s.frames }
+run_extended (c ∷ cs) s t run =
+    on_list (is_name c.name (codes "LIST")) (is_name (take 4 c.bytes) (codes "strl")) (is_name (take 4 c.bytes) (codes "odml")) refl refl refl run.0 run.1 (run_extended cs run.0 t run.2)
+  where
+    Goal : Type 0
+    Goal = IsExtended (c ∷ cs) s.frames t.frames
+
+    -- a chunk that is no list odml
+    passing : (m : Headers) → m.frames ≡ s.frames → is_list (codes "odml") c ≡ false → IsExtended cs m.frames t.frames → Goal
+    passing m same is more = record { inners = more.inners; are = rw is more.are; says = more.says ∙ ap (λ z. total_after z (first_of (those is_total (all_of more.inners)))) same }
+
+    -- a list odml of these chunks
+    extending : (inner : List Chunk) → c.bytes ≡ codes "odml" ++ chunks_text inner → AreChunks inner → {n : Option ℕ} → (more : IsExtended cs n t.frames) → is_list (codes "odml") c ≡ true → t.frames ≡ total_after s.frames (first_of (those is_total (all_of (inner ∷ more.inners)))) → Goal
+    extending inner bytes each more is says = record { inners = inner ∷ more.inners; are = rw is (bytes, each, more.are); says = says }
+
+    both_true : (a b : Bool) → a ≡ true → b ≡ true → (a && b) ≡ true
+    both_true a b p q = rw (p, q) refl
+
+    known_frames : (o : Option Head) → (stream_known s o).frames ≡ s.frames
+    known_frames None = refl
+    known_frames (Some head) = refl
+
+    on_stream : (o : Option Head) (b : Bool) (m : Headers) → StreamTakes EveryRiff s o b c.bytes m → m.frames ≡ s.frames
+    on_stream (Some head) b m takes = ap (λ (z : Headers). z.frames) takes
+    on_stream None false m takes = ap (λ (z : Headers). z.frames) takes
+    on_stream None true m takes = ap (λ (z : Headers). z.frames) takes.1 ∙ known_frames takes.0
+
+    on_list : (a b d : Bool) → is_name c.name (codes "LIST") ≡ a → is_name (take 4 c.bytes) (codes "strl") ≡ b → is_name (take 4 c.bytes) (codes "odml") ≡ d → (m : Headers) → TakesHeader EveryRiff s c.name c.bytes m → IsExtended cs m.frames t.frames → Goal
+    on_list false b d p q r m takes more = passing m (ap (λ (z : Headers). z.frames) (rw p at takes)) (rw p refl) more
+    on_list true true d p q r m takes more =
+        let other : is_name (take 4 c.bytes) (codes "odml") ≡ false = one_name (take 4 c.bytes) (codes "strl") (codes "odml") q refl in
+        passing m (on_stream s.head (nat_lt s.passed 100) m (rw (p, q) at takes)) (rw (p, other) refl) more
+    on_list true false true p q r m takes more =
+        let has = rw (p, q, r) at takes in
+        let frames : m.frames ≡ has.3 = ap (λ (z : Headers). z.frames) has.5 in
+        let first : m.frames ≡ total_after s.frames (first_of (those is_total has.0)) = frames ∙ run_total has.0 s.frames has.3 has.4 in
+        let all : those is_total (has.0 ++ all_of more.inners) ≡ those is_total has.0 ++ those is_total (all_of more.inners) = those_both is_total has.0 (all_of more.inners) in
+        let says : t.frames ≡ total_after s.frames (first_of (those is_total (all_of (has.0 ∷ more.inners)))) =
+        more.says ∙ ap (λ z. total_after z (first_of (those is_total (all_of more.inners)))) first ∙ total_twice s.frames (those is_total has.0) (those is_total (all_of more.inners)) ∙ ap (λ z. total_after s.frames (first_of z)) (sym all) in
+        let list : is_list (codes "odml") c ≡ true = both_true (is_name c.name (codes "LIST")) (is_name (take 4 c.bytes) (codes "odml")) p r in
+        extending has.0 has.1 has.2 more list says
+    on_list true false false p q r m takes more = passing m (ap (λ (z : Headers). z.frames) (rw (p, q, r) at takes)) (rw (p, r) refl) more
+
+owed_total : (c : Option Chunk) → owed (total_after None c) ≡ total_of c
+owed_total None = refl
+owed_total (Some c) = refl
+
+pub whole_sound : (file : List ℕ) (w : (Head × List (List ℕ)) × List ℕ) → file_read EveryRiff file ≡ Ok w → RiffFile file w.0.0 w.0.1 × (w.1 ≡ [])
+whole_sound file w h =
+    let first = read_on_ok (open_read EveryRiff file) (λ p. (frames_read p.1 >>= λ frames. given (p.0, frames))) w h in
+    let head = first.0.0.0 in
+    let opening = open_sound EveryRiff file first.0 first.1 in
+    let top = opening.top in
+    let known = top.known in
+    let size = little_number 4 top.movi_size in
+    let place = first_place EveryRiff top.left (size - 4) known.passed (owed known.frames) in
+    let second = read_on_ok (frames_read first.0.0.1 first.0.1) (λ frames. given (head, frames)) w first.2 in
+    let frames = second.0.0 in
+    let read : frames_read place first.0.1 ≡ Ok second.0 = ap (λ (p : Place). frames_read p first.0.1) (sym top.place) ∙ second.1 in
+    let part = movi_part place first.0.1 second.0 read in
+    let after = after_sound (placed place 0 (place.owed - length part.here)) part.more (part.later, second.0.1) (λ e. omega (arith, e)) part.after in
+    let cs = flat_map header_chunks top.parts in
+    let found = run_streams EveryRiff cs no_headers known head refl top.head top.run in
+    let extended = run_extended cs no_headers known top.run in
+    let owes : owed known.frames ≡ total extended.inners = ap owed extended.says ∙ owed_total (first_of (those is_total (all_of extended.inners))) in
+    let text : file ≡ (codes "RIFF" ++ opening.riff_size ++ codes "AVI ") ++ (parts_text top.parts ++ ((codes "LIST" ++ top.movi_size ++ codes "movi") ++ (chunks_text part.chunks ++ (sections_text after.sections ++ riffs_text after.riffs)))) =
+    opening.text_is ∙ ap (λ z. (codes "RIFF" ++ opening.riff_size ++ codes "AVI ") ++ z) (top.text_is ∙ ap (λ z. parts_text top.parts ++ ((codes "LIST" ++ top.movi_size ++ codes "movi") ++ z)) (part.text_is ∙ ap (λ z. chunks_text part.chunks ++ z) after.text_is)) in
+    let even : length (chunks_text part.chunks) % 2 ≡ 0 = chunks_even part.chunks part.framed.each in
+    let counted : size ≡ 4 + length (chunks_text part.chunks) = omega (arith, part.long, top.movi_named) in
+    let filled : little_number 4 opening.riff_size ≡ 4 + length (parts_text top.parts) + (8 + size) + length (sections_text after.sections) = omega (arith, top.counted, opening.riff_named, counted, even, after.long) in
+    let both = framed_both (frame_name known.passed) part.chunks (movis after.sections ++ riff_movis after.riffs) part.here part.later part.framed after.framed in
+    let chunks = part.chunks ++ (movis after.sections ++ riff_movis after.riffs) in
+    let P : List (List ℕ) → Type 0 = λ z. AreFrames (frame_name known.passed) chunks z in
+    let Q : ℕ → Type 0 = λ n. AreFrames (frame_name n) chunks frames in
+    let number : known.passed ≡ length found.before = omega (arith, found.number) in
+    let count : length frames ≡ length part.here + length part.later = ap length part.parted ∙ length-append part.here part.later in
+    let here : RiffFile file head frames = record { riff_size = opening.riff_size; parts = top.parts; movi_size = top.movi_size; chunks = part.chunks; sections = after.sections; riffs = after.riffs; before = found.before; stream = found.stream; after = found.after; extended = extended.inners; bytes = text; riff_sized = opening.riff_sized; movi_sized = top.movi_sized; counted = counted; filled = filled; each = top.each; sections_are = after.sections_are; riffs_are = after.riffs_are; bounded = after.bounded; streams_are = found.parted; others = found.others; few = omega (arith, found.few, number); says = found.is; extended_are = extended.are; framed = subst Q number (subst P (sym part.parted) both); enough = omega (arith, after.enough, owes, count) } in
+    let R : (Head × List (List ℕ)) × List ℕ → Type 0 = λ z. RiffFile file z.0.0 z.0.1 × (z.1 ≡ []) in
+    let pair : Head × List (List ℕ) = (head, frames) in
+    subst R (ok_is (pair, second.0.1) w second.2) (here, after.over)
+
+pub whole : (file : List ℕ) (head : Head) (frames : List (List ℕ)) (rest : List ℕ) → file_read EveryRiff file ≡ Ok ((head, frames), rest) → RiffFile file head frames × (rest ≡ [])
+whole file head frames rest h = whole_sound file ((head, frames), rest) h
