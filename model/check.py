@@ -6,12 +6,14 @@ failed.
 
     python3 model/check.py
 """
+import itertools
 import os
 import sys
 import tempfile
 
 sys.dont_write_bytecode = True
 
+import check_matroska
 import commands
 import ffv1
 import files
@@ -153,7 +155,7 @@ def results():
     """Whether each check passed."""
     for case in cases():
         yield passes(case, by_model)
-    for name, found, wanted in example_checks():
+    for name, found, wanted in itertools.chain(example_checks(), check_matroska.checks()):
         if found != wanted:
             print(f"{name}: found {found}, wanted {wanted}")
         yield found == wanted

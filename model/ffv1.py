@@ -25,7 +25,8 @@ FAULTS = {
     42: "Sink", 50: "NotAvi", 51: "NoFfv1", 52: "Truncated", 53: "ChunkTooLong", 54: "EmptyFrame",
     55: "TooLarge", 56: "Read", 57: "Write", 60: "Header", 61: "Tag", 62: "Unsupported",
     63: "FrameLine", 64: "FrameTruncated", 70: "NoFrames", 71: "FormatChanged", 72: "NoY4mName",
-    73: "NoPpm",
+    73: "NoPpm", 80: "NotMatroska", 81: "BadElement", 82: "NoTracks", 83: "Encoded", 84: "Laced",
+    85: "Checksum", 86: "Rate",
 }
 
 

@@ -1,0 +1,385 @@
+# SPDX-License-Identifier: MIT OR Apache-2.0
+"""FFV1 in Matroska (RFC 9559; RFC 9043, 4.3.3), read and written, in plain Python, over the
+elements of `ebml.py`. What is this project's own choice says so.
+
+A file is an EBML header and a Segment: Tracks, which say what the frames are, and Clusters, which
+have the frames in their blocks. One of unknown size is open: it ends where the input does.
+"""
+import math
+
+import ebml
+from ebml import CRC_32, VOID, get_header, known
+from ffv1 import Fault
+from files import LIMIT
+
+SEGMENT, SEEK_HEAD, INFO, TRACKS = 0x18538067, 0x114D9B74, 0x1549A966, 0x1654AE6B
+CLUSTER, CUES = 0x1F43B675, 0x1C53BB6B
+ATTACHMENTS, CHAPTERS, TAGS = 0x1941A469, 0x1043A770, 0x1254C367
+TIMESTAMP, POSITION, PREV_SIZE, SILENT_TRACKS, ENCRYPTED_BLOCK = 0xE7, 0xA7, 0xAB, 0x5854, 0xAF
+SIMPLE_BLOCK, BLOCK_GROUP, BLOCK = 0xA3, 0xA0, 0xA1
+TRACK_ENTRY, TRACK_NUMBER, TRACK_UID, TRACK_TYPE = 0xAE, 0xD7, 0x73C5, 0x83
+FLAG_LACING, LANGUAGE, CODEC_ID, CODEC_PRIVATE = 0x9C, 0x22B59C, 0x86, 0x63A2
+DEFAULT_DURATION, CONTENT_ENCODINGS, VIDEO = 0x23E383, 0x6D80, 0xE0
+PIXEL_WIDTH, PIXEL_HEIGHT, FLAG_INTERLACED, FIELD_ORDER = 0xB0, 0xBA, 0x9A, 0x9D
+DISPLAY_WIDTH, DISPLAY_HEIGHT, DISPLAY_UNIT = 0x54B0, 0x54BA, 0x54B2
+
+OPEN = 2 ** 56 - 1          # the bytes of an open Segment: what the bits of its size say
+MOST = 2 ** 32 - 1
+
+
+class Head:
+    """What Tracks say of the frames: their track, the size of the pictures, rate and scale, of
+    which rate / scale is the pictures a second, and the configuration record."""
+
+    def __init__(self, number, width, height, rate, scale, record):
+        self.number, self.width, self.height = number, width, height
+        self.rate, self.scale, self.record = rate, scale, record
+
+
+# -------------------------------------------------------------------------------------------- rates
+
+def rate_of(duration):
+    """Own: the rate and the scale of frames of so many nanoseconds: of the rates n, 1000 n / 1001
+    and n / 2, the first whose duration they are nearly; else the fraction itself. Both are 0 where
+    there is no duration, or the scale passes four bytes."""
+    if duration == 0:
+        return 0, 0
+    for whole, factor, scale in [(1000000000, 1, 1), (1001000000, 1000, 1001), (2000000000, 1, 2)]:
+        n = (2 * whole + duration) // (2 * duration)
+        if abs(whole - n * duration) < n:
+            return n * factor, scale
+    common = math.gcd(1000000000, duration)
+    rate, scale = 1000000000 // common, duration // common
+    return (rate, scale) if scale <= MOST else (0, 0)
+
+
+def duration_of(rate, scale):
+    """Own: how many nanoseconds a frame has, to the nearest, halves up; 0 without a rate."""
+    return (2000000000 * scale + rate) // (2 * rate) if rate else 0
+
+
+# ----------------------------------------------------------------------------- Tracks (9559, 5.1.4)
+
+def record_in(entry):
+    """The configuration record of a TrackEntry, where this is FFV1 video, else none. A field is
+    looked for only as long as it may be."""
+    if ebml.find_number(entry, TRACK_TYPE, 0) != 1:
+        return None
+    codec = ebml.find_text(entry, CODEC_ID)
+    if codec not in (b"V_FFV1", b"V_MS/VFW/FOURCC"):
+        return None
+    private = ebml.find(entry, CODEC_PRIVATE) or b""
+    if codec == b"V_FFV1":
+        return private
+    return private[40:] if len(private) >= 40 and private[16:20] == b"FFV1" else None
+
+
+def head_in(content):
+    """What a content of Tracks says: the first TrackEntry of FFV1 video counts."""
+    ebml.judge(content)
+    for ident, entry in ebml.elements(content):
+        record = record_in(entry) if ident == TRACK_ENTRY else None
+        if record is None:
+            continue
+        if ebml.find(entry, CONTENT_ENCODINGS) is not None:
+            raise Fault(83)
+        number = ebml.find_number(entry, TRACK_NUMBER, 0)
+        rate, scale = rate_of(ebml.find_number(entry, DEFAULT_DURATION, 0))
+        video = ebml.find(entry, VIDEO) or b""
+        width, height = (min(ebml.find_number(video, field, 0), MOST)
+                         for field in [PIXEL_WIDTH, PIXEL_HEIGHT])
+        return Head(number, width, height, rate, scale, record)
+    raise Fault(51)
+
+
+# ----------------------------------------------------------------------- a Segment and its Clusters
+
+JUDGED = {SEEK_HEAD, INFO, TRACKS, CUES, ATTACHMENTS, CHAPTERS, TAGS}
+PASSED = {VOID, CRC_32}
+OF_CLUSTER = {TIMESTAMP, POSITION, PREV_SIZE, SILENT_TRACKS, ENCRYPTED_BLOCK}
+
+
+class Segment:
+    """Where a reader stands: how many bytes are left of the Segment, of a Cluster of known size in
+    it, and of a BlockGroup in that, the innermost of which is walked; and whether the elements of
+    the Segment are those of a Cluster of unknown size, too."""
+
+    def __init__(self, source, size):
+        self.source, self.is_open = source, size is None
+        self.left = OPEN if size is None else size
+        self.cluster, self.group, self.begins, self.loose = 0, 0, False, False
+
+    def header(self):
+        """The ID and the size of the next element of the Segment, or none at its end; an open one
+        ends where the input ends."""
+        first = self.source.some(1) if self.is_open and self.left else b""
+        if self.left == 0 or self.is_open and not first:
+            return None
+        ident, size, self.left = get_header(self.source, self.left, first)
+        self.left -= size or 0
+        return ident, size
+
+    def enter(self, size):
+        """A Cluster: of unknown size its elements are read as elements of the Segment."""
+        self.loose = size is None
+        self.cluster, self.begins = size or 0, True
+
+    def other(self, header):
+        """An element of the Segment that is passed. Own: one that no Segment has is refused, since
+        no CRC-32 guards the IDs."""
+        ident, size = known(header)
+        if ident in JUDGED:
+            ebml.pass_judged(self.source, size)
+            self.loose = False
+        elif ident in PASSED or self.loose and ident in OF_CLUSTER:
+            self.source.skip(size, 52)
+        else:
+            raise Fault(81)
+
+    def step(self, header, number):
+        """The element with this header; of the track with this number it may be a frame."""
+        ident, size = header
+        if self.loose and ident in (SIMPLE_BLOCK, BLOCK_GROUP):
+            return self.in_cluster(*known(header), number)
+        if ident == CLUSTER:
+            self.enter(size)
+        else:
+            self.other(header)
+        return None
+
+    def in_cluster(self, ident, size, number):
+        """An element of a Cluster."""
+        begins, self.begins = self.begins, False
+        if ident == SIMPLE_BLOCK:
+            return block(self.source, size, number)
+        if ident == BLOCK_GROUP:
+            self.group = size
+        elif begins and ident == CRC_32 and size == 4:
+            self.source.await_sum()
+        else:
+            self.source.skip(size, 52)
+        return None
+
+    def in_group(self, ident, size, number):
+        """An element of a BlockGroup."""
+        if ident == BLOCK:
+            return block(self.source, size, number)
+        self.source.skip(size, 52)
+        return None
+
+    def walk(self, number):
+        """The frame of the next element, if it has one. As soon as a Cluster has nothing left, its
+        CRC-32 is judged: before its last frame is given, where nothing is behind that."""
+        if self.group:
+            ident, size, left = known(get_header(self.source, self.group))
+            self.group = left - size
+            frame = self.in_group(ident, size, number)
+        else:
+            ident, size, left = known(get_header(self.source, self.cluster))
+            self.cluster = left - size
+            frame = self.in_cluster(ident, size, number)
+        if not self.group and not self.cluster:
+            self.source.judge()
+        return frame
+
+    def frames(self, number):
+        """The frames of a track, in turn."""
+        while True:
+            if self.group or self.cluster:
+                frame = self.walk(number)
+            else:
+                header = self.header()
+                if header is None:
+                    return
+                frame = self.step(header, number)
+            if frame is not None:
+                yield frame
+
+
+def block(source, size, number):
+    """9559, 10.1: the frame of a block of so many bytes, or none where it is of another track. Own:
+    no lacing, and a frame has from 1 to 67108864 bytes; all that before it is read."""
+    track = ebml.vint(source, 8, size)
+    left = size - len(track)
+    if ebml.data_of(track) != number:
+        source.skip(left, 52)
+        return None
+    if left < 3:
+        raise Fault(52)
+    flags, left = source.exactly(3, 52)[2], left - 3
+    if flags & 6:
+        raise Fault(84)
+    if left > LIMIT:
+        raise Fault(53)
+    if left == 0:
+        raise Fault(54)
+    return source.exactly(left, 52)
+
+
+def open_matroska(source):
+    """What the first Tracks of a file say; the size of its Segment, none where it is open; and its
+    frames in turn. Own: Tracks stand before the first Cluster."""
+    ebml.open_ebml(source)
+    if source.exactly(4, 52) != SEGMENT.to_bytes(4, "big"):
+        raise Fault(80)
+    size, _ = ebml.get_size(source, 8)
+    segment, head = Segment(source, size), None
+    while (header := segment.header()) and header[0] != CLUSTER:
+        if header[0] == TRACKS and head is None:
+            head = head_in(source.exactly(ebml.limited(header[1]), 52))
+        else:
+            segment.other(header)
+    if head is None:
+        raise Fault(82)
+    if header is None:
+        return head, size, iter(())
+    segment.enter(header[1])
+    return head, size, segment.frames(head.number)
+
+
+# ---------------------------------------------------------------------------------- what is written
+
+# Own: all that follows. Sizes are one byte or eight and numbers have a fixed length, so that where
+# an element stands depends on nothing but the lengths of the record and the frames, and on what is
+# said at all.
+
+NAME = b"Ravenbillon mkv 1"     # the writer's name, for as long as what it writes is the same
+TICK = 40000000                 # the nanoseconds that a timestamp counts where there is no rate
+MOST_CUES = 8192
+END = 2 ** 56 - 2 ** 20         # the last place where a Cluster may end
+
+EBML_HEADER = ebml.short(ebml.EBML, b"".join([
+    ebml.number(0x4286, 1, 1), ebml.number(ebml.READ_VERSION, 1, 1), ebml.number(0x42F2, 4, 1),
+    ebml.number(0x42F3, 8, 1), ebml.short(ebml.DOC_TYPE, b"matroska"), ebml.number(0x4287, 4, 1),
+    ebml.number(ebml.DOC_TYPE_READ_VERSION, 2, 1)]))
+INFO_PLACE, TRACKS_PLACE = 74, 148      # places are counted from the first byte in the Segment
+CLUSTERS_END = 41                       # the bytes of a Cluster beside its frame
+
+
+class Shown:
+    """How pictures are shown: their structure, 0 unknown, 1 top field first, 2 bottom field first,
+    3 progressive; and the aspect of a sample, both numbers 0 where it is not known."""
+
+    def __init__(self, structure=0, aspect=(0, 0)):
+        self.structure, self.aspect = structure, aspect
+
+
+class Finish:
+    """What is known when all is written: the size of the Segment, the place of Cues, and how many
+    frames there are."""
+
+    def __init__(self, size, cues, count):
+        self.size, self.cues, self.count = size, cues, count
+
+
+def timed(rate, scale):
+    """The duration of a frame, where it is read as this very rate."""
+    duration = duration_of(rate, scale)
+    if rate_of(duration) != (rate, scale):
+        raise Fault(86)
+    return duration
+
+
+def double(n):
+    """7.3: a whole number from 1 below 2 ^ 53 as eight bytes of floating point."""
+    e = n.bit_length() - 1
+    return ((1023 + e) * 2 ** 52 + (n - 2 ** e) * 2 ** (52 - e)).to_bytes(8, "big")
+
+
+def void(length):
+    """An element of so many bytes that says nothing."""
+    return ebml.short(VOID, bytes(length - 2))
+
+
+def seek(ident, place):
+    """5.1.1: where an element of the Segment stands."""
+    content = ebml.short(0x53AB, ebml.put_id(ident)) + ebml.number(0x53AC, place, 8)
+    return ebml.short(0x4DBB, content)
+
+
+def opening(head, finish=None):
+    """The first 200 bytes, up to Tracks: finished, or open. A timestamp counts frames."""
+    seeks = seek(INFO, INFO_PLACE) + seek(TRACKS, TRACKS_PLACE) \
+        + (seek(CUES, finish.cues) if finish else void(21))
+    info = ebml.number(0x2AD7B1, timed(head.rate, head.scale) or TICK, 8) \
+        + (ebml.short(0x4489, double(finish.count)) if finish else void(11)) \
+        + ebml.short(0x4D80, NAME) + ebml.short(0x5741, NAME)
+    return EBML_HEADER + ebml.put_id(SEGMENT) + ebml.long_size(finish.size if finish else OPEN) \
+        + ebml.short(SEEK_HEAD, ebml.summed(seeks)) + ebml.short(INFO, ebml.summed(info))
+
+
+def video(head, shown):
+    """5.1.4: the size of the pictures, their fields and their aspect."""
+    (num, den), fields = shown.aspect, {1: 9, 2: 14}.get(shown.structure)
+    content = ebml.number(PIXEL_WIDTH, head.width, 4) + ebml.number(PIXEL_HEIGHT, head.height, 4) \
+        + ebml.number(FLAG_INTERLACED, [0, 1, 1, 2][shown.structure], 1)
+    if fields:
+        content += ebml.number(FIELD_ORDER, fields, 1)
+    if num and den:
+        content += ebml.number(DISPLAY_WIDTH, head.width * num, 8) \
+            + ebml.number(DISPLAY_HEIGHT, head.height * den, 8) + ebml.number(DISPLAY_UNIT, 3, 1)
+    return ebml.short(VIDEO, content)
+
+
+def tracks(head, shown):
+    """5.1.4: the one track."""
+    duration = timed(head.rate, head.scale)
+    entry = ebml.number(TRACK_NUMBER, 1, 1) + ebml.number(TRACK_UID, 1, 1) \
+        + ebml.number(TRACK_TYPE, 1, 1) + ebml.number(FLAG_LACING, 0, 1) \
+        + ebml.short(LANGUAGE, b"und") + ebml.short(CODEC_ID, b"V_FFV1") \
+        + (ebml.number(DEFAULT_DURATION, duration, 8) if duration else b"") \
+        + video(head, shown) + ebml.long(CODEC_PRIVATE, head.record)
+    return ebml.long(TRACKS, ebml.summed(ebml.long(TRACK_ENTRY, entry)))
+
+
+def cluster(count, frame):
+    """5.1.3: the Cluster of the frame that has so many before it; its timestamp is that number."""
+    simple_block = ebml.long(SIMPLE_BLOCK, b"\x81\0\0\x80" + frame)
+    return ebml.long(CLUSTER, ebml.summed(ebml.number(TIMESTAMP, count, 8) + simple_block))
+
+
+def places(begin, lengths):
+    """Where each Cluster begins, and where the last one ends, of frames of so many bytes."""
+    found = [begin]
+    for length in lengths:
+        found.append(found[-1] + CLUSTERS_END + length)
+        if found[-1] > END:
+            raise Fault(55)
+    return found
+
+
+def stride_of(count):
+    """Every which Cluster has a cue: the least power of two by which at most 8192 have one."""
+    stride = 1
+    while -(-count // stride) > MOST_CUES:
+        stride *= 2
+    return stride
+
+
+def cues(begins):
+    """5.1.5: where Clusters begin."""
+    stride, content = stride_of(len(begins)), b""
+    for i in range(0, len(begins), stride):
+        position = ebml.number(0xF7, 1, 1) + ebml.number(0xF1, begins[i], 8)
+        content += ebml.short(0xBB, ebml.number(0xB3, i, 8) + ebml.short(0xB7, position))
+    return ebml.long(CUES, ebml.summed(content))
+
+
+def begun(head, shown, frames, finish=None):
+    """A file while it is written: nothing stands behind its Clusters."""
+    clusters = [cluster(i, frame) for i, frame in enumerate(frames)]
+    return opening(head, finish) + tracks(head, shown) + b"".join(clusters)
+
+
+def open_form(head, shown, frames, finish=None):
+    """A whole file that could not be written over: with Cues, but open."""
+    begin = TRACKS_PLACE + len(tracks(head, shown))
+    return begun(head, shown, frames, finish) + cues(places(begin, map(len, frames))[:-1])
+
+
+def finished(head, shown, frames):
+    """A whole file of at least one frame: the open form, its opening written over."""
+    begin = TRACKS_PLACE + len(tracks(head, shown))
+    end = places(begin, map(len, frames))[-1]
+    size = len(open_form(head, shown, frames)) - len(EBML_HEADER) - 12
+    return open_form(head, shown, frames, Finish(size, end, len(frames)))
