@@ -60,7 +60,7 @@ fn run_pack(
     let (source, metadata) = open_input(rt, files.input)?;
     let mut writer = open_output(rt, files.output, &metadata, files.no_clobber)?;
     let mut reader = watched(rt, source, &metadata, files.progress);
-    let packed = pack(alloc, &mut reader, &mut writer, choice)?;
+    let packed = pack(alloc, Profile::Wide, &mut reader, &mut writer, choice)?;
     let count = format!(in alloc; "frames {} bytes {}", packed.frames, packed.bytes)?;
     print_count(rt, files.output, &count)
 }

@@ -4,26 +4,28 @@ use Rattle.std.proofs.lemmas.Bool.{cases_lt, eqb-true}
 use Rattle.std.proofs.lemmas.List.{append_cancel_right, drop-append-le, take-append-drop, take-append-le}
 use Rattle.byteorder.specs.Endian.{little_number}
 use Rattle.ffv1_avi.specs.declared.chunk.Entry.{Entry}
-use Rattle.ffv1_avi.specs.declared.fault.AviFault.{AviFault}
-use Rattle.ffv1_avi.specs.declared.fault.AviFault.TheVariants as fault
+use Rattle.ffv1_reads.specs.declared.fault.FileFault.{FileFault}
+use Rattle.ffv1_reads.specs.declared.fault.FileFault.TheVariants as fault
 use Rattle.ffv1_avi.specs.Files.{Headers, begins, extended_read, extended_visited, file_read, found_or_on, found_read, frame_found, frame_name, frame_read, frames_read, frames_up_to, header_named, header_read, list_skipped, list_visited, more_frames, movi_found, movi_reached, no_headers, open_read, opened, sought_on, stream_known, stream_visited, top_read, total_read, visit_extended, visit_header, visit_movi, visit_top}
 use Rattle.ffv1_avi.specs.Places.{amount, extent_of, frame_at}
 use Rattle.ffv1_avi.specs.declared.place.Extent.{Extent}
 use Rattle.ffv1_avi.specs.declared.place.Extent.TheVariants.{FirstMovi, EveryRiff}
 use Rattle.ffv1_avi.specs.declared.place.Place.{Place}
-use Rattle.ffv1_avi.specs.Head.{Head}
-use Rattle.ffv1_avi.specs.Reads.{EndsEarly, Kept, Looked, Reading, Stop, Want, content, given, padded, passed, read_on, refused, taken, wanted, ◌>>=◌}
+use Rattle.ffv1_reads.specs.Head.{Head}
+use Rattle.ffv1_reads.specs.Reads.{EndsEarly, Kept, Looked, Reading, Stop, Want, given, passed, read_on, refused, taken, wanted, ◌>>=◌}
+use Rattle.ffv1_avi.specs.Padding.{content, padded}
 use Rattle.ffv1_avi.specs.Streams.{Format, Known, format_behind, format_in, format_rest, format_read, head_judged, limit, no_video, rates_in, rates_of, rates_read, record_end, skipped, stream_judged, stream_read, visit_field}
 use Rattle.ffv1_avi.specs.Walk.{Visit, entry_judged, entry_read, is_name, resumed, visited, walk, walk_up_to}
 use Rattle.ffv1_avi.proofs.FrameTurns.{read_less}
 use Rattle.ffv1_avi.proofs.HeaderLaws.{stream_end, with_frames}
 use Rattle.ffv1_avi.proofs.InnerLists.{list_read}
-use Rattle.ffv1_avi.proofs.ListWalks.{cut_back, cut_front}
+use Rattle.ffv1_reads.proofs.Results.{cut_back, cut_front}
 use Rattle.ffv1_avi.proofs.Moves.{frame_step, moved_first}
 use Rattle.ffv1_avi.proofs.OpenLaws.{open_sound}
-use Rattle.ffv1_avi.proofs.LoopReadings.{passed_short, wanted_short}
-use Rattle.ffv1_avi.proofs.PassedBytes.{passed_complete, passed_sound, read_on_ok, wanted_complete, wanted_sound}
-use Rattle.ffv1_avi.proofs.ChunkByChunk.{ok_is}
+use Rattle.ffv1_reads.proofs.LoopReadings.{passed_short, wanted_short}
+use Rattle.ffv1_reads.proofs.WantedBytes.{passed_complete, passed_sound, wanted_complete, wanted_sound}
+use Rattle.ffv1_reads.proofs.Results.{read_on_ok}
+use Rattle.ffv1_reads.proofs.Results.{ok_is}
 
 -- the bytes that were taken
 pub record Uses {X : Type 0} (r : Reading X) (text : List ℕ) (x : X) (rest : List ℕ) : Type 0 where
@@ -40,15 +42,15 @@ none_early r a b e some =
     let none : 0 ≡ length a + length b = ap length e ∙ length-append a b in
     absurd (omega (arith, none, some))
 
-local_given : {X : Type 0} (x : X) → Local (given x)
+pub local_given : {X : Type 0} (x : X) → Local (given x)
 local_given x text y rest h =
     let same = ok_is (x, text) (y, rest) h in
     record { used = []; text_is = ap (λ z. z.1) same; again = λ more. ap (λ z. Ok (z.0, more)) same; early = none_early (given x) }
 
-local_refused : {X : Type 0} (f : AviFault) → Local (refused {X = X} f)
+pub local_refused : {X : Type 0} (f : FileFault) → Local (refused {X = X} f)
 local_refused f text x rest h = absurd (cc)
 
-local_wanted : (w : Want) (n : ℕ) → Local (wanted w n)
+pub local_wanted : (w : Want) (n : ℕ) → Local (wanted w n)
 local_wanted w n text x rest h =
     let p = wanted_sound w n text (x, rest) h in
     record {
@@ -58,7 +60,7 @@ local_wanted w n text x rest h =
       early = λ a b e some. (w, wanted_short w n a (let all : length x ≡ length a + length b = ap length e ∙ length-append a b in omega (arith, all, some, p.1)));
     }
 
-local_passed : (n : ℕ) → Local (passed n)
+pub local_passed : (n : ℕ) → Local (passed n)
 local_passed n text x rest h =
     let p = passed_sound n text (x, rest) h in
     record {
@@ -117,21 +119,21 @@ local_same r s same is text x rest h =
     let u = is text x rest (sym (same text) ∙ h) in
     record { used = u.used; text_is = u.text_is; again = λ more. same (u.used ++ more) ∙ u.again more; early = λ a b e some. (let stop = u.early a b e some in (stop.0, same a ∙ stop.1)) }
 
-local_if : {X : Type 0} (b : Bool) (r s : Reading X) → Local r → Local s → Local (if b then r else s)
+pub local_if : {X : Type 0} (b : Bool) (r s : Reading X) → Local r → Local s → Local (if b then r else s)
 local_if true r s one two = one
 local_if false r s one two = two
 
-local_content : (w : Want) (size : ℕ) → Local (content w size)
+pub local_content : (w : Want) (size : ℕ) → Local (content w size)
 local_content w size = local_then (wanted w size) (λ bytes. (passed (size % 2) >>= λ _. given bytes)) (local_wanted w size) (λ bytes. local_then (passed (size % 2)) (λ _. given bytes) (local_passed (size % 2)) (λ _. local_given bytes))
 
-local_entry : (left : ℕ) → Local (entry_read left)
+pub local_entry : (left : ℕ) → Local (entry_read left)
 unfolding entry_read
 local_entry left = local_if (left == 0) _ _ (local_given None) (local_if (nat_lt left 8) _ _ (local_refused fault.Truncated) (local_then (taken 8) (λ head. entry_judged left (take 4 head) (little_number 4 (drop 4 head))) (local_wanted Looked 8) (λ head. judged (take 4 head) (little_number 4 (drop 4 head)))))
   where
     judged : (name : List ℕ) (size : ℕ) → Local (entry_judged left name size)
     judged name size = local_if (nat_lt left (8 + padded size)) _ _ (local_refused fault.Truncated) (local_if (is_name name (codes "LIST") && nat_lt size 4) _ _ (local_refused fault.NotAvi) (local_given _))
 
-LocalVisit : {S Y : Type 0} → Visit S Y → Type 0
+abbrev pub LocalVisit : {S Y : Type 0} → Visit S Y → Type 0
 LocalVisit {S = S} visit = (s : S) (e : Entry) → Local (visit s e)
 
 local_walk_up_to : {S Y : Type 0} (visit : Visit S Y) → ((s : S) (e : Entry) → Local (visit s e)) → (most left : ℕ) (s : S) → Local (walk_up_to visit most left s)
@@ -150,13 +152,13 @@ local_walk_up_to {S = S} {Y = Y} visit each (suc most) left s = local_then (entr
     on_entry again None = local_given (s, None)
     on_entry again (Some e) = local_then (visit s e) (λ p. resumed (walk_up_to visit most e.left) p.0 p.1) (each s e) (on_outcome again e.left)
 
-local_walk : {S Y : Type 0} (visit : Visit S Y) → ((s : S) (e : Entry) → Local (visit s e)) → (left : ℕ) (s : S) → Local (walk visit left s)
+pub local_walk : {S Y : Type 0} (visit : Visit S Y) → ((s : S) (e : Entry) → Local (visit s e)) → (left : ℕ) (s : S) → Local (walk visit left s)
 local_walk visit each left s = local_walk_up_to visit each left left s
 
-local_skipped : {S Y : Type 0} (s : S) (size : ℕ) → Local (skipped {Y = Y} s size)
+pub local_skipped : {S Y : Type 0} (s : S) (size : ℕ) → Local (skipped {Y = Y} s size)
 local_skipped {S = S} {Y = Y} s size = local_then (passed (padded size)) (λ _. given {X = S × Option Y} (s, None)) (local_passed (padded size)) (λ _. local_given (s, None))
 
-local_list_skipped : {S Y : Type 0} (s : S) (size : ℕ) → Local (list_skipped {Y = Y} s size)
+pub local_list_skipped : {S Y : Type 0} (s : S) (size : ℕ) → Local (list_skipped {Y = Y} s size)
 local_list_skipped {S = S} {Y = Y} s size = local_then (passed (padded size - 4)) (λ _. given {X = S × Option Y} (s, None)) (local_passed (padded size - 4)) (λ _. local_given (s, None))
 
 local_rates_in : (size : ℕ) → Local (rates_in size)
@@ -256,11 +258,11 @@ local_open extent = local_then (taken 12) (λ bytes. if begins bytes then top_re
     on_top : (room : ℕ) → Local (top_read extent room)
     on_top room = local_then (walk (visit_top extent) room no_headers) (λ p. opened p.1) (local_walk (visit_top extent) (local_top extent) room no_headers) (λ p. on_found p.1)
 
-local_movi : (stream : ℕ) (s : Unit {0}) (e : Entry) → Local (visit_movi stream s e)
+pub local_movi : (stream : ℕ) (s : Unit {0}) (e : Entry) → Local (visit_movi stream s e)
 unfolding visit_movi
 local_movi stream s e = local_if (is_name e.name (codes "LIST")) _ _ (local_refused fault.NotAvi) (local_if (is_name e.name (frame_name stream)) _ _ (local_if (nat_lt limit e.size) _ _ (local_refused fault.ChunkTooLong) (local_if (e.size == 0) _ _ (local_refused fault.EmptyFrame) (local_given _))) (local_skipped {Y = ℕ × ℕ} s e.size))
 
-local_movi_found : (stream left : ℕ) → Local (movi_found stream left)
+pub local_movi_found : (stream left : ℕ) → Local (movi_found stream left)
 unfolding movi_found
 local_movi_found stream left = local_then (walk (visit_movi stream) left tt) (λ p. given p.1) (local_walk (visit_movi stream) (local_movi stream) left tt) (λ p. local_given p.1)
 

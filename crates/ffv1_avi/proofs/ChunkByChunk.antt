@@ -3,21 +3,12 @@ use Rattle.std.proofs.Common.{◌≡◌, ℕ, suc, zero, ◌+◌, ◌-◌, ◌�
 use Rattle.std.proofs.lemmas.Bool.{ltb-false}
 use Rattle.byteorder.specs.Endian.{little_number}
 use Rattle.ffv1_avi.specs.declared.chunk.Entry.{Entry}
-use Rattle.ffv1_avi.specs.declared.fault.AviFault.{AviFault}
-use Rattle.ffv1_avi.specs.Reads.{Stop, Read, Reading, Refused, padded, read_on, ◌>>=◌}
+use Rattle.ffv1_reads.specs.declared.fault.FileFault.{FileFault}
+use Rattle.ffv1_reads.specs.Reads.{Stop, Read, Reading, Refused, read_on, ◌>>=◌}
+use Rattle.ffv1_avi.specs.Padding.{padded}
 use Rattle.ffv1_avi.specs.Walk.{Visit, entry_judged, entry_read, is_name, resumed, visited, walk, walk_up_to}
-use Rattle.ffv1_avi.proofs.Reading.{Goes, goes_read, goes_refused, goes_same}
-
--- readings in a row
-pub read_on_twice : {X Y Z : Type 0} (z : Result (X × List ℕ) Stop) (f : X → Reading Y) (k : Y → Reading Z) → read_on (read_on z f) k ≡ read_on z (λ x. f x >>= k)
-read_on_twice (Ok p) f k = refl
-read_on_twice (Err e) f k = refl
-
-pub some_is : {X : Type 0} (x y : X) → Some x ≡ Some y → x ≡ y
-some_is x y e = cc
-
-pub ok_is : {X : Type 0} (p q : X × List ℕ) → ◌≡◌ {A = Result (X × List ℕ) Stop} (Ok p) (Ok q) → p ≡ q
-ok_is p q e = cc
+use Rattle.ffv1_reads.proofs.Results.{ok_is, read_on_twice, some_is}
+use Rattle.ffv1_reads.proofs.Reading.{Goes, goes_read, goes_refused, goes_same}
 
 -- what the list has left behind a chunk is less
 judged_less : (left size : ℕ) (name text : List ℕ) (e : Entry) (rest : List ℕ) (a b : Bool) → nat_lt left (8 + padded size) ≡ a → (is_name name (codes "LIST") && nat_lt size 4) ≡ b → entry_judged left name size text ≡ Ok (Some e, rest) → e.left + 8 ≤ left
@@ -116,7 +107,7 @@ goes_end visit left s k new last h read =
     goes_read (entry_read left) (behind_entry visit s k) new last None (goes_same _ (entry_read left >>= behind_entry visit s k) (walk_then visit left s k) h) read
 
 -- or is refused
-pub goes_no_entry : {S X Y : Type 0} {whole : Reading X} {old now : Option (List ℕ)} {before after : ℕ} (visit : Visit S Y) (left : ℕ) (s : S) (k : S × Option Y → Reading X) (new : Option (List ℕ)) (last : ℕ) (f : AviFault) →
+pub goes_no_entry : {S X Y : Type 0} {whole : Reading X} {old now : Option (List ℕ)} {before after : ℕ} (visit : Visit S Y) (left : ℕ) (s : S) (k : S × Option Y → Reading X) (new : Option (List ℕ)) (last : ℕ) (f : FileFault) →
     Goes whole old before (walk visit left s >>= k) now after → Refused (entry_read left) now new after last f → Refused whole old new before last f
 goes_no_entry visit left s k new last f h why =
     goes_refused (entry_read left) (behind_entry visit s k) new last f (goes_same _ (entry_read left >>= behind_entry visit s k) (walk_then visit left s k) h) why

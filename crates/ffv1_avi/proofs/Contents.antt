@@ -6,11 +6,11 @@ use Rattle.std.proofs.lemmas.List.{drop-append-le, take-append-le}
 use Rattle.std.proofs.Math.Seq.{drop-append_seam, take-add, take-append_seam}
 use Rattle.byteorder.specs.Endian.{little_number}
 use Rattle.byteorder.specs.Numbers.{little_from-append, little_from-take}
-use Rattle.ffv1_avi.specs.Reads.{AppendsSome, Kept, Looked, Reading, Short, Stop, Want, content, given, padded, passed, read_on, taken, wanted, ◌>>=◌}
+use Rattle.ffv1_reads.specs.Reads.{Kept, Looked, Reading, Short, Stop, Want, given, passed, read_on, taken, wanted, ◌>>=◌}
+use Rattle.ffv1_avi.specs.Padding.{content, padded}
 use Rattle.ffv1_avi.specs.Streams.{Format, format_behind, format_by, format_in, format_rest, format_of, rates_in, rates_of, record_end}
 use Rattle.ffv1_avi.specs.declared.place.Extent.{Extent}
 use Rattle.ffv1_avi.specs.declared.place.Extent.TheVariants.{FirstMovi, EveryRiff}
-use Rattle.ffv1_wire.specs.Reads.{Fills}
 use Rattle.ffv1_avi.specs.Walk.{is_name}
 
 -- bytes that are there are taken, and passed
@@ -190,18 +190,6 @@ whole_short extent size few text = elim (cases_lt (length text) (padded size)) [
 -- a number at the front of some bytes
 pub number_taken : (m : ℕ) (xs : List ℕ) → 4 ≤ m → little_number 4 (take m xs) ≡ little_number 4 xs
 number_taken m xs h = little_from-take 0 4 m xs h
-
--- the bytes that were read behind others, where they are fewer than were wanted
-pub appends_some : (old new : Option (List ℕ)) (items buf : List ℕ) (done n m : ℕ) → take done buf ≡ items → done + n ≤ length buf → Fills old new n (drop done buf) → n ≤ m → AppendsSome old m items (take (done + n) buf)
-appends_some None new items buf done n m kept bound read most = tt
-appends_some (Some text) None items buf done n m kept bound read most = absurd read.0
-appends_some (Some text) (Some rest) items buf done n m kept bound read most =
-    let size : length (take n (drop done buf)) ≡ n = length-take n (drop done buf) ∙ (omega (arith, bound, length-drop done buf)) in
-    let front : take n text ≡ take n (drop done buf) = ap (take n) read.0 ∙ cut (take n (drop done buf)) rest n size in
-    (n, most, take-add done n buf ∙ (rw (kept, front) refl))
-  where
-    cut : (xs ys : List ℕ) (k : ℕ) → length xs ≡ k → take k (xs ++ ys) ≡ xs
-    cut xs ys k size = rw (← size) (take-append_seam xs ys)
 
 -- a format that is not FFV1
 whole_wrong : (extent : Extent) (size : ℕ) (head : List ℕ) → 40 ≤ size → is_name (take 4 (drop 16 head)) (codes "FFV1") ≡ false → (text : List ℕ) → whole_rest extent size head text ≡ (passed (padded size - 40) >>= λ _. given None) text

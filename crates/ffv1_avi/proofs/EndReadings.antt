@@ -2,14 +2,14 @@
 use Rattle.std.proofs.Common.{◌≡◌, append_assoc, ℕ, Option, Some, None, Result, Ok, Err, List, [], ◌++◌, inl, inr, ap, ◌∙◌, refl, subst}
 use Rattle.ffv1_wire.proofs.Bytes.{consumes_then}
 use Rattle.ffv1_wire.specs.Passage.{Passage}
-use Rattle.ffv1_avi.specs.declared.fault.AviFault.{AviFault}
-use Rattle.ffv1_avi.specs.declared.fault.AviFault.TheVariants as fault
+use Rattle.ffv1_reads.specs.declared.fault.FileFault.{FileFault}
+use Rattle.ffv1_reads.specs.declared.fault.FileFault.TheVariants as fault
 use Rattle.ffv1_avi.specs.declared.place.Extent.{Extent}
 use Rattle.ffv1_avi.specs.declared.place.Extent.TheVariants.{FirstMovi, EveryRiff}
-use Rattle.ffv1_avi.specs.Ends.{AnswersBy}
+use Rattle.ffv1_avi.specs.Extents.{AnswersBy}
 use Rattle.ffv1_avi.specs.Internal.Ending.{AnswersOrNone, Halts, ReadOrNone, RefusedOrNone}
-use Rattle.ffv1_avi.specs.Reads.{Read, Reading, Refused, Stop, given, read_on, ◌>>=◌}
-use Rattle.ffv1_avi.proofs.Reading.{Goes, goes_given, goes_read, goes_refused, goes_same}
+use Rattle.ffv1_reads.specs.Reads.{Read, Reading, Refused, Stop, given, read_on, ◌>>=◌}
+use Rattle.ffv1_reads.proofs.Reading.{Goes, goes_given, goes_read, goes_refused, goes_same}
 
 -- nothing more is there behind other readings
 pub halts_last : {X : Type 0} (extent : Extent) {whole : Reading (Option X)} {old now : Option (List ℕ)} {before after : ℕ} (r : Reading (Option X)) (new : Option (List ℕ)) →
@@ -31,7 +31,7 @@ halts_then FirstMovi r k old new stays stops = absurd stops
 halts_then EveryRiff r k old new stays stops = record { bytes = stops.bytes; consumed = stops.consumed; is = ap (λ z. read_on z k) stops.is ∙ stays [] }
 
 -- a refusal, where there is more
-pub refused_none : {X : Type 0} (extent : Extent) (reading : Reading (Option X)) (old new : Option (List ℕ)) (before after : ℕ) (f : AviFault) → Refused reading old new before after f → RefusedOrNone extent reading old new before after f
+pub refused_none : {X : Type 0} (extent : Extent) (reading : Reading (Option X)) (old new : Option (List ℕ)) (before after : ℕ) (f : FileFault) → Refused reading old new before after f → RefusedOrNone extent reading old new before after f
 refused_none extent reading old new before after fault.Read why = (why.0, inl why.1)
 refused_none extent reading old new before after fault.OutOfMemory why = why
 refused_none extent reading old new before after fault.Truncated why = why
@@ -41,13 +41,20 @@ refused_none extent reading old new before after fault.ChunkTooLong why = why
 refused_none extent reading old new before after fault.EmptyFrame why = why
 refused_none extent reading old new before after fault.TooLarge why = why
 refused_none extent reading old new before after fault.Write why = why
+refused_none extent reading old new before after fault.NotMatroska why = why
+refused_none extent reading old new before after fault.BadElement why = why
+refused_none extent reading old new before after fault.NoTracks why = why
+refused_none extent reading old new before after fault.Encoded why = why
+refused_none extent reading old new before after fault.Laced why = why
+refused_none extent reading old new before after fault.Checksum why = why
+refused_none extent reading old new before after fault.Rate why = why
 
 -- a reading that was refused, behind others
-pub none_refused : {X Y : Type 0} (extent : Extent) {whole : Reading (Option X)} {old now : Option (List ℕ)} {before after : ℕ} (r : Reading Y) (k : Y → Reading (Option X)) (new : Option (List ℕ)) (last : ℕ) (f : AviFault) →
+pub none_refused : {X Y : Type 0} (extent : Extent) {whole : Reading (Option X)} {old now : Option (List ℕ)} {before after : ℕ} (r : Reading Y) (k : Y → Reading (Option X)) (new : Option (List ℕ)) (last : ℕ) (f : FileFault) →
     Goes whole old before (r >>= k) now after → Refused r now new after last f → RefusedOrNone extent whole old new before last f
 none_refused extent {whole = whole} {old = old} {before = before} r k new last f h why = refused_none extent whole old new before last f (goes_refused r k new last f h why)
 
-refused_halts : {X Y : Type 0} (extent : Extent) {whole : Reading (Option X)} {old now : Option (List ℕ)} {before after : ℕ} (r : Reading (Option Y)) (k : Option Y → Reading (Option X)) (new : Option (List ℕ)) (last : ℕ) (f : AviFault) →
+refused_halts : {X Y : Type 0} (extent : Extent) {whole : Reading (Option X)} {old now : Option (List ℕ)} {before after : ℕ} (r : Reading (Option Y)) (k : Option Y → Reading (Option X)) (new : Option (List ℕ)) (last : ℕ) (f : FileFault) →
     Stays k → Goes whole old before (r >>= k) now after → RefusedOrNone extent r now new after last f → RefusedOrNone extent whole old new before last f
 refused_halts extent {now = now} {after = after} r k new last fault.Read stays h (counted, inl wants) = none_refused extent r k new last fault.Read h (counted, wants)
 refused_halts extent {whole = whole} {old = old} {now = now} {before = before} {after = after} r k new last fault.Read stays h (counted, inr halts) =
@@ -60,9 +67,16 @@ refused_halts extent r k new last fault.ChunkTooLong stays h why = none_refused 
 refused_halts extent r k new last fault.EmptyFrame stays h why = none_refused extent r k new last fault.EmptyFrame h why
 refused_halts extent r k new last fault.TooLarge stays h why = absurd why
 refused_halts extent r k new last fault.Write stays h why = absurd why
+refused_halts extent r k new last fault.NotMatroska stays h why = none_refused extent r k new last fault.NotMatroska h why
+refused_halts extent r k new last fault.BadElement stays h why = none_refused extent r k new last fault.BadElement h why
+refused_halts extent r k new last fault.NoTracks stays h why = none_refused extent r k new last fault.NoTracks h why
+refused_halts extent r k new last fault.Encoded stays h why = none_refused extent r k new last fault.Encoded h why
+refused_halts extent r k new last fault.Laced stays h why = none_refused extent r k new last fault.Laced h why
+refused_halts extent r k new last fault.Checksum stays h why = none_refused extent r k new last fault.Checksum h why
+refused_halts extent r k new last fault.Rate stays h why = absurd why
 
 -- a reading that may end was refused
-pub none_refused_end : {X Y : Type 0} (extent : Extent) {whole : Reading (Option X)} {old now : Option (List ℕ)} {before after : ℕ} (r : Reading (Option Y)) (k : Option Y → Reading (Option X)) (new : Option (List ℕ)) (last : ℕ) (f : AviFault) →
+pub none_refused_end : {X Y : Type 0} (extent : Extent) {whole : Reading (Option X)} {old now : Option (List ℕ)} {before after : ℕ} (r : Reading (Option Y)) (k : Option Y → Reading (Option X)) (new : Option (List ℕ)) (last : ℕ) (f : FileFault) →
     Stays k → Goes whole old before (r >>= k) now after → RefusedOrNone extent r now new after last f → RefusedOrNone extent whole old new before last f
 none_refused_end extent r k new last f stays h why = refused_halts extent r k new last f stays h why
 
@@ -93,7 +107,7 @@ some_read extent reading old new x (inl read) = read
 some_read extent reading old new x (inr (halts, none)) = absurd (no_none x none)
 
 -- the last reading answers
-pub none_last : {X Y : Type 0} (extent : Extent) {whole : Reading (Option X)} {old now : Option (List ℕ)} {before after : ℕ} (r : Reading (Option X)) (view : Y → Option X) (new : Option (List ℕ)) (last : ℕ) (result : Result Y AviFault) →
+pub none_last : {X Y : Type 0} (extent : Extent) {whole : Reading (Option X)} {old now : Option (List ℕ)} {before after : ℕ} (r : Reading (Option X)) (view : Y → Option X) (new : Option (List ℕ)) (last : ℕ) (result : Result Y FileFault) →
     Goes whole old before r now after → AnswersOrNone extent view r (record { old = now; new = new; before = after; after = last }) result →
     AnswersOrNone extent view whole (record { old = old; new = new; before = before; after = last }) result
 none_last extent {whole = whole} {old = old} {now = now} r view new last (Ok y) h (same, inl read) =
@@ -113,7 +127,7 @@ none_last {X = X} extent {whole = whole} {old = old} {now = now} {before = befor
     through h = goes_same r (r >>= λ x. given x) (λ text. again (r text)) h
 
 -- what a call answers that may come to the end, by how far a file is read
-pub answers_by : {X Y : Type 0} (extent : Extent) (view : Y → Option X) (reading : Reading (Option X)) (p : Passage) (result : Result Y AviFault) → AnswersOrNone extent view reading p result → AnswersBy extent view reading p result
+pub answers_by : {X Y : Type 0} (extent : Extent) (view : Y → Option X) (reading : Reading (Option X)) (p : Passage) (result : Result Y FileFault) → AnswersOrNone extent view reading p result → AnswersBy extent view reading p result
 answers_by FirstMovi view reading p (Ok y) (same, inl read) = (same, read)
 answers_by FirstMovi view reading p (Ok y) (same, inr ((halts, ended), none)) = absurd halts
 answers_by FirstMovi view reading p (Err fault.Read) (counted, inl wants) = (counted, wants)
@@ -126,6 +140,13 @@ answers_by FirstMovi view reading p (Err fault.ChunkTooLong) why = why
 answers_by FirstMovi view reading p (Err fault.EmptyFrame) why = why
 answers_by FirstMovi view reading p (Err fault.TooLarge) why = why
 answers_by FirstMovi view reading p (Err fault.Write) why = why
+answers_by FirstMovi view reading p (Err fault.NotMatroska) why = why
+answers_by FirstMovi view reading p (Err fault.BadElement) why = why
+answers_by FirstMovi view reading p (Err fault.NoTracks) why = why
+answers_by FirstMovi view reading p (Err fault.Encoded) why = why
+answers_by FirstMovi view reading p (Err fault.Laced) why = why
+answers_by FirstMovi view reading p (Err fault.Checksum) why = why
+answers_by FirstMovi view reading p (Err fault.Rate) why = why
 answers_by EveryRiff view reading p (Ok y) (same, inl read) = (same, inl read)
 answers_by EveryRiff view reading p (Ok y) (same, inr ((halts, ended), none)) = (same, inr (rw none halts, ended))
 answers_by EveryRiff view reading p (Err fault.Read) (counted, inl wants) = (counted, inl wants)
@@ -138,9 +159,16 @@ answers_by EveryRiff view reading p (Err fault.ChunkTooLong) why = why
 answers_by EveryRiff view reading p (Err fault.EmptyFrame) why = why
 answers_by EveryRiff view reading p (Err fault.TooLarge) why = why
 answers_by EveryRiff view reading p (Err fault.Write) why = why
+answers_by EveryRiff view reading p (Err fault.NotMatroska) why = why
+answers_by EveryRiff view reading p (Err fault.BadElement) why = why
+answers_by EveryRiff view reading p (Err fault.NoTracks) why = why
+answers_by EveryRiff view reading p (Err fault.Encoded) why = why
+answers_by EveryRiff view reading p (Err fault.Laced) why = why
+answers_by EveryRiff view reading p (Err fault.Checksum) why = why
+answers_by EveryRiff view reading p (Err fault.Rate) why = why
 
 -- the same, said of an extent that is equal
-pub refused_extent : {X : Type 0} (d e : Extent) (reading : Reading (Option X)) (old new : Option (List ℕ)) (before after : ℕ) (f : AviFault) → d ≡ e → RefusedOrNone d reading old new before after f → RefusedOrNone e reading old new before after f
+pub refused_extent : {X : Type 0} (d e : Extent) (reading : Reading (Option X)) (old new : Option (List ℕ)) (before after : ℕ) (f : FileFault) → d ≡ e → RefusedOrNone d reading old new before after f → RefusedOrNone e reading old new before after f
 refused_extent d e reading old new before after f is h = let P : Extent → Type 0 = λ z. RefusedOrNone z reading old new before after f in subst P is h
 
 pub read_extent : {X : Type 0} (d e : Extent) (reading : Reading (Option X)) (old new : Option (List ℕ)) (x : Option X) → d ≡ e → ReadOrNone d reading old new x → ReadOrNone e reading old new x

@@ -5,14 +5,15 @@ use Rattle.ffv1_avi.specs.declared.place.Extent.TheVariants.{FirstMovi}
 use Rattle.ffv1_avi.specs.declared.place.Place.{Place}
 use Rattle.ffv1_avi.specs.Chunks.{AviFile, chunks_text, header_chunks}
 use Rattle.ffv1_avi.specs.Files.{file_read, frames_read, no_headers, open_read}
-use Rattle.ffv1_avi.specs.Head.{Head}
-use Rattle.ffv1_avi.specs.Reads.{given, padded, read_on, ◌>>=◌}
+use Rattle.ffv1_reads.specs.Head.{Head}
+use Rattle.ffv1_reads.specs.Reads.{given, read_on, ◌>>=◌}
+use Rattle.ffv1_avi.specs.Padding.{padded}
 use Rattle.ffv1_avi.proofs.FrameLaws.{frames_complete, frames_sound, in_movi}
 use Rattle.ffv1_avi.proofs.HeaderLaws.{first_found, headed, run_some, run_streams}
 use Rattle.ffv1_avi.proofs.OpenLaws.{open_complete, open_sound}
 use Rattle.ffv1_avi.proofs.PartLaws.{parts_text}
-use Rattle.ffv1_avi.proofs.PassedBytes.{read_on_ok}
-use Rattle.ffv1_avi.proofs.ChunkByChunk.{ok_is}
+use Rattle.ffv1_reads.proofs.Results.{read_on_ok}
+use Rattle.ffv1_reads.proofs.Results.{ok_is}
 
 pub file_sound : (file : List ℕ) (w : (Head × List (List ℕ)) × List ℕ) → file_read FirstMovi file ≡ Ok w → AviFile file w.0.0 w.0.1
 file_sound file w h =

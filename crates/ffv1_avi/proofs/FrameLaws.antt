@@ -10,15 +10,18 @@ use Rattle.ffv1_avi.specs.declared.place.Extent.TheVariants.{FirstMovi, EveryRif
 use Rattle.ffv1_avi.specs.declared.place.Place.{Place}
 use Rattle.ffv1_avi.specs.Files.{found_or_on, found_read, frame_found, frame_name, frame_read, frames_read, more_frames, moved, moved_by, movi_found, movi_or_riff, movi_sought, name_or_end, riff_begun, riff_named, sought_on, visit_movi}
 use Rattle.ffv1_avi.specs.Places.{extent_of, first_place, frame_at}
-use Rattle.ffv1_avi.specs.Reads.{Kept, Reading, Stop, content, given, padded, passed, read_on, ◌>>=◌}
+use Rattle.ffv1_reads.specs.Reads.{Kept, Reading, Stop, given, passed, read_on, ◌>>=◌}
+use Rattle.ffv1_avi.specs.Padding.{content, padded}
 use Rattle.ffv1_avi.specs.Streams.{limit}
 use Rattle.ffv1_avi.specs.Walk.{entry_read, is_name, resumed, visited, walk}
 use Rattle.ffv1_avi.proofs.ListWalks.{Complete, Ended, IsPassed, Run, Sound, Taking, entry_complete, walk_complete, walk_sound}
 use Rattle.ffv1_avi.proofs.Fields.{skipped_passed}
-use Rattle.ffv1_avi.proofs.PassedBytes.{content_complete, content_sound, read_on_ok, skip_complete}
+use Rattle.ffv1_avi.proofs.PassedBytes.{content_complete, content_sound, skip_complete}
+use Rattle.ffv1_reads.proofs.Results.{read_on_ok}
 use Rattle.ffv1_avi.proofs.FrameTurns.{frames_step}
 use Rattle.ffv1_avi.proofs.Moves.{frame_step, moved_first, movi_empty}
-use Rattle.ffv1_avi.proofs.ChunkByChunk.{ok_is, some_is, walk_step}
+use Rattle.ffv1_reads.proofs.Results.{ok_is, some_is}
+use Rattle.ffv1_avi.proofs.ChunkByChunk.{walk_step}
 
 -- a chunk that is no list and no frame
 abbrev pub TakesMovi : ℕ → Taking (Unit {0})
@@ -43,7 +46,7 @@ movi_sound stream s e text t rest listed h = on_names (is_name e.name (codes "LI
         absurd (no_some y (ap (λ (m : M). m.0.1) (ok_is ((tt, Some y), text) ((t, None), rest) (rw (p, q, r, z) at h))))
     on_names false false c d p q r z h = skipped_passed {Y = ℕ × ℕ} (TakesMovi stream) s e text t rest (λ bytes. (p, q)) (rw (p, q) at h)
 
-movi_complete : (stream : ℕ) → Complete (visit_movi stream) (TakesMovi stream)
+pub movi_complete : (stream : ℕ) → Complete (visit_movi stream) (TakesMovi stream)
 unfolding visit_movi
 movi_complete stream s e bytes padding t rest listed long odd takes = rw (takes.0, takes.1) (ap (λ z. read_on z (λ _. given (tt, None))) (skip_complete e.size bytes padding rest long odd))
 
@@ -342,7 +345,7 @@ movi_passed stream c more rest is list named =
     ap (λ z. read_on z (λ p. given p.1)) alone
 
 -- a frame is read
-movi_there : (stream : ℕ) (c : Chunk) (more : ℕ) (rest : List ℕ) → IsChunk c → is_named (codes "LIST") c ≡ false → is_named (frame_name stream) c ≡ true → length c.bytes ≤ limit → 0 < length c.bytes → movi_read stream (length (chunk_text c) + more) (chunk_text c ++ rest) ≡ Ok (Some (c.bytes, more), rest)
+pub movi_there : (stream : ℕ) (c : Chunk) (more : ℕ) (rest : List ℕ) → IsChunk c → is_named (codes "LIST") c ≡ false → is_named (frame_name stream) c ≡ true → length c.bytes ≤ limit → 0 < length c.bytes → movi_read stream (length (chunk_text c) + more) (chunk_text c ++ rest) ≡ Ok (Some (c.bytes, more), rest)
 unfolding movi_found visit_movi
 movi_there stream c more rest is list named short some =
     let left = length (chunk_text c) + more in

@@ -3,10 +3,11 @@ use Rattle.std.proofs.Common.{◌≡◌, ℕ, suc, zero, ◌≤◌, ◌<◌, Opt
 use Rattle.ffv1_avi.specs.declared.place.Place.{Place}
 use Rattle.ffv1_avi.specs.Files.{found_read, frame_found, frame_read, frames_read, frames_up_to, more_frames}
 use Rattle.ffv1_avi.specs.Places.{amount, extent_of}
-use Rattle.ffv1_avi.specs.Reads.{Kept, Stop, content, given, read_on}
+use Rattle.ffv1_reads.specs.Reads.{Kept, Stop, given, read_on}
+use Rattle.ffv1_avi.specs.Padding.{content}
 use Rattle.ffv1_avi.proofs.Moves.{frame_ends, frame_less_at}
-use Rattle.ffv1_avi.proofs.PassedBytes.{read_on_ok}
-use Rattle.ffv1_avi.proofs.ChunkByChunk.{ok_is, some_is}
+use Rattle.ffv1_reads.proofs.Results.{read_on_ok}
+use Rattle.ffv1_reads.proofs.Results.{ok_is, some_is}
 
 no_some : {X : Type 0} (x : X) → ◌≡◌ {A = Option X} (Some x) None → ⊥
 no_some x e = absurd (cc)

@@ -6,17 +6,21 @@ use Rattle.ffv1_avi.specs.declared.place.Extent.{Extent}
 use Rattle.ffv1_avi.specs.declared.place.Extent.TheVariants.{FirstMovi, EveryRiff}
 use Rattle.ffv1_avi.specs.Chunks.{AreChunks, AreOthers, Chunk, IsOther, IsStream, SaysOther, chunks_text, is_list, those}
 use Rattle.ffv1_avi.specs.Files.{Headers, extended_read, extended_visited, header_named, header_read, list_skipped, no_headers, stream_known, stream_visited, visit_header}
-use Rattle.ffv1_avi.specs.Head.{Head}
-use Rattle.ffv1_avi.specs.Reads.{Reading, given, padded, passed, read_on, taken, ◌>>=◌}
+use Rattle.ffv1_reads.specs.Head.{Head}
+use Rattle.ffv1_reads.specs.Reads.{Reading, given, passed, read_on, taken, ◌>>=◌}
+use Rattle.ffv1_avi.specs.Padding.{padded}
 use Rattle.ffv1_avi.specs.Streams.{stream_read}
 use Rattle.ffv1_avi.specs.Walk.{is_name}
 use Rattle.ffv1_avi.proofs.InnerLists.{IsList, list_read_complete, list_read_sound, list_skip_complete, list_skip_sound, own_taken}
-use Rattle.ffv1_avi.proofs.ListWalks.{Complete, IsPassed, Run, Sound, Taking, cut_back, cut_front}
+use Rattle.ffv1_avi.proofs.ListWalks.{Complete, IsPassed, Run, Sound, Taking}
+use Rattle.ffv1_reads.proofs.Results.{cut_back, cut_front}
 use Rattle.ffv1_avi.proofs.Fields.{skipped_passed}
-use Rattle.ffv1_avi.proofs.PassedBytes.{passed_complete, passed_sound, read_on_ok, skip_complete, taken_sound}
+use Rattle.ffv1_reads.proofs.WantedBytes.{passed_complete, passed_sound, taken_sound}
+use Rattle.ffv1_reads.proofs.Results.{read_on_ok}
+use Rattle.ffv1_avi.proofs.PassedBytes.{skip_complete}
 use Rattle.ffv1_avi.proofs.StreamLaws.{SaysThat, stream_complete, stream_other, stream_sound}
 use Rattle.ffv1_avi.proofs.TotalLaws.{TakesTotal, extended_complete, extended_sound}
-use Rattle.ffv1_avi.proofs.ChunkByChunk.{ok_is, some_is}
+use Rattle.ffv1_reads.proofs.Results.{ok_is, some_is}
 
 -- a stream's list of these bytes has this head, or none
 pub record StreamBytes (extent : Extent) (bytes : List ℕ) (o : Option Head) : Type 0 where

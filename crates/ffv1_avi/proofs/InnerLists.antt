@@ -2,11 +2,14 @@
 use Rattle.std.proofs.Common.{◌≡◌, ℕ, ◌+◌, ◌-◌, ◌%◌, ◌≤◌, Option, Some, None, Ok, List, ◌++◌, length, take, drop, ap, ◌∙◌, sym, subst, arith, append_assoc, length-append, length-take, length-drop}
 use Rattle.std.proofs.lemmas.List.{take-append-drop}
 use Rattle.ffv1_avi.specs.Chunks.{AreChunks, Chunk, chunks_text}
-use Rattle.ffv1_avi.specs.Reads.{Reading, given, padded, passed, read_on, taken, ◌>>=◌}
+use Rattle.ffv1_reads.specs.Reads.{Reading, given, passed, read_on, taken, ◌>>=◌}
+use Rattle.ffv1_avi.specs.Padding.{padded}
 use Rattle.ffv1_avi.specs.Walk.{Visit, walk, walk_up_to}
 use Rattle.ffv1_avi.proofs.ListWalks.{Complete, Ended, Run, Sound, Taking, walk_complete, walk_sound}
-use Rattle.ffv1_avi.proofs.PassedBytes.{IsContent, passed_complete, passed_sound, read_on_ok, taken_complete}
-use Rattle.ffv1_avi.proofs.ChunkByChunk.{ok_is}
+use Rattle.ffv1_avi.proofs.PassedBytes.{IsContent}
+use Rattle.ffv1_reads.proofs.WantedBytes.{passed_complete, passed_sound, taken_complete}
+use Rattle.ffv1_reads.proofs.Results.{read_on_ok}
+use Rattle.ffv1_reads.proofs.Results.{ok_is}
 
 -- the rest of a list after its own name
 pub list_skip_sound : (size : ℕ) (own more : List ℕ) (p : Unit {0} × List ℕ) → 4 ≤ size → length own ≡ 4 → passed (padded size - 4) more ≡ Ok p → (bytes : List ℕ) × IsContent size (own ++ more) (own ++ bytes) p.1

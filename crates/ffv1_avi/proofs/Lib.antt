@@ -1,9 +1,7 @@
 mod Writing
 mod Sizes
-mod Reading
 mod EndReadings
 mod Contents
-mod LoopReadings
 mod ChunkByChunk
 mod Moves
 mod FrameTurns
@@ -21,9 +19,19 @@ pub mod FrameLaws
 pub mod FileLaws
 pub mod RiffLaws
 pub mod WholeLaws
+pub mod HeaderRuns
+pub mod LaterFrames
+pub mod EveryRiffLaws
 pub mod WrittenLaws
+pub mod WrittenRiffs
 pub mod BeginningLaws
+pub mod EarlyEnds
+pub mod EarlyRiffs
+pub mod EdgeLaws
+pub mod AfterLaws
 pub mod RefusalLaws
 pub mod LongLaws
-pub mod KnownLaws
+pub mod RiffRefusals
+pub mod LongMovis
+pub mod GivenFrames
 mod ReadingFaults

@@ -2,14 +2,16 @@
 use Rattle.std.proofs.Common.{◌≡◌, ℕ, suc, zero, ◌+◌, ◌-◌, ◌%◌, ◌≤◌, ◌&&◌, ◌==◌, nat_lt, Bool, true, false, Option, Some, None, Result, Ok, Err, List, [], ◌∷◌, ◌++◌, length, take, drop, codes, ap, ◌∙◌, sym, subst, arith, refl, append_assoc, length-append, length-take, length-drop, zero-add}
 use Rattle.std.proofs.lemmas.Bool.{eqb-true, ne_eqb, ltb-false, le-ltb}
 use Rattle.std.proofs.lemmas.List.{take-append-drop}
-use Rattle.std.proofs.Math.Seq.{drop-append_seam, take-append_seam}
 use Rattle.byteorder.specs.Endian.{little_number}
 use Rattle.ffv1_avi.specs.declared.chunk.Entry.{Entry}
-use Rattle.ffv1_avi.specs.Reads.{Stop}
+use Rattle.ffv1_reads.specs.Reads.{Stop}
 use Rattle.ffv1_avi.specs.Chunks.{AreChunks, Chunk, IsChunk, chunk_text, chunks_text}
-use Rattle.ffv1_avi.specs.Reads.{padded, read_on}
+use Rattle.ffv1_avi.specs.Padding.{padded}
+use Rattle.ffv1_reads.specs.Reads.{read_on}
 use Rattle.ffv1_avi.specs.Walk.{Visit, entry_judged, entry_read, is_name, resumed, visited, walk, walk_up_to}
-use Rattle.ffv1_avi.proofs.ChunkByChunk.{ok_is, some_is, walk_step}
+use Rattle.ffv1_reads.proofs.Results.{cut_back, cut_front}
+use Rattle.ffv1_reads.proofs.Results.{ok_is, some_is}
+use Rattle.ffv1_avi.proofs.ChunkByChunk.{walk_step}
 
 -- what a state becomes by a chunk of this name and these bytes
 abbrev pub Taking : Type 0 → Type 1
@@ -29,12 +31,6 @@ pub record IsEntry (left : ℕ) (text : List ℕ) (e : Entry) (rest : List ℕ) 
   pub counted : little_number 4 size ≡ e.size
   pub fits : e.left + (8 + padded e.size) ≡ left
   pub listed : is_name e.name (codes "LIST") ≡ true → 4 ≤ e.size
-
-pub cut_front : (n : ℕ) (xs ys : List ℕ) → length xs ≡ n → take n (xs ++ ys) ≡ xs
-cut_front n xs ys long = rw (← long) (take-append_seam xs ys)
-
-pub cut_back : (n : ℕ) (xs ys : List ℕ) → length xs ≡ n → drop n (xs ++ ys) ≡ ys
-cut_back n xs ys long = rw (← long) (drop-append_seam xs ys)
 
 judged_sound : (left : ℕ) (name size text rest : List ℕ) (e : Entry) (a b : Bool) → nat_lt left (8 + padded (little_number 4 size)) ≡ a → (is_name name (codes "LIST") && nat_lt (little_number 4 size) 4) ≡ b →
     length name ≡ 4 → length size ≡ 4 → entry_judged left name (little_number 4 size) text ≡ Ok (Some e, rest) → IsEntry left ((name ++ size) ++ text) e rest

@@ -7,12 +7,13 @@ use Rattle.ffv1_avi.specs.declared.place.Extent.TheVariants.{FirstMovi, EveryRif
 use Rattle.ffv1_avi.specs.declared.place.Place.{Place}
 use Rattle.ffv1_avi.specs.Files.{found_read, frame_found, frame_found_up_to, frame_read, frame_name, found_or_on, moved, moved_by, movi_found, movi_or_riff, movi_sought, name_or_end, riff_begun, riff_judged, riff_list, riff_named, sought_on, visit_movi, visit_riff}
 use Rattle.ffv1_avi.specs.Places.{amount, extent_of, frame_at, movi_at, riff_at}
-use Rattle.ffv1_avi.specs.Reads.{Stop, given, padded, passed, read_on, taken, ◌>>=◌}
+use Rattle.ffv1_reads.specs.Reads.{Stop, given, passed, read_on, taken, ◌>>=◌}
+use Rattle.ffv1_avi.specs.Padding.{padded}
 use Rattle.ffv1_avi.specs.Streams.{limit}
 use Rattle.ffv1_avi.specs.Walk.{Visit, entry_read, is_name, resumed, visited, walk, walk_up_to}
 use Rattle.ffv1_avi.proofs.ListWalks.{entry_sound}
-use Rattle.ffv1_avi.proofs.PassedBytes.{read_on_ok}
-use Rattle.ffv1_avi.proofs.ChunkByChunk.{ok_is, some_is}
+use Rattle.ffv1_reads.proofs.Results.{read_on_ok}
+use Rattle.ffv1_reads.proofs.Results.{ok_is, some_is}
 
 no_some : {X : Type 0} (x : X) → ◌≡◌ {A = Option X} (Some x) None → ⊥
 no_some x e = absurd (cc)

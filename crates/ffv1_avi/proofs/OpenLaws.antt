@@ -5,22 +5,26 @@ use Rattle.std.proofs.lemmas.List.{take-append-drop}
 use Rattle.std.specs.Cmp.Lexicographic.{same_text}
 use Rattle.byteorder.specs.Endian.{little_number}
 use Rattle.ffv1_avi.specs.declared.chunk.Entry.{Entry}
-use Rattle.ffv1_avi.specs.declared.fault.AviFault.TheVariants as fault
+use Rattle.ffv1_reads.specs.declared.fault.FileFault.TheVariants as fault
 use Rattle.ffv1_avi.specs.Chunks.{AreChunks, AreParts, Chunk, Part, chunks_text, header_chunks}
 use Rattle.ffv1_avi.specs.Files.{Headers, begins, list_visited, movi_reached, no_headers, open_read, opened, owed, top_read, visit_top}
-use Rattle.ffv1_avi.specs.Head.{Head}
+use Rattle.ffv1_reads.specs.Head.{Head}
 use Rattle.ffv1_avi.specs.declared.place.Extent.{Extent}
 use Rattle.ffv1_avi.specs.declared.place.Place.{Place}
 use Rattle.ffv1_avi.specs.Places.{first_place}
-use Rattle.ffv1_avi.specs.Reads.{Reading, padded, read_on, refused, taken}
+use Rattle.ffv1_reads.specs.Reads.{Reading, read_on, refused, taken}
+use Rattle.ffv1_avi.specs.Padding.{padded}
 use Rattle.ffv1_avi.specs.Walk.{entry_read, is_name, resumed, visited, walk}
-use Rattle.ffv1_avi.proofs.ListWalks.{Ended, Run, cut_back, cut_front, entry_complete, walk_complete, walk_sound}
+use Rattle.ffv1_avi.proofs.ListWalks.{Ended, Run, entry_complete, walk_complete, walk_sound}
+use Rattle.ffv1_reads.proofs.Results.{cut_back, cut_front}
 use Rattle.ffv1_avi.proofs.Contents.{drop_more, number_taken}
 use Rattle.ffv1_avi.proofs.HeaderLaws.{TakesHeader}
 use Rattle.ffv1_avi.proofs.PartLaws.{chunks_of, parts_of, parts_text}
-use Rattle.ffv1_avi.proofs.PassedBytes.{read_on_ok, taken_complete, taken_sound}
+use Rattle.ffv1_reads.proofs.Results.{read_on_ok}
+use Rattle.ffv1_reads.proofs.WantedBytes.{taken_complete, taken_sound}
 use Rattle.ffv1_avi.proofs.TopLaws.{TakesTop, top_complete, top_sound, top_stop}
-use Rattle.ffv1_avi.proofs.ChunkByChunk.{ok_is, walk_step}
+use Rattle.ffv1_reads.proofs.Results.{ok_is}
+use Rattle.ffv1_avi.proofs.ChunkByChunk.{walk_step}
 
 -- RIFF's chunks up to movi, where it has so many bytes for them, and so many after movi
 pub record IsTop (extent : Extent) (room : ℕ) (text : List ℕ) (y : Head × Place) (rest : List ℕ) : Type 0 where

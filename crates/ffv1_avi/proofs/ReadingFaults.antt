@@ -2,23 +2,24 @@
 use Rattle.std.proofs.Common.{◌≡◌, refl, ℕ, suc, zero, ◌+◌, ◌-◌, ◌%◌, ◌==◌, ◌&&◌, Bool, true, false, nat_lt, nat_le, if◌then◌else◌, Option, Some, None, Result, Ok, Err, List, [], ◌∷◌, length, take, drop, codes, ap, subst}
 use Rattle.byteorder.specs.Endian.{little_number}
 use Rattle.ffv1_wire.specs.Passage.{Passage}
-use Rattle.ffv1_avi.specs.declared.fault.AviFault.{AviFault}
-use Rattle.ffv1_avi.specs.declared.fault.AviFault.TheVariants as avi_fault
+use Rattle.ffv1_reads.specs.declared.fault.FileFault.{FileFault}
+use Rattle.ffv1_reads.specs.declared.fault.FileFault.TheVariants as avi_fault
 use Rattle.ffv1_avi.specs.declared.place.Extent.{Extent}
 use Rattle.ffv1_avi.specs.declared.place.Extent.TheVariants.{FirstMovi, EveryRiff}
 use Rattle.ffv1_avi.specs.declared.place.Place.{Place}
-use Rattle.ffv1_avi.specs.Ends.{AnswersBy, AnswersFrom}
+use Rattle.ffv1_avi.specs.Extents.{AnswersBy, AnswersFrom}
 use Rattle.ffv1_avi.specs.Files.{Headers, begins, extended_read, extended_visited, found_or_on, found_read, frame_found, frame_found_up_to, frame_judged, frame_name, frame_read, header_list, header_named, header_read, list_skipped, list_visited, moved, moved_by, movi_found, movi_or_riff, movi_reached, movi_sought, name_or_end, no_headers, open_read, opened, riff_begun, riff_entered, riff_judged, riff_list, riff_named, sought_on, stream_known, stream_visited, top_read, total_read, visit_extended, visit_header, visit_movi, visit_riff, visit_top}
-use Rattle.ffv1_avi.specs.Head.{Head}
+use Rattle.ffv1_reads.specs.Head.{Head}
 use Rattle.ffv1_avi.specs.Places.{amount, extent_of, frame_at, movi_at, riff_at}
 use Rattle.ffv1_avi.specs.Readers.{is_frame_fault, is_opening_fault}
-use Rattle.ffv1_avi.specs.Reads.{Kept, Looked, Met, Reading, Refused, Short, Stop, Want, content, given, padded, passed, read_on, refused, taken, wanted, ◌>>=◌}
+use Rattle.ffv1_reads.specs.Reads.{Kept, Looked, Met, Reading, Refused, Short, Stop, Want, given, passed, read_on, refused, taken, wanted, ◌>>=◌}
+use Rattle.ffv1_avi.specs.Padding.{content, padded}
 use Rattle.ffv1_avi.specs.Streams.{Format, Known, format_behind, format_in, format_read, format_rest, head_judged, limit, no_video, nothing_known, rates_in, rates_of, rates_read, record_end, skipped, stream_judged, stream_read, visit_field}
 use Rattle.ffv1_avi.specs.Walk.{Visit, entry_judged, entry_read, is_name, resumed, visited, walk, walk_up_to}
 
 -- whatever a reading meets is one of these
-pub record Meets (P : AviFault → Bool) {X : Type 0} (reading : Reading X) : Type 0 where
-  pub only : (text rest : List ℕ) (f : AviFault) → reading text ≡ Err (Met f rest) → P f ≡ true
+pub record Meets (P : FileFault → Bool) {X : Type 0} (reading : Reading X) : Type 0 where
+  pub only : (text rest : List ℕ) (f : FileFault) → reading text ≡ Err (Met f rest) → P f ≡ true
 
 ok_is_no_err : {X : Type 0} (p : X × List ℕ) (s : Stop) (r : Result (X × List ℕ) Stop) → r ≡ Ok p → r ≡ Err s → ⊥
 ok_is_no_err p s r e f = cc
@@ -26,20 +27,20 @@ ok_is_no_err p s r e f = cc
 same_stop : {X : Type 0} (s t : Stop) (r : Result (X × List ℕ) Stop) → r ≡ Err s → r ≡ Err t → s ≡ t
 same_stop s t r e f = cc
 
-short_is_not_met : (w : Want) (f : AviFault) (rest : List ℕ) → Short w ≡ Met f rest → ⊥
+short_is_not_met : (w : Want) (f : FileFault) (rest : List ℕ) → Short w ≡ Met f rest → ⊥
 short_is_not_met w f rest e = cc
 
-same_met : (f g : AviFault) (xs ys : List ℕ) → Met f xs ≡ Met g ys → f ≡ g
+same_met : (f g : FileFault) (xs ys : List ℕ) → Met f xs ≡ Met g ys → f ≡ g
 same_met f g xs ys e = cc
 
-module _ (P : AviFault → Bool) where
+module _ (P : FileFault → Bool) where
   of_given : {X : Type 0} (x : X) → Meets P (given x)
   of_given x = record { only = λ text rest f h. absurd (ok_is_no_err (x, text) (Met f rest) (Ok (x, text)) refl h) }
 
-  of_refused : {X : Type 0} (g : AviFault) → P g ≡ true → Meets P (refused {X = X} g)
+  of_refused : {X : Type 0} (g : FileFault) → P g ≡ true → Meets P (refused {X = X} g)
   of_refused {X = X} g own = record { only = λ text rest f h. subst (λ z. P z ≡ true) (same_met g f text rest (same_stop {X = X} (Met g text) (Met f rest) (Err (Met g text)) refl h)) own }
 
-  by_length : {X : Type 0} (b : Bool) (w : Want) (p : X × List ℕ) (rest : List ℕ) (f : AviFault) → (if b then Err (Short w) else Ok p) ≡ Err (Met f rest) → P f ≡ true
+  by_length : {X : Type 0} (b : Bool) (w : Want) (p : X × List ℕ) (rest : List ℕ) (f : FileFault) → (if b then Err (Short w) else Ok p) ≡ Err (Met f rest) → P f ≡ true
   by_length {X = X} true w p rest f h = absurd (short_is_not_met w f rest (same_stop {X = X} (Short w) (Met f rest) (Err (Short w)) refl h))
   by_length {X = X} false w p rest f h = absurd (ok_is_no_err p (Met f rest) (Ok p) refl h)
 
@@ -49,7 +50,7 @@ module _ (P : AviFault → Bool) where
   of_passed : (n : ℕ) → Meets P (passed n)
   of_passed n = record { only = λ text rest f h. by_length (nat_lt (length text) n) Looked (tt, drop n text) rest f h }
 
-  behind : {X Y : Type 0} (r : Result (X × List ℕ) Stop) (k : X → Reading Y) (rest : List ℕ) (f : AviFault) → (r ≡ Err (Met f rest) → P f ≡ true) → ((x : X) → Meets P (k x)) → read_on r k ≡ Err (Met f rest) → P f ≡ true
+  behind : {X Y : Type 0} (r : Result (X × List ℕ) Stop) (k : X → Reading Y) (rest : List ℕ) (f : FileFault) → (r ≡ Err (Met f rest) → P f ≡ true) → ((x : X) → Meets P (k x)) → read_on r k ≡ Err (Met f rest) → P f ≡ true
   behind (Ok p) k rest f first next h = (next p.0).only p.1 rest f h
   behind {X = X} {Y = Y} (Err s) k rest f first next h = first (ap (λ z. Err z) (same_stop {X = Y} s (Met f rest) (Err s) refl h))
 
@@ -244,7 +245,7 @@ module _ (P : AviFault → Bool) where
     of_name : Meets P (taken 4 >>= λ name. given (Some name))
     of_name = of_both (taken 4) (λ name. given (Some name)) (of_wanted Looked 4) (λ name. of_given (Some name))
 
-    name_only : (owes : ℕ) (text rest : List ℕ) (f : AviFault) → name_or_end owes text ≡ Err (Met f rest) → P f ≡ true
+    name_only : (owes : ℕ) (text rest : List ℕ) (f : FileFault) → name_or_end owes text ≡ Err (Met f rest) → P f ≡ true
     unfolding name_or_end
     name_only zero [] rest f h = absurd (ok_is_no_err {X = Option (List ℕ)} (None, []) (Met f rest) (Ok (None, [])) refl h)
     name_only zero (c ∷ cs) rest f h = of_name.only (c ∷ cs) rest f h
@@ -323,7 +324,7 @@ module _ (P : AviFault → Bool) where
 
   -- a call that is refused by a reading
   of_refusal : {X : Type 0} (reading : Reading X) (old new : Option (List ℕ)) (before after : ℕ) → Meets P reading → P avi_fault.OutOfMemory ≡ true → P avi_fault.Read ≡ true →
-      P avi_fault.Truncated ≡ true → (f : AviFault) → Refused reading old new before after f → P f ≡ true
+      P avi_fault.Truncated ≡ true → (f : FileFault) → Refused reading old new before after f → P f ≡ true
   of_refusal reading old new before after m memory read truncated avi_fault.OutOfMemory h = memory
   of_refusal reading old new before after m memory read truncated avi_fault.NotAvi h = m.only _ _ _ (h.1.is [])
   of_refusal reading old new before after m memory read truncated avi_fault.NoFfv1 h = m.only _ _ _ (h.1.is [])
@@ -333,10 +334,17 @@ module _ (P : AviFault → Bool) where
   of_refusal reading old new before after m memory read truncated avi_fault.TooLarge h = absurd h
   of_refusal reading old new before after m memory read truncated avi_fault.Read h = read
   of_refusal reading old new before after m memory read truncated avi_fault.Write h = absurd h
+  of_refusal reading old new before after m memory read truncated avi_fault.NotMatroska h = m.only _ _ _ (h.1.is [])
+  of_refusal reading old new before after m memory read truncated avi_fault.BadElement h = m.only _ _ _ (h.1.is [])
+  of_refusal reading old new before after m memory read truncated avi_fault.NoTracks h = m.only _ _ _ (h.1.is [])
+  of_refusal reading old new before after m memory read truncated avi_fault.Encoded h = m.only _ _ _ (h.1.is [])
+  of_refusal reading old new before after m memory read truncated avi_fault.Laced h = m.only _ _ _ (h.1.is [])
+  of_refusal reading old new before after m memory read truncated avi_fault.Checksum h = m.only _ _ _ (h.1.is [])
+  of_refusal reading old new before after m memory read truncated avi_fault.Rate h = absurd h
 
   -- or by a reading for which the end of the input is an answer
   of_refusal_by : {X Y : Type 0} (e : Extent) (view : Y → X) (reading : Reading X) (p : Passage) → Meets P reading → P avi_fault.OutOfMemory ≡ true → P avi_fault.Read ≡ true →
-      P avi_fault.Truncated ≡ true → (f : AviFault) → AnswersBy e view reading p (Err f) → P f ≡ true
+      P avi_fault.Truncated ≡ true → (f : FileFault) → AnswersBy e view reading p (Err f) → P f ≡ true
   of_refusal_by FirstMovi view reading p m memory read truncated f h = of_refusal reading p.old p.new p.before p.after m memory read truncated f h
   of_refusal_by EveryRiff view reading p m memory read truncated avi_fault.Read h = read
   of_refusal_by EveryRiff view reading p m memory read truncated avi_fault.OutOfMemory h = memory
@@ -347,13 +355,20 @@ module _ (P : AviFault → Bool) where
   of_refusal_by EveryRiff view reading p m memory read truncated avi_fault.EmptyFrame h = m.only _ _ _ (h.1.is [])
   of_refusal_by EveryRiff view reading p m memory read truncated avi_fault.TooLarge h = absurd h
   of_refusal_by EveryRiff view reading p m memory read truncated avi_fault.Write h = absurd h
+  of_refusal_by EveryRiff view reading p m memory read truncated avi_fault.NotMatroska h = m.only _ _ _ (h.1.is [])
+  of_refusal_by EveryRiff view reading p m memory read truncated avi_fault.BadElement h = m.only _ _ _ (h.1.is [])
+  of_refusal_by EveryRiff view reading p m memory read truncated avi_fault.NoTracks h = m.only _ _ _ (h.1.is [])
+  of_refusal_by EveryRiff view reading p m memory read truncated avi_fault.Encoded h = m.only _ _ _ (h.1.is [])
+  of_refusal_by EveryRiff view reading p m memory read truncated avi_fault.Laced h = m.only _ _ _ (h.1.is [])
+  of_refusal_by EveryRiff view reading p m memory read truncated avi_fault.Checksum h = m.only _ _ _ (h.1.is [])
+  of_refusal_by EveryRiff view reading p m memory read truncated avi_fault.Rate h = absurd h
 
   of_refusal_from : {X Y : Type 0} (place : Place) (view : Y → X) (reading : Reading X) (p : Passage) → Meets P reading → P avi_fault.OutOfMemory ≡ true → P avi_fault.Read ≡ true →
-      P avi_fault.Truncated ≡ true → (f : AviFault) → AnswersFrom place view reading p (Err f) → P f ≡ true
+      P avi_fault.Truncated ≡ true → (f : FileFault) → AnswersFrom place view reading p (Err f) → P f ≡ true
   of_refusal_from place view reading p m memory read truncated f h = of_refusal_by (extent_of place) view reading p m memory read truncated f h
 
-pub opening_own : (e : Extent) (old new : Option (List ℕ)) (before after : ℕ) (f : AviFault) → Refused (open_read e) old new before after f → is_opening_fault f ≡ true
+pub opening_own : (e : Extent) (old new : Option (List ℕ)) (before after : ℕ) (f : FileFault) → Refused (open_read e) old new before after f → is_opening_fault f ≡ true
 opening_own e old new before after f h = of_refusal is_opening_fault (open_read e) old new before after (of_open is_opening_fault refl refl refl refl e) refl refl refl f h
 
-pub frame_own : {Y : Type 0} (place : Place) (view : Y → Option (List ℕ × Place)) (p : Passage) (f : AviFault) → AnswersFrom place view (frame_read place) p (Err f) → is_frame_fault f ≡ true
+pub frame_own : {Y : Type 0} (place : Place) (view : Y → Option (List ℕ × Place)) (p : Passage) (f : FileFault) → AnswersFrom place view (frame_read place) p (Err f) → is_frame_fault f ≡ true
 frame_own place view p f h = of_refusal_from is_frame_fault place view (frame_read place) p (of_frame is_frame_fault refl refl refl refl place) refl refl refl f h

@@ -3,19 +3,21 @@ use Rattle.std.proofs.Common.{◌≡◌, ℕ, ◌+◌, ◌-◌, ◌≤◌, ◌<�
 use Rattle.std.proofs.lemmas.Bool.{le-leb, le-ltb, lt-ltb, ne_eqb}
 use Rattle.byteorder.specs.Endian.{little_number}
 use Rattle.ffv1_avi.specs.declared.chunk.Entry.{Entry}
-use Rattle.ffv1_avi.specs.declared.fault.AviFault.TheVariants as fault
+use Rattle.ffv1_reads.specs.declared.fault.FileFault.TheVariants as fault
 use Rattle.ffv1_avi.specs.Chunks.{AreChunks, AreParts, Chunk, MoviBegins, Part, chunk_text, chunks_text, header_chunks, is_named, streams, those}
 use Rattle.ffv1_avi.specs.Files.{begins, found_or_on, found_read, frame_read, frame_found, list_visited, movi_found, no_headers, open_read, opened, top_read, visit_movi, visit_top}
 use Rattle.ffv1_avi.specs.declared.place.Extent.TheVariants.{FirstMovi}
-use Rattle.ffv1_avi.specs.Reads.{Met, given, padded, read_on, refused, taken}
+use Rattle.ffv1_reads.specs.Reads.{Met, given, read_on, refused, taken}
+use Rattle.ffv1_avi.specs.Padding.{padded}
 use Rattle.ffv1_avi.specs.Walk.{entry_read, is_name, resumed, visited, walk}
-use Rattle.ffv1_avi.proofs.ListWalks.{cut_back, cut_front, entry_complete, walk_complete}
+use Rattle.ffv1_reads.proofs.Results.{cut_back, cut_front}
+use Rattle.ffv1_avi.proofs.ListWalks.{entry_complete, walk_complete}
 use Rattle.ffv1_avi.proofs.Contents.{number_taken}
 use Rattle.ffv1_avi.proofs.FrameLaws.{frames_passed, in_movi}
 use Rattle.ffv1_avi.proofs.Moves.{frame_step}
 use Rattle.ffv1_avi.proofs.HeaderLaws.{run_none}
 use Rattle.ffv1_avi.proofs.PartLaws.{chunks_of, parts_text}
-use Rattle.ffv1_avi.proofs.PassedBytes.{taken_complete}
+use Rattle.ffv1_reads.proofs.WantedBytes.{taken_complete}
 use Rattle.ffv1_avi.proofs.TopLaws.{TakesTop, top_complete}
 use Rattle.ffv1_avi.proofs.ChunkByChunk.{walk_step}
 

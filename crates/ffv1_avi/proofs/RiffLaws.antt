@@ -10,17 +10,21 @@ use Rattle.ffv1_avi.specs.declared.place.Place.{Place}
 use Rattle.ffv1_avi.specs.Chunks.{AreChunks, AreFrames, AreSized, Chunk, chunk_text, chunks_text, is_named, those}
 use Rattle.ffv1_avi.specs.Files.{frame_name, frames_read, moved, movi_or_riff, movi_sought, name_or_end, riff_begun, riff_judged, riff_list, riff_named, visit_riff}
 use Rattle.ffv1_avi.specs.Places.{amount, movi_at, riff_at}
-use Rattle.ffv1_avi.specs.Reads.{given, padded, passed, read_on, taken, ◌>>=◌}
+use Rattle.ffv1_reads.specs.Reads.{given, passed, read_on, taken, ◌>>=◌}
+use Rattle.ffv1_avi.specs.Padding.{padded}
 use Rattle.ffv1_avi.specs.Riffs.{AreRiffs, AreSections, IsRiff, IsSection, Riff, Section, movi_chunks, movis, riff_movis, riff_text, riffs_text, section_text, sections_text}
 use Rattle.ffv1_avi.specs.Walk.{is_name, walk}
 use Rattle.ffv1_avi.proofs.Contents.{number_taken}
 use Rattle.ffv1_avi.proofs.Fields.{skipped_passed}
 use Rattle.ffv1_avi.proofs.FrameLaws.{MoviPart, chunks_both, frames_after, frames_none, frames_on, movi_part, placed, those_both}
 use Rattle.ffv1_avi.proofs.InnerLists.{list_skip_complete, list_skip_sound, own_taken}
-use Rattle.ffv1_avi.proofs.ListWalks.{Complete, Ended, IsPassed, Run, Sound, Taking, cut_front, walk_sound}
+use Rattle.ffv1_avi.proofs.ListWalks.{Complete, Ended, IsPassed, Run, Sound, Taking, walk_sound}
+use Rattle.ffv1_reads.proofs.Results.{cut_front}
 use Rattle.ffv1_avi.proofs.Moves.{moved_every, movi_empty}
-use Rattle.ffv1_avi.proofs.PassedBytes.{read_on_ok, skip_complete, taken_sound}
-use Rattle.ffv1_avi.proofs.ChunkByChunk.{ok_is, some_is}
+use Rattle.ffv1_reads.proofs.Results.{read_on_ok}
+use Rattle.ffv1_avi.proofs.PassedBytes.{skip_complete}
+use Rattle.ffv1_reads.proofs.WantedBytes.{taken_sound}
+use Rattle.ffv1_reads.proofs.Results.{ok_is, some_is}
 
 no_some : {X : Type 0} (x : X) → ◌≡◌ {A = Option X} (Some x) None → ⊥
 no_some x e = absurd (cc)
@@ -254,7 +258,7 @@ sized_both : (fs gs : List (List ℕ)) → AreSized fs → AreSized gs → AreSi
 sized_both [] gs h k = k
 sized_both (f ∷ fs) gs h k = (h.0, h.1, sized_both fs gs h.2 k)
 
-map_both : (xs ys : List Chunk) → map (λ (c : Chunk). c.bytes) (xs ++ ys) ≡ map (λ (c : Chunk). c.bytes) xs ++ map (λ (c : Chunk). c.bytes) ys
+pub map_both : (xs ys : List Chunk) → map (λ (c : Chunk). c.bytes) (xs ++ ys) ≡ map (λ (c : Chunk). c.bytes) xs ++ map (λ (c : Chunk). c.bytes) ys
 map_both [] ys = refl
 map_both (x ∷ xs) ys = ap (λ z. x.bytes ∷ z) (map_both xs ys)
 

@@ -2,21 +2,25 @@
 use Rattle.std.proofs.Common.{◌≡◌, ℕ, ◌-◌, ◌≤◌, Bool, true, false, Option, Some, None, Result, Ok, List, ◌++◌, length, take, drop, codes, ap, ◌∙◌, sym, subst, arith, refl, append_assoc, length-append, length-drop}
 use Rattle.std.specs.Cmp.Lexicographic.{same_text}
 use Rattle.ffv1_avi.specs.declared.chunk.Entry.{Entry}
-use Rattle.ffv1_avi.specs.Reads.{Stop}
+use Rattle.ffv1_reads.specs.Reads.{Stop}
 use Rattle.ffv1_avi.specs.Chunks.{AreChunks, Chunk, chunks_text}
 use Rattle.ffv1_avi.specs.Files.{Headers, header_read, list_skipped, list_visited, movi_reached, owed, visit_top}
-use Rattle.ffv1_avi.specs.Head.{Head}
+use Rattle.ffv1_reads.specs.Head.{Head}
 use Rattle.ffv1_avi.specs.declared.place.Extent.{Extent}
 use Rattle.ffv1_avi.specs.declared.place.Place.{Place}
 use Rattle.ffv1_avi.specs.Places.{first_place}
-use Rattle.ffv1_avi.specs.Reads.{Reading, given, padded, passed, read_on, taken, ◌>>=◌}
+use Rattle.ffv1_reads.specs.Reads.{Reading, given, passed, read_on, taken, ◌>>=◌}
+use Rattle.ffv1_avi.specs.Padding.{padded}
 use Rattle.ffv1_avi.specs.Walk.{is_name}
-use Rattle.ffv1_avi.proofs.ListWalks.{Complete, IsPassed, Run, Sound, Taking, cut_back, cut_front}
+use Rattle.ffv1_avi.proofs.ListWalks.{Complete, IsPassed, Run, Sound, Taking}
+use Rattle.ffv1_reads.proofs.Results.{cut_back, cut_front}
 use Rattle.ffv1_avi.proofs.Fields.{skipped_passed}
 use Rattle.ffv1_avi.proofs.HeaderLaws.{TakesHeader, header_read_complete, header_read_sound}
 use Rattle.ffv1_avi.proofs.InnerLists.{list_skip_complete, list_skip_sound, own_taken}
-use Rattle.ffv1_avi.proofs.PassedBytes.{read_on_ok, skip_complete, taken_sound}
-use Rattle.ffv1_avi.proofs.ChunkByChunk.{ok_is, some_is}
+use Rattle.ffv1_reads.proofs.Results.{read_on_ok}
+use Rattle.ffv1_avi.proofs.PassedBytes.{skip_complete}
+use Rattle.ffv1_reads.proofs.WantedBytes.{taken_sound}
+use Rattle.ffv1_reads.proofs.Results.{ok_is, some_is}
 
 abbrev pub TopTakes : Extent → Bool → Bool → Bool → Headers → List ℕ → Headers → Type 0
 TopTakes extent false h m s bytes t = t ≡ s

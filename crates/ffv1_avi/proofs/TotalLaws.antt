@@ -3,14 +3,17 @@ use Rattle.std.proofs.Common.{◌≡◌, ℕ, ◌-◌, ◌%◌, ◌≤◌, ◌<�
 use Rattle.std.proofs.lemmas.Bool.{le-ltb, lt-ltb, ltb-false, ltb-true}
 use Rattle.byteorder.specs.Endian.{little_number}
 use Rattle.ffv1_avi.specs.Files.{extended_read, total_read, visit_extended}
-use Rattle.ffv1_avi.specs.Reads.{given, padded, passed, read_on, taken, ◌>>=◌}
+use Rattle.ffv1_reads.specs.Reads.{given, passed, read_on, taken, ◌>>=◌}
+use Rattle.ffv1_avi.specs.Padding.{padded}
 use Rattle.ffv1_avi.specs.Walk.{is_name}
 use Rattle.ffv1_avi.proofs.Contents.{number_front, number_taken}
 use Rattle.ffv1_avi.proofs.Fields.{skipped_passed}
 use Rattle.ffv1_avi.proofs.InnerLists.{IsList, list_read_complete, list_read_sound, list_skip_complete, list_skip_sound, own_taken}
 use Rattle.ffv1_avi.proofs.ListWalks.{Complete, IsPassed, Run, Sound, Taking}
-use Rattle.ffv1_avi.proofs.PassedBytes.{read_on_ok, skip_complete, taken_sound}
-use Rattle.ffv1_avi.proofs.ChunkByChunk.{ok_is}
+use Rattle.ffv1_reads.proofs.Results.{read_on_ok}
+use Rattle.ffv1_avi.proofs.PassedBytes.{skip_complete}
+use Rattle.ffv1_reads.proofs.WantedBytes.{taken_sound}
+use Rattle.ffv1_reads.proofs.Results.{ok_is}
 use Rattle.ffv1_avi.specs.Chunks.{AreChunks, Chunk, chunks_text, total_next}
 
 abbrev pub TotalTakes : Bool → Option ℕ → List ℕ → Option ℕ → Type 0

@@ -6,9 +6,9 @@ use Rattle.ffv1_avi.specs.declared.place.Extent.TheVariants.{EveryRiff}
 use Rattle.ffv1_avi.specs.declared.place.Place.{Place}
 use Rattle.ffv1_avi.specs.Chunks.{AreChunks, AreFrames, Chunk, chunks_text, first_of, header_chunks, is_list, is_named, those, total_next}
 use Rattle.ffv1_avi.specs.Files.{Headers, file_read, frame_name, frames_read, no_headers, open_read, owed, stream_known}
-use Rattle.ffv1_avi.specs.Head.{Head}
+use Rattle.ffv1_reads.specs.Head.{Head}
 use Rattle.ffv1_avi.specs.Places.{first_place}
-use Rattle.ffv1_avi.specs.Reads.{given, ◌>>=◌}
+use Rattle.ffv1_reads.specs.Reads.{given, ◌>>=◌}
 use Rattle.ffv1_avi.specs.Riffs.{AreExtended, RiffFile, is_total, movis, riff_movis, riffs_text, sections_text, total, total_of}
 use Rattle.ffv1_avi.specs.Walk.{is_name}
 use Rattle.ffv1_avi.proofs.FrameLaws.{movi_part, placed, those_both}
@@ -16,11 +16,11 @@ use Rattle.ffv1_avi.proofs.HeaderLaws.{StreamTakes, TakesHeader, run_streams}
 use Rattle.ffv1_avi.proofs.ListWalks.{Run}
 use Rattle.ffv1_avi.proofs.OpenLaws.{open_sound}
 use Rattle.ffv1_avi.proofs.PartLaws.{parts_text}
-use Rattle.ffv1_avi.proofs.PassedBytes.{read_on_ok}
+use Rattle.ffv1_reads.proofs.Results.{read_on_ok}
 use Rattle.ffv1_avi.proofs.RiffLaws.{after_sound, chunks_even, framed_both}
 use Rattle.ffv1_avi.proofs.StreamLaws.{one_name}
 use Rattle.ffv1_avi.proofs.TotalLaws.{TakesTotal}
-use Rattle.ffv1_avi.proofs.ChunkByChunk.{ok_is}
+use Rattle.ffv1_reads.proofs.Results.{ok_is}
 
 -- the number of frames after a chunk that may say it
 abbrev pub total_after : Option ℕ → Option Chunk → Option ℕ
@@ -28,12 +28,12 @@ total_after (Some n) c = Some n
 total_after None None = None
 total_after None (Some c) = Some (little_number 4 c.bytes)
 
-total_twice : (n : Option ℕ) (xs ys : List Chunk) → total_after (total_after n (first_of xs)) (first_of ys) ≡ total_after n (first_of (xs ++ ys))
+pub total_twice : (n : Option ℕ) (xs ys : List Chunk) → total_after (total_after n (first_of xs)) (first_of ys) ≡ total_after n (first_of (xs ++ ys))
 total_twice (Some n) xs ys = refl
 total_twice None [] ys = refl
 total_twice None (x ∷ xs) ys = refl
 
-total_nothing : (n : Option ℕ) → n ≡ total_after n None
+pub total_nothing : (n : Option ℕ) → n ≡ total_after n None
 total_nothing None = refl
 total_nothing (Some n) = refl
 
@@ -43,7 +43,7 @@ next_total (Some n) c b p q = refl
 next_total None c true p q = let room : 4 ≤ length c.bytes = leb-true _ _ p in rw (q, p, le-ltb _ _ room) refl
 next_total None c false p q = let few : length c.bytes < 4 = leb-false _ _ p in rw (q, p, lt-ltb _ _ few) refl
 
-run_total : (cs : List Chunk) (n m : Option ℕ) → Run TakesTotal n cs m → m ≡ total_after n (first_of (those is_total cs))
+pub run_total : (cs : List Chunk) (n m : Option ℕ) → Run TakesTotal n cs m → m ≡ total_after n (first_of (those is_total cs))
 run_total [] n m run = run ∙ total_nothing n
 run_total (c ∷ cs) n m run = on_name (is_named (codes "dmlh") c) refl run.0 run.1 (run_total cs run.0 m run.2)
   where
@@ -112,7 +112,7 @@ run_extended (c ∷ cs) s t run =
         extending has.0 has.1 has.2 more list says
     on_list true false false p q r m takes more = passing m (ap (λ (z : Headers). z.frames) (rw (p, q, r) at takes)) (rw (p, r) refl) more
 
-owed_total : (c : Option Chunk) → owed (total_after None c) ≡ total_of c
+pub owed_total : (c : Option Chunk) → owed (total_after None c) ≡ total_of c
 owed_total None = refl
 owed_total (Some c) = refl
 

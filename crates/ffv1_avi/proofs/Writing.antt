@@ -5,8 +5,8 @@ use Rattle.std.proofs.Math.Seq.{take-append-add, take-suc}
 use Rattle.std.proofs.lemmas.List.{take-append-le, take-append-drop}
 use Rattle.std.specs.Io.KnownBytes.{Appends}
 use Rattle.ffv1_wire.specs.Writes.{AppendsBeginning}
-use Rattle.ffv1_avi.specs.declared.fault.AviFault.{AviFault}
-use Rattle.ffv1_avi.specs.declared.fault.AviFault.TheVariants as fault
+use Rattle.ffv1_reads.specs.declared.fault.FileFault.{FileFault}
+use Rattle.ffv1_reads.specs.declared.fault.FileFault.TheVariants as fault
 use Rattle.ffv1_wire.specs.Passage.{between}
 use Rattle.ffv1_avi.specs.Writes.{Stopped, Writes}
 
@@ -36,7 +36,7 @@ beginning_later a b c xs ys h k =
     let P : List ℕ → Type 0 = λ z. Appends a c z in
     (length xs + k.0, longer, subst P (sym (take-append-add xs ys k.0)) (appends_then a b c xs (take k.0 ys) h k.2))
 
-stopped_later : (a b c : Option (List ℕ)) (m n : ℕ) (xs ys : List ℕ) (f : AviFault) → Appends a b xs → Stopped b c m n ys f → Stopped a c m n (xs ++ ys) f
+stopped_later : (a b c : Option (List ℕ)) (m n : ℕ) (xs ys : List ℕ) (f : FileFault) → Appends a b xs → Stopped b c m n ys f → Stopped a c m n (xs ++ ys) f
 stopped_later a b c m n xs ys fault.Write h k = (k.0, beginning_later a b c xs ys h k.1)
 stopped_later a b c m n xs ys fault.OutOfMemory h k = absurd k
 stopped_later a b c m n xs ys fault.NotAvi h k = absurd k
@@ -46,9 +46,16 @@ stopped_later a b c m n xs ys fault.ChunkTooLong h k = absurd k
 stopped_later a b c m n xs ys fault.EmptyFrame h k = absurd k
 stopped_later a b c m n xs ys fault.TooLarge h k = absurd k
 stopped_later a b c m n xs ys fault.Read h k = absurd k
+stopped_later a b c m n xs ys fault.NotMatroska h k = absurd k
+stopped_later a b c m n xs ys fault.BadElement h k = absurd k
+stopped_later a b c m n xs ys fault.NoTracks h k = absurd k
+stopped_later a b c m n xs ys fault.Encoded h k = absurd k
+stopped_later a b c m n xs ys fault.Laced h k = absurd k
+stopped_later a b c m n xs ys fault.Checksum h k = absurd k
+stopped_later a b c m n xs ys fault.Rate h k = absurd k
 
 -- a write that stopped wrote a beginning of more
-pub writes_stop : (a b : Option (List ℕ)) (m n : ℕ) (xs ys : List ℕ) (f : AviFault) → Writes (between a b m n) xs (Err f) → Writes (between a b m n) (xs ++ ys) (Err f)
+pub writes_stop : (a b : Option (List ℕ)) (m n : ℕ) (xs ys : List ℕ) (f : FileFault) → Writes (between a b m n) xs (Err f) → Writes (between a b m n) (xs ++ ys) (Err f)
 writes_stop a b m n xs ys fault.Write k = (k.0, beginning_sooner a b xs ys k.1)
 writes_stop a b m n xs ys fault.OutOfMemory k = absurd k
 writes_stop a b m n xs ys fault.NotAvi k = absurd k
@@ -58,9 +65,16 @@ writes_stop a b m n xs ys fault.ChunkTooLong k = absurd k
 writes_stop a b m n xs ys fault.EmptyFrame k = absurd k
 writes_stop a b m n xs ys fault.TooLarge k = absurd k
 writes_stop a b m n xs ys fault.Read k = absurd k
+writes_stop a b m n xs ys fault.NotMatroska k = absurd k
+writes_stop a b m n xs ys fault.BadElement k = absurd k
+writes_stop a b m n xs ys fault.NoTracks k = absurd k
+writes_stop a b m n xs ys fault.Encoded k = absurd k
+writes_stop a b m n xs ys fault.Laced k = absurd k
+writes_stop a b m n xs ys fault.Checksum k = absurd k
+writes_stop a b m n xs ys fault.Rate k = absurd k
 
 -- a call that writes behind bytes that were written
-pub writes_then : (a b c : Option (List ℕ)) (l m n : ℕ) (xs ys : List ℕ) (r : Result (Unit {0}) AviFault) → m ≡ l → Appends a b xs → Writes (between b c m n) ys r → Writes (between a c l n) (xs ++ ys) r
+pub writes_then : (a b c : Option (List ℕ)) (l m n : ℕ) (xs ys : List ℕ) (r : Result (Unit {0}) FileFault) → m ≡ l → Appends a b xs → Writes (between b c m n) ys r → Writes (between a c l n) (xs ++ ys) r
 writes_then a b c l m n xs ys (Ok u) same h k = (k.0 ∙ same, appends_then a b c xs ys h k.1)
 writes_then a b c l m n xs ys (Err f) same h k = rw (← same) (stopped_later a b c m n xs ys f h k)
 
@@ -79,7 +93,7 @@ pieces_then f xs i d a b c inside h k =
     subst P e (appends_then a b c _ _ h k)
 
 -- the writing of a piece stopped
-pub pieces_stop : {X : Type 0} (f : X → List ℕ) (xs : List X) (i : ℕ) (d : X) (a b c : Option (List ℕ)) (l m n : ℕ) (e : AviFault) → i < length xs → m ≡ l → Appends a b (flat_map f (take i xs)) →
+pub pieces_stop : {X : Type 0} (f : X → List ℕ) (xs : List X) (i : ℕ) (d : X) (a b c : Option (List ℕ)) (l m n : ℕ) (e : FileFault) → i < length xs → m ≡ l → Appends a b (flat_map f (take i xs)) →
     Writes (between b c m n) (f (get_or xs i d)) (Err e) → Writes (between a c l n) (flat_map f xs) (Err e)
 pieces_stop f xs i d a b c l m n e inside same h k =
     let P : List ℕ → Type 0 = λ z. Writes (between a c l n) z (Err e) in
@@ -87,5 +101,5 @@ pieces_stop f xs i d a b c l m n e inside same h k =
     subst P all (writes_stop a c l n _ _ e (writes_then a b c l m n _ _ (Err e) same h k))
 
 -- a write that stopped behind bytes that were written
-pub stops_then : (a b c : Option (List ℕ)) (l m n : ℕ) (xs ys : List ℕ) (f : AviFault) → m ≡ l → Appends a b xs → Writes (between b c m n) ys (Err f) → Writes (between a c l n) (xs ++ ys) (Err f)
+pub stops_then : (a b c : Option (List ℕ)) (l m n : ℕ) (xs ys : List ℕ) (f : FileFault) → m ≡ l → Appends a b xs → Writes (between b c m n) ys (Err f) → Writes (between a c l n) (xs ++ ys) (Err f)
 stops_then a b c l m n xs ys f same h k = rw (← same) (stopped_later a b c m n xs ys f h k)

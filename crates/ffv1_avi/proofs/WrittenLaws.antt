@@ -6,36 +6,37 @@ use Rattle.std.proofs.lemmas.List.Sums.{sum_by-cons}
 use Rattle.byteorder.specs.Endian.{little_number}
 use Rattle.byteorder.specs.Numbers.{little_number-reads_back}
 use Rattle.ffv1_avi.specs.Chunks.{AreFrames, AreSized, AviFile, Chunk, IsChunk, IsPart, IsStream, IsWritable, Part, Says, chunk_text, chunks_text, part_chunk}
-use Rattle.ffv1_avi.specs.Reads.{Stop}
-use Rattle.ffv1_avi.specs.declared.place.Extent.TheVariants.{FirstMovi}
-use Rattle.ffv1_avi.specs.Head.{Head}
-use Rattle.ffv1_avi.specs.Reads.{padded}
-use Rattle.ffv1_avi.specs.Streams.{limit}
+use Rattle.ffv1_reads.specs.Reads.{Stop}
+use Rattle.ffv1_avi.specs.declared.place.Extent.{Extent}
+use Rattle.ffv1_avi.specs.declared.place.Extent.TheVariants.{FirstMovi, EveryRiff}
+use Rattle.ffv1_reads.specs.Head.{Head}
+use Rattle.ffv1_avi.specs.Padding.{padded}
+use Rattle.ffv1_avi.specs.Streams.{limit, record_end}
 use Rattle.ffv1_avi.specs.Written.{avih, file_of, format_size, frame_chunk, frame_size, front, head_text, movi, movi_size, number, padding, riff_size, spelled, strf, strh}
 use Rattle.ffv1_avi.proofs.PartLaws.{parts_text}
 
 -- a number of 32 bits is read back
-back : (n : ℕ) → n < 2 ^ 32 → little_number 4 (number n) ≡ n
+pub back : (n : ℕ) → n < 2 ^ 32 → little_number 4 (number n) ≡ n
 back n h = little_number-reads_back 4 n [] h
 
 -- a frame's chunk
-abbrev frame_of : List ℕ → Chunk
+abbrev pub frame_of : List ℕ → Chunk
 frame_of frame = record { name = codes "00dc"; size = number (length frame); bytes = frame; padding = padding (length frame) }
 
 frame_is : (frame : List ℕ) → length frame ≤ limit → IsChunk (frame_of frame)
 frame_is frame short = record { named = refl; sized = refl; counted = back (length frame) (omega (arith, short)); padded = length-replicate (length frame % 2) 0; listed = λ l. absurd (cc) }
 
-frames_text : (frames : List (List ℕ)) → chunks_text (map frame_of frames) ≡ flat_map frame_chunk frames
+pub frames_text : (frames : List (List ℕ)) → chunks_text (map frame_of frames) ≡ flat_map frame_chunk frames
 frames_text [] = refl
 frames_text (f ∷ fs) = ap (λ z. frame_chunk f ++ z) (frames_text fs)
 
-frames_are : (frames : List (List ℕ)) → AreSized frames → AreFrames (codes "00dc") (map frame_of frames) frames
+pub frames_are : (frames : List (List ℕ)) → AreSized frames → AreFrames (codes "00dc") (map frame_of frames) frames
 frames_are [] sized = record { each = tt; no_list = refl; those_of = refl; sized = tt }
 frames_are (f ∷ fs) sized =
     let more = frames_are fs sized.2 in
     record { each = (frame_is f sized.1, more.each); no_list = more.no_list; those_of = ap (λ z. f ∷ z) more.those_of; sized = sized }
 
-frames_long : (frames : List (List ℕ)) → AreSized frames → (4 + length (chunks_text (map frame_of frames)) ≡ movi_size frames) × (movi_size frames % 2 ≡ 0)
+pub frames_long : (frames : List (List ℕ)) → AreSized frames → (4 + length (chunks_text (map frame_of frames)) ≡ movi_size frames) × (movi_size frames % 2 ≡ 0)
 frames_long [] sized = (refl, refl)
 frames_long (f ∷ fs) sized =
     let more = frames_long fs sized.2 in
@@ -48,22 +49,22 @@ frames_long (f ∷ fs) sized =
     (omega (arith, more.0, whole, size, both), omega (arith, more.1, whole))
 
 -- the chunks of the written head
-abbrev avih_of : Head → ℕ → Chunk
+abbrev pub avih_of : Head → ℕ → Chunk
 avih_of head count = record { name = codes "avih"; size = number 56; bytes = spelled (drop 2 (avih head count)); padding = [] }
 
-abbrev strh_of : Head → ℕ → Chunk
+abbrev pub strh_of : Head → ℕ → Chunk
 strh_of head count = record { name = codes "strh"; size = number 56; bytes = spelled (drop 2 (strh head count)); padding = [] }
 
-abbrev strf_of : Head → Chunk
+abbrev pub strf_of : Head → Chunk
 strf_of head = record { name = codes "strf"; size = number (40 + length head.config_record); bytes = spelled (drop 2 (strf head)) ++ head.config_record; padding = padding (40 + length head.config_record) }
 
-abbrev fields_of : Head → ℕ → List Chunk
+abbrev pub fields_of : Head → ℕ → List Chunk
 fields_of head count = strh_of head count ∷ strf_of head ∷ []
 
-abbrev stream_of : Head → ℕ → Chunk
+abbrev pub stream_of : Head → ℕ → Chunk
 stream_of head count = record { name = codes "LIST"; size = number (76 + format_size head); bytes = codes "strl" ++ chunks_text (fields_of head count); padding = [] }
 
-abbrev header_of : Head → ℕ → Part
+abbrev pub header_of : Head → ℕ → Part
 header_of head count = Part.Header (number (152 + format_size head)) (avih_of head count ∷ stream_of head count ∷ []) []
 
 avih_is : (head : Head) (count : ℕ) → IsChunk (avih_of head count)
@@ -115,21 +116,21 @@ header_long head count =
     let both : length (chunks_text chunks) ≡ length (chunk_text (avih_of head count)) + length (chunks_text (stream_of head count ∷ [])) = length-append (chunk_text (avih_of head count)) (chunks_text (stream_of head count ∷ [])) in
     length-append (codes "hdrl") (chunks_text chunks) ∙ (omega (arith, avih_long, alone, both))
 
-header_is : (head : Head) (count : ℕ) → 40 + length head.config_record ≤ limit → IsPart (header_of head count)
+pub header_is : (head : Head) (count : ℕ) → 40 + length head.config_record ≤ limit → IsPart (header_of head count)
 header_is head count short =
     let long = header_long head count in
     let is : IsChunk (part_chunk (header_of head count)) = record { named = refl; sized = refl; counted = back (152 + format_size head) (omega (arith, short)) ∙ sym long; padded = sym (ap (λ n. n % 2) long ∙ (omega arith)); listed = λ l. (omega (arith, long)) } in
     (is, (avih_is head count, (stream_chunk head count short, tt)))
 
-parts_long : (head : Head) (count : ℕ) → length (parts_text (header_of head count ∷ [])) ≡ 160 + format_size head
+pub parts_long : (head : Head) (count : ℕ) → length (parts_text (header_of head count ∷ [])) ≡ 160 + format_size head
 parts_long head count =
     let c = part_chunk (header_of head count) in
     let front : length (c.name ++ c.size) ≡ 8 = refl in
     ap length (append-nil (chunk_text c) ∙ append-nil ((c.name ++ c.size) ++ c.bytes)) ∙ length-append (c.name ++ c.size) c.bytes ∙ (omega (arith, front, header_long head count))
 
 -- what the written stream says
-written_says : (head : Head) (frames : List (List ℕ)) (count : ℕ) → IsWritable head frames → Says FirstMovi (fields_of head count) head
-written_says head frames count is =
+written_says : (extent : Extent) (head : Head) (frames : List (List ℕ)) (count : ℕ) → IsWritable head frames → Says extent (fields_of head count) head
+written_says extent head frames count is =
     let rate = back head.rate is.rate in
     let scale = back head.scale is.scale in
     let width = back head.width is.width in
@@ -137,14 +138,19 @@ written_says head frames count is =
     let room : nat_le 40 (length (strf_of head).bytes) ≡ true = le-leb _ _ (omega (arith, strf_long head)) in
     let short : length (strf_of head).bytes ≤ limit = omega (arith, strf_long head, is.short) in
     let whole : take (length (strf_of head).bytes - 40) head.config_record ≡ head.config_record = take_all (length (strf_of head).bytes - 40) head.config_record (omega (arith, strf_long head)) in
-    record { header = strh_of head count; format = strf_of head; first_header = refl; first_format = refl; short = short; video = rw (rate, scale) refl; ffv1 = rw (room, width, height, whole) refl; both = is.both }
+    record { header = strh_of head count; format = strf_of head; first_header = refl; first_format = refl; short = short; video = rw (rate, scale) refl; ffv1 = rw (room, width, height, to_end extent, whole) refl; both = is.both }
+  where
+    -- biSize leaves the record out
+    to_end : (x : Extent) → record_end x (little_number 4 (strf_of head).bytes) (length (strf_of head).bytes) ≡ length (strf_of head).bytes
+    to_end FirstMovi = refl
+    to_end EveryRiff = refl
 
-written_stream : (head : Head) (frames : List (List ℕ)) (count : ℕ) → IsWritable head frames → IsStream FirstMovi (stream_of head count) head
-written_stream head frames count is =
-    record { fields = fields_of head count; bytes = refl; each = (strh_is head count, (strf_is head is.short, tt)); says = written_says head frames count is }
+pub written_stream : (extent : Extent) (head : Head) (frames : List (List ℕ)) (count : ℕ) → IsWritable head frames → IsStream extent (stream_of head count) head
+written_stream extent head frames count is =
+    record { fields = fields_of head count; bytes = refl; each = (strh_is head count, (strf_is head is.short, tt)); says = written_says extent head frames count is }
 
 -- the parts in a row
-tail_same : (config pad behind : List ℕ) → (config ++ pad) ++ behind ≡ ((((((config ++ pad) ++ []) ++ []) ++ []) ++ []) ++ []) ++ behind
+pub tail_same : (config pad behind : List ℕ) → (config ++ pad) ++ behind ≡ ((((((config ++ pad) ++ []) ++ []) ++ []) ++ []) ++ []) ++ behind
 tail_same config pad behind = simp append-nil
 
 pub written_file : (head : Head) (frames : List (List ℕ)) → IsWritable head frames → AviFile (file_of head frames) head frames
@@ -161,7 +167,7 @@ written_file head frames is =
     let whole : file_of head frames ≡ (codes "RIFF" ++ number (riff_size head frames) ++ codes "AVI ") ++ (parts_text (header_of head count ∷ []) ++ ((codes "LIST" ++ number size ++ codes "movi") ++ (chunks_text (map frame_of frames) ++ []))) =
     ap (λ z. head_text head count (riff_size head frames) ++ z) behind
     ∙ ap (λ z. front head count (riff_size head frames) ++ z) (tail_same head.config_record (padding (40 + length head.config_record)) (spelled (movi size) ++ (chunks_text (map frame_of frames) ++ []))) in
-    record { riff_size = number (riff_size head frames); parts = header_of head count ∷ []; movi_size = number size; chunks = map frame_of frames; rest = []; stream = stream_of head count; others = []; bytes = whole; riff_sized = refl; movi_sized = refl; counted = counted; fits = fits; each = (header_is head count is.short, tt); first = refl; says = written_stream head frames count is; framed = frames_are frames is.sized }
+    record { riff_size = number (riff_size head frames); parts = header_of head count ∷ []; movi_size = number size; chunks = map frame_of frames; rest = []; stream = stream_of head count; others = []; bytes = whole; riff_sized = refl; movi_sized = refl; counted = counted; fits = fits; each = (header_is head count is.short, tt); first = refl; says = written_stream FirstMovi head frames count is; framed = frames_are frames is.sized }
 
 -- of which nothing is left
 pub written_rest : (head : Head) (frames : List (List ℕ)) (is : IsWritable head frames) → ◌≡◌ {A = Result ((Head × List (List ℕ)) × List ℕ) Stop} (Ok ((head, frames), (written_file head frames is).rest)) (Ok ((head, frames), []))

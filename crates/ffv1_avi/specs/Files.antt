@@ -3,14 +3,15 @@ use Rattle.std.specs.Prelude.{ℕ, suc, zero, ◌+◌, ◌-◌, ◌/◌, ◌%◌
 use Rattle.std.specs.Prelude.{if◌then◌else◌, nat_lt, nat_le, List, [], ◌∷◌, take, drop, codes}
 use Rattle.std.specs.Prelude.{Option, Some, None, Ok}
 use Rattle.byteorder.specs.Endian.{little_number}
-use Rattle.ffv1_avi.specs.declared.fault.AviFault.TheVariants as fault
+use Rattle.ffv1_reads.specs.declared.fault.FileFault.TheVariants as fault
 use Rattle.ffv1_avi.specs.declared.place.Extent.{Extent}
 use Rattle.ffv1_avi.specs.declared.place.Extent.TheVariants.{FirstMovi, EveryRiff}
 use Rattle.ffv1_avi.specs.declared.place.Place.{Place}
-use Rattle.ffv1_avi.specs.Head.{Head}
+use Rattle.ffv1_reads.specs.Head.{Head}
 use Rattle.ffv1_avi.specs.Places.{amount, extent_of, first_place, frame_at, movi_at, riff_at}
-use Rattle.ffv1_avi.specs.Reads.{Kept, Reading, given, refused, taken, passed, padded, content}
-use Rattle.ffv1_avi.specs.Reads.{◌>>=◌}
+use Rattle.ffv1_reads.specs.Reads.{Kept, Reading, given, refused, taken, passed}
+use Rattle.ffv1_avi.specs.Padding.{padded, content}
+use Rattle.ffv1_reads.specs.Reads.{◌>>=◌}
 use Rattle.ffv1_avi.specs.Walk.{is_name, Visit, walk}
 use Rattle.ffv1_avi.specs.Streams.{limit, skipped, stream_read}
 

@@ -1,17 +1,17 @@
 -- Where a reader stands.
 use Rattle.std.specs.Prelude.{◌≡◌, ℕ, ◌≤◌, Bool, true, false, List, [], take, Option, Some, None}
 use Rattle.std.specs.Prelude.{Result, Ok, Err, ⊤, ◌⊎◌}
-use Rattle.ffv1_avi.specs.declared.fault.AviFault.{AviFault}
-use Rattle.ffv1_avi.specs.declared.fault.AviFault.TheVariants as fault
+use Rattle.ffv1_reads.specs.declared.fault.FileFault.{FileFault}
+use Rattle.ffv1_reads.specs.declared.fault.FileFault.TheVariants as fault
 use Rattle.ffv1_avi.specs.Files.{frame_found}
-use Rattle.ffv1_avi.specs.Head.{Head}
+use Rattle.ffv1_reads.specs.Head.{Head}
 use Rattle.ffv1_avi.specs.declared.place.Place.{Place}
 
 -- the head of its file, where it stands in that, and the fault that it has met
 pub record Standing : Type 0 where
   pub head : Head
   pub place : Place
-  pub fault : Option AviFault
+  pub fault : Option FileFault
 
 abbrev pub opened_at : Standing → Head × Place
 opened_at r = (r.head, r.place)
@@ -42,13 +42,13 @@ next_of true bytes place = Some (bytes, place)
 next_of false bytes place = None
 
 -- where a reader stands behind a call: in the same file, and with the fault that it answered
-abbrev pub StandsAfter : Standing → Result Bool AviFault → Standing → Type 0
+abbrev pub StandsAfter : Standing → Result Bool FileFault → Standing → Type 0
 StandsAfter old (Ok more) new = (old.fault ≡ None) × (new.fault ≡ None) × (new.head ≡ old.head)
 StandsAfter old (Err f) new =
     (new.fault ≡ Some f) × (new.head ≡ old.head) × (new.place ≡ old.place)
 
 -- the faults that opening has, whatever the file
-abbrev pub is_opening_fault : AviFault → Bool
+abbrev pub is_opening_fault : FileFault → Bool
 is_opening_fault fault.OutOfMemory = true
 is_opening_fault fault.NotAvi = true
 is_opening_fault fault.NoFfv1 = true
@@ -58,7 +58,7 @@ is_opening_fault fault.Read = true
 is_opening_fault f = false
 
 -- and those that reading a frame has
-abbrev pub is_frame_fault : AviFault → Bool
+abbrev pub is_frame_fault : FileFault → Bool
 is_frame_fault fault.OutOfMemory = true
 is_frame_fault fault.NotAvi = true
 is_frame_fault fault.Truncated = true

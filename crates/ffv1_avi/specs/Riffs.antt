@@ -8,7 +8,7 @@ use Rattle.ffv1_avi.specs.Chunks.{AreChunks, AreFrames, AreOthers, AreParts, Chu
 use Rattle.ffv1_avi.specs.Chunks.{IsStream, Part, chunk_text, chunks_text, first_of}
 use Rattle.ffv1_avi.specs.Chunks.{header_chunks, is_list, is_named, streams, those}
 use Rattle.ffv1_avi.specs.Files.{frame_name}
-use Rattle.ffv1_avi.specs.Head.{Head}
+use Rattle.ffv1_reads.specs.Head.{Head}
 use Rattle.ffv1_avi.specs.Places.{most_input}
 
 -- a chunk of an RIFF after its first movi, or of one of the RIFFs after the first: a list movi, by

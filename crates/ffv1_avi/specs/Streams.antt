@@ -4,12 +4,14 @@
 use Rattle.std.specs.Prelude.{ℕ, ◌-◌, ◌==◌, ◌&&◌, if◌then◌else◌, nat_lt, nat_le, List, length}
 use Rattle.std.specs.Prelude.{take, drop, codes, Option, Some, None}
 use Rattle.byteorder.specs.Endian.{little_number}
-use Rattle.ffv1_avi.specs.declared.fault.AviFault.TheVariants as fault
+use Rattle.ffv1_reads.specs.declared.fault.FileFault.TheVariants as fault
 use Rattle.ffv1_avi.specs.declared.place.Extent.{Extent}
 use Rattle.ffv1_avi.specs.declared.place.Extent.TheVariants.{FirstMovi, EveryRiff}
-use Rattle.ffv1_avi.specs.Head.{Head}
-use Rattle.ffv1_avi.specs.Reads.{Looked, Kept, Reading, Want, given, refused, taken, wanted, passed}
-use Rattle.ffv1_avi.specs.Reads.{padded, content, ◌>>=◌}
+use Rattle.ffv1_reads.specs.Head.{Head}
+use Rattle.ffv1_reads.specs.Reads.{Looked, Kept, Reading, Want, given, refused, taken, wanted}
+use Rattle.ffv1_reads.specs.Reads.{passed}
+use Rattle.ffv1_avi.specs.Padding.{padded, content}
+use Rattle.ffv1_reads.specs.Reads.{◌>>=◌}
 use Rattle.ffv1_avi.specs.Walk.{is_name, Visit, walk}
 
 -- the most bytes of a frame, and of a format, that are read: 64 MiB

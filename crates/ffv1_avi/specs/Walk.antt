@@ -5,8 +5,9 @@ use Rattle.std.specs.Prelude.{nat_lt, List, take, drop, codes, Option, Some, Non
 use lib.Pointwise.{pointwise}
 use Rattle.byteorder.specs.Endian.{little_number}
 use Rattle.ffv1_avi.specs.declared.chunk.Entry.{Entry}
-use Rattle.ffv1_avi.specs.declared.fault.AviFault.TheVariants as fault
-use Rattle.ffv1_avi.specs.Reads.{Reading, given, refused, taken, padded, ◌>>=◌}
+use Rattle.ffv1_reads.specs.declared.fault.FileFault.TheVariants as fault
+use Rattle.ffv1_reads.specs.Reads.{Reading, given, refused, taken, ◌>>=◌}
+use Rattle.ffv1_avi.specs.Padding.{padded}
 
 -- these four bytes are this name
 abbrev pub is_name : List ℕ → List ℕ → Bool

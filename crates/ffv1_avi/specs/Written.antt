@@ -7,8 +7,8 @@ use Rattle.std.specs.declared.vec.Vec.{Vec}
 use Rattle.byteorder.specs.Endian.{little_bytes}
 use Rattle.ffv1_avi.specs.declared.field.Field.{Field}
 use Rattle.ffv1_avi.specs.declared.field.Field.TheVariants.{Name, Number, Pair}
-use Rattle.ffv1_avi.specs.Head.{Head}
-use Rattle.ffv1_avi.specs.Reads.{padded}
+use Rattle.ffv1_reads.specs.Head.{Head}
+use Rattle.ffv1_avi.specs.Padding.{padded}
 
 -- a number of 4 bytes
 abbrev pub number : ℕ → List ℕ

@@ -6,8 +6,8 @@ ghost use Rattle.ffv1_wire.specs.Passage.{passage};
 ghost use Rattle.ffv1_avi.specs.Written.{field_bytes, fields_bytes, padding};
 ghost use Rattle.ffv1_avi.specs.Writes.{Writes};
 
-use crate::fault::AviFault;
 use byteorder::{ByteOrder, LittleEndian};
+use ffv1_reads::FileFault;
 use ffv1_wire::{ByteOut, write_all};
 
 /// A field of four bytes.
@@ -35,17 +35,17 @@ fn field_bytes(field: Field) -> [u8; 4]
 }
 
 /// Writes bytes.
-pub(crate) fn put<W: ByteOut>(out: &mut W, bytes: &[u8]) -> Result<(), AviFault>
+pub(crate) fn put<W: ByteOut>(out: &mut W, bytes: &[u8]) -> Result<(), FileFault>
     ensures { Writes (passage W.contents W.failures out.old out.new) bytes.now result }
 {
     match write_all(out, bytes) {
         Ok(()) => Ok(()),
-        Err(_) => Err(AviFault::Write),
+        Err(_) => Err(FileFault::Write),
     }
 }
 
 /// Writes fields, one behind the other.
-pub(crate) fn put_fields<W: ByteOut>(out: &mut W, fields: &[Field]) -> Result<(), AviFault>
+pub(crate) fn put_fields<W: ByteOut>(out: &mut W, fields: &[Field]) -> Result<(), FileFault>
     ensures { Writes (passage W.contents W.failures out.old out.new)
         (fields_bytes fields.now) result }
 {
@@ -56,7 +56,7 @@ pub(crate) fn put_fields<W: ByteOut>(out: &mut W, fields: &[Field]) -> Result<()
 }
 
 /// Writes the padding of so many bytes.
-pub(crate) fn put_padding<W: ByteOut>(out: &mut W, size: usize) -> Result<(), AviFault>
+pub(crate) fn put_padding<W: ByteOut>(out: &mut W, size: usize) -> Result<(), FileFault>
     ensures { Writes (passage W.contents W.failures out.old out.new) (padding size) result }
 {
     put(out, &[0u8; 1][..size % 2])

@@ -1,22 +1,28 @@
 //! Laws of files: what is read is a file by its chunks, such a file is read, and what was written
 //! is read back.
 
-ghost use Rattle.std.specs.Prelude.{◌≡◌, ◌<◌, ◌+◌, ◌++◌, ℕ, List, codes, length, [], Option, Some};
-ghost use Rattle.std.specs.Prelude.{None, Ok, Err};
-ghost use Rattle.ffv1_avi.specs.Chunks.{AreChunks, AviFile, Chunk, IsWritable, MoviBegins, Part};
+ghost use Rattle.std.specs.Prelude.{◌≡◌, ◌<◌, ◌≤◌, ◌+◌, ◌++◌, ◌&&◌, ℕ, List, codes, length, []};
+ghost use Rattle.std.specs.Prelude.{false, flat_map, nat_le, take, Option, Some, None, Ok, Err};
+ghost use Rattle.byteorder.specs.Endian.{little_number};
+ghost use Rattle.ffv1_avi.specs.Chunks.{AreChunks, AreOthers, AviFile, Chunk, IsWritable};
+ghost use Rattle.ffv1_avi.specs.Chunks.{MoviBegins, Part, header_chunks, is_list};
 ghost use Rattle.ffv1_avi.specs.Chunks.{Passes, chunks_text, is_named, streams, those};
 ghost use Rattle.ffv1_avi.specs.Begun.{AreReadable, HasShortFormat, HeaderBegins, RiffBegins};
 ghost use Rattle.ffv1_avi.specs.Begun.{StreamBegins, streams_of};
 ghost use Rattle.ffv1_avi.specs.Files.{file_read, open_read, frame_read, frames_read, more_frames};
-ghost use Rattle.ffv1_avi.specs.Ends.{Ends, Stops};
-ghost use Rattle.ffv1_avi.specs.Head.{Head};
-ghost use Rattle.ffv1_avi.specs.Places.{ended, first_place};
-ghost use Rattle.ffv1_avi.specs.Reads.{EndsEarly, Faults, Lacks, Met, Read, Reading, Short, Want};
-ghost use Rattle.ffv1_avi.specs.Reads.{read_on};
-ghost use Rattle.ffv1_avi.specs.Riffs.{RiffFile};
+ghost use Rattle.ffv1_avi.specs.Files.{frame_name};
+ghost use Rattle.ffv1_reads.specs.Ends.{Ends, Stops};
+ghost use Rattle.ffv1_reads.specs.Head.{Head};
+ghost use Rattle.ffv1_avi.specs.Places.{ended, extent_of, first_place};
+ghost use Rattle.ffv1_reads.specs.Reads.{EndsEarly, Faults, Lacks, Met, Read, Reading, Short, Want};
+ghost use Rattle.ffv1_reads.specs.Reads.{Looked, Stop, read_on};
+ghost use Rattle.ffv1_avi.specs.Counted.{AreCounted, ExtendedBegins, HasExtended};
+ghost use Rattle.ffv1_avi.specs.Edges.{GivesThen, IsAtEdge, frames_to};
+ghost use Rattle.ffv1_avi.specs.Riffs.{Riff, RiffFile, riffs_text, total};
+ghost use Rattle.ffv1_avi.specs.Walk.{is_name};
 ghost use Rattle.ffv1_avi.specs.Written.{file_of};
-ghost use Rattle.ffv1_avi.specs.declared.fault.AviFault.TheVariants as fault;
-ghost use Rattle.ffv1_avi.specs.declared.fault.AviFault.{AviFault};
+ghost use Rattle.ffv1_reads.specs.declared.fault.FileFault.TheVariants as fault;
+ghost use Rattle.ffv1_reads.specs.declared.fault.FileFault.{FileFault};
 ghost use Rattle.ffv1_avi.specs.declared.place.Extent.TheVariants.{FirstMovi, EveryRiff};
 ghost use Rattle.ffv1_avi.specs.declared.place.Place.{Place};
 
@@ -33,36 +39,13 @@ pub fn read_is_file()
         file_read FirstMovi file ≡ Ok ((head, frames), rest) → AviFile file head frames }
 {}
 
-/// Where every RIFF is read and the frames come to an end, nothing is left of the input, and it is a
-/// file of that head and those frames: each chunk of the stream's frames, in every movi of every
+/// Where every RIFF is read and the frames come to an end, nothing is left of the input, and it is
+/// a file of that head and those frames: each chunk of the stream's frames, in every movi of every
 /// RIFF, was given, in order.
 pub fn whole()
     ensures { (file : List ℕ) (head : Head) (frames : List (List ℕ)) (rest : List ℕ) →
         file_read EveryRiff file ≡ Ok ((head, frames), rest) →
         RiffFile file head frames × (rest ≡ []) }
-{}
-
-/// Where the bytes are known, a value that a call answers is what they read as, and a fault is the
-/// first that they have; what is left is known too. Where a read failed, memory was refused or the
-/// bytes ended, those that were read end where more are wanted. Where the end of the bytes is an
-/// answer, all of them read as that; and those that were read before a read failed there do.
-pub fn known_bytes<X>()
-    ensures read { (reading : Reading X) (text : List ℕ) (new : Option (List ℕ)) (x : X) →
-        Read reading (Some text) new x →
-        (rest : List ℕ) × (new ≡ Some rest) × (reading text ≡ Ok (x, rest)) }
-    ensures fault { (reading : Reading X) (text : List ℕ) (new : Option (List ℕ)) (f : AviFault) →
-        Faults reading (Some text) new f →
-        (rest : List ℕ) × (new ≡ Some rest) × (reading text ≡ Err (Met f rest)) }
-    ensures stopped { (reading : Reading X) (text : List ℕ) (new : Option (List ℕ)) (w : Want) →
-        Lacks reading (Some text) new w →
-        (bytes rest : List ℕ) × (text ≡ bytes ++ rest) × (new ≡ Some rest)
-        × (reading bytes ≡ Err (Short w)) }
-    ensures ends { (reading : Reading X) (text : List ℕ) (new : Option (List ℕ)) (x : X) →
-        Ends reading (Some text) new x → (new ≡ Some []) × (reading text ≡ Ok (x, [])) }
-    ensures stops { (reading : Reading X) (text : List ℕ) (new : Option (List ℕ)) (x : X) →
-        Stops reading (Some text) new x →
-        (bytes rest : List ℕ) × (text ≡ bytes ++ rest) × (new ≡ Some rest)
-        × (reading bytes ≡ Ok (x, [])) }
 {}
 
 /// A beginning of a file that is read, up to the end of `movi`, ends where more bytes are wanted.
@@ -72,16 +55,60 @@ pub fn beginnings()
         EndsEarly (file_read FirstMovi) beginning }
 {}
 
-/// Where `movi` comes behind no stream, the file has no FFV1, and nothing behind the name of `movi`
+/// A beginning of a file of which every RIFF is read ends where more bytes are wanted, but at the
+/// edge of an RIFF. There the frames of the RIFFs before it are read, where they are not fewer than
+/// `dmlh` says; and else those are given, one by one, and then more bytes are wanted.
+pub fn beginnings_of_riffs()
+    ensures within { (file : List ℕ) (head : Head) (frames : List (List ℕ))
+        (is : RiffFile file head frames) (beginning more : List ℕ) → file ≡ beginning ++ more →
+        (IsAtEdge is.riffs more → ⊥) → EndsEarly (file_read EveryRiff) beginning }
+    ensures edge { (file : List ℕ) (head : Head) (frames : List (List ℕ))
+        (is : RiffFile file head frames) (before after : List Riff) (beginning : List ℕ) →
+        is.riffs ≡ before ++ after → file ≡ beginning ++ riffs_text after →
+        total is.extended ≤ length (frames_to is before) →
+        file_read EveryRiff beginning ≡ Ok ((head, frames_to is before), []) }
+    ensures owed { (file : List ℕ) (head : Head) (frames : List (List ℕ))
+        (is : RiffFile file head frames) (before after : List Riff) (beginning : List ℕ) →
+        is.riffs ≡ before ++ after → file ≡ beginning ++ riffs_text after →
+        length (frames_to is before) < total is.extended →
+        GivesThen beginning head (frames_to is before) (Short Looked) }
+{}
+
+/// After the last RIFF nothing but an RIFF may stand. All frames are given, one by one, and then
+/// four bytes that are another name are refused, and so is an RIFF that is no `AVIX`, or too small
+/// for its form; where fewer bytes than a header has are left, more are wanted. What is refused so
+/// is not read as a whole file.
+pub fn after_riffs()
+    ensures name { (file : List ℕ) (head : Head) (frames : List (List ℕ)) →
+        RiffFile file head frames → (name rest : List ℕ) → length name ≡ 4 →
+        is_name name (codes "RIFF") ≡ false →
+        GivesThen (file ++ (name ++ rest)) head frames (Met fault.NotAvi rest) }
+    ensures form { (file : List ℕ) (head : Head) (frames : List (List ℕ)) →
+        RiffFile file head frames → (size form rest : List ℕ) → length size ≡ 4 →
+        length form ≡ 4 →
+        (is_name form (codes "AVIX") && nat_le 4 (little_number 4 size)) ≡ false →
+        GivesThen (file ++ ((codes "RIFF" ++ size ++ form) ++ rest)) head frames
+        (Met fault.NotAvi rest) }
+    ensures short_name { (file : List ℕ) (head : Head) (frames : List (List ℕ)) →
+        RiffFile file head frames → (bytes : List ℕ) → 0 < length bytes → length bytes < 4 →
+        GivesThen (file ++ bytes) head frames (Short Looked) }
+    ensures short_form { (file : List ℕ) (head : Head) (frames : List (List ℕ)) →
+        RiffFile file head frames → (bytes : List ℕ) → length bytes < 8 →
+        GivesThen (file ++ (codes "RIFF" ++ bytes)) head frames (Short Looked) }
+    ensures refused { (file : List ℕ) (head : Head) (frames : List (List ℕ)) (why : Stop) →
+        GivesThen file head frames why → file_read EveryRiff file ≡ Err why }
+{}
+
+/// Where `movi` comes after no stream, the file has no FFV1, and nothing after the name of `movi`
 /// is read.
 pub fn no_stream()
     ensures { (file : List ℕ) (parts : List Part) (rest : List ℕ) → MoviBegins file parts rest →
         streams parts ≡ [] → open_read FirstMovi file ≡ Err (Met fault.NoFfv1 rest) }
 {}
 
-/// A chunk that passes its list is truncated, and nothing behind its header is read: in `movi`
-/// behind chunks that are no frames, in RIFF and in `hdrl` behind chunks whose first stream, if
-/// there is one, is FFV1, and in the first stream behind chunks of which no format is too long.
+/// A chunk that passes its list is truncated, and nothing after its header is read: in `movi`
+/// after chunks that are no frames, in RIFF and in `hdrl` after chunks whose first stream, if
+/// there is one, is FFV1, and in the first stream after chunks of which no format is too long.
 pub fn long_chunk()
     ensures movi { (chunks : List Chunk) (left : ℕ) (name size rest : List ℕ) → AreChunks chunks →
         those (is_named (codes "LIST")) chunks ≡ [] → those (is_named (codes "00dc")) chunks ≡ [] →
@@ -104,19 +131,90 @@ pub fn long_chunk()
         Passes left name size → open_read FirstMovi file ≡ Err (Met fault.Truncated rest) }
 {}
 
+/// Where every RIFF is read, and `movi` comes where none of the first 100 streams is FFV1 video,
+/// the file has no FFV1, and nothing after the name of `movi` is read.
+pub fn no_stream_of_riffs()
+    ensures { (file : List ℕ) (parts : List Part) (rest : List ℕ) → MoviBegins file parts rest →
+        AreOthers EveryRiff (take 100 (streams parts)) →
+        HasExtended (flat_map header_chunks parts) →
+        open_read EveryRiff file ≡ Err (Met fault.NoFfv1 rest) }
+{}
+
+/// Where every RIFF is read, a chunk that passes its list is truncated, and nothing after its
+/// header is read: in RIFF, in `hdrl` and in `odml` after chunks whose streams can be read, up to
+/// the one that counts; in a stream's list where none before it counts, after chunks of which no
+/// format is too long; in any `movi` after chunks that are no frames; and in RIFF after a `movi`,
+/// or in the next RIFF, after chunks that are no `movi`.
+pub fn long_chunk_of_riffs()
+    ensures riff { (file : List ℕ) (parts : List Part) (left : ℕ) (name size rest : List ℕ) →
+        RiffBegins file parts left ((name ++ size) ++ rest) → AreCounted 100 (streams parts) →
+        HasExtended (flat_map header_chunks parts) → Passes left name size →
+        open_read EveryRiff file ≡ Err (Met fault.Truncated rest) }
+    ensures header { (file : List ℕ) (parts : List Part) (chunks : List Chunk) (left : ℕ)
+        (name size rest : List ℕ) →
+        HeaderBegins file parts chunks left ((name ++ size) ++ rest) →
+        AreCounted 100 (streams parts ++ streams_of chunks) →
+        HasExtended (flat_map header_chunks parts ++ chunks) → Passes left name size →
+        open_read EveryRiff file ≡ Err (Met fault.Truncated rest) }
+    ensures stream { (file : List ℕ) (parts : List Part) (chunks fields : List Chunk) (left : ℕ)
+        (name size rest : List ℕ) →
+        StreamBegins file parts chunks fields left ((name ++ size) ++ rest) →
+        AreOthers EveryRiff (streams parts ++ streams_of chunks) →
+        length (streams parts ++ streams_of chunks) < 100 →
+        HasExtended (flat_map header_chunks parts ++ chunks) → HasShortFormat fields →
+        Passes left name size → open_read EveryRiff file ≡ Err (Met fault.Truncated rest) }
+    ensures extended { (file : List ℕ) (parts : List Part) (chunks inner : List Chunk) (left : ℕ)
+        (name size rest : List ℕ) →
+        ExtendedBegins file parts chunks inner left ((name ++ size) ++ rest) →
+        AreCounted 100 (streams parts ++ streams_of chunks) →
+        HasExtended (flat_map header_chunks parts ++ chunks) → Passes left name size →
+        open_read EveryRiff file ≡ Err (Met fault.Truncated rest) }
+    ensures movi { (place : Place) (chunks : List Chunk) (left : ℕ) (name size rest : List ℕ) →
+        place.movi ≡ length (chunks_text chunks) + left → AreChunks chunks →
+        those (is_named (codes "LIST")) chunks ≡ [] →
+        those (is_named (frame_name place.stream)) chunks ≡ [] → Passes left name size →
+        frame_read place (chunks_text chunks ++ ((name ++ size) ++ rest))
+        ≡ Err (Met fault.Truncated rest) }
+    ensures after { (place : Place) (chunks : List Chunk) (left : ℕ) (name size rest : List ℕ) →
+        extent_of place ≡ EveryRiff → place.movi ≡ 0 →
+        place.riff ≡ length (chunks_text chunks) + left → AreChunks chunks →
+        those (is_list (codes "movi")) chunks ≡ [] → Passes left name size →
+        frame_read place (chunks_text chunks ++ ((name ++ size) ++ rest))
+        ≡ Err (Met fault.Truncated rest) }
+    ensures next { (place : Place) (riff_size : List ℕ) (chunks : List Chunk) (left : ℕ)
+        (name size rest : List ℕ) → extent_of place ≡ EveryRiff → place.movi ≡ 0 →
+        place.riff ≡ 0 → length riff_size ≡ 4 →
+        little_number 4 riff_size ≡ 4 + length (chunks_text chunks) + left →
+        8 + little_number 4 riff_size < place.input → AreChunks chunks →
+        those (is_list (codes "movi")) chunks ≡ [] → Passes left name size →
+        frame_read place ((codes "RIFF" ++ riff_size ++ codes "AVIX")
+        ++ (chunks_text chunks ++ ((name ++ size) ++ rest)))
+        ≡ Err (Met fault.Truncated rest) }
+{}
+
 /// A file of a head and frames, by its chunks, is read as that head and those frames, and it has no
-/// others.
+/// others. Where every RIFF is read, nothing is left of it.
 pub fn file_is_read()
     ensures read { (file : List ℕ) (head : Head) (frames : List (List ℕ))
         (is : AviFile file head frames) → file_read FirstMovi file ≡ Ok ((head, frames), is.rest) }
     ensures only { (file : List ℕ) (head other : Head) (frames others : List (List ℕ)) →
         AviFile file head frames → AviFile file other others → (head ≡ other) × (frames ≡ others) }
+    ensures every { (file : List ℕ) (head : Head) (frames : List (List ℕ)) →
+        RiffFile file head frames → file_read EveryRiff file ≡ Ok ((head, frames), []) }
+    ensures every_only { (file : List ℕ) (head other : Head) (frames others : List (List ℕ)) →
+        RiffFile file head frames → RiffFile file other others →
+        (head ≡ other) × (frames ≡ others) }
 {}
 
-/// What is written is a file of its head and frames, by its chunks, and is read back.
+/// What is written is a file of its head and frames, by its chunks, of one RIFF, and is read back,
+/// where the first `movi` alone is read and where every RIFF is.
 pub fn written_is_read()
     ensures file { (head : Head) (frames : List (List ℕ)) → IsWritable head frames →
         AviFile (file_of head frames) head frames }
     ensures read { (head : Head) (frames : List (List ℕ)) → IsWritable head frames →
         file_read FirstMovi (file_of head frames) ≡ Ok ((head, frames), []) }
+    ensures riff { (head : Head) (frames : List (List ℕ)) → IsWritable head frames →
+        RiffFile (file_of head frames) head frames }
+    ensures every { (head : Head) (frames : List (List ℕ)) → IsWritable head frames →
+        file_read EveryRiff (file_of head frames) ≡ Ok ((head, frames), []) }
 {}

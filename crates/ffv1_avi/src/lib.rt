@@ -1,12 +1,12 @@
 //! AVI, by Microsoft's AVI RIFF File Reference: files of FFV1 frames (RFC 9043, 4.3.3) are written,
 //! and read chunk by chunk.
 //!
-//! `write_avi` writes an `AviHead` and frames in one call. `AviReader::open` and
+//! `write_avi` writes an `FileHead` and frames in one call. `AviReader::open` and
 //! `AviReader::open_all` read a file up to its first list `movi`, the one to read the frames of that
 //! alone, the other those of every `movi` of every RIFF; then `AviReader::head` tells its head, and
 //! each `AviReader::next_frame` gives the next frame, until it answers false. A reader holds no
 //! input, each call is lent the same one.
-//! `AviFault` says why a file could not be read or written. The test `read_back` of `ffv1_tests`
+//! `FileFault` says why a file could not be read or written. The test `read_back` of `ffv1_tests`
 //! runs this:
 //!
 //! ```text
@@ -17,9 +17,7 @@
 #![tactic(auto)]
 
 mod chunk;
-mod fault;
 mod field;
-mod head;
 pub mod laws;
 mod open;
 mod place;
@@ -28,8 +26,6 @@ mod riff;
 mod stream;
 mod write;
 
-pub use fault::AviFault;
-pub use head::AviHead;
 pub use place::Extent;
 pub use reader::AviReader;
 pub use write::write_avi;

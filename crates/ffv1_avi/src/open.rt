@@ -5,20 +5,20 @@ ghost use Rattle.ffv1_avi.specs.Files.{extended_read, extended_visited, header_l
 ghost use Rattle.ffv1_avi.specs.Files.{movi_reached, open_read, owed};
 ghost use Rattle.ffv1_avi.specs.Files.{stream_known, stream_visited, top_read, total_read};
 ghost use Rattle.ffv1_avi.specs.Files.{visit_extended, visit_header, visit_top};
-ghost use Rattle.ffv1_avi.specs.Head.{Head};
+ghost use Rattle.ffv1_reads.specs.Head.{Head};
 ghost use Rattle.ffv1_avi.specs.Places.{first_place};
 ghost use Rattle.ffv1_wire.specs.Passage.{at_rest, passage};
-ghost use Rattle.ffv1_avi.specs.Reads.{Answers, taken};
+ghost use Rattle.ffv1_reads.specs.Reads.{Answers, taken};
 ghost use Rattle.ffv1_avi.specs.Walk.{is_name};
 ghost use Rattle.ffv1_avi.specs.Internal.Views.{found_with, head_with, headers_next, headers_with};
 ghost use Rattle.ffv1_avi.specs.Internal.Views.{top_with};
 ghost use Rattle.ffv1_avi.specs.declared.place.Place.{Place};
 
-use crate::chunk::{Entry, is_name, next_entry, padded, pass, take};
-use crate::fault::AviFault;
+use crate::chunk::{Entry, is_name, next_entry, padded};
 use crate::place::{Extent, Place};
 use crate::stream::{Sizes, read_stream};
 use byteorder::{ByteOrder, LittleEndian};
+use ffv1_reads::{FileFault, pass, take};
 use ffv1_wire::ByteIn;
 use std::alloc::Allocator;
 
@@ -32,7 +32,7 @@ pub(crate) struct Found {
 }
 
 /// A list's own name.
-pub(crate) fn own_name<R: ByteIn>(input: &mut R) -> Result<[u8; 4], AviFault>
+pub(crate) fn own_name<R: ByteIn>(input: &mut R) -> Result<[u8; 4], FileFault>
     ensures { Answers (λ (name : List ℕ). name) (taken 4)
         (passage R.remaining R.failures input.old input.new) result }
 {
@@ -63,7 +63,7 @@ fn visit_stream<R: ByteIn, A: Allocator>(
     found: Found,
     size: u32,
     config: &mut Vec<u8, A>,
-) -> Result<Found, AviFault>
+) -> Result<Found, FileFault>
     requires { 4 ≤ size }
     ensures { Answers (λ (f : Found). headers_next f config.new.items)
         (stream_visited extent (headers_with found config.old.items) size
@@ -88,7 +88,7 @@ fn read_total<R: ByteIn>(
     input: &mut R,
     frames: Option<u32>,
     size: u32,
-) -> Result<Option<u32>, AviFault>
+) -> Result<Option<u32>, FileFault>
     ensures { Answers (λ (f : Option ℕ). (f, None)) (total_read size frames)
         (passage R.remaining R.failures input.old input.new) result }
 {
@@ -112,7 +112,7 @@ fn visit_extended<R: ByteIn>(
     input: &mut R,
     frames: Option<u32>,
     entry: Entry,
-) -> Result<Option<u32>, AviFault>
+) -> Result<Option<u32>, FileFault>
     ensures { Answers (λ (f : Option ℕ). (f, None)) (visit_extended frames entry)
         (passage R.remaining R.failures input.old input.new) result }
 {
@@ -129,7 +129,7 @@ fn read_extended<R: ByteIn>(
     input: &mut R,
     frames: Option<u32>,
     size: u32,
-) -> Result<Option<u32>, AviFault>
+) -> Result<Option<u32>, FileFault>
     requires { 4 ≤ size }
     ensures { Answers (λ (f : Option ℕ). f) (extended_read frames size)
         (passage R.remaining R.failures input.old input.new) result }
@@ -150,7 +150,7 @@ fn extend<R: ByteIn>(
     extent: Extent,
     found: Found,
     size: u32,
-) -> Result<Found, AviFault>
+) -> Result<Found, FileFault>
     requires { 4 ≤ size }
     ensures { (bytes : List ℕ) → Answers (λ (f : Found). headers_next f bytes)
         (extended_visited extent (headers_with found bytes) size)
@@ -171,7 +171,7 @@ fn visit_header_list<R: ByteIn, A: Allocator>(
     found: Found,
     size: u32,
     config: &mut Vec<u8, A>,
-) -> Result<Found, AviFault>
+) -> Result<Found, FileFault>
     requires { 4 ≤ size }
     ensures { Answers (λ (f : Found). headers_next f config.new.items)
         (header_list extent (headers_with found config.old.items) size)
@@ -196,7 +196,7 @@ fn visit_header<R: ByteIn, A: Allocator>(
     found: Found,
     entry: Entry,
     config: &mut Vec<u8, A>,
-) -> Result<Found, AviFault>
+) -> Result<Found, FileFault>
     requires { is_name entry.name (codes "LIST") ≡ true → 4 ≤ entry.size }
     ensures { Answers (λ (f : Found). headers_next f config.new.items)
         (visit_header extent (headers_with found config.old.items) entry)
@@ -217,7 +217,7 @@ fn read_header<R: ByteIn, A: Allocator>(
     found: Found,
     size: u32,
     config: &mut Vec<u8, A>,
-) -> Result<Found, AviFault>
+) -> Result<Found, FileFault>
     requires { 4 ≤ size }
     ensures { Answers (λ (f : Found). headers_with f config.new.items)
         (header_read extent (headers_with found config.old.items) size)
@@ -263,7 +263,7 @@ fn first_place(extent: Extent, riff: u32, movi: u32, found: Found) -> Place
 }
 
 /// The first movi, which wants a head before it.
-fn reach_movi(extent: Extent, found: Found, entry: Entry) -> Result<Top, AviFault>
+fn reach_movi(extent: Extent, found: Found, entry: Entry) -> Result<Top, FileFault>
     requires { 4 ≤ entry.size }
     ensures { (bytes : List ℕ) (text : Option (List ℕ)) (failures : ℕ) →
         Answers (λ (t : Top). top_with t bytes)
@@ -271,7 +271,7 @@ fn reach_movi(extent: Extent, found: Found, entry: Entry) -> Result<Top, AviFaul
         (found_with found.sizes bytes)) (at_rest text failures) result }
 {
     let Some(sizes) = found.sizes else {
-        return Err(AviFault::NoFfv1);
+        return Err(FileFault::NoFfv1);
     };
     let place = first_place(extent, entry.left, entry.size - 4, found);
     Ok(Top::Movi(found, sizes, place))
@@ -285,7 +285,7 @@ fn visit_top<R: ByteIn, A: Allocator>(
     found: Found,
     entry: Entry,
     config: &mut Vec<u8, A>,
-) -> Result<Top, AviFault>
+) -> Result<Top, FileFault>
     requires { is_name entry.name (codes "LIST") ≡ true → 4 ≤ entry.size }
     ensures { Answers (λ (t : Top). top_with t config.new.items)
         (visit_top extent (headers_with found config.old.items) entry)
@@ -314,7 +314,7 @@ fn read_top<R: ByteIn, A: Allocator>(
     extent: Extent,
     room: u32,
     config: &mut Vec<u8, A>,
-) -> Result<(Sizes, Place), AviFault>
+) -> Result<(Sizes, Place), FileFault>
     ensures { Answers (λ (p : Sizes × Place). (head_with p.0 config.new.items, p.1))
         (top_read extent room) (passage R.remaining R.failures input.old input.new) result }
 {
@@ -331,7 +331,7 @@ fn read_top<R: ByteIn, A: Allocator>(
         }
         left = entry.left;
     }
-    Err(AviFault::NotAvi)
+    Err(FileFault::NotAvi)
 }
 
 /// A file up to the first movi: its sizes, its record in place of what the vector has, and where
@@ -341,7 +341,7 @@ pub(crate) fn read_opening<R: ByteIn, A: Allocator>(
     input: &mut R,
     extent: Extent,
     config: &mut Vec<u8, A>,
-) -> Result<(Sizes, Place), AviFault>
+) -> Result<(Sizes, Place), FileFault>
     ensures { Answers (λ (p : Sizes × Place). (head_with p.0 config.new.items, p.1))
         (open_read extent) (passage R.remaining R.failures input.old input.new) result }
 {
@@ -349,7 +349,7 @@ pub(crate) fn read_opening<R: ByteIn, A: Allocator>(
     take(input, &mut head)?;
     let size = LittleEndian::read_u32(&head[4..]);
     if !is_name(&head[..4], b"RIFF") || !is_name(&head[8..], b"AVI ") || size < 4 {
-        return Err(AviFault::NotAvi);
+        return Err(FileFault::NotAvi);
     }
     read_top(input, extent, size - 4, config)
 }

@@ -3,28 +3,27 @@
 ghost use Rattle.std.specs.Prelude.{◌≡◌, ◌<◌, length, true, IfSome, OnSome, ◌+◌, ◌≤◌, ℕ, Bool};
 ghost use Rattle.std.specs.Prelude.{List, [], false, Option, None, Some, IfErr, IfOk, OnErr, Ok};
 ghost use Rattle.std.specs.Prelude.{Err};
-ghost use Rattle.ffv1_avi.specs.Ends.{AnswersFrom};
+ghost use Rattle.ffv1_avi.specs.Extents.{AnswersFrom};
 ghost use Rattle.ffv1_avi.specs.Files.{frame_found, frame_name, frame_read, movi_found};
 ghost use Rattle.ffv1_avi.specs.Files.{open_read, visit_movi};
-ghost use Rattle.ffv1_avi.specs.Head.{Head, head_of};
+ghost use Rattle.ffv1_reads.specs.Head.{Head, head_of};
 ghost use Rattle.ffv1_wire.specs.Passage.{passage};
 ghost use Rattle.ffv1_avi.specs.Internal.Ending.{AnswersOrNone};
 ghost use Rattle.ffv1_avi.specs.Places.{amount, ended, extent_of, frame_at};
-ghost use Rattle.ffv1_avi.specs.Reads.{Answers};
+ghost use Rattle.ffv1_reads.specs.Reads.{Answers};
 ghost use Rattle.ffv1_avi.specs.Readers.{is_frame_fault, is_opening_fault};
 ghost use Rattle.ffv1_avi.specs.Readers.{Leaves, Standing, StandsAfter, frame_with, next_of};
 ghost use Rattle.ffv1_avi.specs.Readers.{next_with, opened_at};
-ghost use Rattle.ffv1_avi.specs.declared.fault.AviFault.{AviFault};
+ghost use Rattle.ffv1_reads.specs.declared.fault.FileFault.{FileFault};
 ghost use Rattle.ffv1_avi.specs.declared.place.Extent.TheVariants.{FirstMovi, EveryRiff};
 ghost use Rattle.ffv1_avi.specs.declared.place.Place.{Place};
 
-use crate::chunk::{Entry, fill, is_name, next_entry, padded, pass};
-use crate::fault::AviFault;
-use crate::head::AviHead;
+use crate::chunk::{Entry, is_name, next_entry, padded};
 use crate::open::read_opening;
 use crate::place::{Extent, Place, ended};
 use crate::riff::move_on;
 use crate::stream::LIMIT;
+use ffv1_reads::{FileFault, FileHead, fill, pass};
 use ffv1_wire::ByteIn;
 use std::alloc::{Allocator, Global};
 use std::marker::Model;
@@ -38,23 +37,23 @@ fn frame_name(stream: u8) -> [u8; 4]
 
 /// A chunk of movi: the size of a frame, or None where it was passed.
 #[tactic(auto, unfolding(crate::specs::Files::visit_movi))]
-fn visit_movi<R: ByteIn>(input: &mut R, stream: u8, entry: Entry) -> Result<Option<u32>, AviFault>
+fn visit_movi<R: ByteIn>(input: &mut R, stream: u8, entry: Entry) -> Result<Option<u32>, FileFault>
     ensures sized { IfOk result (λ o. IfSome o (λ n. (0 < n) × (n ≤ 67108864))) }
     ensures answer { Answers (λ (size : Option ℕ). (tt, frame_with size entry.left))
         (visit_movi stream tt entry) (passage R.remaining R.failures input.old input.new) result }
 {
     if is_name(&entry.name, b"LIST") {
-        return Err(AviFault::NotAvi);
+        return Err(FileFault::NotAvi);
     }
     if !is_name(&entry.name, &frame_name(stream)) {
         pass(input, padded(entry.size))?;
         return Ok(None);
     }
     if entry.size > LIMIT {
-        return Err(AviFault::ChunkTooLong);
+        return Err(FileFault::ChunkTooLong);
     }
     if entry.size == 0 {
-        return Err(AviFault::EmptyFrame);
+        return Err(FileFault::EmptyFrame);
     }
     Ok(Some(entry.size))
 }
@@ -65,7 +64,7 @@ fn find_in_movi<R: ByteIn>(
     input: &mut R,
     stream: u8,
     left: u32,
-) -> Result<Option<(u32, u32)>, AviFault>
+) -> Result<Option<(u32, u32)>, FileFault>
     ensures sized { IfOk result (λ o. IfSome o (λ p. (0 < p.0) × (p.0 ≤ 67108864))) }
     ensures answer { Answers (λ (p : Option (ℕ × ℕ)). p) (movi_found stream left)
         (passage R.remaining R.failures input.old input.new) result }
@@ -94,7 +93,7 @@ fn frame_at(place: Place, left: u32) -> Place
 }
 
 /// The size of the next frame, and the place behind its header; None at the end.
-fn find_frame<R: ByteIn>(input: &mut R, place: Place) -> Result<Option<(u32, Place)>, AviFault>
+fn find_frame<R: ByteIn>(input: &mut R, place: Place) -> Result<Option<(u32, Place)>, FileFault>
     ensures sized { IfOk result (λ o. IfSome o (λ p. (0 < p.0) × (p.0 ≤ 67108864))) }
     ensures answer { AnswersOrNone (extent_of place) (λ (p : Option (ℕ × Place)). p)
         (frame_found place) (passage R.remaining R.failures input.old input.new) result }
@@ -116,7 +115,7 @@ fn read_frame<R: ByteIn, A: Allocator>(
     input: &mut R,
     place: Place,
     frame: &mut Vec<u8, A>,
-) -> Result<Option<Place>, AviFault>
+) -> Result<Option<Place>, FileFault>
     ensures answer { AnswersFrom place (λ (after : Option Place). next_with frame.new.items after)
         (frame_read place) (passage R.remaining R.failures input.old input.new) result }
     ensures sized { IfOk result
@@ -141,9 +140,9 @@ fn read_frame<R: ByteIn, A: Allocator>(
 /// met a fault.
 #[derive(Drop)]
 pub struct AviReader<A: Allocator = Global> {
-    head: AviHead<A>,
+    head: FileHead<A>,
     place: Place,
-    fault: Option<AviFault>,
+    fault: Option<FileFault>,
 }
 
 impl<A: Allocator> Model for AviReader<A> {
@@ -161,7 +160,7 @@ impl<A: Allocator> AviReader<A> {
     /// `movi`, or rate or scale is zero alone; `NoFfv1` where the first `strl` is no FFV1 video, or
     /// `movi` comes before any; `ChunkTooLong` where its format is above 67108864 bytes; `Read`
     /// where a read failed, `OutOfMemory`.
-    pub fn open<R: ByteIn>(alloc: A, input: &mut R) -> Result<AviReader<A>, AviFault>
+    pub fn open<R: ByteIn>(alloc: A, input: &mut R) -> Result<AviReader<A>, FileFault>
         ensures answer { Answers opened_at (open_read FirstMovi)
             (passage R.remaining R.failures input.old input.new) result }
         ensures sound { IfOk result (λ r. r.fault ≡ None) }
@@ -180,7 +179,7 @@ impl<A: Allocator> AviReader<A> {
     /// an AVI, a list has no room for its own name, there is no `movi`, or rate or scale is zero
     /// alone; `NoFfv1` where `movi` comes and no `strl` counts; `ChunkTooLong` where a format is
     /// above 67108864 bytes; `Read` where a read failed, `OutOfMemory`.
-    pub fn open_all<R: ByteIn>(alloc: A, input: &mut R) -> Result<AviReader<A>, AviFault>
+    pub fn open_all<R: ByteIn>(alloc: A, input: &mut R) -> Result<AviReader<A>, FileFault>
         ensures answer { Answers opened_at (open_read EveryRiff)
             (passage R.remaining R.failures input.old input.new) result }
         ensures sound { IfOk result (λ r. r.fault ≡ None) }
@@ -190,7 +189,7 @@ impl<A: Allocator> AviReader<A> {
     }
 
     /// The head of the file.
-    pub fn head(&self) -> &AviHead<A>
+    pub fn head(&self) -> &FileHead<A>
         ensures { head_of result.now ≡ self.now.head }
     {
         &self.head
@@ -212,7 +211,7 @@ impl<A: Allocator> AviReader<A> {
         &mut self,
         input: &mut R,
         frame: &mut Vec<u8, A>,
-    ) -> Result<bool, AviFault>
+    ) -> Result<bool, FileFault>
         ensures answer { self.old.fault ≡ None → AnswersFrom self.old.place
             (λ (more : Bool). next_of more frame.new.items self.new.place)
             (frame_read self.old.place)
@@ -231,7 +230,7 @@ impl<A: Allocator> AviReader<A> {
         ensures over { self.old.fault ≡ None → self.old.place ≡ ended →
             (result ≡ Ok false) × (self.new ≡ self.old) × (frame.new.items ≡ [])
             × (input.new ≡ input.old) }
-        ensures again { (f : AviFault) → self.old.fault ≡ Some f → (result ≡ Err f)
+        ensures again { (f : FileFault) → self.old.fault ≡ Some f → (result ≡ Err f)
             × (self.new ≡ self.old) × (frame.new.items ≡ []) × (input.new ≡ input.old) }
     {
         frame.clear();
@@ -264,7 +263,7 @@ fn open_at<R: ByteIn, A: Allocator>(
     alloc: A,
     extent: Extent,
     input: &mut R,
-) -> Result<AviReader<A>, AviFault>
+) -> Result<AviReader<A>, FileFault>
     ensures answer { Answers opened_at (open_read extent)
         (passage R.remaining R.failures input.old input.new) result }
     ensures sound { IfOk result (λ r. r.fault ≡ None) }
@@ -273,7 +272,7 @@ fn open_at<R: ByteIn, A: Allocator>(
     let mut config = Vec::new(alloc);
     let (sizes, place) = read_opening(input, extent, &mut config)?;
     Ok(AviReader {
-        head: AviHead {
+        head: FileHead {
             width: sizes.width,
             height: sizes.height,
             rate: sizes.rate,

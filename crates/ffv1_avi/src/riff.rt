@@ -5,22 +5,22 @@ ghost use Rattle.ffv1_avi.specs.Files.{moved, movi_sought, name_or_end, riff_beg
 ghost use Rattle.ffv1_avi.specs.Files.{visit_riff};
 ghost use Rattle.ffv1_avi.specs.Internal.Ending.{AnswersOrNone, byte_or_end};
 ghost use Rattle.ffv1_avi.specs.Places.{extent_of};
-ghost use Rattle.ffv1_avi.specs.Reads.{Answers};
+ghost use Rattle.ffv1_reads.specs.Reads.{Answers};
 ghost use Rattle.ffv1_avi.specs.Walk.{is_name};
 ghost use Rattle.ffv1_avi.specs.declared.place.Extent.TheVariants.{EveryRiff};
 ghost use Rattle.ffv1_avi.specs.declared.place.Place.{Place};
 ghost use Rattle.ffv1_wire.specs.Passage.{passage};
 
-use crate::chunk::{Entry, is_name, next_entry, padded, pass, take};
-use crate::fault::AviFault;
+use crate::chunk::{Entry, is_name, next_entry, padded};
 use crate::open::own_name;
 use crate::place::Place;
 use byteorder::{ByteOrder, LittleEndian};
+use ffv1_reads::{FileFault, pass, take};
 use ffv1_wire::{ByteIn, read_byte};
 
 /// A chunk of RIFF after a movi: the bytes of the next movi, or None where it was passed.
 #[tactic(auto, unfolding(crate::specs::Files::visit_riff))]
-fn visit_riff<R: ByteIn>(input: &mut R, entry: Entry) -> Result<Option<(u32, u32)>, AviFault>
+fn visit_riff<R: ByteIn>(input: &mut R, entry: Entry) -> Result<Option<(u32, u32)>, FileFault>
     requires { is_name entry.name (codes "LIST") ≡ true → 4 ≤ entry.size }
     ensures { Answers (λ (p : Option (ℕ × ℕ)). (tt, p)) (visit_riff tt entry)
         (passage R.remaining R.failures input.old input.new) result }
@@ -39,7 +39,7 @@ fn visit_riff<R: ByteIn>(input: &mut R, entry: Entry) -> Result<Option<(u32, u32
 
 /// The bytes of the next movi of RIFF, and what that has left behind it; None at its end.
 #[tactic(auto, unfolding(crate::specs::Files::movi_sought))]
-fn seek_movi<R: ByteIn>(input: &mut R, left: u32) -> Result<Option<(u32, u32)>, AviFault>
+fn seek_movi<R: ByteIn>(input: &mut R, left: u32) -> Result<Option<(u32, u32)>, FileFault>
     ensures { Answers (λ (p : Option (ℕ × ℕ)). p) (movi_sought left)
         (passage R.remaining R.failures input.old input.new) result }
 {
@@ -54,18 +54,18 @@ fn seek_movi<R: ByteIn>(input: &mut R, left: u32) -> Result<Option<(u32, u32)>, 
 }
 
 /// The next byte, or None at the end of the input.
-fn first_byte<R: ByteIn>(input: &mut R) -> Result<Option<u8>, AviFault>
+fn first_byte<R: ByteIn>(input: &mut R) -> Result<Option<u8>, FileFault>
     ensures { AnswersOrNone EveryRiff (λ (b : Option ℕ). b) byte_or_end
         (passage R.remaining R.failures input.old input.new) result }
 {
     match read_byte(input) {
         Ok(byte) => Ok(byte),
-        Err(_) => Err(AviFault::Read),
+        Err(_) => Err(FileFault::Read),
     }
 }
 
 /// The next four bytes; or None at the end of the input, where no frame is owed.
-fn name_or_end<R: ByteIn>(input: &mut R, owed: u32) -> Result<Option<[u8; 4]>, AviFault>
+fn name_or_end<R: ByteIn>(input: &mut R, owed: u32) -> Result<Option<[u8; 4]>, FileFault>
     ensures { AnswersOrNone EveryRiff (λ (name : Option (List ℕ)). name) (name_or_end owed)
         (passage R.remaining R.failures input.old input.new) result }
 {
@@ -81,7 +81,7 @@ fn name_or_end<R: ByteIn>(input: &mut R, owed: u32) -> Result<Option<[u8; 4]>, A
 }
 
 /// The size and the form of an RIFF after the first, behind its name.
-fn enter_riff<R: ByteIn>(input: &mut R, place: Place) -> Result<Place, AviFault>
+fn enter_riff<R: ByteIn>(input: &mut R, place: Place) -> Result<Place, FileFault>
     ensures { Answers (λ (p : Place). Some p) (riff_entered place)
         (passage R.remaining R.failures input.old input.new) result }
 {
@@ -89,11 +89,11 @@ fn enter_riff<R: ByteIn>(input: &mut R, place: Place) -> Result<Place, AviFault>
     take(input, &mut head)?;
     let size = LittleEndian::read_u32(&head);
     if !is_name(&head[4..], b"AVIX") || size < 4 {
-        return Err(AviFault::NotAvi);
+        return Err(FileFault::NotAvi);
     }
     let whole = 8 + u64::from(size);
     if place.input <= whole {
-        return Err(AviFault::Truncated);
+        return Err(FileFault::Truncated);
     }
     Ok(Place {
         input: place.input - whole,
@@ -106,7 +106,7 @@ fn enter_riff<R: ByteIn>(input: &mut R, place: Place) -> Result<Place, AviFault>
 
 /// The next RIFF, or None at the end of the input.
 #[tactic(auto, unfolding(crate::specs::Files::riff_begun))]
-fn begin_riff<R: ByteIn>(input: &mut R, place: Place) -> Result<Option<Place>, AviFault>
+fn begin_riff<R: ByteIn>(input: &mut R, place: Place) -> Result<Option<Place>, FileFault>
     ensures { AnswersOrNone EveryRiff (λ (p : Option Place). p) (riff_begun place)
         (passage R.remaining R.failures input.old input.new) result }
 {
@@ -114,13 +114,13 @@ fn begin_riff<R: ByteIn>(input: &mut R, place: Place) -> Result<Option<Place>, A
         return Ok(None);
     };
     if !is_name(&name, b"RIFF") {
-        return Err(AviFault::NotAvi);
+        return Err(FileFault::NotAvi);
     }
     Ok(Some(enter_riff(input, place)?))
 }
 
 /// Where frames are sought next after the end of a movi; None at the end.
-pub(crate) fn move_on<R: ByteIn>(input: &mut R, place: Place) -> Result<Option<Place>, AviFault>
+pub(crate) fn move_on<R: ByteIn>(input: &mut R, place: Place) -> Result<Option<Place>, FileFault>
     ensures { AnswersOrNone (extent_of place) (λ (p : Option Place). p) (moved place)
         (passage R.remaining R.failures input.old input.new) result }
 {

@@ -3,15 +3,15 @@
 ghost use Rattle.std.specs.Prelude.{◌≡◌, ◌+◌, ◌*◌, ◌<◌, ◌≤◌, ℕ, List, Option, None, Some, length};
 ghost use Rattle.ffv1_avi.specs.Streams.{no_video, record_end};
 ghost use Rattle.ffv1_wire.specs.Passage.{at_rest, passage};
-ghost use Rattle.ffv1_avi.specs.Reads.{Answers};
+ghost use Rattle.ffv1_reads.specs.Reads.{Answers};
 ghost use Rattle.ffv1_avi.specs.Streams.{format_in, format_read, rates_in, rates_read};
 ghost use Rattle.ffv1_avi.specs.Streams.{stream_judged, stream_read, visit_field};
 ghost use Rattle.ffv1_avi.specs.Internal.Views.{came_with, format_with, found_with, known_next, known_with};
 
-use crate::chunk::{Entry, fill, is_name, next_entry, padded, pass, take};
-use crate::fault::AviFault;
+use crate::chunk::{Entry, is_name, next_entry, padded};
 use crate::place::Extent;
 use byteorder::{ByteOrder, LittleEndian};
+use ffv1_reads::{FileFault, fill, pass, take};
 use ffv1_wire::ByteIn;
 use std::alloc::Allocator;
 
@@ -36,7 +36,7 @@ pub(crate) struct Fields {
 }
 
 /// The rate and the scale of a stream's header of such a size, where it is one of video.
-fn read_rates<R: ByteIn>(input: &mut R, size: u32) -> Result<Option<(u32, u32)>, AviFault>
+fn read_rates<R: ByteIn>(input: &mut R, size: u32) -> Result<Option<(u32, u32)>, FileFault>
     ensures { Answers (λ (r : Option (ℕ × ℕ)). r) (rates_in size)
         (passage R.remaining R.failures input.old input.new) result }
 {
@@ -75,7 +75,7 @@ fn read_format<R: ByteIn, A: Allocator>(
     extent: Extent,
     size: u32,
     config: &mut Vec<u8, A>,
-) -> Result<Option<(u32, u32)>, AviFault>
+) -> Result<Option<(u32, u32)>, FileFault>
     ensures { Answers (λ (f : Option (ℕ × ℕ)). format_with f config.new.items)
         (format_in extent size) (passage R.remaining R.failures input.old input.new) result }
 {
@@ -98,7 +98,7 @@ fn read_format<R: ByteIn, A: Allocator>(
 }
 
 /// A header of a stream: the first one counts.
-fn visit_rates<R: ByteIn>(input: &mut R, fields: Fields, size: u32) -> Result<Fields, AviFault>
+fn visit_rates<R: ByteIn>(input: &mut R, fields: Fields, size: u32) -> Result<Fields, FileFault>
     ensures { (bytes : List ℕ) →
         Answers (λ (k : Fields). known_next k bytes)
         (rates_read (known_with fields bytes) size fields.rates)
@@ -120,7 +120,7 @@ fn visit_format<R: ByteIn, A: Allocator>(
     fields: Fields,
     size: u32,
     config: &mut Vec<u8, A>,
-) -> Result<Fields, AviFault>
+) -> Result<Fields, FileFault>
     ensures { Answers (λ (k : Fields). known_next k config.new.items)
         (format_read extent (known_with fields config.old.items) size
         (came_with fields.format config.old.items))
@@ -132,7 +132,7 @@ fn visit_format<R: ByteIn, A: Allocator>(
         return Ok(fields);
     }
     if size > LIMIT {
-        return Err(AviFault::ChunkTooLong);
+        return Err(FileFault::ChunkTooLong);
     }
     fields.format = Some(read_format(input, extent, size, config)?);
     Ok(fields)
@@ -146,7 +146,7 @@ fn visit_field<R: ByteIn, A: Allocator>(
     fields: Fields,
     entry: Entry,
     config: &mut Vec<u8, A>,
-) -> Result<Fields, AviFault>
+) -> Result<Fields, FileFault>
     ensures { Answers (λ (k : Fields). known_next k config.new.items)
         (visit_field extent (known_with fields config.old.items) entry)
         (passage R.remaining R.failures input.old input.new) result }
@@ -162,19 +162,19 @@ fn visit_field<R: ByteIn, A: Allocator>(
 }
 
 /// What a stream says that is no FFV1 video.
-fn no_video(extent: Extent) -> Result<Option<Sizes>, AviFault>
+fn no_video(extent: Extent) -> Result<Option<Sizes>, FileFault>
     ensures { (bytes : List ℕ) (text : Option (List ℕ)) (failures : ℕ) →
         Answers (λ (s : Option Sizes). found_with s bytes) (no_video extent)
         (at_rest text failures) result }
 {
     match extent {
-        Extent::FirstMovi => Err(AviFault::NoFfv1),
+        Extent::FirstMovi => Err(FileFault::NoFfv1),
         Extent::EveryRiff => Ok(None),
     }
 }
 
 /// What a stream says, at its end: None where it is no FFV1 video.
-fn judged(extent: Extent, fields: Fields) -> Result<Option<Sizes>, AviFault>
+fn judged(extent: Extent, fields: Fields) -> Result<Option<Sizes>, FileFault>
     ensures { (bytes : List ℕ) (text : Option (List ℕ)) (failures : ℕ) →
         Answers (λ (s : Option Sizes). found_with s bytes)
         (stream_judged extent fields.rates (came_with fields.format bytes))
@@ -185,7 +185,7 @@ fn judged(extent: Extent, fields: Fields) -> Result<Option<Sizes>, AviFault>
         return no_video(extent);
     };
     if (rate == 0) != (scale == 0) {
-        return Err(AviFault::NotAvi);
+        return Err(FileFault::NotAvi);
     }
     Ok(Some(Sizes {
         width,
@@ -203,7 +203,7 @@ pub(crate) fn read_stream<R: ByteIn, A: Allocator>(
     extent: Extent,
     room: u32,
     config: &mut Vec<u8, A>,
-) -> Result<Option<Sizes>, AviFault>
+) -> Result<Option<Sizes>, FileFault>
     ensures { Answers (λ (s : Option Sizes). found_with s config.new.items)
         (stream_read extent room) (passage R.remaining R.failures input.old input.new) result }
 {

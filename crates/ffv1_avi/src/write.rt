@@ -3,16 +3,15 @@
 ghost use Rattle.std.specs.Prelude.{◌≡◌, ◌+◌, ◌*◌, ◌<◌, ◌≤◌, ◌^◌, ◌++◌, ℕ, List, length, map, sum};
 ghost use Rattle.std.specs.Prelude.{flat_map, Option, None, Some, if◌then◌else◌, nat_le, nat_lt};
 ghost use Rattle.ffv1_wire.specs.Passage.{passage};
-ghost use Rattle.ffv1_avi.specs.Head.{head_of};
-ghost use Rattle.ffv1_avi.specs.Reads.{padded};
+ghost use Rattle.ffv1_reads.specs.Head.{head_of};
+ghost use Rattle.ffv1_avi.specs.Padding.{padded};
 ghost use Rattle.ffv1_avi.specs.Written.{avih, file_of, format_size, frame_chunk, frames_of, front};
 ghost use Rattle.ffv1_avi.specs.Written.{head_text, microseconds, movi, movi_size, opening};
 ghost use Rattle.ffv1_avi.specs.Written.{sizes_of, spelled, stream, strf};
 ghost use Rattle.ffv1_avi.specs.Writes.{Writes, WritesFile};
 
-use crate::fault::AviFault;
 use crate::field::{Field, put, put_fields, put_padding};
-use crate::head::AviHead;
+use ffv1_reads::{FileFault, FileHead};
 use ffv1_wire::ByteOut;
 use std::alloc::Allocator;
 
@@ -62,7 +61,7 @@ fn microseconds(rate: u32, scale: u32) -> u32
 }
 
 /// RIFF of such a size, and its list hdrl, where the format has such a size with its padding.
-fn put_opening<W: ByteOut>(out: &mut W, size: u32, format: u32) -> Result<(), AviFault>
+fn put_opening<W: ByteOut>(out: &mut W, size: u32, format: u32) -> Result<(), FileFault>
     requires { format ≤ 2 ^ 31 }
     ensures { Writes (passage W.contents W.failures out.old out.new)
         (spelled (opening size format)) result }
@@ -81,9 +80,9 @@ fn put_opening<W: ByteOut>(out: &mut W, size: u32, format: u32) -> Result<(), Av
 /// The main header, AVIMAINHEADER of the AVI RIFF File Reference, for so many frames.
 fn put_main_header<W: ByteOut, A: Allocator>(
     out: &mut W,
-    head: &AviHead<A>,
+    head: &FileHead<A>,
     count: u32,
-) -> Result<(), AviFault>
+) -> Result<(), FileFault>
     ensures { Writes (passage W.contents W.failures out.old out.new)
         (spelled (avih (head_of head.now) count)) result }
 {
@@ -112,10 +111,10 @@ fn put_main_header<W: ByteOut, A: Allocator>(
 /// AVISTREAMHEADER, for so many frames.
 fn put_stream<W: ByteOut, A: Allocator>(
     out: &mut W,
-    head: &AviHead<A>,
+    head: &FileHead<A>,
     format: u32,
     count: u32,
-) -> Result<(), AviFault>
+) -> Result<(), FileFault>
     requires width { head.now.width ≤ 8192 }
     requires height { head.now.height ≤ 8192 }
     requires format { format ≤ 2 ^ 31 }
@@ -150,9 +149,9 @@ fn put_stream<W: ByteOut, A: Allocator>(
 /// 4.3.3).
 fn put_format<W: ByteOut, A: Allocator>(
     out: &mut W,
-    head: &AviHead<A>,
+    head: &FileHead<A>,
     size: u32,
-) -> Result<(), AviFault>
+) -> Result<(), FileFault>
     requires { size ≡ 40 + length head.now.config_record.items }
     ensures { Writes (passage W.contents W.failures out.old out.new)
         (spelled (strf (head_of head.now))) result }
@@ -175,7 +174,7 @@ fn put_format<W: ByteOut, A: Allocator>(
 }
 
 /// A frame's chunk.
-fn put_frame<W: ByteOut>(out: &mut W, frame: &[u8]) -> Result<(), AviFault>
+fn put_frame<W: ByteOut>(out: &mut W, frame: &[u8]) -> Result<(), FileFault>
     requires { length frame.now < 2 ^ 32 }
     ensures { Writes (passage W.contents W.failures out.old out.new)
         (frame_chunk frame.now) result }
@@ -191,7 +190,7 @@ fn put_movi<W: ByteOut, A: Allocator>(
     out: &mut W,
     frames: &[Vec<u8, A>],
     size: u32,
-) -> Result<(), AviFault>
+) -> Result<(), FileFault>
     requires { movi_size (frames_of frames.now) ≤ 2147483647 }
     ensures { Writes (passage W.contents W.failures out.old out.new)
         (spelled (movi size) ++ flat_map frame_chunk (frames_of frames.now)) result }
@@ -211,10 +210,10 @@ fn put_movi<W: ByteOut, A: Allocator>(
 /// The file's parts before movi, where the format has such a size, and RIFF such a one.
 fn put_head<W: ByteOut, A: Allocator>(
     out: &mut W,
-    head: &AviHead<A>,
+    head: &FileHead<A>,
     size: u32,
     count: u32,
-) -> Result<(), AviFault>
+) -> Result<(), FileFault>
     requires width { head.now.width ≤ 8192 }
     requires height { head.now.height ≤ 8192 }
     requires short { 40 + length head.now.config_record.items ≤ 2147483647 }
@@ -232,7 +231,7 @@ fn put_head<W: ByteOut, A: Allocator>(
 }
 
 /// The sizes of movi and of RIFF, where that is at most 2147483647.
-fn sizes<A: Allocator>(head: &AviHead<A>, frames: &[Vec<u8, A>]) -> Option<(u32, u32)>
+fn sizes<A: Allocator>(head: &FileHead<A>, frames: &[Vec<u8, A>]) -> Option<(u32, u32)>
     ensures { result ≡ sizes_of (head_of head.now) (frames_of frames.now) }
 {
     if head.config_record.len() as u64 > MOST {
@@ -250,16 +249,16 @@ fn sizes<A: Allocator>(head: &AviHead<A>, frames: &[Vec<u8, A>]) -> Option<(u32,
 /// takes no memory.
 pub fn write_avi<W: ByteOut, A: Allocator>(
     out: &mut W,
-    head: &AviHead<A>,
+    head: &FileHead<A>,
     frames: &[Vec<u8, A>],
-) -> Result<(), AviFault>
+) -> Result<(), FileFault>
     requires width { head.now.width ≤ 8192 }
     requires height { head.now.height ≤ 8192 }
     ensures { WritesFile (passage W.contents W.failures out.old out.new)
         (head_of head.now) (frames_of frames.now) result }
 {
     let Some((movi, riff)) = sizes(head, frames) else {
-        return Err(AviFault::TooLarge);
+        return Err(FileFault::TooLarge);
     };
     put_head(out, head, riff, frames.len() as u32)?;
     put_movi(out, frames, movi)

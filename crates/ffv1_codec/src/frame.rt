@@ -3,8 +3,6 @@
 ghost use Rattle.std.specs.Prelude.{◌≡◌, ◌≤◌};
 ghost use Rattle.ffv1_record.specs.Held.{classes_of};
 
-use ffv1_plane::QuantSet;
-use ffv1_range::StateTable;
 use ffv1_record::Checked;
 use ffv1_slice::Grid;
 use std::alloc::Allocator;
@@ -82,19 +80,6 @@ pub struct CodedLine {
     pub count: u8,
     /// The line, from the top of the row.
     pub y: u32,
-}
-
-/// How a segment is coded.
-#[derive(Drop)]
-pub struct Coding<'a, B: Allocator> {
-    /// The coded bytes of its slice.
-    pub bytes: &'a [u8],
-    /// How states move.
-    pub table: &'a StateTable,
-    /// The set of its plane.
-    pub set: &'a QuantSet<B>,
-    /// The bits of its samples, 8 or 9.
-    pub bits: u8,
 }
 
 /// The segment of a line that lies in one slice.

@@ -19,15 +19,14 @@ ghost use Rattle.ffv1_codec.specs.Tied.{TiedColumns, TiedLine, StepMade, Stopped
 
 use crate::column::Column;
 use crate::fault::{CodecFault, FrameFault};
-use crate::frame::{Coding, Frame, Segment};
+use crate::frame::{Frame, Segment};
 use crate::places::places;
 use ffv1_line::laws::{cell_is_read, samples_below, slots};
-use ffv1_line::{TooLong, decode_line};
-use ffv1_plane::QuantSet;
+use ffv1_line::{Above, Coding, TooLong, decode_line};
 use ffv1_range::laws::{
     counted_from_nothing, counted_in_parts, kept_states, read_is_coded, two_parts,
 };
-use ffv1_range::{Parked, StateTable, laws as coding};
+use ffv1_range::{Parked, laws as coding};
 use ffv1_record::Colour;
 use ffv1_record::laws::{accepted, accepted_parts};
 use std::alloc::Allocator;
@@ -36,35 +35,32 @@ use std::alloc::Allocator;
 /// class, and parks.
 fn read_segment<B: Allocator>(
     parked: &mut Option<Parked>,
+    bytes: &[u8],
     coding: &Coding<'_, B>,
     states: &mut [u8],
-    two: &[u16],
-    one: &[u16],
+    above: &Above<'_>,
     cur: &mut [u16],
 ) -> Result<(), TooLong>
-    requires bits { (coding.now.bits ≡ 8) ⊎ (coding.now.bits ≡ 9) }
     requires open { IsSome parked.old }
     requires some { 0 < length cur.old }
-    requires two_long { length two.now ≡ length cur.old }
-    requires one_long { length one.now ≡ length cur.old }
-    requires rows { length states.old ≡ contexts_of coding.now.set.now * 32 }
-    requires held { AllHeld coding.now.table.now states.old }
+    requires one_long { length above.now.one ≡ length cur.old }
+    requires rows { length states.old ≡ contexts_of coding.now.set * 32 }
+    requires held { AllHeld coding.now.table states.old }
     ensures exact { (past : List Step) (base : ℕ) (samples : List ℕ) (y : ℕ) →
-        let bytes = coding.now.bytes.now in
-        let table = coding.now.table.now in
-        let set = coding.now.set.now in
-        Stands bytes table base parked.old states.old past →
-        Rolls (length cur.new) samples two.now one.now y →
+        let table = coding.now.table in
+        let set = coding.now.set in
+        Stands bytes.now table base parked.old states.old past →
+        Rolls (length cur.new) samples above.now.two above.now.one y →
         MatchResult result
-        (λ _. SegmentRead bytes table base base set coding.now.bits past samples (length cur.new) y
-        parked.new states.new cur.new)
-        (λ e. SegmentRefused bytes table base base set coding.now.bits past samples
+        (λ _. SegmentRead bytes.now table base base set coding.now.bits past samples
+        (length cur.new) y parked.new states.new cur.new)
+        (λ e. SegmentRefused bytes.now table base base set coding.now.bits past samples
         (length cur.new) y parked.new (take e.x cur.new) e.x) }
     ensures small { OnOk result ((x : ℕ) → x < length cur.new →
         slice_index cur.new x < 2 ^ coding.now.bits) }
     ensures inside { IfErr result (λ e. e.x < length cur.new) }
     ensures open { IsSome parked.new }
-    ensures held { AllHeld coding.now.table.now states.new }
+    ensures held { AllHeld coding.now.table states.new }
 {
     kept_states();
     two_parts();
@@ -76,17 +72,8 @@ fn read_segment<B: Allocator>(
     samples_below();
     let set = coding.set;
     set.bounded();
-    let mut decoder = parked.take().unwrap().wake(coding.bytes);
-    let read = decode_line(
-        &mut decoder,
-        coding.table,
-        set,
-        states,
-        two,
-        one,
-        cur,
-        coding.bits,
-    );
+    let mut decoder = parked.take().unwrap().wake(bytes);
+    let read = decode_line(&mut decoder, coding, states, above, cur);
     *parked = Some(decoder.park());
     read
 }
@@ -160,18 +147,18 @@ fn read_column<A: Allocator>(
     let set = config.sets.get(usize::from(column.indexes[class]));
     let at = class * frame.most * 32;
     let end = at + set.contexts() as usize * 32;
+    let bytes = &frame.payload[column.first..column.last];
     let coding = Coding {
-        bytes: &frame.payload[column.first..column.last],
         table: frame.checked.table(),
         set,
         bits: bits_of(&config.colour),
     };
     read_segment(
         &mut column.parked,
+        bytes,
         &coding,
         &mut states[at..end],
-        two,
-        one,
+        &Above { two, one },
         cur,
     )
 }

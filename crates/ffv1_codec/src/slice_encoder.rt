@@ -21,7 +21,7 @@ use crate::cell_rows::{PlaneRows, load, load_all, restart, restart_all};
 use crate::fault::CodecFault;
 use crate::slice::{Slice, index_of};
 use ffv1_line::laws::{rolling, slots};
-use ffv1_line::{RollingRows, encode_line};
+use ffv1_line::{Above, Coding, RollingRows, encode_line};
 use ffv1_plane::QuantSet;
 use ffv1_range::laws::{counted_in_parts, kept_states, two_parts};
 use ffv1_range::{RangeEncoder, StateTable};
@@ -91,16 +91,12 @@ fn put_row<R: Allocator, A: Allocator>(
     slots();
     set.bounded();
     let end = at + set.contexts() as usize * 32;
-    let Ok(()) = encode_line(
-        encoder,
-        table,
-        set,
-        &mut states[at..end],
-        &rows.two,
-        &rows.one,
-        &rows.cur,
-        bits,
-    ) else {
+    let coding = Coding { table, set, bits };
+    let above = Above {
+        two: &rows.two,
+        one: &rows.one,
+    };
+    let Ok(()) = encode_line(encoder, &coding, &mut states[at..end], &above, &rows.cur) else {
         return Err(CodecFault::OutOfMemory);
     };
     Ok(())

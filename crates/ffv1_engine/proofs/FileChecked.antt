@@ -8,13 +8,14 @@ use Rattle.ffv1_wire.specs.Failures.{one_more}
 use Rattle.ffv1_wire.specs.Passage.{between}
 use Rattle.ffv1_record.specs.Accepted.{Accepted}
 use Rattle.ffv1_record.specs.Configuration.{Configuration}
-use Rattle.ffv1_avi.specs.declared.place.Extent.TheVariants.{FirstMovi}
+use Rattle.ffv1_avi.specs.declared.place.Extent.TheVariants.{FirstMovi, EveryRiff}
 use Rattle.ffv1_avi.specs.declared.place.Place.{Place}
 use Rattle.ffv1_avi.specs.Chunks.{AviFile}
+use Rattle.ffv1_avi.specs.Riffs.{RiffFile}
 use Rattle.ffv1_avi.specs.Files.{file_read, frame_read, frames_read, more_frames}
-use Rattle.ffv1_avi.specs.Head.{Head}
+use Rattle.ffv1_reads.specs.Head.{Head}
 use Rattle.ffv1_avi.specs.Readers.{Standing}
-use Rattle.ffv1_avi.specs.Reads as avi
+use Rattle.ffv1_reads.specs.Reads as avi
 use Rattle.ffv1_engine.specs.declared.profile.Profile.{Profile}
 use Rattle.ffv1_engine.specs.Profiles.{extent_in}
 use Rattle.ffv1_engine.specs.declared.profile.Profile.TheVariants.{Strict, Wide}
@@ -76,7 +77,8 @@ some_of_end from (Some text) (Some rest) frames e ends = (ends.0, ends.1, ends.2
 
 module _ (next : (place : Place) (text : List ℕ) → frames_read place text ≡ avi.read_on (frame_read place text) (more_frames frames_read))
     (is_file : (file : List ℕ) (head : Head) (frames : List (List ℕ)) (rest : List ℕ) → file_read FirstMovi file ≡ Ok ((head, frames), rest) → AviFile file head frames)
-    (is_read : (file : List ℕ) (head : Head) (frames : List (List ℕ)) (is : AviFile file head frames) → file_read FirstMovi file ≡ Ok ((head, frames), is.rest)) where
+    (is_read : (file : List ℕ) (head : Head) (frames : List (List ℕ)) (is : AviFile file head frames) → file_read FirstMovi file ≡ Ok ((head, frames), is.rest))
+    (whole : (file : List ℕ) (head : Head) (frames : List (List ℕ)) (rest : List ℕ) → file_read EveryRiff file ≡ Ok ((head, frames), rest) → RiffFile file head frames × (rest ≡ [])) where
   all_read : (from : Place) (text : List ℕ) (frames : List Frame) (to : Place) (at rest : List ℕ) → ReadsFrames from text (payloads frames) to at → frame_read to at ≡ Ok (None, rest) →
       frames_read from text ≡ Ok (payloads frames, rest)
   all_read from text [] to at rest h over =
@@ -93,10 +95,10 @@ module _ (next : (place : Place) (text : List ℕ) → frames_read place text �
   same_rest {X = X} x y rest more r e f = ap (λ (z : X × List ℕ). z.1) (same_pair (x, rest) (y, more) r e f)
 
   whole_read : (profile : Profile) (file rest : List ℕ) (s : Stream) (frames : List Frame) → file_read (extent_in profile) file ≡ Ok ((s.head, payloads frames), rest) → IsRead profile file rest s frames
-  whole_read Strict file rest s frames whole =
-      let is = is_file file s.head (payloads frames) rest whole in
-      (is, same_rest (s.head, payloads frames) (s.head, payloads frames) rest is.rest (file_read FirstMovi file) whole (is_read file s.head (payloads frames) is))
-  whole_read Wide file rest s frames whole = whole
+  whole_read Strict file rest s frames read =
+      let is = is_file file s.head (payloads frames) rest read in
+      (is, same_rest (s.head, payloads frames) (s.head, payloads frames) rest is.rest (file_read FirstMovi file) read (is_read file s.head (payloads frames) is))
+  whole_read Wide file rest s frames read = whole file s.head (payloads frames) rest read
 
   pub reads_file : (profile : Profile) (old mid new : Option (List ℕ)) (s : Stream) (from : Place) (frames : List Frame) → OpensKnown profile old mid s.head from → EndsFrom from mid new frames Over →
       ReadsFile profile old new s frames

@@ -6,11 +6,11 @@ use Rattle.ffv1_wire.specs.Passage.{Passage}
 use Rattle.ffv1_wire.specs.Writes.{AppendsBeginning}
 use Rattle.ffv1_codec.specs.Frame.{frame_of}
 use Rattle.ffv1_record.specs.Accepted.{Accepted}
-use Rattle.ffv1_avi.specs.Head.{Head}
+use Rattle.ffv1_reads.specs.Head.{Head}
 use Rattle.ffv1_avi.specs.Written.{file_of, most, riff_size}
 use Rattle.ffv1_avi.specs.Writes.{WritesFile}
-use Rattle.ffv1_avi.specs.declared.fault.AviFault.{AviFault}
-use Rattle.ffv1_avi.specs.declared.fault.AviFault.TheVariants as avi
+use Rattle.ffv1_reads.specs.declared.fault.FileFault.{FileFault}
+use Rattle.ffv1_reads.specs.declared.fault.FileFault.TheVariants as avi
 use Rattle.ffv1_words.specs.declared.order.Choice.{Choice}
 use Rattle.ffv1_engine.specs.declared.packing.Packed.{Packed}
 use Rattle.ffv1_engine.specs.declared.fault.Fault.TheVariants as fault
@@ -46,7 +46,7 @@ module _ (choice : Choice) (i o : Passage) (head : Head) (frames : List (List �
   packable : riff_size head frames ≤ most → IsPackable choice e.video e.accepted
   packable small = record { for = e.for; some = e.some; short = e.short; small = subst (λ n. n ≤ most) riff small }
 
-  pub file_refused : (f : AviFault) → WritesFile o head frames (Err f) → RefusesPack choice i o (of_avi f)
+  pub file_refused : (f : FileFault) → WritesFile o head frames (Err f) → RefusesPack choice i o (of_avi f)
   file_refused avi.TooLarge w = (record { kept = w.2; same = w.1 }, e.kept, too_large i.old i.new choice e.video e.accepted e.for e.short e.some (subst (λ n. most < n) riff w.0) e.ends)
   file_refused avi.Write w = (
     record {
@@ -66,6 +66,13 @@ module _ (choice : Choice) (i o : Passage) (head : Head) (frames : List (List �
   file_refused avi.ChunkTooLong w = absurd w.1
   file_refused avi.EmptyFrame w = absurd w.1
   file_refused avi.Read w = absurd w.1
+  file_refused avi.NotMatroska w = absurd w.1
+  file_refused avi.BadElement w = absurd w.1
+  file_refused avi.NoTracks w = absurd w.1
+  file_refused avi.Encoded w = absurd w.1
+  file_refused avi.Laced w = absurd w.1
+  file_refused avi.Checksum w = absurd w.1
+  file_refused avi.Rate w = absurd w.1
 
   pub file_written : (u : Unit {0}) (packed : Packed) → WritesFile o head frames (Ok u) → packed.frames ≡ length frames → packed.bytes ≡ bytes_in frames → Packs choice i o packed
   file_written u packed w many bytes = record {

@@ -2,15 +2,16 @@
 use Rattle.std.proofs.Common.{◌≡◌, refl, ℕ, Option, Some, None, Ok, Err, List, [], ◌++◌, inl, inr, ap, sym, ◌∙◌, append-nil, ◌⊎◌}
 use Rattle.std.specs.Io.KnownBytes.{IsAtEnd}
 use Rattle.ffv1_wire.specs.Passage.{Passage}
-use Rattle.ffv1_avi.specs.declared.fault.AviFault.{AviFault}
-use Rattle.ffv1_avi.specs.declared.fault.AviFault.TheVariants as avi_fault
+use Rattle.ffv1_reads.specs.declared.fault.FileFault.{FileFault}
+use Rattle.ffv1_reads.specs.declared.fault.FileFault.TheVariants as avi_fault
 use Rattle.ffv1_avi.specs.declared.place.Extent.{Extent}
 use Rattle.ffv1_avi.specs.declared.place.Extent.TheVariants.{FirstMovi, EveryRiff}
 use Rattle.ffv1_avi.specs.declared.place.Place.{Place}
-use Rattle.ffv1_avi.specs.Ends.{AnswersBy, AnswersFrom, Ends}
+use Rattle.ffv1_avi.specs.Extents.{AnswersBy, AnswersFrom}
+use Rattle.ffv1_reads.specs.Ends.{Ends}
 use Rattle.ffv1_avi.specs.Files.{frame_read}
 use Rattle.ffv1_avi.specs.Places.{extent_of}
-use Rattle.ffv1_avi.specs.Reads as avi
+use Rattle.ffv1_reads.specs.Reads as avi
 use Rattle.ffv1_engine.specs.declared.fault.Fault.TheVariants as fault
 use Rattle.ffv1_engine.specs.Faults.{of_avi}
 use Rattle.ffv1_engine.specs.Told.{FaultsKnown, FileStops, NextIs}
@@ -36,7 +37,7 @@ pub next_is : {Y : Type 0} (place : Place) (view : Y → Option (List ℕ × Pla
 next_is place view p y h = next_by (extent_of place) place view p y h
 
 module _ {X : Type 0} (reading : avi.Reading X) where
-  faults_known : (old new : Option (List ℕ)) (f : AviFault) → avi.Faults reading old new f → FaultsKnown reading old new (of_avi f)
+  faults_known : (old new : Option (List ℕ)) (f : FileFault) → avi.Faults reading old new f → FaultsKnown reading old new (of_avi f)
   faults_known None new f h = tt
   faults_known (Some text) None f h = absurd h.consumed
   faults_known (Some text) (Some rest) f h = inr (f, ap reading h.consumed ∙ h.is rest, refl)
@@ -48,7 +49,7 @@ module _ {X : Type 0} (reading : avi.Reading X) where
 
   module _ (p : Passage) where
     -- why none was read
-    pub refused_stops : (f : AviFault) → avi.Refused reading p.old p.new p.before p.after f → FileStops reading p (of_avi f)
+    pub refused_stops : (f : FileFault) → avi.Refused reading p.old p.new p.before p.after f → FileStops reading p (of_avi f)
     refused_stops avi_fault.OutOfMemory h = h.0
     refused_stops avi_fault.NotAvi h = (h.0, faults_known p.old p.new avi_fault.NotAvi h.1)
     refused_stops avi_fault.NoFfv1 h = (h.0, faults_known p.old p.new avi_fault.NoFfv1 h.1)
@@ -59,8 +60,15 @@ module _ {X : Type 0} (reading : avi.Reading X) where
     refused_stops avi_fault.TooLarge h = absurd h
     refused_stops avi_fault.Read h = h.0
     refused_stops avi_fault.Write h = absurd h
+    refused_stops avi_fault.NotMatroska h = (h.0, faults_known p.old p.new avi_fault.NotMatroska h.1)
+    refused_stops avi_fault.BadElement h = (h.0, faults_known p.old p.new avi_fault.BadElement h.1)
+    refused_stops avi_fault.NoTracks h = (h.0, faults_known p.old p.new avi_fault.NoTracks h.1)
+    refused_stops avi_fault.Encoded h = (h.0, faults_known p.old p.new avi_fault.Encoded h.1)
+    refused_stops avi_fault.Laced h = (h.0, faults_known p.old p.new avi_fault.Laced h.1)
+    refused_stops avi_fault.Checksum h = (h.0, faults_known p.old p.new avi_fault.Checksum h.1)
+    refused_stops avi_fault.Rate h = absurd h
 
-    stops_by : {Y : Type 0} (e : Extent) (view : Y → X) (f : AviFault) → AnswersBy e view reading p (Err f) → FileStops reading p (of_avi f)
+    stops_by : {Y : Type 0} (e : Extent) (view : Y → X) (f : FileFault) → AnswersBy e view reading p (Err f) → FileStops reading p (of_avi f)
     stops_by FirstMovi view f h = refused_stops f h
     stops_by EveryRiff view avi_fault.OutOfMemory h = refused_stops avi_fault.OutOfMemory h
     stops_by EveryRiff view avi_fault.NotAvi h = refused_stops avi_fault.NotAvi h
@@ -71,6 +79,13 @@ module _ {X : Type 0} (reading : avi.Reading X) where
     stops_by EveryRiff view avi_fault.TooLarge h = absurd h
     stops_by EveryRiff view avi_fault.Read h = h.0
     stops_by EveryRiff view avi_fault.Write h = absurd h
+    stops_by EveryRiff view avi_fault.NotMatroska h = refused_stops avi_fault.NotMatroska h
+    stops_by EveryRiff view avi_fault.BadElement h = refused_stops avi_fault.BadElement h
+    stops_by EveryRiff view avi_fault.NoTracks h = refused_stops avi_fault.NoTracks h
+    stops_by EveryRiff view avi_fault.Encoded h = refused_stops avi_fault.Encoded h
+    stops_by EveryRiff view avi_fault.Laced h = refused_stops avi_fault.Laced h
+    stops_by EveryRiff view avi_fault.Checksum h = refused_stops avi_fault.Checksum h
+    stops_by EveryRiff view avi_fault.Rate h = absurd h
 
-    pub file_stops : {Y : Type 0} (place : Place) (view : Y → X) (f : AviFault) → AnswersFrom place view reading p (Err f) → FileStops reading p (of_avi f)
+    pub file_stops : {Y : Type 0} (place : Place) (view : Y → X) (f : FileFault) → AnswersFrom place view reading p (Err f) → FileStops reading p (of_avi f)
     file_stops place view f h = stops_by (extent_of place) view f h

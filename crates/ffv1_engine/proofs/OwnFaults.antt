@@ -6,8 +6,8 @@ use Rattle.ffv1_record.specs.declared.fault.RecordFault.TheVariants as record_fa
 use Rattle.ffv1_codec.specs.declared.fault.CodecFault.{CodecFault}
 use Rattle.ffv1_codec.specs.declared.fault.CodecFault.TheVariants as codec_fault
 use Rattle.ffv1_codec.specs.DecodeFaults.{is_decode_fault}
-use Rattle.ffv1_avi.specs.declared.fault.AviFault.{AviFault}
-use Rattle.ffv1_avi.specs.declared.fault.AviFault.TheVariants as avi_fault
+use Rattle.ffv1_reads.specs.declared.fault.FileFault.{FileFault}
+use Rattle.ffv1_reads.specs.declared.fault.FileFault.TheVariants as avi_fault
 use Rattle.ffv1_avi.specs.Readers as avi
 use Rattle.ffv1_engine.specs.declared.fault.Fault.{Fault}
 use Rattle.ffv1_engine.specs.declared.fault.Fault.TheVariants as fault
@@ -41,7 +41,7 @@ record_opens record_fault.Intra = refl
 record_opens record_fault.ExtraPlane = refl
 
 -- those of the reader of files
-pub file_opens : (f : AviFault) → avi.is_opening_fault f ≡ true → is_opening_fault (of_avi f) ≡ true
+pub file_opens : (f : FileFault) → avi.is_opening_fault f ≡ true → is_opening_fault (of_avi f) ≡ true
 file_opens avi_fault.OutOfMemory own = refl
 file_opens avi_fault.NotAvi own = refl
 file_opens avi_fault.NoFfv1 own = refl
@@ -51,8 +51,15 @@ file_opens avi_fault.EmptyFrame own = absurd (let no : false ≡ true = own in c
 file_opens avi_fault.TooLarge own = absurd (let no : false ≡ true = own in cc)
 file_opens avi_fault.Read own = refl
 file_opens avi_fault.Write own = absurd (let no : false ≡ true = own in cc)
+file_opens avi_fault.NotMatroska own = absurd (let no : false ≡ true = own in cc)
+file_opens avi_fault.BadElement own = absurd (let no : false ≡ true = own in cc)
+file_opens avi_fault.NoTracks own = absurd (let no : false ≡ true = own in cc)
+file_opens avi_fault.Encoded own = absurd (let no : false ≡ true = own in cc)
+file_opens avi_fault.Laced own = absurd (let no : false ≡ true = own in cc)
+file_opens avi_fault.Checksum own = absurd (let no : false ≡ true = own in cc)
+file_opens avi_fault.Rate own = absurd (let no : false ≡ true = own in cc)
 
-pub frame_tells : (f : AviFault) → avi.is_frame_fault f ≡ true → is_telling_fault (of_avi f) ≡ true
+pub frame_tells : (f : FileFault) → avi.is_frame_fault f ≡ true → is_telling_fault (of_avi f) ≡ true
 frame_tells avi_fault.OutOfMemory own = refl
 frame_tells avi_fault.NotAvi own = refl
 frame_tells avi_fault.NoFfv1 own = absurd (let no : false ≡ true = own in cc)
@@ -62,6 +69,13 @@ frame_tells avi_fault.EmptyFrame own = refl
 frame_tells avi_fault.TooLarge own = absurd (let no : false ≡ true = own in cc)
 frame_tells avi_fault.Read own = refl
 frame_tells avi_fault.Write own = absurd (let no : false ≡ true = own in cc)
+frame_tells avi_fault.NotMatroska own = absurd (let no : false ≡ true = own in cc)
+frame_tells avi_fault.BadElement own = absurd (let no : false ≡ true = own in cc)
+frame_tells avi_fault.NoTracks own = absurd (let no : false ≡ true = own in cc)
+frame_tells avi_fault.Encoded own = absurd (let no : false ≡ true = own in cc)
+frame_tells avi_fault.Laced own = absurd (let no : false ≡ true = own in cc)
+frame_tells avi_fault.Checksum own = absurd (let no : false ≡ true = own in cc)
+frame_tells avi_fault.Rate own = absurd (let no : false ≡ true = own in cc)
 
 pub payload_tells : (g : CodecFault) → is_decode_fault g ≡ true → g ≢ codec_fault.Sink → is_telling_fault (of_codec g) ≡ true
 payload_tells codec_fault.OutOfMemory decode own = refl

@@ -9,12 +9,13 @@ use Rattle.ffv1_record.specs.Accepted.{Accepted}
 use Rattle.ffv1_codec.specs.Frame.{IsSaid, frame_of}
 use Rattle.ffv1_codec.specs.Picture.{Planes}
 use Rattle.ffv1_codec.specs.declared.fault.FrameFault.{FrameFault}
-use Rattle.ffv1_avi.specs.declared.place.Extent.TheVariants.{FirstMovi}
+use Rattle.ffv1_avi.specs.declared.place.Extent.TheVariants.{FirstMovi, EveryRiff}
+use Rattle.ffv1_avi.specs.Riffs.{RiffFile}
 use Rattle.ffv1_avi.specs.declared.place.Place.{Place}
 use Rattle.ffv1_avi.specs.Chunks.{AviFile, IsWritable}
 use Rattle.ffv1_avi.specs.Files.{file_read, frame_read, frames_read, more_frames, open_read}
-use Rattle.ffv1_avi.specs.Head.{Head}
-use Rattle.ffv1_avi.specs.Reads as avi
+use Rattle.ffv1_reads.specs.Head.{Head}
+use Rattle.ffv1_reads.specs.Reads as avi
 use Rattle.ffv1_avi.specs.Written.{file_of}
 use Rattle.ffv1_y4m.specs.Canonical.{canonical_text}
 use Rattle.ffv1_y4m.specs.HeaderLine.{IsHeaderLine}
@@ -35,7 +36,7 @@ use Rattle.ffv1_engine.specs.Pack.{IsPackable}
 use Rattle.ffv1_engine.specs.Packing.{AllShort, configuration_for, packed_file, packed_frames, packed_head, said_for}
 use Rattle.ffv1_engine.specs.Play.{End, EndsKnown, EndsWith, FaultsRead, IsOfFile, LacksStream, Played}
 use Rattle.ffv1_engine.specs.Play.End.{File, Payload, Over}
-use Rattle.ffv1_engine.specs.RoundTrip.{AreReadable, Holds, IsNoContent, IsUnpacked, WasPacked, canonical_by, canonical_of, video_in}
+use Rattle.ffv1_engine.specs.RoundTrip.{AreReadable, Holds, IsFileIn, IsNoContent, IsUnpacked, WasPacked, canonical_by, canonical_of, video_in}
 use Rattle.ffv1_engine.specs.Stream.{AreFrames, Begins, BeginsKnown, FaultsFrame, Frame, IsRead, IsStream, ReadsFile, ReadsFrames, Stream, payloads}
 use Rattle.ffv1_engine.specs.Unpack.{LacksTextIn, UnpackDone, UnpackStops, UnpackStopsBy}
 use Rattle.ffv1_engine.specs.Unpacked.{AllSay, AreAlike, HasTextBy, LacksText, LacksTextBy, is_ppm_stream, pictures, text_of}
@@ -49,9 +50,10 @@ use Rattle.ffv1_record.specs.Configuration.{Configuration}
 
 -- what is known of files and of texts
 pub record FileLaws (profile : Profile) : Type 0 where
-  pub file : (head : Head) (frames : List (List ℕ)) → IsWritable head frames → AviFile (file_of head frames) head frames
+  pub file : (head : Head) (frames : List (List ℕ)) → IsWritable head frames → IsFileIn profile (file_of head frames) head frames
   pub read : (head : Head) (frames : List (List ℕ)) → IsWritable head frames → file_read (extent_in profile) (file_of head frames) ≡ Ok ((head, frames), [])
   pub is_read : (file : List ℕ) (head : Head) (frames : List (List ℕ)) (is : AviFile file head frames) → file_read FirstMovi file ≡ Ok ((head, frames), is.rest)
+  pub is_whole : (file : List ℕ) (head : Head) (frames : List (List ℕ)) → RiffFile file head frames → file_read EveryRiff file ≡ Ok ((head, frames), [])
   pub next : (place : Place) (text : List ℕ) → frames_read place text ≡ avi.read_on (frame_read place text) (more_frames frames_read)
   pub said : (line : List ℕ) (h : VideoHead) → IsHeaderLine line h → IsHead h
   pub canonical : (h : VideoHead) (ps : List Planes) → IsHead h → AllFit h ps → IsText (canonical_text h ps) h ps
@@ -97,7 +99,7 @@ record Whole (profile : Profile) (file : List ℕ) (new : Option (List ℕ)) (s 
 module _ (profile : Profile) (files : FileLaws profile) where
   whole_by : (p : Profile) (file rest : List ℕ) (s : Stream) (frames : List Frame) → IsRead p file rest s frames → Whole p file (Some rest) s frames
   whole_by Strict file rest s frames h = record { rest = rest; is = files.is_read file s.head (payloads frames) h.0 ∙ ap (λ t. Ok ((s.head, payloads frames), t)) (sym h.1); left = refl }
-  whole_by Wide file rest s frames h = record { rest = rest; is = h; left = refl }
+  whole_by Wide file rest s frames h = record { rest = rest; is = files.is_whole file s.head (payloads frames) h.0 ∙ ap (λ t. Ok ((s.head, payloads frames), t)) (sym h.1); left = refl }
 
   whole_of : (file : List ℕ) (new : Option (List ℕ)) (s : Stream) (frames : List Frame) → ReadsFile profile (Some file) new s frames → Whole profile file new s frames
   whole_of file None s frames h = absurd h
@@ -141,7 +143,7 @@ module _ (profile : Profile) (files : FileLaws profile) (frame_laws : FrameLaws)
   stream : Stream
   stream = stream_for choice v.ppm v.head a
 
-  file_is : AviFile (packed_file choice v a) (packed_head choice v a) (packed_frames v a)
+  file_is : IsFileIn profile (packed_file choice v a) (packed_head choice v a) (packed_frames v a)
   file_is = files.file (packed_head choice v a) (packed_frames v a) can_write
 
   reads_whole : file_read (extent_in profile) (packed_file choice v a) ≡ Ok ((packed_head choice v a, packed_frames v a), [])
@@ -157,7 +159,7 @@ module _ (profile : Profile) (files : FileLaws profile) (frame_laws : FrameLaws)
       let m = made frame_laws a g.packable.for.accepted (said_for v.head) v.pictures coded in record {
         stream = stream;
         frames = m.frames;
-        is = subst (λ ps. AviFile (packed_file choice v a) (packed_head choice v a) ps) (sym m.payloads_are) file_is;
+        is = subst (λ ps. IsFileIn profile (packed_file choice v a) (packed_head choice v a) ps) (sym m.payloads_are) file_is;
         played = record { stream = stream_is profile records choice v.ppm v.head a for g.packable.for.accepted profiled head; decoded = m.are };
         pictures_are = m.pictures_are;
         say = m.say;

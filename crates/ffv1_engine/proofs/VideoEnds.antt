@@ -13,7 +13,7 @@ use Rattle.ffv1_y4m.specs.declared.head.VideoHead.{VideoHead}
 use Rattle.ffv1_wire.specs.Passage.{Passage}
 use Rattle.ffv1_record.specs.Accepted.{Accepted}
 use Rattle.std.specs.declared.vec.Vec.{Vec}
-use Rattle.ffv1_avi.specs.Head.{Head}
+use Rattle.ffv1_reads.specs.Head.{Head}
 use Rattle.ffv1_avi.specs.Written.{frames_of}
 use Rattle.ffv1_y4m.specs.Header.{header_of}
 use Rattle.ffv1_words.specs.declared.order.Choice.{Choice}

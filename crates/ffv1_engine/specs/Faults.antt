@@ -9,8 +9,8 @@ use Rattle.ffv1_record.specs.declared.fault.RecordFault.{RecordFault}
 use Rattle.ffv1_record.specs.declared.fault.RecordFault.TheVariants as record_fault
 use Rattle.ffv1_codec.specs.declared.fault.CodecFault.{CodecFault}
 use Rattle.ffv1_codec.specs.declared.fault.CodecFault.TheVariants as codec_fault
-use Rattle.ffv1_avi.specs.declared.fault.AviFault.{AviFault}
-use Rattle.ffv1_avi.specs.declared.fault.AviFault.TheVariants as avi_fault
+use Rattle.ffv1_reads.specs.declared.fault.FileFault.{FileFault}
+use Rattle.ffv1_reads.specs.declared.fault.FileFault.TheVariants as avi_fault
 use Rattle.ffv1_y4m.specs.declared.fault.Fault.{Fault as Y4mFault}
 use Rattle.ffv1_y4m.specs.declared.fault.Fault.TheVariants as y4m_fault
 
@@ -67,7 +67,7 @@ of_codec codec_fault.SliceTooLong = fault.SliceTooLong
 of_codec codec_fault.InfoDiffers = fault.InfoDiffers
 of_codec codec_fault.Sink = fault.Sink
 
-abbrev pub of_avi : AviFault → Fault
+abbrev pub of_avi : FileFault → Fault
 of_avi avi_fault.OutOfMemory = fault.OutOfMemory
 of_avi avi_fault.NotAvi = fault.NotAvi
 of_avi avi_fault.NoFfv1 = fault.NoFfv1
@@ -77,6 +77,13 @@ of_avi avi_fault.EmptyFrame = fault.EmptyFrame
 of_avi avi_fault.TooLarge = fault.TooLarge
 of_avi avi_fault.Read = fault.Read
 of_avi avi_fault.Write = fault.Write
+of_avi avi_fault.NotMatroska = fault.NotMatroska
+of_avi avi_fault.BadElement = fault.BadElement
+of_avi avi_fault.NoTracks = fault.NoTracks
+of_avi avi_fault.Encoded = fault.Encoded
+of_avi avi_fault.Laced = fault.Laced
+of_avi avi_fault.Checksum = fault.Checksum
+of_avi avi_fault.Rate = fault.Rate
 
 abbrev pub of_y4m : Y4mFault → Fault
 of_y4m y4m_fault.OutOfMemory = fault.OutOfMemory

@@ -12,7 +12,7 @@ use Rattle.ffv1_record.specs.Configuration.{Configuration}
 use Rattle.ffv1_codec.specs.declared.fault.FrameFault.{FrameFault}
 use Rattle.ffv1_avi.specs.declared.place.Place.{Place}
 use Rattle.ffv1_avi.specs.Files.{frame_read}
-use Rattle.ffv1_avi.specs.Head.{Head}
+use Rattle.ffv1_reads.specs.Head.{Head}
 use Rattle.ffv1_y4m.specs.Images.{AtImage, image_text, text_of_lines}
 use Rattle.ffv1_y4m.specs.Sink.{PpmSink}
 use Rattle.ffv1_engine.specs.declared.fault.Fault.{Fault}

@@ -9,7 +9,7 @@ use Rattle.ffv1_record.specs.Accepted.{Accepted, IsFirst, checks}
 use Rattle.ffv1_record.specs.declared.fault.RecordFault.{RecordFault}
 use Rattle.ffv1_codec.specs.Picture.{Planes}
 use Rattle.ffv1_codec.specs.Frame.{HasLongSlice}
-use Rattle.ffv1_avi.specs.Head.{Head}
+use Rattle.ffv1_reads.specs.Head.{Head}
 use Rattle.ffv1_avi.specs.Written.{most, riff_size}
 use Rattle.ffv1_y4m.specs.declared.fault.Fault.{Fault as Y4mFault}
 use Rattle.ffv1_y4m.specs.declared.head.VideoHead.{VideoHead}

@@ -10,9 +10,9 @@ use Rattle.ffv1_record.specs.declared.fault.RecordFault.{RecordFault}
 use Rattle.ffv1_codec.specs.declared.fault.FrameFault.{FrameFault}
 use Rattle.ffv1_avi.specs.declared.place.Place.{Place}
 use Rattle.ffv1_avi.specs.Files.{frame_read, open_read}
-use Rattle.ffv1_avi.specs.Head.{Head}
-use Rattle.ffv1_avi.specs.Reads.{Reading, Want, Short, Met}
-use Rattle.ffv1_avi.specs.declared.fault.AviFault.{AviFault}
+use Rattle.ffv1_reads.specs.Head.{Head}
+use Rattle.ffv1_reads.specs.Reads.{Reading, Want, Short, Met}
+use Rattle.ffv1_reads.specs.declared.fault.FileFault.{FileFault}
 use Rattle.ffv1_engine.specs.declared.profile.Profile.{Profile}
 use Rattle.ffv1_engine.specs.Profiles.{extent_in}
 use Rattle.ffv1_engine.specs.declared.fault.Fault.{Fault}
@@ -26,7 +26,7 @@ use Rattle.ffv1_engine.specs.Stream.{Stream}
 abbrev pub FaultsRead : {X : Type 0} → Reading X → List ℕ → List ℕ → Fault → Type 0
 FaultsRead reading text rest f =
     ((w : Want) × (reading text ≡ Err (Short w)) × (rest ≡ []) × (f ≡ fault.Truncated))
-    ⊎ ((g : AviFault) × (reading text ≡ Err (Met g rest)) × (f ≡ of_avi g))
+    ⊎ ((g : FileFault) × (reading text ≡ Err (Met g rest)) × (f ≡ of_avi g))
 
 -- a file with a head whose record is refused
 pub record LacksRecord (profile : Profile) (file rest : List ℕ) (f : Fault) : Type 0 where

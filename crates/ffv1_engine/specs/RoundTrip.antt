@@ -8,12 +8,15 @@ use Rattle.ffv1_range.specs.Codes.{AreBytes}
 use Rattle.ffv1_range.specs.Counts.{saturated}
 use Rattle.ffv1_codec.specs.Picture.{Planes}
 use Rattle.ffv1_avi.specs.Chunks.{AviFile}
+use Rattle.ffv1_reads.specs.Head.{Head}
+use Rattle.ffv1_avi.specs.Riffs.{RiffFile}
 use Rattle.ffv1_avi.specs.Streams.{limit}
 use Rattle.ffv1_y4m.specs.Canonical.{canonical_text}
 use Rattle.ffv1_y4m.specs.Images.{image_text}
 use Rattle.ffv1_y4m.specs.VideoHead.{IsRatio}
 use Rattle.ffv1_y4m.specs.declared.head.VideoHead.{VideoHead}
 use Rattle.ffv1_engine.specs.declared.profile.Profile.{Profile}
+use Rattle.ffv1_engine.specs.declared.profile.Profile.TheVariants.{Strict, Wide}
 use Rattle.ffv1_engine.specs.declared.fault.Fault.{Fault}
 use Rattle.ffv1_engine.specs.declared.fault.Fault.TheVariants as fault
 use Rattle.ffv1_words.specs.declared.order.Choice.{Choice}
@@ -59,12 +62,17 @@ canonical_by true h pictures = flat_map (image_text h.width h.height) pictures
 abbrev pub canonical_of : Video → List ℕ
 canonical_of v = canonical_by v.ppm v.head v.pictures
 
+-- a file of this head and these frames, by its chunks: those of its first movi, or of every RIFF
+abbrev pub IsFileIn : Profile → List ℕ → Head → List (List ℕ) → Type 0
+IsFileIn Strict file head frames = AviFile file head frames
+IsFileIn Wide file head frames = RiffFile file head frames
+
 -- a file is a stream of frames, one for each picture of a video, which code those pictures and say
 -- what the video's head says; and their text is the canonical text of the video
 pub record Holds (profile : Profile) (file : List ℕ) (v : Video) : Type 0 where
   pub stream : Stream
   pub frames : List Frame
-  pub is : AviFile file stream.head (payloads frames)
+  pub is : IsFileIn profile file stream.head (payloads frames)
   pub played : Played profile stream frames
   pub pictures_are : pictures frames ≡ v.pictures
   pub say : AllSay (said_for v.head) frames

@@ -16,9 +16,9 @@ use Rattle.ffv1_codec.specs.SliceList.{Said}
 use Rattle.ffv1_codec.specs.declared.fault.FrameFault.{FrameFault}
 use Rattle.ffv1_avi.specs.declared.place.Place.{Place}
 use Rattle.ffv1_avi.specs.Chunks.{AviFile}
-use Rattle.ffv1_avi.specs.Files.{file_read, frame_read, open_read}
-use Rattle.ffv1_avi.specs.Head.{Head}
-use Rattle.ffv1_avi.specs.declared.place.Extent.TheVariants.{EveryRiff}
+use Rattle.ffv1_avi.specs.Files.{frame_read, open_read}
+use Rattle.ffv1_reads.specs.Head.{Head}
+use Rattle.ffv1_avi.specs.Riffs.{RiffFile}
 use Rattle.ffv1_engine.specs.declared.profile.Profile.{Profile}
 use Rattle.ffv1_engine.specs.declared.profile.Profile.TheVariants.{Strict, Wide}
 use Rattle.ffv1_engine.specs.Profiles.{extent_in, record_profile}
@@ -106,11 +106,11 @@ BeginsKnown profile (Some file) (Some rest) s frames =
     (to : Place) × Begins profile file s frames to rest
 
 -- a file was read to its end, with this head and these frames, and this is left of it: a file by
--- its chunks, behind whose first movi that stands; or all of an AVI
+-- its chunks, behind whose first movi that stands; or one by the chunks of every RIFF, and nothing
 abbrev pub IsRead : Profile → List ℕ → List ℕ → Stream → List Frame → Type 0
 IsRead Strict file rest s frames =
     (is : AviFile file s.head (payloads frames)) × (rest ≡ is.rest)
-IsRead Wide file rest s frames = file_read EveryRiff file ≡ Ok ((s.head, payloads frames), rest)
+IsRead Wide file rest s frames = RiffFile file s.head (payloads frames) × (rest ≡ [])
 
 -- where the file is known, it was read so
 abbrev pub ReadsFile : Profile → Option (List ℕ) → Option (List ℕ) → Stream → List Frame → Type 0

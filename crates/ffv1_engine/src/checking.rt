@@ -10,7 +10,7 @@ use crate::frame_line::{FrameLine, put_count};
 use crate::player::open_player;
 use crate::profile::Profile;
 use crate::telling::tell_frames;
-use ffv1_avi::laws::{file_is_read, frames_in_turn, read_is_file};
+use ffv1_avi::laws::{file_is_read, frames_in_turn, read_is_file, whole};
 use ffv1_wire::{ByteIn, ByteOut, write_all};
 use std::alloc::Allocator;
 
@@ -42,12 +42,12 @@ fn write_count<W: ByteOut, A: Allocator + Copy>(
 /// Frames are counted from 0; a count of 64 bits stays at its greatest value. Beside what the
 /// decoder holds, one payload and one line are held.
 ///
-/// The first fault ends it, behind the lines of the frames before: those of the file up to its
+/// The first fault ends it, after the lines of the frames before: those of the file up to its
 /// first frame (`NotAvi`, `NoFfv1`, `Truncated`, `ChunkTooLong`), of its record, of the chunks of
 /// its frames (`EmptyFrame`, too), of a payload; `NoFrames` at the end where there was none;
-/// `Read`, `OutOfMemory` and `Write` as they come. At `Wide`, `Truncated` is also a file that ends inside a
-/// `RIFF`, or that has fewer frames than its `dmlh` says, and `NotAvi` one where something that is
-/// no `RIFF` comes after the last one. With `place`, where a payload is refused, and only
+/// `Read`, `OutOfMemory` and `Write` as they come. At `Wide`, `Truncated` is also a file that ends
+/// inside a `RIFF`, or that has fewer frames than its `dmlh` says, and `NotAvi` one where something
+/// that is no `RIFF` comes after the last one. With `place`, where a payload is refused, and only
 /// there, one line more is written, and where that cannot be, the fault stays the payload's:
 ///
 /// ```text
@@ -71,6 +71,7 @@ pub fn check<R: ByteIn, W: ByteOut, A: Allocator + Copy>(
     frames_in_turn();
     read_is_file();
     file_is_read();
+    whole();
     let mut player = open_player(alloc, profile, input)?;
     let count = tell_frames(alloc, &mut player, input, output, FrameLine::Sizes, place)?;
     if count == 0 {

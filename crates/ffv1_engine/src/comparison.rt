@@ -13,7 +13,7 @@ use crate::fault::Fault;
 use crate::laws::code_comes_back;
 use crate::plane::fresh_states;
 use ffv1_line::laws::{cell_comes_back, rolling};
-use ffv1_line::{RollingRows, decode_line};
+use ffv1_line::{Above, Coding, RollingRows, decode_line};
 use ffv1_plane::QuantSet;
 use ffv1_range::{RangeDecoder, StateTable};
 use std::alloc::{AllocError, Allocator};
@@ -64,8 +64,16 @@ fn decode_row<A: Allocator>(
 {
     cell_comes_back();
     rolling();
-    let cur = rows.cur.as_mut_slice();
-    match decode_line(decoder, table, set, states, &rows.two, &rows.one, cur, 8) {
+    let coding = Coding {
+        table,
+        set,
+        bits: 8,
+    };
+    let above = Above {
+        two: &rows.two,
+        one: &rows.one,
+    };
+    match decode_line(decoder, &coding, states, &above, rows.cur.as_mut_slice()) {
         Ok(()) => {
             let same = shows(rows.cur.as_slice(), row);
             rows.turn();

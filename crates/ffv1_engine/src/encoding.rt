@@ -5,7 +5,7 @@ ghost use Rattle.ffv1_wire.specs.Passage.{passage};
 ghost use Rattle.ffv1_record.specs.Accepted.{IsFirst, checks};
 ghost use Rattle.ffv1_record.specs.Configuration.{configuration_of};
 ghost use Rattle.ffv1_record.specs.declared.fault.RecordFault.{RecordFault};
-ghost use Rattle.ffv1_avi.specs.Head.{head_of};
+ghost use Rattle.ffv1_reads.specs.Head.{head_of};
 ghost use Rattle.ffv1_avi.specs.Written.{frames_of};
 ghost use Rattle.ffv1_engine.specs.declared.fault.Fault.TheVariants as fault;
 ghost use Rattle.ffv1_engine.specs.Faults.{of_record};
@@ -17,11 +17,12 @@ ghost use Rattle.ffv1_engine.specs.Packing.{head_for, said_for, set_for};
 ghost use Rattle.ffv1_engine.specs.VideoReads.{IsHeadBy, reading_of};
 
 use crate::fault::Fault;
+use crate::profile::Profile;
 use crate::video::VideoReader;
-use ffv1_avi::AviHead;
 use ffv1_codec::{FrameEncoder, Info, Picture};
 use ffv1_plane::QuantSet;
 use ffv1_range::laws::one_table;
+use ffv1_reads::FileHead;
 use ffv1_record::{Checked, Coder, Colour, Config, Sets, write_record};
 use ffv1_wire::ByteIn;
 use ffv1_words::{Choice, CoderChoice};
@@ -90,9 +91,10 @@ fn config_for<A: Allocator + Copy>(
     })
 }
 
-/// The same, checked.
+/// The same, checked in a profile.
 pub(crate) fn checked_for<A: Allocator + Copy>(
     alloc: A,
+    profile: Profile,
     choice: &Choice,
     ppm: bool,
     head: &VideoHead,
@@ -106,7 +108,7 @@ pub(crate) fn checked_for<A: Allocator + Copy>(
 {
     one_table();
     let config = config_for(alloc, choice, ppm, head)?;
-    Ok(config.check()?)
+    Ok(config.check_in(profile.of_record())?)
 }
 
 /// The head of the file of a video.
@@ -116,13 +118,13 @@ pub(crate) fn file_head<A: Allocator + Copy>(
     ppm: bool,
     head: &VideoHead,
     checked: &Checked<A>,
-) -> Result<AviHead<A>, Fault>
+) -> Result<FileHead<A>, Fault>
     ensures ok { IfOk result (λ h.
         head_of h ≡ head_for choice.now ppm head.now checked.now.configuration) }
     ensures err { IfErr result (λ f. f ≡ fault.OutOfMemory) }
 {
     let config_record = write_record(alloc, checked)?;
-    Ok(AviHead {
+    Ok(FileHead {
         width: head.width,
         height: head.height,
         rate: if ppm { choice.rate } else { head.rate },

@@ -5,6 +5,7 @@ ghost use Rattle.ffv1_engine.specs.declared.fault.Fault.TheVariants as fault;
 ghost use Rattle.ffv1_engine.specs.Faults.{of_range, of_plane, of_record, of_codec, of_avi};
 ghost use Rattle.ffv1_engine.specs.Faults.{of_y4m};
 
+use ffv1_reads::FileFault;
 use std::alloc::{AllocError, AllocFailed};
 use thiserror::Error;
 
@@ -172,6 +173,28 @@ pub enum Fault {
     /// PPM has no plane of transparency.
     #[error("73 NoPpm")]
     NoPpm,
+    /// The file is no Matroska of a version that is read.
+    #[error("80 NotMatroska")]
+    NotMatroska,
+    /// An identifier or a number of an element is longer than it may be, its size is unknown where
+    /// none may be, or it may not stand there.
+    #[error("81 BadElement")]
+    BadElement,
+    /// A Cluster, or the end of the Segment, comes before any Tracks.
+    #[error("82 NoTracks")]
+    NoTracks,
+    /// The track's blocks are compressed or encrypted.
+    #[error("83 Encoded")]
+    Encoded,
+    /// A block has lacing.
+    #[error("84 Laced")]
+    Laced,
+    /// A CRC-32 differs from that of the bytes.
+    #[error("85 Checksum")]
+    Checksum,
+    /// The frame rate is none that whole nanoseconds a frame say.
+    #[error("86 Rate")]
+    Rate,
 }
 
 impl From<ffv1_range::Fault> for Fault {
@@ -255,20 +278,27 @@ impl From<ffv1_codec::CodecFault> for Fault {
     }
 }
 
-impl From<ffv1_avi::AviFault> for Fault {
+impl From<FileFault> for Fault {
     ghost from_gives = { λ e f. f ≡ of_avi e };
 
-    fn from(e: ffv1_avi::AviFault) -> Fault {
+    fn from(e: FileFault) -> Fault {
         match e {
-            ffv1_avi::AviFault::OutOfMemory => Fault::OutOfMemory,
-            ffv1_avi::AviFault::NotAvi => Fault::NotAvi,
-            ffv1_avi::AviFault::NoFfv1 => Fault::NoFfv1,
-            ffv1_avi::AviFault::Truncated => Fault::Truncated,
-            ffv1_avi::AviFault::ChunkTooLong => Fault::ChunkTooLong,
-            ffv1_avi::AviFault::EmptyFrame => Fault::EmptyFrame,
-            ffv1_avi::AviFault::TooLarge => Fault::TooLarge,
-            ffv1_avi::AviFault::Read => Fault::Read,
-            ffv1_avi::AviFault::Write => Fault::Write,
+            FileFault::OutOfMemory => Fault::OutOfMemory,
+            FileFault::NotAvi => Fault::NotAvi,
+            FileFault::NoFfv1 => Fault::NoFfv1,
+            FileFault::Truncated => Fault::Truncated,
+            FileFault::ChunkTooLong => Fault::ChunkTooLong,
+            FileFault::EmptyFrame => Fault::EmptyFrame,
+            FileFault::TooLarge => Fault::TooLarge,
+            FileFault::Read => Fault::Read,
+            FileFault::Write => Fault::Write,
+            FileFault::NotMatroska => Fault::NotMatroska,
+            FileFault::BadElement => Fault::BadElement,
+            FileFault::NoTracks => Fault::NoTracks,
+            FileFault::Encoded => Fault::Encoded,
+            FileFault::Laced => Fault::Laced,
+            FileFault::Checksum => Fault::Checksum,
+            FileFault::Rate => Fault::Rate,
         }
     }
 }

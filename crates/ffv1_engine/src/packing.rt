@@ -2,7 +2,7 @@
 
 ghost use Rattle.std.specs.Prelude.{◌≡◌, ◌≤◌, IfOk, IfErr, true};
 ghost use Rattle.ffv1_wire.specs.Passage.{passage};
-ghost use Rattle.ffv1_avi.specs.Head.{head_of};
+ghost use Rattle.ffv1_reads.specs.Head.{head_of};
 ghost use Rattle.ffv1_avi.specs.Written.{frames_of};
 ghost use Rattle.ffv1_engine.specs.Pack.{EncodesVideo, Packs, RefusesPack, StopsVideo};
 ghost use Rattle.ffv1_engine.specs.Pack.{is_pack_fault};
@@ -10,9 +10,11 @@ ghost use Rattle.ffv1_engine.specs.Packing.{bytes_in};
 
 use crate::encoding::{checked_for, encode_pictures, file_head};
 use crate::fault::Fault;
+use crate::profile::Profile;
 use crate::video::VideoReader;
-use ffv1_avi::{AviHead, write_avi};
+use ffv1_avi::write_avi;
 use ffv1_codec::FrameEncoder;
+use ffv1_reads::FileHead;
 use ffv1_wire::{ByteIn, ByteOut};
 use ffv1_words::Choice;
 use ffv1_y4m::laws::{images, texts};
@@ -30,13 +32,14 @@ pub struct Packed {
 /// The head and the frames of a file.
 #[derive(Drop)]
 struct Stream<A: Allocator = Global> {
-    head: AviHead<A>,
+    head: FileHead<A>,
     frames: Vec<Vec<u8, A>, A>,
 }
 
 /// Reads a video and encodes it.
 fn encode_video<R: ByteIn, A: Allocator + Copy>(
     alloc: A,
+    profile: Profile,
     input: &mut R,
     choice: &Choice,
 ) -> Result<Stream<A>, Fault>
@@ -51,7 +54,7 @@ fn encode_video<R: ByteIn, A: Allocator + Copy>(
     images();
     let mut reader = VideoReader::open(alloc, input)?;
     let ppm = reader.is_ppm();
-    let checked = checked_for(alloc, choice, ppm, reader.head())?;
+    let checked = checked_for(alloc, profile, choice, ppm, reader.head())?;
     let head = file_head(alloc, choice, ppm, reader.head(), &checked)?;
     let mut encoder = FrameEncoder::new(alloc, checked);
     let mut frames = Vec::new(alloc);
@@ -80,7 +83,8 @@ fn bytes_in<A: Allocator>(frames: &[Vec<u8, A>]) -> u64
 /// The file's configuration record has one quantisation table set, and says that all frames are key
 /// frames. The frames of YUV4MPEG2 say its structure and aspect, and the file its rate and scale;
 /// PPM is coded by the colour transform, with structure and aspect unknown, and the rate and scale
-/// of the choice. All frames are encoded before the first byte is written.
+/// of the choice. All frames are encoded before the first byte is written. The profile says which
+/// configurations are taken; both take the same ones, and what is written is the same.
 ///
 /// The first fault is answered in this order. `Header`, `Tag` and `Unsupported` where the text has
 /// no head; `Grid` and `ChromaEdge` where the choice does not suit its sizes; for each picture
@@ -91,6 +95,7 @@ fn bytes_in<A: Allocator>(frames: &[Vec<u8, A>]) -> u64
 /// write failed: a beginning of the file is then written, and not all of it.
 pub fn pack<R: ByteIn, W: ByteOut, A: Allocator + Copy>(
     alloc: A,
+    profile: Profile,
     input: &mut R,
     output: &mut W,
     choice: &Choice,
@@ -103,7 +108,7 @@ pub fn pack<R: ByteIn, W: ByteOut, A: Allocator + Copy>(
         (passage W.contents W.failures output.old output.new)) }
     ensures own { IfErr result (λ f. is_pack_fault f ≡ true) }
 {
-    let stream = encode_video(alloc, input, choice)?;
+    let stream = encode_video(alloc, profile, input, choice)?;
     write_avi(output, &stream.head, &stream.frames)?;
     Ok(Packed {
         frames: stream.frames.len() as u64,

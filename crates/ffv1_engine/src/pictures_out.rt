@@ -7,7 +7,7 @@ ghost use Rattle.ffv1_record.specs.Accepted.{IsAccepted};
 ghost use Rattle.ffv1_record.specs.Configuration.{is_rct};
 ghost use Rattle.ffv1_codec.specs.Picture.{planes_of};
 ghost use Rattle.ffv1_codec.specs.SliceList.{Said};
-ghost use Rattle.ffv1_avi.specs.Head.{head_of};
+ghost use Rattle.ffv1_reads.specs.Head.{head_of};
 ghost use Rattle.ffv1_avi.specs.Places.{amount};
 ghost use Rattle.ffv1_engine.specs.Opens.{stream_of};
 ghost use Rattle.ffv1_engine.specs.PicturesOut.{IsBegun, IsKeptFor, WritesNext, WritesPicture};
@@ -19,10 +19,10 @@ ghost use Rattle.ffv1_engine.specs.Unpacking.{UnpackedAll, UnpackingStops};
 
 use crate::fault::Fault;
 use crate::player::{Player, Stop, play};
-use ffv1_avi::AviHead;
 use ffv1_codec::answer_laws::{answered, decode_faults};
 use ffv1_codec::sink_laws::{kept_picture, taken_lines};
 use ffv1_codec::{Info, KeepLines};
+use ffv1_reads::FileHead;
 use ffv1_record::Checked;
 use ffv1_record::laws::accepted;
 use ffv1_wire::{ByteIn, ByteOut};
@@ -38,7 +38,7 @@ struct Text {
 }
 
 /// The head of the text of a stream, its structure and aspect 0.
-fn text_head<A: Allocator>(head: &AviHead<A>, checked: &Checked<A>) -> VideoHead
+fn text_head<A: Allocator>(head: &FileHead<A>, checked: &Checked<A>) -> VideoHead
     ensures { (said : Said) → head_saying result said
         ≡ video_of (record { head = head_of head.now; accepted = checked.now }) said }
 {

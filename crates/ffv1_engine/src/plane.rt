@@ -13,7 +13,7 @@ ghost use Rattle.ffv1_line.specs.Length.{cell_decisions};
 ghost use Rattle.ffv1_engine.specs.Plane.{plane_residuals, plane_steps, plane_end, plane_code};
 
 use crate::fault::Fault;
-use ffv1_line::{RollingRows, encode_line};
+use ffv1_line::{Above, Coding, RollingRows, encode_line};
 use ffv1_plane::QuantSet;
 use ffv1_range::{RangeEncoder, StateTable};
 use std::alloc::{AllocError, Allocator, Global};
@@ -73,12 +73,19 @@ fn encode_rows<A: Allocator + Copy>(
     ensures err { IfErr result (λ f. f ≡ fault.OutOfMemory) }
 {
     let mut rows = RollingRows::new(alloc, width)?;
+    let coding = Coding {
+        table,
+        set,
+        bits: 8,
+    };
     for y in 0..height {
         let start = y * width;
         load(&samples[start..start + width], &mut rows.cur);
-        encode_line(
-            encoder, table, set, states, &rows.two, &rows.one, &rows.cur, 8,
-        )?;
+        let above = Above {
+            two: &rows.two,
+            one: &rows.one,
+        };
+        encode_line(encoder, &coding, states, &above, &rows.cur)?;
         rows.turn();
     }
     Ok(())

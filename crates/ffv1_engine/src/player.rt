@@ -3,11 +3,11 @@
 ghost use Rattle.std.specs.Prelude.{◌≡◌, ◌⊎◌, ◌<◌, IfErr, IfOk, IfSome, None, OnOk, Some, true};
 ghost use Rattle.ffv1_wire.specs.Passage.{passage};
 ghost use Rattle.ffv1_avi.specs.Files.{open_read};
-ghost use Rattle.ffv1_avi.specs.Head.{head_of};
+ghost use Rattle.ffv1_reads.specs.Head.{head_of};
 ghost use Rattle.ffv1_avi.specs.Places.{amount};
 ghost use Rattle.ffv1_avi.specs.Readers as readers;
 ghost use Rattle.ffv1_avi.specs.Readers.{opened_at};
-ghost use Rattle.ffv1_avi.specs.Reads.{Answers};
+ghost use Rattle.ffv1_reads.specs.Reads.{Answers};
 ghost use Rattle.ffv1_record.specs.Reading.{IsRefused};
 ghost use Rattle.ffv1_record.specs.declared.fault.RecordFault.TheVariants as record_fault;
 ghost use Rattle.ffv1_engine.specs.declared.fault.Fault.TheVariants as fault;
@@ -18,8 +18,9 @@ ghost use Rattle.ffv1_engine.specs.Told.{IsOwnStop, StepAnswers};
 
 use crate::fault::Fault;
 use crate::profile::Profile;
-use ffv1_avi::{AviFault, AviHead, AviReader};
+use ffv1_avi::AviReader;
 use ffv1_codec::{FrameDecoder, FrameFault, Info};
+use ffv1_reads::{FileFault, FileHead};
 use ffv1_record::{Checked, RecordFault, read_record_in};
 use ffv1_wire::{ByteIn, LineSink};
 use std::alloc::{Allocator, Global};
@@ -28,7 +29,7 @@ use std::alloc::{Allocator, Global};
 #[derive(Clone, Copy, Debug)]
 pub enum Stop {
     /// The file has no further frame that can be read.
-    File(AviFault),
+    File(FileFault),
     /// The payload that was read does not decode to its end.
     Payload(FrameFault),
 }
@@ -37,7 +38,7 @@ pub enum Stop {
 fn read_head<A: Allocator + Copy>(
     alloc: A,
     profile: Profile,
-    head: &AviHead<A>,
+    head: &FileHead<A>,
 ) -> Result<Checked<A>, RecordFault>
     ensures ok { IfOk result (λ c.
         IsStream profile (record { head = head_of head.now; accepted = c })) }
@@ -62,7 +63,7 @@ fn open_reader<R: ByteIn, A: Allocator>(
     alloc: A,
     profile: Profile,
     input: &mut R,
-) -> Result<AviReader<A>, AviFault>
+) -> Result<AviReader<A>, FileFault>
     ensures answer { Answers opened_at (open_read (extent_in profile))
         (passage R.remaining R.failures input.old input.new) result }
     ensures sound { IfOk result (λ r. r.fault ≡ None) }

@@ -3,7 +3,8 @@
 ghost use Rattle.std.specs.Prelude.{◌≡◌};
 ghost use Rattle.ffv1_engine.specs.Profiles.{record_profile};
 
-/// How a file is read. It says what is read, and never what is written.
+/// How much of what others write is read, and which configurations are packed. The bytes that are
+/// written do not depend on it.
 #[derive(Clone, Copy, PartialEq, Eq, Debug)]
 pub enum Profile {
     /// An AVI up to the end of its first `movi`, whose first stream is FFV1, and whose record is

@@ -5,7 +5,7 @@ ghost use Rattle.clap.specs.Words.{Row};
 ghost use Rattle.ffv1_wire.specs.Passage.{Passage};
 ghost use Rattle.ffv1_y4m.specs.VideoHead.{IsRatio};
 ghost use Rattle.ffv1_engine.specs.declared.fault.Fault.{Fault};
-ghost use Rattle.ffv1_engine.specs.declared.profile.Profile.TheVariants as profile;
+ghost use Rattle.ffv1_engine.specs.declared.profile.Profile.{Profile};
 ghost use Rattle.ffv1_words.specs.declared.order.Choice.{Choice};
 ghost use Rattle.ffv1_engine.specs.Check.{CheckStops};
 ghost use Rattle.ffv1_words.specs.Order.{NamesChoice};
@@ -33,25 +33,26 @@ pub fn named_rate()
 
 /// A text that `pack` has packed, no frame of it longer than 67108864 bytes, is unpacked again. Its
 /// file holds a stream of frames that code its pictures. Where `unpack` is Ok on that file, at
-/// `Strict`, it has read all of it and written the canonical text of the video: a text of the same
-/// video, and for PPM the very text that was packed. Where `unpack`, `check` or `show` is refused
-/// on it, at `Strict`, that is for `OutOfMemory` (2), `Read` (56) or `Write` (57), and for no fault of
-/// the file.
+/// either profile, it has read all of it and written the canonical text of the video: a text of the
+/// same video, and for PPM the very text that was packed. Where `unpack`, `check` or `show` is
+/// refused on it, at either profile, that is for `OutOfMemory` (2), `Read` (56) or `Write` (57), and
+/// for no fault of the file.
 pub fn packed_is_unpacked()
-    ensures holds { (choice : Choice) (text : List ℕ) (w : WasPacked choice text) →
-        Holds profile.Strict (file_in w) (video_in w) }
-    ensures written { (choice : Choice) (text : List ℕ) (w : WasPacked choice text)
-        (input output : Passage) (count : ℕ) → input.old ≡ Some (file_in w) →
-        UnpackDone profile.Strict input output count → IsUnpacked (video_in w) input output count }
-    ensures refused { (choice : Choice) (text : List ℕ) (w : WasPacked choice text)
-        (input output : Passage) (f : Fault) → input.old ≡ Some (file_in w) →
-        UnpackStops profile.Strict input output f → IsNoContent f }
-    ensures checked { (choice : Choice) (text : List ℕ) (w : WasPacked choice text) (place : Bool)
-        (input output : Passage) (f : Fault) → input.old ≡ Some (file_in w) →
-        CheckStops profile.Strict place input output f → IsNoContent f }
-    ensures shown { (choice : Choice) (text : List ℕ) (w : WasPacked choice text) (cost : Bool)
-        (input output : Passage) (f : Fault) → input.old ≡ Some (file_in w) →
-        ShowStops profile.Strict input output cost f → IsNoContent f }
+    ensures holds { (profile : Profile) (choice : Choice) (text : List ℕ)
+        (w : WasPacked choice text) → Holds profile (file_in w) (video_in w) }
+    ensures written { (profile : Profile) (choice : Choice) (text : List ℕ)
+        (w : WasPacked choice text) (input output : Passage) (count : ℕ) →
+        input.old ≡ Some (file_in w) → UnpackDone profile input output count →
+        IsUnpacked (video_in w) input output count }
+    ensures refused { (profile : Profile) (choice : Choice) (text : List ℕ)
+        (w : WasPacked choice text) (input output : Passage) (f : Fault) →
+        input.old ≡ Some (file_in w) → UnpackStops profile input output f → IsNoContent f }
+    ensures checked { (profile : Profile) (choice : Choice) (text : List ℕ)
+        (w : WasPacked choice text) (place : Bool) (input output : Passage) (f : Fault) →
+        input.old ≡ Some (file_in w) → CheckStops profile place input output f → IsNoContent f }
+    ensures shown { (profile : Profile) (choice : Choice) (text : List ℕ)
+        (w : WasPacked choice text) (cost : Bool) (input output : Passage) (f : Fault) →
+        input.old ≡ Some (file_in w) → ShowStops profile input output cost f → IsNoContent f }
     ensures same { (choice : Choice) (text : List ℕ) (w : WasPacked choice text) →
         IsVideo (canonical_of (video_in w)) (video_in w) }
     ensures ppm { (choice : Choice) (text : List ℕ) (w : WasPacked choice text) →

@@ -2,7 +2,7 @@
 
 ghost use Rattle.std.specs.Prelude.{◌≡◌, IfErr, List, None, OnOk, false, true};
 ghost use Rattle.ffv1_wire.specs.Passage.{passage};
-ghost use Rattle.ffv1_avi.specs.Head.{head_of};
+ghost use Rattle.ffv1_reads.specs.Head.{head_of};
 ghost use Rattle.ffv1_record.specs.Accepted.{IsAccepted};
 ghost use Rattle.ffv1_engine.specs.declared.frame_line.FrameLine.TheVariants as line;
 ghost use Rattle.ffv1_engine.specs.Show.{ShowDone, ShowStops, is_show_fault};
@@ -16,8 +16,9 @@ use crate::player::{open_stream, player_of};
 use crate::profile::Profile;
 use crate::stream_lines::show_text;
 use crate::telling::tell_frames;
-use ffv1_avi::laws::{file_is_read, frames_in_turn, read_is_file};
-use ffv1_avi::{AviHead, AviReader};
+use ffv1_avi::AviReader;
+use ffv1_avi::laws::{file_is_read, frames_in_turn, read_is_file, whole};
+use ffv1_reads::FileHead;
 use ffv1_record::Checked;
 use ffv1_wire::{ByteIn, ByteOut, write_all};
 use std::alloc::Allocator;
@@ -26,7 +27,7 @@ use std::alloc::Allocator;
 fn write_stream<W: ByteOut, A: Allocator + Copy>(
     alloc: A,
     output: &mut W,
-    head: &AviHead<A>,
+    head: &FileHead<A>,
     checked: &Checked<A>,
 ) -> Result<(), Fault>
     ensures { WritesFrame (show_text (record { head = head_of head.now; accepted = checked.now }))
@@ -117,6 +118,7 @@ pub fn show<R: ByteIn, W: ByteOut, A: Allocator + Copy>(
     frames_in_turn();
     read_is_file();
     file_is_read();
+    whole();
     let (reader, checked) = open_stream(alloc, profile, input)?;
     write_stream(alloc, output, reader.head(), &checked)?;
     if cost {

@@ -3,14 +3,14 @@
 ghost use Rattle.std.specs.Prelude.{◌≡◌, ◌++◌, codes, decimal, flat_map, IfOk, OnOk};
 ghost use Rattle.std.specs.List.{list_any};
 ghost use Rattle.ffv1_plane.specs.Quantisation.{contexts_of};
-ghost use Rattle.ffv1_avi.specs.Head.{head_of};
+ghost use Rattle.ffv1_reads.specs.Head.{head_of};
 ghost use Rattle.ffv1_engine.specs.StreamLines.{chroma_line, coder_type, colour_line};
 ghost use Rattle.ffv1_engine.specs.StreamLines.{contexts_line, extra_line, held_line, number_line};
 ghost use Rattle.ffv1_engine.specs.StreamLines.{is_wide, note_line, pair_line, show_text};
 
 use crate::frame_line::push_number;
-use ffv1_avi::AviHead;
 use ffv1_plane::QuantSet;
+use ffv1_reads::FileHead;
 use ffv1_record::{Checked, Coder, Colour, Held, Sets};
 use std::alloc::{AllocError, Allocator};
 
@@ -158,7 +158,7 @@ fn push_held<A: Allocator>(text: &mut Vec<u8, A>, held: Held) -> Result<(), Allo
 /// The lines of a file's head and of the configuration of its frames.
 pub(crate) fn show_text<A: Allocator>(
     alloc: A,
-    head: &AviHead<A>,
+    head: &FileHead<A>,
     checked: &Checked<A>,
 ) -> Result<Vec<u8, A>, AllocError>
     ensures { IfOk result (λ text. text.items

@@ -16,7 +16,7 @@ use crate::images_out::write_images;
 use crate::pictures_out::write_pictures;
 use crate::player::{Player, open_stream, player_of};
 use crate::profile::Profile;
-use ffv1_avi::laws::{file_is_read, frames_in_turn, read_is_file};
+use ffv1_avi::laws::{file_is_read, frames_in_turn, read_is_file, whole};
 use ffv1_record::{Checked, Colour};
 use ffv1_wire::{ByteIn, ByteOut};
 use std::alloc::Allocator;
@@ -128,6 +128,7 @@ pub fn unpack<R: ByteIn, W: ByteOut, A: Allocator + Copy>(
     frames_in_turn();
     read_is_file();
     file_is_read();
+    whole();
     match open_unpacking(alloc, profile, input) {
         Err(fault) => (output, Err(fault)),
         Ok(mut player) => {

@@ -14,3 +14,4 @@ pub mod MostDecisions
 pub mod SamplesBelow
 pub mod Agreeing
 pub mod Even
+mod Zeros

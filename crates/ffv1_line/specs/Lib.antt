@@ -1,4 +1,6 @@
 pub mod Cell
+pub mod Above
+pub mod Coding
 pub mod Row
 pub mod Decoded
 pub mod Encoded

@@ -1,16 +1,19 @@
 //! A block of places of a row, before its decisions are written.
 
-ghost use Rattle.std.specs.Prelude.{◌≡◌, ◌+◌, ◌*◌, ◌<◌, ◌≤◌, ◌⊎◌, IsTrue, length, slice_index};
-ghost use Rattle.std.specs.Prelude.{take};
+ghost use Rattle.std.specs.Prelude.{◌≡◌, ◌+◌, ◌*◌, ◌<◌, ◌≤◌, ◌⊎◌, length, slice_index};
+ghost use Rattle.std.specs.Prelude.{take, ℕ, map, ◌^◌};
+ghost use Rattle.std.specs.List.{range_with_len};
 ghost use Rattle.ffv1_range.specs.History.{AreBelow};
 ghost use Rattle.ffv1_range.specs.Listed.{of_nine_bits, steps_of};
-ghost use Rattle.ffv1_plane.specs.Quantisation.{IsNear, HasFewLevels, contexts_of};
+ghost use Rattle.ffv1_plane.specs.Quantisation.{HasFewLevels, contexts_of};
 ghost use Rattle.ffv1_plane.specs.Raised.{AreSetLanes};
 ghost use Rattle.ffv1_plane.specs.Residual.{IsFolded};
-ghost use Rattle.ffv1_line.specs.Beside.{before, two_before, places_steps};
-ghost use Rattle.ffv1_line.specs.Internal.Block.{IsBlock};
+ghost use Rattle.ffv1_plane.specs.Lanes.{AreAround};
+ghost use Rattle.ffv1_line.specs.Beside.{before, two_before, beside};
+ghost use Rattle.ffv1_line.specs.Internal.Parts.{IsPart, IsBlockOf, ArePrepared, part_steps};
 
 use crate::neighbours::{context_by, right_above};
+use crate::part::Part;
 use ffv1_plane::{Around, AroundLanes, QuantSet, SetLanes, choose_lanes, predict, residual_of};
 use ffv1_range::list_signed;
 use std::alloc::Allocator;
@@ -68,35 +71,26 @@ fn nine_bits(residual: i32, bits: u8) -> u16
     residual.rem_euclid(512) as u16
 }
 
-/// The contexts and the residuals of places `start` to before `end` of a block, whose first is place
-/// `from` of the row, behind those before them. `near` may be said of a set whose fourth and fifth
-/// tables have one level.
+/// The contexts and the residuals of places `start` to before `end` of a part, after those before
+/// them.
 #[inline(always)]
-fn prepare_places<A: Allocator>(
-    block: &mut Block,
-    set: &QuantSet<A>,
-    two: &[u16],
-    one: &[u16],
-    cur: &[u16],
-    from: usize,
-    start: usize,
-    end: usize,
-    bits: u8,
-    near: bool,
-)
-    requires bits { (bits ≡ 8) ⊎ (bits ≡ 9) }
-    requires near { IsTrue near → IsNear set.now }
+fn prepare_places<A: Allocator>(block: &mut Block, part: &Part<'_, A>, start: usize, end: usize)
+    requires part { IsPart part.now }
     requires ordered { start ≤ end }
-    requires few { end ≤ 64 }
-    requires within { from + end ≤ length cur.now }
-    requires some { 0 < length cur.now }
-    requires two_long { length two.now ≡ length cur.now }
-    requires one_long { length one.now ≡ length cur.now }
-    requires done { IsBlock set.now bits two.now one.now cur.now from start block.old.contexts
-        block.old.residuals }
-    ensures { IsBlock set.now bits two.now one.now cur.now from end block.new.contexts
-        block.new.residuals }
+    requires few { end ≤ part.now.count }
+    requires done { IsBlockOf part.now start block.old }
+    ensures { IsBlockOf part.now end block.new }
 {
+    let Part {
+        set,
+        bits,
+        near,
+        two,
+        one,
+        cur,
+        from,
+        ..
+    } = *part;
     let last = cur.len() - 1;
     let mut ll = sample_two_before(one, cur, from + start);
     let mut l = sample_before(one, cur, from + start);
@@ -123,38 +117,18 @@ fn prepare_places<A: Allocator>(
     }
 }
 
-/// The same of 16 places from `at` on whose neighbours all stand in the rows, by the set's lanes.
+/// The neighbours of 16 places of a row from `x` on, which all stand in the rows, and the samples of
+/// these places.
 #[inline(always)]
-fn prepare_lanes<A: Allocator>(
-    contexts: &mut [u32],
-    residuals: &mut [u16],
-    set: &QuantSet<A>,
-    lanes: &SetLanes,
-    two: &[u16],
-    one: &[u16],
-    cur: &[u16],
-    from: usize,
-    at: usize,
-    bits: u8,
-    near: bool,
-)
-    requires bits { (bits ≡ 8) ⊎ (bits ≡ 9) }
-    requires levels { HasFewLevels set.now }
-    requires lanes { AreSetLanes set.now lanes.now }
-    requires near { IsTrue near → IsNear set.now }
-    requires contexts { at + 16 ≤ length contexts.old }
-    requires residuals { at + 16 ≤ length residuals.old }
-    requires inside { 2 ≤ from + at }
-    requires within { from + at + 17 ≤ length cur.now }
+fn around_lanes(two: &[u16], one: &[u16], cur: &[u16], x: usize) -> (AroundLanes, u16x16)
+    requires inside { 2 ≤ x }
+    requires within { x + 17 ≤ length cur.now }
     requires two_long { length two.now ≡ length cur.now }
     requires one_long { length one.now ≡ length cur.now }
-    requires done { IsBlock set.now bits two.now one.now cur.now from at contexts.old
-        residuals.old }
-    ensures { IsBlock set.now bits two.now one.now cur.now from (at + 16) contexts.new
-        residuals.new }
+    ensures around { AreAround result.0 (range_with_len x 16) (beside two.now one.now cur.now) }
+    ensures samples { result.1 ≡ map (slice_index cur.now) (range_with_len x 16) }
+    ensures small { (k : ℕ) → slice_index cur.now k < 2 ^ 16 }
 {
-    set.bounded();
-    let x = from + at;
     let around = AroundLanes {
         l: u16x16::from_slice(&cur[x - 1..]),
         t: u16x16::from_slice(&one[x..]),
@@ -163,43 +137,66 @@ fn prepare_lanes<A: Allocator>(
         ll: u16x16::from_slice(&cur[x - 2..]),
         tt: u16x16::from_slice(&two[x..]),
     };
-    let samples = u16x16::from_slice(&cur[x..]);
+    (around, u16x16::from_slice(&cur[x..]))
+}
+
+/// The contexts and the residuals of 16 places from `at` on, after those before them, by the set's
+/// lanes. All neighbours of these places stand in the rows.
+#[inline(always)]
+fn prepare_lanes<A: Allocator>(
+    contexts: &mut [u32],
+    residuals: &mut [u16],
+    part: &Part<'_, A>,
+    lanes: &SetLanes,
+    at: usize,
+)
+    requires part { IsPart part.now }
+    requires levels { HasFewLevels part.now.set.now }
+    requires lanes { AreSetLanes part.now.set.now lanes.now }
+    requires contexts { at + 16 ≤ length contexts.old }
+    requires residuals { at + 16 ≤ length residuals.old }
+    requires inside { 2 ≤ part.now.from + at }
+    requires within { part.now.from + at + 17 ≤ length part.now.cur.now }
+    requires done { ArePrepared part.now at contexts.old residuals.old }
+    ensures { ArePrepared part.now (at + 16) contexts.new residuals.new }
+{
+    let Part {
+        set,
+        bits,
+        near,
+        two,
+        one,
+        cur,
+        from,
+        ..
+    } = *part;
+    set.bounded();
+    let (around, samples) = around_lanes(two, one, cur, from + at);
     let (sizes, chosen) = choose_lanes(set, lanes, &around, samples, bits, near);
     sizes.cast::<u32>().copy_to_slice(&mut contexts[at..]);
     chosen.copy_to_slice(&mut residuals[at..]);
 }
 
-/// The contexts and the residuals of some places of a row, from `from` on: in a set whose tables
-/// have few levels 16 at once, but at the row's borders, and the last of these again where fewer
-/// than 16 are left. `near` may be said of a set whose fourth and fifth tables have one level.
+/// The contexts and the residuals of a part: in a set whose tables have few levels 16 at once, but
+/// at the row's borders, and the last of these again where fewer than 16 are left.
 #[inline(always)]
-pub(crate) fn prepare<A: Allocator>(
-    block: &mut Block,
-    set: &QuantSet<A>,
-    two: &[u16],
-    one: &[u16],
-    cur: &[u16],
-    from: usize,
-    few: usize,
-    bits: u8,
-    near: bool,
-)
-    requires bits { (bits ≡ 8) ⊎ (bits ≡ 9) }
-    requires near { IsTrue near → IsNear set.now }
-    requires few { few ≤ 64 }
-    requires within { from + few ≤ length cur.now }
-    requires some { 0 < length cur.now }
-    requires two_long { length two.now ≡ length cur.now }
-    requires one_long { length one.now ≡ length cur.now }
-    ensures { IsBlock set.now bits two.now one.now cur.now from few block.new.contexts
-        block.new.residuals }
+pub(crate) fn prepare<A: Allocator>(block: &mut Block, part: &Part<'_, A>)
+    requires part { IsPart part.now }
+    ensures { IsBlockOf part.now part.now.count block.new }
 {
+    let Part {
+        set,
+        cur,
+        from,
+        count,
+        ..
+    } = *part;
     let few_levels = set.has_few_levels();
     let lanes = set.lanes();
     // Behind the last place that has a sample above to the right.
-    let end = few.min(cur.len().saturating_sub(from + 1));
+    let end = count.min(cur.len().saturating_sub(from + 1));
     let mut at = 0;
-    while at < few {
+    while at < count {
         let start = at.min(end.saturating_sub(16));
         if few_levels && at < end && 16 <= end && 2 <= from + start {
             let Block {
@@ -207,42 +204,33 @@ pub(crate) fn prepare<A: Allocator>(
                 residuals,
                 ..
             } = block;
-            prepare_lanes(
-                contexts, residuals, set, &lanes, two, one, cur, from, start, bits, near,
-            );
+            prepare_lanes(contexts, residuals, part, &lanes, start);
             at = start + 16;
         } else {
-            let next = if from + at < 2 { few.min(at + 2) } else { few };
-            prepare_places(block, set, two, one, cur, from, at, next, bits, near);
+            let next = if from + at < 2 {
+                count.min(at + 2)
+            } else {
+                count
+            };
+            prepare_places(block, part, at, next);
             at = next;
         }
     }
 }
 
-/// Lists the decisions of the places of a block that was prepared by these rows. Answers how many
-/// they are.
+/// Lists the decisions of a part, by the block that was prepared of it. Answers how many they are.
 #[inline(always)]
-pub(crate) fn list_places<A: Allocator>(
-    block: &mut Block,
-    set: &QuantSet<A>,
-    two: &[u16],
-    one: &[u16],
-    cur: &[u16],
-    from: usize,
-    few: usize,
-    bits: u8,
-) -> usize
-    requires few { few ≤ 64 }
-    requires block { IsBlock set.now bits two.now one.now cur.now from few block.old.contexts
-        block.old.residuals }
-    ensures steps { steps_of (take result block.new.list) ≡
-        places_steps set.now bits two.now one.now cur.now from few }
-    ensures below { AreBelow (steps_of (take result block.new.list)) (contexts_of set.now * 32) }
+pub(crate) fn list_places<A: Allocator>(block: &mut Block, part: &Part<'_, A>) -> usize
+    requires part { IsPart part.now }
+    requires block { IsBlockOf part.now part.now.count block.old }
+    ensures steps { steps_of (take result block.new.list) ≡ part_steps part.now part.now.count }
+    ensures below { AreBelow (steps_of (take result block.new.list))
+        (contexts_of part.now.set.now * 32) }
     ensures short { result ≤ 1216 }
 {
-    let _contexts = set.contexts();
+    let _contexts = part.set.contexts();
     let mut at = 0;
-    for k in 0..few {
+    for k in 0..part.count {
         let (context, residual) = (block.contexts[k], block.residuals[k]);
         at = list_signed(&mut block.list, at, context, residual as usize);
     }

@@ -7,7 +7,9 @@
 //! quantisation table set, which `reset` makes fresh at the begin of a slice.
 //!
 //! ```text
-//! encode_line(&mut encoder, &table, &set, &mut states, &rows.two, &rows.one, &rows.cur, 8)?;
+//! let coding = Coding { table: &table, set: &set, bits: 8 };
+//! let above = Above { two: &rows.two, one: &rows.one };
+//! encode_line(&mut encoder, &coding, &mut states, &above, &rows.cur)?;
 //! rows.turn();
 //! let bytes = encoder.finish_sentinel()?;
 //! ```
@@ -16,15 +18,20 @@
 //! rows; `laws` has what follows: bytes code one row at most, and what was written comes back.
 #![tactic(auto)]
 
+pub mod above;
 mod block;
+pub mod coding;
 pub mod decode;
 pub mod encode;
 pub mod fault;
 pub mod laws;
 mod neighbours;
+mod part;
 pub mod rolling;
 pub mod states;
 
+pub use above::Above;
+pub use coding::Coding;
 pub use decode::decode_line;
 pub use encode::encode_line;
 pub use fault::TooLong;

@@ -76,6 +76,16 @@ fn encode<R: AllocGlobal + Clock>(
     }
 }
 
+/// The same, without the frame.
+fn encoding_time<R: AllocGlobal + Clock>(
+    rt: &R,
+    encoder: &mut FrameEncoder,
+    picture: &Picture,
+    info: Info,
+) -> Result<u128> {
+    Ok(encode(rt, encoder, picture, info)?.1)
+}
+
 /// Decodes the frame once, and drops its lines: the time.
 fn decode<R: AllocGlobal + Clock>(
     rt: &R,
@@ -108,26 +118,97 @@ fn comes_back(
     Ok(same)
 }
 
-/// Encodes and decodes the picture some times over, and prints its bytes and the least times.
-fn time<R: AllocGlobal + Clock + Print>(
+/// The frame of the picture, encoded some times over, and the least time.
+fn least_encoding<R: AllocGlobal + Clock>(
     rt: &R,
     encoder: &mut FrameEncoder,
-    decoder: &mut FrameDecoder,
     picture: &Picture,
     info: Info,
     times: u32,
-) -> Result<()> {
-    let (frame, mut encoding) = encode(rt, encoder, picture, info)?;
-    let mut decoding = decode(rt, decoder, frame.as_slice())?;
+) -> Result<(Vec<u8>, u128)> {
+    let (frame, mut least) = encode(rt, encoder, picture, info)?;
     for _ in 1..times {
-        encoding = encoding.min(encode(rt, encoder, picture, info)?.1);
-        decoding = decoding.min(decode(rt, decoder, frame.as_slice())?);
+        least = least.min(encoding_time(rt, encoder, picture, info)?);
     }
+    Ok((frame, least))
+}
+
+/// Decodes the frame some times over, and says whether the picture comes back and the least time.
+fn least_decoding<R: AllocGlobal + Clock>(
+    rt: &R,
+    decoder: &mut FrameDecoder,
+    frame: &[u8],
+    picture: &Picture,
+    times: u32,
+) -> Result<(bool, u128)> {
+    let mut least = u128::MAX;
+    for _ in 0..times {
+        least = least.min(decode(rt, decoder, frame)?);
+    }
+    Ok((comes_back(rt.alloc(), decoder, frame, picture)?, least))
+}
+
+/// Decodes the frame by a decoder of this configuration, and prints what came of it.
+fn time_decoding<R: AllocGlobal + Clock + Print>(
+    rt: &R,
+    checked: Checked,
+    picture: &Picture,
+    frame: &[u8],
+    encoding: u128,
+    times: u32,
+) -> Result<()> {
+    let Ok(mut decoder) = FrameDecoder::new(rt.alloc(), checked) else {
+        bail!("2 OutOfMemory");
+    };
+    let (same, decoding) = least_decoding(rt, &mut decoder, frame, picture, times)?;
     let bytes = frame.len();
-    let same = comes_back(rt.alloc(), decoder, frame.as_slice(), picture)?;
     Ok(rt.println(format_args!(
         "bytes {bytes} encoding {encoding} us decoding {decoding} us same {same}"
     ))?)
+}
+
+/// Encodes the picture by an encoder of this configuration: its frame, and the least time.
+fn time_encoding<R: AllocGlobal + Clock>(
+    rt: &R,
+    checked: Checked,
+    picture: &Picture,
+    times: u32,
+) -> Result<(Vec<u8>, u128)> {
+    let info = Info::new(3, 1, 1).context("info")?;
+    let mut encoder = FrameEncoder::new(rt.alloc(), checked);
+    least_encoding(rt, &mut encoder, picture, info, times)
+}
+
+/// Encodes and decodes a picture of the format, and prints its bytes and the least times.
+fn time<R: AllocGlobal + Clock + Print>(
+    rt: &R,
+    format: &str,
+    sizes: [u32; 4],
+    picture: &Picture,
+    times: u32,
+) -> Result<()> {
+    let (frame, encoding) = time_encoding(
+        rt,
+        configuration(rt.alloc(), format, sizes)?,
+        picture,
+        times,
+    )?;
+    let bytes = frame.as_slice();
+    time_decoding(
+        rt,
+        configuration(rt.alloc(), format, sizes)?,
+        picture,
+        bytes,
+        encoding,
+        times,
+    )
+}
+
+/// The picture of a format that has these samples.
+fn picture(alloc: Global, format: &str, sizes: [u32; 4], samples: &[u8]) -> Result<Picture> {
+    let checked = configuration(alloc, format, sizes)?;
+    let planes = planes(alloc, &checked, samples)?;
+    Ok(Picture::new(&checked, planes).context("no such picture")?)
 }
 
 /// The numbers of a line: width, height, columns and rows.
@@ -140,24 +221,27 @@ fn sizes(words: &mut Args) -> Result<[u32; 4]> {
     ])
 }
 
+/// Encodes and decodes the samples of a line, or says why not.
+fn time_samples<R: AllocGlobal + Clock + Print>(
+    rt: &R,
+    format: &str,
+    sizes: [u32; 4],
+    samples: &[u8],
+    times: u32,
+) -> Result<()> {
+    let picture = picture(rt.alloc(), format, sizes, samples)?;
+    time(rt, format, sizes, &picture, times)
+}
+
 /// Encodes and decodes the picture of a line, or says why not.
 pub(crate) fn run<R: AllocGlobal + Files + Env + Clock + Print>(
     rt: &R,
     words: &mut Args,
 ) -> Result<()> {
     let path = words.next().context("path")?;
+    let samples = fs::read(rt, path.as_str())?;
     let format = words.next().context("format")?;
     let sizes = sizes(words)?;
     let times = number(words, "times")?;
-    let samples = fs::read(rt, path.as_str())?;
-    let checked = configuration(rt.alloc(), format.as_str(), sizes)?;
-    let planes = planes(rt.alloc(), &checked, samples.as_slice())?;
-    let picture = Picture::new(&checked, planes).context("no such picture")?;
-    let info = Info::new(3, 1, 1).context("info")?;
-    let again = configuration(rt.alloc(), format.as_str(), sizes)?;
-    let Ok(mut decoder) = FrameDecoder::new(rt.alloc(), again) else {
-        bail!("2 OutOfMemory");
-    };
-    let mut encoder = FrameEncoder::new(rt.alloc(), checked);
-    time(rt, &mut encoder, &mut decoder, &picture, info, times)
+    time_samples(rt, format.as_str(), sizes, samples.as_slice(), times)
 }

@@ -5,59 +5,94 @@ ghost use Rattle.ffv1_plane.specs.Quantisation.{contexts_of};
 ghost use Rattle.ffv1_range.specs.Symbols.{AllHeld};
 
 use anyhow::{Result, anyhow, ensure};
-use ffv1_line::{RollingRows, decode_line, encode_line};
-use ffv1_plane::QuantSet;
-use ffv1_range::{RangeDecoder, RangeEncoder, StateTable};
+use ffv1_line::{Above, Coding, RollingRows, decode_line, encode_line};
+use ffv1_range::{RangeDecoder, RangeEncoder};
 use std::alloc::Global;
+
+/// The samples of a plane, row by row.
+#[derive(Clone, Copy)]
+pub(crate) struct Plane<'a> {
+    pub(crate) samples: &'a [u8],
+    pub(crate) width: usize,
+}
+
+/// Codes the row that the lines hold.
+fn encode_row(
+    encoder: &mut RangeEncoder,
+    coding: &Coding<'_, Global>,
+    states: &mut [u8],
+    rows: &RollingRows<Vec<u16>>,
+) -> Result<()>
+    requires rows { length states.old ≡ contexts_of coding.now.set * 32 }
+    requires held { AllHeld coding.now.table states.old }
+    ensures held { AllHeld coding.now.table states.new }
+{
+    let RollingRows { two, one, cur } = rows;
+    ensure!(
+        cur.len() > 0 && two.len() == cur.len() && one.len() == cur.len(),
+        "lengths"
+    );
+    match encode_line(encoder, coding, states, &Above { two, one }, cur) {
+        Ok(()) => Ok(()),
+        Err(_) => Err(anyhow!("2 OutOfMemory")),
+    }
+}
+
+/// Codes a plane by an encoder and rolling lines.
+fn encode_rows(
+    encoder: &mut RangeEncoder,
+    coding: &Coding<'_, Global>,
+    states: &mut [u8],
+    rows: &mut RollingRows<Vec<u16>>,
+    plane: &Plane<'_>,
+) -> Result<()>
+    requires wide { 0 < plane.now.width }
+    requires rows { length states.old ≡ contexts_of coding.now.set * 32 }
+    requires held { AllHeld coding.now.table states.old }
+{
+    'rows: for row in plane.samples.chunks_exact(plane.width) {
+        for (sample, byte) in rows.cur.iter_mut().zip(row) {
+            *sample = u16::from(*byte);
+        }
+        encode_row(encoder, coding, states, rows)?;
+        rows.turn();
+    }
+    Ok(())
+}
 
 /// Codes a plane.
 pub(crate) fn encode(
     alloc: Global,
-    table: &StateTable,
-    set: &QuantSet,
+    coding: &Coding<'_, Global>,
     states: &mut [u8],
-    plane: &[u8],
-    width: usize,
+    plane: &Plane<'_>,
 ) -> Result<Vec<u8>>
-    requires wide { 0 < width }
-    requires rows { length states.old ≡ contexts_of set.now * 32 }
-    requires held { AllHeld table.now states.old }
+    requires wide { 0 < plane.now.width }
+    requires rows { length states.old ≡ contexts_of coding.now.set * 32 }
+    requires held { AllHeld coding.now.table states.old }
 {
-    let mut rows = RollingRows::new(alloc, width)?;
+    let mut rows = RollingRows::new(alloc, plane.width)?;
     let mut encoder = RangeEncoder::new(alloc);
-    'rows: for row in plane.chunks_exact(width) {
-        for (sample, byte) in rows.cur.iter_mut().zip(row) {
-            *sample = u16::from(*byte);
-        }
-        let RollingRows { two, one, cur } = &rows;
-        ensure!(
-            cur.len() > 0 && two.len() == cur.len() && one.len() == cur.len(),
-            "lengths"
-        );
-        encode_line(&mut encoder, table, set, states, two, one, cur, 8)?;
-        rows.turn();
-    }
+    encode_rows(&mut encoder, coding, states, &mut rows, plane)?;
     Ok(encoder.finish_sentinel()?)
 }
 
-/// Decodes a row.
+/// Decodes a row into the lines.
 fn decode_row(
     decoder: &mut RangeDecoder<'_>,
-    table: &StateTable,
-    set: &QuantSet,
+    coding: &Coding<'_, Global>,
     states: &mut [u8],
-    two: &[u16],
-    one: &[u16],
-    cur: &mut [u16],
+    rows: &mut RollingRows<Vec<u16>>,
 ) -> Result<()>
-    requires rows { length states.old ≡ contexts_of set.now * 32 }
-    requires held { AllHeld table.now states.old }
-    ensures held { AllHeld table.now states.new }
+    requires rows { length states.old ≡ contexts_of coding.now.set * 32 }
+    requires held { AllHeld coding.now.table states.old }
+    ensures held { AllHeld coding.now.table states.new }
 {
+    let RollingRows { two, one, cur } = rows;
     if cur.is_empty() || two.len() != cur.len() || one.len() != cur.len() {
         return Err(anyhow!("lengths"));
     }
-    match decode_line(decoder, table, set, states, two, one, cur, 8) {
+    match decode_line(decoder, coding, states, &Above { two, one }, cur) {
         Ok(()) => Ok(()),
         Err(_) => Err(anyhow!("too long")),
     }
@@ -72,41 +107,47 @@ fn shows(line: &[u16], row: &[u8]) -> bool {
     same
 }
 
-/// Decodes a plane, and tells whether it is the one given.
-pub(crate) fn decode(
-    alloc: Global,
-    table: &StateTable,
-    set: &QuantSet,
+/// Decodes a plane over rolling lines, and tells whether it is the one given.
+fn decode_rows(
+    coding: &Coding<'_, Global>,
     states: &mut [u8],
-    plane: &[u8],
-    width: usize,
+    rows: &mut RollingRows<Vec<u16>>,
+    plane: &Plane<'_>,
     bytes: &[u8],
     parks: bool,
 ) -> Result<bool>
-    requires wide { 0 < width }
-    requires rows { length states.old ≡ contexts_of set.now * 32 }
-    requires held { AllHeld table.now states.old }
+    requires wide { 0 < plane.now.width }
+    requires rows { length states.old ≡ contexts_of coding.now.set * 32 }
+    requires held { AllHeld coding.now.table states.old }
 {
-    let mut rows = RollingRows::new(alloc, width)?;
     let Ok(mut decoder) = RangeDecoder::new(bytes) else {
         return Err(anyhow!("start"));
     };
     let mut same = true;
-    'rows: for row in plane.chunks_exact(width) {
+    'rows: for row in plane.samples.chunks_exact(plane.width) {
         if parks {
             decoder = decoder.park().wake(bytes);
         }
-        decode_row(
-            &mut decoder,
-            table,
-            set,
-            states,
-            &rows.two,
-            &rows.one,
-            rows.cur.as_mut_slice(),
-        )?;
+        decode_row(&mut decoder, coding, states, rows)?;
         same = same & shows(&rows.cur, row);
         rows.turn();
     }
     Ok(same)
+}
+
+/// Decodes a plane, and tells whether it is the one given.
+pub(crate) fn decode(
+    alloc: Global,
+    coding: &Coding<'_, Global>,
+    states: &mut [u8],
+    plane: &Plane<'_>,
+    bytes: &[u8],
+    parks: bool,
+) -> Result<bool>
+    requires wide { 0 < plane.now.width }
+    requires rows { length states.old ≡ contexts_of coding.now.set * 32 }
+    requires held { AllHeld coding.now.table states.old }
+{
+    let mut rows = RollingRows::new(alloc, plane.width)?;
+    decode_rows(coding, states, &mut rows, plane, bytes, parks)
 }

@@ -5,34 +5,31 @@ ghost use Rattle.ffv1_range.specs.Symbols.{AllHeld};
 ghost use Rattle.ffv1_plane.specs.Quantisation.{contexts_of};
 
 use crate::frames;
-use crate::rows::{decode, encode};
+use crate::rows::{Plane, decode, encode};
 use anyhow::{Context, Result, ensure};
-use ffv1_line::reset;
+use ffv1_line::{Coding, reset};
 use ffv1_plane::QuantSet;
 use ffv1_range::StateTable;
+use std::alloc::Global;
 use std::env::Args;
 use std::rt::{Clock, Env, Files};
 use std::time::Instant;
 use std::{env, fs};
 
 /// What is asked for.
-#[derive(Drop)]
+#[derive(Clone, Copy)]
 struct Asked {
-    plane: Vec<u8>,
     width: usize,
     times: u32,
     parks: bool,
 }
 
-/// Reads the plane and the words of the command line.
-fn read<R: AllocGlobal + Files + Env>(rt: &R, first: String, words: &mut Args) -> Result<Asked> {
-    let path = first;
+/// Reads the numbers of the command line.
+fn read_numbers(words: &mut Args) -> Result<Asked> {
     let width = words.next().context("width")?.parse::<usize>()?;
     let times = words.next().context("times")?.parse::<u32>()?;
     let parks = words.next().is_some();
-    let plane = fs::read(rt, path.as_str())?;
     Ok(Asked {
-        plane,
         width,
         times,
         parks,
@@ -40,78 +37,135 @@ fn read<R: AllocGlobal + Files + Env>(rt: &R, first: String, words: &mut Args) -
 }
 
 /// Codes the plane with fresh states.
-fn code<R: AllocGlobal>(
-    rt: &R,
-    table: &StateTable,
-    set: &QuantSet,
+fn code(
+    alloc: Global,
+    coding: &Coding<'_, Global>,
     states: &mut [u8],
-    plane: &[u8],
-    width: usize,
+    plane: &Plane<'_>,
 ) -> Result<Vec<u8>>
-    requires wide { 0 < width }
-    requires rows { length states.old ≡ contexts_of set.now * 32 }
-    requires fresh { AllHeld table.now (replicate (length states.old) 128) }
+    requires wide { 0 < plane.now.width }
+    requires rows { length states.old ≡ contexts_of coding.now.set * 32 }
+    requires fresh { AllHeld coding.now.table (replicate (length states.old) 128) }
     ensures long { length states.new ≡ length states.old }
 {
     reset(states);
-    encode(rt.alloc(), table, set, states, plane, width)
+    encode(alloc, coding, states, plane)
 }
 
 /// Decodes the bytes with fresh states, and tells whether they are the plane.
-fn shows<R: AllocGlobal>(
-    rt: &R,
-    table: &StateTable,
-    set: &QuantSet,
+fn shows(
+    alloc: Global,
+    coding: &Coding<'_, Global>,
     states: &mut [u8],
-    asked: &Asked,
+    plane: &Plane<'_>,
     bytes: &[u8],
+    parks: bool,
 ) -> Result<bool>
-    requires wide { 0 < asked.now.width }
-    requires rows { length states.old ≡ contexts_of set.now * 32 }
-    requires fresh { AllHeld table.now (replicate (length states.old) 128) }
+    requires wide { 0 < plane.now.width }
+    requires rows { length states.old ≡ contexts_of coding.now.set * 32 }
+    requires fresh { AllHeld coding.now.table (replicate (length states.old) 128) }
     ensures long { length states.new ≡ length states.old }
 {
     reset(states);
-    decode(
-        rt.alloc(),
-        table,
-        set,
-        states,
-        &asked.plane,
-        asked.width,
-        bytes,
-        asked.parks,
-    )
+    decode(alloc, coding, states, plane, bytes, parks)
+}
+
+/// Codes the plane once: the time.
+fn coding_time<R: AllocGlobal + Clock>(
+    rt: &R,
+    coding: &Coding<'_, Global>,
+    states: &mut [u8],
+    plane: &Plane<'_>,
+) -> Result<u128>
+    requires wide { 0 < plane.now.width }
+    requires rows { length states.old ≡ contexts_of coding.now.set * 32 }
+    requires fresh { AllHeld coding.now.table (replicate (length states.old) 128) }
+    ensures long { length states.new ≡ length states.old }
+{
+    let start = Instant::now(rt)?;
+    code(rt.alloc(), coding, states, plane)?;
+    Ok(start.elapsed(rt)?.as_micros())
+}
+
+/// Decodes the bytes once: the time.
+fn decoding_time<R: AllocGlobal + Clock>(
+    rt: &R,
+    coding: &Coding<'_, Global>,
+    states: &mut [u8],
+    plane: &Plane<'_>,
+    bytes: &[u8],
+    parks: bool,
+) -> Result<u128>
+    requires wide { 0 < plane.now.width }
+    requires rows { length states.old ≡ contexts_of coding.now.set * 32 }
+    requires fresh { AllHeld coding.now.table (replicate (length states.old) 128) }
+    ensures long { length states.new ≡ length states.old }
+{
+    let start = Instant::now(rt)?;
+    shows(rt.alloc(), coding, states, plane, bytes, parks)?;
+    Ok(start.elapsed(rt)?.as_micros())
 }
 
 /// Codes and decodes some times over, and prints the least time of each.
 fn time<R: AllocGlobal + Clock + Print>(
     rt: &R,
-    table: &StateTable,
-    set: &QuantSet,
+    coding: &Coding<'_, Global>,
     states: &mut [u8],
-    asked: &Asked,
+    plane: &Plane<'_>,
     bytes: &[u8],
+    asked: Asked,
 ) -> Result<()>
-    requires wide { 0 < asked.now.width }
-    requires rows { length states.old ≡ contexts_of set.now * 32 }
-    requires fresh { AllHeld table.now (replicate (length states.old) 128) }
+    requires wide { 0 < plane.now.width }
+    requires rows { length states.old ≡ contexts_of coding.now.set * 32 }
+    requires fresh { AllHeld coding.now.table (replicate (length states.old) 128) }
 {
-    let mut coding = u128::MAX;
+    let mut least = u128::MAX;
     let mut decoding = u128::MAX;
     'times: for _ in 0..asked.times {
-        let start = Instant::now(rt)?;
-        code(rt, table, set, states, &asked.plane, asked.width)?;
-        coding = coding.min(start.elapsed(rt)?.as_micros());
-        let start = Instant::now(rt)?;
-        shows(rt, table, set, states, asked, bytes)?;
-        decoding = decoding.min(start.elapsed(rt)?.as_micros());
+        least = least.min(coding_time(rt, coding, states, plane)?);
+        decoding = decoding.min(decoding_time(rt, coding, states, plane, bytes, asked.parks)?);
     }
-    Ok(rt.println(format_args!("coding {coding} us decoding {decoding} us"))?)
+    if asked.times == 0 {
+        return Ok(());
+    }
+    Ok(rt.println(format_args!("coding {least} us decoding {decoding} us"))?)
 }
 
 /// Codes and decodes the plane, and prints how many bytes it takes and whether it comes back; then
 /// the least times.
+fn compare<R: AllocGlobal + Clock + Print>(
+    rt: &R,
+    coding: &Coding<'_, Global>,
+    states: &mut [u8],
+    plane: &Plane<'_>,
+    asked: Asked,
+) -> Result<()>
+    requires wide { 0 < plane.now.width }
+    requires rows { length states.old ≡ contexts_of coding.now.set * 32 }
+    requires fresh { AllHeld coding.now.table (replicate (length states.old) 128) }
+{
+    let bytes = code(rt.alloc(), coding, states, plane)?;
+    let same = shows(rt.alloc(), coding, states, plane, &bytes, asked.parks)?;
+    rt.println(format_args!("bytes {} same {same}", bytes.len()))?;
+    time(rt, coding, states, plane, &bytes, asked)
+}
+
+/// The same by the standard's table and the small set.
+fn time_plane<R: AllocGlobal + Clock + Print>(rt: &R, plane: &Plane<'_>, asked: Asked) -> Result<()>
+    requires wide { 0 < plane.now.width }
+{
+    let table = StateTable::standard();
+    let set = QuantSet::small(rt.alloc())?;
+    let mut states = vec![in rt.alloc(); 128u8; set.contexts() as usize * 32]?;
+    let coding = Coding {
+        table: &table,
+        set: &set,
+        bits: 8,
+    };
+    compare(rt, &coding, states.as_mut_slice(), plane, asked)
+}
+
+/// Times what the words of the command line ask for.
 pub(crate) fn run<R: AllocGlobal + Files + Env + Clock + Print>(rt: &R) -> Result<()> {
     let mut words = env::args(rt)?;
     let _ = words.next();
@@ -119,17 +173,12 @@ pub(crate) fn run<R: AllocGlobal + Files + Env + Clock + Print>(rt: &R) -> Resul
     if first.as_str() == "frame" {
         return frames::run(rt, &mut words);
     }
-    let asked = read(rt, first, &mut words)?;
+    let asked = read_numbers(&mut words)?;
     ensure!(asked.width > 0, "width");
-    let table = StateTable::standard();
-    let set = QuantSet::small(rt.alloc())?;
-    let mut states = vec![in rt.alloc(); 128u8; set.contexts() as usize * 32]?;
-    let states = states.as_mut_slice();
-    let bytes = code(rt, &table, &set, states, &asked.plane, asked.width)?;
-    let same = shows(rt, &table, &set, states, &asked, &bytes)?;
-    rt.println(format_args!("bytes {} same {same}", bytes.len()))?;
-    if asked.times == 0 {
-        return Ok(());
-    }
-    time(rt, &table, &set, states, &asked, &bytes)
+    let samples = fs::read(rt, first.as_str())?;
+    let plane = Plane {
+        samples: samples.as_slice(),
+        width: asked.width,
+    };
+    time_plane(rt, &plane, asked)
 }

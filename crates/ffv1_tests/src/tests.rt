@@ -4,6 +4,7 @@ mod aspects;
 mod avi;
 mod checks;
 mod decoded;
+mod ebml;
 mod encoded;
 mod faults;
 mod frames;

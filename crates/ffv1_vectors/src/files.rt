@@ -10,7 +10,8 @@
 
 use crate::fields::{Count, counted, number};
 use anyhow::{Context, Result};
-use ffv1_avi::{AviHead, AviReader};
+use ffv1_avi::AviReader;
+use ffv1_reads::FileHead;
 use ffv1_record::{Checked, read_record};
 use ffv1_slice::{Spans, cut};
 use ffv1_wire::{ByteIn, FromRead};
@@ -20,7 +21,7 @@ use std::rt::Files;
 use std::str::SplitWhitespace;
 
 /// Whether a head has the next sizes and rates of a line.
-fn is_head(fields: &mut SplitWhitespace<'_>, head: &AviHead) -> Result<bool> {
+fn is_head(fields: &mut SplitWhitespace<'_>, head: &FileHead) -> Result<bool> {
     let sizes = head.width == number(fields)? && head.height == number(fields)?;
     let rates = head.rate == number(fields)? && head.scale == number(fields)?;
     Ok(sizes && rates)

@@ -4,4 +4,5 @@ pub mod Reads
 pub mod Runs
 pub mod Wrappers
 pub mod Writes
+pub mod Patches
 pub mod Passage

@@ -3,7 +3,8 @@
 //!
 //! `FromRead` makes a `ByteIn` of a reader of std's, and `ToWrite` a `ByteOut` of a writer;
 //! `read_byte`, `read_full`, `skip` and `write_all` are loops over them that stop at the first
-//! failure and try nothing again. A `LineSink` takes the lines of a picture, and `hand_over` gives
+//! failure and try nothing again. A `PatchOut` can be written over before its end: `ToFile` of a file
+//! that can be sought in, `ToMemory` of bytes in memory. A `LineSink` takes the lines of a picture, and `hand_over` gives
 //! it some in order. `laws` joins calls in a row into one. The test `end_of_input` of `ffv1_tests`
 //! runs this:
 //!
@@ -15,10 +16,12 @@
 #![tactic(auto)]
 
 pub mod laws;
+pub mod patch;
 pub mod read;
 pub mod sink;
 pub mod write;
 
+pub use patch::{PatchOut, ToFile, ToMemory};
 pub use read::{ByteIn, FromRead, read_byte, read_full, skip};
 pub use sink::{Line, LineSink, SinkFault, hand_over};
 use thiserror::Error;

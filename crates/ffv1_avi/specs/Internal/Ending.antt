@@ -3,12 +3,12 @@ use Rattle.std.specs.Prelude.{◌≡◌, ◌⊎◌, ℕ, List, [], ◌∷◌, Op
 use Rattle.std.specs.Io.KnownBytes.{IsAtEnd}
 use Rattle.ffv1_wire.specs.Failures.{one_more}
 use Rattle.ffv1_wire.specs.Passage.{Passage}
-use Rattle.ffv1_avi.specs.declared.fault.AviFault.{AviFault}
-use Rattle.ffv1_avi.specs.declared.fault.AviFault.TheVariants as fault
+use Rattle.ffv1_reads.specs.declared.fault.FileFault.{FileFault}
+use Rattle.ffv1_reads.specs.declared.fault.FileFault.TheVariants as fault
 use Rattle.ffv1_avi.specs.declared.place.Extent.{Extent}
 use Rattle.ffv1_avi.specs.declared.place.Extent.TheVariants.{FirstMovi, EveryRiff}
-use Rattle.ffv1_avi.specs.Ends.{Stops}
-use Rattle.ffv1_avi.specs.Reads.{Read, Reading, Refused, Wants}
+use Rattle.ffv1_reads.specs.Ends.{Stops}
+use Rattle.ffv1_reads.specs.Reads.{Read, Reading, Refused, Wants}
 
 -- bytes were read, and where nothing stands behind them, there is nothing more; the first movi does
 -- not end so
@@ -19,7 +19,7 @@ Halts EveryRiff reading old new = Stops reading old new None
 
 -- why a call was refused: a read may also fail where the end would be an answer
 abbrev pub RefusedOrNone : {X : Type 0} → Extent → Reading (Option X) → Option (List ℕ) →
-    Option (List ℕ) → ℕ → ℕ → AviFault → Type 0
+    Option (List ℕ) → ℕ → ℕ → FileFault → Type 0
 RefusedOrNone extent reading old new before after fault.Read =
     (after ≡ one_more before) × (Wants reading old new ⊎ Halts extent reading old new)
 RefusedOrNone extent reading old new before after f = Refused reading old new before after f
@@ -32,7 +32,7 @@ ReadOrNone extent reading old new x =
 
 -- the answer of a call where the end of the input may be one
 abbrev pub AnswersOrNone : {X Y : Type 0} → Extent → (Y → Option X) → Reading (Option X) →
-    Passage → Result Y AviFault → Type 0
+    Passage → Result Y FileFault → Type 0
 AnswersOrNone extent view reading p (Ok y) =
     (p.after ≡ p.before) × ReadOrNone extent reading p.old p.new (view y)
 AnswersOrNone extent view reading p (Err f) =

@@ -7,7 +7,7 @@ use Rattle.ffv1_avi.specs.declared.open.Top.{Top}
 use Rattle.ffv1_avi.specs.declared.open.Top.TheVariants.{On, Movi}
 use Rattle.ffv1_avi.specs.declared.place.Place.{Place}
 use Rattle.ffv1_avi.specs.Files.{Headers}
-use Rattle.ffv1_avi.specs.Head.{Head}
+use Rattle.ffv1_reads.specs.Head.{Head}
 use Rattle.ffv1_avi.specs.Streams.{Format, Known}
 
 -- a head, of its sizes and its record

@@ -1,8 +1,9 @@
 //! What `check` writes of files over memory, and its faults.
 
 use crate::tests::made;
-use ffv1_avi::{AviHead, write_avi};
+use ffv1_avi::write_avi;
 use ffv1_engine::{Fault, Profile, check};
+use ffv1_reads::FileHead;
 use ffv1_record::{Checked, RecordFault, write_record};
 use ffv1_wire::{FromRead, ToWrite};
 use std::alloc::Allocator;
@@ -22,7 +23,7 @@ fn file_of<A: Allocator + Copy>(
     frame: &[u8],
     count: usize,
 ) -> Result<Vec<u8, A>, Fault> {
-    let head = AviHead {
+    let head = FileHead {
         width: columns,
         height: 1,
         rate: 25,

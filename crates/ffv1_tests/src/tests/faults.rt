@@ -1,7 +1,7 @@
 //! The texts of faults: each the number and the name that stand for it on standard error.
 
-use ffv1_avi::AviFault;
 use ffv1_engine::Fault;
+use ffv1_reads::FileFault;
 use ffv1_record::RecordFault;
 use ffv1_slice::SliceFault;
 use std::test::Fail;
@@ -89,15 +89,15 @@ fn of_the_record(rt: HostRuntime) -> Result<(), Fail> {
 #[test]
 fn of_avi(rt: HostRuntime) -> Result<(), Fail> {
     for (fault, text) in [
-        (AviFault::OutOfMemory, "2 OutOfMemory"),
-        (AviFault::NotAvi, "50 NotAvi"),
-        (AviFault::NoFfv1, "51 NoFfv1"),
-        (AviFault::Truncated, "52 Truncated"),
-        (AviFault::ChunkTooLong, "53 ChunkTooLong"),
-        (AviFault::EmptyFrame, "54 EmptyFrame"),
-        (AviFault::TooLarge, "55 TooLarge"),
-        (AviFault::Read, "56 Read"),
-        (AviFault::Write, "57 Write"),
+        (FileFault::OutOfMemory, "2 OutOfMemory"),
+        (FileFault::NotAvi, "50 NotAvi"),
+        (FileFault::NoFfv1, "51 NoFfv1"),
+        (FileFault::Truncated, "52 Truncated"),
+        (FileFault::ChunkTooLong, "53 ChunkTooLong"),
+        (FileFault::EmptyFrame, "54 EmptyFrame"),
+        (FileFault::TooLarge, "55 TooLarge"),
+        (FileFault::Read, "56 Read"),
+        (FileFault::Write, "57 Write"),
     ] {
         assert_eq!(rt; fault.to_string(rt.alloc())?.as_str(), text);
     }

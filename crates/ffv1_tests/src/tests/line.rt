@@ -5,7 +5,7 @@ ghost use Rattle.ffv1_plane.specs.Quantisation.{contexts_of};
 ghost use Rattle.ffv1_range.specs.Symbols.{AreHeld, AllHeld};
 
 use super::range::made::{put_at, put_long_exponent};
-use ffv1_line::{RollingRows, TooLong, decode_line, encode_line, reset};
+use ffv1_line::{Above, Coding, RollingRows, TooLong, decode_line, encode_line, reset};
 use ffv1_plane::QuantSet;
 use ffv1_range::{Fault, RangeDecoder, RangeEncoder, StateTable};
 use std::alloc::Global;
@@ -30,9 +30,18 @@ fn put_samples(
     requires held { AllHeld table.now states.old }
     ensures held { AllHeld table.now states.new }
 {
+    let coding = Coding {
+        table,
+        set,
+        bits: 8,
+    };
     let (mut two, mut one) = ([0u16], [0u16]);
     'rows: for &sample in samples {
-        encode_line(encoder, table, set, states, &two, &one, &[sample], 8)?;
+        let above = Above {
+            two: &two,
+            one: &one,
+        };
+        encode_line(encoder, &coding, states, &above, &[sample])?;
         two = one;
         one = [sample];
     }
@@ -82,26 +91,22 @@ fn two_rows(
     let (mut first, mut second) = ([0u16; 2], [0u16; 2]);
     let mut decoder = RangeDecoder::new(bytes)?;
     reset(states);
-    decode_line(
-        &mut decoder,
+    let coding = Coding {
         table,
         set,
-        states,
-        &[0; 2],
-        &[0; 2],
-        &mut first,
-        8,
-    )?;
-    decode_line(
-        &mut decoder,
-        table,
-        set,
-        states,
-        &[0; 2],
-        &first,
-        &mut second,
-        8,
-    )?;
+        bits: 8,
+    };
+    let zeros = [0; 2];
+    let above = Above {
+        two: &zeros,
+        one: &zeros,
+    };
+    decode_line(&mut decoder, &coding, states, &above, &mut first)?;
+    let above = Above {
+        two: &zeros,
+        one: &first,
+    };
+    decode_line(&mut decoder, &coding, states, &above, &mut second)?;
     Ok((first, second, decoder.taken()))
 }
 
@@ -123,16 +128,16 @@ fn one_row(
     let zeros = &zeros[..width];
     let mut decoder = RangeDecoder::new(bytes)?;
     reset(states);
-    let done = decode_line(
-        &mut decoder,
+    let coding = Coding {
         table,
         set,
-        states,
-        zeros,
-        zeros,
-        &mut row[..width],
-        8,
-    );
+        bits: 8,
+    };
+    let above = Above {
+        two: zeros,
+        one: zeros,
+    };
+    let done = decode_line(&mut decoder, &coding, states, &above, &mut row[..width]);
     Ok((done, row, decoder.taken()))
 }
 
@@ -207,7 +212,12 @@ fn code_of(
 {
     let mut encoder = RangeEncoder::new(alloc);
     reset(states);
-    encode_line(&mut encoder, table, set, states, zeros, zeros, row, bits)?;
+    let coding = Coding { table, set, bits };
+    let above = Above {
+        two: zeros,
+        one: zeros,
+    };
+    encode_line(&mut encoder, &coding, states, &above, row)?;
     encoder.finish_sentinel()
 }
 
@@ -231,7 +241,12 @@ fn decodes_to(
 {
     let mut decoder = RangeDecoder::new(bytes)?;
     reset(states);
-    let done = decode_line(&mut decoder, table, set, states, zeros, zeros, other, bits);
+    let coding = Coding { table, set, bits };
+    let above = Above {
+        two: zeros,
+        one: zeros,
+    };
+    let done = decode_line(&mut decoder, &coding, states, &above, other);
     Ok(done.is_ok() & (&*other == row))
 }
 

@@ -1,6 +1,6 @@
 //! Videos that are packed, with files and frames computed outside the program, and their faults.
 
-use ffv1_engine::{Choice, CoderChoice, Fault, Packed, pack};
+use ffv1_engine::{Choice, CoderChoice, Fault, Packed, Profile, pack};
 use ffv1_wire::{FromRead, ToWrite};
 use std::alloc::Allocator;
 use std::process::Abort;
@@ -30,7 +30,7 @@ fn packed<A: Allocator + Copy>(
 ) -> Result<(Packed, Vec<u8, A>), Fault> {
     let mut input = FromRead::new(text);
     let mut output = ToWrite::new(Vec::new(alloc));
-    let packed = pack(alloc, &mut input, &mut output, choice)?;
+    let packed = pack(alloc, Profile::Strict, &mut input, &mut output, choice)?;
     Ok((packed, output.into_inner()))
 }
 
@@ -59,7 +59,15 @@ fn refuses<A: Allocator + Copy>(
     fault: Fault,
 ) {
     let mut output = ToWrite::new(Vec::new(alloc));
-    assert!(rt; pack(alloc, &mut FromRead::new(text), &mut output, choice) == Err(fault));
+    assert!(rt;
+        pack(
+            alloc,
+            Profile::Strict,
+            &mut FromRead::new(text),
+            &mut output,
+            choice
+        ) == Err(fault)
+    );
     assert!(rt; output.into_inner().is_empty());
 }
 

@@ -3,8 +3,9 @@
 
 use crate::tests::avi::riffs::MORE;
 use crate::tests::made;
-use ffv1_avi::{AviHead, write_avi};
+use ffv1_avi::write_avi;
 use ffv1_engine::{Fault, Profile, check, show, unpack};
+use ffv1_reads::FileHead;
 use ffv1_record::write_record;
 use ffv1_wire::{FromRead, ToWrite};
 use std::alloc::Global;
@@ -13,7 +14,7 @@ use std::test::Fail;
 /// A file of one frame of 1 by 1, and so many RIFFs of one frame behind it; then these bytes.
 fn file_of(alloc: Global, riffs: usize, last: &[u8]) -> Result<Vec<u8>, Fault> {
     let checked = made::mono(alloc, 1, 1, 1, false)?.check()?;
-    let head = AviHead {
+    let head = FileHead {
         width: 1,
         height: 1,
         rate: 25,

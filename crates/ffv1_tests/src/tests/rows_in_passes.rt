@@ -5,7 +5,7 @@ ghost use Rattle.ffv1_plane.specs.Quantisation.{contexts_of};
 ghost use Rattle.ffv1_range.specs.Symbols.{AreHeld, AllHeld};
 
 use super::rows::plain::put_row;
-use ffv1_line::{encode_line, reset};
+use ffv1_line::{Above, Coding, encode_line, reset};
 use ffv1_plane::QuantSet;
 use ffv1_range::{Fault, RangeEncoder, StateTable};
 use std::alloc::Global;
@@ -57,7 +57,8 @@ fn put_both(
     ensures held { AllHeld table.now states.new }
     ensures others_held { AllHeld table.now others.new }
 {
-    encode_line(passes, table, set, states, two, one, cur, bits)?;
+    let coding = Coding { table, set, bits };
+    encode_line(passes, &coding, states, &Above { two, one }, cur)?;
     put_row(plain, table, set, others, two, one, cur, bits)?;
     Ok(passes.tally() == plain.tally() && &*states == &*others)
 }

@@ -2,9 +2,10 @@
 //! `model/known_answers/shown.py`.
 
 use crate::tests::made;
-use ffv1_avi::{AviHead, write_avi};
+use ffv1_avi::write_avi;
 use ffv1_engine::{Fault, Profile, show};
 use ffv1_plane::QuantSet;
+use ffv1_reads::FileHead;
 use ffv1_record::{Coder, Colour, Config, RecordFault, Sets, write_record};
 use ffv1_wire::{FromRead, ToWrite};
 use std::alloc::Allocator;
@@ -53,7 +54,7 @@ fn file_of<A: Allocator + Copy>(
 ) -> Result<Vec<u8, A>, Fault> {
     let (width, height) = (config.width, config.height);
     let checked = config.check()?;
-    let head = AviHead {
+    let head = FileHead {
         width,
         height,
         rate,

@@ -119,7 +119,7 @@ fn file(alloc: Global) -> Result<Vec<u8>, Fault> {
     };
     let mut input = FromRead::new(b"YUV4MPEG2 W1 H1 Cmono\nFRAME\n\0".as_slice());
     let mut output = ToWrite::new(Vec::new(alloc));
-    pack(alloc, &mut input, &mut output, &choice)?;
+    pack(alloc, Profile::Strict, &mut input, &mut output, &choice)?;
     Ok(output.into_inner())
 }
 

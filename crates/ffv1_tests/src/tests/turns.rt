@@ -82,7 +82,7 @@ fn pack_plain<R: ByteIn, W: ByteOut, A: Allocator + Copy>(
         rate: 25,
         scale: 1,
     };
-    match pack(alloc, input, output, &plain) {
+    match pack(alloc, Profile::Strict, input, output, &plain) {
         Ok(_) => Ok(()),
         Err(fault) => Err(fault),
     }

@@ -1,8 +1,9 @@
 //! Files that are unpacked, with texts computed outside the program, and their faults.
 
-use ffv1_avi::{AviHead, write_avi};
+use ffv1_avi::write_avi;
 use ffv1_engine::{Choice, CoderChoice, Fault, Profile, pack, unpack};
 use ffv1_plane::QuantSet;
+use ffv1_reads::FileHead;
 use ffv1_record::{Coder, Colour, Config, Sets, write_record};
 use ffv1_wire::{FromRead, ToWrite};
 use std::alloc::Allocator;
@@ -36,7 +37,7 @@ fn file_of<A: Allocator + Copy>(
 ) -> Result<Vec<u8, A>, Fault> {
     let mut input = FromRead::new(text);
     let mut output = ToWrite::new(Vec::new(alloc));
-    pack(alloc, &mut input, &mut output, choice)?;
+    pack(alloc, Profile::Strict, &mut input, &mut output, choice)?;
     Ok(output.into_inner())
 }
 
@@ -138,7 +139,7 @@ fn file_with<A: Allocator + Copy>(
     if width > 8192 || height > 8192 {
         return Err(Fault::Size);
     }
-    let head = AviHead {
+    let head = FileHead {
         width,
         height,
         rate: 25,

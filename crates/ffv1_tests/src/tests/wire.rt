@@ -1,4 +1,5 @@
 //! Readers, writers and sinks.
 
 mod bytes;
+mod patches;
 mod sinks;

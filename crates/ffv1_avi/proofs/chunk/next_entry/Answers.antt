@@ -2,11 +2,12 @@ use Rattle.std.proofs.Common.{◌≡◌, ◌+◌, ◌<◌, ◌≤◌, ◌-◌, �
 use Rattle.std.proofs.lemmas.Bool.{lt-ltb, le-ltb, ne_eqb}
 use Rattle.byteorder.specs.Endian.{little_number}
 use Rattle.ffv1_avi.specs.declared.chunk.Entry.{Entry}
-use Rattle.ffv1_avi.specs.declared.fault.AviFault.TheVariants as fault
-use Rattle.ffv1_avi.specs.Reads.{Reading, given, padded, refused, taken, ◌>>=◌}
+use Rattle.ffv1_reads.specs.declared.fault.FileFault.TheVariants as fault
+use Rattle.ffv1_reads.specs.Reads.{Reading, given, refused, taken, ◌>>=◌}
+use Rattle.ffv1_avi.specs.Padding.{padded}
 use Rattle.ffv1_avi.specs.Walk.{entry_judged, entry_read, is_name}
 use Rattle.ffv1_avi.proofs.Contents.{number_taken}
-use Rattle.ffv1_avi.proofs.Reading.{faults_here, goes_fault, goes_given, goes_none, goes_read, goes_same}
+use Rattle.ffv1_reads.proofs.Reading.{faults_here, goes_fault, goes_given, goes_none, goes_read, goes_same}
 use Rattle.ffv1_avi.proofs.chunk.next_entry.Goals as goal
 use Rattle.ffv1_avi.proofs.chunk.next_entry.Goals.{else-is_name-via-then-is_name+else-size-lt4, else-is_name-via-else-is_name}
 

@@ -1,8 +1,8 @@
 use Rattle.std.proofs.Common.{◌%◌, None}
 use Rattle.std.proofs.lemmas.Result.{err_from_is_err_and}
 use Rattle.ffv1_avi.specs.Files.{visit_extended}
-use Rattle.ffv1_avi.specs.Reads.{given, passed}
-use Rattle.ffv1_avi.proofs.Reading.{goes_given, goes_read, goes_refused}
+use Rattle.ffv1_reads.specs.Reads.{given, passed}
+use Rattle.ffv1_reads.proofs.Reading.{goes_given, goes_read, goes_refused}
 use Rattle.ffv1_avi.proofs.ChunkByChunk.{behind_chunk, goes_end, goes_entry, goes_no_entry}
 use Rattle.ffv1_avi.proofs.open.read_extended.Invariants.{ended}
 use Rattle.ffv1_avi.proofs.open.read_extended.Goals as goal

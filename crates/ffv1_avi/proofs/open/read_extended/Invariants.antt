@@ -1,8 +1,8 @@
 use Rattle.std.proofs.Common.{ℕ, ◌%◌, Option}
 use Rattle.ffv1_avi.specs.Files.{extended_read, visit_extended}
-use Rattle.ffv1_avi.specs.Reads.{Reading, given, passed, ◌>>=◌}
+use Rattle.ffv1_reads.specs.Reads.{Reading, given, passed, ◌>>=◌}
 use Rattle.ffv1_avi.specs.Walk.{walk}
-use Rattle.ffv1_avi.proofs.Reading.{Goes}
+use Rattle.ffv1_reads.proofs.Reading.{Goes}
 use Rattle.ffv1_avi.proofs.open.read_extended.Given as goal
 
 abbrev pub ended : ℕ → Option ℕ × Option ⊥ → Reading (Option ℕ)

@@ -1,9 +1,9 @@
 use Rattle.std.proofs.Common.{ℕ, ◌%◌, Option}
 use Rattle.ffv1_avi.specs.Files.{Headers, header_read, visit_header}
-use Rattle.ffv1_avi.specs.Reads.{Reading, given, passed, ◌>>=◌}
+use Rattle.ffv1_reads.specs.Reads.{Reading, given, passed, ◌>>=◌}
 use Rattle.ffv1_avi.specs.Internal.Views.{headers_with}
 use Rattle.ffv1_avi.specs.Walk.{walk}
-use Rattle.ffv1_avi.proofs.Reading.{Goes}
+use Rattle.ffv1_reads.proofs.Reading.{Goes}
 use Rattle.ffv1_avi.proofs.open.read_header.Given as goal
 
 abbrev pub ended : ℕ → Headers × Option ⊥ → Reading Headers

@@ -2,18 +2,18 @@ use Rattle.std.proofs.Common.{◌≡◌, ◌-◌, ◌&&◌, ◌++◌, ℕ, List,
 use Rattle.std.proofs.lemmas.Bool.{le-leb, lt-leb}
 use Rattle.std.proofs.lemmas.List.{take_all}
 use Rattle.byteorder.specs.Endian.{little_number}
-use Rattle.ffv1_avi.specs.declared.fault.AviFault.TheVariants as fault
+use Rattle.ffv1_reads.specs.declared.fault.FileFault.TheVariants as fault
 use Rattle.ffv1_avi.specs.declared.stream.Sizes.{Sizes}
 use Rattle.ffv1_avi.specs.Files.{begins, open_read, top_read}
-use Rattle.ffv1_avi.specs.Head.{Head}
+use Rattle.ffv1_reads.specs.Head.{Head}
 use Rattle.ffv1_avi.specs.declared.place.Extent.{Extent}
 use Rattle.ffv1_avi.specs.declared.place.Place.{Place}
-use Rattle.ffv1_avi.specs.Reads.{Looked, Reading, refused, taken, ◌>>=◌}
+use Rattle.ffv1_reads.specs.Reads.{Looked, Reading, refused, taken, ◌>>=◌}
 use Rattle.ffv1_avi.specs.Internal.Views.{head_with}
 use Rattle.ffv1_avi.specs.Walk.{is_name}
 use Rattle.ffv1_avi.proofs.Contents.{number_taken}
-use Rattle.ffv1_avi.proofs.PassedBytes.{wanted_sound}
-use Rattle.ffv1_avi.proofs.Reading.{faults_here, goes_fault, goes_last, goes_none, goes_read, goes_same}
+use Rattle.ffv1_reads.proofs.WantedBytes.{wanted_sound}
+use Rattle.ffv1_reads.proofs.Reading.{faults_here, goes_fault, goes_last, goes_none, goes_read, goes_same}
 use Rattle.ffv1_avi.proofs.open.read_opening.Goals as goal
 use Rattle.ffv1_avi.proofs.open.read_opening.Goals.{then-not-is_name-via-then-not-is_name, then-not-is_name-via-else-not-is_name+then-not-is_name-2, then-not-is_name-via-else-not-is_name+else-not-is_name-2+then-size-lt4}
 

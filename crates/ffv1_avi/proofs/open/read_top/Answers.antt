@@ -1,11 +1,11 @@
 use Rattle.std.proofs.Common.{Some, None, refl}
 use Rattle.std.proofs.lemmas.Result.{err_from_is_err_and}
-use Rattle.ffv1_avi.specs.declared.fault.AviFault.TheVariants as fault
+use Rattle.ffv1_reads.specs.declared.fault.FileFault.TheVariants as fault
 use Rattle.ffv1_avi.specs.Files.{visit_top}
-use Rattle.ffv1_avi.specs.Head.{Head}
+use Rattle.ffv1_reads.specs.Head.{Head}
 use Rattle.ffv1_avi.specs.declared.place.Place.{Place}
 use Rattle.ffv1_avi.specs.Internal.Views.{headers_with, head_with}
-use Rattle.ffv1_avi.proofs.Reading.{faults_here, goes_fault, goes_given, goes_read, goes_refused}
+use Rattle.ffv1_reads.proofs.Reading.{faults_here, goes_fault, goes_given, goes_read, goes_refused}
 use Rattle.ffv1_avi.proofs.ChunkByChunk.{behind_chunk, goes_end, goes_entry, goes_no_entry}
 use Rattle.ffv1_avi.proofs.open.read_top.Invariants.{ended}
 use Rattle.ffv1_avi.proofs.open.read_top.Goals as goal

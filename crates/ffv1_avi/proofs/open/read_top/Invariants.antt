@@ -1,11 +1,11 @@
 use Rattle.std.proofs.Common.{Option}
 use Rattle.ffv1_avi.specs.Files.{Headers, opened, top_read, visit_top}
-use Rattle.ffv1_avi.specs.Head.{Head}
+use Rattle.ffv1_reads.specs.Head.{Head}
 use Rattle.ffv1_avi.specs.declared.place.Place.{Place}
-use Rattle.ffv1_avi.specs.Reads.{Reading, ◌>>=◌}
+use Rattle.ffv1_reads.specs.Reads.{Reading, ◌>>=◌}
 use Rattle.ffv1_avi.specs.Internal.Views.{headers_with}
 use Rattle.ffv1_avi.specs.Walk.{walk}
-use Rattle.ffv1_avi.proofs.Reading.{Goes}
+use Rattle.ffv1_reads.proofs.Reading.{Goes}
 use Rattle.ffv1_avi.proofs.open.read_top.Given as goal
 
 abbrev pub ended : Headers × Option (Head × Place) → Reading (Head × Place)

@@ -3,8 +3,9 @@ use Rattle.std.proofs.lemmas.Bool.{le-ltb}
 use Rattle.std.proofs.lemmas.Result.{err_from_is_err_and}
 use Rattle.byteorder.specs.Endian.{little_number}
 use Rattle.ffv1_avi.specs.Files.{total_read}
-use Rattle.ffv1_avi.specs.Reads.{Reading, given, padded, passed, taken, ◌>>=◌}
-use Rattle.ffv1_avi.proofs.Reading.{goes_given, goes_none, goes_read, goes_refused, goes_same}
+use Rattle.ffv1_reads.specs.Reads.{Reading, given, passed, taken, ◌>>=◌}
+use Rattle.ffv1_avi.specs.Padding.{padded}
+use Rattle.ffv1_reads.proofs.Reading.{goes_given, goes_none, goes_read, goes_refused, goes_same}
 use Rattle.ffv1_avi.proofs.open.read_total.Goals as goal
 
 abbrev total : ℕ → List ℕ → Reading (Option ℕ × Option ⊥)

@@ -1,12 +1,13 @@
 use Rattle.std.proofs.Common.{◌≡◌, ◌-◌, ℕ, List, None, true, false, codes, refl, sym}
 use Rattle.std.proofs.lemmas.Result.{err_from_is_err_and}
 use Rattle.ffv1_avi.specs.Files.{Headers, extended_visited, header_list, header_named, list_skipped, stream_visited}
-use Rattle.ffv1_avi.specs.Reads.{given, padded, passed, taken}
+use Rattle.ffv1_reads.specs.Reads.{given, passed, taken}
+use Rattle.ffv1_avi.specs.Padding.{padded}
 use Rattle.ffv1_avi.specs.Internal.Views.{headers_next, headers_with}
 use Rattle.ffv1_avi.specs.Walk.{is_name}
 use Rattle.ffv1_avi.specs.declared.open.Found.{Found}
 use Rattle.ffv1_avi.specs.declared.place.Extent.{Extent}
-use Rattle.ffv1_avi.proofs.Reading.{goes_given, goes_last, goes_none, goes_read, goes_refused, goes_same}
+use Rattle.ffv1_reads.proofs.Reading.{goes_given, goes_last, goes_none, goes_read, goes_refused, goes_same}
 use Rattle.ffv1_avi.proofs.open.visit_header_list.Goals as goal
 
 stream_named : (extent : Extent) (s : Headers) (size : ℕ) (own : List ℕ) → is_name own (codes "strl") ≡ true → (text : List ℕ) → header_named extent s size own text ≡ stream_visited extent s size s.head text

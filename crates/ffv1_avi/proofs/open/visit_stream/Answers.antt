@@ -2,13 +2,14 @@ use Rattle.std.proofs.Common.{rules, ◌≡◌, ◌<◌, ◌≤◌, ◌-◌, ◌
 use Rattle.std.proofs.lemmas.Bool.{lt-ltb, le-ltb}
 use Rattle.std.proofs.lemmas.Result.{err_from_is_err_and}
 use Rattle.ffv1_avi.specs.Files.{Headers, list_skipped, stream_known, stream_visited}
-use Rattle.ffv1_avi.specs.Head.{Head}
-use Rattle.ffv1_avi.specs.Reads.{Reading, given, padded, passed, ◌>>=◌}
+use Rattle.ffv1_reads.specs.Head.{Head}
+use Rattle.ffv1_reads.specs.Reads.{Reading, given, passed, ◌>>=◌}
+use Rattle.ffv1_avi.specs.Padding.{padded}
 use Rattle.ffv1_avi.specs.Streams.{stream_read}
 use Rattle.ffv1_avi.specs.Internal.Views.{found_with, headers_with}
 use Rattle.ffv1_avi.specs.declared.open.Found.{Found}
 use Rattle.ffv1_avi.specs.declared.place.Extent.{Extent}
-use Rattle.ffv1_avi.proofs.Reading.{goes_given, goes_none, goes_read, goes_refused, goes_same}
+use Rattle.ffv1_reads.proofs.Reading.{goes_given, goes_none, goes_read, goes_refused, goes_same}
 use Rattle.ffv1_avi.proofs.open.visit_stream.Goals as goal
 
 abbrev ended : Headers → ℕ → Option Head → Reading (Headers × Option ⊥)

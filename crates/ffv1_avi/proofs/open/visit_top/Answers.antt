@@ -1,15 +1,16 @@
 use Rattle.std.proofs.Common.{◌≡◌, ◌-◌, ℕ, List, Option, None, true, false, codes, refl, sym}
 use Rattle.std.proofs.lemmas.Result.{err_from_is_err_and}
 use Rattle.ffv1_avi.specs.Files.{Headers, header_read, list_skipped, list_visited, movi_reached, visit_top}
-use Rattle.ffv1_avi.specs.Head.{Head}
+use Rattle.ffv1_reads.specs.Head.{Head}
 use Rattle.ffv1_avi.specs.declared.open.Top.{Top}
 use Rattle.ffv1_avi.specs.declared.place.Extent.{Extent}
 use Rattle.ffv1_avi.specs.declared.place.Place.{Place}
-use Rattle.ffv1_avi.specs.Reads.{Reading, given, padded, passed, taken, ◌>>=◌}
+use Rattle.ffv1_reads.specs.Reads.{Reading, given, passed, taken, ◌>>=◌}
+use Rattle.ffv1_avi.specs.Padding.{padded}
 use Rattle.ffv1_avi.specs.Internal.Views.{headers_with, top_with}
 use Rattle.ffv1_avi.specs.Walk.{is_name}
 use Rattle.ffv1_avi.specs.declared.chunk.Entry.{Entry}
-use Rattle.ffv1_avi.proofs.Reading.{goes_given, goes_last, goes_none, goes_read, goes_refused, goes_same}
+use Rattle.ffv1_reads.proofs.Reading.{goes_given, goes_last, goes_none, goes_read, goes_refused, goes_same}
 use Rattle.ffv1_avi.proofs.open.visit_top.Goals as goal
 
 abbrev Next : Type 0

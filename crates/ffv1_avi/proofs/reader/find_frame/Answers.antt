@@ -3,10 +3,10 @@ use Rattle.std.proofs.lemmas.Result.{err_from_is_err_and}
 use Rattle.ffv1_avi.specs.declared.place.Place.{Place}
 use Rattle.ffv1_avi.specs.Files.{found_or_on, frame_found, moved, movi_found, sought_on}
 use Rattle.ffv1_avi.specs.Places.{extent_of, frame_at}
-use Rattle.ffv1_avi.specs.Reads.{◌>>=◌}
+use Rattle.ffv1_reads.specs.Reads.{◌>>=◌}
 use Rattle.ffv1_avi.proofs.EndReadings.{none_ends, none_given, none_read, none_refused, none_refused_end, read_extent, refused_extent, some_read}
 use Rattle.ffv1_avi.proofs.Moves.{frame_step, moved_less}
-use Rattle.ffv1_avi.proofs.Reading.{goes_read, goes_same}
+use Rattle.ffv1_reads.proofs.Reading.{goes_read, goes_same}
 use Rattle.ffv1_avi.proofs.reader.find_frame.Goals as goal
 
 pub returns-in_err-size-clause-answer : goal.returns-in_err-size-clause-answer

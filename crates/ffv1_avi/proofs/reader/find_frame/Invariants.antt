@@ -1,7 +1,7 @@
 use Rattle.std.proofs.Common.{◌≡◌}
 use Rattle.ffv1_avi.specs.Files.{frame_found}
 use Rattle.ffv1_avi.specs.Places.{amount, extent_of}
-use Rattle.ffv1_avi.proofs.Reading.{Goes}
+use Rattle.ffv1_reads.proofs.Reading.{Goes}
 use Rattle.ffv1_avi.proofs.reader.find_frame.Given as goal
 
 abbrev pub invariant-loop-size : goal.invariant-loop-size

@@ -1,7 +1,7 @@
 use Rattle.ffv1_avi.specs.Files.{movi_found, visit_movi}
-use Rattle.ffv1_avi.specs.Reads.{given, ◌>>=◌}
+use Rattle.ffv1_reads.specs.Reads.{given, ◌>>=◌}
 use Rattle.ffv1_avi.specs.Walk.{walk}
-use Rattle.ffv1_avi.proofs.Reading.{Goes}
+use Rattle.ffv1_reads.proofs.Reading.{Goes}
 use Rattle.ffv1_avi.proofs.reader.find_in_movi.Given as goal
 
 abbrev pub invariant-loop-entry : goal.invariant-loop-entry

@@ -2,15 +2,15 @@ use Rattle.std.proofs.Common.{◌≡◌, ◌%◌, ◌∙◌, ◌++◌, [], take,
 use Rattle.std.proofs.lemmas.Result.{err_from_is_err_and}
 use Rattle.ffv1_avi.specs.Files.{found_read, frame_found, frame_read}
 use Rattle.ffv1_avi.specs.Readers.{Leaves}
-use Rattle.ffv1_avi.specs.Reads.{Begins, Kept, Read, Reading, given, passed, wanted, ◌>>=◌}
-use Rattle.ffv1_avi.proofs.ListWalks.{cut_front}
-use Rattle.ffv1_avi.proofs.PassedBytes.{wanted_sound}
+use Rattle.ffv1_reads.specs.Reads.{Begins, Kept, Read, Reading, given, passed, wanted, ◌>>=◌}
+use Rattle.ffv1_reads.proofs.Results.{cut_front}
+use Rattle.ffv1_reads.proofs.WantedBytes.{wanted_sound}
 use Rattle.ffv1_avi.specs.declared.place.Place.{Place}
 use Rattle.ffv1_avi.specs.Places.{extent_of}
 use Rattle.ffv1_avi.proofs.EndReadings.{answers_by, none_ends, none_given, none_read, none_refused, none_refused_end, some_read}
 use Rattle.ffv1_avi.proofs.Moves.{frame_less_at}
-use Rattle.ffv1_avi.proofs.Reading.{goes_none, goes_read, goes_same}
-use Rattle.ffv1_avi.proofs.ChunkByChunk.{read_on_twice}
+use Rattle.ffv1_reads.proofs.Reading.{goes_none, goes_read, goes_same}
+use Rattle.ffv1_reads.proofs.Results.{read_on_twice}
 use Rattle.ffv1_avi.proofs.reader.read_frame.Goals as goal
 
 abbrev framed : Place → List ℕ → Reading (Option (List ℕ × Place))

@@ -1,13 +1,13 @@
 use Rattle.std.proofs.Common.{◌≡◌, ℕ, List, Result, Ok, Err, Some, true, codes, inl, refl, sym}
 use Rattle.std.proofs.lemmas.Result.{err_from_is_err_and}
 use Rattle.ffv1_avi.specs.declared.place.Extent.TheVariants.{EveryRiff}
-use Rattle.ffv1_avi.specs.declared.fault.AviFault.{AviFault}
+use Rattle.ffv1_reads.specs.declared.fault.FileFault.{FileFault}
 use Rattle.ffv1_avi.specs.declared.place.Place.{Place}
 use Rattle.ffv1_avi.specs.Files.{name_or_end, riff_begun, riff_entered, riff_named}
-use Rattle.ffv1_avi.specs.Reads.{◌>>=◌}
+use Rattle.ffv1_reads.specs.Reads.{◌>>=◌}
 use Rattle.ffv1_avi.specs.Walk.{is_name}
 use Rattle.ffv1_avi.proofs.EndReadings.{none_read, refused_none}
-use Rattle.ffv1_avi.proofs.Reading.{goes_last, goes_none, goes_same}
+use Rattle.ffv1_reads.proofs.Reading.{goes_last, goes_none, goes_same}
 use Rattle.ffv1_avi.proofs.riff.begin_riff.Goals as goal
 
 begun : (place : Place) (text : List ℕ) → riff_begun place text ≡ (name_or_end place.owed >>= riff_named place) text
@@ -26,7 +26,7 @@ returns-in_err-enter_riff g c =
     let start = goes_same _ (name_or_end place.owed >>= riff_named place) (begun place) (goes_none (riff_begun place) (g.R.ByteIn.remaining c.args.input.now) (g.R.ByteIn.failures c.args.input.now)) in
     let here = none_read EveryRiff (name_or_end place.owed) (riff_named place) _ _ name start (rw c.in-Some.is at c.in_ok-name.ensures) in
     let next = goes_same _ (riff_entered place) (riff_is place name (sym c.if-not-is_name.ensures)) here in
-    let result : Result Place AviFault = Err f in
+    let result : Result Place FileFault = Err f in
     rw (p.1, p.2) (refused_none EveryRiff (riff_begun place) _ _ _ _ f (goes_last (riff_entered place) (λ (q : Place). Some q) _ _ result next c.in_err-enter_riff.ensures))
 
 pub returns : goal.returns
@@ -36,6 +36,6 @@ returns g c =
     let start = goes_same _ (name_or_end place.owed >>= riff_named place) (begun place) (goes_none (riff_begun place) (g.R.ByteIn.remaining c.args.input.now) (g.R.ByteIn.failures c.args.input.now)) in
     let here = none_read EveryRiff (name_or_end place.owed) (riff_named place) _ _ name start (rw c.in-Some.is at c.in_ok-name.ensures) in
     let next = goes_same _ (riff_entered place) (riff_is place name (sym c.if-not-is_name.ensures)) here in
-    let result : Result Place AviFault = Ok c.in_ok-enter_riff.field-0 in
+    let result : Result Place FileFault = Ok c.in_ok-enter_riff.field-0 in
     let read = goes_last (riff_entered place) (λ (q : Place). Some q) _ _ result next c.in_ok-enter_riff.ensures in
     (read.0, inl read.1)

@@ -2,13 +2,13 @@ use Rattle.std.proofs.Common.{◌≡◌, ◌+◌, ◌≤◌, ◌++◌, ℕ, List
 use Rattle.std.proofs.lemmas.Bool.{le-leb, le-ltb}
 use Rattle.std.proofs.lemmas.List.{take_all}
 use Rattle.byteorder.specs.Endian.{little_number}
-use Rattle.ffv1_avi.specs.declared.fault.AviFault.TheVariants as fault
+use Rattle.ffv1_reads.specs.declared.fault.FileFault.TheVariants as fault
 use Rattle.ffv1_avi.specs.declared.place.Place.{Place}
 use Rattle.ffv1_avi.specs.Files.{riff_judged}
-use Rattle.ffv1_avi.specs.Reads.{Looked, refused, taken, ◌>>=◌}
+use Rattle.ffv1_reads.specs.Reads.{Looked, refused, taken, ◌>>=◌}
 use Rattle.ffv1_avi.specs.Walk.{is_name}
-use Rattle.ffv1_avi.proofs.PassedBytes.{wanted_sound}
-use Rattle.ffv1_avi.proofs.Reading.{faults_here, goes_fault, goes_none, goes_read, goes_same}
+use Rattle.ffv1_reads.proofs.WantedBytes.{wanted_sound}
+use Rattle.ffv1_reads.proofs.Reading.{faults_here, goes_fault, goes_none, goes_read, goes_same}
 use Rattle.std.proofs.Common.{Option}
 use Rattle.ffv1_avi.proofs.riff.enter_riff.Goals as goal
 

@@ -2,7 +2,7 @@ use Rattle.std.proofs.Common.{ℕ, List, [], ◌∷◌, Option, Some, None, inl,
 use Rattle.std.specs.Io.KnownBytes.{Consumes, Keeps}
 use Rattle.ffv1_wire.specs.Reads.{GivesByte}
 use Rattle.ffv1_avi.specs.declared.place.Extent.TheVariants.{EveryRiff}
-use Rattle.ffv1_avi.specs.Ends.{Stops}
+use Rattle.ffv1_reads.specs.Ends.{Stops}
 use Rattle.ffv1_avi.specs.Internal.Ending.{ReadOrNone, byte_or_end}
 use Rattle.ffv1_avi.proofs.riff.first_byte.Goals as goal
 

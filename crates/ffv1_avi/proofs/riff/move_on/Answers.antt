@@ -4,10 +4,10 @@ use Rattle.ffv1_avi.specs.declared.place.Extent.TheVariants.{EveryRiff}
 use Rattle.ffv1_avi.specs.declared.place.Place.{Place}
 use Rattle.ffv1_avi.specs.Files.{moved, movi_or_riff, movi_sought, riff_begun}
 use Rattle.ffv1_avi.specs.Places.{extent_of, movi_at}
-use Rattle.ffv1_avi.specs.Reads.{◌>>=◌}
+use Rattle.ffv1_reads.specs.Reads.{◌>>=◌}
 use Rattle.ffv1_avi.proofs.EndReadings.{none_given, none_last, none_refused}
 use Rattle.ffv1_avi.proofs.Moves.{extent_every, moved_every, moved_first}
-use Rattle.ffv1_avi.proofs.Reading.{consumes_none, goes_none, goes_read, goes_same}
+use Rattle.ffv1_reads.proofs.Reading.{consumes_none, goes_none, goes_read, goes_same}
 use Rattle.ffv1_avi.proofs.riff.move_on.Goals as goal
 
 pub returns-then-place-eq0 : goal.returns-then-place-eq0

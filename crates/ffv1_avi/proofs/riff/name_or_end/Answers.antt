@@ -4,10 +4,10 @@ use Rattle.std.proofs.lemmas.Result.{err_from_is_err_and}
 use Rattle.ffv1_avi.specs.declared.place.Extent.TheVariants.{EveryRiff}
 use Rattle.ffv1_avi.specs.Files.{name_or_end}
 use Rattle.ffv1_avi.specs.Internal.Ending.{byte_or_end}
-use Rattle.ffv1_avi.specs.Reads.{Looked, Reading, given, taken, ◌>>=◌}
+use Rattle.ffv1_reads.specs.Reads.{Looked, Reading, given, taken, ◌>>=◌}
 use Rattle.ffv1_avi.proofs.EndReadings.{none_ends, none_given, none_read, none_refused, none_refused_end}
-use Rattle.ffv1_avi.proofs.PassedBytes.{wanted_sound}
-use Rattle.ffv1_avi.proofs.Reading.{goes_none, goes_read, goes_same}
+use Rattle.ffv1_reads.proofs.WantedBytes.{wanted_sound}
+use Rattle.ffv1_reads.proofs.Reading.{goes_none, goes_read, goes_same}
 use Rattle.ffv1_avi.proofs.riff.name_or_end.Goals as goal
 
 abbrev named : List ℕ → Reading (Option (List ℕ))

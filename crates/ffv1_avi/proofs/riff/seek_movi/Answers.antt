@@ -1,8 +1,8 @@
 use Rattle.std.proofs.Common.{ℕ, Option, Some, None}
 use Rattle.std.proofs.lemmas.Result.{err_from_is_err_and}
 use Rattle.ffv1_avi.specs.Files.{visit_riff}
-use Rattle.ffv1_avi.specs.Reads.{Reading, given}
-use Rattle.ffv1_avi.proofs.Reading.{goes_given, goes_read, goes_refused}
+use Rattle.ffv1_reads.specs.Reads.{Reading, given}
+use Rattle.ffv1_reads.proofs.Reading.{goes_given, goes_read, goes_refused}
 use Rattle.ffv1_avi.proofs.ChunkByChunk.{behind_chunk, goes_end, goes_entry, goes_no_entry}
 use Rattle.ffv1_avi.proofs.riff.seek_movi.Goals as goal
 

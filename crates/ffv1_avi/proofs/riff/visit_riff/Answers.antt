@@ -1,10 +1,11 @@
 use Rattle.std.proofs.Common.{◌≡◌, ◌-◌, ℕ, List, None, true, false, codes, refl, sym}
 use Rattle.std.proofs.lemmas.Result.{err_from_is_err_and}
 use Rattle.ffv1_avi.specs.Files.{list_skipped, riff_list, visit_riff}
-use Rattle.ffv1_avi.specs.Reads.{given, padded, passed, taken, ◌>>=◌}
+use Rattle.ffv1_reads.specs.Reads.{given, passed, taken, ◌>>=◌}
+use Rattle.ffv1_avi.specs.Padding.{padded}
 use Rattle.ffv1_avi.specs.Walk.{is_name}
 use Rattle.ffv1_avi.specs.declared.chunk.Entry.{Entry}
-use Rattle.ffv1_avi.proofs.Reading.{goes_given, goes_none, goes_read, goes_refused, goes_same}
+use Rattle.ffv1_reads.proofs.Reading.{goes_given, goes_none, goes_read, goes_refused, goes_same}
 use Rattle.ffv1_avi.proofs.riff.visit_riff.Goals as goal
 
 list_read : (e : Entry) → is_name e.name (codes "LIST") ≡ true → (text : List ℕ) → visit_riff tt e text ≡ (taken 4 >>= riff_list e.left e.size) text

@@ -1,10 +1,11 @@
 use Rattle.std.proofs.Common.{◌≡◌, ◌-◌, ◌∙◌, ap, sym, None, drop, arith}
 use Rattle.std.proofs.lemmas.Result.{err_from_is_err_and}
 use Rattle.byteorder.specs.Endian.{little_number}
-use Rattle.ffv1_avi.specs.Reads.{Kept, given, padded, passed, taken, wanted, ◌>>=◌}
+use Rattle.ffv1_reads.specs.Reads.{Kept, given, passed, taken, wanted, ◌>>=◌}
+use Rattle.ffv1_avi.specs.Padding.{padded}
 use Rattle.ffv1_avi.specs.Streams.{format_behind, format_in, format_rest, record_end}
 use Rattle.ffv1_avi.proofs.Contents.{format_long, format_right, format_short, format_wrong, number_taken, record_rest}
-use Rattle.ffv1_avi.proofs.Reading.{goes_given, goes_none, goes_read, goes_refused, goes_same}
+use Rattle.ffv1_reads.proofs.Reading.{goes_given, goes_none, goes_read, goes_refused, goes_same}
 use Rattle.ffv1_avi.proofs.stream.read_format.Goals as goal
 
 pub returns-in_err-pass : goal.returns-in_err-pass

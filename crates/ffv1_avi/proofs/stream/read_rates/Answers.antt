@@ -1,11 +1,12 @@
 use Rattle.std.proofs.Common.{◌≡◌, ◌-◌, ◌∙◌, refl, sym, codes, true, Some, None, take, drop, arith}
 use Rattle.std.proofs.lemmas.Result.{err_from_is_err_and}
 use Rattle.byteorder.specs.Endian.{little_number}
-use Rattle.ffv1_avi.specs.Reads.{given, padded, passed, taken, ◌>>=◌}
+use Rattle.ffv1_reads.specs.Reads.{given, passed, taken, ◌>>=◌}
+use Rattle.ffv1_avi.specs.Padding.{padded}
 use Rattle.ffv1_avi.specs.Walk.{is_name}
 use Rattle.ffv1_avi.specs.Streams.{rates_in}
 use Rattle.ffv1_avi.proofs.Contents.{number_taken, rates_front, rates_long, rates_short}
-use Rattle.ffv1_avi.proofs.Reading.{goes_given, goes_none, goes_read, goes_refused, goes_same}
+use Rattle.ffv1_reads.proofs.Reading.{goes_given, goes_none, goes_read, goes_refused, goes_same}
 use Rattle.ffv1_avi.proofs.stream.read_rates.Goals as goal
 
 pub returns-in_err-pass : goal.returns-in_err-pass

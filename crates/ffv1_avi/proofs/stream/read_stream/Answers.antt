@@ -3,7 +3,7 @@ use Rattle.std.proofs.lemmas.Result.{err_from_is_err_and}
 use Rattle.ffv1_avi.specs.Streams.{stream_judged, visit_field}
 use Rattle.ffv1_avi.specs.Internal.Views.{found_with, known_with}
 use Rattle.ffv1_avi.specs.declared.stream.Sizes.{Sizes}
-use Rattle.ffv1_avi.proofs.Reading.{goes_last, goes_read, goes_refused}
+use Rattle.ffv1_reads.proofs.Reading.{goes_last, goes_read, goes_refused}
 use Rattle.ffv1_avi.proofs.ChunkByChunk.{behind_chunk, goes_end, goes_entry, goes_no_entry}
 use Rattle.ffv1_avi.proofs.stream.read_stream.Invariants.{judged}
 use Rattle.ffv1_avi.proofs.stream.read_stream.Goals as goal

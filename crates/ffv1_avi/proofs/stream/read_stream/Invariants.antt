@@ -1,11 +1,11 @@
 use Rattle.std.proofs.Common.{Option}
-use Rattle.ffv1_avi.specs.Head.{Head}
+use Rattle.ffv1_reads.specs.Head.{Head}
 use Rattle.ffv1_avi.specs.declared.place.Extent.{Extent}
-use Rattle.ffv1_avi.specs.Reads.{Reading, ◌>>=◌}
+use Rattle.ffv1_reads.specs.Reads.{Reading, ◌>>=◌}
 use Rattle.ffv1_avi.specs.Streams.{Known, stream_judged, stream_read, visit_field}
 use Rattle.ffv1_avi.specs.Internal.Views.{known_with}
 use Rattle.ffv1_avi.specs.Walk.{walk}
-use Rattle.ffv1_avi.proofs.Reading.{Goes}
+use Rattle.ffv1_reads.proofs.Reading.{Goes}
 use Rattle.ffv1_avi.proofs.stream.read_stream.Given as goal
 
 abbrev pub judged : Extent → Known × Option ⊥ → Reading (Option Head)

@@ -1,8 +1,8 @@
 use Rattle.std.proofs.Common.{◌≡◌, ℕ, List, ◌+◌, ◌++◌, ◌∙◌, ap, length, Option, Err, arith}
 use Rattle.std.proofs.lemmas.Result.{err_from_is_err_and}
-use Rattle.ffv1_avi.specs.declared.fault.AviFault.{AviFault}
-use Rattle.ffv1_avi.specs.Head.{Head, head_of}
-use Rattle.ffv1_avi.specs.Reads.{padded}
+use Rattle.ffv1_reads.specs.declared.fault.FileFault.{FileFault}
+use Rattle.ffv1_reads.specs.Head.{Head, head_of}
+use Rattle.ffv1_avi.specs.Padding.{padded}
 use Rattle.ffv1_avi.specs.Written.{avih, format_size, head_text, opening, padding, spelled, stream, strf}
 use Rattle.ffv1_wire.specs.Passage.{between}
 use Rattle.ffv1_avi.specs.Writes.{Writes}
@@ -25,19 +25,19 @@ four h count size = three h count size ++ spelled (strf h)
 abbrev five : Head → ℕ → ℕ → List ℕ
 five h count size = four h count size ++ h.config_record
 
-from_five : (a b : Option (List ℕ)) (m n : ℕ) (h : Head) (count size : ℕ) (f : AviFault) → Writes (between a b m n) (five h count size) (Err f) → Writes (between a b m n) (head_text h count size) (Err f)
+from_five : (a b : Option (List ℕ)) (m n : ℕ) (h : Head) (count size : ℕ) (f : FileFault) → Writes (between a b m n) (five h count size) (Err f) → Writes (between a b m n) (head_text h count size) (Err f)
 from_five a b m n h count size f w = writes_stop a b m n (five h count size) (padding (40 + length h.config_record)) f w
 
-from_four : (a b : Option (List ℕ)) (m n : ℕ) (h : Head) (count size : ℕ) (f : AviFault) → Writes (between a b m n) (four h count size) (Err f) → Writes (between a b m n) (head_text h count size) (Err f)
+from_four : (a b : Option (List ℕ)) (m n : ℕ) (h : Head) (count size : ℕ) (f : FileFault) → Writes (between a b m n) (four h count size) (Err f) → Writes (between a b m n) (head_text h count size) (Err f)
 from_four a b m n h count size f w = from_five a b m n h count size f (writes_stop a b m n (four h count size) h.config_record f w)
 
-from_three : (a b : Option (List ℕ)) (m n : ℕ) (h : Head) (count size : ℕ) (f : AviFault) → Writes (between a b m n) (three h count size) (Err f) → Writes (between a b m n) (head_text h count size) (Err f)
+from_three : (a b : Option (List ℕ)) (m n : ℕ) (h : Head) (count size : ℕ) (f : FileFault) → Writes (between a b m n) (three h count size) (Err f) → Writes (between a b m n) (head_text h count size) (Err f)
 from_three a b m n h count size f w = from_four a b m n h count size f (writes_stop a b m n (three h count size) (spelled (strf h)) f w)
 
-from_two : (a b : Option (List ℕ)) (m n : ℕ) (h : Head) (count size : ℕ) (f : AviFault) → Writes (between a b m n) (two h count size) (Err f) → Writes (between a b m n) (head_text h count size) (Err f)
+from_two : (a b : Option (List ℕ)) (m n : ℕ) (h : Head) (count size : ℕ) (f : FileFault) → Writes (between a b m n) (two h count size) (Err f) → Writes (between a b m n) (head_text h count size) (Err f)
 from_two a b m n h count size f w = from_three a b m n h count size f (writes_stop a b m n (two h count size) (spelled (stream h (format_size h) count)) f w)
 
-from_one : (a b : Option (List ℕ)) (m n : ℕ) (h : Head) (count size : ℕ) (f : AviFault) → Writes (between a b m n) (one h size) (Err f) → Writes (between a b m n) (head_text h count size) (Err f)
+from_one : (a b : Option (List ℕ)) (m n : ℕ) (h : Head) (count size : ℕ) (f : FileFault) → Writes (between a b m n) (one h size) (Err f) → Writes (between a b m n) (head_text h count size) (Err f)
 from_one a b m n h count size f w = from_two a b m n h count size f (writes_stop a b m n (one h size) (spelled (avih h count)) f w)
 
 pub put_opening-requires : goal.put_opening-requires

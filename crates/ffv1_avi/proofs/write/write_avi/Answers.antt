@@ -2,9 +2,9 @@ use Rattle.std.proofs.Common.{◌≡◌, ℕ, List, ◌++◌, ◌<◌, ◌≤◌
 use Rattle.std.proofs.lemmas.Bool.{leb-true}
 use Rattle.std.proofs.lemmas.List.{length-map}
 use Rattle.std.proofs.lemmas.Result.{err_from_is_err_and}
-use Rattle.ffv1_avi.specs.declared.fault.AviFault.{AviFault}
-use Rattle.ffv1_avi.specs.declared.fault.AviFault.TheVariants as fault
-use Rattle.ffv1_avi.specs.Head.{Head, head_of}
+use Rattle.ffv1_reads.specs.declared.fault.FileFault.{FileFault}
+use Rattle.ffv1_reads.specs.declared.fault.FileFault.TheVariants as fault
+use Rattle.ffv1_reads.specs.Head.{Head, head_of}
 use Rattle.ffv1_avi.specs.Written.{file_of, frame_chunk, frames_of, head_text, most, movi, movi_size, riff_size, sizes_of, spelled}
 use Rattle.ffv1_wire.specs.Passage.{between}
 use Rattle.ffv1_avi.specs.Writes.{Writes, WritesFile}
@@ -27,7 +27,7 @@ are_sizes head frames p e = by_test (nat_le (riff_size head frames) most) refl e
     by_test true t e = let h = same (movi_size frames, riff_size head frames) e in record { small = leb-true _ _ t; movi_is = h.0; riff_is = h.1 }
     by_test false t e = absurd (cc)
 
-writes_file : (old new : Option (List ℕ)) (m n : ℕ) (head : Head) (frames : List (List ℕ)) (r : Result (Unit {0}) AviFault) → riff_size head frames ≤ most → Writes (between old new m n) (file_of head frames) r → WritesFile (between old new m n) head frames r
+writes_file : (old new : Option (List ℕ)) (m n : ℕ) (head : Head) (frames : List (List ℕ)) (r : Result (Unit {0}) FileFault) → riff_size head frames ≤ most → Writes (between old new m n) (file_of head frames) r → WritesFile (between old new m n) head frames r
 writes_file old new m n head frames (Ok u) small w = (small, w)
 writes_file old new m n head frames (Err fault.Write) small w = (small, w)
 writes_file old new m n head frames (Err fault.OutOfMemory) small w = absurd w
@@ -38,6 +38,13 @@ writes_file old new m n head frames (Err fault.ChunkTooLong) small w = absurd w
 writes_file old new m n head frames (Err fault.EmptyFrame) small w = absurd w
 writes_file old new m n head frames (Err fault.TooLarge) small w = absurd w
 writes_file old new m n head frames (Err fault.Read) small w = absurd w
+writes_file old new m n head frames (Err fault.NotMatroska) small w = absurd w
+writes_file old new m n head frames (Err fault.BadElement) small w = absurd w
+writes_file old new m n head frames (Err fault.NoTracks) small w = absurd w
+writes_file old new m n head frames (Err fault.Encoded) small w = absurd w
+writes_file old new m n head frames (Err fault.Laced) small w = absurd w
+writes_file old new m n head frames (Err fault.Checksum) small w = absurd w
+writes_file old new m n head frames (Err fault.Rate) small w = absurd w
 
 pub overflow_cast-frames : goal.overflow_cast-frames
 overflow_cast-frames g c =

@@ -54,7 +54,7 @@ returns-clause-ok g c =
     let told = c.in_ok-count.ensures.ok in
     let opens = c.in_ok-player.ensures.ok in
     let reads =
-    reads_file c.frames_in_turn.ensures.next c.read_is_file.ensures c.file_is_read.ensures.read c.args.profile (g.R.ByteIn.remaining c.args.input.now) (g.R.ByteIn.remaining c.open_player.new.input)
+    reads_file c.frames_in_turn.ensures.next c.read_is_file.ensures c.file_is_read.ensures.read c.whole.ensures c.args.profile (g.R.ByteIn.remaining c.args.input.now) (g.R.ByteIn.remaining c.open_player.new.input)
     (g.R.ByteIn.remaining c.tell_frames.new.input) (stream_of c.in_ok-player.player.reader c.in_ok-player.player.decoder.accepted) c.in_ok-player.player.reader.place told.0 opens.known told.2.ends in
     done c.args.profile c.args.place (g.R.ByteIn.remaining c.args.input.now) (g.R.ByteIn.remaining c.open_player.new.input) (g.R.ByteIn.remaining c.tell_frames.new.input)
     (g.W.ByteOut.contents c.args.output.now) (g.W.ByteOut.contents c.tell_frames.new.output) (g.W.ByteOut.contents c.write_count.new.output)

@@ -11,7 +11,7 @@ returns-in-Ok-clause-same g c = λ fresh e qs y inside wide shown before.
     let lined : Lined c.args.table.now c.args.set.now 8 c.args.decoder.now c.args.states.now c.decode_line.new.decoder c.decode_line.new.states c.args.rows.now.two.items c.args.rows.now.one.items c.decode_line.new.cur (length c.decode_line.new.cur) = rw (c.deref.ensures.value, c.deref-2.ensures.value) at c.in-Ok.ensures.ok in
     let back = c.cell_comes_back.ensures.next [] c.args.table.now fresh c.args.set.now 8 e qs y _ _ _ _ _ _ _ some inside before.above long before.behind lined in
     let same = same_shown e (y + 2) c.decode_line.new.cur c.args.row.now long (sym wide) back.0 shown in
-    let len : c.args.rows.now.cur.len ≡ length c.decode_line.new.cur = omega (arith, c.decode_line.auto.cur, c.as_mut_slice-cur.ensures.len) in
+    let len : c.args.rows.now.cur.len ≡ length c.decode_line.new.cur = omega (arith, c.decode_line.auto.cur, c.as_mut_slice.ensures.len) in
     c.shows-same.ensures.1 (c.as_slice.ensures.value ∙ (rw (len, take-append_seam c.decode_line.new.cur) same))
 
 pub returns-in-Ok-clause-next : goal.returns-in-Ok-clause-next
@@ -21,7 +21,7 @@ returns-in-Ok-clause-next g c = λ fresh e qs y inside wide shown before.
     let lined : Lined c.args.table.now c.args.set.now 8 c.args.decoder.now c.args.states.now c.decode_line.new.decoder c.decode_line.new.states c.args.rows.now.two.items c.args.rows.now.one.items c.decode_line.new.cur (length c.decode_line.new.cur) = rw (c.deref.ensures.value, c.deref-2.ensures.value) at c.in-Ok.ensures.ok in
     let back = c.cell_comes_back.ensures.next [] c.args.table.now fresh c.args.set.now 8 e qs y _ _ _ _ _ _ _ some inside before.above long before.behind lined in
     let above = c.rolling.ensures.next e y _ _ _ before.above long back.0 in
-    let len : c.args.rows.now.cur.len ≡ length c.decode_line.new.cur = omega (arith, c.decode_line.auto.cur, c.as_mut_slice-cur.ensures.len) in
+    let len : c.args.rows.now.cur.len ≡ length c.decode_line.new.cur = omega (arith, c.decode_line.auto.cur, c.as_mut_slice.ensures.len) in
     rw (c.turn.ensures.two, c.turn.ensures.one, len, take-append_seam c.decode_line.new.cur) (record { behind = back.1; above = above })
 
 pub returns-in-Err-clause-same : goal.returns-in-Err-clause-same

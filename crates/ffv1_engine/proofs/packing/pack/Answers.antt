@@ -1,7 +1,7 @@
 use Rattle.std.proofs.lemmas.Result.{err_from_is_err_and}
 use Rattle.std.proofs.Common.{◌∙◌, sym, ap, subst, ◌≤◌, Ok, Err}
 use Rattle.ffv1_wire.specs.Passage.{passage}
-use Rattle.ffv1_avi.specs.Head.{head_of}
+use Rattle.ffv1_reads.specs.Head.{head_of}
 use Rattle.ffv1_avi.specs.Written.{frames_of, most}
 use Rattle.ffv1_avi.specs.Writes.{WritesFile}
 use Rattle.ffv1_engine.specs.Packing.{bytes_in}

@@ -3,7 +3,7 @@ use Rattle.std.proofs.lemmas.Result.{err_from_is_err_and}
 use Rattle.ffv1_wire.specs.Passage.{passage}
 use Rattle.ffv1_record.specs.Reading.{IsRefused}
 use Rattle.ffv1_record.specs.declared.fault.RecordFault.TheVariants as record_fault
-use Rattle.ffv1_avi.specs.Head.{Head}
+use Rattle.ffv1_reads.specs.Head.{Head}
 use Rattle.ffv1_engine.specs.Stream.{IsStream}
 use Rattle.ffv1_engine.proofs.Openings.{lacks_record, opens_known}
 use Rattle.ffv1_engine.proofs.OwnFaults.{file_opens, record_opens}

@@ -1,15 +1,26 @@
 use Rattle.std.proofs.Common.{refl}
-use Rattle.ffv1_engine.specs.declared.profile.Profile.TheVariants.{Strict}
+use Rattle.ffv1_engine.specs.declared.profile.Profile.{Profile}
+use Rattle.ffv1_engine.specs.declared.profile.Profile.TheVariants.{Strict, Wide}
 use Rattle.ffv1_engine.proofs.PackedFrames.{FrameLaws}
 use Rattle.ffv1_engine.proofs.PackedIsUnpacked.{FileLaws, accepted_in, check_refused, given, holds, same_ppm, same_video, show_refused, unpack_refused, written}
 use Rattle.ffv1_engine.proofs.PackedText.{RecordLaws}
 use Rattle.ffv1_engine.proofs.round_trip.packed_is_unpacked.Goals as goal
 
-file_laws : goal.After-written_is_record → FileLaws Strict
-file_laws c = record {
+file_laws : (profile : Profile) → goal.After-written_is_record → FileLaws profile
+file_laws Strict c = record {
   file = c.written_is_read.ensures.file;
   read = c.written_is_read.ensures.read;
   is_read = c.file_is_read.ensures.read;
+  is_whole = c.file_is_read.ensures.every;
+  next = c.frames_in_turn.ensures.next;
+  said = c.said_heads.ensures;
+  canonical = c.texts.ensures.canonical;
+}
+file_laws Wide c = record {
+  file = c.written_is_read.ensures.riff;
+  read = c.written_is_read.ensures.every;
+  is_read = c.file_is_read.ensures.read;
+  is_whole = c.file_is_read.ensures.every;
   next = c.frames_in_turn.ensures.next;
   said = c.said_heads.ensures;
   canonical = c.texts.ensures.canonical;
@@ -39,25 +50,25 @@ record_laws c = record {
 }
 
 pub returns-clause-holds : goal.returns-clause-holds
-returns-clause-holds c = λ choice text w. holds Strict (file_laws c) (frame_laws c) (record_laws c) choice text w.packs.video (accepted_in Strict w) refl (given Strict choice text w)
+returns-clause-holds c = λ profile choice text w. holds profile (file_laws profile c) (frame_laws c) (record_laws c) choice text w.packs.video (accepted_in profile w) refl (given profile choice text w)
 
 pub returns-clause-written : goal.returns-clause-written
-returns-clause-written c = λ choice text w. written Strict (file_laws c) (frame_laws c) (record_laws c) choice text w.packs.video (accepted_in Strict w) refl (given Strict choice text w)
+returns-clause-written c = λ profile choice text w. written profile (file_laws profile c) (frame_laws c) (record_laws c) choice text w.packs.video (accepted_in profile w) refl (given profile choice text w)
 
 pub returns-clause-refused : goal.returns-clause-refused
-returns-clause-refused c = λ choice text w input output f known stops.
-    unpack_refused Strict (file_laws c) (frame_laws c) (record_laws c) choice text w.packs.video (accepted_in Strict w) refl (given Strict choice text w) input output known f stops
+returns-clause-refused c = λ profile choice text w input output f known stops.
+    unpack_refused profile (file_laws profile c) (frame_laws c) (record_laws c) choice text w.packs.video (accepted_in profile w) refl (given profile choice text w) input output known f stops
 
 pub returns-clause-checked : goal.returns-clause-checked
-returns-clause-checked c = λ choice text w place input output f known stops.
-    check_refused Strict (file_laws c) (frame_laws c) (record_laws c) choice text w.packs.video (accepted_in Strict w) refl (given Strict choice text w) input output known place f stops
+returns-clause-checked c = λ profile choice text w place input output f known stops.
+    check_refused profile (file_laws profile c) (frame_laws c) (record_laws c) choice text w.packs.video (accepted_in profile w) refl (given profile choice text w) input output known place f stops
 
 pub returns-clause-shown : goal.returns-clause-shown
-returns-clause-shown c = λ choice text w cost input output f known stops.
-    show_refused Strict (file_laws c) (frame_laws c) (record_laws c) choice text w.packs.video (accepted_in Strict w) refl (given Strict choice text w) input output known cost f stops
+returns-clause-shown c = λ profile choice text w cost input output f known stops.
+    show_refused profile (file_laws profile c) (frame_laws c) (record_laws c) choice text w.packs.video (accepted_in profile w) refl (given profile choice text w) input output known cost f stops
 
 pub returns-clause-same : goal.returns-clause-same
-returns-clause-same c = same_video (file_laws c)
+returns-clause-same c = same_video (file_laws Strict c)
 
 pub returns-clause-ppm : goal.returns-clause-ppm
 returns-clause-ppm c = same_ppm

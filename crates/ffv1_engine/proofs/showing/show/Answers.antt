@@ -1,7 +1,7 @@
 use Rattle.std.proofs.Common.{◌≡◌, false, true, Err, Ok, inr, subst, sym}
 use Rattle.std.proofs.lemmas.Result.{err_from_is_err_and}
 use Rattle.ffv1_wire.specs.Passage.{passage}
-use Rattle.ffv1_avi.specs.Head.{Head, head_of}
+use Rattle.ffv1_reads.specs.Head.{Head, head_of}
 use Rattle.ffv1_engine.specs.Faults.{cause_of}
 use Rattle.ffv1_engine.specs.Opens.{stream_of}
 use Rattle.ffv1_engine.specs.Show.{ShowDone, ShowStops, is_show_fault}
@@ -54,7 +54,7 @@ returns-in_ok-tell_costs-clause-ok g c =
     let opens = c.in_ok-reader.ensures.ok in
     let told = c.in_ok-tell_costs.ensures.ok in
     let writes = subst (λ (h : Head). WritesFrame (show_text (record { head = h; accepted = a })) between (Ok c.in_ok-write_stream.field-0)) c.head.ensures c.in_ok-write_stream.ensures in
-    let reads = reads_file c.frames_in_turn.ensures.next c.read_is_file.ensures c.file_is_read.ensures.read c.args.profile _ _ _ (stream_of r a) r.place told.0 opens.known told.1.ends in
+    let reads = reads_file c.frames_in_turn.ensures.next c.read_is_file.ensures c.file_is_read.ensures.read c.whole.ensures c.args.profile _ _ _ (stream_of r a) r.place told.0 opens.known told.1.ends in
     subst (λ b. ShowDone c.args.profile input output b) (sym c.if-cost.true) (shows_costs _ _ _ _ _ _ _ _ _ _ _ _ _ r a opens writes.0 writes.1 told.0 told.1 reads)
 
 pub returns-in_err-write_stream-clause-own : goal.returns-in_err-write_stream-clause-own

@@ -21,7 +21,7 @@ loop-k-preserved g c =
     record {
       block = is;
       short = omega (arith, c.list_signed-at.ensures.few);
-      steps = listed_next _ _ _ _ _ _ c.args.few k context residual _ _ is c.loop-k-test.true refl refl _
+      steps = listed_next _ _ _ _ _ _ c.args.part.now.count k context residual _ _ is c.loop-k-test.true refl refl _
           (c.list_signed-at.ensures.steps ∙ ap (λ l. l ++ shifted (context * 32) (signed_steps (of_nine_bits residual))) c.loop-k.invariant.steps);
       below = below_next _ context residual _ _ (is.few k c.loop-k-test.true) c.loop-k.invariant.below c.list_signed-at.ensures.steps;
     }

@@ -8,8 +8,8 @@ use Rattle.ffv1_line.proofs.block.list_places.Given as goal
 
 abbrev pub invariant-loop-k : goal.invariant-loop-k
 invariant-loop-k g l = record {
-  block : IsBlock l.set l.bits l.two l.one l.cur l.from l.few l.block.contexts l.block.residuals;
+  block : IsBlock l.part.set.now l.part.bits l.part.two.now l.part.one.now l.part.cur.now l.part.from l.part.count l.block.contexts l.block.residuals;
   short : l.at ≤ 19 * l.k;
-  steps : steps_of (take l.at l.block.list) ≡ places_steps l.set l.bits l.two l.one l.cur l.from l.k;
-  below : AreBelow (steps_of (take l.at l.block.list)) (contexts_of l.set * 32);
+  steps : steps_of (take l.at l.block.list) ≡ places_steps l.part.set.now l.part.bits l.part.two.now l.part.one.now l.part.cur.now l.part.from l.k;
+  below : AreBelow (steps_of (take l.at l.block.list)) (contexts_of l.part.set.now * 32);
 }

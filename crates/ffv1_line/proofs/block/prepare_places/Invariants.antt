@@ -5,8 +5,8 @@ use Rattle.ffv1_line.proofs.block.prepare_places.Given as goal
 
 abbrev pub invariant-loop-k : goal.invariant-loop-k
 invariant-loop-k g l = record {
-  two_left : l.ll ≡ two_before l.one l.cur (l.from + l.k);
-  left : l.l ≡ before l.one l.cur (l.from + l.k);
-  top_left : l.tl ≡ before l.two l.one (l.from + l.k);
-  block : IsBlock l.set l.bits l.two l.one l.cur l.from l.k l.block.contexts l.block.residuals;
+  two_left : l.ll ≡ two_before l.part.one.now l.part.cur.now (l.part.from + l.k);
+  left : l.l ≡ before l.part.one.now l.part.cur.now (l.part.from + l.k);
+  top_left : l.tl ≡ before l.part.two.now l.part.one.now (l.part.from + l.k);
+  block : IsBlock l.part.set.now l.part.bits l.part.two.now l.part.one.now l.part.cur.now l.part.from l.k l.block.contexts l.block.residuals;
 }

@@ -1,4 +1,4 @@
-use Rattle.std.proofs.Common.{◌∙◌, arith}
+use Rattle.std.proofs.Common.{◌≡◌, ◌∙◌, length, arith}
 use Rattle.ffv1_range.proofs.Growth.{on_err}
 use Rattle.ffv1_line.proofs.Rows.{written_none}
 use Rattle.ffv1_line.proofs.Beside.{written_block, refused_block}
@@ -6,22 +6,41 @@ use Rattle.ffv1_line.proofs.encode.encode_row.Goals as goal
 
 pub parts-init : goal.parts-init
 parts-init g c = record {
-  held = c.requires.held;
-  rows = c.requires.rows;
+  held = rw (← c.coding.view_is) at c.requires.held;
+  rows = rw (← c.coding.view_is) at c.requires.rows;
   within = omega arith;
   sound = c.requires.sound;
   written = written_none _ _ _ _ _ _ _ _;
 }
 
+pub encode_block-requires-clause-part : goal.encode_block-requires-clause-part
+encode_block-requires-clause-part g c =
+    let one_long : length c.above.inside.one.now ≡ length c.args.cur.now = rw (← c.above.view_is) at c.requires.one_long in
+    let bits : c.coding.inside.bits ≡ g.row.BITS = rw (← c.coding.view_is) at c.requires.bits in
+    record {
+      bits = rw bits at c.coding.invariant;
+      near = rw (← c.coding.view_is) at c.requires.near;
+      some = c.requires.some;
+      few = omega (arith, c.min-count.ensures);
+      within = omega (arith, c.min-count.ensures);
+      two_long = c.above.invariant ∙ one_long;
+      one_long = one_long;
+    }
+
 pub parts-preserved : goal.parts-preserved
-parts-preserved g c = record {
-  held = c.encode_block.ensures.held;
-  rows = omega (arith, c.parts.invariant.rows);
-  within = omega (arith, c.min-few.ensures);
-  sound = c.in_ok-encode_block.ensures.ok.failed ∙ c.parts.invariant.sound;
-  written = written_block _ _ _ _ _ _ _ _ _ _ _ _ c.parts.from c.min-few.result (omega (arith, c.min-few.ensures)) c.parts.invariant.written c.in_ok-encode_block.ensures.ok;
-}
+parts-preserved g c =
+    let one_long : length c.above.inside.one.now ≡ length c.args.cur.now = rw (← c.above.view_is) at c.requires.one_long in
+    record {
+      held = c.encode_block.ensures.held;
+      rows = omega (arith, c.parts.invariant.rows);
+      within = omega (arith, c.min-count.ensures);
+      sound = c.in_ok-encode_block.ensures.ok.failed ∙ c.parts.invariant.sound;
+      written = written_block _ _ _ _ _ _ _ _ _ _ _ _ c.parts.from c.min-count.result (omega (arith, c.min-count.ensures, one_long)) c.parts.invariant.written c.in_ok-encode_block.ensures.ok;
+    }
 
 pub returns-in_err-encode_block-clause-refused : goal.returns-in_err-encode_block-clause-refused
 returns-in_err-encode_block-clause-refused g c =
-    on_err c.from_residual.result (refused_block _ _ _ _ _ _ _ _ _ _ c.parts.from c.min-few.result (omega (arith, c.min-few.ensures)) (omega arith) c.parts.invariant.written c.in_err-encode_block.ensures.refused)
+    let one_long : length c.above.inside.one.now ≡ length c.args.cur.now = rw (← c.above.view_is) at c.requires.one_long in
+    let bits : c.coding.inside.bits ≡ g.row.BITS = rw (← c.coding.view_is) at c.requires.bits in
+    rw (← c.coding.view_is, ← c.above.view_is, bits)
+    (on_err c.from_residual.result (refused_block _ _ _ _ _ _ _ _ _ _ c.parts.from c.min-count.result (omega (arith, c.min-count.ensures)) one_long c.parts.invariant.written c.in_err-encode_block.ensures.refused))

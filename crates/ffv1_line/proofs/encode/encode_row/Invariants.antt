@@ -6,11 +6,11 @@ use Rattle.ffv1_line.proofs.encode.encode_row.Given as goal
 
 abbrev pub invariant-parts : goal.invariant-parts
 invariant-parts g l = record {
-  held : AllHeld l.table l.states;
-  rows : length l.states ≡ contexts_of l.set * 32;
+  held : AllHeld l.table.now l.states;
+  rows : length l.states ≡ contexts_of l.set.now * 32;
   within : l.from ≤ length l.cur;
   sound : l.encoder.failed ≡ false;
-  written : Written l.table l.set l.bits l.fn.encoder l.fn.states l.encoder l.states l.two l.one l.cur l.from;
+  written : Written l.table.now l.set.now g.row.BITS l.fn.encoder l.fn.states l.encoder l.states l.two.now l.one.now l.cur l.from;
 }
 
 abbrev pub decreases-parts : goal.decreases-parts

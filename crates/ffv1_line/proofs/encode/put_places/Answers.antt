@@ -9,25 +9,25 @@ loop-k-init g c = record {
   held = c.requires.held;
   rows = c.requires.rows;
   sound = c.requires.sound;
-  puts = rw (places-none c.args.set.now c.args.bits c.args.two.now c.args.one.now c.args.cur.now c.args.from) (puts_none c.args.table.now c.args.encoder.now c.args.states.now);
+  puts = rw (places-none c.args.part.now.set.now c.args.part.now.bits c.args.part.now.two.now c.args.part.now.one.now c.args.part.now.cur.now c.args.part.now.from) (puts_none c.args.table.now c.args.encoder.now c.args.states.now);
 }
 
 pub returns-in_err-put_calm-clause-refused : goal.returns-in_err-put_calm-clause-refused
 returns-in_err-put_calm-clause-refused g c =
     let k = c.loop-k.k in
-    let place = place_is c.args.set.now c.args.bits c.args.two.now c.args.one.now c.args.cur.now c.args.from c.args.few k _ _ _ c.requires.block c.loop-k-test.true refl in
+    let place = place_is c.args.part.now.set.now c.args.part.now.bits c.args.part.now.two.now c.args.part.now.one.now c.args.part.now.cur.now c.args.part.now.from c.args.part.now.count k _ _ _ c.requires.block c.loop-k-test.true refl in
     on_err c.from_residual.result
-    (refused_place c.args.table.now _ _ _ _ c.args.set.now c.args.bits c.args.two.now c.args.one.now c.args.cur.now c.args.from k c.args.few c.loop-k-test.true c.loop-k.invariant.puts
+    (refused_place c.args.table.now _ _ _ _ c.args.part.now.set.now c.args.part.now.bits c.args.part.now.two.now c.args.part.now.one.now c.args.part.now.cur.now c.args.part.now.from k c.args.part.now.count c.loop-k-test.true c.loop-k.invariant.puts
     (rw place at c.in_err-put_calm.ensures.refused))
 
 pub loop-k-preserved : goal.loop-k-preserved
 loop-k-preserved g c =
     let k = c.loop-k.k in
-    let place = place_is c.args.set.now c.args.bits c.args.two.now c.args.one.now c.args.cur.now c.args.from c.args.few k _ _ _ c.requires.block c.loop-k-test.true refl in
+    let place = place_is c.args.part.now.set.now c.args.part.now.bits c.args.part.now.two.now c.args.part.now.one.now c.args.part.now.cur.now c.args.part.now.from c.args.part.now.count k _ _ _ c.requires.block c.loop-k-test.true refl in
     let puts = rw place at c.in_ok-put_calm.ensures.ok in
     record {
       held = c.in_ok-put_calm.ensures.held;
       rows = omega arith;
       sound = puts.failed ∙ c.loop-k.invariant.sound;
-      puts = rw (places-more c.args.set.now c.args.bits c.args.two.now c.args.one.now c.args.cur.now c.args.from k) (puts_append c.args.table.now _ _ _ _ _ _ _ _ c.loop-k.invariant.puts puts);
+      puts = rw (places-more c.args.part.now.set.now c.args.part.now.bits c.args.part.now.two.now c.args.part.now.one.now c.args.part.now.cur.now c.args.part.now.from k) (puts_append c.args.table.now _ _ _ _ _ _ _ _ c.loop-k.invariant.puts puts);
     }

@@ -8,7 +8,7 @@ use Rattle.ffv1_line.proofs.encode.put_places.Given as goal
 abbrev pub invariant-loop-k : goal.invariant-loop-k
 invariant-loop-k g l = record {
   held : AllHeld l.table l.states;
-  rows : length l.states ≡ contexts_of l.set * 32;
+  rows : length l.states ≡ contexts_of l.part.set.now * 32;
   sound : l.encoder.failed ≡ false;
-  puts : Puts l.table l.fn.encoder l.fn.states l.encoder l.states (places_steps l.set l.bits l.two l.one l.cur l.from l.k);
+  puts : Puts l.table l.fn.encoder l.fn.states l.encoder l.states (places_steps l.part.set.now l.part.bits l.part.two.now l.part.one.now l.part.cur.now l.part.from l.k);
 }

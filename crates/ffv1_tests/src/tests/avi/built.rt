@@ -3,7 +3,8 @@
 ghost use Rattle.std.specs.Prelude.{◌≤◌};
 
 use super::files::{file_of, has_numbers, opened, reads_end, reads_frame};
-use ffv1_avi::{AviFault, AviHead, AviReader};
+use ffv1_avi::AviReader;
+use ffv1_reads::{FileFault, FileHead};
 use ffv1_wire::FromRead;
 use std::alloc::{AllocError, Global};
 use std::process::Abort;
@@ -152,7 +153,7 @@ fn file_of_two(alloc: Global) -> Result<Vec<u8>, AllocError> {
 }
 
 /// Reads a file of the two streams and the two frames, up to how many bytes are left.
-fn left_of_two(rt: &impl Abort, alloc: Global, file: &[u8]) -> Result<usize, AviFault> {
+fn left_of_two(rt: &impl Abort, alloc: Global, file: &[u8]) -> Result<usize, FileFault> {
     let mut input = FromRead::new(file);
     let mut reader = AviReader::open(alloc, &mut input)?;
     has_numbers(rt, reader.head(), (2, 2, 25, 1), b"abc\0");
@@ -173,7 +174,7 @@ fn as_ffmpeg_writes(rt: HostRuntime) -> Result<(), Fail> {
 }
 
 /// How a file with these streams, before the chunks of movi, is opened.
-fn answer(alloc: Global, streams: &[u8]) -> Result<(), AviFault> {
+fn answer(alloc: Global, streams: &[u8]) -> Result<(), FileFault> {
     let file = file(alloc, streams, b"")?;
     let _frame = opened(alloc, file.as_slice())?;
     Ok(())
@@ -197,14 +198,14 @@ fn stream_of(alloc: Global, scale: u8, format: &[u8]) -> Result<Vec<u8>, AllocEr
 }
 
 /// A first stream of scale 0 without a format, and another one.
-fn without_format(alloc: Global) -> Result<(), AviFault> {
+fn without_format(alloc: Global) -> Result<(), FileFault> {
     let mut streams = stream_of(alloc, 0, b"")?;
     stream(alloc, &mut streams, 3, b"other")?;
     answer(alloc, streams.as_slice())
 }
 
 /// A stream of such a scale, with the first bytes of a format.
-fn with_format(alloc: Global, scale: u8, len: usize) -> Result<(), AviFault>
+fn with_format(alloc: Global, scale: u8, len: usize) -> Result<(), FileFault>
     requires { len ≤ 40 }
 {
     let streams = stream_of(alloc, scale, &format(2)[..len])?;
@@ -220,7 +221,7 @@ fn streams_before(alloc: Global, out: &mut Vec<u8>, behind: &[u8]) -> Result<(),
 }
 
 /// How a file of them is opened.
-fn behind_list(alloc: Global, behind: &[u8]) -> Result<(), AviFault> {
+fn behind_list(alloc: Global, behind: &[u8]) -> Result<(), FileFault> {
     let mut streams = Vec::new(alloc);
     streams_before(alloc, &mut streams, behind)?;
     answer(alloc, streams.as_slice())
@@ -228,23 +229,23 @@ fn behind_list(alloc: Global, behind: &[u8]) -> Result<(), AviFault> {
 
 #[test]
 fn other_streams(rt: HostRuntime) {
-    assert!(rt; answer(rt.alloc(), b"") == Err(AviFault::NoFfv1));
+    assert!(rt; answer(rt.alloc(), b"") == Err(FileFault::NoFfv1));
     // no format: judged before the scale that is zero alone
-    assert!(rt; without_format(rt.alloc()) == Err(AviFault::NoFfv1));
-    assert!(rt; with_format(rt.alloc(), 0, 40) == Err(AviFault::NotAvi));
+    assert!(rt; without_format(rt.alloc()) == Err(FileFault::NoFfv1));
+    assert!(rt; with_format(rt.alloc(), 0, 40) == Err(FileFault::NotAvi));
     // a leftover of the list, not the start of movi
     assert!(rt; behind_list(rt.alloc(), b"") == Ok(()));
-    assert!(rt; behind_list(rt.alloc(), b"\0") == Err(AviFault::Truncated));
+    assert!(rt; behind_list(rt.alloc(), b"\0") == Err(FileFault::Truncated));
 }
 
 #[test]
 fn short_format(rt: HostRuntime) {
-    assert!(rt; with_format(rt.alloc(), 1, 39) == Err(AviFault::NoFfv1));
+    assert!(rt; with_format(rt.alloc(), 1, 39) == Err(FileFault::NoFfv1));
 }
 
 /// The microseconds that are written.
-fn microseconds(alloc: Global, rate: u32, scale: u32) -> Result<[u8; 4], AviFault> {
-    let head = AviHead {
+fn microseconds(alloc: Global, rate: u32, scale: u32) -> Result<[u8; 4], FileFault> {
+    let head = FileHead {
         width: 1,
         height: 1,
         rate,

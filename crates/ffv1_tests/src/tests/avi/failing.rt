@@ -5,8 +5,9 @@ ghost use Rattle.std.specs.Prelude.{◌<◌, ◌≤◌};
 use super::example::EXAMPLE;
 use super::files::{example_frames, example_head};
 use super::large::file_of_one;
-use ffv1_avi::{AviFault, AviHead, AviReader, write_avi};
+use ffv1_avi::{AviReader, write_avi};
 use ffv1_doubles::{FailingReader, ShortWriter};
+use ffv1_reads::{FileFault, FileHead};
 use ffv1_wire::{FromRead, ToWrite};
 use std::alloc::Global;
 use std::io::ErrorKind;
@@ -19,11 +20,11 @@ fn read_all(
     before: usize,
 ) -> Result<
     (
-        Result<bool, AviFault>,
-        Result<bool, AviFault>,
-        Result<bool, AviFault>,
+        Result<bool, FileFault>,
+        Result<bool, FileFault>,
+        Result<bool, FileFault>,
     ),
-    AviFault,
+    FileFault,
 > {
     let mut input = FromRead::new(FailingReader::new(&EXAMPLE, before, 40, ErrorKind::Other));
     let mut reader = AviReader::open(alloc, &mut input)?;
@@ -36,12 +37,12 @@ fn read_all(
 
 #[test]
 fn failing_reads(rt: HostRuntime) {
-    let failed = Err(AviFault::Read);
+    let failed = Err(FileFault::Read);
     let mut opens = 0u32;
     let mut frames = 0u32;
     for before in 0..40usize {
         let answers = read_all(rt.alloc(), before);
-        if answers == Err(AviFault::Read) {
+        if answers == Err(FileFault::Read) {
             opens = opens.saturating_add(1);
         } else if answers == Ok((failed, failed, failed)) {
             frames = frames.saturating_add(1);
@@ -61,13 +62,13 @@ fn failing_frame(
     before: usize,
 ) -> Result<
     (
-        Result<bool, AviFault>,
+        Result<bool, FileFault>,
         usize,
-        Result<bool, AviFault>,
+        Result<bool, FileFault>,
         usize,
         u64,
     ),
-    AviFault,
+    FileFault,
 > {
     let mut input = FromRead::new(FailingReader::new(file, before, 40, ErrorKind::Other));
     let mut reader = AviReader::open(alloc, &mut input)?;
@@ -82,7 +83,7 @@ fn failing_frame(
 fn failing_in_a_frame(rt: HostRuntime) -> Result<(), Fail> {
     // 70000 bytes, of which 65536 are read and held before the read that fails
     let file = file_of_one(rt.alloc(), 69_999)?;
-    let failed = Err(AviFault::Read);
+    let failed = Err(FileFault::Read);
     let read = failing_frame(rt.alloc(), file.as_slice(), 1700);
     assert!(rt; read == Ok((failed, 65_536, failed, 0, 1)));
     Ok(())
@@ -92,10 +93,10 @@ fn failing_in_a_frame(rt: HostRuntime) -> Result<(), Fail> {
 /// failures, and whether as many bytes of the example are written as there is room for.
 fn write_short(
     alloc: Global,
-    head: &AviHead,
+    head: &FileHead,
     frames: &[Vec<u8>],
     room: usize,
-) -> (Result<(), AviFault>, bool, bool)
+) -> (Result<(), FileFault>, bool, bool)
     requires width { head.now.width ≤ 8192 }
     requires height { head.now.height ≤ 8192 }
     requires room { room < 299 }
@@ -108,11 +109,11 @@ fn write_short(
 }
 
 /// The example is written where there is room for it, and fails with less.
-fn writes_where_room(rt: &impl Abort, alloc: Global, head: &AviHead, frames: &[Vec<u8>])
+fn writes_where_room(rt: &impl Abort, alloc: Global, head: &FileHead, frames: &[Vec<u8>])
     requires width { head.now.width ≤ 8192 }
     requires height { head.now.height ≤ 8192 }
 {
-    let failed = (Err(AviFault::Write), false, true);
+    let failed = (Err(FileFault::Write), false, true);
     for room in 0..298usize {
         assert!(rt; write_short(alloc, head, frames, room) == failed);
     }

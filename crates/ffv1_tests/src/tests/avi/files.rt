@@ -4,14 +4,15 @@ ghost use Rattle.std.specs.Prelude.{◌≡◌, ◌+◌, ◌<◌, ◌≤◌, IfOk
 
 use super::example::EXAMPLE;
 use crate::tests::made::shows;
-use ffv1_avi::{AviFault, AviHead, AviReader, write_avi};
+use ffv1_avi::{AviReader, write_avi};
+use ffv1_reads::{FileFault, FileHead};
 use ffv1_wire::{FromRead, ToWrite};
 use std::alloc::{Allocator, Global};
 use std::process::Abort;
 use std::test::Fail;
 
 /// What a file begins with, and what its first frame is read as.
-pub(super) fn opened(alloc: Global, file: &[u8]) -> Result<Result<bool, AviFault>, AviFault> {
+pub(super) fn opened(alloc: Global, file: &[u8]) -> Result<Result<bool, FileFault>, FileFault> {
     let (first, _second, _len, _left) = twice(alloc, file)?;
     Ok(first)
 }
@@ -33,7 +34,7 @@ fn changed(at: usize, bytes: [u8; 4]) -> [u8; 298]
 }
 
 /// The head of the example.
-pub(super) fn example_head(rt: &HostRuntime) -> Result<AviHead, Fail>
+pub(super) fn example_head(rt: &HostRuntime) -> Result<FileHead, Fail>
     ensures width { IfOk result (λ h. h.width ≡ 352) }
     ensures height { IfOk result (λ h. h.height ≡ 288) }
 {
@@ -41,7 +42,7 @@ pub(super) fn example_head(rt: &HostRuntime) -> Result<AviHead, Fail>
     for byte in 1..61u8 {
         record.push(byte)?;
     }
-    Ok(AviHead {
+    Ok(FileHead {
         width: 352,
         height: 288,
         rate: 25,
@@ -60,9 +61,9 @@ pub(super) fn example_frames(rt: &HostRuntime) -> Result<Vec<Vec<u8>>, Fail> {
 /// The file of a head and of frames.
 pub(super) fn file_of(
     alloc: Global,
-    head: &AviHead,
+    head: &FileHead,
     frames: &[Vec<u8>],
-) -> Result<Vec<u8>, AviFault>
+) -> Result<Vec<u8>, FileFault>
     requires width { head.now.width ≤ 8192 }
     requires height { head.now.height ≤ 8192 }
 {
@@ -83,7 +84,7 @@ fn written(rt: HostRuntime) -> Result<(), Fail> {
 /// The head has these numbers (width, height, rate and scale) and this record.
 pub(super) fn has_numbers(
     rt: &impl Abort,
-    head: &AviHead,
+    head: &FileHead,
     numbers: (u32, u32, u32, u32),
     record: &[u8],
 ) {
@@ -134,9 +135,9 @@ fn beginnings(rt: HostRuntime) {
     for n in 0..298usize {
         let answer = opened(rt.alloc(), &EXAMPLE[..n]);
         if n < 284 {
-            assert!(rt; answer == Err(AviFault::Truncated));
+            assert!(rt; answer == Err(FileFault::Truncated));
         } else {
-            assert!(rt; answer == Ok(Err(AviFault::Truncated)));
+            assert!(rt; answer == Ok(Err(FileFault::Truncated)));
         }
     }
 }
@@ -147,7 +148,7 @@ fn answers(
     alloc: Global,
     at: usize,
     bytes: [u8; 4],
-    answer: Result<Result<bool, AviFault>, AviFault>,
+    answer: Result<Result<bool, FileFault>, FileFault>,
 )
     requires { at < 290 }
 {
@@ -156,58 +157,58 @@ fn answers(
 
 #[test]
 fn other_names(rt: HostRuntime) {
-    answers(&rt, rt.alloc(), 0, *b"RIFX", Err(AviFault::NotAvi));
-    answers(&rt, rt.alloc(), 8, *b"AVIX", Err(AviFault::NotAvi));
-    answers(&rt, rt.alloc(), 108, *b"auds", Err(AviFault::NoFfv1));
-    answers(&rt, rt.alloc(), 188, *b"FFVH", Err(AviFault::NoFfv1));
-    answers(&rt, rt.alloc(), 128, [0, 0, 0, 0], Err(AviFault::NotAvi));
-    answers(&rt, rt.alloc(), 132, [0, 0, 0, 0], Err(AviFault::NotAvi));
-    answers(&rt, rt.alloc(), 284, *b"LIST", Ok(Err(AviFault::NotAvi)));
+    answers(&rt, rt.alloc(), 0, *b"RIFX", Err(FileFault::NotAvi));
+    answers(&rt, rt.alloc(), 8, *b"AVIX", Err(FileFault::NotAvi));
+    answers(&rt, rt.alloc(), 108, *b"auds", Err(FileFault::NoFfv1));
+    answers(&rt, rt.alloc(), 188, *b"FFVH", Err(FileFault::NoFfv1));
+    answers(&rt, rt.alloc(), 128, [0, 0, 0, 0], Err(FileFault::NotAvi));
+    answers(&rt, rt.alloc(), 132, [0, 0, 0, 0], Err(FileFault::NotAvi));
+    answers(&rt, rt.alloc(), 284, *b"LIST", Ok(Err(FileFault::NotAvi)));
     answers(&rt, rt.alloc(), 284, *b"JUNK", Ok(Ok(false)));
-    answers(&rt, rt.alloc(), 20, *b"abcd", Err(AviFault::NoFfv1));
-    answers(&rt, rt.alloc(), 280, *b"abcd", Err(AviFault::NotAvi));
+    answers(&rt, rt.alloc(), 20, *b"abcd", Err(FileFault::NoFfv1));
+    answers(&rt, rt.alloc(), 280, *b"abcd", Err(FileFault::NotAvi));
 }
 
 #[test]
 fn other_sizes(rt: HostRuntime) {
     // RIFF and lists below 4; a chunk that passes its list by its padding alone; the format too
     // short, or too long for its list
-    answers(&rt, rt.alloc(), 4, [3, 0, 0, 0], Err(AviFault::NotAvi));
-    answers(&rt, rt.alloc(), 16, [3, 0, 0, 0], Err(AviFault::NotAvi));
+    answers(&rt, rt.alloc(), 4, [3, 0, 0, 0], Err(FileFault::NotAvi));
+    answers(&rt, rt.alloc(), 16, [3, 0, 0, 0], Err(FileFault::NotAvi));
     answers(
         &rt,
         rt.alloc(),
         276,
         [17, 0, 0, 0],
-        Ok(Err(AviFault::Truncated)),
+        Ok(Err(FileFault::Truncated)),
     );
     answers(
         &rt,
         rt.alloc(),
         168,
         [39, 0, 0, 0],
-        Err(AviFault::Truncated),
+        Err(FileFault::Truncated),
     );
     answers(
         &rt,
         rt.alloc(),
         168,
         [102, 0, 0, 0],
-        Err(AviFault::Truncated),
+        Err(FileFault::Truncated),
     );
     answers(
         &rt,
         rt.alloc(),
         288,
         [255, 255, 255, 255],
-        Ok(Err(AviFault::Truncated)),
+        Ok(Err(FileFault::Truncated)),
     );
     answers(
         &rt,
         rt.alloc(),
         288,
         [0, 0, 0, 0],
-        Ok(Err(AviFault::EmptyFrame)),
+        Ok(Err(FileFault::EmptyFrame)),
     );
 }
 
@@ -235,7 +236,15 @@ fn long_format(size: u32) -> [u8; 298] {
 pub(super) fn twice<A: Allocator + Copy>(
     alloc: A,
     file: &[u8],
-) -> Result<(Result<bool, AviFault>, Result<bool, AviFault>, usize, usize), AviFault> {
+) -> Result<
+    (
+        Result<bool, FileFault>,
+        Result<bool, FileFault>,
+        usize,
+        usize,
+    ),
+    FileFault,
+> {
     let mut input = FromRead::new(file);
     let mut reader = AviReader::open(alloc, &mut input)?;
     let mut frame = Vec::new(alloc);
@@ -247,32 +256,32 @@ pub(super) fn twice<A: Allocator + Copy>(
 
 #[test]
 fn long_frames(rt: HostRuntime) {
-    let long_one = Err(AviFault::ChunkTooLong);
+    let long_one = Err(FileFault::ChunkTooLong);
     assert!(rt; twice(rt.alloc(), &long(67108865)) == Ok((long_one, long_one, 0, 6)));
-    let short = Err(AviFault::Truncated);
+    let short = Err(FileFault::Truncated);
     assert!(rt; twice(rt.alloc(), &long(67108864)) == Ok((short, short, 6, 0)));
-    let empty = Err(AviFault::EmptyFrame);
+    let empty = Err(FileFault::EmptyFrame);
     assert!(rt; twice(rt.alloc(), &long(0)) == Ok((empty, empty, 0, 6)));
 }
 
 #[test]
 fn long_formats(rt: HostRuntime) {
-    assert!(rt; opened(rt.alloc(), &long_format(67108865)) == Err(AviFault::ChunkTooLong));
-    assert!(rt; opened(rt.alloc(), &long_format(67108864)) == Err(AviFault::Truncated));
+    assert!(rt; opened(rt.alloc(), &long_format(67108865)) == Err(FileFault::ChunkTooLong));
+    assert!(rt; opened(rt.alloc(), &long_format(67108864)) == Err(FileFault::Truncated));
 }
 
 #[test]
 fn texts(rt: HostRuntime) {
     let shown = [
-        shows(rt.alloc(), &AviFault::OutOfMemory, "2 OutOfMemory"),
-        shows(rt.alloc(), &AviFault::NotAvi, "50 NotAvi"),
-        shows(rt.alloc(), &AviFault::NoFfv1, "51 NoFfv1"),
-        shows(rt.alloc(), &AviFault::Truncated, "52 Truncated"),
-        shows(rt.alloc(), &AviFault::ChunkTooLong, "53 ChunkTooLong"),
-        shows(rt.alloc(), &AviFault::EmptyFrame, "54 EmptyFrame"),
-        shows(rt.alloc(), &AviFault::TooLarge, "55 TooLarge"),
-        shows(rt.alloc(), &AviFault::Read, "56 Read"),
-        shows(rt.alloc(), &AviFault::Write, "57 Write"),
+        shows(rt.alloc(), &FileFault::OutOfMemory, "2 OutOfMemory"),
+        shows(rt.alloc(), &FileFault::NotAvi, "50 NotAvi"),
+        shows(rt.alloc(), &FileFault::NoFfv1, "51 NoFfv1"),
+        shows(rt.alloc(), &FileFault::Truncated, "52 Truncated"),
+        shows(rt.alloc(), &FileFault::ChunkTooLong, "53 ChunkTooLong"),
+        shows(rt.alloc(), &FileFault::EmptyFrame, "54 EmptyFrame"),
+        shows(rt.alloc(), &FileFault::TooLarge, "55 TooLarge"),
+        shows(rt.alloc(), &FileFault::Read, "56 Read"),
+        shows(rt.alloc(), &FileFault::Write, "57 Write"),
     ];
     assert!(rt; shown == [true; 9]);
 }

@@ -2,7 +2,8 @@
 
 use super::built::zeros;
 use super::files::file_of;
-use ffv1_avi::{AviFault, AviHead, AviReader};
+use ffv1_avi::AviReader;
+use ffv1_reads::{FileFault, FileHead};
 use ffv1_wire::FromRead;
 use std::alloc::Global;
 use std::process::Abort;
@@ -20,7 +21,7 @@ fn frames_of(alloc: Global, zeros_before: usize) -> Result<Vec<Vec<u8>>, Fail> {
 /// A file of one such frame.
 pub fn file_of_one(alloc: Global, zeros_before: usize) -> Result<Vec<u8>, Fail> {
     let frames = frames_of(alloc, zeros_before)?;
-    let head = AviHead {
+    let head = FileHead {
         width: 1,
         height: 1,
         rate: 25,
@@ -35,7 +36,7 @@ pub fn file_of_one(alloc: Global, zeros_before: usize) -> Result<Vec<u8>, Fail> 
 fn first_frame(
     alloc: Global,
     file: &[u8],
-) -> Result<(Result<bool, AviFault>, usize, Option<u8>, usize), AviFault> {
+) -> Result<(Result<bool, FileFault>, usize, Option<u8>, usize), FileFault> {
     let mut input = FromRead::new(file);
     let mut reader = AviReader::open(alloc, &mut input)?;
     let mut frame = Vec::new(alloc);
@@ -53,7 +54,7 @@ fn reads_large(
     rt: &impl Abort,
     alloc: Global,
     zeros_before: usize,
-    expected: (Result<bool, AviFault>, usize, Option<u8>, usize),
+    expected: (Result<bool, FileFault>, usize, Option<u8>, usize),
 ) -> Result<(), Fail> {
     let file = file_of_one(alloc, zeros_before)?;
     assert!(rt; first_frame(alloc, file.as_slice()) == Ok(expected));
@@ -82,6 +83,6 @@ fn large_frames(rt: HostRuntime) -> Result<(), Fail> {
 #[test]
 fn frame_too_long(rt: HostRuntime) -> Result<(), Fail> {
     // the frame and its padding are left
-    let expected = (Err(AviFault::ChunkTooLong), 0, None, 67_108_866);
+    let expected = (Err(FileFault::ChunkTooLong), 0, None, 67_108_866);
     reads_large(&rt, rt.alloc(), 67_108_864, expected)
 }

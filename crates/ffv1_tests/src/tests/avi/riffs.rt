@@ -6,7 +6,8 @@ ghost use Rattle.std.specs.Prelude.{◌≤◌, ◌+◌, ◌<◌, length};
 use super::built::{chunk, file, format, header, one_chunk, stream, two_frames};
 use super::example::EXAMPLE;
 use super::files::{has_numbers, reads_end, reads_frame};
-use ffv1_avi::{AviFault, AviReader};
+use ffv1_avi::AviReader;
+use ffv1_reads::FileFault;
 use ffv1_wire::FromRead;
 use std::alloc::{AllocError, Global};
 use std::process::Abort;
@@ -17,9 +18,9 @@ pub(in crate::tests) const MORE: [u8; 38] =
     *b"RIFF\x1E\0\0\0AVIXLIST\x12\0\0\0movi00dc\x05\0\0\0\xFE\x7B\x00\x00\x02\x00";
 
 /// How many frames a file has in all its RIFFs, and how they end, the second time too.
-type Ending = (usize, Result<bool, AviFault>, Result<bool, AviFault>);
+type Ending = (usize, Result<bool, FileFault>, Result<bool, FileFault>);
 
-fn every_frame(alloc: Global, file: &[u8]) -> Result<Ending, AviFault> {
+fn every_frame(alloc: Global, file: &[u8]) -> Result<Ending, FileFault> {
     let mut input = FromRead::new(file);
     let mut reader = AviReader::open_all(alloc, &mut input)?;
     let mut frame = Vec::new(alloc);
@@ -52,7 +53,7 @@ fn has(alloc: Global, first: &[u8], second: &[u8], count: usize) -> bool {
 }
 
 /// So many frames, and then a fault.
-fn refuses(alloc: Global, first: &[u8], second: &[u8], count: usize, fault: AviFault) -> bool {
+fn refuses(alloc: Global, first: &[u8], second: &[u8], count: usize, fault: FileFault) -> bool {
     let Ok(file) = behind(alloc, first, second) else {
         return false;
     };
@@ -90,11 +91,11 @@ fn first_movi(rt: HostRuntime) -> Result<(), Fail> {
 fn cut_off(rt: HostRuntime) {
     for n in 1..38usize {
         assert!(rt;
-            refuses(rt.alloc(), &MORE[..n], b"", 1, AviFault::Truncated),
+            refuses(rt.alloc(), &MORE[..n], b"", 1, FileFault::Truncated),
             "{n}"
         );
         assert!(rt;
-            refuses(rt.alloc(), &MORE, &MORE[..n], 2, AviFault::Truncated),
+            refuses(rt.alloc(), &MORE, &MORE[..n], 2, FileFault::Truncated),
             "{n}"
         );
     }
@@ -102,17 +103,17 @@ fn cut_off(rt: HostRuntime) {
 
 #[test]
 fn no_riff(rt: HostRuntime) {
-    assert!(rt; refuses(rt.alloc(), b"\0\0\0\0", b"", 1, AviFault::NotAvi));
-    assert!(rt; refuses(rt.alloc(), &MORE, b"\0\0\0\0", 2, AviFault::NotAvi));
-    assert!(rt; refuses(rt.alloc(), &MORE, b"\0\0\0", 2, AviFault::Truncated));
-    assert!(rt; refuses(rt.alloc(), b"RIFX", &MORE[4..], 1, AviFault::NotAvi));
+    assert!(rt; refuses(rt.alloc(), b"\0\0\0\0", b"", 1, FileFault::NotAvi));
+    assert!(rt; refuses(rt.alloc(), &MORE, b"\0\0\0\0", 2, FileFault::NotAvi));
+    assert!(rt; refuses(rt.alloc(), &MORE, b"\0\0\0", 2, FileFault::Truncated));
+    assert!(rt; refuses(rt.alloc(), b"RIFX", &MORE[4..], 1, FileFault::NotAvi));
     assert!(rt;
         refuses(
             rt.alloc(),
             b"RIFF\x1E\0\0\0AVI ",
             &MORE[12..],
             1,
-            AviFault::NotAvi
+            FileFault::NotAvi
         )
     );
     assert!(rt;
@@ -121,7 +122,7 @@ fn no_riff(rt: HostRuntime) {
             b"RIFF\x03\0\0\0",
             &MORE[8..],
             1,
-            AviFault::NotAvi
+            FileFault::NotAvi
         )
     );
     // of odd size, and a chunk that passes its RIFF
@@ -131,7 +132,7 @@ fn no_riff(rt: HostRuntime) {
             b"RIFF\x1F\0\0\0",
             &MORE[8..],
             2,
-            AviFault::Truncated
+            FileFault::Truncated
         )
     );
     assert!(rt;
@@ -140,7 +141,7 @@ fn no_riff(rt: HostRuntime) {
             b"RIFF\x1D\0\0\0",
             &MORE[8..],
             1,
-            AviFault::Truncated
+            FileFault::Truncated
         )
     );
 }
@@ -180,14 +181,14 @@ fn first_video(rt: HostRuntime) -> Result<(), Fail> {
 #[test]
 fn too_few(rt: HostRuntime) -> Result<(), Fail> {
     let file = sound_first(rt.alloc(), 2)?;
-    let cut = Err(AviFault::Truncated);
+    let cut = Err(FileFault::Truncated);
     assert!(rt; every_frame(rt.alloc(), file.as_slice()) == Ok((1, cut, cut)));
     Ok(())
 }
 
 /// The record of a file whose format says that it ends at such a byte, and has ten behind its first
 /// forty.
-fn record_len(alloc: Global, end: u8) -> Result<usize, AviFault> {
+fn record_len(alloc: Global, end: u8) -> Result<usize, FileFault> {
     let mut strf = format(2);
     strf[0] = end;
     let mut chunks = one_chunk(alloc, b"strh", &header(b"vids", 25, 1), b"")?;

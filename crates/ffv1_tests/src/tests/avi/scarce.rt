@@ -3,21 +3,22 @@
 ghost use Rattle.std.specs.Prelude.{◌≡◌, IfOk};
 
 use super::files::{file_of, twice};
-use ffv1_avi::{AviFault, AviHead, AviReader};
+use ffv1_avi::AviReader;
 use ffv1_doubles::Scarce;
+use ffv1_reads::{FileFault, FileHead};
 use ffv1_wire::FromRead;
 use std::alloc::{Allocator, Global};
 use std::process::Abort;
 use std::test::Fail;
 
 /// The head of a file.
-fn head_of(alloc: Global) -> Result<AviHead, AviFault>
+fn head_of(alloc: Global) -> Result<FileHead, FileFault>
     ensures width { IfOk result (λ h. h.width ≡ 2) }
     ensures height { IfOk result (λ h. h.height ≡ 2) }
 {
     let mut record = Vec::new(alloc);
     record.resize(60, 1)?;
-    Ok(AviHead {
+    Ok(FileHead {
         width: 2,
         height: 2,
         rate: 25,
@@ -27,18 +28,18 @@ fn head_of(alloc: Global) -> Result<AviHead, AviFault>
 }
 
 /// One frame of so many bytes.
-fn frames_of(alloc: Global, len: usize) -> Result<Vec<Vec<u8>>, AviFault> {
+fn frames_of(alloc: Global, len: usize) -> Result<Vec<Vec<u8>>, FileFault> {
     let mut frame = Vec::new(alloc);
     frame.resize(len, 7)?;
     let mut frames = Vec::new(alloc);
     if frames.push(frame).is_err() {
-        return Err(AviFault::OutOfMemory);
+        return Err(FileFault::OutOfMemory);
     }
     Ok(frames)
 }
 
 /// A file of one frame of so many bytes.
-fn file_of_one(alloc: Global, len: usize) -> Result<Vec<u8>, AviFault> {
+fn file_of_one(alloc: Global, len: usize) -> Result<Vec<u8>, FileFault> {
     let head = head_of(alloc)?;
     let frames = frames_of(alloc, len)?;
     file_of(alloc, &head, frames.as_slice())
@@ -48,7 +49,7 @@ fn file_of_one(alloc: Global, len: usize) -> Result<Vec<u8>, AviFault> {
 fn read_two<A: Allocator + Copy>(
     alloc: A,
     file: &[u8],
-) -> Result<(Result<bool, AviFault>, usize, Result<bool, AviFault>), AviFault> {
+) -> Result<(Result<bool, FileFault>, usize, Result<bool, FileFault>), FileFault> {
     let (first, second, len, _left) = twice(alloc, file)?;
     Ok((first, len, second))
 }
@@ -58,15 +59,15 @@ fn read_scarcely(
     alloc: Global,
     file: &[u8],
     before: u64,
-) -> Result<(Result<bool, AviFault>, usize, Result<bool, AviFault>), AviFault> {
+) -> Result<(Result<bool, FileFault>, usize, Result<bool, FileFault>), FileFault> {
     let heap = Scarce::new(alloc, before);
     read_two(&heap, file)
 }
 
 /// Each request is refused in its turn.
 fn refused_in_turn(rt: &impl Abort, alloc: Global, file: &[u8]) {
-    let refused = Err(AviFault::OutOfMemory);
-    assert!(rt; read_scarcely(alloc, file, 0) == Err(AviFault::OutOfMemory));
+    let refused = Err(FileFault::OutOfMemory);
+    assert!(rt; read_scarcely(alloc, file, 0) == Err(FileFault::OutOfMemory));
     assert!(rt; read_scarcely(alloc, file, 1) == Ok((refused, 0, refused)));
     assert!(rt; read_scarcely(alloc, file, 2) == Ok((refused, 65_536, refused)));
     assert!(rt; read_scarcely(alloc, file, 3) == Ok((refused, 196_608, refused)));
@@ -86,7 +87,7 @@ fn each_request_of_the_reader(rt: HostRuntime) -> Result<(), Fail> {
 fn read_short<A: Allocator + Copy>(
     alloc: A,
     file: &[u8],
-) -> Result<(Result<bool, AviFault>, usize, usize), AviFault> {
+) -> Result<(Result<bool, FileFault>, usize, usize), FileFault> {
     let mut input = FromRead::new(file);
     let mut reader = AviReader::open(alloc, &mut input)?;
     let mut frame = Vec::new(alloc);
@@ -100,7 +101,7 @@ fn makes_room(rt: &impl Abort, alloc: Global, file: &[u8], read: usize) {
     let end = head.saturating_add(read).min(file.len());
     match read_short(alloc, &file[..end]) {
         Ok((answer, len, room)) => {
-            assert!(rt; (answer, len) == (Err(AviFault::Truncated), read));
+            assert!(rt; (answer, len) == (Err(FileFault::Truncated), read));
             assert!(rt; room <= read.saturating_add(read).saturating_add(65_536));
         }
         Err(_) => assert!(rt; false),

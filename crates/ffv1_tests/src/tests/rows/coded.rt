@@ -7,7 +7,7 @@ ghost use Rattle.ffv1_range.specs.Symbols.{AreHeld, AllHeld};
 use super::made::{LINES, Lines, WIDEST, below, line};
 use super::plain::{put_residuals, put_row, put_too_long};
 use super::tried::Seen;
-use ffv1_line::{encode_line, reset};
+use ffv1_line::{Above, Coding, encode_line, reset};
 use ffv1_plane::QuantSet;
 use ffv1_range::{Fault, RangeEncoder, StateTable};
 use std::test::Fail;
@@ -37,7 +37,8 @@ fn code_row(
     ensures held { AllHeld table.now states.new }
     ensures others_held { AllHeld table.now others.new }
 {
-    encode_line(passes, table, set, states, two, one, cur, bits)?;
+    let coding = Coding { table, set, bits };
+    encode_line(passes, &coding, states, &Above { two, one }, cur)?;
     put_row(plain, table, set, others, two, one, cur, bits)?;
     if passes.tally() != plain.tally() {
         return Err(Fail::new("rows coded with other counts"));

@@ -7,7 +7,7 @@ ghost use Rattle.ffv1_range.specs.Symbols.{AreHeld, AllHeld};
 use super::made::{LINES, Lines, WIDEST, line};
 use super::plain::get_row;
 use super::tried::Seen;
-use ffv1_line::decode_line;
+use ffv1_line::{Above, Coding, decode_line};
 use ffv1_plane::QuantSet;
 use ffv1_range::{RangeDecoder, StateTable};
 use std::test::Fail;
@@ -39,7 +39,8 @@ fn decode_row(
     ensures held { AllHeld table.now states.new }
     ensures others_held { AllHeld table.now others.new }
 {
-    let done = decode_line(blocks, table, set, states, two, one, cur, bits);
+    let coding = Coding { table, set, bits };
+    let done = decode_line(blocks, &coding, states, &Above { two, one }, cur);
     if done != get_row(plain, table, set, others, two, one, other, bits) {
         return Err(Fail::new("rows decoded to another answer"));
     }

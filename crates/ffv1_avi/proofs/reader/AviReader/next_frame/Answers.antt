@@ -4,7 +4,7 @@ use Rattle.ffv1_avi.specs.Places.{extent_of}
 use Rattle.ffv1_avi.proofs.EndReadings.{answers_by}
 use Rattle.ffv1_avi.proofs.Moves.{frame_ends}
 use Rattle.ffv1_avi.proofs.ReadingFaults.{frame_own}
-use Rattle.ffv1_avi.proofs.Reading.{consumes_none}
+use Rattle.ffv1_reads.proofs.Reading.{consumes_none}
 use Rattle.ffv1_avi.proofs.reader.AviReader.next_frame.Goals as goal
 
 pub returns-then-self-eq0-2-clause-answer : goal.returns-then-self-eq0-2-clause-answer

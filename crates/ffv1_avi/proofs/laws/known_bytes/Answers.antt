@@ -1,5 +1,0 @@
-use Rattle.ffv1_avi.proofs.KnownLaws.{known_end, known_fault, known_lack, known_read, known_stop}
-use Rattle.ffv1_avi.proofs.laws.known_bytes.Goals as goal
-
-pub returns : goal.returns
-returns g c = record { read = known_read; fault = known_fault; stopped = known_lack; ends = known_end; stops = known_stop }

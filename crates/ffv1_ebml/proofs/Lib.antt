@@ -1,0 +1,15 @@
+pub mod Numbers
+pub mod VintReadings
+pub mod ElementReadings
+pub mod EndAnswers
+pub mod SumReadings
+pub mod ContentReadings
+pub mod MemoryReadings
+pub mod FoundParts
+pub mod VintLaws
+pub mod SpelledLaws
+pub mod ElementLaws
+pub mod HeaderBeginnings
+pub mod MoreBytes
+pub mod PassedContent
+pub mod ContentTold

@@ -1,0 +1,49 @@
+use Rattle.std.proofs.Common.{refl, ◌<◌, length, arith, rules, ◌∙◌}
+use Rattle.ffv1_line.proofs.decode.flat.decode_flat.Goals as goal
+
+pub bounds-states-0 : goal.bounds-states-0
+bounds-states-0 g c =
+    let below = c.bounded.ensures.below (record { l = 0; t = 0; tl = 0; tr = 0; ll = 0; tt = 0 }) in
+    omega (arith, below, c.requires.stands.ready.rows)
+
+pub take_flat-left-requires-clause-may : goal.take_flat-left-requires-clause-may
+take_flat-left-requires-clause-may g c =
+    let below = c.bounded.ensures.below (record { l = 0; t = 0; tl = 0; tr = 0; ll = 0; tt = 0 }) in
+    let stands = c.requires.stands in
+    record {
+      places = stands.ready.places;
+      long = stands.ready.long;
+      held = stands.ready.held.held 0 (omega (arith, below, stands.ready.rows));
+      inside = stands.inside;
+      begins = stands.begins;
+      left = search rules;
+      again = search rules;
+    }
+
+pub take_flat-left-requires-clause-flat : goal.take_flat-left-requires-clause-flat
+take_flat-left-requires-clause-flat g c = record { each = c.flat.ensures c.args.places.now.set.now c.bounded.ensures.set c.requires.near }
+
+pub bounds-states-0-2 : goal.bounds-states-0-2
+bounds-states-0-2 g c =
+    let below = c.bounded.ensures.below (record { l = 0; t = 0; tl = 0; tr = 0; ll = 0; tt = 0 }) in
+    omega (arith, below, c.requires.stands.ready.rows)
+
+pub returns-clause-stands : goal.returns-clause-stands
+returns-clause-stands g c =
+    let ready = c.requires.stands.ready in
+    record {
+      ready = record {
+        places = ready.places;
+        long = c.take_flat-left.auto.cur ∙ ready.long;
+        rows = search rules;
+        held = search rules;
+      };
+      inside = c.take_flat-left.ensures.inside;
+      begins = c.take_flat-left.ensures.begins;
+    }
+
+pub returns-clause-read : goal.returns-clause-read
+returns-clause-read g c =
+    let below = c.bounded.ensures.below (record { l = 0; t = 0; tl = 0; tr = 0; ll = 0; tt = 0 }) in
+    let some : 0 < length c.args.states.now = omega (arith, below, c.requires.stands.ready.rows) in
+    c.take_flat-left.ensures.read.by c.args.states.now some refl

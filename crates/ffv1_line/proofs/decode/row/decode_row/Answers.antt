@@ -1,0 +1,45 @@
+use Rattle.std.proofs.Common.{◌≡◌, arith, rules, length}
+use Rattle.ffv1_line.proofs.Rows.{lined_none, same_from_start}
+use Rattle.ffv1_line.proofs.decode.row.decode_row.Goals as goal
+
+pub parts-init : goal.parts-init
+parts-init g c =
+    let copy : c.unwrap-local.result ≡ c.args.decoder.now = search rules in
+    record {
+      held = rw (← c.coding.view_is) at c.requires.held;
+      rows = rw (← c.coding.view_is) at c.requires.rows;
+      within = omega arith;
+      behind = same_from_start _;
+      lined = rw copy (lined_none _ _ _ _ _ _ _ _);
+    }
+
+pub decode_block_by-requires-clause-ready : goal.decode_block_by-requires-clause-ready
+decode_block_by-requires-clause-ready g c =
+    let one_long : length c.above.inside.one.now ≡ length c.args.cur.now = rw (← c.above.view_is) at c.requires.one_long in
+    let bits : c.coding.inside.bits ≡ g.row.BITS = rw (← c.coding.view_is) at c.requires.bits in
+    record {
+      places = record {
+        bits = rw bits at c.coding.invariant;
+        near = rw (← c.coding.view_is) at c.requires.near;
+        some = omega (arith, c.requires.some, one_long);
+        few = omega (arith, c.min-count.ensures);
+        within = omega (arith, c.min-count.ensures, one_long);
+        wide = c.above.invariant;
+        filled = record { above = c.fill.ensures.above; bounds = c.fill.ensures.bounds; early = c.fill.ensures.early };
+      };
+      long = omega (arith, one_long);
+      rows = c.parts.invariant.rows;
+      held = c.parts.invariant.held;
+    }
+
+pub parts-preserved : goal.parts-preserved
+parts-preserved g c =
+    let kept = c.parts.invariant in
+    let read = c.in-Ok.ensures.ok in
+    record {
+      held = c.decode_block_by.ensures.ready.held;
+      rows = c.decode_block_by.ensures.ready.rows;
+      within = omega (arith, c.min-count.ensures);
+      behind = read.on _ kept.behind;
+      lined = read.lined _ _ kept.lined;
+    }

@@ -1,0 +1,17 @@
+use Rattle.std.proofs.Common.{◌≡◌, ◌-◌, ◌*◌, length, ◌≤◌}
+use Rattle.ffv1_range.specs.Symbols.{AllHeld}
+use Rattle.ffv1_plane.specs.Quantisation.{contexts_of}
+use Rattle.ffv1_line.specs.Decoded.{Lined, SameFrom}
+use Rattle.ffv1_line.proofs.decode.row.decode_row.Given as goal
+
+abbrev pub invariant-parts : goal.invariant-parts
+invariant-parts g l = record {
+  held : AllHeld l.table.now l.states;
+  rows : length l.states ≡ contexts_of l.set.now * 32;
+  within : l.from ≤ length l.cur;
+  behind : SameFrom l.from l.fn.cur l.cur;
+  lined : Lined l.table.now l.set.now g.row.BITS l.fn.decoder l.fn.states l.local l.states l.two.now l.one.now l.cur l.from;
+}
+
+abbrev pub decreases-parts : goal.decreases-parts
+decreases-parts g l = length l.initial.cur - l.from

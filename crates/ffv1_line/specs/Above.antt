@@ -1,0 +1,7 @@
+-- The rows above a row.
+use Rattle.std.specs.Prelude.{ℕ, List}
+
+-- the samples of the row two above, and of that one above
+pub record RowsAbove : Type 0 where
+  pub two : List ℕ
+  pub one : List ℕ

@@ -1,0 +1,96 @@
+-- A block of places of a row that is decoded.
+use Rattle.std.specs.Prelude.{ℕ, ◌≡◌, ◌+◌, ◌*◌, ◌≤◌, ◌<◌, ◌⊎◌, IsTrue, List, length, slice_index}
+use Rattle.std.specs.Prelude.{slice_set}
+use Rattle.ffv1_range.specs.Table.{Holds}
+use Rattle.ffv1_range.specs.Symbols.{AllHeld}
+use Rattle.ffv1_range.specs.declared.tally.Nonzeros.{Nonzeros}
+use Rattle.ffv1_range.specs.Reading.{Reading, summed}
+use Rattle.ffv1_range.specs.Among.{sums_among}
+use Rattle.ffv1_plane.specs.declared.prediction.Around.{Around}
+use Rattle.ffv1_plane.specs.Quantisation.{contexts_of, IsNear}
+use Rattle.ffv1_line.specs.declared.decode.places.Places.{Places}
+use Rattle.ffv1_line.specs.declared.decode.places.Behind.{Behind}
+use Rattle.ffv1_line.specs.Decoded.{Lined, Refused, SameFrom}
+use Rattle.ffv1_line.specs.Internal.Along.{IsBehind, IsFilled, ComesAgain}
+
+-- they are places of a row that is not empty, and what the rows above decide of them is prepared
+pub record ArePlaces {B : Type 0} (p : Places B) : Type 0 where
+  pub bits : (p.bits ≡ 8) ⊎ (p.bits ≡ 9)
+  pub near : IsTrue p.near → IsNear p.set.now
+  pub some : 0 < length p.one.now
+  pub few : p.count ≤ 128
+  pub within : p.from + p.count ≤ length p.one.now
+  pub wide : length p.two.now ≡ length p.one.now
+  pub filled : IsFilled p.set.now p.two.now p.one.now p.from p.early.now p.count
+
+-- they can be decoded into this row by these states
+pub record IsReady {B : Type 0} (p : Places B) (states cur : List ℕ) : Type 0 where
+  pub places : ArePlaces p
+  pub long : length cur ≡ length p.one.now
+  pub rows : length states ≡ contexts_of p.set.now * 32
+  pub held : AllHeld p.table.now states
+
+-- these samples are carried to place i of the block
+abbrev pub Carries : {B : Type 0} → Places B → ℕ → List ℕ → Behind → Type 0
+Carries p i cur b = IsBehind p.two.now p.one.now cur (p.from + i) b.ll b.l
+
+-- the neighbours of place i, with these samples above to the right and two above
+abbrev pub around_place : {B : Type 0} → Places B → ℕ → Behind → ℕ → ℕ → Around
+around_place p i b tr tt = record {
+  l = b.l;
+  t = slice_index p.early.now.t i;
+  tl = slice_index p.early.now.tl i;
+  tr = tr;
+  ll = b.ll;
+  tt = tt;
+}
+
+-- a decoder that is ready stands at place i of the block
+pub record StandsAt {B : Type 0} (p : Places B) (states cur : List ℕ) (b : Behind)
+    (i : ℕ) : Type 0 where
+  pub ready : IsReady p states cur
+  pub inside : i < p.count
+  pub begins : Carries p i cur b
+
+-- whatever it read before, a decoder read on from place x of the row to place y
+pub record ReadOn {B : Type 0} (p : Places B) (x : ℕ) (old : Reading) (states cur : List ℕ)
+    (y : ℕ) (new : Reading) (after row : List ℕ) : Type 0 where
+  pub on : (before : List ℕ) → SameFrom x before cur → SameFrom y before row
+  pub lined : (first : Reading) (fresh : List ℕ) →
+      Lined p.table.now p.set.now p.bits first fresh old states p.two.now p.one.now cur x →
+      Lined p.table.now p.set.now p.bits first fresh new after p.two.now p.one.now row y
+
+-- the same, and then a symbol at place y that is refused
+pub record ReadToRefusal {B : Type 0} (p : Places B) (x : ℕ) (old : Reading) (states cur : List ℕ)
+    (y : ℕ) (new : Reading) (after row : List ℕ) : Type 0 where
+  pub inside : y < length row
+  pub on : (before : List ℕ) → SameFrom x before cur → SameFrom y before row
+  pub refused : (first : Reading) (fresh : List ℕ) →
+      Lined p.table.now p.set.now p.bits first fresh old states p.two.now p.one.now cur x →
+      Refused p.table.now p.set.now p.bits first fresh new after p.two.now p.one.now row y
+
+-- from place i of the block to place k it read zeros, which are not yet counted
+pub record ReadZeros {B : Type 0} (p : Places B) (i : ℕ) (old : Reading) (states cur : List ℕ)
+    (k : ℕ) (new : Reading) (after row : List ℕ) : Type 0 where
+  pub least : i ≤ k
+  pub read : (nonzeros : Nonzeros) → nonzeros.symbols ≤ i →
+      ReadOn p (p.from + i) (summed old (sums_among i nonzeros)) states cur
+      (p.from + k) (summed new (sums_among k nonzeros)) after row
+
+-- the same by the first state of a context, which is kept apart
+pub record ReadZerosBy {B : Type 0} (p : Places B) (size i : ℕ) (old : Reading) (state : ℕ)
+    (cur : List ℕ) (k : ℕ) (new : Reading) (after : ℕ) (row : List ℕ) : Type 0 where
+  pub by : (states : List ℕ) → size * 32 < length states → slice_index states (size * 32) ≡ state →
+      ReadZeros p i old states cur k new (slice_set states (size * 32) after) row
+
+-- from place i on zeros may be read by a state that is kept apart: the samples to the left and above
+-- to the left are one, which comes again
+pub record MayComeAgain {B : Type 0} (p : Places B) (state : ℕ) (cur : List ℕ) (b : Behind)
+    (i : ℕ) : Type 0 where
+  pub places : ArePlaces p
+  pub long : length cur ≡ length p.one.now
+  pub held : Holds p.table.now state
+  pub inside : i < p.count
+  pub begins : Carries p i cur b
+  pub left : slice_index p.early.now.tl i ≡ b.l
+  pub again : ComesAgain p.bits b.l

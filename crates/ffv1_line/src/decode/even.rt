@@ -1,0 +1,100 @@
+//! Zeros at even places are decoded: the samples above and to the left are one.
+
+ghost use Rattle.std.specs.Prelude.{◌≡◌, ℕ, ◌<◌, slice_index};
+ghost use Rattle.ffv1_range.specs.Table.{Holds};
+ghost use Rattle.ffv1_line.specs.Internal.Along.{IsEven};
+ghost use Rattle.ffv1_line.specs.Internal.Places.{MayComeAgain, Carries, StandsAt, ReadZeros};
+ghost use Rattle.ffv1_line.specs.Internal.Places.{ReadZerosBy};
+
+use crate::decode::places::{Behind, Places};
+use ffv1_plane::{late_context, predict_late, unfold};
+use ffv1_range::RangeDecoder;
+use std::alloc::Allocator;
+
+/// The places of a block from `start` to before its last, as long as they are even and their
+/// symbols zeros: the early sum is that of the first, and the samples above and to the left are
+/// one, which comes again. `state` is that of the first decision of a context, which all of them
+/// have. Answers the first place that is left.
+#[inline(always)]
+fn take_even<B: Allocator>(
+    decoder: &mut RangeDecoder<'_>,
+    places: &Places<'_, B>,
+    state: &mut u8,
+    cur: &mut [u16],
+    behind: &mut Behind,
+    start: usize,
+) -> usize
+    requires may { MayComeAgain places.now state.old cur.old behind.old start }
+    ensures inside { result < places.now.count }
+    ensures begins { Carries places.now result cur.new behind.new }
+    ensures read { (size : ℕ) →
+        IsEven places.now.set.now (slice_index places.now.early.now.sum start) behind.old.l
+        behind.old.ll size →
+        IsEven places.now.set.now (slice_index places.now.early.now.sum start) behind.old.l
+        behind.old.l size →
+        ReadZerosBy places.now size start decoder.old state.old cur.old result decoder.new
+        state.new cur.new }
+    ensures held { Holds places.now.table.now state.new }
+{
+    let Places {
+        table,
+        early,
+        from,
+        count,
+        ..
+    } = *places;
+    let sum = early.sum[start];
+    for at in start..count - 1 {
+        if early.t[at] != behind.l || early.sum[at] != sum {
+            return at;
+        }
+        if !decoder.take_zero(table, state) {
+            return at;
+        }
+        cur[from + at] = behind.l;
+        behind.ll = behind.l;
+    }
+    count - 1
+}
+
+/// The places of a block from `start` on that are even and whose symbols are zeros: the samples
+/// above and to the left are one, and so is each that comes. Their context is one, whose state is
+/// kept apart. Answers the first place that is left, from `start` to the last one.
+#[inline(never)]
+pub(crate) fn decode_even<B: Allocator>(
+    decoder: &mut RangeDecoder<'_>,
+    places: &Places<'_, B>,
+    states: &mut [u8],
+    cur: &mut [u16],
+    behind: &mut Behind,
+    start: usize,
+) -> usize
+    requires stands { StandsAt places.now states.old cur.old behind.old start }
+    requires left { slice_index places.now.early.now.tl start ≡ behind.old.l }
+    requires top { slice_index places.now.early.now.t start ≡ behind.old.l }
+    ensures stands { StandsAt places.now states.new cur.new behind.new result }
+    ensures read { ReadZeros places.now start decoder.old states.old cur.old result decoder.new
+        states.new cur.new }
+{
+    let Places {
+        set,
+        bits,
+        early,
+        ..
+    } = *places;
+    let Behind { ll, l } = *behind;
+    let sum = early.sum[start];
+    let (size, _) = late_context(set, sum, l, l, ll, false);
+    let (next, _) = late_context(set, sum, l, l, l, false);
+    // A sample of more bits, as only a row from elsewhere has, does not come again.
+    if size != next || unfold(predict_late(l, l, l, l), 0, bits) != l {
+        return start;
+    }
+    let slot = size as usize * 32;
+    let mut state = states[slot];
+    let mut local = decoder.clone().unwrap();
+    let left = take_even(&mut local, places, &mut state, cur, behind, start);
+    states[slot] = state;
+    *decoder = local;
+    left
+}

@@ -1,0 +1,70 @@
+//! A block of places of a row that is decoded.
+
+ghost use Rattle.std.specs.Prelude.{◌≡◌};
+
+use ffv1_plane::{Early, QuantSet};
+use ffv1_range::StateTable;
+use std::alloc::Allocator;
+
+/// What stays the same along a block of places: how they are coded, the rows above them, what these
+/// decide of each place, and where the block stands in its row.
+#[derive(Drop)]
+pub(crate) struct Places<'a, B: Allocator> {
+    /// How states move.
+    pub(crate) table: &'a StateTable,
+    /// The quantisation table set.
+    pub(crate) set: &'a QuantSet<B>,
+    /// The bits of a sample, 8 or 9.
+    pub(crate) bits: u8,
+    /// Said of no set but one whose fourth and fifth tables have one level.
+    pub(crate) near: bool,
+    /// The row two above.
+    pub(crate) two: &'a [u16],
+    /// The row one above.
+    pub(crate) one: &'a [u16],
+    /// What the rows above decide of each place.
+    pub(crate) early: &'a Early,
+    /// The row's place that is the block's first.
+    pub(crate) from: usize,
+    /// How many places there are, at most 128.
+    pub(crate) count: usize,
+}
+
+impl<'a, B: Allocator> Places<'a, B> {
+    /// The same, with the bits and the kind of the set as constants.
+    #[inline(always)]
+    pub(crate) fn fixed<const BITS: u8, const NEAR: bool>(&self) -> Places<'a, B>
+        requires bits { self.now.bits ≡ BITS }
+        requires near { self.now.near ≡ NEAR }
+        ensures { result ≡ self.now }
+    {
+        let Places {
+            table,
+            set,
+            two,
+            one,
+            early,
+            from,
+            count,
+            ..
+        } = *self;
+        Places {
+            table,
+            set,
+            bits: BITS,
+            near: NEAR,
+            two,
+            one,
+            early,
+            from,
+            count,
+        }
+    }
+}
+
+/// What is carried from place to place along a block: the samples two to the left and to the left.
+#[derive(Clone, Copy)]
+pub(crate) struct Behind {
+    pub(crate) ll: u16,
+    pub(crate) l: u16,
+}

@@ -1,0 +1,69 @@
+//! A sample is decoded.
+
+ghost use Rattle.std.specs.Prelude.{◌≡◌, ℕ, ◌+◌, ◌*◌, ◌≤◌, ◌<◌, IfOk, OnErr, length};
+ghost use Rattle.ffv1_range.specs.Symbols.{AllHeld};
+ghost use Rattle.ffv1_range.specs.Follows.{Follows};
+ghost use Rattle.ffv1_range.specs.Reading.{summed};
+ghost use Rattle.ffv1_range.specs.Among.{AreNonzeros, sums_among, sums_refused};
+ghost use Rattle.ffv1_plane.specs.Quantisation.{contexts_of};
+ghost use Rattle.ffv1_line.specs.Row.{refused_steps};
+ghost use Rattle.ffv1_line.specs.Decoded.{Sampled};
+ghost use Rattle.ffv1_line.specs.Internal.Along.{IsPrepared};
+ghost use Rattle.ffv1_line.specs.Internal.Places.{ArePlaces, around_place};
+
+use crate::decode::places::{Behind, Places};
+use ffv1_plane::{late_context, predict_late, sample_signed, unfold};
+use ffv1_range::{Nonzeros, RangeDecoder, SignedNumber};
+use std::alloc::Allocator;
+
+/// The sample that comes next, at place `i` of a block, which adds its symbol to `nonzeros`.
+#[inline(always)]
+pub(crate) fn decode_sample<B: Allocator>(
+    decoder: &mut RangeDecoder<'_>,
+    nonzeros: &mut Nonzeros,
+    places: &Places<'_, B>,
+    states: &mut [u8],
+    i: usize,
+    behind: Behind,
+) -> Result<u16, ()>
+    requires places { ArePlaces places.now }
+    requires inside { i < places.now.count }
+    requires rows { length states.old ≡ contexts_of places.now.set.now * 32 }
+    requires held { AllHeld places.now.table.now states.old }
+    requires are { AreNonzeros nonzeros.old }
+    requires few { nonzeros.old.symbols ≤ i }
+    ensures ok { IfOk result (λ s. (tr tt : ℕ) → IsPrepared places.now.set.now places.now.early.now
+        i tr tt → Sampled places.now.table.now places.now.set.now places.now.bits
+        (summed decoder.old (sums_among i nonzeros.old)) states.old
+        (summed decoder.new (sums_among (i + 1) nonzeros.new)) states.new
+        (around_place places.now i behind tr tt) s) }
+    ensures refused { OnErr result ((tr tt : ℕ) → IsPrepared places.now.set.now
+        places.now.early.now i tr tt → Follows places.now.table.now
+        (summed decoder.old (sums_among i nonzeros.old)) states.old
+        (summed decoder.new (sums_refused i nonzeros.new)) states.new
+        (refused_steps places.now.set.now (around_place places.now i behind tr tt))) }
+    ensures are { AreNonzeros nonzeros.new }
+    ensures few { nonzeros.new.symbols ≤ i + 1 }
+    ensures stays { OnErr result (nonzeros.new ≡ nonzeros.old) }
+    ensures held { AllHeld places.now.table.now states.new }
+{
+    let Places {
+        table,
+        set,
+        bits,
+        near,
+        early,
+        ..
+    } = *places;
+    let Behind { ll, l } = behind;
+    let (context, flip) = late_context(set, early.sum[i], l, early.tl[i], ll, near);
+    let prediction = predict_late(l, early.t[i], early.least[i], early.most[i]);
+    match decoder.tally_signed_in_row(nonzeros, table, states, context as usize) {
+        // A zero, the most frequent one, has no sign to flip.
+        Ok(None) => Ok(unfold(prediction, 0, bits)),
+        Ok(Some(SignedNumber { size, negative })) => {
+            Ok(sample_signed(prediction, flip, size, negative, bits))
+        }
+        Err(_) => Err(()),
+    }
+}

@@ -1,0 +1,37 @@
+-- Steps in a Segment, one reading after the other.
+use Rattle.std.proofs.Common.{◌≡◌, ◌<◌, ◌≤◌, ◌+◌, IfOk, IfSome, arith, ℕ, suc, zero, List, Option, Some, None, Result, Ok, Err, Bool, true, false, if◌then◌else◌, refl}
+use Rattle.ffv1_reads.specs.declared.fault.FileFault.{FileFault}
+use Rattle.ffv1_reads.specs.declared.fault.FileFault.TheVariants as fault
+use Rattle.ffv1_reads.specs.Reads.{Answers, Reading, given, refused}
+use Rattle.ffv1_reads.proofs.Reading.{Goes, faults_here, goes_fault, goes_given, goes_same}
+use Rattle.ffv1_ebml.specs.Elements.{IsWithin}
+use Rattle.ffv1_ebml.specs.declared.element.Element.{Element}
+use Rattle.ffv1_matroska.specs.Internal.{bytes_of}
+use Rattle.ffv1_matroska.specs.Places.{amount, closed, is_sound, step_to}
+use Rattle.ffv1_matroska.specs.declared.place.Place.{Place}
+use Rattle.ffv1_matroska.specs.declared.place.Step.{Step}
+
+-- a Cluster that has nothing left is judged
+pub goes_closed : {whole : Reading (Option Step)} {old now : Option (List ℕ)} {before after : ℕ} (place : Place) (result : Result (Option Step) FileFault) → Goes whole old before (closed (Some (step_to place)) place) now after →
+    result ≡ (if is_sound place then Ok (Some (step_to place)) else Err fault.Checksum) → Answers (λ (s : Option Step). s) whole (record { old = old; new = now; before = before; after = after }) result
+goes_closed {whole = whole} {old = old} {now = now} {before = before} {after = after} place result h is = on_test (is_sound place) refl
+  where
+    on_test : (b : Bool) → is_sound place ≡ b → Answers (λ (s : Option Step). s) whole (record { old = old; new = now; before = before; after = after }) result
+    on_test true t = rw (is, t) (goes_given (Some (step_to place)) (goes_same _ (given (Some (step_to place))) (λ text. rw t refl) h))
+    on_test false t = rw (is, t) (goes_fault fault.Checksum (goes_same _ (refused fault.Checksum) (λ text. rw t refl) h) (refl, faults_here (Option Step) fault.Checksum _))
+
+-- what an element has, and what is left after it, are within what was left
+pub within_bytes : (e : Element) (most : ℕ) (size : Option ℕ) → e.size ≡ size → IsWithin e most → bytes_of e.size + e.left ≤ most
+within_bytes e most None is within = rw is (omega (arith, within.0))
+within_bytes e most (Some n) is within = let fits = rw is at within.1 in rw is fits
+
+-- a step leaves less
+pub steps_less : (result : Result (Option Step) FileFault) (n m : ℕ) → n < m → IfOk result (λ o. IfSome o (λ s. amount s.place ≤ n)) → IfOk result (λ o. IfSome o (λ s. amount s.place < m))
+steps_less (Ok (Some s)) n m less h = omega (arith, less, h)
+steps_less (Ok None) n m less h = tt
+steps_less (Err f) n m less h = tt
+
+-- where less is left, fewer steps are to come
+pub fewer : (k n m : ℕ) → m ≤ k → n < m → (j : ℕ) × (n ≤ j) × (k ≡ suc j)
+fewer zero n m most less = absurd (omega (arith, most, less))
+fewer (suc j) n m most less = (j, omega (arith, most, less), refl)

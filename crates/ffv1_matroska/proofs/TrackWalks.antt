@@ -1,0 +1,43 @@
+-- The elements of Tracks, one after the other.
+use Rattle.std.proofs.Common.{◌≡◌, ℕ, suc, zero, ◌≤◌, ◌<◌, Some, None, Result, Ok, Err, List, [], ◌∷◌, length, arith, refl, ◌∙◌}
+use Rattle.ffv1_reads.specs.declared.fault.FileFault.{FileFault}
+use Rattle.ffv1_reads.specs.declared.fault.FileFault.TheVariants as fault
+use Rattle.ffv1_ebml.specs.Contents.{Part, content_told, first_part}
+use Rattle.ffv1_matroska.specs.Tracks.{Track, track_at, track_in, track_up_to}
+
+-- an element that does not count
+pub track_next : (most : ℕ) (rest : List ℕ) (p : Part) → first_part rest ≡ Ok (Some p) → track_at p.ident p.content ≡ Ok None → length rest ≤ most → length p.rest < length rest →
+    (k : ℕ) × (length p.rest ≤ k) × (track_up_to most rest ≡ track_up_to k p.rest)
+unfolding track_up_to
+track_next zero rest p first none few less = absurd (omega (arith, few, less))
+track_next (suc k) rest p first none few less = (k, omega (arith, few, less), rw (first, none) refl)
+
+-- one that counts
+pub track_here : (most : ℕ) (rest : List ℕ) (p : Part) (t : Track) → first_part rest ≡ Ok (Some p) → track_at p.ident p.content ≡ Ok (Some t) → length rest ≤ most → length p.rest < length rest → track_up_to most rest ≡ Ok t
+unfolding track_up_to
+track_here zero rest p t first some few less = absurd (omega (arith, few, less))
+track_here (suc k) rest p t first some few less = rw (first, some) refl
+
+-- one that can't be read
+pub track_bad : (most : ℕ) (rest : List ℕ) (p : Part) (f : FileFault) → first_part rest ≡ Ok (Some p) → track_at p.ident p.content ≡ Err f → length rest ≤ most → length p.rest < length rest → track_up_to most rest ≡ Err f
+unfolding track_up_to
+track_bad zero rest p f first bad few less = absurd (omega (arith, few, less))
+track_bad (suc k) rest p f first bad few less = rw (first, bad) refl
+
+-- one whose header can't be read
+pub track_cut : (most : ℕ) (rest : List ℕ) (f : FileFault) → first_part rest ≡ Err f → length rest ≤ most → track_up_to most rest ≡ Err f
+unfolding track_up_to first_part
+track_cut zero [] f bad few = absurd (cc)
+track_cut zero (b ∷ bs) f bad few = absurd (omega (arith, few))
+track_cut (suc k) rest f bad few = rw bad refl
+
+-- no more elements
+pub track_none : (most : ℕ) (rest : List ℕ) → first_part rest ≡ Ok None → track_up_to most rest ≡ Err fault.NoFfv1
+unfolding track_up_to
+track_none zero rest none = refl
+track_none (suc k) rest none = rw none refl
+
+-- what a walk that goes on from these elements answers is what the whole content says
+pub judged : (content : List ℕ) (u : Unit {0}) (rest : Result Track FileFault) (answer : Result Track FileFault) → Ok u ≡ content_told content → track_up_to (length content) content ≡ rest → rest ≡ answer → track_in content ≡ answer
+unfolding track_in
+judged content u rest answer told walk is = rw (← told) (walk ∙ is)

@@ -1,0 +1,46 @@
+use Rattle.std.proofs.Common.{◌≡◌, ◌∷◌, [], Some, None, refl, inr, arith}
+use Rattle.std.proofs.lemmas.Result.{err_from_is_err_and}
+use Rattle.ffv1_reads.specs.Reads.{◌>>=◌}
+use Rattle.ffv1_reads.proofs.Reading.{Goes}
+use Rattle.ffv1_ebml.specs.Elements.{first_read}
+use Rattle.ffv1_ebml.proofs.ElementReadings.{first_ends, some_given}
+use Rattle.ffv1_ebml.proofs.EndAnswers.{stops_here}
+use Rattle.ffv1_reads.proofs.Reading.{goes_read}
+use Rattle.ffv1_matroska.specs.Internal.Headers.{rest_read}
+use Rattle.ffv1_matroska.proofs.EndReadings.{none_given, none_refused}
+use Rattle.ffv1_matroska.proofs.Headers.{rest_in_turn}
+use Rattle.ffv1_matroska.proofs.header.header_or_end.Goals as goal
+
+pub returns-in-Err-clause-answer : goal.returns-in-Err-clause-answer
+returns-in-Err-clause-answer g c =
+    let some : c.args.left ≡ 0 → ⊥ = λ e. omega (arith, e, c.requires) in
+    (c.in-Err.ensures.counted, inr (stops_here (first_read c.args.left) _ _ None (first_ends c.args.left some) c.in-Err.ensures.err))
+
+pub returns-in_default-clause-answer : goal.returns-in_default-clause-answer
+returns-in_default-clause-answer g c =
+    let some : c.args.left ≡ 0 → ⊥ = λ e. omega (arith, e, c.requires) in
+    let h = c.in-Ok.ensures in
+    let ended = rw c.in_default.is at h.ok in
+    (h.counted, inr ((stops_here (first_read c.args.left) _ _ None (first_ends c.args.left some) ended.0, ended.1), refl))
+
+pub returns-in_err-element-clause-answer : goal.returns-in_err-element-clause-answer
+returns-in_err-element-clause-answer g c =
+    let p = err_from_is_err_and c.from_residual.result c.from_residual.ensures.1 in
+    let left = c.args.left in
+    let some : left ≡ 0 → ⊥ = λ e. omega (arith, e, c.requires) in
+    let h = c.in-Ok.ensures in
+    let first = c.in-Some.first in
+    let start : Goes (first_read left) (g.R.ByteIn.remaining c.args.input.now) (g.R.ByteIn.failures c.args.input.now) (rest_read left first >>= some_given) (g.R.ByteIn.remaining c.read_byte.new.input) (g.R.ByteIn.failures c.read_byte.new.input) =
+    record { same = h.counted; bytes = first ∷ []; consumed = rw c.in-Some.is at h.ok; leads = λ more. rest_in_turn left first some more } in
+    rw (p.1, p.2) (none_refused (rest_read left first) some_given _ _ c.in_err-element.field-0.0 start c.in_err-element.ensures.answer)
+
+pub returns-clause-answer : goal.returns-clause-answer
+returns-clause-answer g c =
+    let left = c.args.left in
+    let some : left ≡ 0 → ⊥ = λ e. omega (arith, e, c.requires) in
+    let h = c.in-Ok.ensures in
+    let first = c.in-Some.first in
+    let e = c.in_ok-element.element in
+    let start : Goes (first_read left) (g.R.ByteIn.remaining c.args.input.now) (g.R.ByteIn.failures c.args.input.now) (rest_read left first >>= some_given) (g.R.ByteIn.remaining c.read_byte.new.input) (g.R.ByteIn.failures c.read_byte.new.input) =
+    record { same = h.counted; bytes = first ∷ []; consumed = rw c.in-Some.is at h.ok; leads = λ more. rest_in_turn left first some more } in
+    none_given (Some e) (goes_read (rest_read left first) some_given _ _ e start c.in_ok-element.ensures.answer)

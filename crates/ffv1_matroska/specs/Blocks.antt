@@ -1,0 +1,52 @@
+-- Blocks (RFC 9559, 5.1.3.4, 5.1.3.5.1 and 10): a track number, two bytes of time, flags, and a
+-- frame, where there is no lacing.
+use Rattle.std.specs.Prelude.{ℕ, ◌-◌, ◌/◌, ◌%◌, ◌==◌, if◌then◌else◌, nat_lt, slice_index}
+use Rattle.std.specs.Prelude.{Option, Some}
+use Rattle.ffv1_reads.specs.Reads.{Reading, given, refused, ◌>>=◌}
+use Rattle.ffv1_reads.specs.declared.fault.FileFault.TheVariants as fault
+use Rattle.ffv1_ebml.specs.Elements.{data_read}
+use Rattle.ffv1_ebml.specs.Sums.{passed_summed, taken_summed}
+use Rattle.ffv1_ebml.specs.declared.element.Data.{Data}
+use Rattle.ffv1_ebml.specs.declared.sum.Sum.{Sum}
+use Rattle.ffv1_matroska.specs.Places.{closed, frame_at, step_to, summed_at}
+use Rattle.ffv1_matroska.specs.declared.place.Place.{Place}
+use Rattle.ffv1_matroska.specs.declared.place.Step.{Step}
+
+-- the most bytes of a frame, of Tracks and of the header of EBML
+abbrev pub limit : ℕ
+limit = 67108864
+
+-- so many bytes are passed
+unfoldable pub passed_on : ℕ → Place → Reading (Option Step)
+passed_on size place = passed_summed size place.sum >>= λ sum.
+    closed (Some (step_to (summed_at place sum))) (summed_at place sum)
+
+-- the two bits of lacing (10.1, 10.2)
+abbrev pub lacing_of : ℕ → ℕ
+lacing_of flags = flags / 2 % 4
+
+-- a frame's size is judged before its bytes are read
+abbrev pub frame_judged : ℕ → ℕ → Place → Reading (Option Step)
+frame_judged flags size place =
+    if lacing_of flags == 0
+    then (if nat_lt limit size then refused fault.ChunkTooLong
+    else if size == 0 then refused fault.EmptyFrame
+    else given (Some (frame_at size place)))
+    else refused fault.Laced
+
+-- after the track number: two bytes of time, which are not looked at, and flags
+unfoldable pub fields_read : ℕ → Place → Reading (Option Step)
+fields_read left place =
+    if nat_lt left 3 then refused fault.Truncated
+    else (taken_summed 3 place.sum >>= λ p.
+    frame_judged (slice_index p.0 2) (left - 3) (summed_at place p.1))
+
+-- a block of another track is passed
+abbrev pub block_rest : ℕ → Place → Data × Sum → Reading (Option Step)
+block_rest track place p =
+    if p.0.value == track then fields_read p.0.left (summed_at place p.1)
+    else passed_on p.0.left (summed_at place p.1)
+
+-- a block of so many bytes, up to its frame
+unfoldable pub block_read : ℕ → ℕ → Place → Reading (Option Step)
+block_read track size place = data_read size place.sum >>= block_rest track place

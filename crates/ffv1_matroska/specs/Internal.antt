@@ -1,0 +1,45 @@
+-- What ties types of the code to the definitions. No public clause cites it.
+pub mod Ending
+pub mod Headers
+use Rattle.std.specs.Prelude.{ℕ, List, Option, Some, None, Result, Ok, Err}
+use Rattle.std.specs.Borrow.{Bor}
+use Rattle.ffv1_reads.specs.declared.fault.FileFault.{FileFault}
+use Rattle.ffv1_matroska.specs.Rates.{Rate}
+use Rattle.ffv1_matroska.specs.Tracks.{Track}
+use Rattle.ffv1_matroska.specs.declared.track.Track.{Track as LentTrack}
+
+-- a track whose record is lent
+abbrev pub track_lent : LentTrack → Track
+track_lent t = record {
+  number = t.number;
+  head = record {
+    width = t.width;
+    height = t.height;
+    rate = t.rate;
+    scale = t.scale;
+    config_record = t.config_record.now;
+  };
+}
+
+abbrev pub tracks : Result LentTrack FileFault → Result Track FileFault
+tracks (Ok t) = Ok (track_lent t)
+tracks (Err f) = Err f
+
+abbrev pub track_found : Result (Option LentTrack) FileFault → Result (Option Track) FileFault
+track_found (Ok None) = Ok None
+track_found (Ok (Some t)) = Ok (Some (track_lent t))
+track_found (Err f) = Err f
+
+-- a rate and its scale
+abbrev pub rate_with : ℕ × ℕ → Rate
+rate_with p = record { rate = p.0; scale = p.1 }
+
+-- bytes that are lent
+abbrev pub contents : Result (Bor (List ℕ)) FileFault → Result (List ℕ) FileFault
+contents (Ok s) = Ok s.now
+contents (Err f) = Err f
+
+-- the bytes of content that an element is known to have
+abbrev pub bytes_of : Option ℕ → ℕ
+bytes_of None = 0
+bytes_of (Some size) = size

@@ -1,0 +1,33 @@
+-- Calls that may come to the end of the input, where there is nothing more.
+use Rattle.std.specs.Prelude.{◌≡◌, ◌⊎◌, ℕ, List, Option, None, Result, Ok, Err}
+use Rattle.std.specs.Io.KnownBytes.{IsAtEnd}
+use Rattle.ffv1_wire.specs.Failures.{one_more}
+use Rattle.ffv1_wire.specs.Passage.{Passage}
+use Rattle.ffv1_reads.specs.declared.fault.FileFault.{FileFault}
+use Rattle.ffv1_reads.specs.declared.fault.FileFault.TheVariants as fault
+use Rattle.ffv1_reads.specs.Ends.{Stops}
+use Rattle.ffv1_reads.specs.Reads.{Read, Reading, Refused, Wants}
+
+-- bytes were read, and where nothing stands after them, there is nothing more
+abbrev pub Halts : {X : Type 0} → Reading (Option X) → Option (List ℕ) → Option (List ℕ) → Type 0
+Halts reading old new = Stops reading old new None
+
+-- why a call was refused: a read may also fail where the end would be an answer
+abbrev pub RefusedOrNone : {X : Type 0} → Reading (Option X) → Option (List ℕ) →
+    Option (List ℕ) → ℕ → ℕ → FileFault → Type 0
+RefusedOrNone reading old new before after fault.Read =
+    (after ≡ one_more before) × (Wants reading old new ⊎ Halts reading old new)
+RefusedOrNone reading old new before after f = Refused reading old new before after f
+
+-- a value was read; or nothing more is there
+abbrev pub ReadOrNone : {X : Type 0} → Reading (Option X) → Option (List ℕ) → Option (List ℕ) →
+    Option X → Type 0
+ReadOrNone reading old new x =
+    Read reading old new x ⊎ ((Halts reading old new × IsAtEnd new) × (x ≡ None))
+
+-- the answer of a call where the end of the input may be one
+abbrev pub AnswersOrNone : {X Y : Type 0} → (Y → Option X) → Reading (Option X) → Passage →
+    Result Y FileFault → Type 0
+AnswersOrNone view reading p (Ok y) =
+    (p.after ≡ p.before) × ReadOrNone reading p.old p.new (view y)
+AnswersOrNone view reading p (Err f) = RefusedOrNone reading p.old p.new p.before p.after f

@@ -1,0 +1,10 @@
+pub mod Rates
+pub mod Tracks
+pub mod Internal
+pub mod Sizes
+pub mod Opening
+pub mod Places
+pub mod Blocks
+pub mod Segments
+pub mod Files
+pub mod Readers

@@ -1,0 +1,85 @@
+-- The beginning of a file: the header of EBML (RFC 8794, 11.2), and that of the Segment (RFC 9559,
+-- 5.1).
+use Rattle.std.specs.Prelude.{ℕ, ◌-◌, ◌==◌, true, false, if◌then◌else◌, nat_lt, List, Option, Some, None}
+use Rattle.std.specs.Prelude.{codes, Result, Ok, Err}
+use Rattle.ffv1_reads.specs.Reads.{Kept, Reading, given, refused, taken, wanted, ◌>>=◌}
+use Rattle.ffv1_reads.specs.declared.fault.FileFault.{FileFault}
+use Rattle.ffv1_reads.specs.declared.fault.FileFault.TheVariants as fault
+use Rattle.ffv1_ebml.specs.Contents.{content_told, number_in, text_in}
+use Rattle.ffv1_ebml.specs.Elements.{data_read}
+use Rattle.ffv1_ebml.specs.Vints.{number_of}
+use Rattle.ffv1_ebml.specs.declared.sum.Sum.TheVariants.{Absent}
+use Rattle.ffv1_matroska.specs.Blocks.{limit}
+use Rattle.ffv1_matroska.specs.Sizes.{size_with}
+use Rattle.ffv1_matroska.specs.Tracks.{content_at, is_text, ◌>>?◌}
+use Rattle.ffv1_matroska.specs.declared.place.Place.{Place}
+
+-- the ID of Segment
+abbrev pub segment : ℕ
+segment = 408125543
+
+-- the IDs of DocType, EBMLReadVersion and DocTypeReadVersion
+abbrev pub doc_type : ℕ
+doc_type = 17026
+
+abbrev pub read_version : ℕ
+read_version = 17143
+
+abbrev pub type_read_version : ℕ
+type_read_version = 17029
+
+-- the number of the first element with this ID, and 1 where there is none or it has no bytes
+abbrev pub version_at : ℕ → List ℕ → Result ℕ FileFault
+version_at ident content = content_at ident content >>? number_in 1
+
+-- the header of EBML, in memory: its CRC-32, and then that it is of Matroska, of versions that are
+-- read (RFC 8794, 11.2; RFC 9559, 5)
+unfoldable pub header_in : List ℕ → Result (Unit {0}) FileFault
+header_in content = content_told content >>? λ _.
+    (content_at doc_type content >>? λ type.
+    (if is_text (text_in type) (codes "matroska")
+    then (version_at read_version content >>? λ v.
+    (if nat_lt 1 v then Err fault.NotMatroska
+    else (version_at type_read_version content >>? λ w.
+    (if nat_lt 4 w then Err fault.NotMatroska else Ok tt))))
+    else Err fault.NotMatroska))
+
+-- four bytes that are this ID
+unfoldable pub ident_read : ℕ → Reading (Unit {0})
+ident_read ident = taken 4 >>= λ bytes.
+    if number_of bytes == ident then given tt else refused fault.NotMatroska
+
+-- a size, of at most 8 bytes
+unfoldable pub top_size : Reading (Option ℕ)
+top_size = data_read 8 Absent >>= λ p. given (size_with (8 - p.0.left) p.0.value)
+
+-- content that is kept: its size must be known, and not above the limit
+unfoldable pub content_kept : Option ℕ → Reading (List ℕ)
+content_kept None = refused fault.BadElement
+content_kept (Some size) =
+    if nat_lt limit size then refused fault.ChunkTooLong else wanted Kept size
+
+-- the beginning of a Segment; one of unknown size counts as 2^56 - 1 bytes
+abbrev pub segment_begun : Option ℕ → Place
+segment_begun None =
+    record {
+      segment = 72057594037927935;
+      endless = true;
+      loose = false;
+      cluster = 0;
+      group = 0;
+      sum = Absent;
+    }
+segment_begun (Some size) =
+    record {
+      segment = size;
+      endless = false;
+      loose = false;
+      cluster = 0;
+      group = 0;
+      sum = Absent;
+    }
+
+-- the size of the Segment, which stands next
+unfoldable pub segment_entered : Reading (Option ℕ)
+segment_entered = ident_read segment >>= λ _. top_size

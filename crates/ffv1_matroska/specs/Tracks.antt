@@ -1,0 +1,144 @@
+-- Tracks (RFC 9559, 5.1.4), in memory: the first entry of FFV1 video.
+use Rattle.std.specs.Prelude.{ℕ, suc, zero, ◌==◌, ◌&&◌, Bool, if◌then◌else◌, min, nat_eq, nat_le}
+use Rattle.std.specs.Prelude.{List, [], length, take, drop, codes, Option, Some, None}
+use Rattle.std.specs.Prelude.{Result, Ok, Err}
+use lib.Pointwise.{pointwise}
+use Rattle.ffv1_reads.specs.Head.{Head}
+use Rattle.ffv1_reads.specs.declared.fault.FileFault.{FileFault}
+use Rattle.ffv1_reads.specs.declared.fault.FileFault.TheVariants as fault
+use Rattle.ffv1_ebml.specs.Contents.{Found, Part, content_told, first_part, found, number_in, text_in}
+use Rattle.ffv1_matroska.specs.Rates.{greatest, rate_of}
+
+-- the IDs of TrackEntry and of what is looked for in it
+abbrev pub entry : ℕ
+entry = 174
+
+abbrev pub track_number : ℕ
+track_number = 215
+
+abbrev pub track_type : ℕ
+track_type = 131
+
+abbrev pub codec_id : ℕ
+codec_id = 134
+
+abbrev pub codec_private : ℕ
+codec_private = 25506
+
+abbrev pub content_encodings : ℕ
+content_encodings = 28032
+
+abbrev pub default_duration : ℕ
+default_duration = 2352003
+
+abbrev pub video : ℕ
+video = 224
+
+abbrev pub pixel_width : ℕ
+pixel_width = 176
+
+abbrev pub pixel_height : ℕ
+pixel_height = 186
+
+-- a track by the number that its blocks have, with the head that it says
+pub record Track : Type 0 where
+  pub number : ℕ
+  pub head : Head
+
+-- what was found is read on
+infixl 10 ◌>>?◌
+abbrev pub ◌>>?◌ : {X Y : Type 0} → Result X FileFault → (X → Result Y FileFault) →
+    Result Y FileFault
+Ok x >>? next = next x
+Err f >>? next = Err f
+
+-- the content of an element that may be missing
+abbrev pub content_of : Option (List ℕ) → List ℕ
+content_of None = []
+content_of (Some bytes) = bytes
+
+-- the content of the first element with this ID, and no bytes where there is none
+abbrev pub content_at : ℕ → List ℕ → Result (List ℕ) FileFault
+content_at ident content = found ident content >>? λ o. Ok (content_of o)
+
+-- the number that it holds, and 0 where there is none
+abbrev pub number_at : ℕ → List ℕ → Result ℕ FileFault
+number_at ident content = content_at ident content >>? number_in 0
+
+-- these bytes are this text
+abbrev pub is_text : List ℕ → List ℕ → Bool
+is_text bytes text = pointwise nat_eq bytes text
+
+-- the format of Video for Windows is FFV1 (RFC 9559, 8.3, V_MS/VFW/FOURCC): its fourth number is
+-- that name, and the record stands after its 40 bytes
+abbrev pub is_format : List ℕ → Bool
+is_format format = nat_le 40 (length format) && is_text (take 4 (drop 16 format)) (codes "FFV1")
+
+-- the configuration record, of an entry of this codec, where it is FFV1 (RFC 9043, 4.3.3)
+abbrev pub record_of : List ℕ → List ℕ → Found
+record_of codec content =
+    if is_text codec (codes "V_FFV1")
+    then (content_at codec_private content >>? λ bytes. Ok (Some bytes))
+    else if is_text codec (codes "V_MS/VFW/FOURCC")
+    then (content_at codec_private content >>? λ format.
+    (if is_format format then Ok (Some (drop 40 format)) else Ok None))
+    else Ok None
+
+-- the same, of an entry; a field is looked for only while the entry may be one
+unfoldable pub record_in : List ℕ → Found
+record_in content = number_at track_type content >>? λ type.
+    (if type == 1
+    then (content_at codec_id content >>? λ codec. record_of (text_in codec) content)
+    else Ok None)
+
+-- blocks that are compressed or encrypted are not read
+abbrev pub plain : {X : Type 0} → Result X FileFault → Option (List ℕ) → Result X FileFault
+plain next None = next
+plain next (Some bytes) = Err fault.Encoded
+
+-- the track of an entry with this record
+unfoldable pub track_of : List ℕ → List ℕ → Result Track FileFault
+track_of content config = found content_encodings content >>? plain
+    (number_at track_number content >>? λ number.
+    (number_at default_duration content >>? λ duration.
+    (content_at video content >>? λ picture.
+    (number_at pixel_width picture >>? λ width.
+    (number_at pixel_height picture >>? λ height.
+    Ok (record {
+      number = number;
+      head = record {
+        width = min width greatest;
+        height = min height greatest;
+        rate = (rate_of duration).rate;
+        scale = (rate_of duration).scale;
+        config_record = config;
+      };
+    }))))))
+
+-- the track of an element of Tracks, where that is an entry of FFV1 video
+abbrev pub track_with : List ℕ → Option (List ℕ) → Result (Option Track) FileFault
+track_with content None = Ok None
+track_with content (Some config) = track_of content config >>? λ track. Ok (Some track)
+
+unfoldable pub track_at : ℕ → List ℕ → Result (Option Track) FileFault
+track_at ident content =
+    if ident == entry then (record_in content >>? track_with content) else Ok None
+
+-- the first that is one counts
+abbrev pub track_or_on : (List ℕ → Result Track FileFault) → List ℕ → Option Track →
+    Result Track FileFault
+track_or_on on rest None = on rest
+track_or_on on rest (Some track) = Ok track
+
+abbrev pub part_or_on : (List ℕ → Result Track FileFault) → Option Part → Result Track FileFault
+part_or_on on None = Err fault.NoFfv1
+part_or_on on (Some p) = track_at p.ident p.content >>? track_or_on on p.rest
+
+-- among at most so many elements
+unfoldable pub track_up_to : ℕ → List ℕ → Result Track FileFault
+track_up_to zero content = Err fault.NoFfv1
+track_up_to (suc most) content = first_part content >>? part_or_on (track_up_to most)
+
+-- the track of the content of Tracks, whose CRC-32 is judged first
+unfoldable pub track_in : List ℕ → Result Track FileFault
+track_in content = content_told content >>? λ _. track_up_to (length content) content

@@ -1,0 +1,95 @@
+//! Blocks, up to their frames.
+
+ghost use Rattle.std.specs.Prelude.{◌≡◌, ◌<◌, ◌≤◌, Option, IfOk, IfSome};
+ghost use Rattle.ffv1_wire.specs.Passage.{passage};
+ghost use Rattle.ffv1_reads.specs.Reads.{Answers};
+ghost use Rattle.ffv1_matroska.specs.Blocks.{block_read, fields_read, passed_on};
+ghost use Rattle.ffv1_matroska.specs.Places.{amount};
+ghost use Rattle.ffv1_matroska.specs.declared.place.Step.{Step};
+
+use crate::place::{Place, Step, closed, summed_at};
+use ffv1_ebml::{next_data, pass_summed, take_summed};
+use ffv1_reads::FileFault;
+use ffv1_wire::ByteIn;
+
+/// The most bytes of a frame, of Tracks and of the header of EBML.
+pub(crate) const LIMIT: u64 = 67_108_864;
+
+/// Passes so many bytes.
+///
+/// `Checksum` where they are the last of a Cluster and its CRC-32 differs.
+#[tactic(auto, unfolding(crate::specs::Blocks::passed_on))]
+pub(crate) fn pass_on<R: ByteIn>(
+    input: &mut R,
+    size: u64,
+    place: Place,
+) -> Result<Option<Step>, FileFault>
+    ensures answer { Answers (λ (s : Option Step). s) (passed_on size place)
+        (passage R.remaining R.failures input.old input.new) result }
+    ensures sized { IfOk result (λ o. IfSome o (λ s. IfSome s.frame
+        (λ n. (0 < n) × (n ≤ 67108864)))) }
+    ensures same { IfOk result (λ o. IfSome o (λ s. amount s.place ≡ amount place)) }
+{
+    let mut sum = place.sum;
+    pass_summed(input, size, &mut sum)?;
+    closed(summed_at(place, sum))
+}
+
+/// What stands after the track number of a block: two bytes of time, and flags.
+///
+/// `Truncated` where there is less; then `Laced` where the flags say so, `ChunkTooLong` where the
+/// frame is above 67108864 bytes, and `EmptyFrame` where it has none, of which no byte is read.
+#[tactic(auto, unfolding(crate::specs::Blocks::fields_read))]
+fn read_fields<R: ByteIn>(input: &mut R, left: u64, place: Place) -> Result<Option<Step>, FileFault>
+    ensures answer { Answers (λ (s : Option Step). s) (fields_read left place)
+        (passage R.remaining R.failures input.old input.new) result }
+    ensures sized { IfOk result (λ o. IfSome o (λ s. IfSome s.frame
+        (λ n. (0 < n) × (n ≤ 67108864)))) }
+    ensures same { IfOk result (λ o. IfSome o (λ s. amount s.place ≡ amount place)) }
+{
+    if left < 3 {
+        return Err(FileFault::Truncated);
+    }
+    let mut sum = place.sum;
+    let mut fields = [0u8; 3];
+    take_summed(input, &mut fields, &mut sum)?;
+    if fields[2] / 2 % 4 != 0 {
+        return Err(FileFault::Laced);
+    }
+    let size = left - 3;
+    if size > LIMIT {
+        return Err(FileFault::ChunkTooLong);
+    }
+    if size == 0 {
+        return Err(FileFault::EmptyFrame);
+    }
+    Ok(Some(Step {
+        frame: Some(size),
+        place: summed_at(place, sum),
+    }))
+}
+
+/// A block of so many bytes, up to its frame; one of another track is passed.
+///
+/// `BadElement` and `Truncated` where its track number cannot be read, then as `read_fields` and
+/// `pass_on`.
+#[tactic(auto, unfolding(crate::specs::Blocks::block_read))]
+pub(crate) fn read_block<R: ByteIn>(
+    input: &mut R,
+    track: u64,
+    size: u64,
+    place: Place,
+) -> Result<Option<Step>, FileFault>
+    ensures answer { Answers (λ (s : Option Step). s) (block_read track size place)
+        (passage R.remaining R.failures input.old input.new) result }
+    ensures sized { IfOk result (λ o. IfSome o (λ s. IfSome s.frame
+        (λ n. (0 < n) × (n ≤ 67108864)))) }
+    ensures same { IfOk result (λ o. IfSome o (λ s. amount s.place ≡ amount place)) }
+{
+    let mut sum = place.sum;
+    let number = next_data(input, size, &mut sum)?;
+    if number.value != track {
+        return pass_on(input, number.left, summed_at(place, sum));
+    }
+    read_fields(input, number.left, summed_at(place, sum))
+}

@@ -1,0 +1,66 @@
+//! Frames, one after the other.
+
+ghost use Rattle.std.specs.Prelude.{◌≡◌, ◌<◌, ◌≤◌, ℕ, List, [], Option, None, IfOk, IfSome};
+ghost use Rattle.std.specs.Prelude.{OnErr, OnSome, length};
+ghost use Rattle.ffv1_wire.specs.Passage.{passage};
+ghost use Rattle.ffv1_matroska.specs.Files.{frame_found, frame_read};
+ghost use Rattle.ffv1_matroska.specs.Internal.Ending.{AnswersOrNone};
+ghost use Rattle.ffv1_matroska.specs.Places.{amount};
+ghost use Rattle.ffv1_matroska.specs.Readers.{Leaves, next_with};
+ghost use Rattle.ffv1_matroska.specs.declared.place.Place.{Place};
+
+use crate::place::{Place, is_sound, summed_at};
+use crate::segment::step;
+use ffv1_ebml::fill_summed;
+use ffv1_reads::FileFault;
+use ffv1_wire::ByteIn;
+use std::alloc::Allocator;
+
+/// The size of the next frame, and the place after it, but for its sum; None at the end.
+fn find_frame<R: ByteIn>(
+    input: &mut R,
+    track: u64,
+    place: Place,
+) -> Result<Option<(u64, Place)>, FileFault>
+    ensures answer { AnswersOrNone (λ (p : Option (ℕ × Place)). p) (frame_found track place)
+        (passage R.remaining R.failures input.old input.new) result }
+    ensures sized { IfOk result (λ o. IfSome o (λ p. (0 < p.0) × (p.0 ≤ 67108864))) }
+    ensures less { IfOk result (λ o. IfSome o (λ p. amount p.1 < amount place)) }
+{
+    let mut here = place;
+    while let Some(next) = step(input, track, here)? {
+        if let Some(size) = next.frame {
+            return Ok(Some((size, next.place)));
+        }
+        here = next.place;
+    }
+    Ok(None)
+}
+
+/// The next frame in place of what the vector has, and the place after it; None at the end.
+pub(crate) fn read_frame<R: ByteIn, A: Allocator>(
+    input: &mut R,
+    track: u64,
+    place: Place,
+    frame: &mut Vec<u8, A>,
+) -> Result<Option<Place>, FileFault>
+    ensures answer { AnswersOrNone (λ (after : Option Place). next_with frame.new.items after)
+        (frame_read track place) (passage R.remaining R.failures input.old input.new) result }
+    ensures sized { IfOk result
+        (λ o. OnSome o ((0 < length frame.new.items) × (length frame.new.items ≤ 67108864))) }
+    ensures none { IfOk result (λ after. after ≡ None → frame.new.items ≡ []) }
+    ensures less { IfOk result (λ o. IfSome o (λ after. amount after < amount place)) }
+    ensures err { OnErr result (Leaves track place (R.remaining input.old) frame.new.items) }
+{
+    frame.clear();
+    let Some((size, after)) = find_frame(input, track, place)? else {
+        return Ok(None);
+    };
+    let mut sum = after.sum;
+    fill_summed(input, size as usize, frame, &mut sum)?;
+    let last = summed_at(after, sum);
+    if !is_sound(last) {
+        return Err(FileFault::Checksum);
+    }
+    Ok(Some(last))
+}

@@ -1,0 +1,132 @@
+//! The beginning of a file: the header of EBML, and that of the Segment.
+
+ghost use Rattle.std.specs.Prelude.{◌≡◌, ◌≤◌, ℕ, List, Option, IfOk, OnErr, OnOk, length};
+ghost use Rattle.ffv1_wire.specs.Passage.{passage};
+ghost use Rattle.ffv1_reads.specs.Reads.{Answers};
+ghost use Rattle.ffv1_matroska.specs.Opening.{content_kept, header_in, ident_read};
+ghost use Rattle.ffv1_matroska.specs.Opening.{segment_begun, segment_entered, top_size};
+
+use crate::block::LIMIT;
+use crate::header::{number_of, size_with};
+use crate::place::Place;
+use crate::track::content_at;
+use ffv1_ebml::{Sum, judge, next_data, number, text};
+use ffv1_reads::{FileFault, fill, take};
+use ffv1_wire::ByteIn;
+use std::alloc::Allocator;
+
+const SEGMENT: u32 = 0x1853_8067;
+
+const DOC_TYPE: u32 = 0x4282;
+
+const READ_VERSION: u32 = 0x42F7;
+
+const TYPE_READ_VERSION: u32 = 0x4285;
+
+/// Judges the header of EBML in memory.
+///
+/// `Checksum` where its CRC-32 differs; `NotMatroska` where its DocType is another one, or a version
+/// is above those that are read: 1 of EBML and 4 of Matroska; `Truncated` and `BadElement` where an
+/// element that is looked at can't be read.
+#[tactic(auto, unfolding(crate::specs::Opening::header_in))]
+fn judge_header(content: &[u8]) -> Result<(), FileFault>
+    ensures { result ≡ header_in content.now }
+{
+    judge(content)?;
+    let kind = content_at(content, DOC_TYPE)?;
+    if text(kind) != b"matroska".as_slice() {
+        return Err(FileFault::NotMatroska);
+    }
+    let version = number(content_at(content, READ_VERSION)?, 1)?;
+    if version > 1 {
+        return Err(FileFault::NotMatroska);
+    }
+    let version = number(content_at(content, TYPE_READ_VERSION)?, 1)?;
+    if version > 4 {
+        return Err(FileFault::NotMatroska);
+    }
+    Ok(())
+}
+
+/// Four bytes that are this ID. `NotMatroska` where they are not.
+#[tactic(auto, unfolding(crate::specs::Opening::ident_read))]
+fn read_ident<R: ByteIn>(input: &mut R, ident: u32) -> Result<(), FileFault>
+    ensures { Answers (λ (_ : Unit {0}). tt) (ident_read ident)
+        (passage R.remaining R.failures input.old input.new) result }
+{
+    let mut bytes = [0u8; 4];
+    take(input, &mut bytes)?;
+    if number_of(&bytes) != u64::from(ident) {
+        return Err(FileFault::NotMatroska);
+    }
+    Ok(())
+}
+
+/// A size, or None where it is unknown. `BadElement` where it has more than 8 bytes.
+#[tactic(auto, unfolding(crate::specs::Opening::top_size))]
+fn read_top_size<R: ByteIn>(input: &mut R) -> Result<Option<u64>, FileFault>
+    ensures { Answers (λ (s : Option ℕ). s) top_size
+        (passage R.remaining R.failures input.old input.new) result }
+{
+    let mut none = Sum::Absent;
+    let data = next_data(input, 8, &mut none)?;
+    Ok(size_with(8 - data.left, data.value))
+}
+
+/// Reads content in place of what the vector has.
+///
+/// `BadElement` where its size is unknown, `ChunkTooLong` where it is above 67108864 bytes, of which
+/// no byte is read; then as `fill`.
+#[tactic(auto, unfolding(crate::specs::Opening::content_kept))]
+fn keep_content<R: ByteIn, A: Allocator>(
+    input: &mut R,
+    size: Option<u64>,
+    content: &mut Vec<u8, A>,
+) -> Result<(), FileFault>
+    ensures { Answers (λ (_ : Unit {0}). content.new.items) (content_kept size)
+        (passage R.remaining R.failures input.old input.new) result }
+{
+    let Some(size) = size else {
+        return Err(FileFault::BadElement);
+    };
+    if size > LIMIT {
+        return Err(FileFault::ChunkTooLong);
+    }
+    fill(input, size as usize, content)
+}
+
+/// The size of the Segment, which stands next, or None where it is unknown.
+///
+/// `NotMatroska` where another element does, then as `read_top_size`.
+#[tactic(auto, unfolding(crate::specs::Opening::segment_entered))]
+fn enter_segment<R: ByteIn>(input: &mut R) -> Result<Option<u64>, FileFault>
+    ensures { Answers (λ (s : Option ℕ). s) segment_entered
+        (passage R.remaining R.failures input.old input.new) result }
+{
+    read_ident(input, SEGMENT)?;
+    read_top_size(input)
+}
+
+/// The place at the beginning of a Segment.
+fn begin_segment(size: Option<u64>) -> Place
+    ensures { result ≡ segment_begun size }
+{
+    match size {
+        Some(size) => Place {
+            segment: size,
+            endless: false,
+            loose: false,
+            cluster: 0,
+            group: 0,
+            sum: Sum::Absent,
+        },
+        None => Place {
+            segment: 72_057_594_037_927_935,
+            endless: true,
+            loose: false,
+            cluster: 0,
+            group: 0,
+            sum: Sum::Absent,
+        },
+    }
+}

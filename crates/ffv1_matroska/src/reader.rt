@@ -1,0 +1,122 @@
+//! Files are read, frame by frame.
+
+ghost use Rattle.std.specs.Prelude.{◌≡◌, ◌<◌, ◌≤◌, Bool, List, [], true, false, Option, None, Some};
+ghost use Rattle.std.specs.Prelude.{IfErr, IfOk, OnErr, Ok, Err, length};
+ghost use Rattle.ffv1_wire.specs.Passage.{passage};
+ghost use Rattle.ffv1_reads.specs.Ends.{AnswersOrEnds};
+ghost use Rattle.ffv1_reads.specs.Head.{head_of};
+ghost use Rattle.ffv1_reads.specs.declared.fault.FileFault.{FileFault};
+ghost use Rattle.ffv1_matroska.specs.Files.{frame_read};
+ghost use Rattle.ffv1_matroska.specs.Places.{amount, ended};
+ghost use Rattle.ffv1_matroska.specs.Readers.{Leaves, Standing, StandsAfter, is_frame_fault};
+ghost use Rattle.ffv1_matroska.specs.Readers.{next_of};
+
+use crate::frames::read_frame;
+use crate::place::{Place, ended};
+use ffv1_reads::{FileFault, FileHead};
+use ffv1_wire::ByteIn;
+use std::alloc::{Allocator, Global};
+use std::marker::Model;
+
+/// A reader of the frames of a file.
+///
+/// It holds no input: each call is lent the same one. It stands in a Segment, or at the end, or has
+/// met a fault.
+#[derive(Drop)]
+pub struct MatroskaReader<A: Allocator = Global> {
+    head: FileHead<A>,
+    track: u64,
+    segment: Option<u64>,
+    place: Place,
+    fault: Option<FileFault>,
+}
+
+impl<A: Allocator> Model for MatroskaReader<A> {
+    ghost Value = { Standing };
+
+    ghost view = { λ r. record {
+      track = record { number = r.track; head = head_of r.head };
+      segment = r.segment;
+      place = r.place;
+      fault = r.fault;
+    } };
+}
+
+impl<A: Allocator> MatroskaReader<A> {
+    /// The head of the file.
+    pub fn head(&self) -> &FileHead<A>
+        ensures { head_of result.now ≡ self.now.track.head }
+    {
+        &self.head
+    }
+
+    /// The size of the Segment, in bytes; None where it is unknown.
+    pub fn segment(&self) -> Option<u64>
+        ensures { result ≡ self.now.segment }
+    {
+        self.segment
+    }
+
+    /// Reads the next frame in place of what the vector has, and answers true; or false at the end,
+    /// where the vector is then empty, each time again, and then nothing is read. The end is that
+    /// of the Segment; of one of unknown size it is also the end of the input before an element of
+    /// it. The bytes after it are left unread.
+    ///
+    /// The input has to be the one that the reader was opened on. `Truncated` where an element or
+    /// what stands before a frame does not fit in what it stands in, or the input ends inside it;
+    /// `BadElement` where an ID has more than 4 bytes, a size or a track number more than 8, a size
+    /// is unknown other than that of a Cluster, or an element may not stand in a Segment; `Laced`
+    /// for a block with lacing; `ChunkTooLong` for a frame above 67108864 bytes, of which no byte
+    /// is read, `EmptyFrame` for one of none; `Checksum` where a CRC-32 is not the sum, which is
+    /// known at the end of the element: of a Cluster, before the frame is given that ends it;
+    /// `Read` where a read failed, `OutOfMemory`. After a fault the vector holds a beginning of the
+    /// frame, and each further call answers the fault again, empties the vector and reads nothing.
+    pub fn next_frame<R: ByteIn>(
+        &mut self,
+        input: &mut R,
+        frame: &mut Vec<u8, A>,
+    ) -> Result<bool, FileFault>
+        ensures answer { self.old.fault ≡ None → AnswersOrEnds
+            (λ (more : Bool). next_of more frame.new.items self.new.place)
+            (frame_read self.old.track.number self.old.place)
+            (passage R.remaining R.failures input.old input.new) result }
+        ensures stands { StandsAfter self.old result self.new }
+        ensures sized { IfOk result (λ more. more ≡ true → (0 < length frame.new.items)
+            × (length frame.new.items ≤ 67108864)) }
+        ensures end { IfOk result (λ more. more ≡ false → (frame.new.items ≡ [])
+            × (self.new.place ≡ ended)) }
+        ensures less { IfOk result
+            (λ more. more ≡ true → amount self.new.place < amount self.old.place) }
+        ensures own { self.old.fault ≡ None → IfErr result (λ f. is_frame_fault f ≡ true) }
+        ensures err { OnErr result (Leaves self.old.track.number self.old.place
+            (R.remaining input.old) frame.new.items) }
+        ensures over { self.old.fault ≡ None → self.old.place ≡ ended →
+            (result ≡ Ok false) × (self.new ≡ self.old) × (frame.new.items ≡ [])
+            × (input.new ≡ input.old) }
+        ensures again { (f : FileFault) → self.old.fault ≡ Some f → (result ≡ Err f)
+            × (self.new ≡ self.old) × (frame.new.items ≡ []) × (input.new ≡ input.old) }
+    {
+        frame.clear();
+        if let Some(fault) = self.fault {
+            return Err(fault);
+        }
+        if self.place.segment == 0 && self.place.cluster == 0 && self.place.group == 0 {
+            self.place = ended();
+            return Ok(false);
+        }
+        match read_frame(input, self.track, self.place, frame) {
+            Ok(Some(place)) => {
+                self.place = place;
+                Ok(true)
+            }
+            Ok(None) => {
+                self.place = ended();
+                Ok(false)
+            }
+            Err(fault) => {
+                self.fault = Some(fault);
+                Err(fault)
+            }
+        }
+    }
+}

@@ -1,0 +1,391 @@
+//! Elements of a Segment, of a Cluster and of a BlockGroup, each a step.
+
+ghost use Rattle.std.specs.Prelude.{◌≡◌, ◌<◌, ◌≤◌, ◌+◌, ◌-◌, ◌&&◌, ℕ, Option, None, Some, IfOk, IfSome};
+ghost use Rattle.ffv1_wire.specs.Passage.{passage};
+ghost use Rattle.ffv1_ebml.specs.Elements.{IsWithin};
+ghost use Rattle.ffv1_ebml.specs.declared.element.Element.{Element};
+ghost use Rattle.ffv1_reads.specs.Reads.{Answers};
+ghost use Rattle.ffv1_matroska.specs.Internal.{bytes_of};
+ghost use Rattle.ffv1_matroska.specs.Internal.Ending.{AnswersOrNone};
+ghost use Rattle.ffv1_matroska.specs.Places.{amount};
+ghost use Rattle.ffv1_matroska.specs.Segments.{child_by, cluster_child, cluster_read, crc_read};
+ghost use Rattle.ffv1_matroska.specs.Segments.{first_child, group_child, group_read, header_read};
+ghost use Rattle.ffv1_matroska.specs.Segments.{is_filler, is_of_cluster, is_section, known_child};
+ghost use Rattle.ffv1_matroska.specs.Segments.{other_read, segment_child, segment_read, step_read};
+ghost use Rattle.ffv1_matroska.specs.declared.place.Step.{Step};
+
+use crate::block::{pass_on, read_block};
+use crate::header::header_or_end;
+use crate::place::{
+    Place, Step, closed, cluster_at, cluster_entered, group_at, segment_at, summed_at,
+};
+use ffv1_ebml::{Element, Sum, next_element, pass_content};
+use ffv1_reads::{FileFault, take};
+use ffv1_wire::ByteIn;
+
+pub(crate) const CLUSTER: u32 = 0x1F43_B675;
+
+const SIMPLE_BLOCK: u32 = 0xA3;
+
+const BLOCK_GROUP: u32 = 0xA0;
+
+const BLOCK: u32 = 0xA1;
+
+const CRC_32: u32 = 0xBF;
+
+/// Whether an element of a Segment is one whose CRC-32 is judged: SeekHead, Info, Tracks, Cues,
+/// Attachments, Chapters or Tags.
+#[tactic(auto, unfolding(crate::specs::Segments::is_section))]
+fn is_section(ident: u32) -> bool
+    ensures { result ≡ is_section ident }
+{
+    ident == 0x114D_9B74
+        || ident == 0x1549_A966
+        || ident == 0x1654_AE6B
+        || ident == 0x1C53_BB6B
+        || ident == 0x1941_A469
+        || ident == 0x1043_A770
+        || ident == 0x1254_C367
+}
+
+/// Whether it is Void or CRC-32.
+#[tactic(auto, unfolding(crate::specs::Segments::is_filler))]
+fn is_filler(ident: u32) -> bool
+    ensures { result ≡ is_filler ident }
+{
+    ident == 0xEC || ident == 0xBF
+}
+
+/// Whether it is one of a Cluster: SimpleBlock, BlockGroup, Timestamp, Position, PrevSize,
+/// SilentTracks or EncryptedBlock.
+#[tactic(auto, unfolding(crate::specs::Segments::is_of_cluster))]
+fn is_of_cluster(ident: u32) -> bool
+    ensures { result ≡ is_of_cluster ident }
+{
+    ident == SIMPLE_BLOCK
+        || ident == BLOCK_GROUP
+        || ident == 0xE7
+        || ident == 0xA7
+        || ident == 0xAB
+        || ident == 0x5854
+        || ident == 0xAF
+}
+
+/// Whether it is one of a Cluster of unknown size, in which the place is.
+fn is_loose(place: Place, ident: u32) -> bool
+    ensures { result ≡ (place.loose && is_of_cluster ident) }
+{
+    place.loose && is_of_cluster(ident)
+}
+
+/// An element of a BlockGroup, after its header. `BadElement` where its size is unknown.
+#[tactic(auto, unfolding(crate::specs::Segments::group_child))]
+fn group_child<R: ByteIn>(
+    input: &mut R,
+    track: u64,
+    element: Element,
+    place: Place,
+) -> Result<Option<Step>, FileFault>
+    ensures answer { Answers (λ (s : Option Step). s)
+        (group_child track element.ident place element.size)
+        (passage R.remaining R.failures input.old input.new) result }
+    ensures sized { IfOk result (λ o. IfSome o (λ s. IfSome s.frame
+        (λ n. (0 < n) × (n ≤ 67108864)))) }
+    ensures same { IfOk result (λ o. IfSome o (λ s. amount s.place ≡ amount place)) }
+{
+    let Some(size) = element.size else {
+        return Err(FileFault::BadElement);
+    };
+    if element.ident == BLOCK {
+        return read_block(input, track, size, place);
+    }
+    pass_on(input, size, place)
+}
+
+/// The next element of a BlockGroup that has bytes left.
+#[tactic(auto, unfolding(crate::specs::Segments::group_read))]
+fn read_group<R: ByteIn>(input: &mut R, track: u64, place: Place) -> Result<Option<Step>, FileFault>
+    requires { 0 < place.group }
+    ensures answer { Answers (λ (s : Option Step). s) (group_read track place)
+        (passage R.remaining R.failures input.old input.new) result }
+    ensures sized { IfOk result (λ o. IfSome o (λ s. IfSome s.frame
+        (λ n. (0 < n) × (n ≤ 67108864)))) }
+    ensures less { IfOk result (λ o. IfSome o (λ s. amount s.place < amount place)) }
+{
+    let mut sum = place.sum;
+    let element = next_element(input, place.group, &mut sum)?;
+    group_child(input, track, element, group_at(place, element.left, sum))
+}
+
+/// An element of a Cluster, of so many bytes, after its header.
+#[tactic(auto, unfolding(crate::specs::Segments::cluster_child))]
+fn cluster_child<R: ByteIn>(
+    input: &mut R,
+    track: u64,
+    element: (u32, u64),
+    place: Place,
+) -> Result<Option<Step>, FileFault>
+    requires { place.group ≡ 0 }
+    ensures answer { Answers (λ (s : Option Step). s)
+        (cluster_child track element.0 element.1 place)
+        (passage R.remaining R.failures input.old input.new) result }
+    ensures sized { IfOk result (λ o. IfSome o (λ s. IfSome s.frame
+        (λ n. (0 < n) × (n ≤ 67108864)))) }
+    ensures most { IfOk result (λ o. IfSome o
+        (λ s. amount s.place ≤ amount place + element.1)) }
+{
+    let (ident, size) = element;
+    if ident == SIMPLE_BLOCK {
+        return read_block(input, track, size, place);
+    }
+    if ident == BLOCK_GROUP {
+        return closed(group_at(place, size, place.sum));
+    }
+    pass_on(input, size, place)
+}
+
+/// The CRC-32 of a Cluster. `Checksum` where nothing stands after it and it is not the sum of that.
+fn read_crc<R: ByteIn>(input: &mut R, place: Place) -> Result<Option<Step>, FileFault>
+    ensures answer { Answers (λ (s : Option Step). s) (crc_read place)
+        (passage R.remaining R.failures input.old input.new) result }
+    ensures sized { IfOk result (λ o. IfSome o (λ s. IfSome s.frame
+        (λ n. (0 < n) × (n ≤ 67108864)))) }
+    ensures same { IfOk result (λ o. IfSome o (λ s. amount s.place ≡ amount place)) }
+{
+    let mut stated = [0u8; 4];
+    take(input, &mut stated)?;
+    let sum = Sum::Awaits {
+        stated: u32::from_le_bytes(stated),
+        so_far: !0,
+    };
+    closed(summed_at(place, sum))
+}
+
+/// The first element of a Cluster, of so many bytes, after its header: its CRC-32, or there is none.
+#[tactic(auto, unfolding(crate::specs::Segments::first_child))]
+fn first_child<R: ByteIn>(
+    input: &mut R,
+    track: u64,
+    element: (u32, u64),
+    place: Place,
+) -> Result<Option<Step>, FileFault>
+    requires { place.group ≡ 0 }
+    ensures answer { Answers (λ (s : Option Step). s)
+        (first_child track element.0 element.1 place)
+        (passage R.remaining R.failures input.old input.new) result }
+    ensures sized { IfOk result (λ o. IfSome o (λ s. IfSome s.frame
+        (λ n. (0 < n) × (n ≤ 67108864)))) }
+    ensures most { IfOk result (λ o. IfSome o
+        (λ s. amount s.place ≤ amount place + element.1)) }
+{
+    if element.0 == CRC_32 && element.1 == 4 {
+        return read_crc(input, place);
+    }
+    cluster_child(input, track, element, summed_at(place, Sum::Absent))
+}
+
+/// An element of a Cluster, after its header. `BadElement` where its size is unknown.
+#[tactic(auto, unfolding(crate::specs::Segments::known_child))]
+fn known_child<R: ByteIn>(
+    input: &mut R,
+    track: u64,
+    element: Element,
+    place: Place,
+) -> Result<Option<Step>, FileFault>
+    requires { place.group ≡ 0 }
+    ensures answer { Answers (λ (s : Option Step). s)
+        (known_child track element.ident place element.size)
+        (passage R.remaining R.failures input.old input.new) result }
+    ensures sized { IfOk result (λ o. IfSome o (λ s. IfSome s.frame
+        (λ n. (0 < n) × (n ≤ 67108864)))) }
+    ensures most { IfOk result (λ o. IfSome o
+        (λ s. amount s.place ≤ amount place + bytes_of element.size)) }
+{
+    let Some(size) = element.size else {
+        return Err(FileFault::BadElement);
+    };
+    match place.sum {
+        Sum::Begins => first_child(input, track, (element.ident, size), place),
+        _ => cluster_child(input, track, (element.ident, size), place),
+    }
+}
+
+/// The next element of a Cluster that has bytes left.
+#[tactic(auto, unfolding(crate::specs::Segments::cluster_read))]
+fn read_cluster<R: ByteIn>(
+    input: &mut R,
+    track: u64,
+    place: Place,
+) -> Result<Option<Step>, FileFault>
+    requires some { 0 < place.cluster }
+    requires alone { place.group ≡ 0 }
+    ensures answer { Answers (λ (s : Option Step). s) (cluster_read track place)
+        (passage R.remaining R.failures input.old input.new) result }
+    ensures sized { IfOk result (λ o. IfSome o (λ s. IfSome s.frame
+        (λ n. (0 < n) × (n ≤ 67108864)))) }
+    ensures less { IfOk result (λ o. IfSome o (λ s. amount s.place < amount place)) }
+{
+    let mut sum = place.sum;
+    let element = next_element(input, place.cluster, &mut sum)?;
+    known_child(input, track, element, cluster_at(place, element.left, sum))
+}
+
+/// An element of a Segment that holds no frames, of so many bytes, after its header.
+///
+/// `BadElement` where it may not stand there, and then as `pass_content`.
+#[tactic(auto, unfolding(crate::specs::Segments::other_read))]
+pub(crate) fn pass_other<R: ByteIn>(
+    input: &mut R,
+    ident: u32,
+    size: u64,
+    place: Place,
+) -> Result<Option<Step>, FileFault>
+    requires cluster { place.cluster ≡ 0 }
+    requires group { place.group ≡ 0 }
+    ensures answer { Answers (λ (s : Option Step). s) (other_read ident size place)
+        (passage R.remaining R.failures input.old input.new) result }
+    ensures sized { IfOk result (λ o. IfSome o (λ s. IfSome s.frame
+        (λ n. (0 < n) × (n ≤ 67108864)))) }
+    ensures same { IfOk result (λ o. IfSome o (λ s. amount s.place ≡ amount place)) }
+{
+    if is_section(ident) {
+        pass_content(input, size)?;
+        return Ok(Some(Step {
+            frame: None,
+            place: segment_at(place, false, place.segment),
+        }));
+    }
+    if is_filler(ident) {
+        return pass_on(input, size, place);
+    }
+    Err(FileFault::BadElement)
+}
+
+/// An element of a Segment, of so many bytes, after its header.
+#[tactic(auto, unfolding(crate::specs::Segments::segment_child))]
+fn sized_child<R: ByteIn>(
+    input: &mut R,
+    track: u64,
+    element: (u32, u64),
+    place: Place,
+) -> Result<Option<Step>, FileFault>
+    requires cluster { place.cluster ≡ 0 }
+    requires group { place.group ≡ 0 }
+    ensures answer { Answers (λ (s : Option Step). s)
+        (segment_child track element.0 place (Some element.1))
+        (passage R.remaining R.failures input.old input.new) result }
+    ensures sized { IfOk result (λ o. IfSome o (λ s. IfSome s.frame
+        (λ n. (0 < n) × (n ≤ 67108864)))) }
+    ensures most { IfOk result (λ o. IfSome o
+        (λ s. amount s.place ≤ amount place + element.1)) }
+{
+    let (ident, size) = element;
+    if ident == CLUSTER {
+        return Ok(Some(Step {
+            frame: None,
+            place: cluster_entered(place, size),
+        }));
+    }
+    if is_loose(place, ident) {
+        return cluster_child(input, track, element, place);
+    }
+    pass_other(input, ident, size, place)
+}
+
+/// An element of a Segment, after its header.
+///
+/// `BadElement` where its size is unknown and it is no Cluster, or where it may not stand there.
+#[tactic(auto, unfolding(crate::specs::Segments::segment_child))]
+fn segment_child<R: ByteIn>(
+    input: &mut R,
+    track: u64,
+    element: Element,
+    place: Place,
+) -> Result<Option<Step>, FileFault>
+    requires cluster { place.cluster ≡ 0 }
+    requires group { place.group ≡ 0 }
+    ensures answer { Answers (λ (s : Option Step). s)
+        (segment_child track element.ident place element.size)
+        (passage R.remaining R.failures input.old input.new) result }
+    ensures sized { IfOk result (λ o. IfSome o (λ s. IfSome s.frame
+        (λ n. (0 < n) × (n ≤ 67108864)))) }
+    ensures most { IfOk result (λ o. IfSome o
+        (λ s. amount s.place ≤ amount place + bytes_of element.size)) }
+{
+    match element.size {
+        Some(size) => sized_child(input, track, (element.ident, size), place),
+        None => {
+            if element.ident != CLUSTER {
+                return Err(FileFault::BadElement);
+            }
+            Ok(Some(Step {
+                frame: None,
+                place: segment_at(place, true, place.segment),
+            }))
+        }
+    }
+}
+
+/// The header of the next element of a Segment; None at its end.
+#[tactic(auto, unfolding(crate::specs::Segments::header_read))]
+pub(crate) fn next_header<R: ByteIn>(
+    input: &mut R,
+    place: Place,
+) -> Result<Option<Element>, FileFault>
+    ensures answer { AnswersOrNone (λ (e : Option Element). e) (header_read place)
+        (passage R.remaining R.failures input.old input.new) result }
+    ensures within { IfOk result (λ o. IfSome o (λ e. IsWithin e (place.segment - 2))) }
+    ensures some { IfOk result (λ o. IfSome o (λ e. 0 < place.segment)) }
+{
+    if place.segment == 0 {
+        return Ok(None);
+    }
+    if place.endless {
+        return header_or_end(input, place.segment);
+    }
+    let mut none = Sum::Absent;
+    let element = next_element(input, place.segment, &mut none)?;
+    Ok(Some(element))
+}
+
+/// The next element of a Segment; None at its end.
+#[tactic(auto, unfolding(crate::specs::Segments::segment_read))]
+fn read_segment<R: ByteIn>(
+    input: &mut R,
+    track: u64,
+    place: Place,
+) -> Result<Option<Step>, FileFault>
+    ensures answer { AnswersOrNone (λ (s : Option Step). s) (segment_read track place)
+        (passage R.remaining R.failures input.old input.new) result }
+    ensures sized { IfOk result (λ o. IfSome o (λ s. IfSome s.frame
+        (λ n. (0 < n) × (n ≤ 67108864)))) }
+    ensures less { IfOk result (λ o. IfSome o (λ s. amount s.place < amount place)) }
+{
+    let Some(element) = next_header(input, place)? else {
+        return Ok(None);
+    };
+    let after = segment_at(place, place.loose, element.left);
+    segment_child(input, track, element, after)
+}
+
+/// The next step, in the innermost that has bytes left; None at the end of the Segment.
+#[tactic(auto, unfolding(crate::specs::Segments::step_read))]
+pub(crate) fn step<R: ByteIn>(
+    input: &mut R,
+    track: u64,
+    place: Place,
+) -> Result<Option<Step>, FileFault>
+    ensures answer { AnswersOrNone (λ (s : Option Step). s) (step_read track place)
+        (passage R.remaining R.failures input.old input.new) result }
+    ensures sized { IfOk result (λ o. IfSome o (λ s. IfSome s.frame
+        (λ n. (0 < n) × (n ≤ 67108864)))) }
+    ensures less { IfOk result (λ o. IfSome o (λ s. amount s.place < amount place)) }
+{
+    if place.group > 0 {
+        return read_group(input, track, place);
+    }
+    if place.cluster > 0 {
+        return read_cluster(input, track, place);
+    }
+    read_segment(input, track, place)
+}

@@ -1,0 +1,168 @@
+//! Tracks, in memory.
+
+ghost use Rattle.std.specs.Prelude.{◌≡◌, min};
+ghost use Rattle.ffv1_ebml.specs.Children.{slices};
+ghost use Rattle.ffv1_matroska.specs.Internal.{contents, track_found, tracks};
+ghost use Rattle.ffv1_matroska.specs.Rates.{greatest};
+ghost use Rattle.ffv1_matroska.specs.Tracks.{content_at, is_format, number_at, record_in};
+ghost use Rattle.ffv1_matroska.specs.Tracks.{record_of, track_at, track_in, track_of};
+
+use crate::rate::rate_of;
+use ffv1_ebml::{Child, find, first_child, judge, number, text};
+use ffv1_reads::FileFault;
+
+const TRACK_ENTRY: u32 = 0xAE;
+
+const TRACK_NUMBER: u32 = 0xD7;
+
+const TRACK_TYPE: u32 = 0x83;
+
+const CODEC_ID: u32 = 0x86;
+
+const CODEC_PRIVATE: u32 = 0x63A2;
+
+const CONTENT_ENCODINGS: u32 = 0x6D80;
+
+const DEFAULT_DURATION: u32 = 0x23_E383;
+
+const VIDEO: u32 = 0xE0;
+
+const PIXEL_WIDTH: u32 = 0xB0;
+
+const PIXEL_HEIGHT: u32 = 0xBA;
+
+/// A track of FFV1 video: the number of its blocks, and what its head says.
+#[derive(Clone, Copy)]
+pub(crate) struct Track<'a> {
+    pub(crate) number: u64,
+    pub(crate) width: u32,
+    pub(crate) height: u32,
+    pub(crate) rate: u32,
+    pub(crate) scale: u32,
+    pub(crate) config_record: &'a [u8],
+}
+
+/// The number that the first element with this ID holds, and 0 where there is none.
+fn number_at(content: &[u8], ident: u32) -> Result<u64, FileFault>
+    ensures { result ≡ number_at ident content.now }
+{
+    match find(content, ident)? {
+        Some(field) => number(field, 0),
+        None => Ok(0),
+    }
+}
+
+/// The content of the first element with this ID, and no bytes where there is none.
+pub(crate) fn content_at(content: &[u8], ident: u32) -> Result<&[u8], FileFault>
+    ensures { contents result ≡ content_at ident content.now }
+{
+    match find(content, ident)? {
+        Some(field) => Ok(field),
+        None => Ok(&content[..0]),
+    }
+}
+
+/// Whether a format of Video for Windows is that of FFV1.
+fn is_format(format: &[u8]) -> bool
+    ensures { result ≡ is_format format.now }
+{
+    format.len() >= 40 && &format[16..20] == b"FFV1".as_slice()
+}
+
+/// The configuration record of an entry of this codec, where that is FFV1.
+fn record_of<'a>(codec: &[u8], content: &'a [u8]) -> Result<Option<&'a [u8]>, FileFault>
+    ensures { slices result ≡ record_of codec.now content.now }
+{
+    if codec == b"V_FFV1".as_slice() {
+        let record = content_at(content, CODEC_PRIVATE)?;
+        return Ok(Some(record));
+    }
+    if codec != b"V_MS/VFW/FOURCC".as_slice() {
+        return Ok(None);
+    }
+    let format = content_at(content, CODEC_PRIVATE)?;
+    if is_format(format) {
+        return Ok(Some(&format[40..]));
+    }
+    Ok(None)
+}
+
+/// The configuration record of an entry, where that is FFV1 video.
+#[tactic(auto, unfolding(crate::specs::Tracks::record_in))]
+fn record_in(content: &[u8]) -> Result<Option<&[u8]>, FileFault>
+    ensures { slices result ≡ record_in content.now }
+{
+    if number_at(content, TRACK_TYPE)? != 1 {
+        return Ok(None);
+    }
+    let codec = content_at(content, CODEC_ID)?;
+    record_of(text(codec), content)
+}
+
+/// A number of samples; what passes 32 bits is taken as the greatest.
+fn samples(number: u64) -> u32
+    ensures { result ≡ min number greatest }
+{
+    number.min(4_294_967_295) as u32
+}
+
+/// The track of an entry with this record.
+#[tactic(auto, unfolding(crate::specs::Tracks::track_of))]
+fn track_of<'a>(content: &[u8], config_record: &'a [u8]) -> Result<Track<'a>, FileFault>
+    ensures { tracks result ≡ track_of content.now config_record.now }
+{
+    if find(content, CONTENT_ENCODINGS)?.is_some() {
+        return Err(FileFault::Encoded);
+    }
+    let number = number_at(content, TRACK_NUMBER)?;
+    let (rate, scale) = rate_of(number_at(content, DEFAULT_DURATION)?);
+    let video = content_at(content, VIDEO)?;
+    let width = samples(number_at(video, PIXEL_WIDTH)?);
+    let height = samples(number_at(video, PIXEL_HEIGHT)?);
+    Ok(Track {
+        number,
+        width,
+        height,
+        rate,
+        scale,
+        config_record,
+    })
+}
+
+/// The track of an element of Tracks, where that is an entry of FFV1 video.
+#[tactic(auto, unfolding(crate::specs::Tracks::track_at))]
+fn track_at<'a>(child: &Child<'a>) -> Result<Option<Track<'a>>, FileFault>
+    ensures { track_found result ≡ track_at child.now.ident child.now.content.now }
+{
+    if child.ident != TRACK_ENTRY {
+        return Ok(None);
+    }
+    let Some(config_record) = record_in(child.content)? else {
+        return Ok(None);
+    };
+    let track = track_of(child.content, config_record)?;
+    Ok(Some(track))
+}
+
+/// The track that the content of Tracks says: its first entry of FFV1 video.
+///
+/// Where its CRC-32 differs, `Checksum`; where no entry is FFV1 video, `NoFfv1`; `Encoded` where the
+/// one that counts has ContentEncodings. `Truncated` and `BadElement` where an element that is looked
+/// at can't be read: those of the content up to the entry that counts, and of an entry those up to
+/// the last of the fields that are looked for, in the order TrackType, CodecID, CodecPrivate,
+/// ContentEncodings, TrackNumber, DefaultDuration, Video, and in that PixelWidth and PixelHeight. A
+/// field is looked for only while the entry may be one of FFV1 video.
+#[tactic(auto, unfolding(crate::specs::Tracks::track_in))]
+pub(crate) fn read_track(content: &[u8]) -> Result<Track<'_>, FileFault>
+    ensures { tracks result ≡ track_in content.now }
+{
+    judge(content)?;
+    let mut rest = content;
+    while let Some(child) = first_child(rest)? {
+        if let Some(track) = track_at(&child)? {
+            return Ok(track);
+        }
+        rest = child.rest;
+    }
+    Err(FileFault::NoFfv1)
+}

@@ -1,0 +1,5 @@
+pub mod Results
+pub mod Reading
+pub mod WantedBytes
+pub mod LoopReadings
+pub mod KnownLaws

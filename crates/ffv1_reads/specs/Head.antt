@@ -1,0 +1,19 @@
+-- The head of a file, apart from where its record lies in memory.
+use Rattle.std.specs.Prelude.{ℕ, List}
+use Rattle.ffv1_reads.specs.declared.head.FileHead.{FileHead}
+
+pub record Head : Type 0 where
+  pub width : ℕ
+  pub height : ℕ
+  pub rate : ℕ
+  pub scale : ℕ
+  pub config_record : List ℕ
+
+abbrev pub head_of : {A : Type 0} → FileHead A → Head
+head_of h = record {
+  width = h.width;
+  height = h.height;
+  rate = h.rate;
+  scale = h.scale;
+  config_record = h.config_record.items;
+}

@@ -1,0 +1,121 @@
+//! Bytes are taken, passed and kept.
+
+ghost use Rattle.std.specs.Prelude.{◌≡◌, ◌+◌, ◌<◌, ◌≤◌, IfOk, OnErr, OnOk, drop, length, take};
+ghost use Rattle.ffv1_wire.specs.Failures.{Counted};
+ghost use Rattle.ffv1_wire.specs.Passage.{passage};
+ghost use Rattle.ffv1_wire.specs.Reads.{Fills, FillsBeginning};
+ghost use Rattle.ffv1_reads.specs.Reads.{Answers, AppendsSome, Begins, Kept, appended, passed};
+ghost use Rattle.ffv1_reads.specs.Reads.{taken, wanted};
+
+use crate::fault::FileFault;
+use ffv1_wire::{ByteIn, Failed, read_full, skip};
+use std::alloc::Allocator;
+
+/// Fills `buf`.
+///
+/// `Truncated` where the input ends before, `Read` where a read failed; `buf` may hold a beginning
+/// of the bytes then.
+pub fn take<R: ByteIn>(input: &mut R, buf: &mut [u8]) -> Result<(), FileFault>
+    ensures { Answers (λ (_ : Unit {0}). buf.new) (taken (length buf.old))
+        (passage R.remaining R.failures input.old input.new) result }
+{
+    match read_full(input, buf) {
+        Ok(len) => if len < buf.len() {
+            Err(FileFault::Truncated)
+        } else {
+            Ok(())
+        },
+        Err(_) => Err(FileFault::Read),
+    }
+}
+
+/// Passes so many bytes.
+///
+/// `Truncated` where the input ends before, `Read` where a read failed; those before are read.
+pub fn pass<R: ByteIn>(input: &mut R, count: u64) -> Result<(), FileFault>
+    ensures { Answers (λ (_ : Unit {0}). tt) (passed count)
+        (passage R.remaining R.failures input.old input.new) result }
+{
+    match skip(input, count) {
+        Ok(len) => if len < count {
+            Err(FileFault::Truncated)
+        } else {
+            Ok(())
+        },
+        Err(_) => Err(FileFault::Read),
+    }
+}
+
+/// The most bytes that room is made for beyond as many as were read.
+const ROOM: usize = 65536;
+
+/// Fills the bytes from a place on, and answers how many were read: fewer only where the input has
+/// ended.
+fn fill_from<R: ByteIn>(input: &mut R, done: usize, bytes: &mut [u8]) -> Result<usize, Failed>
+    requires { done ≤ length bytes.old }
+    ensures kept { take done bytes.new ≡ take done bytes.old }
+    ensures bound { IfOk result (λ n. done + n ≤ length bytes.old) }
+    ensures ok { IfOk result
+        (λ n. Fills (R.remaining input.old) (R.remaining input.new) n (drop done bytes.new)) }
+    ensures err { OnErr result (FillsBeginning (R.remaining input.old) (R.remaining input.new)
+        (drop done bytes.new)) }
+    ensures counted { Counted (R.failures input.old) (R.failures input.new) result }
+{
+    read_full(input, &mut bytes[done..])
+}
+
+/// Reads `more` bytes after those that the vector has. `Truncated` where the input ends before;
+/// after a fault the vector holds a beginning of them after the others.
+fn append<R: ByteIn, A: Allocator>(
+    input: &mut R,
+    more: usize,
+    bytes: &mut Vec<u8, A>,
+) -> Result<(), FileFault>
+    requires { 0 < more }
+    ensures answer { Answers (λ (_ : Unit {0}). bytes.new.items) (appended bytes.old.items more)
+        (passage R.remaining R.failures input.old input.new) result }
+    ensures err { OnErr result (AppendsSome (R.remaining input.old) more bytes.old.items
+        bytes.new.items) }
+    ensures long { OnOk result (length bytes.new.items ≡ length bytes.old.items + more) }
+{
+    let done = bytes.len();
+    bytes.reserve_exact(more)?;
+    bytes.resize(done + more, 0)?;
+    match fill_from(input, done, bytes.as_mut_slice()) {
+        Ok(len) => {
+            if len < more {
+                bytes.truncate(done + len);
+                return Err(FileFault::Truncated);
+            }
+            Ok(())
+        }
+        Err(_) => {
+            bytes.truncate(done);
+            Err(FileFault::Read)
+        }
+    }
+}
+
+/// Reads `size` bytes in place of what the vector has. Room is made bit by bit, each time for at
+/// most as many bytes as were read so far and 65536 more, and never beyond `size`.
+///
+/// `Truncated` where the input ends before, `Read` where a read failed, `OutOfMemory` where memory
+/// was refused for the next of them; after a fault the vector holds a beginning of the bytes.
+pub fn fill<R: ByteIn, A: Allocator>(
+    input: &mut R,
+    size: usize,
+    bytes: &mut Vec<u8, A>,
+) -> Result<(), FileFault>
+    ensures answer { Answers (λ (_ : Unit {0}). bytes.new.items) (wanted Kept size)
+        (passage R.remaining R.failures input.old input.new) result }
+    ensures err { OnErr result (Begins (R.remaining input.old) size bytes.new.items) }
+    ensures long { OnOk result (length bytes.new.items ≡ size) }
+{
+    bytes.clear();
+    while bytes.len() < size {
+        let done = bytes.len();
+        let more = (size - done).min(done + ROOM);
+        append(input, more, bytes)?;
+    }
+    Ok(())
+}

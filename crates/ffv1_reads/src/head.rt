@@ -1,0 +1,18 @@
+//! What the head of a file says.
+
+use std::alloc::{Allocator, Global};
+
+/// The head of a file of FFV1 frames.
+#[derive(Drop, Debug)]
+pub struct FileHead<A: Allocator = Global> {
+    /// In samples.
+    pub width: u32,
+    /// In samples.
+    pub height: u32,
+    /// With `scale`, frames a second as `rate / scale`; both 0 where they are unknown.
+    pub rate: u32,
+    /// See `rate`.
+    pub scale: u32,
+    /// The configuration record of FFV1, as it stands in the file.
+    pub config_record: Vec<u8, A>,
+}

@@ -1,0 +1,25 @@
+//! What the readers of files share, whatever the container: why a file cannot be read or written,
+//! what its head says, bytes that are taken, passed and kept, and what a call on a reader of bytes
+//! answers.
+//!
+//! A *reading* is a function on bytes: the value that they read as and what is left of them, or why
+//! they read as none (`specs/Reads`). A call answers by a reading: where it gives a value, the bytes
+//! that it read are that value, whatever stands after them; a fault is the first that they have;
+//! and a read fails, memory is refused and the input ends only where more bytes are wanted.
+//!
+//! ```text
+//! let mut name = [0u8; 4];
+//! take(input, &mut name)?;
+//! pass(input, 8)?;
+//! fill(input, 65536, &mut frame)?;
+//! ```
+#![tactic(auto)]
+
+pub mod bytes;
+pub mod fault;
+pub mod head;
+pub mod laws;
+
+pub use bytes::{fill, pass, take};
+pub use fault::FileFault;
+pub use head::FileHead;
