@@ -18,6 +18,7 @@ import commands
 import ffv1
 import files
 from known_answers import cases
+from known_answers.case import fault_of
 
 
 def contents(folder):
@@ -122,15 +123,6 @@ class Long:
 
     def __len__(self):
         return 2 ** 31
-
-
-def fault_of(action):
-    """The number of the fault that an action meets."""
-    try:
-        action()
-    except ffv1.Fault as fault:
-        return fault.number
-    return None
 
 
 def example_checks():

@@ -14,6 +14,7 @@ import ffv1
 import matroska
 from known_answers import matroska as known
 from known_answers import matroska_tracks, matroska_written
+from known_answers.case import fault_of
 from known_answers.matroska import C, FRAME, H, RECORD, T, element, spell
 from random_matroska import Small, made, written
 
@@ -73,15 +74,6 @@ def read_failing(data):
     """The answer where a read behind these bytes fails."""
     failing = Failing(data)
     return Answer(failing.read, failing.file.tell)
-
-
-def fault_of(action):
-    """The number of the fault that an action meets, or none."""
-    try:
-        action()
-    except ffv1.Fault as fault:
-        return fault.number
-    return None
 
 
 def same_whatever(data, answer):

@@ -14,8 +14,10 @@ import sys
 
 sys.dont_write_bytecode = True
 
+import ebml
 import ffv1
 import files
+import matroska
 from ffv1 import Fault
 
 
@@ -179,9 +181,27 @@ def pack(source, out, choice):
 
 # --------------------------------------------------------------------------- unpack, check and show
 
+EBML = b"\x1a"                  # the first byte of a file of Matroska, of the ID of its EBML header
+
+
+def after(data, read):
+    """A reading that gives these bytes first."""
+    def more(count):
+        nonlocal data
+        given, data = data[:count], data[count:]
+        return given or read(count)
+    return more
+
+
 def opened(source):
-    """The head of a file, its configuration, and its frames, of every RIFF."""
-    head, frames = files.open_avi(source, True)
+    """The head of a file, its configuration, and its frames. Own: what begins with the byte 1A is
+    Matroska, and all else an AVI, which is read to the end of its last RIFF."""
+    first = source.some(1)
+    read = after(first, source.read)
+    if first == EBML:
+        head, _, frames = matroska.open_matroska(ebml.Input(read))
+    else:
+        head, frames = files.open_avi(files.Source(read), True)
     config = ffv1.read_record(head.record, head.width, head.height)
     config.wide = True
     return head, config, frames

@@ -109,10 +109,17 @@ class Maker:
         self.numbers.shuffle(fields)
         return self.sized("AE", b"".join(fields))
 
-    def tracks(self):
-        """The element Tracks, with sound before or behind, and what it says."""
+    def video(self):
+        """The record, and the width and the height."""
         record = self.numbers.randbytes(self.one_of(0, 26, 60))
-        width, height = self.numbers.randrange(9000), self.numbers.randrange(9000)
+        return record, self.numbers.randrange(9000), self.numbers.randrange(9000)
+
+    def frame(self):
+        return self.one_of(FRAME, self.numbers.randbytes(self.numbers.randrange(1, 40)))
+
+    def tracks(self):
+        """The element Tracks, with sound before or after it, and what it says."""
+        record, width, height = self.video()
         duration, rate, scale = self.one_of((0, 0, 0), (40000000, 25, 1), (41666666, 24, 1),
                                             (33366667, 30000, 1001), (240000000, 25, 6))
         sound = self.sized("AE", self.number("D7", self.track + 1) + self.number("83", 2)
@@ -132,7 +139,7 @@ class Maker:
 
     def item(self):
         """An element of any Cluster, and its frames."""
-        frame = self.one_of(FRAME, self.numbers.randbytes(self.numbers.randrange(1, 40)))
+        frame = self.frame()
         other = self.one_of(0, 0, 0, 1)
         kind = self.numbers.randrange(8)
         if kind < 4:
@@ -165,7 +172,12 @@ class Maker:
 
 def made(numbers, name):
     """A file of elements of all kinds."""
-    maker = Maker(numbers)
+    return made_by(Maker(numbers), name)
+
+
+def made_by(maker, name):
+    """A file of a maker's elements."""
+    numbers = maker.numbers
     tracks, said = maker.tracks()
     parts = maker.between() + [(tracks, [])] + maker.between()
     for _ in range(numbers.randrange(4)):

@@ -7,8 +7,10 @@ import commands
 import ffv1
 import files
 import make_vectors
+from damage import cut, damaged, flipped, inserted
 from known_answers.containers import SOUND, chunk, chunk_list, format_of, numbers, riff
 from known_answers.riffs import further
+from matroska_files import mkv
 
 MOST_SAMPLES = 450                      # of all planes of a picture
 COUNTS = [0, 1, 1, 1, 2, 2, 2, 3]       # of pictures
@@ -19,27 +21,6 @@ class RandomCase:
 
     def __init__(self, words, given):
         self.words, self.given = words, given
-
-
-# ------------------------------------------------------------------------------------------- damage
-
-def flipped(dice, data, begin=0):
-    """Bytes with one or two bits flipped, behind a place."""
-    data = bytearray(data)
-    for _ in range(dice.choice([1, 1, 2])):
-        if begin < len(data):
-            data[dice.randrange(begin, len(data))] ^= 1 << dice.randrange(8)
-    return bytes(data)
-
-
-def cut(dice, data):
-    return data[:dice.randrange(len(data))] if data else data
-
-
-def inserted(dice, data, texts):
-    """Bytes with some others among them."""
-    place = dice.randrange(len(data) + 1)
-    return data[:place] + dice.choice(texts) + data[place:]
 
 
 # -------------------------------------------------------------------------------------------- texts
@@ -240,22 +221,23 @@ def with_size(dice, file):
     return file[:place] + numbers(new) + file[place + 4:]
 
 
-def avi(dice):
-    """A file that is good, or one that is cut or changed."""
+def file_of(dice):
+    """A file of either container."""
     config = config_of(dice)
     record, payloads = record_of(dice, config), payloads_of(dice, config)
+    return (avi if dice.random() < 0.55 else mkv)(dice, config, record, payloads)
+
+
+def avi(dice, config, record, payloads):
+    """A file that is good, or one that is cut or changed."""
     if dice.random() < 0.5:
         head = files.AviHead(config.width, config.height, *dice.choice([(25, 1), (0, 0)]), record)
         file = files.write_avi(head, payloads)
     else:
         file = made_file(dice, config, record, payloads)
     kind = dice.randrange(24)
-    if kind == 0:
-        return cut(dice, file)
-    if kind == 1:
-        return flipped(dice, file)
-    if kind == 2:
-        return flipped(dice, file, file.find(b"movi") + 12)
+    if kind < 3:
+        return damaged(dice, file, kind, file.find(b"movi") + 12)
     if kind == 3:
         return with_size(dice, file)
     if kind == 4:
@@ -357,8 +339,8 @@ def random_case(seed, number):
     if kind < 0.34:
         return RandomCase(pack_line(dice), {"in": text_of(dice), **given})
     if kind < 0.84:
-        return RandomCase(file_line(dice), {"in": avi(dice), **given})
+        return RandomCase(file_line(dice), {"in": file_of(dice), **given})
     if kind < 0.87:
         return RandomCase(["trial", "in"], {"in": text_of(dice)})
-    data = dice.choice([text_of, avi])(dice)
+    data = dice.choice([text_of, file_of])(dice)
     return RandomCase(any_line(dice), {"in": data, **given})

@@ -2,11 +2,13 @@
 """Command lines whose answers are known, and not from the model: they were worked out by hand from
 the formats. `check.py` asks them of the model, and `tests/commands` of the built program.
 """
-from known_answers import containers, lines, payloads, riffs, shown, texts, unpacking
+from known_answers import containers, lines, matroska_commands, payloads, riffs, shown, texts
+from known_answers import unpacking
 
 
 def cases():
     """All of them."""
-    for subject in [texts, payloads, unpacking, containers, riffs, shown, lines]:
+    for subject in [texts, payloads, unpacking, containers, riffs, shown, lines,
+                    matroska_commands]:
         for group in subject.CASES:
             yield from group()

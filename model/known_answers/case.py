@@ -6,6 +6,15 @@ import files
 ANY = None      # an output that is not compared
 
 
+def fault_of(action):
+    """The number of the fault that an action meets, or none."""
+    try:
+        action()
+    except ffv1.Fault as fault:
+        return fault.number
+    return None
+
+
 class Step:
     """One command line: its standard output, and the fault on standard error; or status 2, and
     clap's text there; or the count there, where standard output has what OUT would."""

@@ -1,3 +1,4 @@
+// SPDX-License-Identifier: MIT OR Apache-2.0
 //! The program `ffv1`: its arguments, its files, what it prints and its exit status. All else is
 //! `ffv1_engine`.
 #![tactic(auto)]

@@ -1,4 +1,4 @@
--- A reading looks at no byte behind those that it takes, and a shorter beginning of these ends where more are wanted.
+-- A reading looks at no byte after those that it takes, and a shorter beginning of these ends where more are wanted.
 use Rattle.std.proofs.Common.{◌≡◌, ℕ, suc, zero, ◌+◌, ◌-◌, ◌%◌, ◌≤◌, ◌<◌, inl, inr, ◌==◌, ◌&&◌, nat_lt, if◌then◌else◌, Bool, true, false, Option, Some, None, Result, Ok, Err, List, [], ◌∷◌, ◌++◌, length, take, drop, codes, ap, ◌∙◌, sym, refl, append_assoc, arith, length-append, length-drop}
 use Rattle.std.proofs.lemmas.Bool.{cases_lt, eqb-true}
 use Rattle.std.proofs.lemmas.List.{append_cancel_right, drop-append-le, take-append-drop, take-append-le}

@@ -10,7 +10,7 @@ use Rattle.ffv1_avi.specs.Walk.{Visit, entry_judged, entry_read, is_name, resume
 use Rattle.ffv1_reads.proofs.Results.{ok_is, read_on_twice, some_is}
 use Rattle.ffv1_reads.proofs.Reading.{Goes, goes_read, goes_refused, goes_same}
 
--- what the list has left behind a chunk is less
+-- what the list has left after a chunk is less
 judged_less : (left size : ℕ) (name text : List ℕ) (e : Entry) (rest : List ℕ) (a b : Bool) → nat_lt left (8 + padded size) ≡ a → (is_name name (codes "LIST") && nat_lt size 4) ≡ b → entry_judged left name size text ≡ Ok (Some e, rest) → e.left + 8 ≤ left
 judged_less left size name text e rest true b p q h = absurd (cc (rw p at h))
 judged_less left size name text e rest false true p q h = absurd (cc (rw (p, q) at h))
@@ -63,7 +63,7 @@ walk_enough {S = S} {Y = Y} visit (suc f) (suc g) left s text h k = on_entry (λ
         let less = entry_less left text e rest is in
         on_visit same e (omega (arith, less, h)) (omega (arith, less, k)) (visit s e rest)
 
--- a walk is its first chunk, and the walk behind it
+-- a walk is its first chunk, and the walk after it
 pub walk_step : {S Y : Type 0} (visit : Visit S Y) (left : ℕ) (s : S) (text : List ℕ) → walk visit left s text ≡ (entry_read left >>= visited visit (walk visit) s) text
 unfolding walk_up_to entry_read
 walk_step visit zero s text = refl
@@ -82,14 +82,14 @@ walk_step {S = S} {Y = Y} visit (suc n) s text = on_entry (entry_read (suc n) te
         let less = entry_less (suc n) text e rest is in
         on_visit e (omega (arith, less)) (visit s e rest)
 
--- what is read behind a walk's first header
+-- what is read after a walk's first header
 abbrev pub behind_entry : {S X Y : Type 0} → Visit S Y → S → (S × Option Y → Reading X) → Option Entry → Reading X
 behind_entry visit s k e = visited visit (walk visit) s e >>= k
 
 pub walk_then : {S X Y : Type 0} (visit : Visit S Y) (left : ℕ) (s : S) (k : S × Option Y → Reading X) (text : List ℕ) → (walk visit left s >>= k) text ≡ (entry_read left >>= behind_entry visit s k) text
 walk_then visit left s k text = ap (λ z. read_on z k) (walk_step visit left s text) ∙ read_on_twice (entry_read left text) (visited visit (walk visit) s) k
 
--- what is read behind a walk's first chunk
+-- what is read after a walk's first chunk
 abbrev pub behind_chunk : {S X Y : Type 0} → Visit S Y → ℕ → (S × Option Y → Reading X) → S × Option Y → Reading X
 behind_chunk visit left k p = resumed (walk visit left) p.0 p.1 >>= k
 

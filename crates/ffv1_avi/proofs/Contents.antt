@@ -104,7 +104,7 @@ rates_short size few text = elim (cases_lt (length text) (padded size)) [ inl le
         let room : nat_le 56 (length (take size text)) ≡ false = lt-leb _ _ (omega (arith, few, length-take size text)) in
         ap (λ z. read_on z (λ bytes. given (rates_of bytes))) (content_long size text all) ∙ rw (le-ltb _ _ all, room) refl
 
--- what the first 40 bytes of a format say, with the record behind them
+-- what the first 40 bytes of a format say, with the record after them
 abbrev pub format_front : List ℕ → List ℕ → Option Format
 format_front head config =
     if is_name (take 4 (drop 16 head)) (codes "FFV1") then Some (record { width = little_number 4 (drop 4 head); height = little_number 4 (drop 8 head); config_record = config }) else None

@@ -1,4 +1,4 @@
--- Readings that may come to the end of the input, one behind the other.
+-- Readings that may come to the end of the input, one after the other.
 use Rattle.std.proofs.Common.{◌≡◌, append_assoc, ℕ, Option, Some, None, Result, Ok, Err, List, [], ◌++◌, inl, inr, ap, ◌∙◌, refl, subst}
 use Rattle.ffv1_wire.proofs.Bytes.{consumes_then}
 use Rattle.ffv1_wire.specs.Passage.{Passage}
@@ -11,7 +11,7 @@ use Rattle.ffv1_avi.specs.Internal.Ending.{AnswersOrNone, Halts, ReadOrNone, Ref
 use Rattle.ffv1_reads.specs.Reads.{Read, Reading, Refused, Stop, given, read_on, ◌>>=◌}
 use Rattle.ffv1_reads.proofs.Reading.{Goes, goes_given, goes_read, goes_refused, goes_same}
 
--- nothing more is there behind other readings
+-- nothing more is there after other readings
 pub halts_last : {X : Type 0} (extent : Extent) {whole : Reading (Option X)} {old now : Option (List ℕ)} {before after : ℕ} (r : Reading (Option X)) (new : Option (List ℕ)) →
     Goes whole old before r now after → Halts extent r now new → Halts extent whole old new
 halts_last FirstMovi r new h stops = absurd stops
@@ -49,7 +49,7 @@ refused_none extent reading old new before after fault.Laced why = why
 refused_none extent reading old new before after fault.Checksum why = why
 refused_none extent reading old new before after fault.Rate why = why
 
--- a reading that was refused, behind others
+-- a reading that was refused, after others
 pub none_refused : {X Y : Type 0} (extent : Extent) {whole : Reading (Option X)} {old now : Option (List ℕ)} {before after : ℕ} (r : Reading Y) (k : Y → Reading (Option X)) (new : Option (List ℕ)) (last : ℕ) (f : FileFault) →
     Goes whole old before (r >>= k) now after → Refused r now new after last f → RefusedOrNone extent whole old new before last f
 none_refused extent {whole = whole} {old = old} {before = before} r k new last f h why = refused_none extent whole old new before last f (goes_refused r k new last f h why)

@@ -13,7 +13,7 @@ use Rattle.ffv1_avi.proofs.PassedBytes.{content_complete, content_sound, skip_co
 use Rattle.ffv1_reads.proofs.Results.{read_on_ok}
 use Rattle.ffv1_reads.proofs.Results.{ok_is, read_on_twice}
 
--- what is known behind a header, and behind a format
+-- what is known after a header, and after a format
 abbrev pub rates_next : Known → List ℕ → Option (Option (ℕ × ℕ)) → Known
 rates_next k bytes None = record { rates = Some (rates_of bytes); format = k.format }
 rates_next k bytes (Some old) = k

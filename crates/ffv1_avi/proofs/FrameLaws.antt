@@ -86,7 +86,7 @@ pub record IsEnd (stream left : ℕ) (text rest : List ℕ) : Type 0 where
   pub long : length (chunks_text chunks) ≡ left
   pub run : Run (TakesMovi stream) tt chunks tt
 
--- the next frame, behind chunks that are none
+-- the next frame, after chunks that are none
 pub record IsNext (stream left : ℕ) (text bytes : List ℕ) (after : ℕ) (rest : List ℕ) : Type 0 where
   pub chunks : List Chunk
   pub frame : Chunk

@@ -239,7 +239,7 @@ place_then input stream owed chunks sections riffs rest why sections_are riffs_a
     let R : List (List ℕ) → Type 0 = λ z. FramesThen (placed (in_riff input stream left 0) (length (chunks_text chunks)) owed) (chunks_text chunks ++ (sections_text sections ++ behind)) z why in
     subst R same one
 
--- a file that is refused up to the edge of an RIFF, or behind it, has given the frames before
+-- a file that is refused up to the edge of an RIFF, or after it, has given the frames before
 pub file_then : {file : List ℕ} {head : Head} {frames : List (List ℕ)} (is : RiffFile file head frames) (before after : List Riff) (rest : List ℕ) (why : Stop) → is.riffs ≡ before ++ after →
     riff_begun (in_riff (most_input - length (riffs_text before)) (number_of is) 0 (total is.extended - length (frames_to is before))) rest ≡ Err why → GivesThen (first_riff is ++ (riffs_text before ++ rest)) head (frames_to is before) why
 file_then is before after rest why parted refused =

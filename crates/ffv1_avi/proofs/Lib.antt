@@ -1,4 +1,3 @@
-mod Writing
 mod Sizes
 mod EndReadings
 mod Contents

@@ -35,7 +35,7 @@ readable_run cs h = go (streams_of cs) refl h
     go [] e h = (no_headers, run_none cs no_headers e)
     go (stream ∷ others) e h = (headed h.0, run_some cs stream others h.0 e h.1)
 
--- RIFF is read up to its parts, and then behind them
+-- RIFF is read up to its parts, and then after them
 pub open_begun : (extent : Extent) (file : List ℕ) (parts : List Part) (left : ℕ) (rest : List ℕ) → RiffBegins file parts left rest →
     open_read extent file ≡ top_read extent (length (parts_text parts) + left) (parts_text parts ++ rest)
 unfolding open_read
@@ -82,7 +82,7 @@ list_entry text room own chunks left rest is =
     ap (entry_read room) is.bytes
     ∙ entry_complete room (codes "LIST") is.size (own ++ (chunks_text chunks ++ rest)) refl is.sized is.fits (λ l. omega (arith, is.counted))
 
--- what a list has behind its own name
+-- what a list has after its own name
 pub list_count : (text : List ℕ) (room : ℕ) (own : List ℕ) (chunks : List Chunk) (left : ℕ) (rest : List ℕ) (is : ListBegins text room own chunks left rest) →
     little_number 4 is.size - 4 ≡ length (chunks_text chunks) + left
 list_count text room own chunks left rest is = omega (arith, is.counted)
@@ -95,11 +95,11 @@ header_goes extent s t size chunks left rest count each run =
     ap (λ n. read_on (walk (visit_header extent) n s (chunks_text chunks ++ rest)) (λ p. (passed (size % 2) >>= λ _. given p.0))) count
     ∙ ap (λ z. read_on z (λ p. (passed (size % 2) >>= λ _. given p.0))) (walk_complete (visit_header extent) (TakesHeader extent) (header_complete extent) chunks s t left rest each run)
 
--- a walk goes on behind hdrl, and behind the first stream
+-- a walk goes on after hdrl, and after the first stream
 abbrev going : Headers → Reading (Headers × Option (Head × Place))
 going found = given (found, None)
 
--- what stands in hdrl is read as its walk says, behind parts and chunks of it
+-- what stands in hdrl is read as its walk says, after parts and chunks of it
 module _ (extent : Extent) (file : List ℕ) (parts : List Part) (chunks : List Chunk) (left : ℕ) (rest : List ℕ) (is : HeaderBegins file parts chunks left rest) where
   -- a fault that the walk of hdrl comes to is the file's
   pub header_fault : (s t : Headers) (e : Stop) → Run (TakesHeader extent) no_headers (flat_map header_chunks parts) s → Run (TakesHeader extent) s chunks t → walk (visit_header extent) left t rest ≡ Err e → open_read extent file ≡ Err e

@@ -7,7 +7,7 @@ use Rattle.ffv1_reads.proofs.WantedBytes.{passed_complete, passed_sound, wanted_
 use Rattle.ffv1_reads.proofs.Results.{read_on_ok}
 use Rattle.ffv1_reads.proofs.Results.{ok_is}
 
--- bytes, and behind them their padding
+-- bytes, and after them their padding
 pub record IsContent (size : ℕ) (text bytes rest : List ℕ) : Type 0 where
   pub padding : List ℕ
   pub text_is : text ≡ (bytes ++ padding) ++ rest

@@ -10,7 +10,7 @@ use Rattle.ffv1_avi.specs.Streams.{limit}
 use Rattle.ffv1_avi.specs.Chunks.{AreChunks, AreParts, Chunk, IsStream, Part, chunk_text}
 use Rattle.ffv1_avi.specs.Chunks.{chunks_text, first_of, is_list, is_named, part_chunk, those}
 
--- the chunks of parts of RIFF, one behind the other
+-- the chunks of parts of RIFF, one after the other
 abbrev pub parts_text : List Part → List ℕ
 parts_text parts = flat_map (λ p. chunk_text (part_chunk p)) parts
 
@@ -19,7 +19,7 @@ abbrev pub AreReadable : List Chunk → Type 0
 AreReadable [] = Unit {0}
 AreReadable (stream ∷ others) = (head : Head) × IsStream FirstMovi stream head
 
--- a file of which RIFF has these parts, so many bytes more, and behind the parts these bytes
+-- a file of which RIFF has these parts, so many bytes more, and after the parts these bytes
 pub record RiffBegins (file : List ℕ) (parts : List Part) (left : ℕ) (rest : List ℕ)
     : Type 0 where
   pub riff_size : List ℕ
@@ -29,7 +29,7 @@ pub record RiffBegins (file : List ℕ) (parts : List Part) (left : ℕ) (rest :
   pub each : AreParts parts
 
 -- a list of this name with these chunks begins, in a list with room for it: it has so many bytes
--- more, and behind the chunks stand these bytes
+-- more, and after the chunks stand these bytes
 pub record ListBegins (text : List ℕ) (room : ℕ) (own : List ℕ) (chunks : List Chunk) (left : ℕ)
     (rest : List ℕ) : Type 0 where
   pub size : List ℕ
@@ -39,7 +39,7 @@ pub record ListBegins (text : List ℕ) (room : ℕ) (own : List ℕ) (chunks : 
   pub fits : 8 + padded (little_number 4 size) ≤ room
   pub each : AreChunks chunks
 
--- a file up to a place in hdrl, behind parts of RIFF and chunks of hdrl
+-- a file up to a place in hdrl, after parts of RIFF and chunks of hdrl
 pub record HeaderBegins (file : List ℕ) (parts : List Part) (chunks : List Chunk) (left : ℕ)
     (rest : List ℕ) : Type 0 where
   pub room : ℕ
@@ -47,7 +47,7 @@ pub record HeaderBegins (file : List ℕ) (parts : List Part) (chunks : List Chu
   pub riff : RiffBegins file parts room text
   pub header : ListBegins text room (codes "hdrl") chunks left rest
 
--- a file up to a place in strl, behind chunks of it
+-- a file up to a place in strl, after chunks of it
 pub record StreamBegins (file : List ℕ) (parts : List Part) (chunks fields : List Chunk)
     (left : ℕ) (rest : List ℕ) : Type 0 where
   pub room : ℕ

@@ -157,7 +157,7 @@ pub record AreFrames (name : List ℕ) (chunks : List Chunk) (frames : List (Lis
   pub sized : AreSized frames
 
 -- a file with this head and these frames: RIFF with its parts and then the first movi, which fits
--- in it; behind the chunks of movi may stand whatever does
+-- in it; after the chunks of movi may stand whatever does
 pub record AviFile (file : List ℕ) (head : Head) (frames : List (List ℕ)) : Type 0 where
   pub riff_size : List ℕ
   pub parts : List Part
@@ -180,7 +180,7 @@ pub record AviFile (file : List ℕ) (head : Head) (frames : List (List ℕ)) : 
   pub says : IsStream FirstMovi stream head
   pub framed : AreFrames (codes "00dc") chunks frames
 
--- a file whose first movi begins behind these parts of RIFF, in which it fits
+-- a file whose first movi begins after these parts of RIFF, in which it fits
 pub record MoviBegins (file : List ℕ) (parts : List Part) (rest : List ℕ) : Type 0 where
   pub riff_size : List ℕ
   pub movi_size : List ℕ

@@ -154,7 +154,7 @@ visit_movi stream s e =
     else if is_name e.name (frame_name stream) then frame_judged e.size e.left
     else skipped s e.size
 
--- the size of the next frame of a stream, and what movi has left behind it, where it has so many
+-- the size of the next frame of a stream, and what movi has left after it, where it has so many
 -- bytes left; none at its end
 unfoldable pub movi_found : ℕ → ℕ → Reading (Option (ℕ × ℕ))
 movi_found stream left = walk (visit_movi stream) left tt >>= λ p. given p.1
@@ -170,7 +170,7 @@ visit_riff s e =
     if is_name e.name (codes "LIST") then (taken 4 >>= riff_list e.left e.size)
     else skipped s e.size
 
--- the bytes of the next movi, and what RIFF has left behind it, where it has so many bytes left;
+-- the bytes of the next movi, and what RIFF has left after it, where it has so many bytes left;
 -- none at its end
 unfoldable pub movi_sought : ℕ → Reading (Option (ℕ × ℕ))
 movi_sought left = walk visit_riff left tt >>= λ p. given p.1
@@ -230,7 +230,7 @@ frame_found_up_to zero place = given None
 frame_found_up_to (suc most) place =
     movi_found place.stream place.movi >>= found_or_on (frame_found_up_to most) place
 
--- the next frame's size, and the place behind its header; none at the end
+-- the next frame's size, and the place after its header; none at the end
 unfoldable pub frame_found : Place → Reading (Option (ℕ × Place))
 frame_found place = frame_found_up_to (amount place) place
 
@@ -239,7 +239,7 @@ abbrev pub found_read : Option (ℕ × Place) → Reading (Option (List ℕ × P
 found_read None = given None
 found_read (Some p) = content Kept p.0 >>= λ bytes. given (Some (bytes, p.1))
 
--- the next frame, and the place behind it
+-- the next frame, and the place after it
 abbrev pub frame_read : Place → Reading (Option (List ℕ × Place))
 frame_read place = frame_found place >>= found_read
 

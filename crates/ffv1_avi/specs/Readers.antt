@@ -16,12 +16,12 @@ pub record Standing : Type 0 where
 abbrev pub opened_at : Standing → Head × Place
 opened_at r = (r.head, r.place)
 
--- a frame's size, with what movi has left behind it
+-- a frame's size, with what movi has left after it
 abbrev pub frame_with : Option ℕ → ℕ → Option (ℕ × ℕ)
 frame_with None left = None
 frame_with (Some size) left = Some (size, left)
 
--- a frame, with the place behind it
+-- a frame, with the place after it
 abbrev pub next_with : List ℕ → Option Place → Option (List ℕ × Place)
 next_with bytes None = None
 next_with bytes (Some place) = Some (bytes, place)
@@ -36,12 +36,12 @@ Leaves place (Some text) bytes =
     × (frame_found place text ≡ Ok (Some (size, after), rest))
     × (k : ℕ) × (k ≤ size) × (bytes ≡ take k rest))
 
--- what a call that answers so has read: a frame, with the place behind it; none at the end
+-- what a call that answers so has read: a frame, with the place after it; none at the end
 abbrev pub next_of : Bool → List ℕ → Place → Option (List ℕ × Place)
 next_of true bytes place = Some (bytes, place)
 next_of false bytes place = None
 
--- where a reader stands behind a call: in the same file, and with the fault that it answered
+-- where a reader stands after a call: in the same file, and with the fault that it answered
 abbrev pub StandsAfter : Standing → Result Bool FileFault → Standing → Type 0
 StandsAfter old (Ok more) new = (old.fault ≡ None) × (new.fault ≡ None) × (new.head ≡ old.head)
 StandsAfter old (Err f) new =

@@ -1,5 +1,5 @@
 -- The first stream of a file: what its header (AVISTREAMHEADER of Microsoft's AVI RIFF File
--- Reference) and its format (BITMAPINFOHEADER, with the configuration record behind it as RFC 9043,
+-- Reference) and its format (BITMAPINFOHEADER, with the configuration record after it as RFC 9043,
 -- 4.3.3 has it) say.
 use Rattle.std.specs.Prelude.{ℕ, ◌-◌, ◌==◌, ◌&&◌, if◌then◌else◌, nat_lt, nat_le, List, length}
 use Rattle.std.specs.Prelude.{take, drop, codes, Option, Some, None}
@@ -99,7 +99,7 @@ skipped s size = passed (padded size) >>= λ _. given (s, None)
 unfoldable pub rates_in : ℕ → Reading (Option (ℕ × ℕ))
 rates_in size = content Looked size >>= λ bytes. given (rates_of bytes)
 
--- what a format says whose first 40 bytes are these, and behind them the record, where it is FFV1
+-- what a format says whose first 40 bytes are these, and after them the record, where it is FFV1
 abbrev pub format_behind : List ℕ → List ℕ → Option Format
 format_behind front config =
     Some (record {
@@ -147,7 +147,7 @@ visit_field extent k e =
     else if is_name e.name (codes "strf") then format_read extent k e.size k.format
     else skipped k e.size
 
--- a stream's list with so many bytes behind its own name: its head, where it is FFV1 video
+-- a stream's list with so many bytes after its own name: its head, where it is FFV1 video
 unfoldable pub stream_read : Extent → ℕ → Reading (Option Head)
 stream_read extent room =
     walk (visit_field extent) room nothing_known >>= λ k.

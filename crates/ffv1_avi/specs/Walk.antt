@@ -21,7 +21,7 @@ entry_judged left name size =
     else if is_name name (codes "LIST") && nat_lt size 4 then refused fault.NotAvi
     else given (Some (record { name = name; size = size; left = left - (8 + padded size) }))
 
--- the next header of a list with so many bytes left, and what the list has left behind its chunk;
+-- the next header of a list with so many bytes left, and what the list has left after its chunk;
 -- none at the list's end
 unfoldable pub entry_read : ℕ → Reading (Option Entry)
 entry_read left =
@@ -29,12 +29,12 @@ entry_read left =
     else if nat_lt left 8 then refused fault.Truncated
     else (taken 8 >>= λ head. entry_judged left (take 4 head) (little_number 4 (drop 4 head)))
 
--- what is made of a chunk behind its header: the state that it leads to, and, where the walk stops,
+-- what is made of a chunk after its header: the state that it leads to, and, where the walk stops,
 -- an outcome
 abbrev pub Visit : Type 0 → Type 0 → Type 0
 Visit S Y = S → Entry → Reading (S × Option Y)
 
--- the walk goes on behind a chunk, or stops
+-- the walk goes on after a chunk, or stops
 abbrev pub resumed : {S Y : Type 0} → (S → Reading (S × Option Y)) → S → Option Y →
     Reading (S × Option Y)
 resumed on s (Some y) = given (s, Some y)

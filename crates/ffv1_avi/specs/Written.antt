@@ -73,7 +73,7 @@ strf head =
     ∷ number 40 ∷ number head.width ∷ number head.height ∷ pair 1 24 ∷ codes "FFV1"
     ∷ number 0 ∷ number 0 ∷ number 0 ∷ number 0 ∷ number 0 ∷ []
 
--- fields, one behind the other
+-- fields, one after the other
 abbrev pub spelled : List (List ℕ) → List ℕ
 spelled fields = flat_map (λ (field : List ℕ). field) fields
 

@@ -11,7 +11,7 @@ use byteorder::{ByteOrder, LittleEndian};
 use ffv1_reads::{FileFault, take};
 use ffv1_wire::ByteIn;
 
-/// A chunk's header, and how many bytes its list has left behind the chunk and its padding.
+/// A chunk's header, and how many bytes its list has left after the chunk and its padding.
 #[derive(Clone, Copy)]
 pub(crate) struct Entry {
     pub(crate) name: [u8; 4],

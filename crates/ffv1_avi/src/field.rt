@@ -4,7 +4,7 @@ ghost use Rattle.std.specs.Prelude.{◌≡◌, ◌++◌, ℕ, List, length, OnOk
 ghost use Rattle.std.specs.Io.KnownBytes.{Appends};
 ghost use Rattle.ffv1_wire.specs.Passage.{passage};
 ghost use Rattle.ffv1_avi.specs.Written.{field_bytes, fields_bytes, padding};
-ghost use Rattle.ffv1_avi.specs.Writes.{Writes};
+ghost use Rattle.ffv1_reads.specs.Writes.{Writes};
 
 use byteorder::{ByteOrder, LittleEndian};
 use ffv1_reads::FileFault;
@@ -44,7 +44,7 @@ pub(crate) fn put<W: ByteOut>(out: &mut W, bytes: &[u8]) -> Result<(), FileFault
     }
 }
 
-/// Writes fields, one behind the other.
+/// Writes fields, one after the other.
 pub(crate) fn put_fields<W: ByteOut>(out: &mut W, fields: &[Field]) -> Result<(), FileFault>
     ensures { Writes (passage W.contents W.failures out.old out.new)
         (fields_bytes fields.now) result }

@@ -1,3 +1,4 @@
+// SPDX-License-Identifier: MIT OR Apache-2.0
 //! AVI, by Microsoft's AVI RIFF File Reference: files of FFV1 frames (RFC 9043, 4.3.3) are written,
 //! and read chunk by chunk.
 //!

@@ -5,6 +5,7 @@ ghost use Rattle.ffv1_avi.specs.Files.{extended_read, extended_visited, header_l
 ghost use Rattle.ffv1_avi.specs.Files.{movi_reached, open_read, owed};
 ghost use Rattle.ffv1_avi.specs.Files.{stream_known, stream_visited, top_read, total_read};
 ghost use Rattle.ffv1_avi.specs.Files.{visit_extended, visit_header, visit_top};
+ghost use Rattle.ffv1_reads.specs.First.{passage_with};
 ghost use Rattle.ffv1_reads.specs.Head.{Head};
 ghost use Rattle.ffv1_avi.specs.Places.{first_place};
 ghost use Rattle.ffv1_wire.specs.Passage.{at_rest, passage};
@@ -18,7 +19,7 @@ use crate::chunk::{Entry, is_name, next_entry, padded};
 use crate::place::{Extent, Place};
 use crate::stream::{Sizes, read_stream};
 use byteorder::{ByteOrder, LittleEndian};
-use ffv1_reads::{FileFault, pass, take};
+use ffv1_reads::{FileFault, pass, take, take_after};
 use ffv1_wire::ByteIn;
 use std::alloc::Allocator;
 
@@ -56,7 +57,7 @@ fn stream_found(found: Found, sizes: Option<Sizes>) -> Found
     found
 }
 
-/// A stream's list, of such a size, behind its own name, with its padding.
+/// A stream's list, of such a size, after its own name, with its padding.
 fn visit_stream<R: ByteIn, A: Allocator>(
     input: &mut R,
     extent: Extent,
@@ -123,7 +124,7 @@ fn visit_extended<R: ByteIn>(
     Ok(frames)
 }
 
-/// The list odml of such a size behind its own name, with its padding.
+/// The list odml of such a size after its own name, with its padding.
 #[tactic(auto, unfolding(crate::specs::Files::extended_read))]
 fn read_extended<R: ByteIn>(
     input: &mut R,
@@ -144,7 +145,7 @@ fn read_extended<R: ByteIn>(
     Ok(frames)
 }
 
-/// The list odml of such a size behind its own name, which is looked at where every RIFF is read.
+/// The list odml of such a size after its own name, which is looked at where every RIFF is read.
 fn extend<R: ByteIn>(
     input: &mut R,
     extent: Extent,
@@ -209,7 +210,7 @@ fn visit_header<R: ByteIn, A: Allocator>(
     Ok(found)
 }
 
-/// The list hdrl of such a size behind its own name, with its padding.
+/// The list hdrl of such a size after its own name, with its padding.
 #[tactic(auto, unfolding(crate::specs::Files::header_read))]
 fn read_header<R: ByteIn, A: Allocator>(
     input: &mut R,
@@ -334,19 +335,20 @@ fn read_top<R: ByteIn, A: Allocator>(
     Err(FileFault::NotAvi)
 }
 
-/// A file up to the first movi: its sizes, its record in place of what the vector has, and where
+/// A file, whose first byte may have been read, up to the first movi: its sizes, its record in place of what the vector has, and where
 /// movi stands.
 #[tactic(auto, unfolding(crate::specs::Files::open_read))]
 pub(crate) fn read_opening<R: ByteIn, A: Allocator>(
+    first: Option<u8>,
     input: &mut R,
     extent: Extent,
     config: &mut Vec<u8, A>,
 ) -> Result<(Sizes, Place), FileFault>
     ensures { Answers (λ (p : Sizes × Place). (head_with p.0 config.new.items, p.1))
-        (open_read extent) (passage R.remaining R.failures input.old input.new) result }
+        (open_read extent) (passage_with first R.remaining R.failures input.old input.new) result }
 {
     let mut head = [0u8; 12];
-    take(input, &mut head)?;
+    take_after(first, input, &mut head)?;
     let size = LittleEndian::read_u32(&head[4..]);
     if !is_name(&head[..4], b"RIFF") || !is_name(&head[8..], b"AVI ") || size < 4 {
         return Err(FileFault::NotAvi);

@@ -6,6 +6,7 @@ ghost use Rattle.std.specs.Prelude.{Err};
 ghost use Rattle.ffv1_avi.specs.Extents.{AnswersFrom};
 ghost use Rattle.ffv1_avi.specs.Files.{frame_found, frame_name, frame_read, movi_found};
 ghost use Rattle.ffv1_avi.specs.Files.{open_read, visit_movi};
+ghost use Rattle.ffv1_reads.specs.First.{passage_with};
 ghost use Rattle.ffv1_reads.specs.Head.{Head, head_of};
 ghost use Rattle.ffv1_wire.specs.Passage.{passage};
 ghost use Rattle.ffv1_avi.specs.Internal.Ending.{AnswersOrNone};
@@ -58,7 +59,7 @@ fn visit_movi<R: ByteIn>(input: &mut R, stream: u8, entry: Entry) -> Result<Opti
     Ok(Some(entry.size))
 }
 
-/// The size of a stream's next frame, and what movi has left behind it; None at its end.
+/// The size of a stream's next frame, and what movi has left after it; None at its end.
 #[tactic(auto, unfolding(crate::specs::Files::movi_found))]
 fn find_in_movi<R: ByteIn>(
     input: &mut R,
@@ -79,7 +80,7 @@ fn find_in_movi<R: ByteIn>(
     Ok(None)
 }
 
-/// The place behind a frame's header, where movi has so many bytes left.
+/// The place after a frame's header, where movi has so many bytes left.
 fn frame_at(place: Place, left: u32) -> Place
     ensures { result ≡ frame_at place left }
 {
@@ -92,7 +93,7 @@ fn frame_at(place: Place, left: u32) -> Place
     }
 }
 
-/// The size of the next frame, and the place behind its header; None at the end.
+/// The size of the next frame, and the place after its header; None at the end.
 fn find_frame<R: ByteIn>(input: &mut R, place: Place) -> Result<Option<(u32, Place)>, FileFault>
     ensures sized { IfOk result (λ o. IfSome o (λ p. (0 < p.0) × (p.0 ≤ 67108864))) }
     ensures answer { AnswersOrNone (extent_of place) (λ (p : Option (ℕ × Place)). p)
@@ -110,7 +111,7 @@ fn find_frame<R: ByteIn>(input: &mut R, place: Place) -> Result<Option<(u32, Pla
     }
 }
 
-/// The next frame in place of what the vector has, and the place behind it; None at the end.
+/// The next frame in place of what the vector has, and the place after it; None at the end.
 fn read_frame<R: ByteIn, A: Allocator>(
     input: &mut R,
     place: Place,
@@ -166,7 +167,7 @@ impl<A: Allocator> AviReader<A> {
         ensures sound { IfOk result (λ r. r.fault ≡ None) }
         ensures own { IfErr result (λ f. is_opening_fault f ≡ true) }
     {
-        open_at(alloc, Extent::FirstMovi, input)
+        open_at(alloc, Extent::FirstMovi, None, input)
     }
 
     /// Reads a file up to its first `movi`, to read then the frames of every `movi` of every RIFF:
@@ -185,7 +186,21 @@ impl<A: Allocator> AviReader<A> {
         ensures sound { IfOk result (λ r. r.fault ≡ None) }
         ensures own { IfErr result (λ f. is_opening_fault f ≡ true) }
     {
-        open_at(alloc, Extent::EveryRiff, input)
+        open_at(alloc, Extent::EveryRiff, None, input)
+    }
+
+    /// The same of a file whose first byte was read before, where there was one.
+    pub fn open_all_after<R: ByteIn>(
+        alloc: A,
+        first: Option<u8>,
+        input: &mut R,
+    ) -> Result<AviReader<A>, FileFault>
+        ensures answer { Answers opened_at (open_read EveryRiff)
+            (passage_with first R.remaining R.failures input.old input.new) result }
+        ensures sound { IfOk result (λ r. r.fault ≡ None) }
+        ensures own { IfErr result (λ f. is_opening_fault f ≡ true) }
+    {
+        open_at(alloc, Extent::EveryRiff, first, input)
     }
 
     /// The head of the file.
@@ -197,13 +212,13 @@ impl<A: Allocator> AviReader<A> {
 
     /// Reads the next frame in place of what the vector has, and answers true; or false at the end,
     /// where the vector is then empty, each time again, and then nothing is read. Of a reader that
-    /// `open` made the end is that of `movi`, and the bytes behind it are left unread; of one that
-    /// `open_all` made it is the end of the input, behind a whole RIFF.
+    /// `open` made the end is that of `movi`, and the bytes after it are left unread; of one that
+    /// `open_all` made it is the end of the input, after a whole RIFF.
     ///
     /// The input has to be the one that the reader was opened on. `Truncated` where a chunk does
     /// not fit in its list or the input ends inside it, or before as many frames as `dmlh` says;
     /// `NotAvi` where a list stands in `movi`, a list has no room for its own name, or no RIFF
-    /// `AVIX` stands behind a RIFF; `ChunkTooLong` for a frame above 67108864 bytes, of which no
+    /// `AVIX` stands after a RIFF; `ChunkTooLong` for a frame above 67108864 bytes, of which no
     /// byte is read, `EmptyFrame` for one of none, `Read` where a read failed, `OutOfMemory`. After
     /// a fault the vector holds a beginning of the frame, and each further call answers the fault
     /// again, empties the vector and reads nothing.
@@ -262,15 +277,16 @@ impl<A: Allocator> AviReader<A> {
 fn open_at<R: ByteIn, A: Allocator>(
     alloc: A,
     extent: Extent,
+    first: Option<u8>,
     input: &mut R,
 ) -> Result<AviReader<A>, FileFault>
     ensures answer { Answers opened_at (open_read extent)
-        (passage R.remaining R.failures input.old input.new) result }
+        (passage_with first R.remaining R.failures input.old input.new) result }
     ensures sound { IfOk result (λ r. r.fault ≡ None) }
     ensures own { IfErr result (λ f. is_opening_fault f ≡ true) }
 {
     let mut config = Vec::new(alloc);
-    let (sizes, place) = read_opening(input, extent, &mut config)?;
+    let (sizes, place) = read_opening(first, input, extent, &mut config)?;
     Ok(AviReader {
         head: FileHead {
             width: sizes.width,

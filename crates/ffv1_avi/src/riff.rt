@@ -37,7 +37,7 @@ fn visit_riff<R: ByteIn>(input: &mut R, entry: Entry) -> Result<Option<(u32, u32
     Ok(None)
 }
 
-/// The bytes of the next movi of RIFF, and what that has left behind it; None at its end.
+/// The bytes of the next movi of RIFF, and what that has left after it; None at its end.
 #[tactic(auto, unfolding(crate::specs::Files::movi_sought))]
 fn seek_movi<R: ByteIn>(input: &mut R, left: u32) -> Result<Option<(u32, u32)>, FileFault>
     ensures { Answers (λ (p : Option (ℕ × ℕ)). p) (movi_sought left)
@@ -80,7 +80,7 @@ fn name_or_end<R: ByteIn>(input: &mut R, owed: u32) -> Result<Option<[u8; 4]>, F
     Ok(Some([first, others[0], others[1], others[2]]))
 }
 
-/// The size and the form of an RIFF after the first, behind its name.
+/// The size and the form of an RIFF after the first, after its name.
 fn enter_riff<R: ByteIn>(input: &mut R, place: Place) -> Result<Place, FileFault>
     ensures { Answers (λ (p : Place). Some p) (riff_entered place)
         (passage R.remaining R.failures input.old input.new) result }

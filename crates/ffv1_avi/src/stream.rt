@@ -195,7 +195,7 @@ fn judged(extent: Extent, fields: Fields) -> Result<Option<Sizes>, FileFault>
     }))
 }
 
-/// A stream's list with so many bytes left behind its own name; its record in place of what the
+/// A stream's list with so many bytes left after its own name; its record in place of what the
 /// vector has. None where it is no FFV1 video.
 #[tactic(auto, unfolding(crate::specs::Streams::stream_read))]
 pub(crate) fn read_stream<R: ByteIn, A: Allocator>(

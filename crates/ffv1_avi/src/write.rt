@@ -8,7 +8,8 @@ ghost use Rattle.ffv1_avi.specs.Padding.{padded};
 ghost use Rattle.ffv1_avi.specs.Written.{avih, file_of, format_size, frame_chunk, frames_of, front};
 ghost use Rattle.ffv1_avi.specs.Written.{head_text, microseconds, movi, movi_size, opening};
 ghost use Rattle.ffv1_avi.specs.Written.{sizes_of, spelled, stream, strf};
-ghost use Rattle.ffv1_avi.specs.Writes.{Writes, WritesFile};
+ghost use Rattle.ffv1_reads.specs.Writes.{Writes};
+ghost use Rattle.ffv1_avi.specs.Writes.{WritesFile};
 
 use crate::field::{Field, put, put_fields, put_padding};
 use ffv1_reads::{FileFault, FileHead};
@@ -145,7 +146,7 @@ fn put_stream<W: ByteOut, A: Allocator>(
     put_fields(out, &fields)
 }
 
-/// The format, BITMAPINFOHEADER, of such a size, up to the record that stands behind it (RFC 9043,
+/// The format, BITMAPINFOHEADER, of such a size, up to the record that stands after it (RFC 9043,
 /// 4.3.3).
 fn put_format<W: ByteOut, A: Allocator>(
     out: &mut W,

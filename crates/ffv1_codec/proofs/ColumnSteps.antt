@@ -91,7 +91,7 @@ columns_kept a coded r s m Close kind f = absurd kind
 
 module _ (a : Accepted) (coded : ℕ → List ℕ) (r k : ℕ) (P : List Line → Slice → Type 0)
     (next : (ls : List Line) (q t : Slice) (e : Event) → P ls q → ReadsNext a coded r k e q t → P (ls ++ read_at k e) t) where
-  -- what goes on with each line that a column reads holds behind all of them
+  -- what goes on with each line that a column reads holds after all of them
   pub column_runs : (es : List Event) (ls : List Line) (s t : State) → Each (IsOfRow a.configuration r) es → k < length s.columns →
       Runs (StepsBy a coded) s es t → P ls (slice_at s k) → P (ls ++ reads_of k es) (slice_at t k)
   column_runs [] ls s t all inside f p =

@@ -1,4 +1,4 @@
--- Slices that are put one behind the other.
+-- Slices that are put one after the other.
 use Rattle.std.proofs.Common.{◌≡◌, ◌⊎◌, ℕ, ◌+◌, ◌*◌, ◌<◌, ◌≤◌, Bool, List, [], ◌∷◌, ◌++◌, length, map, sym, ◌∙◌, ap, arith, subst, append_assoc, append-nil, inl, inr}
 use Rattle.std.specs.Prelude.{ℤ, sum}
 use Rattle.std.specs.List.{flat_map, range_with_len}

@@ -31,7 +31,7 @@ pub record Stays (s t : Kept) : Type 0 where
   pub sizes : AreOf t.grid t.planes
   pub failures : t.failures ≡ s.failures
 
--- behind a line that it keeps
+-- after a line that it keeps
 behind_line : (s t : Kept) (now : Planes) (l : wire.Line) (ls : List wire.Line) (m : Kept) → Keeps (with_planes s now) l.plane l.row l.samples m → Grows Keeps m ls t →
     Grows Keeps (with_planes s (with_line now l.plane l.row l.samples)) ls t
 behind_line s t now l ls m keeps more = subst (λ z. Grows Keeps z ls t) keeps.1 more

@@ -38,7 +38,7 @@ own_range : (from count : ℕ) → flat_map (λ y. y ∷ []) (range_with_len fro
 own_range from zero = refl
 own_range from (suc count) = ap (λ z. from ∷ z) (own_range (from + 1) count)
 
--- the parts of a side, one behind the other
+-- the parts of a side, one after the other
 pub record PartsFrom (s : Side) (from count : ℕ) : Type 0 where
   pub many : ℕ
   pub ends : begin_of s from + many ≡ begin_of s (from + count)

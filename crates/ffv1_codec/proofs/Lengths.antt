@@ -170,7 +170,7 @@ pub key_few : (n : ℕ) → length (key_steps n) ≤ 1
 key_few zero = omega arith
 key_few (suc n) = omega arith
 
--- the count behind a slice's decisions and its sentinel
+-- the count after a slice's decisions and its sentinel
 pub sealed_most : (t : Table) (steps : List Step) → (narrow (interval_of (decisions_after t [] steps)) 129 false).count ≤ 3 + length steps
 sealed_most t steps =
     let all = narrowed_most start (decisions_after t [] steps) in

@@ -130,7 +130,7 @@ module _ (a : Accepted) (coded : ℕ → List ℕ) where
   fault_places s t (Hand r i p y) f h = absurd h
   fault_places s t Close f h = absurd h
 
-  -- those of a beginning of the events, and those behind them
+  -- those of a beginning of the events, and those after them
   pub places_begun : (before after : List Event) (t : State) → events_of a.configuration ≡ before ++ after → Runs (StepsBy a coded) (at_first a.configuration) before t →
       places t ++ shown after ≡ places_of a.configuration
   places_begun before after t parts runs =

@@ -107,7 +107,7 @@ lent planes vs p v d samples is are inside v_is samples_is =
     let inside : p < length vs = omega (arith, inside, count, ap length is, are.count) in
     samples_is ∙ sym (plane_of vs p v inside v_is) ∙ ap (λ ps. plane ps p) (sym is)
 
--- behind the last plane there is none
+-- after the last plane there is none
 pub no_plane : {A : Type 0} (vs : List (Vec ℕ A)) (p i : ℕ) → length vs ≤ p → get_or (plane (planes_of vs) p) i 0 < 256
 no_plane [] p i past = omega arith
 no_plane (v ∷ vs) zero i past = absurd (omega (arith, past))

@@ -46,7 +46,7 @@ pub map_each : {A B : Type 0} (f g : A → B) (xs : List A) → Each (λ x. f x 
 map_each f g [] same = refl
 map_each f g (x ∷ xs) same = ap (λ z. z ∷ map f xs) same.0 ∙ ap (λ zs. g x ∷ zs) (map_each f g xs same.1)
 
--- a row of a cell is not changed by samples behind it
+-- a row of a cell is not changed by samples after it
 pub row_before : (width y : ℕ) (samples more : List ℕ) → suc y * width ≤ length samples → row_in width y (samples ++ more) ≡ row_in width y samples
 row_before width y samples more long =
     let front : y * width ≤ length samples = omega (arith, long) in

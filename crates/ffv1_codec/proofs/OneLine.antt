@@ -1,4 +1,4 @@
--- Behind what was decided in a slice its bytes code one line at most, or are refused in one place.
+-- After what was decided in a slice its bytes code one line at most, or are refused in one place.
 use Rattle.std.proofs.Common.{◌≡◌, refl, ℕ, ℤ, zero, suc, ◌+◌, ◌-◌, ◌*◌, ◌<◌, ◌≤◌, min, List, [], ◌∷◌, ◌++◌, length, take, drop, replicate, get_or, ap, sym, subst, ◌∙◌, arith}
 use Rattle.std.proofs.lemmas.List.{get_or_append_left, get_or-append-add, ext_get_or, take-append-drop, length-take-le, length-drop}
 use Rattle.std.proofs.Math.Nat.{mul-le-mul_left}
@@ -44,7 +44,7 @@ begins width n samples more long = record {
       sym (get_or_append_left samples more 0 (y * width + x) inside);
 }
 
--- a row is shown behind the rows so far
+-- a row is shown after the rows so far
 pub row_shown : (width n x : ℕ) (samples row : List ℕ) → length samples ≡ n * width → x < width → seen (cell_of width (samples ++ row)) (suc (suc x)) (suc (suc n)) ≡ get_or row x 0
 unfolding seen
 row_shown width n x samples row long h =

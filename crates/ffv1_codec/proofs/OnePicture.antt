@@ -38,7 +38,7 @@ module _ (c : Configuration) (planes : Planes) (p : ℕ) where
         ∙ sym (ap (λ b. flat_map row ((if b then k.y ∷ [] else []) ++ rows_in p ks)) no)
   ]
 
--- rows one behind the other are the samples
+-- rows one after the other are the samples
 rows_joined : (width : ℕ) (xs : List ℕ) (from count : ℕ) → flat_map (λ y. row_in width y xs) (range_with_len from count) ≡ take (count * width) (drop (from * width) xs)
 rows_joined width xs from zero = ap (λ n. take n (drop (from * width) xs)) (let none : 0 ≡ 0 * width = omega arith in none)
 rows_joined width xs from (suc count) =

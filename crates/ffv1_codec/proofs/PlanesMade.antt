@@ -1,4 +1,4 @@
--- Planes of lines: where a list has each line of a plane once, from the top, its samples one behind
+-- Planes of lines: where a list has each line of a plane once, from the top, its samples one after
 -- the other are the plane.
 use Rattle.std.proofs.Common.{◌≡◌, refl, ℕ, zero, suc, ◌+◌, ◌-◌, ◌*◌, ◌≤◌, true, false, if◌then◌else◌, ◌==◌, List, [], ◌∷◌, ◌++◌, map, length, take, drop, inl, inr, ap, sym, subst, ◌∙◌, arith, length-append}
 use Rattle.std.specs.List.{flat_map, range_with_len}
@@ -41,7 +41,7 @@ later_row width y xs ys long =
     let place : suc y * width ≡ length xs + y * width = omega (arith, long) in
     ap (λ n. take width (drop n (xs ++ ys))) place ∙ ap (take width) (drop-append-add xs ys (y * width))
 
--- the first of some numbers, and those behind it
+-- the first of some numbers, and those after it
 pub record Counted (row from count : ℕ) (rows : List ℕ) : Type 0 where
   pub less : ℕ
   pub many : count ≡ suc less

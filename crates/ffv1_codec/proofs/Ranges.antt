@@ -21,7 +21,7 @@ module _ {A : Type 0} where
   joined_more f a n =
       ap (flat_map f) (range_more a n) ∙ flat_map-append f (range_with_len a n) ((a + n) ∷ []) ∙ ap (λ z. flat_map f (range_with_len a n) ++ z) (append-nil (f (a + n)))
 
-  -- what stands behind the first ones
+  -- what stands after the first ones
   pub record Rest (f : ℕ → List A) (n many : ℕ) : Type 0 where
     pub rest : List A
     pub is : flat_map f (range_with_len 0 many) ≡ flat_map f (range_with_len 0 n) ++ (f n ++ rest)

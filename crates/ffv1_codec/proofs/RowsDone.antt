@@ -237,7 +237,7 @@ module _ (a : Accepted) (coded : ℕ → List ℕ) (laws : CellLaws) (few : Suit
         columns = ap (λ (z : State). z.columns) close;
       }
 
-  -- the parts of some rows, one behind the other
+  -- the parts of some rows, one after the other
   abbrev pub AllRows : Option Said → List ℕ → List wire.Line → Type 0
   AllRows info [] ls = ls ≡ []
   AllRows info (r ∷ rs) ls = (first : List wire.Line) × (more : List wire.Line) × RowPart r info first × AllRows info rs more × (ls ≡ first ++ more)

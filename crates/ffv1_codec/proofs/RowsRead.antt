@@ -144,7 +144,7 @@ module _ (a : Accepted) (coded : ℕ → List ℕ) (planes : Planes) (info : Sai
       (picture : IsPicture a.configuration planes) (tiles : (p : ℕ) → Tiles (across (division_of a.configuration) p)) (tiles_v : (p : ℕ) → Tiles (down (division_of a.configuration) p))
       (part : (p x : ℕ) → x < whole_of (across (division_of a.configuration) p) → HasPart (across (division_of a.configuration) p) x) (colours : ColourLaws) (in_rct : InRct a.configuration)
       (r_inside : r < a.configuration.rows) where
-    -- a slice that has read a line, and stands behind it, shows it
+    -- a slice that has read a line, and stands after it, shows it
     line_shown : (k p y x : ℕ) (more : List Line) (q : Slice) → k < a.configuration.columns → p < plane_count a.configuration → Standing k more q → IsRead a coded r k q (record { plane = p; y = y }) →
         x < width_in a.configuration p k → get_or (plane q.cells p) (y * width_in a.configuration p k + x) 0 ≡ (cell_at a coded planes r k p).at x y
     line_shown k p y x more q inside few standing is small =

@@ -1,4 +1,4 @@
--- A line of one slice that was read, behind what was decided before.
+-- A line of one slice that was read, after what was decided before.
 use Rattle.std.proofs.Common.{◌≡◌, refl, ℕ, ℤ, suc, ◌+◌, ◌-◌, ◌*◌, ◌^◌, ◌<◌, ◌≤◌, min, Option, Some, List, [], ◌++◌, length, take, drop, get_or, slice_index, ap, sym, subst, ◌∙◌, arith}
 use Rattle.std.proofs.lemmas.List.{get_or_append_left, get_or-append-add, get_or-take}
 use Rattle.ffv1_range.specs.declared.tally.Tally.{Tally}
@@ -58,7 +58,7 @@ pub record Laws : Type 0 where
 same_some : (p q : Pause) → Some p ≡ Some q → p ≡ q
 same_some p q e = cc
 
--- what a decoder tells that stands behind past
+-- what a decoder tells that stands after past
 count_least : (n m c : ℕ) → n + 2 ≡ min c (2 ^ 64 + 1) → n ≡ min (c - 2) (2 ^ 64 - 1)
 count_least n m c e = omega (arith, e)
 

@@ -13,7 +13,7 @@ class_small class most less few =
     let all : class * most ≤ 2 * most = mul-le-mul_right {m = class} {n = 2} most (omega (arith, less)) in
     omega (arith, all, few)
 
--- a window of n parts of equal size, and one further behind
+-- a window of n parts of equal size, and one further after
 pub part_apart : (j k size : ℕ) → j < k → j * size + size ≤ k * size
 part_apart j k size less =
     let all : suc j * size ≤ k * size = mul-le-mul_right {m = suc j} {n = k} size less in

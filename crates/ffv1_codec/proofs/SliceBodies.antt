@@ -64,7 +64,7 @@ body_alike laws c h cell other (l ∷ ls) body are f = (
   f.5 ∙ ap (λ z. shifted (base_of c l.plane) z ++ f.1) (laws.steps (set_in c h l.plane) (cell l.plane) (other l.plane) l.y 0 f.0 are.0),
 )
 
--- more samples behind those that are there change no row above
+-- more samples after those that are there change no row above
 pub agree_more : (width y : ℕ) (samples more : List ℕ) → 0 < width → suc y * width ≤ length samples → Agree (cell_of width samples) (cell_of width (samples ++ more)) y
 agree_more width y samples more some long = record {
   some = some;
@@ -139,7 +139,7 @@ module _ (a : Accepted) (coded : ℕ → List ℕ) (r k : ℕ) where
         (here, agree_later q t ls more are.1)
 
     module _ (laws : CellLaws) where
-      -- the line that is read goes on behind those that were
+      -- the line that is read goes on after those that were
       pub has_read_more : (ls : List Line) (q t : Slice) (e : Event) → HasRead ls q → ReadsNext a coded r k e q t → HasRead (ls ++ read_at k e) t
       has_read_more ls q t e has next =
           let c = a.configuration in

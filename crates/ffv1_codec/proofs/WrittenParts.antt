@@ -66,7 +66,7 @@ module _ (xs ys : List ℕ) (a k : ℕ) (fits : a + k ≤ length xs) (long : len
       get_or-take n (drop b (put a k xs ys)) i 0 h ∙ get_or-drop b (put a k xs ys) i 0 ∙ put_elsewhere (b + i) out
       ∙ sym (get_or-take n (drop b xs) i 0 h ∙ get_or-drop b xs i 0))
 
-  -- what lies behind the part
+  -- what lies after the part
   pub put_rest : drop (a + k) (put a k xs ys) ≡ drop (a + k) xs
   put_rest =
       ap (λ n. drop (n + k) (put a k xs ys)) (sym front) ∙ drop-append-add (take a xs) (ys ++ drop k (drop a xs)) k

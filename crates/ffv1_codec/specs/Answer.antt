@@ -36,7 +36,7 @@ slices_in s = s.done ++ s.columns
 abbrev pub decisions_in : State → ℕ
 decisions_in s = sum_by (λ (q : Slice). length q.past) (slices_in s)
 
--- how often the coder of a slice renormalised behind its decisions
+-- how often the coder of a slice renormalised after its decisions
 abbrev pub renormalisations_in : Table → Slice → ℕ
 renormalisations_in t q = (interval_of (decisions_after t [] q.past)).count - 2
 

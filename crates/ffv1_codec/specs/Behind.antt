@@ -11,7 +11,7 @@ use Rattle.ffv1_record.specs.Sets.{most_contexts}
 use Rattle.ffv1_record.specs.Held.{classes_of}
 
 -- an encoder has put these steps of a slice, and the states of the classes, whose first slot is 33,
--- are those behind them
+-- are those after them
 pub record Behind (t : Table) (past : List Step) (w : Writing) (states : List ℕ) : Type 0 where
   pub interval : w.interval ≡ interval_of (decisions_after t [] past)
   pub has : HasStates t states 33 past

@@ -154,7 +154,7 @@ pub record IsColourless (c : Configuration) (read : List (List ℕ)) (x : ℕ) :
 abbrev pub cell_with : Slice → ℕ → ℕ → List ℕ → Cell
 cell_with q p width row = cell_of width (plane q.cells p ++ row)
 
--- the slice behind some steps of a line, and behind a whole line of plane p, with its samples
+-- the slice after some steps of a line, and after a whole line of plane p, with its samples
 abbrev pub behind_steps : Slice → List Step → Slice
 behind_steps q steps = record q { past = q.past ++ steps }
 
@@ -166,7 +166,7 @@ behind_line q steps p row = record q {
 
 -- a is the configuration with its table; coded n are the coded bytes of slice n
 module _ (a : Accepted) (coded : ℕ → List ℕ) where
-  -- behind what was decided in slice n its bytes code line y of its cell in plane p, so many
+  -- after what was decided in slice n its bytes code line y of its cell in plane p, so many
   -- samples wide, by residuals that suit the samples
   pub record ReadsLine (n p width y : ℕ) (q : Slice) (qs : List ℤ) (row : List ℕ) : Type 0 where
     pub above : length (plane q.cells p) ≡ y * width

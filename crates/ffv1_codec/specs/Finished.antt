@@ -1,4 +1,4 @@
--- What is made of a line that was read: the lines of its planes stand one behind the other.
+-- What is made of a line that was read: the lines of its planes stand one after the other.
 use Rattle.std.specs.Prelude.{◌≡◌, ℕ, ◌+◌, ◌*◌, ◌<◌, ◌^◌, Bool, true, false, List, map}
 use Rattle.std.specs.Prelude.{slice_index}
 use Rattle.std.specs.List.{range_with_len}

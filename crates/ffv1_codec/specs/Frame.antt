@@ -43,7 +43,7 @@ slices_bytes a planes info =
     map (slice_bytes a planes info)
     (range_with_len 0 (a.configuration.columns * a.configuration.rows))
 
--- the payload that an encoder writes: each slice behind the other, with its footer
+-- the payload that an encoder writes: each slice after the other, with its footer
 abbrev pub frame_of : Accepted → Planes → Said → List ℕ
 frame_of a planes info = joined_of a.configuration.ec (slices_bytes a planes info)
 

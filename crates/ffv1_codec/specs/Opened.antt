@@ -56,7 +56,7 @@ pub record HeadRefused (a : Accepted) (n : ℕ) (old new : Reading) (f : CodecFa
       × (steps ≡ key_steps n ++ shifted 1 more))
   pub begun : Begun a old new steps
 
--- slice n was opened in a column, behind what the first slice said
+-- slice n was opened in a column, after what the first slice said
 pub record ColumnOpened (a : Accepted) (coded : ℕ → List ℕ) (payload : List ℕ) (n : ℕ)
     (column : Column) (old new : Option Said) : Type 0 where
   pub head : SliceHead

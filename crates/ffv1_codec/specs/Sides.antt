@@ -5,7 +5,7 @@ use Rattle.ffv1_record.specs.Configuration.{Configuration, is_rct}
 use Rattle.ffv1_slice.specs.Grid.{Side, Lies, begin_of, length_of, whole_of, across, down}
 use Rattle.ffv1_slice.specs.Grid.{division_of}
 
--- the parts of a side stand one behind the other, from 0 to its end, and none is empty
+-- the parts of a side stand one after the other, from 0 to its end, and none is empty
 pub record Tiles (s : Side) : Type 0 where
   pub first : begin_of s 0 ≡ 0
   pub next : (k : ℕ) → k < s.count → begin_of s k + length_of s k ≡ begin_of s (suc k)

@@ -1,5 +1,5 @@
 -- The decisions of a slice (RFC 9043, 4.4 to 4.8): its key, its head, and the residuals of its
--- samples in the order of coding. Of its slots 0 is the key's, 1 to 32 are the head's, and behind
+-- samples in the order of coding. Of its slots 0 is the key's, 1 to 32 are the head's, and after
 -- them each class of planes has 32 for each context of the largest set.
 use Rattle.std.specs.Prelude.{◌≡◌, ℕ, ℤ, ◌+◌, ◌-◌, ◌*◌, min}
 use Rattle.std.specs.Prelude.{if◌then◌else◌, List, [], ◌∷◌, ◌++◌, map, length, slice_index}

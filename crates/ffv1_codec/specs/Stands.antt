@@ -1,4 +1,4 @@
--- Where the decoder of one slice stands between two of its lines, behind what was decided in it,
+-- Where the decoder of one slice stands between two of its lines, after what was decided in it,
 -- and what a line leaves of it.
 use Rattle.std.specs.Prelude.{◌≡◌, ℕ, ℤ, ◌-◌, ◌*◌, Option, Some, None, List, [], ◌++◌}
 use Rattle.std.specs.Prelude.{length, take, drop}
@@ -18,7 +18,7 @@ use Rattle.ffv1_line.specs.Coded.{CodesRow, RefusesRow, refused_row_steps}
 abbrev pub window : ℕ → ℕ → List ℕ → List ℕ
 window at count xs = take count (drop at xs)
 
--- the parked decoder, and the states of the slots from base on, are those behind past
+-- the parked decoder, and the states of the slots from base on, are those after past
 pub record Stands (bytes : List ℕ) (t : Table) (base : ℕ) (parked : Option Pause)
     (states : List ℕ) (past : List Step) : Type 0 where
   pub pause : Pause
@@ -36,7 +36,7 @@ told_by (Some p) = record {
   renormalisations = p.renormalisations;
 }
 
--- what there is to tell behind past
+-- what there is to tell after past
 abbrev pub tally_behind : Table → List Step → Tally
 tally_behind t past = record {
   ones = saturated (ones_in past);
@@ -44,7 +44,7 @@ tally_behind t past = record {
   renormalisations = saturated ((interval_of (decisions_after t [] past)).count - 2);
 }
 
--- behind past, with these samples of its cell read, a line of a set's plane: its states are those
+-- after past, with these samples of its cell read, a line of a set's plane: its states are those
 -- from base on, and first is the first slot of all states
 module _ (bytes : List ℕ) (t : Table) (base first : ℕ) (set : Set) (bits : ℕ) (past : List Step)
     (samples : List ℕ) (width y : ℕ) where

@@ -8,7 +8,7 @@ use std::alloc::Allocator;
 pub struct Slices<A: Allocator> {
     /// The decoder of each, and what its head says.
     pub columns: Vec<Column, A>,
-    /// The states of each, one slice's behind the other's.
+    /// The states of each, one slice's after the other's.
     pub states: Vec<u8, A>,
 }
 

@@ -250,7 +250,7 @@ impl<A: Allocator> FrameDecoder<A> {
     /// `SliceStatus` before any line, `BadStart`, `NotKey`, a fault of the head or `InfoDiffers`
     /// where a slice is opened, `SymbolTooLong` in a sample, `Colour` in a line that was read, and
     /// `Sink` exactly where the sink refused the line that came next. The sink then has the lines
-    /// before it and nothing is decided behind it; the decoder is ready for the next frame.
+    /// before it and nothing is decided after it; the decoder is ready for the next frame.
     ///
     /// Heads are read in the profile of the configuration: at `Wide` an aspect of which just one
     /// number is 0 says what 0:0 says, that it is unknown.

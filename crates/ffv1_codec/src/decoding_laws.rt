@@ -28,7 +28,7 @@ use ffv1_record::laws::{accepted, accepted_parts};
 use ffv1_slice::laws::{divided, one_head, parts, tiling};
 
 /// Decoding has one end at most: it comes to its end in one state, or is refused at one first
-/// fault; and behind each beginning of its order it stands in one state.
+/// fault; and after each beginning of its order it stands in one state.
 pub fn one_end()
     ensures end { (a : Accepted) (coded : ℕ → List ℕ) (s t : State) →
         IsAccepted a.configuration a.table → ((n : ℕ) → AreBytes (coded n)) →
@@ -95,7 +95,7 @@ pub fn is_decoded()
 }
 
 /// Wherever decoding stands, each slice is unread, or its bytes code its key, its head and the
-/// samples of its first lines; a fault is that of one event, behind such a state; and at the end
+/// samples of its first lines; a fault is that of one event, after such a state; and at the end
 /// the bytes of each slice code all its lines, and what was decided is the sum of what was decided
 /// in each slice.
 pub fn known()

@@ -22,7 +22,7 @@ use ffv1_slice::{Grid, SliceFault, footer};
 use std::alloc::{Allocator, Global};
 use std::marker::Model;
 
-/// Coded bytes and their footer are put behind what a frame has.
+/// Coded bytes and their footer are put after what a frame has.
 fn append<A: Allocator>(
     alloc: A,
     frame: &mut Vec<u8, A>,
@@ -46,7 +46,7 @@ fn append<A: Allocator>(
     }
 }
 
-/// A slice is coded and put behind what a frame has. What was counted of it.
+/// A slice is coded and put after what a frame has. What was counted of it.
 fn add_slice<R: Allocator + Copy, A: Allocator, B: Allocator>(
     alloc: R,
     frame: &mut Vec<u8, R>,
@@ -73,7 +73,7 @@ fn add_slice<R: Allocator + Copy, A: Allocator, B: Allocator>(
     })
 }
 
-/// All slices are coded, one behind the other. What was counted of them.
+/// All slices are coded, one after the other. What was counted of them.
 fn put_slices<R: Allocator + Copy, A: Allocator, B: Allocator>(
     alloc: R,
     frame: &mut Vec<u8, R>,

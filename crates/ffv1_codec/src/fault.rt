@@ -12,7 +12,7 @@ pub enum CodecFault {
     /// A growth of memory was refused.
     #[error("2 OutOfMemory")]
     OutOfMemory,
-    /// The first two bytes of a slice, big end first and with zeros behind the end, are 65280 or
+    /// The first two bytes of a slice, big end first and with zeros after the end, are 65280 or
     /// more.
     #[error("3 BadStart")]
     BadStart,

@@ -1,3 +1,4 @@
+// SPDX-License-Identifier: MIT OR Apache-2.0
 //! Frames of FFV1 (RFC 9043, 4.4): which payloads code a picture, which one an encoder writes, the
 //! pictures themselves, their encoder and their decoder.
 //!

@@ -113,8 +113,8 @@ pub fn colour_planes()
 }
 
 /// Whatever the payload, a fault that is answered is the sink's exactly where the sink refused a
-/// line: behind a beginning of the lines it refused the one that came next, a line of the
-/// configuration, and the fault names its plane and its row. Behind any other fault it took a
+/// line: after a beginning of the lines it refused the one that came next, a line of the
+/// configuration, and the fault names its plane and its row. After any other fault it took a
 /// beginning of the lines, and refused none.
 pub fn sink_faults<S: LineSink>()
     ensures sink { (a : Accepted) (payload : List ℕ) (old new : S) (tally : Tally)

@@ -1,3 +1,4 @@
+// SPDX-License-Identifier: MIT OR Apache-2.0
 //! What stands in tests for memory, readers and writers that refuse: an allocator, two readers and
 //! two writers, each of which refuses where a test wants it. Only tests use them.
 //!

@@ -61,7 +61,7 @@ pub struct BrokenReader<'a> {
 }
 
 impl<'a> BrokenReader<'a> {
-    /// Gives `rest`, and fails behind it.
+    /// Gives `rest`, and fails after it.
     pub fn new(rest: &'a [u8]) -> BrokenReader<'a> {
         BrokenReader { rest }
     }

@@ -1,7 +1,6 @@
 pub mod Numbers
 pub mod VintReadings
 pub mod ElementReadings
-pub mod EndAnswers
 pub mod SumReadings
 pub mod ContentReadings
 pub mod MemoryReadings

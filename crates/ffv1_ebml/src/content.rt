@@ -80,7 +80,8 @@ pub fn first_child(content: &[u8]) -> Result<Option<Child<'_>>, FileFault>
 /// Where an element before it can't be read, its fault, as of `first_child`; what stands after it
 /// is not looked at.
 pub fn find(content: &[u8], ident: u32) -> Result<Option<&[u8]>, FileFault>
-    ensures { slices result ≡ found ident content.now }
+    ensures value { slices result ≡ found ident content.now }
+    ensures short { IfOk result (λ o. IfSome o (λ s. length s.now ≤ length content.now)) }
 {
     let mut rest = content;
     while let Some(child) = first_child(rest)? {

@@ -4,7 +4,7 @@ ghost use Rattle.std.specs.Prelude.{◌≡◌, ◌≤◌, ◌<◌, ◌+◌, ◌-
 ghost use Rattle.std.specs.Prelude.{IfOk, IfSome, OnErr, length, take};
 ghost use Rattle.ffv1_wire.specs.Passage.{passage};
 ghost use Rattle.ffv1_reads.specs.Reads.{Answers};
-ghost use Rattle.ffv1_reads.specs.Ends.{AnswersOrEnds};
+ghost use Rattle.ffv1_reads.specs.Ends.{AnswersOrNone};
 ghost use Rattle.ffv1_ebml.specs.Elements.{IsWithin, content_judged, content_passed, data_read};
 ghost use Rattle.ffv1_ebml.specs.Elements.{element_after, element_rest, element_read, first_read};
 ghost use Rattle.ffv1_ebml.specs.Elements.{is_crc};
@@ -129,11 +129,11 @@ pub fn next_data<R: ByteIn>(input: &mut R, left: u64, sum: &mut Sum) -> Result<D
 }
 
 /// Reads the header of the next element of a parent that has `left` bytes left, or answers None
-/// where the input has ended.
+/// where the input has ended before it.
 ///
-/// Faults as of `next_element`.
+/// `Read` where a read failed, also that of its first byte; other faults as of `next_element`.
 pub fn first_element<R: ByteIn>(input: &mut R, left: u64) -> Result<Option<Element>, FileFault>
-    ensures answer { AnswersOrEnds (λ (e : Option Element). e) (first_read left)
+    ensures answer { AnswersOrNone (λ (e : Option Element). e) (first_read left)
         (passage R.remaining R.failures input.old input.new) result }
     ensures within { IfOk result (λ o. IfSome o (λ e. IsWithin e (left - 2))) }
 {

@@ -1,3 +1,4 @@
+// SPDX-License-Identifier: MIT OR Apache-2.0
 //! Elements of EBML (RFC 8794): an ID, a size, and that many bytes of content, big end first.
 //!
 //! From a reader of bytes, `next_element` reads the header of an element in a parent that has so

@@ -1,4 +1,4 @@
--- Parts of bytes are bytes, and so are bytes one behind the other.
+-- Parts of bytes are bytes, and so are bytes one after the other.
 use Rattle.std.proofs.Common.{ℕ, zero, suc, ◌<◌, List, [], ◌∷◌, ◌++◌, get_or, arith}
 use Rattle.ffv1_range.specs.Codes.{AreBytes}
 

@@ -1,47 +1,35 @@
 -- A file is checked.
-use Rattle.std.proofs.Common.{◌≡◌, refl, ℕ, suc, ◌+◌, ◌<◌, ◌≤◌, Bool, Option, Some, None, Result, Ok, Err, List, [], ◌∷◌, ◌++◌, length, take, inl, inr, ap, sym, subst, ◌∙◌, arith, length-append}
+use Rattle.std.proofs.Common.{◌≡◌, refl, ℕ, ◌+◌, ◌<◌, Bool, Option, Some, None, Ok, Err, List, [], ◌∷◌, ◌++◌, length, take, inl, inr, ap, sym, subst, ◌∙◌, arith, length-append}
 use Rattle.std.specs.Io.KnownBytes.{Appends}
 use Rattle.std.proofs.KnownBytes.{Appends-trans, Appends-kept, Keeps-refl}
-use Rattle.std.proofs.lemmas.List.{take-append-le}
 use Rattle.ffv1_range.specs.Counts.{saturated}
 use Rattle.ffv1_wire.specs.Failures.{one_more}
 use Rattle.ffv1_wire.specs.Passage.{between}
 use Rattle.ffv1_record.specs.Accepted.{Accepted}
-use Rattle.ffv1_record.specs.Configuration.{Configuration}
-use Rattle.ffv1_avi.specs.declared.place.Extent.TheVariants.{FirstMovi, EveryRiff}
-use Rattle.ffv1_avi.specs.declared.place.Place.{Place}
+use Rattle.ffv1_files.specs.declared.container.Scope.TheVariants.{FirstMovi, Whole}
+use Rattle.ffv1_files.specs.Places.{Place}
 use Rattle.ffv1_avi.specs.Chunks.{AviFile}
-use Rattle.ffv1_avi.specs.Riffs.{RiffFile}
-use Rattle.ffv1_avi.specs.Files.{file_read, frame_read, frames_read, more_frames}
+use Rattle.ffv1_files.specs.Whole.{IsWhole}
+use Rattle.ffv1_files.specs.Files.{file_read, frame_read, frames_read, more_frames}
 use Rattle.ffv1_reads.specs.Head.{Head}
-use Rattle.ffv1_avi.specs.Readers.{Standing}
+use Rattle.ffv1_files.specs.Readers.{Standing}
 use Rattle.ffv1_reads.specs.Reads as avi
 use Rattle.ffv1_engine.specs.declared.profile.Profile.{Profile}
-use Rattle.ffv1_engine.specs.Profiles.{extent_in}
+use Rattle.ffv1_engine.specs.Profiles.{scope_in}
 use Rattle.ffv1_engine.specs.declared.profile.Profile.TheVariants.{Strict, Wide}
 use Rattle.ffv1_engine.specs.declared.fault.Fault.{Fault}
 use Rattle.ffv1_engine.specs.declared.fault.Fault.TheVariants as fault
 use Rattle.ffv1_engine.specs.declared.frame_line.FrameLine.TheVariants as line
-use Rattle.ffv1_engine.specs.Check.{CheckDone, CheckLineFails, CheckPayload, CheckStops, CheckStopsBy, ChecksSome, check_text, count_line}
+use Rattle.ffv1_engine.specs.Check.{CheckCountFails, CheckDone, CheckLineFails, CheckPayload, CheckStops, CheckStopsBy, ChecksSome, ChecksTo, count_line}
 use Rattle.ffv1_engine.specs.Faults.{Cause, cause_of}
 use Rattle.ffv1_engine.specs.Faults.Cause.{Reading, Writing, Memory, Content}
-use Rattle.ffv1_engine.specs.FrameLines.{frame_line, frame_lines, lines_from}
+use Rattle.ffv1_engine.specs.FrameLines.{frame_lines}
 use Rattle.ffv1_engine.specs.Opens.{LacksOpeningBy, OpensKnown, OpensStream, stream_of}
-use Rattle.ffv1_engine.specs.Play.{BeginsSome, End, EndsKnown, Played, but_last}
+use Rattle.ffv1_engine.specs.Play.{BeginsSome, End, EndsKnown, Played}
 use Rattle.ffv1_engine.specs.Play.End.{File, Payload, Over}
-use Rattle.ffv1_engine.specs.Stream.{AreFrames, BeginsKnown, Frame, IsRead, ReadsFile, ReadsFrames, Stream, payloads}
+use Rattle.ffv1_engine.specs.Stream.{AreFrames, BeginsKnown, BeginsTo, Frame, IsRead, ReadsFile, ReadsFrames, Stream, payloads}
 use Rattle.ffv1_engine.specs.Told.{EndsFrom, LineFails, PayloadStops, ReadsKnown, ReadsSome, TellingStops, TellingStopsBy, ToldAll, ToldSome, WritesFrame}
-use Rattle.ffv1_engine.proofs.FramesTold.{take_past}
-
-fewer_lines : (c : Configuration) (i : ℕ) (frames : List Frame) → length (lines_from line.Sizes c i (but_last frames)) ≤ length (lines_from line.Sizes c i frames)
-fewer_lines c i [] = omega arith
-fewer_lines c i (f ∷ []) = omega arith
-fewer_lines c i (f ∷ g ∷ gs) =
-    let here = frame_line line.Sizes c (saturated i) f.payload f.tally in
-    let fewer = length-append here (lines_from line.Sizes c (suc i) (but_last (g ∷ gs))) in
-    let all = length-append here (lines_from line.Sizes c (suc i) (g ∷ gs)) in
-    let rest = fewer_lines c (suc i) (g ∷ gs) in
-    omega (arith, fewer, all, rest)
+use Rattle.ffv1_engine.proofs.FramesTold.{reads_some, take_past}
 
 pub no_frame : (frames : List Frame) → length frames ≡ 0 → frames ≡ []
 no_frame [] e = refl
@@ -51,11 +39,17 @@ pub positive : (frames : List Frame) → (length frames ≡ 0 → ⊥) → 0 < l
 positive [] none = absurd (none refl)
 positive (f ∷ fs) none = omega arith
 
--- behind the head frames begin, or end, as they do in movi
+-- after the head frames begin, or end, as they do in movi
 pub begins_some : (profile : Profile) (old mid : Option (List ℕ)) (s : Stream) (from : Place) (frames : List Frame) → OpensKnown profile old mid s.head from → ReadsSome from mid frames → BeginsSome profile old s frames
 begins_some profile None mid s from frames opens reads = tt
 begins_some profile (Some file) None s from frames opens reads = absurd opens
 begins_some profile (Some file) (Some behind) s from frames opens reads = (reads.0, reads.1, record { from = from; behind = behind; opened = opens; read = reads.2 })
+
+pub begins_to : (profile : Profile) (old mid at : Option (List ℕ)) (s : Stream) (from to : Place) (frames : List Frame) → OpensKnown profile old mid s.head from → ReadsKnown from mid at frames to → BeginsTo profile old at s frames to
+begins_to profile None mid at s from to frames opens reads = tt
+begins_to profile (Some file) None at s from to frames opens reads = absurd opens
+begins_to profile (Some file) (Some behind) None s from to frames opens reads = absurd reads
+begins_to profile (Some file) (Some behind) (Some rest) s from to frames opens reads = record { from = from; behind = behind; opened = opens; read = reads }
 
 pub begins_known : (profile : Profile) (old mid new : Option (List ℕ)) (s : Stream) (from to : Place) (frames : List Frame) → OpensKnown profile old mid s.head from → ReadsKnown from mid new frames to → BeginsKnown profile old new s frames
 begins_known profile None mid new s from to frames opens reads = tt
@@ -76,9 +70,8 @@ some_of_end from (Some text) None frames e ends = absurd ends
 some_of_end from (Some text) (Some rest) frames e ends = (ends.0, ends.1, ends.2)
 
 module _ (next : (place : Place) (text : List ℕ) → frames_read place text ≡ avi.read_on (frame_read place text) (more_frames frames_read))
-    (is_file : (file : List ℕ) (head : Head) (frames : List (List ℕ)) (rest : List ℕ) → file_read FirstMovi file ≡ Ok ((head, frames), rest) → AviFile file head frames)
-    (is_read : (file : List ℕ) (head : Head) (frames : List (List ℕ)) (is : AviFile file head frames) → file_read FirstMovi file ≡ Ok ((head, frames), is.rest))
-    (whole : (file : List ℕ) (head : Head) (frames : List (List ℕ)) (rest : List ℕ) → file_read EveryRiff file ≡ Ok ((head, frames), rest) → RiffFile file head frames × (rest ≡ [])) where
+    (is_file : (file : List ℕ) (head : Head) (frames : List (List ℕ)) (rest : List ℕ) → file_read FirstMovi file ≡ Ok ((head, frames), rest) → (is : AviFile file head frames) × (rest ≡ is.rest))
+    (whole : (file : List ℕ) (head : Head) (frames : List (List ℕ)) (rest : List ℕ) → file_read Whole file ≡ Ok ((head, frames), rest) → IsWhole file head frames rest) where
   all_read : (from : Place) (text : List ℕ) (frames : List Frame) (to : Place) (at rest : List ℕ) → ReadsFrames from text (payloads frames) to at → frame_read to at ≡ Ok (None, rest) →
       frames_read from text ≡ Ok (payloads frames, rest)
   all_read from text [] to at rest h over =
@@ -88,16 +81,8 @@ module _ (next : (place : Place) (text : List ℕ) → frames_read place text �
       next from text ∙ ap (λ z. avi.read_on z (more_frames frames_read)) h.2
       ∙ ap (λ z. avi.read_on z (λ frames. avi.given (f.payload ∷ frames))) (all_read h.0 h.1 fs to at rest h.3 over)
 
-  same_pair : {X : Type 0} (p q : X × List ℕ) (r : Result (X × List ℕ) avi.Stop) → r ≡ Ok p → r ≡ Ok q → p ≡ q
-  same_pair p q r e f = cc
-
-  same_rest : {X : Type 0} (x y : X) (rest more : List ℕ) (r : Result (X × List ℕ) avi.Stop) → r ≡ Ok (x, rest) → r ≡ Ok (y, more) → rest ≡ more
-  same_rest {X = X} x y rest more r e f = ap (λ (z : X × List ℕ). z.1) (same_pair (x, rest) (y, more) r e f)
-
-  whole_read : (profile : Profile) (file rest : List ℕ) (s : Stream) (frames : List Frame) → file_read (extent_in profile) file ≡ Ok ((s.head, payloads frames), rest) → IsRead profile file rest s frames
-  whole_read Strict file rest s frames read =
-      let is = is_file file s.head (payloads frames) rest read in
-      (is, same_rest (s.head, payloads frames) (s.head, payloads frames) rest is.rest (file_read FirstMovi file) read (is_read file s.head (payloads frames) is))
+  whole_read : (profile : Profile) (file rest : List ℕ) (s : Stream) (frames : List Frame) → file_read (scope_in profile) file ≡ Ok ((s.head, payloads frames), rest) → IsRead profile file rest s frames
+  whole_read Strict file rest s frames read = is_file file s.head (payloads frames) rest read
   whole_read Wide file rest s frames read = whole file s.head (payloads frames) rest read
 
   pub reads_file : (profile : Profile) (old mid new : Option (List ℕ)) (s : Stream) (from : Place) (frames : List Frame) → OpensKnown profile old mid s.head from → EndsFrom from mid new frames Over →
@@ -115,61 +100,58 @@ module _ (profile : Profile) (place : Bool) (i0 i1 i2 o0 o1 o2 : Option (List �
   -- a file that is not opened
   pub lacks_opening : (f : Fault) (why : Cause) → LacksOpeningBy profile (between i0 i1 ib im) f why → CheckStopsBy profile place (between i0 i1 ib im) (between o0 o0 ob ob) f why
   lacks_opening f Writing h = absurd h
-  lacks_opening f Reading h = (inl (record { written = refl; none = Keeps-refl o0 }), h)
-  lacks_opening f Memory h = (inl (record { written = refl; none = Keeps-refl o0 }), h)
+  lacks_opening f Reading h = (h.0, inl (record { written = refl; none = Keeps-refl o0 }, h.1))
+  lacks_opening f Memory h = (h.0, inl (record { written = refl; none = Keeps-refl o0 }, h.1))
   lacks_opening f Content h = (h.0, inl (record { written = refl; none = Keeps-refl o0 }, h.1))
 
   module _ (r : Standing) (a : Accepted) (opens : OpensStream profile r a (between i0 i1 ib im)) where
     played : (frames : List Frame) → AreFrames a frames → Played profile (stream_of r a) frames
     played frames are = record { stream = opens.stream; decoded = are }
 
-    some : (frames : List Frame) → ToldSome line.Sizes place a r.place (between i1 i2 im ia) (between o0 o1 ob om) frames → ChecksSome profile place (between i0 i2 ib ia) (between o0 o1 ob om) (stream_of r a) frames
-    some frames told = record {
+    some : (frames : List Frame) (to : Place) (at : Option (List ℕ)) → ToldSome line.Sizes place a r.place (between i1 i2 im ia) (between o0 o1 ob om) frames to at →
+        ChecksSome profile place (between i0 i2 ib ia) (between o0 o1 ob om) (stream_of r a) frames
+    some frames to at told = record {
       played = played frames told.are;
-      begins = begins_some profile i0 i1 (stream_of r a) r.place frames opens.known told.begins;
+      begins = begins_some profile i0 i1 (stream_of r a) r.place frames opens.known (reads_some r.place to i1 at frames told.read);
       written = told.written;
       writes = told.writes;
     }
 
-    -- writing stopped within the lines
-    short_text : (frames : List Frame) (k : ℕ) → k < length (frame_lines line.Sizes a.configuration frames) →
-        take k (frame_lines line.Sizes a.configuration frames) ≡ take k (check_text a.configuration frames)
-    short_text frames k short =
-        let most : k ≤ length (frame_lines line.Sizes a.configuration frames) = omega (arith, short) in
-        sym (take-append-le k (frame_lines line.Sizes a.configuration frames) (count_line (saturated (length frames))) most)
+    up_to : (frames : List Frame) (to : Place) (at : Option (List ℕ)) → ToldSome line.Sizes place a r.place (between i1 i2 im ia) (between o0 o1 ob om) frames to at →
+        ChecksTo profile place (between i0 i2 ib ia) (between o0 o1 ob om) (stream_of r a) frames to at
+    up_to frames to at told = record {
+      played = played frames told.are;
+      begins = begins_to profile i0 i1 at (stream_of r a) r.place to frames opens.known told.read;
+      written = told.written;
+      writes = told.writes;
+    }
 
     line_fails : (frames : List Frame) → LineFails line.Sizes place a r.place (between i1 i2 im ia) (between o0 o1 ob om) frames → CheckLineFails profile place (between i0 i2 ib ia) (between o0 o1 ob om)
-    line_fails frames h =
-        let lines = frame_lines line.Sizes a.configuration frames in
-        let long : length (lines ++ count_line (saturated (length frames))) ≡ length lines + length (count_line (saturated (length frames))) = length-append lines (count_line (saturated (length frames))) in
-        record {
-          stream = stream_of r a;
-          frames = frames;
-          played = played frames h.are;
-          begins = begins_some profile i0 i1 (stream_of r a) r.place frames opens.known h.begins;
-          kept = h.kept ∙ opens.kept;
-          written = h.written;
-          writes = record {
-            count = h.writes.count;
-            enough = h.writes.enough;
-            short = omega (arith, h.writes.short, long);
-            writes = subst (Appends o0 o1) (short_text frames h.writes.count h.writes.short) h.writes.writes;
-          };
-        }
+    line_fails frames h = record {
+      stream = stream_of r a;
+      frames = frames;
+      played = played frames h.are;
+      begins = begins_known profile i0 i1 i2 (stream_of r a) r.place h.to frames opens.known h.read;
+      kept = h.kept ∙ opens.kept;
+      written = h.written;
+      writes = h.writes;
+    }
 
     stops_by : (f : Fault) (why : Cause) → TellingStopsBy line.Sizes place a r.place (between i1 i2 im ia) (between o0 o1 ob om) f why → CheckStopsBy profile place (between i0 i2 ib ia) (between o0 o1 ob om) f why
-    stops_by f Writing h = line_fails h.0 h.1
-    stops_by f Reading h = (inr (stream_of r a, h.0, some h.0 h.1), h.2 ∙ ap one_more opens.kept)
-    stops_by f Memory h = (inr (stream_of r a, h.0, some h.0 h.1), h.2 ∙ opens.kept)
+    stops_by f Writing h = inl (line_fails h.0 h.1)
+    stops_by f Reading h =
+        (h.4 ∙ ap one_more opens.kept, inr (record { stream = stream_of r a; frames = h.0; to = h.1; at = h.2; checks = up_to h.0 h.1 h.2 h.3; fails = h.5 }))
+    stops_by f Memory h =
+        (h.4 ∙ opens.kept, inr (inl (record { stream = stream_of r a; frames = h.0; to = h.1; at = h.2; checks = up_to h.0 h.1 h.2 h.3; lacks = h.5 })))
     stops_by f Content h = (
-      h.2 ∙ opens.kept,
+      h.4 ∙ opens.kept,
       inr (record {
         stream = stream_of r a;
         frames = h.0;
         end = File f;
         file = tt;
-        checks = some h.0 h.1;
-        ends = ends_known profile i0 i1 i2 (stream_of r a) r.place h.0 (File f) opens.known h.3;
+        checks = some h.0 h.1 h.2 h.3;
+        ends = ends_known profile i0 i1 i2 (stream_of r a) r.place h.0 (File f) opens.known h.5;
         is = refl;
       }),
     )
@@ -185,6 +167,7 @@ module _ (profile : Profile) (place : Bool) (i0 i1 i2 o0 o1 o2 : Option (List �
       ends = ends_known profile i0 i1 i2 (stream_of r a) r.place h.frames (Payload h.payload h.fault h.tally) opens.known h.ends;
       faulty = h.faulty;
       is = h.is;
+      content = h.content;
       kept = h.kept ∙ opens.kept;
       writes = h.writes;
     }
@@ -196,6 +179,9 @@ module _ (profile : Profile) (place : Bool) (i0 i1 i2 o0 o1 o2 : Option (List �
     ]
 
     module _ (frames : List Frame) (count : ℕ) (is : count ≡ saturated (length frames)) (told : ToldAll line.Sizes place a r.place (between i1 i2 im ia) (between o0 o1 ob om) frames) where
+      all_ends : EndsKnown profile i0 i2 (stream_of r a) frames Over
+      all_ends = ends_known profile i0 i1 i2 (stream_of r a) r.place frames Over opens.known told.ends
+
       all_some : ChecksSome profile place (between i0 i2 ib ia) (between o0 o1 ob om) (stream_of r a) frames
       all_some = record {
         played = played frames told.are;
@@ -213,7 +199,7 @@ module _ (profile : Profile) (place : Bool) (i0 i1 i2 o0 o1 o2 : Option (List �
           end = Over;
           file = tt;
           checks = all_some;
-          ends = ends_known profile i0 i1 i2 (stream_of r a) r.place frames Over opens.known told.ends;
+          ends = all_ends;
           is = (no_frame frames (let few : length frames ≡ 0 = omega (arith, is, none) in few), refl);
         }),
       )
@@ -232,21 +218,20 @@ module _ (profile : Profile) (place : Bool) (i0 i1 i2 o0 o1 o2 : Option (List �
             (Appends-trans o0 o1 o2 (frame_lines line.Sizes a.configuration frames) (count_line count) told.writes writes);
       }
 
-      count_fails : (k : ℕ) → k < length (count_line count) → oa ≡ one_more om → Appends o1 o2 (take k (count_line count)) → CheckLineFails profile place (between i0 i2 ib ia) (between o0 o2 ob oa)
+      count_fails : (k : ℕ) → k < length (count_line count) → oa ≡ one_more om → Appends o1 o2 (take k (count_line count)) → CheckCountFails profile place (between i0 i2 ib ia) (between o0 o2 ob oa)
       count_fails k short counted writes =
           let lines = frame_lines line.Sizes a.configuration frames in
           let long : length (lines ++ count_line count) ≡ length lines + length (count_line count) = length-append lines (count_line count) in
-          let fewer : length (frame_lines line.Sizes a.configuration (but_last frames)) ≤ length lines = fewer_lines a.configuration 0 frames in
           record {
             stream = stream_of r a;
             frames = frames;
             played = played frames told.are;
-            begins = all_some.begins;
+            ends = all_ends;
             kept = told.kept ∙ opens.kept;
             written = counted ∙ ap one_more told.written;
             writes = record {
               count = length lines + k;
-              enough = omega (arith, fewer);
+              enough = omega arith;
               short = subst (λ n. length lines + k < length (lines ++ count_line n)) is (omega (arith, short, long));
               writes =
                   subst (λ n. Appends o0 o2 (take (length lines + k) (lines ++ count_line n))) is
@@ -257,19 +242,17 @@ module _ (profile : Profile) (place : Bool) (i0 i1 i2 o0 o1 o2 : Option (List �
       pub count_stops : (f : Fault) → WritesFrame (count_line count) (between o1 o2 om oa) (Err f) → CheckStops profile place (between i0 i2 ib ia) (between o0 o2 ob oa) f
       count_stops f h = elim h [
         | inl write ↦
-            inr (subst (λ z. CheckStopsBy profile place (between i0 i2 ib ia) (between o0 o2 ob oa) z (cause_of z)) (sym write.0) (count_fails write.2.0 write.2.1 write.1 write.2.2))
+            inr (subst (λ z. CheckStopsBy profile place (between i0 i2 ib ia) (between o0 o2 ob oa) z (cause_of z)) (sym write.0) (inr (count_fails write.2.0 write.2.1 write.1 write.2.2)))
         | inr none ↦
             inr (subst (λ z. CheckStopsBy profile place (between i0 i2 ib ia) (between o0 o2 ob oa) z (cause_of z)) (sym none.0) (
-              inr (
-                stream_of r a,
-                frames,
-                record {
-                  played = played frames told.are;
-                  begins = all_some.begins;
-                  written = none.1 ∙ told.written;
-                  writes = Appends-kept o0 o1 o2 (frame_lines line.Sizes a.configuration frames) told.writes none.2;
-                },
-              ),
               told.kept ∙ opens.kept,
+              inr (inr (record {
+                stream = stream_of r a;
+                frames = frames;
+                played = played frames told.are;
+                ends = all_ends;
+                written = none.1 ∙ told.written;
+                writes = Appends-kept o0 o1 o2 (frame_lines line.Sizes a.configuration frames) told.writes none.2;
+              })),
             ))
       ]

@@ -1,54 +1,46 @@
 -- A file is shown.
 use Rattle.std.proofs.Common.{◌≡◌, refl, ℕ, ◌+◌, ◌<◌, Bool, true, false, Option, Err, List, [], ◌++◌, length, take, inl, inr, ap, sym, subst, ◌∙◌, arith, append-nil, length-append}
 use Rattle.std.specs.Io.KnownBytes.{Appends}
-use Rattle.std.proofs.KnownBytes.{Appends-nil, Appends-trans, Keeps-refl}
+use Rattle.std.proofs.KnownBytes.{Appends-kept, Appends-trans, Keeps-refl}
 use Rattle.ffv1_wire.specs.Failures.{one_more}
 use Rattle.ffv1_wire.specs.Passage.{Passage, between}
 use Rattle.ffv1_record.specs.Accepted.{Accepted}
-use Rattle.ffv1_avi.specs.declared.place.Place.{Place}
-use Rattle.ffv1_avi.specs.Readers.{Standing}
+use Rattle.ffv1_files.specs.Places.{Place}
+use Rattle.ffv1_files.specs.Readers.{Standing}
 use Rattle.ffv1_engine.specs.declared.profile.Profile.{Profile}
 use Rattle.ffv1_engine.specs.declared.fault.Fault.{Fault}
-use Rattle.ffv1_engine.specs.declared.fault.Fault.TheVariants as fault
 use Rattle.ffv1_engine.specs.declared.frame_line.FrameLine.TheVariants as line
 use Rattle.ffv1_engine.specs.Faults.{Cause, cause_of}
 use Rattle.ffv1_engine.specs.Faults.Cause.{Reading, Writing, Memory, Content}
 use Rattle.ffv1_engine.specs.FrameLines.{frame_lines}
-use Rattle.ffv1_engine.specs.Opens.{LacksOpeningBy, OpensStream, stream_of}
+use Rattle.ffv1_engine.specs.Opens.{LacksOpeningBy, OpensKnown, OpensStream, stream_of}
 use Rattle.ffv1_engine.specs.Play.{but_last}
 use Rattle.ffv1_engine.specs.Play.End.{File, Payload}
-use Rattle.ffv1_engine.specs.Show.{CostFails, CostPayload, CostStops, CostStopsBy, CostsSome, ShowStops, ShowsCosts, ShowsStream, StreamStopsBy}
-use Rattle.ffv1_engine.specs.Stream.{Frame, ReadsFile}
+use Rattle.ffv1_engine.specs.Show.{CostFails, CostPayload, CostStops, CostStopsBy, CostsSome, CostsTo, NoDecoder, ShowStops, ShowsCosts, ShowsStream, StreamStopsBy}
+use Rattle.ffv1_engine.specs.Stream.{AreFrames, Frame, ReadsFile}
 use Rattle.ffv1_engine.specs.StreamLines.{show_text}
-use Rattle.ffv1_engine.specs.Told.{LineFails, PayloadStops, TellingStops, TellingStopsBy, ToldAll, ToldSome, WritesFrame, WritesLine}
-use Rattle.ffv1_engine.proofs.FileChecked.{begins_some, ends_known, some_of_end}
-use Rattle.ffv1_engine.proofs.FramesTold.{reads_none, reads_some, take_past}
+use Rattle.ffv1_engine.specs.Told.{LineFails, PayloadStops, ReadsSome, TellingStops, TellingStopsBy, ToldAll, ToldSome, WritesFrame, WritesLine}
+use Rattle.ffv1_engine.proofs.FileChecked.{begins_known, begins_some, begins_to, ends_known, some_of_end}
+use Rattle.ffv1_engine.proofs.FramesTold.{reads_some, take_past}
 
 -- where the lines of the stream were not written, it does not matter whether costs were asked for
 pub before_costs : (profile : Profile) (input output : Passage) (cost : Bool) (f : Fault) → StreamStopsBy profile input output f (cause_of f) → ShowStops profile input output cost f
 before_costs profile input output false f h = h
 before_costs profile input output true f h = inl h
 
--- a decoder that was refused its memory
-pub no_player : (a : Accepted) (from : Place) (i o : Option (List ℕ)) (ib ob : ℕ) → TellingStops line.Cost false a from (between i i ib ib) (between o o ob ob) fault.OutOfMemory
-no_player a from i o ib ob = inr ([], record { are = tt; begins = reads_some from from i i [] (reads_none from i); written = refl; writes = Appends-nil o }, refl)
-
--- an empty line behind others
+-- an empty line after others
 nothing_behind : (lines : List ℕ) (p : Passage) → WritesLine lines [] p → (p.after ≡ p.before) × Appends p.old p.new lines
 nothing_behind lines p h = elim h [
   | inl whole ↦ (whole.0, subst (Appends p.old p.new) (append-nil lines) whole.1)
-  | inr more ↦ elim more [
-    | inl part ↦ absurd (let none : part.1 < 0 = part.2 in omega (arith, none))
-    | inr none ↦ (none.1, none.2)
-  ]
+  | inr part ↦ absurd (let none : part.1 < 0 = part.2 in omega (arith, none))
 ]
 
 module _ (profile : Profile) (i0 i1 o0 o1 : Option (List ℕ)) (ib im ob om : ℕ) where
   -- a file that is not opened
   pub lacks_stream : (f : Fault) (why : Cause) → LacksOpeningBy profile (between i0 i1 ib im) f why → StreamStopsBy profile (between i0 i1 ib im) (between o0 o0 ob ob) f why
   lacks_stream f Writing h = absurd h
-  lacks_stream f Reading h = (record { kept = Keeps-refl o0; same = refl }, h)
-  lacks_stream f Memory h = (record { kept = Keeps-refl o0; same = refl }, h)
+  lacks_stream f Reading h = (record { kept = Keeps-refl o0; same = refl }, h.0, h.1)
+  lacks_stream f Memory h = (record { kept = Keeps-refl o0; same = refl }, h.0, h.1)
   lacks_stream f Content h = (record { kept = Keeps-refl o0; same = refl }, h.0, h.1)
 
   module _ (r : Standing) (a : Accepted) (opens : OpensStream profile r a (between i0 i1 ib im)) where
@@ -76,7 +68,8 @@ module _ (profile : Profile) (i0 i1 o0 o1 : Option (List ℕ)) (ib im ob om : �
             written = write.1;
             writes = write.2;
           })
-      | inr none ↦ subst (λ z. StreamStopsBy profile (between i0 i1 ib im) (between o0 o1 ob om) z (cause_of z)) (sym none.0) (record { kept = none.2; same = none.1 }, opens.kept)
+      | inr none ↦ subst (λ z. StreamStopsBy profile (between i0 i1 ib im) (between o0 o1 ob om) z (cause_of z)) (sym none.0)
+          (record { kept = none.2; same = none.1 }, opens.kept, inr (inr (record { stream = stream_of r a; is = opens.stream; place = r.place; known = opens.known })))
     ]
 
 module _ (profile : Profile) (i0 i1 i2 o0 o1 o2 : Option (List ℕ)) (ib im ia ob om oa : ℕ) (r : Standing) (a : Accepted) (opens : OpensStream profile r a (between i0 i1 ib im)) (same : om ≡ ob)
@@ -84,10 +77,20 @@ module _ (profile : Profile) (i0 i1 i2 o0 o1 o2 : Option (List ℕ)) (ib im ia o
   behind : (lines : List ℕ) → Appends o1 o2 lines → Appends o0 o2 (show_text (stream_of r a) ++ lines)
   behind lines more = Appends-trans o0 o1 o2 (show_text (stream_of r a)) lines writes more
 
-  some : (frames : List Frame) → ToldSome line.Cost false a r.place (between i1 i2 im ia) (between o1 o2 om oa) frames → CostsSome profile (between i0 i2 ib ia) (between o0 o2 ob oa) (stream_of r a) frames
-  some frames told = record {
+  some : (frames : List Frame) → AreFrames a frames → ReadsSome r.place i1 frames → oa ≡ om → Appends o1 o2 (frame_lines line.Cost a.configuration frames) →
+      CostsSome profile (between i0 i2 ib ia) (between o0 o2 ob oa) (stream_of r a) frames
+  some frames are reads silent lines = record {
+    played = record { stream = opens.stream; decoded = are };
+    begins = begins_some profile i0 i1 (stream_of r a) r.place frames opens.known reads;
+    written = silent ∙ same;
+    writes = behind (frame_lines line.Cost a.configuration frames) lines;
+  }
+
+  up_to : (frames : List Frame) (to : Place) (at : Option (List ℕ)) → ToldSome line.Cost false a r.place (between i1 i2 im ia) (between o1 o2 om oa) frames to at →
+      CostsTo profile (between i0 i2 ib ia) (between o0 o2 ob oa) (stream_of r a) frames to at
+  up_to frames to at told = record {
     played = record { stream = opens.stream; decoded = told.are };
-    begins = begins_some profile i0 i1 (stream_of r a) r.place frames opens.known told.begins;
+    begins = begins_to profile i0 i1 at (stream_of r a) r.place to frames opens.known told.read;
     written = told.written ∙ same;
     writes = behind (frame_lines line.Cost a.configuration frames) told.writes;
   }
@@ -103,7 +106,7 @@ module _ (profile : Profile) (i0 i1 i2 o0 o1 o2 : Option (List ℕ)) (ib im ia o
         stream = stream_of r a;
         frames = frames;
         played = record { stream = opens.stream; decoded = h.are };
-        begins = begins_some profile i0 i1 (stream_of r a) r.place frames opens.known h.begins;
+        begins = begins_known profile i0 i1 i2 (stream_of r a) r.place h.to frames opens.known h.read;
         kept = h.kept ∙ opens.kept;
         written = h.written ∙ ap one_more same;
         writes = record {
@@ -116,14 +119,15 @@ module _ (profile : Profile) (i0 i1 i2 o0 o1 o2 : Option (List ℕ)) (ib im ia o
 
   stops_by : (f : Fault) (why : Cause) → TellingStopsBy line.Cost false a r.place (between i1 i2 im ia) (between o1 o2 om oa) f why → CostStopsBy profile (between i0 i2 ib ia) (between o0 o2 ob oa) f why
   stops_by f Writing h = line_fails h.0 h.1
-  stops_by f Reading h = ((stream_of r a, h.0, some h.0 h.1), h.2 ∙ ap one_more opens.kept)
-  stops_by f Memory h = ((stream_of r a, h.0, some h.0 h.1), h.2 ∙ opens.kept)
+  stops_by f Reading h =
+      (h.4 ∙ ap one_more opens.kept, record { stream = stream_of r a; frames = h.0; to = h.1; at = h.2; costs = up_to h.0 h.1 h.2 h.3; fails = h.5 })
+  stops_by f Memory h = (h.4 ∙ opens.kept, inr (record { stream = stream_of r a; frames = h.0; to = h.1; at = h.2; costs = up_to h.0 h.1 h.2 h.3; lacks = h.5 }))
   stops_by f Content h = record {
     stream = stream_of r a;
     frames = h.0;
-    costs = some h.0 h.1;
-    kept = h.2 ∙ opens.kept;
-    ends = ends_known profile i0 i1 i2 (stream_of r a) r.place h.0 (File f) opens.known h.3;
+    costs = some h.0 h.3.are (reads_some r.place h.1 i1 h.2 h.0 h.3.read) h.3.written h.3.writes;
+    kept = h.4 ∙ opens.kept;
+    ends = ends_known profile i0 i1 i2 (stream_of r a) r.place h.0 (File f) opens.known h.5;
   }
 
   payload_stops : (f : Fault) → PayloadStops line.Cost false a r.place (between i1 i2 im ia) (between o1 o2 om oa) f → CostPayload profile (between i0 i2 ib ia) (between o0 o2 ob oa) f
@@ -132,12 +136,7 @@ module _ (profile : Profile) (i0 i1 i2 o0 o1 o2 : Option (List ℕ)) (ib im ia o
       record {
         stream = stream_of r a;
         frames = h.frames;
-        costs = some h.frames (record {
-          are = h.are;
-          begins = some_of_end r.place i1 i2 h.frames (Payload h.payload h.fault h.tally) h.ends;
-          written = silent.0;
-          writes = silent.1;
-        });
+        costs = some h.frames h.are (some_of_end r.place i1 i2 h.frames (Payload h.payload h.fault h.tally) h.ends) silent.0 silent.1;
         kept = h.kept ∙ opens.kept;
         payload = h.payload;
         fault = h.fault;
@@ -145,7 +144,24 @@ module _ (profile : Profile) (i0 i1 i2 o0 o1 o2 : Option (List ℕ)) (ib im ia o
         ends = ends_known profile i0 i1 i2 (stream_of r a) r.place h.frames (Payload h.payload h.fault h.tally) opens.known h.ends;
         faulty = h.faulty;
         is = h.is;
+        content = h.content;
       }
+
+  -- the decoder was refused its memory
+  pub no_decoder : (f : Fault) → NoDecoder (between i1 i2 im ia) (between o1 o2 om oa) f → CostStops profile (between i0 i2 ib ia) (between o0 o2 ob oa) f
+  no_decoder f h =
+      subst (CostStops profile (between i0 i2 ib ia) (between o0 o2 ob oa)) (sym h.is) (inr (
+        h.unread ∙ opens.kept,
+        inl (record {
+          stream = stream_of r a;
+          is = opens.stream;
+          place = r.place;
+          opens = subst (λ z. OpensKnown profile i0 z r.head r.place) h.left opens.known;
+          kept = h.unread ∙ opens.kept;
+          written = h.silent.same ∙ same;
+          writes = Appends-kept o0 o1 o2 (show_text (stream_of r a)) writes h.silent.kept;
+        }),
+      ))
 
   pub costs_stop : (f : Fault) → TellingStops line.Cost false a r.place (between i1 i2 im ia) (between o1 o2 om oa) f → CostStops profile (between i0 i2 ib ia) (between o0 o2 ob oa) f
   costs_stop f h = elim h [

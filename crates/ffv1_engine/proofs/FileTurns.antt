@@ -1,8 +1,8 @@
 -- A file that is read whole, frame by frame.
 use Rattle.std.proofs.Common.{◌≡◌, refl, ℕ, Option, Some, None, Result, Ok, Err, List, [], ◌∷◌, ◌++◌, inl, inr, ap, sym, subst, ◌∙◌}
-use Rattle.ffv1_avi.specs.declared.place.Extent.{Extent}
-use Rattle.ffv1_avi.specs.declared.place.Place.{Place}
-use Rattle.ffv1_avi.specs.Files.{file_read, frame_read, frames_read, more_frames, open_read}
+use Rattle.ffv1_files.specs.declared.container.Scope.{Scope}
+use Rattle.ffv1_files.specs.Places.{Place}
+use Rattle.ffv1_files.specs.Files.{file_read, frame_read, frames_read, more_frames, open_read}
 use Rattle.ffv1_reads.specs.Head.{Head}
 use Rattle.ffv1_reads.specs.Reads as avi
 use Rattle.ffv1_engine.specs.declared.fault.Fault.{Fault}
@@ -26,10 +26,10 @@ no_fault reading text rest f x (inl h) e = no_read (reading text) _ x h.1 e
 no_fault reading text rest f x (inr h) e = no_read (reading text) _ x h.1 e
 
 -- a file is its head and then its frames
-pub record Opened (extent : Extent) (file : List ℕ) (head : Head) (frames : List (List ℕ)) (rest : List ℕ) : Type 0 where
+pub record Opened (scope : Scope) (file : List ℕ) (head : Head) (frames : List (List ℕ)) (rest : List ℕ) : Type 0 where
   pub from : Place
   pub behind : List ℕ
-  pub opened : open_read extent file ≡ Ok ((head, from), behind)
+  pub opened : open_read scope file ≡ Ok ((head, from), behind)
   pub read : frames_read from behind ≡ Ok (frames, rest)
 
 abbrev Pair : Type 0
@@ -42,17 +42,17 @@ frames_with (Ok p) first head frames rest e =
     let same : ((first, p.0), p.1) ≡ ((head, frames), rest) = same_read (Ok ((first, p.0), p.1)) _ _ refl e in
     (ap (λ (z : Pair × List ℕ). z.0.0) same, ap (λ (z : Pair × List ℕ). Ok (z.0.1, z.1)) same)
 
-opened_with : (extent : Extent) (r : Result ((Head × Place) × List ℕ) avi.Stop) (file : List ℕ) (head : Head) (frames : List (List ℕ)) (rest : List ℕ) → open_read extent file ≡ r →
-    avi.read_on {Y = Pair} r (λ p text. avi.read_on {Y = Pair} (frames_read p.1 text) (λ fs. avi.given (p.0, fs))) ≡ Ok ((head, frames), rest) → Opened extent file head frames rest
-opened_with extent (Err why) file head frames rest is e = absurd (cc)
-opened_with extent (Ok p) file head frames rest is e =
+opened_with : (scope : Scope) (r : Result ((Head × Place) × List ℕ) avi.Stop) (file : List ℕ) (head : Head) (frames : List (List ℕ)) (rest : List ℕ) → open_read scope file ≡ r →
+    avi.read_on {Y = Pair} r (λ p text. avi.read_on {Y = Pair} (frames_read p.1 text) (λ fs. avi.given (p.0, fs))) ≡ Ok ((head, frames), rest) → Opened scope file head frames rest
+opened_with scope (Err why) file head frames rest is e = absurd (cc)
+opened_with scope (Ok p) file head frames rest is e =
     let parts = frames_with (frames_read p.0.1 p.1) p.0.0 head frames rest e in
     record { from = p.0.1; behind = p.1; opened = is ∙ ap (λ h. Ok ((h, p.0.1), p.1)) parts.0; read = parts.1 }
 
-pub opened : (extent : Extent) (file : List ℕ) (head : Head) (frames : List (List ℕ)) (rest : List ℕ) → file_read extent file ≡ Ok ((head, frames), rest) → Opened extent file head frames rest
-opened extent file head frames rest e = opened_with extent (open_read extent file) file head frames rest refl e
+pub opened : (scope : Scope) (file : List ℕ) (head : Head) (frames : List (List ℕ)) (rest : List ℕ) → file_read scope file ≡ Ok ((head, frames), rest) → Opened scope file head frames rest
+opened scope file head frames rest e = opened_with scope (open_read scope file) file head frames rest refl e
 
--- so many frames are a beginning of them all, and behind them the others are read
+-- so many frames are a beginning of them all, and after them the others are read
 pub record Others (from : Place) (at : List ℕ) (frames all : List (List ℕ)) (rest : List ℕ) : Type 0 where
   pub more : List (List ℕ)
   pub parts : all ≡ frames ++ more

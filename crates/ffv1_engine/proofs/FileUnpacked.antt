@@ -1,27 +1,27 @@
 -- A file is unpacked.
-use Rattle.std.proofs.Common.{◌≡◌, ◌⊎◌, refl, ℕ, ◌<◌, Bool, true, false, Option, Some, None, List, [], ◌∷◌, ◌++◌, length, inl, inr, ap, sym, subst, ◌∙◌, arith}
+use Rattle.std.proofs.Common.{◌≡◌, refl, ℕ, Bool, true, false, Option, List, [], ◌∷◌, ◌++◌, length, inl, inr, ap, sym, subst, ◌∙◌, arith}
 use Rattle.ffv1_range.specs.Counts.{saturated}
 use Rattle.ffv1_wire.specs.Failures.{one_more}
-use Rattle.ffv1_wire.specs.Passage.{Passage, at_rest, between}
+use Rattle.ffv1_wire.specs.Passage.{Passage, between}
 use Rattle.ffv1_record.specs.Accepted.{Accepted}
 use Rattle.ffv1_record.specs.Configuration.{Configuration}
-use Rattle.ffv1_avi.specs.Readers.{Standing}
+use Rattle.ffv1_files.specs.Places.{Place}
+use Rattle.ffv1_files.specs.Readers.{Standing}
 use Rattle.ffv1_engine.specs.declared.profile.Profile.{Profile}
 use Rattle.ffv1_engine.specs.declared.fault.Fault.{Fault}
 use Rattle.ffv1_engine.specs.declared.fault.Fault.TheVariants as fault
 use Rattle.ffv1_engine.specs.Faults.{Cause, cause_of}
 use Rattle.ffv1_engine.specs.Faults.Cause.{Reading, Writing, Memory, Content}
-use Rattle.ffv1_engine.specs.Opens.{LacksOpening, LacksOpeningBy, OpensKnown, OpensStream, stream_of}
+use Rattle.ffv1_engine.specs.Opens.{LacksOpening, LacksOpeningBy, OpensStream, stream_of}
 use Rattle.ffv1_engine.specs.Play.{Played}
 use Rattle.ffv1_engine.specs.Play.End.{File, Payload, Over}
-use Rattle.ffv1_engine.specs.Stream.{AreFrames, BeginsKnown, Frame, ReadsFile, Stream}
-use Rattle.ffv1_engine.specs.Told.{ReadsKnown}
-use Rattle.ffv1_engine.specs.Unpack.{IsUnpackFault, LacksUnpacking, LacksUnpackingBy, UnpackChanges, UnpackDone, UnpackEnds, UnpackPayload, UnpackPictureFails, UnpackRowFails, UnpackStops, UnpackStopsBy, UnpacksSome}
-use Rattle.ffv1_engine.specs.Unpacked.{HasText, HasTextBy, LacksTextBy, is_ppm_stream}
-use Rattle.ffv1_engine.specs.Unpacking.{FileFaults, FormatChanges, PayloadFaults, PictureFails, RowFails, UnpackedAll, UnpackedSome, UnpackingStops, UnpackingStopsBy}
+use Rattle.ffv1_engine.specs.Stream.{AreFrames, Frame, ReadsFile}
+use Rattle.ffv1_engine.specs.Unpack.{IsUnpackFault, LacksUnpacking, LacksUnpackingBy, UnpackChanges, UnpackDone, UnpackEnds, UnpackPayload, UnpackPictureFails, UnpackRowFails, UnpackStops, UnpackStopsBy, UnpacksSome, UnpacksTo}
+use Rattle.ffv1_engine.specs.Unpacked.{HasText, LacksTextBy, is_ppm_stream}
+use Rattle.ffv1_engine.specs.Unpacking.{FileFaults, FormatChanges, PayloadFaults, PictureFails, RowFails, UnpackedAll, UnpackedSome, UnpackedTo, UnpackingStops, UnpackingStopsBy}
 use Rattle.ffv1_engine.proofs.FramesTold.{reads_none, reads_some}
 use Rattle.ffv1_engine.proofs.PicturesWritten.{silent}
-use Rattle.ffv1_engine.proofs.FileChecked.{begins_known, begins_some, ends_known, no_frame, positive, some_of_end}
+use Rattle.ffv1_engine.proofs.FileChecked.{begins_known, begins_some, begins_to, ends_known, no_frame, positive, some_of_end}
 
 -- a file that is not opened
 lacks_opening_by : (profile : Profile) (p : Passage) (f : Fault) (why : Cause) → LacksOpeningBy profile p f why → LacksUnpackingBy profile p f why
@@ -57,9 +57,9 @@ lacks_text profile i0 i1 ib im r a f opens lacks =
 
 module _ (profile : Profile) (i0 i1 i2 o0 o1 : Option (List ℕ)) (ib im ia ob om : ℕ) where
   lacks_by : (f : Fault) (why : Cause) → LacksUnpackingBy profile (between i0 i1 ib im) f why → UnpackStopsBy profile (between i0 i1 ib im) (between o0 o0 ob ob) f why
-  lacks_by f Reading h = (inl (silent o0 ob), h)
+  lacks_by f Reading h = (h.0, inl (silent o0 ob, h.1))
   lacks_by f Writing h = absurd h
-  lacks_by f Memory h = (inl (silent o0 ob), h)
+  lacks_by f Memory h = (h.0, inl (silent o0 ob, h.1))
   lacks_by f Content h = (
     h.0,
     elim h.1 [
@@ -82,6 +82,17 @@ module _ (profile : Profile) (i0 i1 i2 o0 o1 : Option (List ℕ)) (ib im ia ob o
       played = played frames h.are;
       alike = h.alike;
       begins = begins_some profile i0 i1 (stream_of r a) r.place frames opens.known h.begins;
+      written = h.written;
+      writes = h.writes;
+    }
+
+    up_to : (frames : List Frame) (to : Place) (at : Option (List ℕ)) → UnpackedTo (stream_of r a) r.place (between i1 i2 im ia) (between o0 o1 ob om) frames to at →
+        UnpacksTo profile (between i0 i2 ib ia) (between o0 o1 ob om) (stream_of r a) frames to at
+    up_to frames to at h = record {
+      text = text;
+      played = played frames h.are;
+      alike = h.alike;
+      begins = begins_to profile i0 i1 at (stream_of r a) r.place to frames opens.known h.read;
       written = h.written;
       writes = h.writes;
     }
@@ -167,8 +178,10 @@ module _ (profile : Profile) (i0 i1 i2 o0 o1 : Option (List ℕ)) (ib im ia ob o
       | inl picture ↦ inl (picture_fails picture)
       | inr row ↦ inr (row_fails row)
     ]
-    stops_by f Reading h = (inr (stream_of r a, h.0, some h.0 h.1), h.2 ∙ ap one_more opens.kept)
-    stops_by f Memory h = (inr (stream_of r a, h.0, some h.0 h.1), h.2 ∙ opens.kept)
+    stops_by f Reading h =
+        (h.4 ∙ ap one_more opens.kept, inr (record { stream = stream_of r a; frames = h.0; to = h.1; at = h.2; unpacks = up_to h.0 h.1 h.2 h.3; fails = h.5 }))
+    stops_by f Memory h =
+        (h.4 ∙ opens.kept, inr (record { stream = stream_of r a; frames = h.0; to = h.1; at = h.2; unpacks = up_to h.0 h.1 h.2 h.3; lacks = h.5 }))
     stops_by f Content h = (
       h.0 ∙ opens.kept,
       elim h.1 [

@@ -1,6 +1,5 @@
 -- What a frame's decoding answers, and the line that is written of it.
-use Rattle.std.proofs.Common.{◌≡◌, ◌≢◌, ◌⊎◌, refl, ℕ, ◌<◌, Bool, Result, Ok, Err, List, [], length, inl, inr, ap, sym, subst, arith}
-use Rattle.std.proofs.KnownBytes.{Appends-nil, Appends-kept}
+use Rattle.std.proofs.Common.{◌≡◌, ◌≢◌, ◌⊎◌, refl, ℕ, Bool, Result, Ok, Err, List, [], inl, inr, ap, sym, subst}
 use Rattle.ffv1_range.specs.declared.tally.Tally.{Tally}
 use Rattle.ffv1_wire.specs.Passage.{Passage}
 use Rattle.ffv1_wire.specs.Runs.{LineStep}
@@ -11,11 +10,11 @@ use Rattle.ffv1_codec.specs.Answer.{AnswersCut, Answers, cut_fault}
 use Rattle.ffv1_codec.specs.SliceList.{Said}
 use Rattle.ffv1_codec.specs.declared.fault.CodecFault.TheVariants as codec_fault
 use Rattle.ffv1_codec.specs.declared.fault.FrameFault.{FrameFault}
-use Rattle.ffv1_avi.specs.declared.place.Place.{Place}
+use Rattle.ffv1_files.specs.Places.{Place}
 use Rattle.ffv1_engine.specs.declared.fault.Fault.{Fault}
 use Rattle.ffv1_engine.specs.declared.frame_line.FrameLine.{FrameLine}
 use Rattle.ffv1_engine.specs.Faults.{cause_of}
-use Rattle.ffv1_engine.specs.FrameLines.{frame_line, place_line}
+use Rattle.ffv1_engine.specs.FrameLines.{WritesPart, frame_line}
 use Rattle.ffv1_engine.specs.Stream.{Decided, FaultsFrame, Frame}
 use Rattle.ffv1_engine.specs.Told.{FrameStops, FrameStopsBy, PlaysFrame, WritesFrame, WritesLine}
 
@@ -44,22 +43,17 @@ module _ {S : Type 0} (takes refuses : LineStep S) (a : Accepted) (payload : Lis
   pub is_faulty : (f : FrameFault) → f.fault ≢ codec_fault.Sink → Answers takes refuses a payload old new tally (Err f) → FaultsFrame a payload f tally
   is_faulty f own answer = faults_by_cut f (cut_of a.configuration payload) refl own answer
 
-pub place_some : (i : ℕ) (f : FrameFault) (decisions : ℕ) → 0 < length (place_line i f decisions)
-unfolding place_line
-place_some i f decisions = omega arith
-
 -- a line that was written, or not, where that is not told
-pub line_written : (line : List ℕ) (p : Passage) (r : Result (Unit {0}) Fault) → 0 < length line → WritesFrame line p r → WritesLine [] line p
-line_written line p (Ok done) some h = inl (h.0, h.1)
-line_written line p (Err f) some h = elim h [
-  | inl write ↦ inr (inl (write.1, write.2.0, write.2.1, write.2.2))
-  | inr none ↦ inr (inr (some, none.1, Appends-kept p.old p.old p.new [] (Appends-nil p.old) none.2))
-]
+pub line_written : {E : Type 0} (line : List ℕ) (p : Passage) (r : Result (Unit {0}) E) → WritesPart line p r → WritesLine [] line p
+line_written line p (Ok done) h = inl (h.0, h.1)
+line_written line p (Err f) h = inr (h.0, h.1.0, h.1.1, h.1.2)
 
 pub frame_fails : (kind : FrameLine) (place : Bool) (a : Accepted) (i : ℕ) (from to : Place) (input output : Passage) (frame : Frame) (f : Fault) → PlaysFrame a from to input frame →
     WritesFrame (frame_line kind a.configuration i frame.payload frame.tally) output (Err f) →
     FrameStops kind place a i from to input output f ⊎ FrameStopsBy kind place a i from to input output f (cause_of f)
 frame_fails kind place a i from to input output frame f told h = elim h [
   | inl write ↦ inr (subst (λ z. FrameStopsBy kind place a i from to input output z (cause_of z)) (sym write.0) (frame, told, write.1, write.2))
-  | inr none ↦ inr (subst (λ z. FrameStopsBy kind place a i from to input output z (cause_of z)) (sym none.0) (record { written = none.1; none = none.2 }, told.reads.kept))
+  | inr none ↦
+      inr (subst (λ z. FrameStopsBy kind place a i from to input output z (cause_of z)) (sym none.0)
+      (record { written = none.1; none = none.2 }, told.reads.kept, inr (frame, to, told.is, told.reads.next)))
 ]

@@ -9,8 +9,8 @@ use Rattle.ffv1_wire.specs.Passage.{Passage, between}
 use Rattle.ffv1_record.specs.Configuration.{Configuration}
 use Rattle.ffv1_record.specs.Accepted.{Accepted}
 use Rattle.ffv1_codec.specs.declared.fault.FrameFault.{FrameFault}
-use Rattle.ffv1_avi.specs.declared.place.Place.{Place}
-use Rattle.ffv1_avi.specs.Files.{frame_read}
+use Rattle.ffv1_files.specs.Places.{Place}
+use Rattle.ffv1_files.specs.Files.{frame_read}
 use Rattle.ffv1_engine.specs.declared.fault.Fault.{Fault}
 use Rattle.ffv1_engine.specs.declared.frame_line.FrameLine.{FrameLine}
 use Rattle.ffv1_engine.specs.Faults.{Cause, cause_of}
@@ -107,14 +107,11 @@ ends_file from to (Some text) None n frames f h next = absurd h
 ends_file from to (Some text) (Some at) None frames f h next = absurd next
 ends_file from to (Some text) (Some at) (Some rest) frames f h next = (to, at, h, next)
 
--- behind lines that were written a further one is
+-- after lines that were written a further one is
 pub line_behind : (o m n : Option (List ℕ)) (b c a : ℕ) (lines last : List ℕ) → c ≡ b → Appends o m lines → WritesLine [] last (between m n c a) → WritesLine lines last (between o n b a)
 line_behind o m n b c a lines last same first next = elim next [
   | inl whole ↦ inl (whole.0 ∙ same, Appends-trans o m n lines last first whole.1)
-  | inr more ↦ elim more [
-    | inl part ↦ inr (inl (part.0 ∙ ap one_more same, part.1, part.2, Appends-trans o m n lines (take part.1 last) first part.3))
-    | inr none ↦ inr (inr (none.0, none.1 ∙ same, subst (Appends o n) (append-nil lines) (Appends-trans o m n lines [] first none.2)))
-  ]
+  | inr part ↦ inr (part.0 ∙ ap one_more same, part.1, part.2, Appends-trans o m n lines (take part.1 last) first part.3)
 ]
 
 module _ (kind : FrameLine) (place : Bool) (a : Accepted) (from : Place) where
@@ -145,10 +142,10 @@ module _ (kind : FrameLine) (place : Bool) (a : Accepted) (from : Place) where
       writes = Appends-kept o0 o1 o2 (frame_lines kind a.configuration frames) told.writes silent.none;
     }
 
-    some : Silent kind place a number to last (between i1 i2 im ia) (between o1 o2 om oa) → ToldSome kind place a from (between i0 i2 ib ia) (between o0 o2 ob oa) frames
+    some : Silent kind place a number to last (between i1 i2 im ia) (between o1 o2 om oa) → ToldSome kind place a from (between i0 i2 ib ia) (between o0 o2 ob oa) frames to i1
     some silent = record {
       are = told.are;
-      begins = reads_some from to i0 i1 frames told.read;
+      read = told.read;
       written = silent.written ∙ told.written;
       writes = Appends-kept o0 o1 o2 (frame_lines kind a.configuration frames) told.writes silent.none;
     }
@@ -163,8 +160,9 @@ module _ (kind : FrameLine) (place : Bool) (a : Accepted) (from : Place) where
         let all = all_lines kind c number frames f is in
         let long : length (lines ++ last_line) ≡ length lines + length last_line = length-append lines last_line in
         record {
+          to = last;
           are = are_more a frames f told.are here.is;
-          begins = reads_some from last i0 i2 (frames ++ (f ∷ [])) (reads_more from to last i0 i1 i2 frames f told.read here.reads.next);
+          read = reads_more from to last i0 i1 i2 frames f told.read here.reads.next;
           kept = here.reads.kept ∙ told.kept;
           written = counted ∙ ap one_more told.written;
           writes = record {
@@ -178,9 +176,9 @@ module _ (kind : FrameLine) (place : Bool) (a : Accepted) (from : Place) where
     pub stops_by : (f : Fault) (why : Cause) → FrameStopsBy kind place a number to last (between i1 i2 im ia) (between o1 o2 om oa) f why →
         TellingStopsBy kind place a from (between i0 i2 ib ia) (between o0 o2 ob oa) f why
     stops_by f Writing h = (frames ++ (h.0 ∷ []), line_fails h.0 h.1 h.2 h.3.0 h.3.1 h.3.2)
-    stops_by f Reading h = (frames, some h.0, h.1 ∙ ap one_more told.kept)
-    stops_by f Memory h = (frames, some h.0, h.1 ∙ told.kept)
-    stops_by f Content h = (frames, some h.0, h.1 ∙ told.kept, ends_file from to i0 i1 i2 frames f told.read h.2)
+    stops_by f Reading h = (frames, to, i1, some h.0, h.1 ∙ ap one_more told.kept, h.2)
+    stops_by f Memory h = (frames, to, i1, some h.0, h.1 ∙ told.kept, h.2)
+    stops_by f Content h = (frames, to, i1, some h.0, h.1 ∙ told.kept, ends_file from to i0 i1 i2 frames f told.read h.2)
 
     payload_stops : (f : Fault) → FrameStops kind place a number to last (between i1 i2 im ia) (between o1 o2 om oa) f → PayloadStops kind place a from (between i0 i2 ib ia) (between o0 o2 ob oa) f
     payload_stops f h = record {
@@ -192,6 +190,7 @@ module _ (kind : FrameLine) (place : Bool) (a : Accepted) (from : Place) where
       ends = ends_payload from to last i0 i1 i2 frames h.payload h.fault h.tally told.read h.reads.next;
       faulty = h.faulty;
       is = h.is;
+      content = h.content;
       kept = h.reads.kept ∙ told.kept;
       writes =
           subst (λ n. WritesLine (frame_lines kind a.configuration frames) (place_text place n h.fault h.tally) (between o0 o2 ob oa)) is

@@ -18,7 +18,7 @@ colour_of colour.Rct is = refl
 abbrev three : ℕ → List (ℕ × ℕ)
 three y = (0, y) ∷ (1, y) ∷ (2, y) ∷ []
 
--- what is left of a plane behind some rows of it, and one more
+-- what is left of a plane after some rows of it, and one more
 next_row : (w y : ℕ) (xs : List ℕ) → drop w (drop (y * w) xs) ≡ drop (suc y * w) xs
 next_row w y xs =
     let more : y * w + w ≡ suc y * w = omega arith in

@@ -1,4 +1,4 @@
--- Images are written one behind the other.
+-- Images are written one after the other.
 use Rattle.std.proofs.Common.{◌≡◌, refl, ℕ, ◌+◌, ◌<◌, ◌≤◌, true, Option, List, [], ◌∷◌, ◌++◌, length, take, inl, inr, ap, sym, subst, ◌∙◌, arith, append-nil, append_assoc, length-append}
 use Rattle.std.specs.Io.KnownBytes.{Appends}
 use Rattle.std.proofs.KnownBytes.{Appends-nil, Appends-trans, Appends-kept}
@@ -9,10 +9,11 @@ use Rattle.ffv1_wire.specs.Runs.{Line}
 use Rattle.ffv1_codec.specs.Answer.{no_tally}
 use Rattle.ffv1_codec.specs.Decoding.{in_slice}
 use Rattle.ffv1_codec.specs.declared.fault.CodecFault.TheVariants as codec_fault
-use Rattle.ffv1_avi.specs.declared.place.Place.{Place}
-use Rattle.ffv1_avi.specs.Files.{frame_read}
+use Rattle.ffv1_files.specs.Places.{Place}
+use Rattle.ffv1_files.specs.Files.{frame_read}
 use Rattle.ffv1_y4m.specs.Images.{image_text}
 use Rattle.ffv1_engine.specs.declared.fault.Fault.{Fault}
+use Rattle.ffv1_engine.specs.declared.fault.Fault.TheVariants as fault
 use Rattle.ffv1_engine.specs.Faults.{Cause}
 use Rattle.ffv1_engine.specs.Faults.Cause.{Reading, Writing, Memory, Content}
 use Rattle.ffv1_engine.specs.ImagesOut.{ImageFaults, ImageStopsBy, RowCut, rows_so_far}
@@ -20,7 +21,7 @@ use Rattle.ffv1_engine.specs.Stream.{Frame, Stream}
 use Rattle.ffv1_engine.specs.Told.{FaultsKnown, PlaysFrame, ReadsEnd}
 use Rattle.ffv1_engine.specs.Trial.{Silent}
 use Rattle.ffv1_engine.specs.Unpacked.{AlikeBy, is_ppm_stream, lines_before, ppm_text, rows_by, text_by}
-use Rattle.ffv1_engine.specs.Unpacking.{FileFaults, PayloadFaults, RowFails, Unpacked, UnpackedAll, UnpackedSome, UnpackingStopsBy}
+use Rattle.ffv1_engine.specs.Unpacking.{FileFaults, PayloadFaults, RowFails, Unpacked, UnpackedAll, UnpackedSome, UnpackedTo, UnpackingStops, UnpackingStopsBy}
 use Rattle.ffv1_engine.proofs.FramesTold.{are_more, ends_file, ends_over, ends_payload, reads_more, reads_none, reads_some, take_past}
 
 -- the text grows by the next image
@@ -57,6 +58,13 @@ module _ (s : Stream) (ppm : is_ppm_stream s ≡ true) (from : Place) where
     writes = subst (Appends o o) (sym (images_text [])) (Appends-nil o);
   }
 
+  -- memory for the lines that an image is written from was refused
+  pub images_lack : (i o : Option (List ℕ)) (ib ob : ℕ) (f : Fault) → f ≡ fault.OutOfMemory → UnpackingStops s from (between i i ib ib) (between o o ob ob) f
+  images_lack i o ib ob f is =
+      let none = images_none i o ib ob in
+      subst (UnpackingStops s from (between i i ib ib) (between o o ob ob)) (sym is)
+      ([], from, i, record { are = none.are; alike = none.alike; read = none.read; written = refl; writes = none.writes }, refl, inr (refl, refl))
+
   module _ (to last : Place) (i0 i1 i2 o0 o1 o2 : Option (List ℕ)) (ib im ia ob om oa : ℕ) (frames : List Frame)
       (un : Unpacked s from (between i0 i1 ib im) (between o0 o1 ob om) frames to) where
     pub images_more : (f : Frame) → PlaysFrame s.accepted to last (between i1 i2 im ia) f → oa ≡ om →
@@ -88,6 +96,15 @@ module _ (s : Stream) (ppm : is_ppm_stream s ≡ true) (from : Place) where
       are = un.are;
       alike = un.alike;
       begins = reads_some from to i0 i1 frames un.read;
+      written = silent.same ∙ un.written;
+      writes = Appends-kept o0 o1 o2 (text_by (is_ppm_stream s) s frames) un.writes silent.kept;
+    }
+
+    up_to : Silent (between o1 o2 om oa) → UnpackedTo s from (between i0 i2 ib ia) (between o0 o2 ob oa) frames to i1
+    up_to silent = record {
+      are = un.are;
+      alike = un.alike;
+      read = un.read;
       written = silent.same ∙ un.written;
       writes = Appends-kept o0 o1 o2 (text_by (is_ppm_stream s) s frames) un.writes silent.kept;
     }
@@ -149,8 +166,8 @@ module _ (s : Stream) (ppm : is_ppm_stream s ≡ true) (from : Place) where
     pub images_stop : (f : Fault) (why : Cause) → ImageStopsBy s.accepted to last (between i1 i2 im ia) (between o1 o2 om oa) f why →
         UnpackingStopsBy s from (between i0 i2 ib ia) (between o0 o2 ob oa) f why
     images_stop f Writing p = inr (row_fails p)
-    images_stop f Reading p = (frames, some p.0, p.1 ∙ ap one_more un.kept)
-    images_stop f Memory p = (frames, some p.0, p.1 ∙ un.kept)
+    images_stop f Reading p = (frames, to, i1, up_to p.0, p.1 ∙ ap one_more un.kept, p.2)
+    images_stop f Memory p = (frames, to, i1, up_to p.0, p.1 ∙ un.kept, inl p.2)
     images_stop f Content p = (
       p.0 ∙ un.kept,
       elim p.1 [

@@ -26,6 +26,7 @@ mod ImagesSoFar
 mod StreamText
 mod FileShown
 mod FileSteps
+mod LineParts
 mod OwnFaults
 mod ByteLists
 mod RecordShort

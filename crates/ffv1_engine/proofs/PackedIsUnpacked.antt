@@ -9,11 +9,11 @@ use Rattle.ffv1_record.specs.Accepted.{Accepted}
 use Rattle.ffv1_codec.specs.Frame.{IsSaid, frame_of}
 use Rattle.ffv1_codec.specs.Picture.{Planes}
 use Rattle.ffv1_codec.specs.declared.fault.FrameFault.{FrameFault}
-use Rattle.ffv1_avi.specs.declared.place.Extent.TheVariants.{FirstMovi, EveryRiff}
-use Rattle.ffv1_avi.specs.Riffs.{RiffFile}
-use Rattle.ffv1_avi.specs.declared.place.Place.{Place}
+use Rattle.ffv1_files.specs.declared.container.Scope.TheVariants.{FirstMovi, Whole}
+use Rattle.ffv1_files.specs.Whole.{IsWhole}
+use Rattle.ffv1_files.specs.Places.{Place}
 use Rattle.ffv1_avi.specs.Chunks.{AviFile, IsWritable}
-use Rattle.ffv1_avi.specs.Files.{file_read, frame_read, frames_read, more_frames, open_read}
+use Rattle.ffv1_files.specs.Files.{file_read, frame_read, frames_read, more_frames, open_read}
 use Rattle.ffv1_reads.specs.Head.{Head}
 use Rattle.ffv1_reads.specs.Reads as avi
 use Rattle.ffv1_avi.specs.Written.{file_of}
@@ -24,7 +24,7 @@ use Rattle.ffv1_y4m.specs.VideoHead.{IsHead, IsRatio}
 use Rattle.ffv1_y4m.specs.declared.head.VideoHead.{VideoHead}
 use Rattle.ffv1_engine.specs.declared.profile.Profile.{Profile}
 use Rattle.ffv1_engine.specs.declared.profile.Profile.TheVariants.{Strict, Wide}
-use Rattle.ffv1_engine.specs.Profiles.{extent_in, record_profile}
+use Rattle.ffv1_engine.specs.Profiles.{scope_in, record_profile}
 use Rattle.ffv1_engine.specs.declared.fault.Fault.{Fault}
 use Rattle.ffv1_engine.specs.declared.fault.Fault.TheVariants as fault
 use Rattle.ffv1_words.specs.declared.order.Choice.{Choice}
@@ -51,9 +51,9 @@ use Rattle.ffv1_record.specs.Configuration.{Configuration}
 -- what is known of files and of texts
 pub record FileLaws (profile : Profile) : Type 0 where
   pub file : (head : Head) (frames : List (List ℕ)) → IsWritable head frames → IsFileIn profile (file_of head frames) head frames
-  pub read : (head : Head) (frames : List (List ℕ)) → IsWritable head frames → file_read (extent_in profile) (file_of head frames) ≡ Ok ((head, frames), [])
+  pub read : (head : Head) (frames : List (List ℕ)) → IsWritable head frames → file_read (scope_in profile) (file_of head frames) ≡ Ok ((head, frames), [])
   pub is_read : (file : List ℕ) (head : Head) (frames : List (List ℕ)) (is : AviFile file head frames) → file_read FirstMovi file ≡ Ok ((head, frames), is.rest)
-  pub is_whole : (file : List ℕ) (head : Head) (frames : List (List ℕ)) → RiffFile file head frames → file_read EveryRiff file ≡ Ok ((head, frames), [])
+  pub is_whole : (file : List ℕ) (head : Head) (frames : List (List ℕ)) (rest : List ℕ) → IsWhole file head frames rest → file_read Whole file ≡ Ok ((head, frames), rest)
   pub next : (place : Place) (text : List ℕ) → frames_read place text ≡ avi.read_on (frame_read place text) (more_frames frames_read)
   pub said : (line : List ℕ) (h : VideoHead) → IsHeaderLine line h → IsHead h
   pub canonical : (h : VideoHead) (ps : List Planes) → IsHead h → AllFit h ps → IsText (canonical_text h ps) h ps
@@ -91,17 +91,17 @@ no_content fault.Write h = inr (inr refl)
 no_content f h = absurd (h refl)
 
 -- where the file is known, it was read to its end
-record Whole (profile : Profile) (file : List ℕ) (new : Option (List ℕ)) (s : Stream) (frames : List Frame) : Type 0 where
+record ReadsWhole (profile : Profile) (file : List ℕ) (new : Option (List ℕ)) (s : Stream) (frames : List Frame) : Type 0 where
   rest : List ℕ
-  is : file_read (extent_in profile) file ≡ Ok ((s.head, payloads frames), rest)
+  is : file_read (scope_in profile) file ≡ Ok ((s.head, payloads frames), rest)
   left : new ≡ Some rest
 
 module _ (profile : Profile) (files : FileLaws profile) where
-  whole_by : (p : Profile) (file rest : List ℕ) (s : Stream) (frames : List Frame) → IsRead p file rest s frames → Whole p file (Some rest) s frames
+  whole_by : (p : Profile) (file rest : List ℕ) (s : Stream) (frames : List Frame) → IsRead p file rest s frames → ReadsWhole p file (Some rest) s frames
   whole_by Strict file rest s frames h = record { rest = rest; is = files.is_read file s.head (payloads frames) h.0 ∙ ap (λ t. Ok ((s.head, payloads frames), t)) (sym h.1); left = refl }
-  whole_by Wide file rest s frames h = record { rest = rest; is = files.is_whole file s.head (payloads frames) h.0 ∙ ap (λ t. Ok ((s.head, payloads frames), t)) (sym h.1); left = refl }
+  whole_by Wide file rest s frames h = record { rest = rest; is = files.is_whole file s.head (payloads frames) rest h; left = refl }
 
-  whole_of : (file : List ℕ) (new : Option (List ℕ)) (s : Stream) (frames : List Frame) → ReadsFile profile (Some file) new s frames → Whole profile file new s frames
+  whole_of : (file : List ℕ) (new : Option (List ℕ)) (s : Stream) (frames : List Frame) → ReadsFile profile (Some file) new s frames → ReadsWhole profile file new s frames
   whole_of file None s frames h = absurd h
   whole_of file (Some rest) s frames h = whole_by profile file rest s frames h
 
@@ -146,11 +146,11 @@ module _ (profile : Profile) (files : FileLaws profile) (frame_laws : FrameLaws)
   file_is : IsFileIn profile (packed_file choice v a) (packed_head choice v a) (packed_frames v a)
   file_is = files.file (packed_head choice v a) (packed_frames v a) can_write
 
-  reads_whole : file_read (extent_in profile) (packed_file choice v a) ≡ Ok ((packed_head choice v a, packed_frames v a), [])
+  reads_whole : file_read (scope_in profile) (packed_file choice v a) ≡ Ok ((packed_head choice v a, packed_frames v a), [])
   reads_whole = files.read (packed_head choice v a) (packed_frames v a) can_write
 
-  whole : Opened (extent_in profile) (packed_file choice v a) (packed_head choice v a) (packed_frames v a) []
-  whole = opened (extent_in profile) (packed_file choice v a) (packed_head choice v a) (packed_frames v a) [] reads_whole
+  whole : Opened (scope_in profile) (packed_file choice v a) (packed_head choice v a) (packed_frames v a) []
+  whole = opened (scope_in profile) (packed_file choice v a) (packed_head choice v a) (packed_frames v a) [] reads_whole
 
   -- what the file holds
   pub holds : Holds profile (packed_file choice v a) v
@@ -179,11 +179,11 @@ module _ (profile : Profile) (files : FileLaws profile) (frame_laws : FrameLaws)
   the_frames s frames more e are parts =
       same frame_laws a g.packable.for.accepted (said_for v.head) frames more v.pictures (subst (λ (t : Stream). AreFrames t.accepted frames) e are) coded parts
 
-  -- all of them, and nothing is left behind them
-  all_frames : (s : Stream) (frames : List Frame) (rest : List ℕ) → Played profile s frames → file_read (extent_in profile) (packed_file choice v a) ≡ Ok ((s.head, payloads frames), rest) →
+  -- all of them, and nothing is left after them
+  all_frames : (s : Stream) (frames : List Frame) (rest : List ℕ) → Played profile s frames → file_read (scope_in profile) (packed_file choice v a) ≡ Ok ((s.head, payloads frames), rest) →
       (s ≡ stream) × AllSay (said_for v.head) frames × (pictures frames ≡ v.pictures) × (rest ≡ [])
   all_frames s frames rest played is =
-      let both : ((s.head, payloads frames), rest) ≡ ((packed_head choice v a, packed_frames v a), []) = same_ok (file_read (extent_in profile) (packed_file choice v a)) _ _ is reads_whole in
+      let both : ((s.head, payloads frames), rest) ≡ ((packed_head choice v a, packed_frames v a), []) = same_ok (file_read (scope_in profile) (packed_file choice v a)) _ _ is reads_whole in
       let e = the_stream s played.stream (ap (λ (z : (Head × List (List ℕ)) × List ℕ). z.0.0) both) in
       let same_of = the_frames s frames [] e played.decoded (sym (ap (λ (z : (Head × List (List ℕ)) × List ℕ). z.0.1) both) ∙ sym (append-nil (payloads frames))) in
       let none : same_of.others ≡ [] = no_others same_of.others same_of.more_are in
@@ -216,11 +216,11 @@ module _ (profile : Profile) (files : FileLaws profile) (frame_laws : FrameLaws)
       let here : frame_of a p (said_for v.head) ≡ payload = cc in
       no_fault frame_laws a g.packable.for.accepted (said_for v.head) p f tally coded.0 (subst (λ bytes. FaultsFrame a bytes f tally) (sym here) faulty)
 
-  -- where the file begins with frames, the others are read behind them
+  -- where the file begins with frames, the others are read after them
   module _ (s : Stream) (frames : List Frame) (b : Known profile (packed_file choice v a) s frames) where
     first : (s.head ≡ packed_head choice v a) × Others b.to b.at (payloads frames) (packed_frames v a) []
     first =
-        let e : ((s.head, b.begins.from), b.begins.behind) ≡ ((packed_head choice v a, whole.from), whole.behind) = same_ok (open_read (extent_in profile) (packed_file choice v a)) _ _ b.begins.opened whole.opened in
+        let e : ((s.head, b.begins.from), b.begins.behind) ≡ ((packed_head choice v a, whole.from), whole.behind) = same_ok (open_read (scope_in profile) (packed_file choice v a)) _ _ b.begins.opened whole.opened in
         let from : b.begins.from ≡ whole.from = ap (λ (z : (Head × Place) × List ℕ). z.0.1) e in
         let behind : b.begins.behind ≡ whole.behind = ap (λ (z : (Head × Place) × List ℕ). z.1) e in (
           ap (λ (z : (Head × Place) × List ℕ). z.0.0) e,
@@ -254,9 +254,9 @@ module _ (profile : Profile) (files : FileLaws profile) (frame_laws : FrameLaws)
   -- so the file has a stream
   lacks_stream : (new : Option (List ℕ)) (f : Fault) → LacksStream profile (Some (packed_file choice v a)) new f → ⊥
   lacks_stream None f h = h
-  lacks_stream (Some rest) f (inl h) = no_read_fault (open_read (extent_in profile)) (packed_file choice v a) rest f _ h whole.opened
+  lacks_stream (Some rest) f (inl h) = no_read_fault (open_read (scope_in profile)) (packed_file choice v a) rest f _ h whole.opened
   lacks_stream (Some rest) f (inr h) =
-      let e : ((h.head, h.place), rest) ≡ ((packed_head choice v a, whole.from), whole.behind) = same_ok (open_read (extent_in profile) (packed_file choice v a)) _ _ h.opened whole.opened in
+      let e : ((h.head, h.place), rest) ≡ ((packed_head choice v a, whole.from), whole.behind) = same_ok (open_read (scope_in profile) (packed_file choice v a)) _ _ h.opened whole.opened in
       none_refused profile records choice v.ppm v.head a for g.packable.for.accepted profiled head h.head h.refusal (ap (λ (z : (Head × Place) × List ℕ). z.0.0) e) h.refused
 
   -- which has a text
@@ -266,7 +266,7 @@ module _ (profile : Profile) (files : FileLaws profile) (frame_laws : FrameLaws)
       let e = the_stream h.stream h.is (first h.stream [] (record { to = h.begins.0; at = h.begins.1; begins = h.begins.2 })).0 in
       text_or_none (is_ppm_stream stream) a.configuration f (text_given choice v.ppm v.head a for head) (subst (λ s. LacksText s f) e h.lacks)
 
-  -- behind its frames it ends without a fault, and not before the first
+  -- after its frames it ends without a fault, and not before the first
   file_ends : (new : Option (List ℕ)) (s : Stream) (frames : List Frame) (e : End) (f : Fault) → EndsKnown profile (Some (packed_file choice v a)) new s frames e → IsOfFile e → EndsWith frames e f → ⊥
   file_ends None s frames e f h is with_ = h
   file_ends (Some rest) s frames (File fault) f (to, at, begins, h) is with_ = never_stops s frames (record { to = to; at = at; begins = begins }) rest fault h

@@ -1,4 +1,4 @@
--- A picture that was read and encoded, behind others.
+-- A picture that was read and encoded, after others.
 use Rattle.std.specs.Prelude.{◌≡◌, ℕ, true, List, [], ◌∷◌, ◌++◌, Option, Some, IfSome}
 use Rattle.std.proofs.Common.{refl, ◌∙◌, ap, subst}
 use Rattle.std.specs.declared.vec.Vec.{Vec}

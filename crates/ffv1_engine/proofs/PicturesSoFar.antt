@@ -1,4 +1,4 @@
--- Pictures that are encoded one behind the other.
+-- Pictures that are encoded one after the other.
 use Rattle.std.specs.Prelude.{◌≡◌, ◌⊎◌, ℕ, Bool, true, false, List, [], ◌∷◌, ◌++◌, Option, Some, None, Ok}
 use Rattle.std.proofs.Common.{refl, sym, ◌∙◌, ap, subst, inl, inr}
 use Rattle.ffv1_wire.specs.Passage.{Passage}
@@ -16,11 +16,11 @@ use Rattle.ffv1_engine.specs.Packing.{AllShort, frames_for, said_for}
 use Rattle.ffv1_engine.specs.Video.{ReadsPictures, at_first, picture_next}
 use Rattle.ffv1_engine.specs.VideoReads.{NextKnown, StopsKnown, VideoReading}
 
--- a call behind another one
+-- a call after another one
 abbrev pub joined : Passage → Passage → Passage
 joined p q = record { old = p.old; new = q.new; before = p.before; after = q.after }
 
--- whether the next picture is the first, behind some of a text of which it was so
+-- whether the next picture is the first, after some of a text of which it was so
 abbrev behind : Bool → List Planes → Bool
 behind first [] = first
 behind first (p ∷ ps) = false

@@ -1,6 +1,6 @@
--- Pictures are written one behind the other.
-use Rattle.std.proofs.Common.{rules, ◌≡◌, ◌≢◌, ◌⊎◌, refl, ℕ, suc, ◌+◌, ◌*◌, ◌<◌, ◌≤◌, Bool, true, false, Option, Some, None, Err, List, get_or, replicate, [], ◌∷◌, ◌++◌, length, take, map, inl, inr, ap, sym, subst, ◌∙◌, arith, append-nil, append_assoc, length-append}
-use Rattle.std.specs.List.{flat_map, range_with_len, slice_get}
+-- Pictures are written one after the other.
+use Rattle.std.proofs.Common.{rules, ◌≡◌, ◌≢◌, refl, ℕ, ◌+◌, ◌*◌, ◌<◌, ◌≤◌, true, false, Option, Some, None, Err, List, get_or, replicate, [], ◌∷◌, ◌++◌, length, take, inl, inr, ap, sym, subst, ◌∙◌, arith, append-nil, append_assoc, length-append}
+use Rattle.std.specs.List.{flat_map}
 use Rattle.std.proofs.lemmas.List.{length-replicate}
 use Rattle.std.proofs.lemmas.List.FromFn.{get_or-map-range_with_len, length-map-range_with_len}
 use Rattle.std.proofs.lemmas.Option.{slice_get-get_or}
@@ -22,8 +22,9 @@ use Rattle.ffv1_codec.specs.declared.fault.FrameFault.{FrameFault}
 use Rattle.ffv1_y4m.specs.Canonical.{header_text}
 use Rattle.ffv1_y4m.specs.Pictures.{picture_text}
 use Rattle.ffv1_y4m.specs.declared.head.VideoHead.{VideoHead}
-use Rattle.ffv1_avi.specs.declared.place.Place.{Place}
-use Rattle.ffv1_avi.specs.Files.{frame_read}
+use Rattle.ffv1_files.specs.Places.{Place}
+use Rattle.ffv1_files.specs.Files.{frame_read}
+use Rattle.ffv1_files.specs.Places.{may_end}
 use Rattle.ffv1_reads.specs.Head.{Head}
 use Rattle.ffv1_engine.specs.declared.fault.Fault.{Fault}
 use Rattle.ffv1_engine.specs.Faults.{Cause, cause_of, of_codec}
@@ -33,13 +34,13 @@ use Rattle.ffv1_engine.specs.Stream.{FaultsFrame, Frame, Stream}
 use Rattle.ffv1_engine.specs.Told.{FaultsKnown, FileStopsBy, PlaysFrame, ReadsEnd, ReadsPayload}
 use Rattle.ffv1_engine.specs.Trial.{Silent}
 use Rattle.ffv1_engine.specs.Unpacked.{AlikeBy, AllSay, is_ppm_stream, lines_before, pictures, rows_by, text_by, video_of, y4m_text}
-use Rattle.ffv1_engine.specs.Unpacking.{FileFaults, FormatChanges, PayloadFaults, PictureFails, Unpacked, UnpackedAll, UnpackedSome, UnpackingStops, UnpackingStopsBy}
+use Rattle.ffv1_engine.specs.Unpacking.{FileFaults, FormatChanges, PayloadFaults, PictureFails, Unpacked, UnpackedAll, UnpackedSome, UnpackedTo, UnpackingStops, UnpackingStopsBy}
 use Rattle.ffv1_engine.proofs.FramesTold.{are_more, but_last_more, ends_file, ends_over, ends_payload, reads_more, reads_none, reads_some, take_past}
 
 pub silent : (o : Option (List ℕ)) (n : ℕ) → Silent (between o o n n)
 silent o n = record { kept = Keeps-refl o; same = refl }
 
--- the writer behind the pictures of frames
+-- the writer after the pictures of frames
 abbrev pub begun_behind : VideoHead → List Frame → Begun
 begun_behind h [] = None
 begun_behind h (f ∷ fs) = Some (f.said, writer_behind h f.said)
@@ -147,6 +148,15 @@ module _ (s : Stream) (h : VideoHead) (heads : (said : Said) → head_saying h s
       writes = Appends-kept o0 o1 o2 (text_by (is_ppm_stream s) s frames) un.writes silent.kept;
     }
 
+    up_to : Silent (between o1 o2 om oa) → UnpackedTo s from (between i0 i2 ib ia) (between o0 o2 ob oa) frames to i1
+    up_to silent = record {
+      are = un.are;
+      alike = un.alike;
+      read = un.read;
+      written = silent.same ∙ un.written;
+      writes = Appends-kept o0 o1 o2 (text_by (is_ppm_stream s) s frames) un.writes silent.kept;
+    }
+
     picture_fails : (f : Frame) → PlaysFrame s.accepted to last (between i1 i2 im ia) f → SaysAgain (said_in (begun_behind h frames)) f.said → oa ≡ one_more om →
         (k : ℕ) → k < length (text_behind h (said_in (begun_behind h frames)) f.said f.planes) → Appends o1 o2 (take k (text_behind h (said_in (begun_behind h frames)) f.said f.planes)) →
         PictureFails s from (between i0 i2 ib ia) (between o0 o2 ob oa)
@@ -214,8 +224,8 @@ module _ (s : Stream) (h : VideoHead) (heads : (said : Said) → head_saying h s
     pub unpacking_stops : (f : Fault) (why : Cause) → NextStopsBy s.accepted h (said_in (begun_behind h frames)) to last (between i1 i2 im ia) (between o1 o2 om oa) f why →
         UnpackingStopsBy s from (between i0 i2 ib ia) (between o0 o2 ob oa) f why
     unpacking_stops f Writing p = inl (picture_fails p.0 p.1 p.2 p.3 p.4.0 p.4.1 p.4.2)
-    unpacking_stops f Reading p = (frames, some p.0, p.1 ∙ ap one_more un.kept)
-    unpacking_stops f Memory p = (frames, some p.0, p.1 ∙ un.kept)
+    unpacking_stops f Reading p = (frames, to, i1, up_to p.0, p.1 ∙ ap one_more un.kept, p.2)
+    unpacking_stops f Memory p = (frames, to, i1, up_to p.0, p.1 ∙ un.kept, inl p.2)
     unpacking_stops f Content p = (
       p.1 ∙ un.kept,
       elim p.2 [
@@ -279,14 +289,17 @@ pub wants_memory : (s : Stream) (from : Place) (i o : Option (List ℕ)) (ib ob 
 wants_memory s from i o ib ob f plain is =
     subst (λ z. UnpackingStops s from (between i i ib ib) (between o o ob ob) (of_codec z)) (sym is) (
       [],
+      from,
+      i,
       record {
         are = tt;
         alike = subst (λ b. AlikeBy b []) (sym plain) tt;
-        begins = reads_some from from i i [] (reads_none from i);
+        read = reads_none from i;
         written = refl;
         writes = subst (λ b. Appends o o (text_by b s [])) (sym plain) (Appends-nil o);
       },
       refl,
+      inr (refl, refl),
     )
 
 module _ (a : Accepted) (h : VideoHead) (first : Option Said) (from to : Place) (input : Passage) where
@@ -302,10 +315,10 @@ module _ (a : Accepted) (h : VideoHead) (first : Option Said) (from to : Place) 
   ]
 
   -- there is none
-  pub file_stops : (o : Option (List ℕ)) (n : ℕ) (f : Fault) (why : Cause) → FileStopsBy (frame_read from) input f why → NextStopsBy a h first from to input (between o o n n) f why
-  file_stops o n f Reading stops = (silent o n, stops)
+  pub file_stops : (o : Option (List ℕ)) (n : ℕ) (f : Fault) (why : Cause) → FileStopsBy (may_end from) (frame_read from) input f why → NextStopsBy a h first from to input (between o o n n) f why
+  file_stops o n f Reading stops = (silent o n, stops.0, stops.1)
   file_stops o n f Writing stops = absurd stops
-  file_stops o n f Memory stops = (silent o n, stops)
+  file_stops o n f Memory stops = (silent o n, stops.0, stops.1)
   file_stops o n f Content stops = (silent o n, stops.0, inl stops.1)
 
   -- its payload has a fault

@@ -46,7 +46,7 @@ rejected_by (Some text) (Some rest) choice r g k i = inr (inl (record {
   is = refl;
 }))
 
--- behind its head memory is refused, or the configuration is
+-- after its head memory is refused, or the configuration is
 pub wants_memory : (choice : Choice) (p : Passage) (r : VideoReading) (f : Fault) → HeadRead p r → f ≡ fault.OutOfMemory → StopsVideo choice p f
 wants_memory choice p r f h e = rw e (h.kept, has_head p.old p.new r h.known)
 
@@ -84,7 +84,7 @@ stops_by Memory choice p q a r f joins counts h for s = (s ∙ (counts ∙ h.kep
 stops_by Content choice p q a r f joins counts h for s =
     (s.kept ∙ (counts ∙ h.kept), ends_known p.old p.new q.new choice a r s.pictures f for s.short h.known (subst (λ o. EndsKnown o q.new a r s.pictures f) joins s.known))
 
--- a picture behind it stops
+-- a picture after it stops
 pub stops : (choice : Choice) (p q : Passage) (a : Accepted) (r : VideoReading) (f : Fault) → q.old ≡ p.new → q.before ≡ p.after → HeadRead p r → IsFor choice r.ppm r.head a → StopsEncoding q a r f → StopsVideo choice (joined p q) f
 stops choice p q a r f joins counts h for s = stops_by (cause_of f) choice p q a r f joins counts h for s
 

@@ -1,5 +1,6 @@
 -- What `check` writes, and why it is refused.
 use Rattle.std.specs.Prelude.{◌≡◌, ◌⊎◌, ℕ, ◌<◌, Bool, true, List, ◌++◌, length, codes, decimal}
+use Rattle.std.specs.Prelude.{Option}
 use Rattle.std.specs.Io.KnownBytes.{Appends, Keeps}
 use Rattle.ffv1_range.specs.Counts.{saturated}
 use Rattle.ffv1_range.specs.declared.tally.Tally.{Tally}
@@ -7,19 +8,21 @@ use Rattle.ffv1_wire.specs.Failures.{one_more}
 use Rattle.ffv1_wire.specs.Passage.{Passage}
 use Rattle.ffv1_record.specs.Configuration.{Configuration}
 use Rattle.ffv1_codec.specs.declared.fault.FrameFault.{FrameFault}
+use Rattle.ffv1_files.specs.Places.{Place}
 use Rattle.ffv1_engine.specs.declared.profile.Profile.{Profile}
 use Rattle.ffv1_engine.specs.declared.fault.Fault.{Fault}
 use Rattle.ffv1_engine.specs.declared.fault.Fault.TheVariants as fault
 use Rattle.ffv1_engine.specs.declared.frame_line.FrameLine.TheVariants as line
+use Rattle.ffv1_engine.specs.Containers.{is_profile_fault}
 use Rattle.ffv1_engine.specs.Faults.{Cause, cause_of, of_codec}
 use Rattle.ffv1_engine.specs.Faults.Cause.{Reading, Writing, Memory, Content}
-use Rattle.ffv1_engine.specs.Opens.{is_opening_fault}
-use Rattle.ffv1_engine.specs.Stream.{FaultsFrame, Frame, ReadsFile, Stream}
+use Rattle.ffv1_engine.specs.Opens.{OpeningLacks, OpeningWants, is_opening_fault}
+use Rattle.ffv1_engine.specs.Stream.{BeginsKnown, BeginsTo, FaultsFrame, Frame, ReadsFile, Stream}
 use Rattle.ffv1_engine.specs.Play.{BeginsSome, End, EndsKnown, EndsWith, IsOfFile, LacksStream}
 use Rattle.ffv1_engine.specs.Play.{Played, WritesUpTo, but_last}
-use Rattle.ffv1_engine.specs.Play.End.{Payload}
+use Rattle.ffv1_engine.specs.Play.End.{Over, Payload}
 use Rattle.ffv1_engine.specs.FrameLines.{frame_lines, place_text}
-use Rattle.ffv1_engine.specs.Told.{WritesLine, is_telling_fault}
+use Rattle.ffv1_engine.specs.Told.{LineLacks, NextFails, PayloadLacks, WritesLine, is_telling_fault}
 
 -- how many frames there were
 unfoldable pub count_line : ℕ → List ℕ
@@ -54,22 +57,68 @@ module _ (profile : Profile) (place : Bool) (input output : Passage) where
     pub writes : Appends output.old output.new
         (frame_lines line.Sizes stream.accepted.configuration frames)
 
-  abbrev pub ChecksUpTo : Type 0
-  ChecksUpTo = Unwritten ⊎ ((s : Stream) × (frames : List Frame) × ChecksSome s frames)
+  -- the same up to a place where this stands
+  pub record ChecksTo (stream : Stream) (frames : List Frame) (to : Place) (at : Option (List ℕ))
+      : Type 0 where
+    pub played : Played profile stream frames
+    pub begins : BeginsTo profile input.old at stream frames to
+    pub written : output.after ≡ output.before
+    pub writes : Appends output.old output.new
+        (frame_lines line.Sizes stream.accepted.configuration frames)
 
-  -- the line of the last of these frames, or that behind it, was not written whole
+  -- the line of the last of these frames was not written whole
   pub record CheckLineFails : Type 0 where
     pub stream : Stream
     pub frames : List Frame
     pub played : Played profile stream frames
-    pub begins : BeginsSome profile input.old stream frames
+    pub begins : BeginsKnown profile input.old input.new stream frames
     pub kept : input.after ≡ input.before
     pub written : output.after ≡ one_more output.before
     pub writes : WritesUpTo output.old output.new
         (length (frame_lines line.Sizes stream.accepted.configuration (but_last frames)))
+        (frame_lines line.Sizes stream.accepted.configuration frames)
+
+  -- the line after all frames of the file was not written whole
+  pub record CheckCountFails : Type 0 where
+    pub stream : Stream
+    pub frames : List Frame
+    pub played : Played profile stream frames
+    pub ends : EndsKnown profile input.old input.new stream frames Over
+    pub kept : input.after ≡ input.before
+    pub written : output.after ≡ one_more output.before
+    pub writes : WritesUpTo output.old output.new
+        (length (frame_lines line.Sizes stream.accepted.configuration frames))
         (check_text stream.accepted.configuration frames)
 
-  -- behind these frames the file ends so
+  -- memory for it was refused
+  pub record CheckCountLacks : Type 0 where
+    pub stream : Stream
+    pub frames : List Frame
+    pub played : Played profile stream frames
+    pub ends : EndsKnown profile input.old input.new stream frames Over
+    pub written : output.after ≡ output.before
+    pub writes : Appends output.old output.new
+        (frame_lines line.Sizes stream.accepted.configuration frames)
+
+  -- a read of the next frame failed
+  pub record CheckReadFails : Type 0 where
+    pub stream : Stream
+    pub frames : List Frame
+    pub to : Place
+    pub at : Option (List ℕ)
+    pub checks : ChecksTo stream frames to at
+    pub fails : NextFails to at input.new
+
+  -- memory was refused for the next payload, or for its line
+  pub record CheckFrameLacks : Type 0 where
+    pub stream : Stream
+    pub frames : List Frame
+    pub to : Place
+    pub at : Option (List ℕ)
+    pub checks : ChecksTo stream frames to at
+    pub lacks : PayloadLacks to at input.new ⊎ LineLacks stream.accepted to at input.new
+
+  -- after these frames the file ends so
   pub record CheckEnds (f : Fault) : Type 0 where
     pub stream : Stream
     pub frames : List Frame
@@ -79,7 +128,7 @@ module _ (profile : Profile) (place : Bool) (input output : Passage) where
     pub ends : EndsKnown profile input.old input.new stream frames end
     pub is : EndsWith frames end f
 
-  -- the payload behind these frames has its first fault
+  -- the payload after these frames has its first fault
   pub record CheckPayload (f : Fault) : Type 0 where
     pub stream : Stream
     pub frames : List Frame
@@ -90,17 +139,23 @@ module _ (profile : Profile) (place : Bool) (input output : Passage) where
     pub ends : EndsKnown profile input.old input.new stream frames (Payload payload fault tally)
     pub faulty : FaultsFrame stream.accepted payload fault tally
     pub is : f ≡ of_codec fault.fault
+    pub content : cause_of f ≡ Content
     pub kept : input.after ≡ input.before
     pub writes : WritesLine (frame_lines line.Sizes stream.accepted.configuration frames)
         (place_text place (saturated (length frames)) fault tally) output
 
   -- why a check ends, but for a payload's fault, by the cause: a write failed, which was counted; a
   -- read failed, which was counted; memory was refused; or the file has no stream, or this fault
-  -- behind its first frames, or no frame
+  -- after its first frames, or no frame
   abbrev pub CheckStopsBy : Fault → Cause → Type 0
-  CheckStopsBy f Writing = CheckLineFails
-  CheckStopsBy f Reading = ChecksUpTo × (input.after ≡ one_more input.before)
-  CheckStopsBy f Memory = ChecksUpTo × (input.after ≡ input.before)
+  CheckStopsBy f Writing = CheckLineFails ⊎ CheckCountFails
+  CheckStopsBy f Reading =
+      (input.after ≡ one_more input.before)
+      × ((Unwritten × OpeningWants profile input.old input.new) ⊎ CheckReadFails)
+  CheckStopsBy f Memory =
+      (input.after ≡ input.before)
+      × ((Unwritten × OpeningLacks profile input.old input.new)
+      ⊎ CheckFrameLacks ⊎ CheckCountLacks)
   CheckStopsBy f Content =
       (input.after ≡ input.before)
       × ((Unwritten × LacksStream profile input.old input.new f) ⊎ CheckEnds f)
@@ -111,6 +166,7 @@ module _ (profile : Profile) (place : Bool) (input output : Passage) where
 
 -- the faults that a check has, whatever the file: those of opening it and of telling its frames, and
 -- that there is none
-abbrev pub IsCheckFault : Fault → Type 0
-IsCheckFault f =
+abbrev pub IsCheckFault : Profile → Fault → Type 0
+IsCheckFault profile f =
     (is_opening_fault f ≡ true) ⊎ (is_telling_fault f ≡ true) ⊎ (f ≡ fault.NoFrames)
+    ⊎ (is_profile_fault profile f ≡ true)

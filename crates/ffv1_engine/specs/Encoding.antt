@@ -1,11 +1,12 @@
 -- What encoding the next picture of a video answers.
 use Rattle.std.specs.Prelude.{◌≡◌, ◌⊎◌, ℕ, Bool, true, false, List, [], ◌∷◌, ◌++◌, Option, Some}
-use Rattle.std.specs.Prelude.{None, Ok, Err, ⊤}
+use Rattle.std.specs.Prelude.{None, Ok, Err}
 use Rattle.ffv1_wire.specs.Failures.{one_more}
 use Rattle.ffv1_wire.specs.Passage.{Passage}
 use Rattle.ffv1_record.specs.Accepted.{Accepted}
 use Rattle.ffv1_codec.specs.Frame.{frame_of, HasLongSlice}
 use Rattle.ffv1_codec.specs.Picture.{Planes}
+use Rattle.ffv1_reads.specs.Known.{Known}
 use Rattle.ffv1_engine.specs.declared.fault.Fault.{Fault}
 use Rattle.ffv1_engine.specs.declared.fault.Fault.TheVariants as fault
 use Rattle.ffv1_y4m.specs.declared.fault.Fault.{Fault as Y4mFault}
@@ -15,7 +16,7 @@ use Rattle.ffv1_engine.specs.Packing.{AllShort, frames_for, said_for}
 use Rattle.ffv1_engine.specs.Video.{ReadsPictures, at_first, picture_next}
 use Rattle.ffv1_engine.specs.VideoReads.{NextRead, StopsKnown, VideoReading}
 
--- a picture was read and its frame stands behind the others; or there was none, and nothing is
+-- a picture was read and its frame stands after the others; or there was none, and nothing is
 -- changed
 abbrev pub EncodesNext : Passage → Accepted → VideoReading → VideoReading → List (List ℕ) →
     List (List ℕ) → Bool → Type 0
@@ -46,10 +47,8 @@ StopsNext p a r f = StopsBy (cause_of f) p a r f
 
 -- where the text is known, it begins with these pictures
 abbrev pub PicturesKnown : Option (List ℕ) → Option (List ℕ) → VideoReading → List Planes → Type 0
-PicturesKnown None new r pictures = ⊤
-PicturesKnown (Some text) None r pictures = ⊥
-PicturesKnown (Some text) (Some rest) r pictures =
-    ReadsPictures r.ppm r.head true text pictures rest
+PicturesKnown old new r pictures = Known old new (λ text rest.
+    ReadsPictures r.ppm r.head true text pictures rest)
 
 -- so far some pictures were read and encoded, and these are their frames
 pub record Encoded (p : Passage) (a : Accepted) (r s : VideoReading) (frames : List (List ℕ))
@@ -66,11 +65,9 @@ pub record Encoded (p : Passage) (a : Accepted) (r s : VideoReading) (frames : L
 
 -- where the text is known, it has these pictures and no more
 abbrev pub AllKnown : Option (List ℕ) → Option (List ℕ) → VideoReading → List Planes → Type 0
-AllKnown None new r pictures = ⊤
-AllKnown (Some text) None r pictures = ⊥
-AllKnown (Some text) (Some rest) r pictures =
+AllKnown old new r pictures = Known old new (λ text rest.
     (left : List ℕ) × ReadsPictures r.ppm r.head true text pictures left
-    × (picture_next r.ppm r.head (at_first pictures) left ≡ Ok (None, rest))
+    × (picture_next r.ppm r.head (at_first pictures) left ≡ Ok (None, rest)))
 
 -- all pictures were read and encoded, and these are their frames
 pub record EncodesAll (p : Passage) (a : Accepted) (r : VideoReading) (frames : List (List ℕ))
@@ -81,7 +78,7 @@ pub record EncodesAll (p : Passage) (a : Accepted) (r : VideoReading) (frames : 
   pub short : AllShort a r.head pictures
   pub are : frames ≡ frames_for a r.head pictures
 
--- the picture behind some has a fault, or a slice that is too long
+-- the picture after some has a fault, or a slice that is too long
 abbrev pub EndsAt : Accepted → VideoReading → List Planes → List ℕ → List ℕ → Fault → Type 0
 EndsAt a r pictures left rest f =
     ((g : Y4mFault) × (picture_next r.ppm r.head (at_first pictures) left ≡ Err (g, rest))
@@ -92,11 +89,9 @@ EndsAt a r pictures left rest f =
 -- where the text is known, so it ends
 abbrev pub EndsKnown : Option (List ℕ) → Option (List ℕ) → Accepted → VideoReading → List Planes →
     Fault → Type 0
-EndsKnown None new a r pictures f = ⊤
-EndsKnown (Some text) None a r pictures f = ⊥
-EndsKnown (Some text) (Some rest) a r pictures f =
+EndsKnown old new a r pictures f = Known old new (λ text rest.
     (left : List ℕ) × ReadsPictures r.ppm r.head true text pictures left
-    × EndsAt a r pictures left rest f
+    × EndsAt a r pictures left rest f)
 
 pub record EndsEncoding (p : Passage) (a : Accepted) (r : VideoReading) (f : Fault) : Type 0 where
   pub pictures : List Planes

@@ -1,4 +1,5 @@
 -- The product's fault that stands for a crate's, and what it comes from.
+use Rattle.std.specs.Prelude.{Bool, true, false}
 use Rattle.ffv1_engine.specs.declared.fault.Fault.{Fault}
 use Rattle.ffv1_engine.specs.declared.fault.Fault.TheVariants as fault
 use Rattle.ffv1_range.specs.declared.fault.Fault.{Fault as RangeFault}
@@ -109,3 +110,13 @@ cause_of fault.Read = Reading
 cause_of fault.Write = Writing
 cause_of fault.OutOfMemory = Memory
 cause_of f = Content
+
+-- the faults that a file of Matroska alone has
+abbrev pub is_matroska_fault : Fault → Bool
+is_matroska_fault fault.NotMatroska = true
+is_matroska_fault fault.BadElement = true
+is_matroska_fault fault.NoTracks = true
+is_matroska_fault fault.Encoded = true
+is_matroska_fault fault.Laced = true
+is_matroska_fault fault.Checksum = true
+is_matroska_fault f = false

@@ -1,9 +1,13 @@
 -- The lines that are written of the frames of a file.
-use Rattle.std.specs.Prelude.{ℕ, ◌*◌, Bool, true, false, List, [], ◌∷◌, ◌++◌, length, codes}
-use Rattle.std.specs.Prelude.{decimal}
+use Rattle.std.specs.Prelude.{◌≡◌, ℕ, ◌*◌, Bool, true, false, List, [], ◌∷◌, ◌++◌, length, codes}
+use Rattle.std.specs.Prelude.{Result, Ok, Err, decimal}
+use Rattle.std.specs.Io.KnownBytes.{Appends}
 use Rattle.std.proofs.Common.{suc}
 use Rattle.ffv1_range.specs.declared.tally.Tally.{Tally}
 use Rattle.ffv1_range.specs.Counts.{saturated}
+use Rattle.ffv1_wire.specs.Failures.{one_more}
+use Rattle.ffv1_wire.specs.Passage.{Passage}
+use Rattle.ffv1_wire.specs.Writes.{AppendsBeginning}
 use Rattle.ffv1_record.specs.Configuration.{Configuration}
 use Rattle.ffv1_codec.specs.Answer.{decided_by}
 use Rattle.ffv1_codec.specs.declared.fault.FrameFault.{FrameFault}
@@ -42,11 +46,20 @@ abbrev pub frame_lines : FrameLine → Configuration → List Frame → List ℕ
 frame_lines kind c frames = lines_from kind c 0 frames
 
 -- where a frame is refused, and what was decided before
+unfoldable pub part_of_frame : FrameFault → List ℕ
+part_of_frame f =
+    (codes " slice " ++ decimal f.slice) ++ (codes " plane " ++ decimal f.plane)
+    ++ (codes " line " ++ decimal f.line) ++ (codes " x " ++ decimal f.x)
+
 unfoldable pub place_line : ℕ → FrameFault → ℕ → List ℕ
 place_line i f decisions =
-    codes "fault frame " ++ decimal i ++ codes " slice " ++ decimal f.slice ++ codes " plane "
-    ++ decimal f.plane ++ codes " line " ++ decimal f.line ++ codes " x " ++ decimal f.x
-    ++ codes " decisions " ++ decimal decisions ++ codes "\n"
+    (codes "fault frame " ++ decimal i) ++ part_of_frame f
+    ++ (codes " decisions " ++ decimal decisions) ++ codes "\n"
+
+-- a part of a line was written; or a write failed, which was counted, after a beginning of it
+abbrev pub WritesPart : {E : Type 0} → List ℕ → Passage → Result (Unit {0}) E → Type 0
+WritesPart text p (Ok done) = (p.after ≡ p.before) × Appends p.old p.new text
+WritesPart text p (Err failed) = (p.after ≡ one_more p.before) × AppendsBeginning p.old p.new text
 
 -- it is written where the place is asked for
 abbrev pub place_text : Bool → ℕ → FrameFault → Tally → List ℕ

@@ -10,8 +10,8 @@ use Rattle.ffv1_wire.specs.Runs.{Line}
 use Rattle.ffv1_record.specs.Accepted.{Accepted}
 use Rattle.ffv1_record.specs.Configuration.{Configuration}
 use Rattle.ffv1_codec.specs.declared.fault.FrameFault.{FrameFault}
-use Rattle.ffv1_avi.specs.declared.place.Place.{Place}
-use Rattle.ffv1_avi.specs.Files.{frame_read}
+use Rattle.ffv1_files.specs.Places.{Place}
+use Rattle.ffv1_files.specs.Files.{frame_read}
 use Rattle.ffv1_reads.specs.Head.{Head}
 use Rattle.ffv1_y4m.specs.Images.{AtImage, image_text, text_of_lines}
 use Rattle.ffv1_y4m.specs.Sink.{PpmSink}
@@ -20,7 +20,8 @@ use Rattle.ffv1_engine.specs.Faults.{Cause, cause_of, of_codec}
 use Rattle.ffv1_engine.specs.Faults.Cause.{Reading, Writing, Memory, Content}
 use Rattle.ffv1_engine.specs.Stream.{FaultsFrame, Frame}
 use Rattle.ffv1_engine.specs.Play.{WritesUpTo}
-use Rattle.ffv1_engine.specs.Told.{FaultsKnown, PlaysFrame, ReadsEnd, ReadsPayload}
+use Rattle.ffv1_engine.specs.Told.{FaultsKnown, NextFails, PayloadLacks, PlaysFrame, ReadsEnd}
+use Rattle.ffv1_engine.specs.Told.{ReadsPayload}
 use Rattle.ffv1_engine.specs.Trial.{Silent}
 use Rattle.ffv1_engine.specs.Unpacked.{lines_before}
 use Rattle.ffv1_engine.specs.Unpacking.{HandsOver}
@@ -35,7 +36,7 @@ pub record IsSinkFor {W : Type 0} (c : Configuration) (s : PpmSink W) : Type 0 w
 abbrev pub rows_so_far : Configuration → List Line → List ℕ
 rows_so_far c lines = text_of_lines c.width c.height [] 0 lines
 
--- of the next frame, behind whole images
+-- of the next frame, after whole images
 module _ (a : Accepted) (from to : Place) (input output : Passage) where
   -- a row was not written whole, which a line was to bring
   pub record RowCut : Type 0 where
@@ -64,8 +65,10 @@ module _ (a : Accepted) (from to : Place) (input output : Passage) where
   -- why there is no image of it, or not all of one, by the cause
   abbrev pub ImageStopsBy : Fault → Cause → Type 0
   ImageStopsBy f Writing = RowCut
-  ImageStopsBy f Reading = Silent output × (input.after ≡ one_more input.before)
-  ImageStopsBy f Memory = Silent output × (input.after ≡ input.before)
+  ImageStopsBy f Reading =
+      Silent output × (input.after ≡ one_more input.before) × NextFails from input.old input.new
+  ImageStopsBy f Memory =
+      Silent output × (input.after ≡ input.before) × PayloadLacks from input.old input.new
   ImageStopsBy f Content =
       (input.after ≡ input.before)
       × ((Silent output × FaultsKnown (frame_read from) input.old input.new f) ⊎ ImageFaults f)

@@ -1,5 +1,6 @@
 pub mod Faults
 pub mod Profiles
+pub mod Containers
 pub mod Picture
 pub mod Plane
 pub mod Report

@@ -1,14 +1,20 @@
 -- A file is opened: what is known then of its head and its configuration, or why it is not.
-use Rattle.std.specs.Prelude.{◌≡◌, ℕ, Bool, true, false, List, Option, Some, None, Ok, ⊤}
+use Rattle.std.specs.Prelude.{◌≡◌, ◌⊎◌, ℕ, Bool, true, false, List, Option, None, Ok}
 use Rattle.ffv1_wire.specs.Failures.{one_more}
 use Rattle.ffv1_wire.specs.Passage.{Passage}
 use Rattle.ffv1_record.specs.Accepted.{Accepted}
-use Rattle.ffv1_avi.specs.declared.place.Place.{Place}
-use Rattle.ffv1_avi.specs.Files.{open_read}
+use Rattle.ffv1_record.specs.Reading.{ReachesSets}
+use Rattle.ffv1_files.specs.Places.{Place}
+use Rattle.ffv1_files.specs.Files.{open_read}
 use Rattle.ffv1_reads.specs.Head.{Head}
-use Rattle.ffv1_avi.specs.Readers.{Standing}
+use Rattle.ffv1_reads.specs.Reads.{Kept}
+use Rattle.ffv1_files.specs.Answers.{ReadFails, WantsMore}
+use Rattle.ffv1_files.specs.Places.{opening_may_end}
+use Rattle.ffv1_files.specs.Readers.{Standing}
+use Rattle.ffv1_reads.specs.Known.{Known}
 use Rattle.ffv1_engine.specs.declared.profile.Profile.{Profile}
-use Rattle.ffv1_engine.specs.Profiles.{extent_in}
+use Rattle.ffv1_engine.specs.Containers.{IsWithin}
+use Rattle.ffv1_engine.specs.Profiles.{scope_in}
 use Rattle.ffv1_engine.specs.declared.fault.Fault.{Fault}
 use Rattle.ffv1_engine.specs.declared.fault.Fault.TheVariants as fault
 use Rattle.ffv1_engine.specs.Faults.{Cause, cause_of}
@@ -18,10 +24,8 @@ use Rattle.ffv1_engine.specs.Play.{LacksStream}
 
 -- where the text is known, it begins with this head, and its frames come from this place
 abbrev pub OpensKnown : Profile → Option (List ℕ) → Option (List ℕ) → Head → Place → Type 0
-OpensKnown profile None new head place = ⊤
-OpensKnown profile (Some file) None head place = ⊥
-OpensKnown profile (Some file) (Some rest) head place =
-    open_read (extent_in profile) file ≡ Ok ((head, place), rest)
+OpensKnown profile old new head place = Known old new (λ file rest.
+    open_read (scope_in profile) file ≡ Ok ((head, place), rest))
 
 abbrev pub stream_of : Standing → Accepted → Stream
 stream_of r a = record { head = r.head; accepted = a }
@@ -30,15 +34,44 @@ stream_of r a = record { head = r.head; accepted = a }
 pub record OpensStream (profile : Profile) (r : Standing) (a : Accepted) (p : Passage) : Type 0 where
   pub stream : IsStream profile (stream_of r a)
   pub known : OpensKnown profile p.old p.new r.head r.place
+  pub within : IsWithin profile r.place
   pub sound : r.fault ≡ None
   pub kept : p.after ≡ p.before
 
--- or why it was not, by the cause: a read failed, which was counted; memory was refused; or the
+-- where the text is known, it begins with a head whose record has no fault before its first set:
+-- from there on memory is taken
+pub record OpensRecord (profile : Profile) (old new : Option (List ℕ)) : Type 0 where
+  pub head : Head
+  pub place : Place
+  pub known : OpensKnown profile old new head place
+  pub reaches : ReachesSets head.config_record
+
+-- or with one whose record is accepted: the decoder, and the lines of the stream, take memory
+pub record OpensAccepted (profile : Profile) (old new : Option (List ℕ)) : Type 0 where
+  pub stream : Stream
+  pub is : IsStream profile stream
+  pub place : Place
+  pub known : OpensKnown profile old new stream.head place
+
+-- what memory was refused for: bytes of the file that are kept, of which more were wanted; the sets
+-- of its record; or what comes once that is accepted
+abbrev pub OpeningLacks : Profile → Option (List ℕ) → Option (List ℕ) → Type 0
+OpeningLacks profile old new =
+    Known old new (WantsMore (open_read (scope_in profile)) Kept)
+    ⊎ OpensRecord profile old new ⊎ OpensAccepted profile old new
+
+-- where a read failed
+abbrev pub OpeningWants : Profile → Option (List ℕ) → Option (List ℕ) → Type 0
+OpeningWants profile old new = Known old new (ReadFails (opening_may_end (scope_in profile))
+    (open_read (scope_in profile)))
+
+-- why it was not opened, by the cause: a read failed, which was counted; memory was refused; or the
 -- file has this fault
 abbrev pub LacksOpeningBy : Profile → Passage → Fault → Cause → Type 0
-LacksOpeningBy profile p f Reading = p.after ≡ one_more p.before
+LacksOpeningBy profile p f Reading =
+    (p.after ≡ one_more p.before) × OpeningWants profile p.old p.new
 LacksOpeningBy profile p f Writing = ⊥
-LacksOpeningBy profile p f Memory = p.after ≡ p.before
+LacksOpeningBy profile p f Memory = (p.after ≡ p.before) × OpeningLacks profile p.old p.new
 LacksOpeningBy profile p f Content = (p.after ≡ p.before) × LacksStream profile p.old p.new f
 
 abbrev pub LacksOpening : Profile → Passage → Fault → Type 0

@@ -13,6 +13,7 @@ use Rattle.ffv1_reads.specs.Head.{Head}
 use Rattle.ffv1_avi.specs.Written.{most, riff_size}
 use Rattle.ffv1_y4m.specs.declared.fault.Fault.{Fault as Y4mFault}
 use Rattle.ffv1_y4m.specs.declared.head.VideoHead.{VideoHead}
+use Rattle.ffv1_reads.specs.Known.{Known}
 use Rattle.ffv1_engine.specs.declared.fault.Fault.{Fault}
 use Rattle.ffv1_engine.specs.declared.fault.Fault.TheVariants as fault
 use Rattle.ffv1_words.specs.declared.order.Choice.{Choice}
@@ -66,7 +67,7 @@ pub record IsRejected (choice : Choice) (text rest : List ℕ) (f : Fault) : Typ
   pub first : IsFirst checks (configuration_for choice (is_ppm text) head) refusal
   pub is : f ≡ of_record refusal
 
--- why packing ends behind the pictures of a video: the next one has a fault, or a slice that is too
+-- why packing ends after the pictures of a video: the next one has a fault, or a slice that is too
 -- long; or there is no more, and there was none, or their file would be too large
 abbrev pub EndsBehind : Choice → Video → Accepted → List ℕ → List ℕ → Fault → Type 0
 EndsBehind choice v a left rest f =
@@ -91,10 +92,8 @@ pub record Ends (choice : Choice) (text rest : List ℕ) (f : Fault) : Type 0 wh
 
 -- the first fault of a text that is packed, where that is known, with this left
 abbrev pub FaultsPacked : Choice → Option (List ℕ) → Option (List ℕ) → Fault → Type 0
-FaultsPacked choice None new f = ⊤
-FaultsPacked choice (Some text) None f = ⊥
-FaultsPacked choice (Some text) (Some rest) f =
-    LacksHead text rest f ⊎ IsRejected choice text rest f ⊎ Ends choice text rest f
+FaultsPacked choice old new f = Known old new (λ text rest.
+    LacksHead text rest f ⊎ IsRejected choice text rest f ⊎ Ends choice text rest f)
 
 -- a text, where it is known, has a head
 abbrev pub HasHead : Option (List ℕ) → Type 0
@@ -102,8 +101,8 @@ HasHead None = ⊤
 HasHead (Some text) = (h : VideoHead) × (rest : List ℕ) × (video_head text ≡ Ok (h, rest))
 
 -- why packing is refused, by what the fault comes from: a write that failed, which was counted,
--- behind a beginning of the file; and else with nothing written a read that failed, which was
--- counted, memory behind a head, or the first fault of the text
+-- after a beginning of the file; and else with nothing written a read that failed, which was
+-- counted, memory after a head, or the first fault of the text
 abbrev pub RefusesBy : Cause → Choice → Passage → Passage → Fault → Type 0
 RefusesBy Writing choice input output f =
     PacksBeginning choice input output × (output.after ≡ one_more output.before)
@@ -136,13 +135,11 @@ is_pack_fault fault.NoFrames = true
 is_pack_fault fault.FormatChanged = true
 is_pack_fault f = false
 
--- where the text is known, it begins with the video, and no picture is behind it
+-- where the text is known, it begins with the video, and no picture is after it
 abbrev pub EndsVideo : Option (List ℕ) → Option (List ℕ) → Video → Type 0
-EndsVideo None new v = ⊤
-EndsVideo (Some text) None v = ⊥
-EndsVideo (Some text) (Some rest) v =
+EndsVideo old new v = Known old new (λ text rest.
     (left : List ℕ) × Begins text v left
-    × (picture_next v.ppm v.head (at_first v.pictures) left ≡ Ok (None, rest))
+    × (picture_next v.ppm v.head (at_first v.pictures) left ≡ Ok (None, rest)))
 
 -- a video was read, at least one picture of it, and its file has this head and these frames
 pub record EncodesVideo (choice : Choice) (p : Passage) (head : Head) (frames : List (List ℕ))

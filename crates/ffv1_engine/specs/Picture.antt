@@ -1,12 +1,13 @@
 -- The first picture of a text, where it is mono.
 use Rattle.std.specs.Prelude.{◌≡◌, ℕ, ◌*◌, ◌≤◌, if◌then◌else◌, List, [], ◌∷◌, length, Option}
-use Rattle.std.specs.Prelude.{Some, None, Result, Ok, Err, ⊤}
+use Rattle.std.specs.Prelude.{Some, None, Result, Ok, Err, Bool, true, false}
 use Rattle.ffv1_wire.specs.Failures.{one_more}
 use Rattle.ffv1_wire.specs.Passage.{Passage}
 use Rattle.ffv1_y4m.specs.Header.{header_of}
 use Rattle.ffv1_y4m.specs.Pictures.{picture_read}
 use Rattle.ffv1_y4m.specs.Sequence.{Outcome}
 use Rattle.ffv1_y4m.specs.declared.head.VideoHead.{VideoHead}
+use Rattle.ffv1_reads.specs.Known.{Known}
 use Rattle.ffv1_engine.specs.declared.fault.Fault.{Fault}
 use Rattle.ffv1_engine.specs.declared.fault.Fault.TheVariants as fault
 use Rattle.ffv1_engine.specs.Faults.{of_y4m}
@@ -40,7 +41,7 @@ mono_in head (Some []) rest = Err (fault.NoFrames, rest)
 mono_in head (Some (samples ∷ more)) rest =
     Ok (record { width = head.width; height = head.height; samples = samples }, rest)
 
--- the first picture behind a header, which is judged whole before it
+-- the first picture after a header, which is judged whole before it
 abbrev pub picture_behind : VideoHead × List ℕ → Result (Mono × List ℕ) (Fault × List ℕ)
 picture_behind header =
     if header.0.chroma_planes then Err (fault.Unsupported, header.1)
@@ -52,15 +53,11 @@ mono_of text = and_then (header_of text) picture_behind
 
 -- where the text is known, it reads as this picture, with this left
 abbrev pub ReadsMono : Option (List ℕ) → Option (List ℕ) → Mono → Type 0
-ReadsMono None new m = ⊤
-ReadsMono (Some text) None m = ⊥
-ReadsMono (Some text) (Some rest) m = mono_of text ≡ Ok (m, rest)
+ReadsMono old new m = Known old new (λ text rest. mono_of text ≡ Ok (m, rest))
 
 -- where the text is known, it reads as this fault, with this left
 abbrev pub FaultsMono : Option (List ℕ) → Option (List ℕ) → Fault → Type 0
-FaultsMono None new f = ⊤
-FaultsMono (Some text) None f = ⊥
-FaultsMono (Some text) (Some rest) f = mono_of text ≡ Err (f, rest)
+FaultsMono old new f = Known old new (λ text rest. mono_of text ≡ Err (f, rest))
 
 -- why a picture was not read: a read failed, which was counted; or memory was refused; or the text
 -- has this fault
@@ -69,3 +66,15 @@ RefusesMono p fault.Read = p.after ≡ one_more p.before
 RefusesMono p fault.OutOfMemory = p.after ≡ p.before
 RefusesMono p fault.Write = ⊥
 RefusesMono p f = (p.after ≡ p.before) × FaultsMono p.old p.new f
+
+-- the faults that reading one has, whatever the text
+abbrev pub is_mono_fault : Fault → Bool
+is_mono_fault fault.OutOfMemory = true
+is_mono_fault fault.Read = true
+is_mono_fault fault.Header = true
+is_mono_fault fault.Tag = true
+is_mono_fault fault.Unsupported = true
+is_mono_fault fault.FrameLine = true
+is_mono_fault fault.FrameTruncated = true
+is_mono_fault fault.NoFrames = true
+is_mono_fault f = false

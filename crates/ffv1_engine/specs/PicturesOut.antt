@@ -1,4 +1,4 @@
--- Pictures of YCbCr are written one behind the other: the text of the next one, and what writing it
+-- Pictures of YCbCr are written one after the other: the text of the next one, and what writing it
 -- answers.
 use Rattle.std.specs.Prelude.{◌≡◌, ◌⊎◌, ℕ, Bool, true, false, List, Option, Some, None, Result}
 use Rattle.std.specs.Prelude.{Ok, Err, ⊤}
@@ -13,8 +13,8 @@ use Rattle.ffv1_codec.specs.Kept.{Kept}
 use Rattle.ffv1_codec.specs.Picture.{AreOf, Planes}
 use Rattle.ffv1_codec.specs.SliceList.{Said}
 use Rattle.ffv1_codec.specs.declared.fault.FrameFault.{FrameFault}
-use Rattle.ffv1_avi.specs.declared.place.Place.{Place}
-use Rattle.ffv1_avi.specs.Files.{frame_read}
+use Rattle.ffv1_files.specs.Places.{Place}
+use Rattle.ffv1_files.specs.Files.{frame_read}
 use Rattle.ffv1_y4m.specs.Canonical.{next_text}
 use Rattle.ffv1_y4m.specs.Writes.{Y4mWriting}
 use Rattle.ffv1_y4m.specs.declared.head.VideoHead.{VideoHead}
@@ -23,7 +23,8 @@ use Rattle.ffv1_engine.specs.declared.fault.Fault.TheVariants as fault
 use Rattle.ffv1_engine.specs.Faults.{Cause, cause_of, of_codec}
 use Rattle.ffv1_engine.specs.Faults.Cause.{Reading, Writing, Memory, Content}
 use Rattle.ffv1_engine.specs.Stream.{FaultsFrame, Frame}
-use Rattle.ffv1_engine.specs.Told.{FaultsKnown, PlaysFrame, ReadsEnd, ReadsPayload}
+use Rattle.ffv1_engine.specs.Told.{FaultsKnown, NextFails, PayloadLacks, PlaysFrame, ReadsEnd}
+use Rattle.ffv1_engine.specs.Told.{ReadsPayload}
 use Rattle.ffv1_engine.specs.Trial.{Silent}
 
 -- the head for pictures that say this
@@ -38,7 +39,7 @@ head_saying h said = record h {
 abbrev pub Begun : Type 0
 Begun = Option (Said × Y4mWriting)
 
--- the writer of a text whose pictures say this, behind a picture
+-- the writer of a text whose pictures say this, after a picture
 abbrev pub writer_behind : VideoHead → Said → Y4mWriting
 writer_behind h said = record { head = head_saying h said; begun = true; failed = false }
 
@@ -57,13 +58,13 @@ abbrev pub SaysAgain : Option Said → Said → Type 0
 SaysAgain None said = ⊤
 SaysAgain (Some first) said = said ≡ first
 
--- the text of a picture behind those that say this: the header before the first one
+-- the text of a picture after those that say this: the header before the first one
 abbrev pub text_behind : VideoHead → Option Said → Said → Planes → List ℕ
 text_behind h None said planes = next_text (head_saying h said) false planes
 text_behind h (Some first) said planes = next_text (head_saying h said) true planes
 
--- what writing a picture answers, and the text behind it: that is written, or a write failed, which
--- was counted, behind a beginning of it; or the picture says something else, and nothing is written
+-- what writing a picture answers, and the text after it: that is written, or a write failed, which
+-- was counted, after a beginning of it; or the picture says something else, and nothing is written
 abbrev pub WritesPicture : VideoHead → Option Said → Said → Planes → Passage → Begun →
     Result (Unit {0}) Fault → Type 0
 WritesPicture h first said planes p after (Ok done) =
@@ -80,7 +81,7 @@ pub record IsKeptFor (a : Accepted) (kept : Kept) : Type 0 where
   pub grid : kept.grid ≡ division_of a.configuration
   pub planes : AreOf kept.grid kept.planes
 
--- of the next frame, behind pictures that say this
+-- of the next frame, after pictures that say this
 module _ (a : Accepted) (h : VideoHead) (first : Option Said) (from to : Place)
     (input output : Passage) where
   -- its payload has its first fault
@@ -105,13 +106,15 @@ module _ (a : Accepted) (h : VideoHead) (first : Option Said) (from to : Place)
       (frame : Frame) × PlaysFrame a from to input frame × SaysAgain first frame.said
       × (output.after ≡ one_more output.before)
       × AppendsBeginning output.old output.new (text_behind h first frame.said frame.planes)
-  NextStopsBy f Reading = Silent output × (input.after ≡ one_more input.before)
-  NextStopsBy f Memory = Silent output × (input.after ≡ input.before)
+  NextStopsBy f Reading =
+      Silent output × (input.after ≡ one_more input.before) × NextFails from input.old input.new
+  NextStopsBy f Memory =
+      Silent output × (input.after ≡ input.before) × PayloadLacks from input.old input.new
   NextStopsBy f Content =
       Silent output × (input.after ≡ input.before)
       × (FaultsKnown (frame_read from) input.old input.new f ⊎ PayloadRefused f ⊎ FrameChanges f)
 
-  -- what its writing answers, and the text behind it: its picture was written, there is none, or
+  -- what its writing answers, and the text after it: its picture was written, there is none, or
   -- why it was not
   abbrev pub WritesNext : Begun → Result Bool Fault → Type 0
   WritesNext after (Ok true) =

@@ -25,7 +25,7 @@ abbrev pub plane_decisions : Table → Set → ℕ → ℕ → List ℕ → List
 plane_decisions t set width height samples =
     decisions_after t [] (plane_steps set width height samples)
 
--- the interval behind them and the sentinel, a decision 0 by the state 129: its count is that of
+-- the interval after them and the sentinel, a decision 0 by the state 129: its count is that of
 -- the renormalisations and two
 abbrev pub plane_end : Table → Set → ℕ → ℕ → List ℕ → Interval
 plane_end t set width height samples =

@@ -8,13 +8,14 @@ use Rattle.ffv1_record.specs.Accepted.{Accepted}
 use Rattle.ffv1_record.specs.Reading.{IsRefused}
 use Rattle.ffv1_record.specs.declared.fault.RecordFault.{RecordFault}
 use Rattle.ffv1_codec.specs.declared.fault.FrameFault.{FrameFault}
-use Rattle.ffv1_avi.specs.declared.place.Place.{Place}
-use Rattle.ffv1_avi.specs.Files.{frame_read, open_read}
+use Rattle.ffv1_files.specs.Places.{Place}
+use Rattle.ffv1_files.specs.Files.{frame_read, open_read}
 use Rattle.ffv1_reads.specs.Head.{Head}
 use Rattle.ffv1_reads.specs.Reads.{Reading, Want, Short, Met}
 use Rattle.ffv1_reads.specs.declared.fault.FileFault.{FileFault}
+use Rattle.ffv1_reads.specs.Known.{Known}
 use Rattle.ffv1_engine.specs.declared.profile.Profile.{Profile}
-use Rattle.ffv1_engine.specs.Profiles.{extent_in}
+use Rattle.ffv1_engine.specs.Profiles.{scope_in}
 use Rattle.ffv1_engine.specs.declared.fault.Fault.{Fault}
 use Rattle.ffv1_engine.specs.declared.fault.Fault.TheVariants as fault
 use Rattle.ffv1_engine.specs.Faults.{of_avi, of_codec, of_record}
@@ -32,17 +33,15 @@ FaultsRead reading text rest f =
 pub record LacksRecord (profile : Profile) (file rest : List ℕ) (f : Fault) : Type 0 where
   pub head : Head
   pub place : Place
-  pub opened : open_read (extent_in profile) file ≡ Ok ((head, place), rest)
+  pub opened : open_read (scope_in profile) file ≡ Ok ((head, place), rest)
   pub refusal : RecordFault
   pub refused : IsRefused head.config_record head.width head.height refusal
   pub is : f ≡ of_record refusal
 
 -- the first fault of a file that has no stream, where it is known
 abbrev pub LacksStream : Profile → Option (List ℕ) → Option (List ℕ) → Fault → Type 0
-LacksStream profile None new f = ⊤
-LacksStream profile (Some file) None f = ⊥
-LacksStream profile (Some file) (Some rest) f =
-    FaultsRead (open_read (extent_in profile)) file rest f ⊎ LacksRecord profile file rest f
+LacksStream profile old new f = Known old new (λ file rest.
+    FaultsRead (open_read (scope_in profile)) file rest f ⊎ LacksRecord profile file rest f)
 
 -- why there is no further frame: the file has a fault, or the next payload has one, where so much
 -- was decided, or there is none
@@ -64,13 +63,11 @@ EndsReading from text rest (Payload payload f tally) =
     (to : Place) × (frame_read from text ≡ Ok (Some (payload, to), rest))
 EndsReading from text rest Over = frame_read from text ≡ Ok (None, rest)
 
--- where the file is known, so it ends behind these frames
+-- where the file is known, so it ends after these frames
 abbrev pub EndsKnown : Profile → Option (List ℕ) → Option (List ℕ) → Stream → List Frame → End →
     Type 0
-EndsKnown profile None new s frames e = ⊤
-EndsKnown profile (Some file) None s frames e = ⊥
-EndsKnown profile (Some file) (Some rest) s frames e =
-    (to : Place) × (at : List ℕ) × Begins profile file s frames to at × EndsReading to at rest e
+EndsKnown profile old new s frames e = Known old new (λ file rest.
+    (to : Place) × (at : List ℕ) × Begins profile file s frames to at × EndsReading to at rest e)
 
 -- the payload at which it ends has its fault
 abbrev pub IsFaulty : Accepted → End → Type 0
@@ -101,7 +98,7 @@ but_last [] = []
 but_last (f ∷ []) = []
 but_last (f ∷ g ∷ fs) = f ∷ but_last (g ∷ fs)
 
--- written is the text of all frames but the last, and of what stands behind it a beginning
+-- written is the text of all frames but the last, and of what stands after it a beginning
 pub record WritesUpTo (old new : Option (List ℕ)) (least : ℕ) (all : List ℕ) : Type 0 where
   pub count : ℕ
   pub enough : least ≤ count

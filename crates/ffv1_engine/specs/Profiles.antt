@@ -1,15 +1,15 @@
 -- How a file is read, by the profile.
-use Rattle.ffv1_avi.specs.declared.place.Extent.{Extent}
-use Rattle.ffv1_avi.specs.declared.place.Extent.TheVariants.{FirstMovi, EveryRiff}
+use Rattle.ffv1_files.specs.declared.container.Scope.{Scope}
+use Rattle.ffv1_files.specs.declared.container.Scope.TheVariants.{FirstMovi, Whole}
 use Rattle.ffv1_record.specs.declared.config.Profile.{Profile as RecordProfile}
 use Rattle.ffv1_record.specs.declared.config.Profile.TheVariants as of_record
 use Rattle.ffv1_engine.specs.declared.profile.Profile.{Profile}
 use Rattle.ffv1_engine.specs.declared.profile.Profile.TheVariants.{Strict, Wide}
 
 -- how far a file is read
-abbrev pub extent_in : Profile → Extent
-extent_in Strict = FirstMovi
-extent_in Wide = EveryRiff
+abbrev pub scope_in : Profile → Scope
+scope_in Strict = FirstMovi
+scope_in Wide = Whole
 
 -- the profile of its record and of the heads of its slices
 abbrev pub record_profile : Profile → RecordProfile

@@ -54,7 +54,7 @@ abbrev pub file_in : {choice : Choice} → {text : List ℕ} → WasPacked choic
 file_in {choice = choice} w = packed_file choice w.packs.video w.packs.accepted
 
 -- the canonical text of a video: of YUV4MPEG2 the header with each tag but X, in one order, and
--- each picture behind `FRAME`; of PPM each image behind its header
+-- each picture after `FRAME`; of PPM each image after its header
 abbrev pub canonical_by : Bool → VideoHead → List Planes → List ℕ
 canonical_by false h pictures = canonical_text h pictures
 canonical_by true h pictures = flat_map (image_text h.width h.height) pictures

@@ -1,7 +1,7 @@
 -- The stream of a file: what its head says, its configuration, and its frames, decoded one after
 -- the other.
-use Rattle.std.specs.Prelude.{◌≡◌, ◌⊎◌, ℕ, List, [], ◌∷◌, map, slice_index, Option, Some, None}
-use Rattle.std.specs.Prelude.{Ok, Err, ⊤}
+use Rattle.std.specs.Prelude.{◌≡◌, ◌⊎◌, ℕ, List, [], ◌∷◌, map, slice_index, Option, Some}
+use Rattle.std.specs.Prelude.{Ok, Err}
 use Rattle.ffv1_range.specs.declared.tally.Tally.{Tally}
 use Rattle.ffv1_record.specs.Accepted.{Accepted, IsAccepted}
 use Rattle.ffv1_record.specs.Record.{IsRecord}
@@ -14,14 +14,15 @@ use Rattle.ffv1_codec.specs.Frame.{CodesPicture}
 use Rattle.ffv1_codec.specs.Picture.{Planes}
 use Rattle.ffv1_codec.specs.SliceList.{Said}
 use Rattle.ffv1_codec.specs.declared.fault.FrameFault.{FrameFault}
-use Rattle.ffv1_avi.specs.declared.place.Place.{Place}
+use Rattle.ffv1_files.specs.Places.{Place}
 use Rattle.ffv1_avi.specs.Chunks.{AviFile}
-use Rattle.ffv1_avi.specs.Files.{frame_read, open_read}
+use Rattle.ffv1_files.specs.Files.{frame_read, open_read}
 use Rattle.ffv1_reads.specs.Head.{Head}
-use Rattle.ffv1_avi.specs.Riffs.{RiffFile}
+use Rattle.ffv1_files.specs.Whole.{IsWhole}
+use Rattle.ffv1_reads.specs.Known.{Known}
 use Rattle.ffv1_engine.specs.declared.profile.Profile.{Profile}
 use Rattle.ffv1_engine.specs.declared.profile.Profile.TheVariants.{Strict, Wide}
-use Rattle.ffv1_engine.specs.Profiles.{extent_in, record_profile}
+use Rattle.ffv1_engine.specs.Profiles.{scope_in, record_profile}
 
 -- the head of a file, and the configuration of its frames
 pub record Stream : Type 0 where
@@ -95,25 +96,28 @@ pub record Begins (profile : Profile) (file : List ℕ) (s : Stream) (frames : L
     (to : Place) (rest : List ℕ) : Type 0 where
   pub from : Place
   pub behind : List ℕ
-  pub opened : open_read (extent_in profile) file ≡ Ok ((s.head, from), behind)
+  pub opened : open_read (scope_in profile) file ≡ Ok ((s.head, from), behind)
   pub read : ReadsFrames from behind (payloads frames) to rest
+
+-- where the file is known, it begins with these frames up to this place, and this is left of it
+abbrev pub BeginsTo : Profile → Option (List ℕ) → Option (List ℕ) → Stream → List Frame → Place →
+    Type 0
+BeginsTo profile old new s frames to = Known old new (λ file rest.
+    Begins profile file s frames to rest)
 
 -- where the file is known, so it begins, and this is left of it
 abbrev pub BeginsKnown : Profile → Option (List ℕ) → Option (List ℕ) → Stream → List Frame → Type 0
-BeginsKnown profile None new s frames = ⊤
-BeginsKnown profile (Some file) None s frames = ⊥
-BeginsKnown profile (Some file) (Some rest) s frames =
-    (to : Place) × Begins profile file s frames to rest
+BeginsKnown profile old new s frames = Known old new (λ file rest.
+    (to : Place) × Begins profile file s frames to rest)
 
--- a file was read to its end, with this head and these frames, and this is left of it: a file by
--- its chunks, behind whose first movi that stands; or one by the chunks of every RIFF, and nothing
+-- a file was read to its end, with this head and these frames, and this is left of it: an AVI by
+-- its chunks, after whose first movi that stands; or one that was read whole, an AVI by the chunks
+-- of every RIFF, or a Matroska file by its elements
 abbrev pub IsRead : Profile → List ℕ → List ℕ → Stream → List Frame → Type 0
 IsRead Strict file rest s frames =
     (is : AviFile file s.head (payloads frames)) × (rest ≡ is.rest)
-IsRead Wide file rest s frames = RiffFile file s.head (payloads frames) × (rest ≡ [])
+IsRead Wide file rest s frames = IsWhole file s.head (payloads frames) rest
 
 -- where the file is known, it was read so
 abbrev pub ReadsFile : Profile → Option (List ℕ) → Option (List ℕ) → Stream → List Frame → Type 0
-ReadsFile profile None new s frames = ⊤
-ReadsFile profile (Some file) None s frames = ⊥
-ReadsFile profile (Some file) (Some rest) s frames = IsRead profile file rest s frames
+ReadsFile profile old new s frames = Known old new (λ file rest. IsRead profile file rest s frames)

@@ -13,14 +13,19 @@ use Rattle.ffv1_record.specs.Accepted.{Accepted}
 use Rattle.ffv1_codec.specs.Answer.{Answers}
 use Rattle.ffv1_codec.specs.SliceList.{Said}
 use Rattle.ffv1_codec.specs.declared.fault.FrameFault.{FrameFault}
-use Rattle.ffv1_avi.specs.declared.place.Place.{Place}
-use Rattle.ffv1_avi.specs.Files.{frame_read}
+use Rattle.ffv1_files.specs.Answers.{ReadFails, WantsMore}
+use Rattle.ffv1_files.specs.Places.{Place}
+use Rattle.ffv1_files.specs.declared.container.Container.{Container}
+use Rattle.ffv1_files.specs.Files.{frame_read}
+use Rattle.ffv1_files.specs.Places.{may_end}
 use Rattle.ffv1_reads.specs.Reads as avi
+use Rattle.ffv1_reads.specs.Known.{Known}
 use Rattle.ffv1_engine.specs.declared.fault.Fault.{Fault}
 use Rattle.ffv1_engine.specs.declared.fault.Fault.TheVariants as fault
 use Rattle.ffv1_engine.specs.declared.player.Stop.{Stop}
 use Rattle.ffv1_engine.specs.declared.player.Stop.TheVariants as stop
 use Rattle.ffv1_engine.specs.declared.frame_line.FrameLine.{FrameLine}
+use Rattle.ffv1_engine.specs.Containers.{is_container_fault}
 use Rattle.ffv1_engine.specs.Faults.{Cause, cause_of, of_avi, of_codec}
 use Rattle.ffv1_engine.specs.Faults.Cause.{Reading, Writing, Memory, Content}
 use Rattle.ffv1_engine.specs.Stream.{AreFrames, FaultsFrame, Frame, IsFrame, ReadsFrames, payloads}
@@ -31,28 +36,31 @@ use Rattle.ffv1_engine.specs.FrameLines.{frame_line, frame_lines, place_text}
 -- where the text is known, it reads so from this place of the file
 abbrev pub NextIs : Place → Option (List ℕ) → Option (List ℕ) →
     Option (List ℕ × Place) → Type 0
-NextIs from None new next = ⊤
-NextIs from (Some text) None next = ⊥
-NextIs from (Some text) (Some rest) next = frame_read from text ≡ Ok (next, rest)
+NextIs from old new next = Known old new (λ text rest. frame_read from text ≡ Ok (next, rest))
 
 -- where the text is known, it has this fault
 abbrev pub FaultsKnown : {X : Type 0} → avi.Reading X → Option (List ℕ) → Option (List ℕ) → Fault →
     Type 0
-FaultsKnown reading None new f = ⊤
-FaultsKnown reading (Some text) None f = ⊥
-FaultsKnown reading (Some text) (Some rest) f = FaultsRead reading text rest f
+FaultsKnown reading old new f = Known old new (λ text rest. FaultsRead reading text rest f)
 
--- why a file is not read on, by the cause: a read failed, which was counted; memory was refused; or
--- what was read has this fault
-abbrev pub FileStopsBy : {X : Type 0} → avi.Reading X → Passage → Fault → Cause → Type 0
-FileStopsBy reading p f Reading = p.after ≡ one_more p.before
-FileStopsBy reading p f Writing = ⊥
-FileStopsBy reading p f Memory = p.after ≡ p.before
-FileStopsBy reading p f Content =
+-- why a file is not read on, by whether the end of the input may be an answer and by the cause: a
+-- read failed, which was counted; memory was refused for bytes that are kept, of which more were
+-- wanted; or what was read has this fault
+abbrev pub FileStopsBy : {X : Type 0} → Bool → avi.Reading X → Passage → Fault → Cause → Type 0
+FileStopsBy ends reading p f Reading =
+    (p.after ≡ one_more p.before) × Known p.old p.new (ReadFails ends reading)
+FileStopsBy ends reading p f Writing = ⊥
+FileStopsBy ends reading p f Memory =
+    (p.after ≡ p.before) × Known p.old p.new (WantsMore reading avi.Kept)
+FileStopsBy ends reading p f Content =
     (p.after ≡ p.before) × FaultsKnown reading p.old p.new f
 
-abbrev pub FileStops : {X : Type 0} → avi.Reading X → Passage → Fault → Type 0
-FileStops reading p f = FileStopsBy reading p f (cause_of f)
+abbrev pub FileStops : {X : Type 0} → Bool → avi.Reading X → Passage → Fault → Type 0
+FileStops ends reading p f = FileStopsBy ends reading p f (cause_of f)
+
+-- the same of the next frame from a place on
+abbrev pub StopsFrom : Place → Passage → Fault → Type 0
+StopsFrom from p f = FileStops (may_end from) (frame_read from) p f
 
 -- nothing failed, and from this place of the file comes this payload, and then that place
 pub record ReadsPayload (from to : Place) (payload : List ℕ) (p : Passage) : Type 0 where
@@ -73,17 +81,29 @@ StepAnswers takes refuses a from to payload tally p old new (Ok None) =
 StepAnswers takes refuses a from to payload tally p old new (Ok (Some info)) =
     ReadsPayload from to payload p × Answers takes refuses a payload old new tally (Ok info)
 StepAnswers takes refuses a from to payload tally p old new (Err (stop.File f)) =
-    FileStops (frame_read from) p (of_avi f) × (new ≡ old)
+    StopsFrom from p (of_avi f) × (new ≡ old)
 StepAnswers takes refuses a from to payload tally p old new (Err (stop.Payload f)) =
     ReadsPayload from to payload p × Answers takes refuses a payload old new tally (Err f)
 
 -- where the text is known, from this place of the file it begins with these frames, and then comes
 -- that place
 abbrev pub ReadsKnown : Place → Option (List ℕ) → Option (List ℕ) → List Frame → Place → Type 0
-ReadsKnown from None new frames to = ⊤
-ReadsKnown from (Some text) None frames to = ⊥
-ReadsKnown from (Some text) (Some rest) frames to =
-    ReadsFrames from text (payloads frames) to rest
+ReadsKnown from old new frames to = Known old new (λ text rest.
+    ReadsFrames from text (payloads frames) to rest)
+
+-- from this place of the file a read of the next frame failed
+abbrev pub NextFails : Place → Option (List ℕ) → Option (List ℕ) → Type 0
+NextFails from old new = Known old new (ReadFails (may_end from) (frame_read from))
+
+-- from this place of the file memory was refused for the next payload, of which more bytes were
+-- wanted
+abbrev pub PayloadLacks : Place → Option (List ℕ) → Option (List ℕ) → Type 0
+PayloadLacks from old new = Known old new (WantsMore (frame_read from) avi.Kept)
+
+-- or for the line of the next frame, which was decoded
+abbrev pub LineLacks : Accepted → Place → Option (List ℕ) → Option (List ℕ) → Type 0
+LineLacks a from old new =
+    (f : Frame) × (to : Place) × IsFrame a f × NextIs from old new (Some (f.payload, to))
 
 -- the same of some of its beginning
 abbrev pub ReadsSome : Place → Option (List ℕ) → List Frame → Type 0
@@ -93,20 +113,17 @@ ReadsSome from (Some text) frames =
 
 -- where the text is known, from this place of the file it has these frames, and ends so
 abbrev pub EndsFrom : Place → Option (List ℕ) → Option (List ℕ) → List Frame → End → Type 0
-EndsFrom from None new frames e = ⊤
-EndsFrom from (Some text) None frames e = ⊥
-EndsFrom from (Some text) (Some rest) frames e =
+EndsFrom from old new frames e = Known old new (λ text rest.
     (to : Place) × (at : List ℕ) × ReadsFrames from text (payloads frames) to at
-    × EndsReading to at rest e
+    × EndsReading to at rest e)
 
--- behind other lines this line was written; or a write failed, which was counted, behind a
--- beginning of it; or memory for it was refused
+-- after other lines this line was written; or a write failed, which was counted, after a
+-- beginning of it
 abbrev pub WritesLine : List ℕ → List ℕ → Passage → Type 0
 WritesLine lines last p =
     ((p.after ≡ p.before) × Appends p.old p.new (lines ++ last))
     ⊎ ((p.after ≡ one_more p.before) × (k : ℕ) × (k < length last)
     × Appends p.old p.new (lines ++ take k last))
-    ⊎ ((0 < length last) × (p.after ≡ p.before) × Appends p.old p.new lines)
 
 module _ (kind : FrameLine) (place : Bool) (a : Accepted) (from : Place)
     (input output : Passage) where
@@ -126,24 +143,25 @@ module _ (kind : FrameLine) (place : Bool) (a : Accepted) (from : Place)
     pub written : output.after ≡ output.before
     pub writes : Appends output.old output.new (frame_lines kind a.configuration frames)
 
-  -- behind these frames nothing was written
-  pub record ToldSome (frames : List Frame) : Type 0 where
+  -- after these frames, which are read up to a place where this stands, nothing was written
+  pub record ToldSome (frames : List Frame) (to : Place) (at : Option (List ℕ)) : Type 0 where
     pub are : AreFrames a frames
-    pub begins : ReadsSome from input.old frames
+    pub read : ReadsKnown from input.old at frames to
     pub written : output.after ≡ output.before
     pub writes : Appends output.old output.new (frame_lines kind a.configuration frames)
 
   -- the line of the last of these frames was not written whole
   pub record LineFails (frames : List Frame) : Type 0 where
+    pub to : Place
     pub are : AreFrames a frames
-    pub begins : ReadsSome from input.old frames
+    pub read : ReadsKnown from input.old input.new frames to
     pub kept : input.after ≡ input.before
     pub written : output.after ≡ one_more output.before
     pub writes : WritesUpTo output.old output.new
         (length (frame_lines kind a.configuration (but_last frames)))
         (frame_lines kind a.configuration frames)
 
-  -- the payload behind these frames has its first fault
+  -- the payload after these frames has its first fault
   pub record PayloadStops (f : Fault) : Type 0 where
     pub frames : List Frame
     pub are : AreFrames a frames
@@ -153,21 +171,25 @@ module _ (kind : FrameLine) (place : Bool) (a : Accepted) (from : Place)
     pub ends : EndsFrom from input.old input.new frames (Payload payload fault tally)
     pub faulty : FaultsFrame a payload fault tally
     pub is : f ≡ of_codec fault.fault
+    pub content : cause_of f ≡ Content
     pub kept : input.after ≡ input.before
     pub writes : WritesLine (frame_lines kind a.configuration frames)
         (place_text place (saturated (length frames)) fault tally) output
 
-  -- or why there is no further frame, by the cause: a write failed; a read failed, which was
-  -- counted; memory was refused; or the file has this fault
+  -- or why there is no further frame, by the cause: a write failed; a read of the next one failed,
+  -- which was counted; memory for it was refused; or the file has this fault
   abbrev pub TellingStopsBy : Fault → Cause → Type 0
   TellingStopsBy f Writing = (frames : List Frame) × LineFails frames
   TellingStopsBy f Reading =
-      (frames : List Frame) × ToldSome frames × (input.after ≡ one_more input.before)
+      (frames : List Frame) × (to : Place) × (at : Option (List ℕ)) × ToldSome frames to at
+      × (input.after ≡ one_more input.before) × NextFails to at input.new
   TellingStopsBy f Memory =
-      (frames : List Frame) × ToldSome frames × (input.after ≡ input.before)
+      (frames : List Frame) × (to : Place) × (at : Option (List ℕ)) × ToldSome frames to at
+      × (input.after ≡ input.before)
+      × (PayloadLacks to at input.new ⊎ LineLacks a to at input.new)
   TellingStopsBy f Content =
-      (frames : List Frame) × ToldSome frames × (input.after ≡ input.before)
-      × EndsFrom from input.old input.new frames (File f)
+      (frames : List Frame) × (to : Place) × (at : Option (List ℕ)) × ToldSome frames to at
+      × (input.after ≡ input.before) × EndsFrom from input.old input.new frames (File f)
 
   abbrev pub TellingStops : Fault → Type 0
   TellingStops f = PayloadStops f ⊎ TellingStopsBy f (cause_of f)
@@ -188,6 +210,7 @@ module _ (kind : FrameLine) (place : Bool) (a : Accepted) (i : ℕ) (from to : P
     pub reads : ReadsPayload from to payload input
     pub faulty : FaultsFrame a payload fault tally
     pub is : f ≡ of_codec fault.fault
+    pub content : cause_of f ≡ Content
     pub writes : WritesLine [] (place_text place i fault tally) output
 
   -- nothing was written
@@ -202,8 +225,11 @@ module _ (kind : FrameLine) (place : Bool) (a : Accepted) (i : ℕ) (from to : P
       × (output.after ≡ one_more output.before)
       × AppendsBeginning output.old output.new
       (frame_line kind a.configuration i frame.payload frame.tally)
-  FrameStopsBy f Reading = Silent × (input.after ≡ one_more input.before)
-  FrameStopsBy f Memory = Silent × (input.after ≡ input.before)
+  FrameStopsBy f Reading =
+      Silent × (input.after ≡ one_more input.before) × NextFails from input.old input.new
+  FrameStopsBy f Memory =
+      Silent × (input.after ≡ input.before)
+      × (PayloadLacks from input.old input.new ⊎ LineLacks a from input.old input.new)
   FrameStopsBy f Content =
       Silent × (input.after ≡ input.before)
       × FaultsKnown (frame_read from) input.old input.new f
@@ -217,7 +243,7 @@ module _ (kind : FrameLine) (place : Bool) (a : Accepted) (i : ℕ) (from to : P
   FrameAnswers (Ok false) = ReadsEnd from input × Silent
   FrameAnswers (Err f) = FrameStops f ⊎ FrameStopsBy f (cause_of f)
 
--- a line was written; or a write failed, which was counted, behind a beginning of it; or memory for
+-- a line was written; or a write failed, which was counted, after a beginning of it; or memory for
 -- it was refused
 abbrev pub WritesFrame : List ℕ → Passage → Result (Unit {0}) Fault → Type 0
 WritesFrame line p (Ok done) = (p.after ≡ p.before) × Appends p.old p.new line
@@ -250,7 +276,12 @@ is_telling_fault fault.SliceStatus = true
 is_telling_fault fault.InfoDiffers = true
 is_telling_fault f = false
 
+-- with those of the container that the frames are in
+abbrev pub IsToldFault : Container → Fault → Type 0
+IsToldFault container f =
+    (is_telling_fault f ≡ true) ⊎ (is_container_fault container f ≡ true)
+
 -- where reading a frame ends, it is by one of those
-abbrev pub IsOwnStop : Stop → Type 0
-IsOwnStop (stop.File f) = is_telling_fault (of_avi f) ≡ true
-IsOwnStop (stop.Payload f) = ⊤
+abbrev pub IsOwnStop : Container → Stop → Type 0
+IsOwnStop container (stop.File f) = IsToldFault container (of_avi f)
+IsOwnStop container (stop.Payload f) = ⊤

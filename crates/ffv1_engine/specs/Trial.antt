@@ -41,7 +41,7 @@ pub record Silent (output : Passage) : Type 0 where
   pub kept : Keeps output.old output.new
   pub same : output.after ≡ output.before
 
--- why a trial is refused: a write failed, which was counted, behind a beginning of the lines; or a
+-- why a trial is refused: a write failed, which was counted, after a beginning of the lines; or a
 -- read failed, which was counted; or memory was refused; or the text has this fault,
 -- with this left of it
 abbrev pub TrialRefused : Passage → Passage → Fault → Type 0

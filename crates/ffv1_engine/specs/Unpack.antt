@@ -7,18 +7,21 @@ use Rattle.ffv1_wire.specs.Failures.{one_more}
 use Rattle.ffv1_wire.specs.Passage.{Passage}
 use Rattle.ffv1_wire.specs.Runs.{Line}
 use Rattle.ffv1_codec.specs.declared.fault.FrameFault.{FrameFault}
+use Rattle.ffv1_files.specs.Places.{Place}
 use Rattle.ffv1_engine.specs.declared.profile.Profile.{Profile}
 use Rattle.ffv1_engine.specs.declared.fault.Fault.{Fault}
 use Rattle.ffv1_engine.specs.declared.fault.Fault.TheVariants as fault
+use Rattle.ffv1_files.specs.declared.container.Container.{Container}
+use Rattle.ffv1_engine.specs.Containers.{is_container_fault, is_profile_fault}
 use Rattle.ffv1_engine.specs.Faults.{Cause, cause_of, of_codec}
 use Rattle.ffv1_engine.specs.Faults.Cause.{Reading, Writing, Memory, Content}
-use Rattle.ffv1_engine.specs.Opens.{is_opening_fault}
-use Rattle.ffv1_engine.specs.Stream.{BeginsKnown, FaultsFrame, Frame, IsStream, ReadsFile}
+use Rattle.ffv1_engine.specs.Opens.{OpeningLacks, OpeningWants, is_opening_fault}
+use Rattle.ffv1_engine.specs.Stream.{BeginsKnown, BeginsTo, FaultsFrame, Frame, IsStream, ReadsFile}
 use Rattle.ffv1_engine.specs.Stream.{Stream}
 use Rattle.ffv1_engine.specs.Play.{BeginsSome, End, EndsKnown, EndsWith, IsOfFile, LacksStream}
 use Rattle.ffv1_engine.specs.Play.{Played, WritesUpTo, but_last}
 use Rattle.ffv1_engine.specs.Play.End.{Payload}
-use Rattle.ffv1_engine.specs.Told.{is_telling_fault}
+use Rattle.ffv1_engine.specs.Told.{NextFails, PayloadLacks, is_telling_fault}
 use Rattle.ffv1_engine.specs.Trial.{Silent}
 use Rattle.ffv1_engine.specs.Unpacked.{AreAlike, HasText, LacksText, is_ppm_stream, lines_before}
 use Rattle.ffv1_engine.specs.Unpacked.{rows_of, text_of}
@@ -34,9 +37,10 @@ pub record LacksTextIn (profile : Profile) (file : Option (List ℕ)) (f : Fault
 -- why a file is not opened for that, by the cause: a read failed, which was counted; memory was
 -- refused; or the file has no stream, or one that has no text
 abbrev pub LacksUnpackingBy : Profile → Passage → Fault → Cause → Type 0
-LacksUnpackingBy profile p f Reading = p.after ≡ one_more p.before
+LacksUnpackingBy profile p f Reading =
+    (p.after ≡ one_more p.before) × OpeningWants profile p.old p.new
 LacksUnpackingBy profile p f Writing = ⊥
-LacksUnpackingBy profile p f Memory = p.after ≡ p.before
+LacksUnpackingBy profile p f Memory = (p.after ≡ p.before) × OpeningLacks profile p.old p.new
 LacksUnpackingBy profile p f Content =
     (p.after ≡ p.before) × (LacksStream profile p.old p.new f ⊎ LacksTextIn profile p.old f)
 
@@ -80,7 +84,7 @@ module _ (profile : Profile) (input output : Passage) where
     pub writes : WritesUpTo output.old output.new
         (length (text_of stream (but_last frames))) (text_of stream frames)
 
-  -- of the image behind these frames a row was not written whole
+  -- of the image after these frames a row was not written whole
   pub record UnpackRowFails : Type 0 where
     pub stream : Stream
     pub frames : List Frame
@@ -100,7 +104,7 @@ module _ (profile : Profile) (input output : Passage) where
         (length (text_of stream frames ++ rows_of stream lines))
         (text_of stream frames ++ rows_of stream (lines ++ (next ∷ [])))
 
-  -- behind these frames the file ends so
+  -- after these frames the file ends so
   pub record UnpackEnds (f : Fault) : Type 0 where
     pub stream : Stream
     pub frames : List Frame
@@ -110,7 +114,7 @@ module _ (profile : Profile) (input output : Passage) where
     pub file : IsOfFile end
     pub is : EndsWith frames end f
 
-  -- the payload behind these frames has its first fault; of its image the rows before are written
+  -- the payload after these frames has its first fault; of its image the rows before are written
   pub record UnpackPayload (f : Fault) : Type 0 where
     pub stream : Stream
     pub frames : List Frame
@@ -127,7 +131,7 @@ module _ (profile : Profile) (input output : Passage) where
     pub writes : Appends output.old output.new
         (text_of stream frames ++ rows_of stream (lines_before faulty))
 
-  -- the frame behind these, decoded, says something else than they do
+  -- the frame after these, decoded, says something else than they do
   pub record UnpackChanges (f : Fault) : Type 0 where
     pub stream : Stream
     pub frames : List Frame
@@ -141,18 +145,46 @@ module _ (profile : Profile) (input output : Passage) where
     pub written : output.after ≡ output.before
     pub writes : Appends output.old output.new (text_of stream frames)
 
-  -- what is written where nothing was refused but a read, or memory
-  abbrev pub UnpacksUpTo : Type 0
-  UnpacksUpTo =
-      Silent output ⊎ ((s : Stream) × (frames : List Frame) × UnpacksSome s frames)
+  -- the file begins with these frames up to a place where this stands, and their text was written
+  pub record UnpacksTo (stream : Stream) (frames : List Frame) (to : Place)
+      (at : Option (List ℕ)) : Type 0 where
+    pub text : HasText stream
+    pub played : Played profile stream frames
+    pub alike : AreAlike stream frames
+    pub begins : BeginsTo profile input.old at stream frames to
+    pub written : output.after ≡ output.before
+    pub writes : Appends output.old output.new (text_of stream frames)
+
+  -- a read of the next frame failed
+  pub record UnpackReadFails : Type 0 where
+    pub stream : Stream
+    pub frames : List Frame
+    pub to : Place
+    pub at : Option (List ℕ)
+    pub unpacks : UnpacksTo stream frames to at
+    pub fails : NextFails to at input.new
+
+  -- memory was refused for the next payload, or before the first frame for what a picture is
+  -- written from
+  pub record UnpackLacks : Type 0 where
+    pub stream : Stream
+    pub frames : List Frame
+    pub to : Place
+    pub at : Option (List ℕ)
+    pub unpacks : UnpacksTo stream frames to at
+    pub lacks : PayloadLacks to at input.new ⊎ ((frames ≡ []) × (at ≡ input.new))
 
   -- why it is refused, by the cause: a write failed, which was counted; a read failed, which was
   -- counted; memory was refused; or the file has no stream, or one that has no text, or this fault
-  -- behind its first frames
+  -- after its first frames
   abbrev pub UnpackStopsBy : Fault → Cause → Type 0
   UnpackStopsBy f Writing = UnpackPictureFails ⊎ UnpackRowFails
-  UnpackStopsBy f Reading = UnpacksUpTo × (input.after ≡ one_more input.before)
-  UnpackStopsBy f Memory = UnpacksUpTo × (input.after ≡ input.before)
+  UnpackStopsBy f Reading =
+      (input.after ≡ one_more input.before)
+      × ((Silent output × OpeningWants profile input.old input.new) ⊎ UnpackReadFails)
+  UnpackStopsBy f Memory =
+      (input.after ≡ input.before)
+      × ((Silent output × OpeningLacks profile input.old input.new) ⊎ UnpackLacks)
   UnpackStopsBy f Content =
       (input.after ≡ input.before)
       × ((Silent output × LacksStream profile input.old input.new f)
@@ -168,3 +200,11 @@ abbrev pub IsUnpackFault : Fault → Type 0
 IsUnpackFault f =
     (is_opening_fault f ≡ true) ⊎ (is_telling_fault f ≡ true) ⊎ (f ≡ fault.NoFrames)
     ⊎ (f ≡ fault.FormatChanged) ⊎ (f ≡ fault.NoY4mName) ⊎ (f ≡ fault.NoPpm)
+
+-- with those of the container that the frames are in
+abbrev pub IsWritingFault : Container → Fault → Type 0
+IsWritingFault container f = IsUnpackFault f ⊎ (is_container_fault container f ≡ true)
+
+-- with those of the containers that the profile reads
+abbrev pub IsUnpackFaultIn : Profile → Fault → Type 0
+IsUnpackFaultIn profile f = IsUnpackFault f ⊎ (is_profile_fault profile f ≡ true)

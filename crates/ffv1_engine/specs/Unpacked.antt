@@ -1,6 +1,6 @@
 -- The text of a stream: YUV4MPEG2 where its pictures are YCbCr, and images of PPM where they are
 -- RCT.
-use Rattle.std.specs.Prelude.{◌≡◌, ◌⊎◌, ℕ, Bool, true, false, List, [], ◌∷◌, ◌++◌, map, flat_map}
+use Rattle.std.specs.Prelude.{◌≡◌, ℕ, Bool, true, false, List, [], ◌∷◌, map, flat_map}
 use Rattle.std.proofs.Common.{inl, inr}
 use Rattle.ffv1_range.specs.declared.tally.Tally.{Tally}
 use Rattle.ffv1_wire.specs.Runs.{Line}

@@ -11,9 +11,8 @@ use Rattle.ffv1_wire.specs.Runs.{Line}
 use Rattle.ffv1_slice.specs.Cutting.{coded_of, cut_of}
 use Rattle.ffv1_slice.specs.Footer.{foot_length}
 use Rattle.ffv1_codec.specs.Decoding.{Offers, State, top_of}
-use Rattle.ffv1_codec.specs.SliceList.{Said}
 use Rattle.ffv1_codec.specs.declared.fault.FrameFault.{FrameFault}
-use Rattle.ffv1_avi.specs.declared.place.Place.{Place}
+use Rattle.ffv1_files.specs.Places.{Place}
 use Rattle.ffv1_engine.specs.declared.fault.Fault.{Fault}
 use Rattle.ffv1_engine.specs.declared.fault.Fault.TheVariants as fault
 use Rattle.ffv1_engine.specs.Faults.{Cause, cause_of, of_codec}
@@ -21,11 +20,11 @@ use Rattle.ffv1_engine.specs.Faults.Cause.{Reading, Writing, Memory, Content}
 use Rattle.ffv1_engine.specs.Stream.{AreFrames, FaultsFrame, Frame, Stream}
 use Rattle.ffv1_engine.specs.Play.{WritesUpTo, but_last}
 use Rattle.ffv1_engine.specs.Play.End.{File, Payload, Over}
-use Rattle.ffv1_engine.specs.Told.{EndsFrom, ReadsKnown, ReadsSome}
+use Rattle.ffv1_engine.specs.Told.{EndsFrom, NextFails, PayloadLacks, ReadsKnown, ReadsSome}
 use Rattle.ffv1_engine.specs.Unpacked.{AreAlike, is_ppm_stream, lines_before, rows_of, text_of}
 use Rattle.std.specs.Prelude.{true}
 
--- decoding of a payload came to a line that is handed over next, behind these
+-- decoding of a payload came to a line that is handed over next, after these
 pub record HandsOver (s : Stream) (payload : List ℕ) (lines : List Line) (next : Line) : Type 0 where
   pub offsets : List ℕ
   pub cut : cut_of s.accepted.configuration payload ≡ Ok offsets
@@ -63,11 +62,19 @@ module _ (s : Stream) (from : Place) (input output : Passage) where
     pub written : output.after ≡ output.before
     pub writes : Appends output.old output.new (text_of s frames)
 
-  -- behind these frames nothing was written
+  -- after these frames nothing was written
   pub record UnpackedSome (frames : List Frame) : Type 0 where
     pub are : AreFrames s.accepted frames
     pub alike : AreAlike s frames
     pub begins : ReadsSome from input.old frames
+    pub written : output.after ≡ output.before
+    pub writes : Appends output.old output.new (text_of s frames)
+
+  -- the same up to a place where this stands
+  pub record UnpackedTo (frames : List Frame) (to : Place) (at : Option (List ℕ)) : Type 0 where
+    pub are : AreFrames s.accepted frames
+    pub alike : AreAlike s frames
+    pub read : ReadsKnown from input.old at frames to
     pub written : output.after ≡ output.before
     pub writes : Appends output.old output.new (text_of s frames)
 
@@ -83,7 +90,7 @@ module _ (s : Stream) (from : Place) (input output : Passage) where
     pub writes : WritesUpTo output.old output.new (length (text_of s (but_last frames)))
         (text_of s frames)
 
-  -- of the image behind these frames a row was not written whole, which a line was to bring
+  -- of the image after these frames a row was not written whole, which a line was to bring
   pub record RowFails : Type 0 where
     pub frames : List Frame
     pub are : AreFrames s.accepted frames
@@ -101,7 +108,7 @@ module _ (s : Stream) (from : Place) (input output : Passage) where
         (length (text_of s frames ++ rows_of s lines))
         (text_of s frames ++ rows_of s (lines ++ (next ∷ [])))
 
-  -- the payload behind these frames has its first fault
+  -- the payload after these frames has its first fault
   pub record PayloadFaults (f : Fault) : Type 0 where
     pub frames : List Frame
     pub are : AreFrames s.accepted frames
@@ -129,20 +136,28 @@ module _ (s : Stream) (from : Place) (input output : Passage) where
     pub written : output.after ≡ output.before
     pub writes : Appends output.old output.new (text_of s frames)
 
-  -- the file has its fault behind these frames
+  -- the file has its fault after these frames
   pub record FileFaults (f : Fault) : Type 0 where
     pub frames : List Frame
     pub some : UnpackedSome frames
     pub ends : EndsFrom from input.old input.new frames (File f)
 
-  -- why no further picture is written, by the cause: a write failed, which was counted; a read
-  -- failed, which was counted; memory was refused; or the file has this fault
+  -- memory was refused for the next payload, or before the first frame for what a picture is
+  -- written from
+  abbrev pub PictureLacks : List Frame → Place → Option (List ℕ) → Type 0
+  PictureLacks frames to at =
+      PayloadLacks to at input.new ⊎ ((frames ≡ []) × (at ≡ input.new))
+
+  -- why no further picture is written, by the cause: a write failed, which was counted; a read of
+  -- the next frame failed, which was counted; memory was refused; or the file has this fault
   abbrev pub UnpackingStopsBy : Fault → Cause → Type 0
   UnpackingStopsBy f Writing = PictureFails ⊎ RowFails
   UnpackingStopsBy f Reading =
-      (frames : List Frame) × UnpackedSome frames × (input.after ≡ one_more input.before)
+      (frames : List Frame) × (to : Place) × (at : Option (List ℕ)) × UnpackedTo frames to at
+      × (input.after ≡ one_more input.before) × NextFails to at input.new
   UnpackingStopsBy f Memory =
-      (frames : List Frame) × UnpackedSome frames × (input.after ≡ input.before)
+      (frames : List Frame) × (to : Place) × (at : Option (List ℕ)) × UnpackedTo frames to at
+      × (input.after ≡ input.before) × PictureLacks frames to at
   UnpackingStopsBy f Content =
       (input.after ≡ input.before) × (FileFaults f ⊎ PayloadFaults f ⊎ FormatChanges f)
 

@@ -1,6 +1,6 @@
 -- What is packed: a video, as YUV4MPEG2 or, where the text begins with `P`, as binary PPM.
 use Rattle.std.specs.Prelude.{◌≡◌, ℕ, ◌==◌, Bool, true, false, if◌then◌else◌, List, [], ◌∷◌, Option}
-use Rattle.std.specs.Prelude.{Some, None, Ok, ⊤}
+use Rattle.std.specs.Prelude.{Some, Ok}
 use Rattle.ffv1_y4m.specs.Header.{header_of}
 use Rattle.ffv1_y4m.specs.Images.{IsImages}
 use Rattle.ffv1_y4m.specs.Pictures.{picture_read}
@@ -10,6 +10,7 @@ use Rattle.ffv1_y4m.specs.Text.{IsText}
 use Rattle.ffv1_y4m.specs.VideoHead.{colour_head}
 use Rattle.ffv1_y4m.specs.declared.head.VideoHead.{VideoHead}
 use Rattle.ffv1_codec.specs.Picture.{Planes}
+use Rattle.ffv1_reads.specs.Known.{Known}
 
 -- whether it is PPM, the head, and the planes of its pictures
 pub record Video : Type 0 where
@@ -61,6 +62,4 @@ pub record Begins (text : List ℕ) (v : Video) (left : List ℕ) : Type 0 where
 
 -- where the text is known, all of it was read, and it is this video
 abbrev pub ReadsVideo : Option (List ℕ) → Option (List ℕ) → Video → Type 0
-ReadsVideo None new v = ⊤
-ReadsVideo (Some text) None v = ⊥
-ReadsVideo (Some text) (Some rest) v = IsVideo text v × (rest ≡ [])
+ReadsVideo old new v = Known old new (λ text rest. IsVideo text v × (rest ≡ []))

@@ -1,11 +1,12 @@
 -- What a reader of a video knows, and what its calls answer.
-use Rattle.std.specs.Prelude.{◌≡◌, ℕ, Bool, true, false, List, Option, Some, None, Ok, Err, ⊤}
+use Rattle.std.specs.Prelude.{◌≡◌, ℕ, Bool, true, false, List, Option, None, Ok, Err}
 use Rattle.ffv1_wire.specs.Failures.{one_more}
 use Rattle.ffv1_wire.specs.Passage.{Passage}
 use Rattle.ffv1_y4m.specs.VideoHead.{IsHead, IsSized, colour_head}
 use Rattle.ffv1_y4m.specs.declared.fault.Fault.{Fault as Y4mFault}
 use Rattle.ffv1_y4m.specs.declared.head.VideoHead.{VideoHead}
 use Rattle.ffv1_codec.specs.Picture.{Planes}
+use Rattle.ffv1_reads.specs.Known.{Known}
 use Rattle.ffv1_engine.specs.declared.fault.Fault.{Fault}
 use Rattle.ffv1_engine.specs.declared.video.VideoReader.{VideoReader}
 use Rattle.ffv1_engine.specs.declared.video.VideoReader.TheVariants as reader
@@ -37,10 +38,8 @@ IsHeadOf r = IsHeadBy r.ppm r.head
 
 -- where the text is known, it begins with this head
 abbrev pub HeadKnown : Option (List ℕ) → Option (List ℕ) → Bool → VideoHead → Type 0
-HeadKnown None new ppm h = ⊤
-HeadKnown (Some text) None ppm h = ⊥
-HeadKnown (Some text) (Some rest) ppm h =
-    (ppm ≡ is_ppm text) × (video_head text ≡ Ok (h, rest))
+HeadKnown old new ppm h = Known old new (λ text rest.
+    (ppm ≡ is_ppm text) × (video_head text ≡ Ok (h, rest)))
 
 -- a head was read
 pub record HeadRead (p : Passage) (r : VideoReading) : Type 0 where
@@ -51,10 +50,8 @@ pub record HeadRead (p : Passage) (r : VideoReading) : Type 0 where
 
 -- where the text is known, it has no head, by this fault
 abbrev pub LacksKnown : Option (List ℕ) → Option (List ℕ) → Fault → Type 0
-LacksKnown None new f = ⊤
-LacksKnown (Some text) None f = ⊥
-LacksKnown (Some text) (Some rest) f =
-    (g : Y4mFault) × (video_head text ≡ Err (g, rest)) × (f ≡ of_y4m g)
+LacksKnown old new f = Known old new (λ text rest.
+    (g : Y4mFault) × (video_head text ≡ Err (g, rest)) × (f ≡ of_y4m g))
 
 -- why no head was read
 abbrev pub HeadRefusedBy : Cause → Passage → Fault → Type 0
@@ -68,10 +65,8 @@ HeadRefused p f = HeadRefusedBy (cause_of f) p f
 
 -- where the text is known, so it goes on
 abbrev pub NextKnown : Option (List ℕ) → Option (List ℕ) → VideoReading → Option Planes → Type 0
-NextKnown None new r picture = ⊤
-NextKnown (Some text) None r picture = ⊥
-NextKnown (Some text) (Some rest) r picture =
-    picture_next r.ppm r.head r.begun text ≡ Ok (picture, rest)
+NextKnown old new r picture = Known old new (λ text rest.
+    picture_next r.ppm r.head r.begun text ≡ Ok (picture, rest))
 
 -- the next picture was read, or the end was
 pub record NextRead (p : Passage) (r : VideoReading) (picture : Option Planes) (s : VideoReading)
@@ -85,10 +80,8 @@ pub record NextRead (p : Passage) (r : VideoReading) (picture : Option Planes) (
 
 -- where the text is known, so it goes on, by this fault
 abbrev pub StopsKnown : Option (List ℕ) → Option (List ℕ) → VideoReading → Fault → Type 0
-StopsKnown None new r f = ⊤
-StopsKnown (Some text) None r f = ⊥
-StopsKnown (Some text) (Some rest) r f =
-    (g : Y4mFault) × (picture_next r.ppm r.head r.begun text ≡ Err (g, rest)) × (f ≡ of_y4m g)
+StopsKnown old new r f = Known old new (λ text rest.
+    (g : Y4mFault) × (picture_next r.ppm r.head r.begun text ≡ Err (g, rest)) × (f ≡ of_y4m g))
 
 -- why no picture was read
 abbrev pub NextRefusedBy : Cause → Passage → VideoReading → Fault → Type 0

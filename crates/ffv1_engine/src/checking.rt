@@ -10,7 +10,7 @@ use crate::frame_line::{FrameLine, put_count};
 use crate::player::open_player;
 use crate::profile::Profile;
 use crate::telling::tell_frames;
-use ffv1_avi::laws::{file_is_read, frames_in_turn, read_is_file, whole};
+use ffv1_files::laws::{frames_in_turn, read_is_file};
 use ffv1_wire::{ByteIn, ByteOut, write_all};
 use std::alloc::Allocator;
 
@@ -47,8 +47,10 @@ fn write_count<W: ByteOut, A: Allocator + Copy>(
 /// its frames (`EmptyFrame`, too), of a payload; `NoFrames` at the end where there was none;
 /// `Read`, `OutOfMemory` and `Write` as they come. At `Wide`, `Truncated` is also a file that ends
 /// inside a `RIFF`, or that has fewer frames than its `dmlh` says, and `NotAvi` one where something
-/// that is no `RIFF` comes after the last one. With `place`, where a payload is refused, and only
-/// there, one line more is written, and where that cannot be, the fault stays the payload's:
+/// that is no `RIFF` comes after the last one; and a file that begins with the byte 1A is Matroska,
+/// with the faults that `MatroskaReader::open` and `MatroskaReader::next_frame` name in place of
+/// those of AVI. With `place`, where a payload is refused, and only there, one line more is written,
+/// and where that cannot be, the fault stays the payload's:
 ///
 /// ```text
 /// fault frame {i} slice {s} plane {p} line {l} x {x} decisions {d}
@@ -66,12 +68,10 @@ pub fn check<R: ByteIn, W: ByteOut, A: Allocator + Copy>(
     ensures err { IfErr result (CheckStops profile place
         (passage R.remaining R.failures input.old input.new)
         (passage W.contents W.failures output.old output.new)) }
-    ensures own { IfErr result IsCheckFault }
+    ensures own { IfErr result (IsCheckFault profile) }
 {
     frames_in_turn();
     read_is_file();
-    file_is_read();
-    whole();
     let mut player = open_player(alloc, profile, input)?;
     let count = tell_frames(alloc, &mut player, input, output, FrameLine::Sizes, place)?;
     if count == 0 {

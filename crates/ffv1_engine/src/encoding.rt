@@ -108,7 +108,7 @@ pub(crate) fn checked_for<A: Allocator + Copy>(
 {
     one_table();
     let config = config_for(alloc, choice, ppm, head)?;
-    Ok(config.check_in(profile.of_record())?)
+    Ok(config.check_in(profile.of_record(), 8)?)
 }
 
 /// The head of the file of a video.
@@ -141,7 +141,7 @@ fn info_for(head: &VideoHead, ppm: bool) -> Info
     Info::new(head.structure, head.sar_num, head.sar_den).unwrap()
 }
 
-/// Encodes the next picture, whose frame comes behind the others; false at the end. The planes lend
+/// Encodes the next picture, whose frame comes after the others; false at the end. The planes lend
 /// their memory.
 fn encode_next<R: ByteIn, A: Allocator + Copy>(
     alloc: A,

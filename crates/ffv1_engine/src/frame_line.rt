@@ -2,10 +2,13 @@
 
 ghost use Rattle.std.specs.Prelude.{◌≡◌, ◌++◌, ◌*◌, length, codes, decimal, OnOk};
 ghost use Rattle.ffv1_engine.specs.Check.{count_line};
-ghost use Rattle.ffv1_engine.specs.FrameLines.{cost_line, place_line, sizes_line};
+ghost use Rattle.ffv1_engine.specs.FrameLines.{WritesPart, cost_line, part_of_frame, place_line};
+ghost use Rattle.ffv1_engine.specs.FrameLines.{sizes_line};
+ghost use Rattle.ffv1_wire.specs.Passage.{passage};
 
 use ffv1_codec::FrameFault;
 use ffv1_range::Tally;
+use ffv1_wire::{ByteOut, Failed, write_all};
 use itoa::Buffer;
 use std::alloc::{AllocError, Allocator};
 
@@ -70,24 +73,45 @@ pub(crate) fn put_cost<A: Allocator>(
     Ok(())
 }
 
-/// The line of the place where a frame is refused, in place of what the text has.
+/// Writes a word and a number.
+fn write_number<W: ByteOut>(output: &mut W, word: &[u8], number: u64) -> Result<(), Failed>
+    ensures { WritesPart (word.now ++ decimal number)
+        (passage W.contents W.failures output.old output.new) result }
+{
+    let mut buffer = Buffer::new();
+    write_all(output, word)?;
+    write_all(output, buffer.format(number).as_bytes())?;
+    Ok(())
+}
+
+/// Writes which part of a frame was refused.
+#[tactic(auto, unfolding(crate::specs::FrameLines::part_of_frame))]
+fn write_part<W: ByteOut>(output: &mut W, fault: FrameFault) -> Result<(), Failed>
+    ensures { WritesPart (part_of_frame fault)
+        (passage W.contents W.failures output.old output.new) result }
+{
+    write_number(output, b" slice ", u64::from(fault.slice))?;
+    write_number(output, b" plane ", u64::from(fault.plane))?;
+    write_number(output, b" line ", u64::from(fault.line))?;
+    write_number(output, b" x ", u64::from(fault.x))?;
+    Ok(())
+}
+
+/// Writes the line of the place where a frame is refused, part by part: it takes no memory.
 #[tactic(auto, unfolding(crate::specs::FrameLines::place_line))]
-pub(crate) fn put_place<A: Allocator>(
-    text: &mut Vec<u8, A>,
+pub(crate) fn write_place<W: ByteOut>(
+    output: &mut W,
     number: u64,
     fault: FrameFault,
     decisions: u64,
-) -> Result<(), AllocError>
-    ensures { OnOk result (text.new.items ≡ place_line number fault decisions) }
+) -> Result<(), Failed>
+    ensures { WritesPart (place_line number fault decisions)
+        (passage W.contents W.failures output.old output.new) result }
 {
-    text.clear();
-    push_number(text, b"fault frame ", number)?;
-    push_number(text, b" slice ", u64::from(fault.slice))?;
-    push_number(text, b" plane ", u64::from(fault.plane))?;
-    push_number(text, b" line ", u64::from(fault.line))?;
-    push_number(text, b" x ", u64::from(fault.x))?;
-    push_number(text, b" decisions ", decisions)?;
-    text.extend_from_slice(b"\n")?;
+    write_number(output, b"fault frame ", number)?;
+    write_part(output, fault)?;
+    write_number(output, b" decisions ", decisions)?;
+    write_all(output, b"\n")?;
     Ok(())
 }
 

@@ -6,11 +6,11 @@ ghost use Rattle.ffv1_wire.specs.Passage.{passage};
 ghost use Rattle.ffv1_range.specs.Counts.{saturated};
 ghost use Rattle.ffv1_record.specs.Accepted.{IsAccepted};
 ghost use Rattle.ffv1_record.specs.Configuration.{is_rct};
-ghost use Rattle.ffv1_avi.specs.Places.{amount};
+ghost use Rattle.ffv1_files.specs.Places.{amount, container_of};
 ghost use Rattle.ffv1_engine.specs.ImagesOut.{IsSinkFor, WritesImage};
 ghost use Rattle.ffv1_engine.specs.Opens.{stream_of};
 ghost use Rattle.ffv1_engine.specs.Stream.{Frame};
-ghost use Rattle.ffv1_engine.specs.Unpack.{IsUnpackFault};
+ghost use Rattle.ffv1_engine.specs.Unpack.{IsWritingFault};
 ghost use Rattle.ffv1_engine.specs.Unpacking.{UnpackedAll, UnpackingStops};
 
 use crate::fault::Fault;
@@ -44,7 +44,9 @@ fn write_next<R: ByteIn, W: ByteOut, A: Allocator>(
     ensures less { IfOk result (λ more. more ≡ true →
         amount player.new.reader.place < amount player.old.reader.place) }
     ensures same { player.new.decoder.accepted ≡ player.old.decoder.accepted }
-    ensures own { IfErr result IsUnpackFault }
+    ensures container { container_of player.new.reader.place
+        ≡ container_of player.old.reader.place }
+    ensures own { IfErr result (IsWritingFault (container_of player.old.reader.place)) }
 {
     answered::<PpmWriter<W, A>>();
     decode_faults::<PpmWriter<W, A>>();
@@ -89,7 +91,7 @@ fn write_all_images<R: ByteIn, W: ByteOut, A: Allocator>(
         (stream_of player.old.reader player.old.decoder.accepted) player.old.reader.place
         (passage R.remaining R.failures input.old input.new)
         (passage W.contents W.failures sink.old.out sink.new.out)) }
-    ensures own { IfErr result IsUnpackFault }
+    ensures own { IfErr result (IsWritingFault (container_of player.old.reader.place)) }
 {
     let mut count = 0u64;
     while write_next(player, input, sink)? {
@@ -119,7 +121,7 @@ pub(crate) fn write_images<R: ByteIn, W: ByteOut, A: Allocator + Copy>(
         (stream_of player.old.reader player.old.decoder.accepted) player.old.reader.place
         (passage R.remaining R.failures input.old input.new)
         (passage W.contents W.failures output result.0)) }
-    ensures own { IfErr result.1 IsUnpackFault }
+    ensures own { IfErr result.1 (IsWritingFault (container_of player.old.reader.place)) }
 {
     let config = player.decoder.config().config();
     match PpmWriter::sized(alloc, output, config.width, config.height) {

@@ -1,3 +1,4 @@
+// SPDX-License-Identifier: MIT OR Apache-2.0
 //! The commands of the codec, as calls over any reader and writer of bytes: what the program `ffv1`
 //! does besides opening files, printing and its exit status.
 //!

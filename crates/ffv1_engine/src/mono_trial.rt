@@ -1,8 +1,10 @@
 //! A mono picture is coded and decoded.
 
-ghost use Rattle.std.specs.Prelude.{◌≡◌, ◌*◌, ◌≤◌, ◌<◌, ℕ, length, replicate, IfErr, OnOk};
+ghost use Rattle.std.specs.Prelude.{◌≡◌, ◌⊎◌, true, ◌*◌, ◌≤◌, ◌<◌, ℕ, length, replicate, IfErr};
+ghost use Rattle.std.specs.Prelude.{OnOk};
 ghost use Rattle.ffv1_wire.specs.Passage.{passage};
 ghost use Rattle.ffv1_engine.specs.declared.fault.Fault.TheVariants as fault;
+ghost use Rattle.ffv1_engine.specs.Picture.{is_mono_fault};
 ghost use Rattle.ffv1_engine.specs.Trial.{TrialDone, TrialRefused};
 
 use crate::comparison::decodes_to;
@@ -26,7 +28,7 @@ use std::alloc::Allocator;
 /// The last line says that the code was decoded to the picture's own samples. Each trial compares
 /// them, and they are the same each time (`laws::code_comes_back`).
 ///
-/// The picture has to be mono: `Unsupported` otherwise, once its header was judged. Behind the
+/// The picture has to be mono: `Unsupported` otherwise, once its header was judged. After the
 /// picture nothing is read. The faults are those of the text, the first one from the left
 /// (`Header`, `Tag`, `Unsupported`, `FrameLine`, `FrameTruncated`), `NoFrames` where there is no
 /// picture, `Read` where a read failed, `OutOfMemory`, each with nothing written; and `Write` where
@@ -40,6 +42,7 @@ pub fn trial<R: ByteIn, W: ByteOut, A: Allocator + Copy>(
         (passage W.contents W.failures output.old output.new)) }
     ensures err { IfErr result (TrialRefused (passage R.remaining R.failures input.old input.new)
         (passage W.contents W.failures output.old output.new)) }
+    ensures own { IfErr result (λ f. (is_mono_fault f ≡ true) ⊎ (f ≡ fault.Write)) }
 {
     let mono = read_mono(alloc, input)?;
     let coded = code_plane(alloc, mono.width, mono.height, &mono.samples)?;

@@ -91,7 +91,7 @@ fn bytes_in<A: Allocator>(frames: &[Vec<u8, A>]) -> u64
 /// `FrameLine`, `FrameTruncated`, for a later image `Header` and `FormatChanged`, and
 /// `SliceTooLong` where a slice takes more than 16777215 bytes; `NoFrames` where there is no
 /// picture; `TooLarge` where the size of RIFF would pass 2147483647. `Read` where a read failed,
-/// and `OutOfMemory`, which comes behind the head alone. Nothing is written then. `Write` where a
+/// and `OutOfMemory`, which comes after the head alone. Nothing is written then. `Write` where a
 /// write failed: a beginning of the file is then written, and not all of it.
 pub fn pack<R: ByteIn, W: ByteOut, A: Allocator + Copy>(
     alloc: A,

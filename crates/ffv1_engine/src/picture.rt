@@ -1,8 +1,8 @@
 //! The first picture of an input, where it is mono.
 
-ghost use Rattle.std.specs.Prelude.{◌≡◌, ◌*◌, IfOk, IfErr, OnOk};
+ghost use Rattle.std.specs.Prelude.{◌≡◌, ◌*◌, IfOk, IfErr, OnOk, true};
 ghost use Rattle.ffv1_wire.specs.Passage.{passage};
-ghost use Rattle.ffv1_engine.specs.Picture.{IsMono, ReadsMono, RefusesMono, mono_of};
+ghost use Rattle.ffv1_engine.specs.Picture.{IsMono, ReadsMono, RefusesMono, is_mono_fault, mono_of};
 
 use crate::fault::Fault;
 use ffv1_wire::ByteIn;
@@ -17,7 +17,7 @@ pub(crate) struct Mono<A: Allocator = Global> {
     pub(crate) samples: Vec<u8, A>,
 }
 
-/// Reads the first picture of a text, which is mono; what stands behind it is not read.
+/// Reads the first picture of a text, which is mono; what stands after it is not read.
 #[tactic(auto, unfolding(crate::specs::Picture::mono_of))]
 pub(crate) fn read_mono<R: ByteIn, A: Allocator + Copy>(
     alloc: A,
@@ -34,6 +34,7 @@ pub(crate) fn read_mono<R: ByteIn, A: Allocator + Copy>(
     ensures kept { OnOk result (R.failures input.new ≡ R.failures input.old) }
     ensures err { IfErr result
         (RefusesMono (passage R.remaining R.failures input.old input.new)) }
+    ensures own { IfErr result (λ f. is_mono_fault f ≡ true) }
 {
     let mut reader = Y4mReader::open(alloc, None, input)?;
     let head = *reader.head();

@@ -8,12 +8,12 @@ ghost use Rattle.ffv1_record.specs.Configuration.{is_rct};
 ghost use Rattle.ffv1_codec.specs.Picture.{planes_of};
 ghost use Rattle.ffv1_codec.specs.SliceList.{Said};
 ghost use Rattle.ffv1_reads.specs.Head.{head_of};
-ghost use Rattle.ffv1_avi.specs.Places.{amount};
+ghost use Rattle.ffv1_files.specs.Places.{amount, container_of};
 ghost use Rattle.ffv1_engine.specs.Opens.{stream_of};
 ghost use Rattle.ffv1_engine.specs.PicturesOut.{IsBegun, IsKeptFor, WritesNext, WritesPicture};
 ghost use Rattle.ffv1_engine.specs.PicturesOut.{head_saying, said_in};
 ghost use Rattle.ffv1_engine.specs.Stream.{Frame};
-ghost use Rattle.ffv1_engine.specs.Unpack.{IsUnpackFault};
+ghost use Rattle.ffv1_engine.specs.Unpack.{IsUnpackFault, IsWritingFault};
 ghost use Rattle.ffv1_engine.specs.Unpacked.{video_of};
 ghost use Rattle.ffv1_engine.specs.Unpacking.{UnpackedAll, UnpackingStops};
 
@@ -29,7 +29,7 @@ use ffv1_wire::{ByteIn, ByteOut};
 use ffv1_y4m::{VideoHead, Y4mWriter};
 use std::alloc::Allocator;
 
-/// The text that is being written: its head, and behind the first picture what that says and the
+/// The text that is being written: its head, and after the first picture what that says and the
 /// text's writer. Until then the head's structure and aspect are 0.
 #[derive(Drop)]
 struct Text {
@@ -117,7 +117,9 @@ fn write_next<R: ByteIn, W: ByteOut, A: Allocator>(
     ensures less { IfOk result (λ more. more ≡ true →
         amount player.new.reader.place < amount player.old.reader.place) }
     ensures same { player.new.decoder.accepted ≡ player.old.decoder.accepted }
-    ensures own { IfErr result IsUnpackFault }
+    ensures container { container_of player.new.reader.place
+        ≡ container_of player.old.reader.place }
+    ensures own { IfErr result (IsWritingFault (container_of player.old.reader.place)) }
 {
     answered::<KeepLines<A>>();
     taken_lines();
@@ -154,7 +156,7 @@ pub(crate) fn write_pictures<R: ByteIn, W: ByteOut, A: Allocator + Copy>(
         (stream_of player.old.reader player.old.decoder.accepted) player.old.reader.place
         (passage R.remaining R.failures input.old input.new)
         (passage W.contents W.failures output.old output.new)) }
-    ensures own { IfErr result IsUnpackFault }
+    ensures own { IfErr result (IsWritingFault (container_of player.old.reader.place)) }
 {
     let checked = player.decoder.config();
     let mut kept = KeepLines::new(alloc, checked)?;

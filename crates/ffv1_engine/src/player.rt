@@ -2,24 +2,20 @@
 
 ghost use Rattle.std.specs.Prelude.{◌≡◌, ◌⊎◌, ◌<◌, IfErr, IfOk, IfSome, None, OnOk, Some, true};
 ghost use Rattle.ffv1_wire.specs.Passage.{passage};
-ghost use Rattle.ffv1_avi.specs.Files.{open_read};
 ghost use Rattle.ffv1_reads.specs.Head.{head_of};
-ghost use Rattle.ffv1_avi.specs.Places.{amount};
-ghost use Rattle.ffv1_avi.specs.Readers as readers;
-ghost use Rattle.ffv1_avi.specs.Readers.{opened_at};
-ghost use Rattle.ffv1_reads.specs.Reads.{Answers};
-ghost use Rattle.ffv1_record.specs.Reading.{IsRefused};
+ghost use Rattle.ffv1_files.specs.Places.{amount, container_of};
+ghost use Rattle.ffv1_record.specs.Reading.{IsRefused, ReachesSets};
 ghost use Rattle.ffv1_record.specs.declared.fault.RecordFault.TheVariants as record_fault;
 ghost use Rattle.ffv1_engine.specs.declared.fault.Fault.TheVariants as fault;
+ghost use Rattle.ffv1_engine.specs.Containers.{is_profile_fault};
 ghost use Rattle.ffv1_engine.specs.Opens.{OpensStream, LacksOpening, is_opening_fault};
-ghost use Rattle.ffv1_engine.specs.Profiles.{extent_in};
 ghost use Rattle.ffv1_engine.specs.Stream.{IsStream};
 ghost use Rattle.ffv1_engine.specs.Told.{IsOwnStop, StepAnswers};
 
 use crate::fault::Fault;
 use crate::profile::Profile;
-use ffv1_avi::AviReader;
 use ffv1_codec::{FrameDecoder, FrameFault, Info};
+use ffv1_files::FileReader;
 use ffv1_reads::{FileFault, FileHead};
 use ffv1_record::{Checked, RecordFault, read_record_in};
 use ffv1_wire::{ByteIn, LineSink};
@@ -44,6 +40,8 @@ fn read_head<A: Allocator + Copy>(
         IsStream profile (record { head = head_of head.now; accepted = c })) }
     ensures err { IfErr result (λ f. (f ≡ record_fault.OutOfMemory)
         ⊎ IsRefused head.now.config_record.items head.now.width head.now.height f) }
+    ensures memory { IfErr result (λ f. f ≡ record_fault.OutOfMemory →
+        ReachesSets head.now.config_record.items) }
 {
     // Both arms are written out, so that the clauses are proved by arm.
     match read_record_in(
@@ -58,38 +56,22 @@ fn read_head<A: Allocator + Copy>(
     }
 }
 
-/// Opens a file, as far as the profile reads it.
-fn open_reader<R: ByteIn, A: Allocator>(
-    alloc: A,
-    profile: Profile,
-    input: &mut R,
-) -> Result<AviReader<A>, FileFault>
-    ensures answer { Answers opened_at (open_read (extent_in profile))
-        (passage R.remaining R.failures input.old input.new) result }
-    ensures sound { IfOk result (λ r. r.fault ≡ None) }
-    ensures own { IfErr result (λ f. readers.is_opening_fault f ≡ true) }
-{
-    match profile {
-        Profile::Strict => AviReader::open(alloc, input),
-        Profile::Wide => AviReader::open_all(alloc, input),
-    }
-}
-
 /// Opens a file, as the profile says, and reads the configuration of its frames. The faults are
-/// those of the file up to its first `movi`, then those of its record; `Read` and `OutOfMemory` as
-/// they come.
+/// those of the file up to its frames, then those of its record; `Read` and `OutOfMemory` as they
+/// come.
 pub(crate) fn open_stream<R: ByteIn, A: Allocator + Copy>(
     alloc: A,
     profile: Profile,
     input: &mut R,
-) -> Result<(AviReader<A>, Checked<A>), Fault>
+) -> Result<(FileReader<A>, Checked<A>), Fault>
     ensures ok { IfOk result (λ p. OpensStream profile p.0 p.1
         (passage R.remaining R.failures input.old input.new)) }
     ensures err { IfErr result (LacksOpening profile
         (passage R.remaining R.failures input.old input.new)) }
-    ensures own { IfErr result (λ f. is_opening_fault f ≡ true) }
+    ensures own { IfErr result (λ f. (is_opening_fault f ≡ true)
+        ⊎ (is_profile_fault profile f ≡ true)) }
 {
-    let reader = open_reader(alloc, profile, input)?;
+    let reader = FileReader::open(alloc, profile.scope(), input)?;
     let checked = read_head(alloc, profile, reader.head())?;
     Ok((reader, checked))
 }
@@ -97,7 +79,7 @@ pub(crate) fn open_stream<R: ByteIn, A: Allocator + Copy>(
 /// A file that is played: its reader, the decoder of its frames, and the payload that was read
 /// last. Both vectors that it needs are reused for each frame.
 pub struct Player<A: Allocator = Global> {
-    pub(crate) reader: AviReader<A>,
+    pub(crate) reader: FileReader<A>,
     pub(crate) decoder: FrameDecoder<A>,
     pub(crate) payload: Vec<u8, A>,
 }
@@ -116,7 +98,7 @@ impl<A: Allocator> Drop for Player<A> {
 /// memory.
 pub(crate) fn player_of<A: Allocator + Copy>(
     alloc: A,
-    reader: AviReader<A>,
+    reader: FileReader<A>,
     checked: Checked<A>,
 ) -> Result<Player<A>, Fault>
     ensures reader { IfOk result (λ p. p.reader ≡ reader) }
@@ -142,7 +124,8 @@ pub(crate) fn open_player<R: ByteIn, A: Allocator + Copy>(
         (passage R.remaining R.failures input.old input.new)) }
     ensures err { IfErr result (LacksOpening profile
         (passage R.remaining R.failures input.old input.new)) }
-    ensures own { IfErr result (λ f. is_opening_fault f ≡ true) }
+    ensures own { IfErr result (λ f. (is_opening_fault f ≡ true)
+        ⊎ (is_profile_fault profile f ≡ true)) }
 {
     let (reader, checked) = open_stream(alloc, profile, input)?;
     let player = player_of(alloc, reader, checked)?;
@@ -165,7 +148,9 @@ pub(crate) fn play<R: ByteIn, S: LineSink, A: Allocator>(
     ensures less { IfOk result (λ o. IfSome o (λ _.
         amount player.new.reader.place < amount player.old.reader.place)) }
     ensures same { player.new.decoder.accepted ≡ player.old.decoder.accepted }
-    ensures own { IfErr result IsOwnStop }
+    ensures container { container_of player.new.reader.place
+        ≡ container_of player.old.reader.place }
+    ensures own { IfErr result (IsOwnStop (container_of player.old.reader.place)) }
 {
     match player.reader.next_frame(input, &mut player.payload) {
         Ok(false) => Ok(None),

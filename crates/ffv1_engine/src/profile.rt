@@ -1,7 +1,9 @@
 //! How much of what others write is read.
 
 ghost use Rattle.std.specs.Prelude.{◌≡◌};
-ghost use Rattle.ffv1_engine.specs.Profiles.{record_profile};
+ghost use Rattle.ffv1_engine.specs.Profiles.{record_profile, scope_in};
+
+use ffv1_files::Scope;
 
 /// How much of what others write is read, and which configurations are packed. The bytes that are
 /// written do not depend on it.
@@ -11,12 +13,23 @@ pub enum Profile {
     /// the rest of its format. A slice's sample aspect has two numbers that are both 0 or neither.
     Strict,
     /// All of an AVI, each `RIFF` of it: its frames are those of the first FFV1 video among its
-    /// streams, whose record ends where `biSize` says. A sample aspect of which just one number is
-    /// 0 is unknown, as 0:0 is.
+    /// streams, whose record ends where `biSize` says. And Matroska: its frames are those of the
+    /// first track that is FFV1 video. A sample aspect of which just one number is 0 is unknown, as
+    /// 0:0 is.
     Wide,
 }
 
 impl Profile {
+    /// How far a file is read.
+    pub(crate) fn scope(self) -> Scope
+        ensures { result ≡ scope_in self }
+    {
+        match self {
+            Profile::Strict => Scope::FirstMovi,
+            Profile::Wide => Scope::Whole,
+        }
+    }
+
     /// The profile of the record and of the heads of slices.
     pub(crate) fn of_record(self) -> ffv1_record::Profile
         ensures { result ≡ record_profile self }

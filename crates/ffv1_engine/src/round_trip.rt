@@ -15,10 +15,11 @@ ghost use Rattle.ffv1_engine.specs.RoundTrip.{canonical_of, file_in, video_in};
 ghost use Rattle.ffv1_engine.specs.Unpack.{UnpackDone, UnpackStops};
 ghost use Rattle.ffv1_engine.specs.Video.{IsVideo};
 
-use ffv1_avi::laws::{file_is_read, frames_in_turn, written_is_read};
+use ffv1_avi::laws::written_is_read as avi_is_written;
 use ffv1_codec::answer_laws::one_picture;
 use ffv1_codec::decoding_laws::{is_decoded, one_end};
 use ffv1_codec::laws::{encoded_frame, frame_lengths};
+use ffv1_files::laws::{file_is_read, frames_in_turn, written_is_read};
 use ffv1_range::laws::{counts, lengths, sentinel_ending};
 use ffv1_record::laws::{accepted, one_configuration, one_refusal, written_is_record};
 use ffv1_slice::laws::cutting;
@@ -75,5 +76,6 @@ pub fn packed_is_unpacked()
     sentinel_ending();
     texts();
     written_is_read();
+    avi_is_written();
     written_is_record();
 }

@@ -1,14 +1,15 @@
 //! What a file says is told, and what its frames cost.
 
-ghost use Rattle.std.specs.Prelude.{◌≡◌, IfErr, List, None, OnOk, false, true};
+ghost use Rattle.std.specs.Prelude.{◌≡◌, ◌⊎◌, IfErr, List, None, OnOk, false, true};
 ghost use Rattle.ffv1_wire.specs.Passage.{passage};
 ghost use Rattle.ffv1_reads.specs.Head.{head_of};
+ghost use Rattle.ffv1_files.specs.Places.{container_of};
 ghost use Rattle.ffv1_record.specs.Accepted.{IsAccepted};
 ghost use Rattle.ffv1_engine.specs.declared.frame_line.FrameLine.TheVariants as line;
-ghost use Rattle.ffv1_engine.specs.Show.{ShowDone, ShowStops, is_show_fault};
+ghost use Rattle.ffv1_engine.specs.Show.{IsShowFault, NoDecoder, ShowDone, ShowStops};
 ghost use Rattle.ffv1_engine.specs.Stream.{Frame};
 ghost use Rattle.ffv1_engine.specs.StreamLines.{show_text};
-ghost use Rattle.ffv1_engine.specs.Told.{TellingStops, ToldAll, WritesFrame, is_telling_fault};
+ghost use Rattle.ffv1_engine.specs.Told.{IsToldFault, TellingStops, ToldAll, WritesFrame};
 
 use crate::fault::Fault;
 use crate::frame_line::FrameLine;
@@ -16,8 +17,8 @@ use crate::player::{open_stream, player_of};
 use crate::profile::Profile;
 use crate::stream_lines::show_text;
 use crate::telling::tell_frames;
-use ffv1_avi::AviReader;
-use ffv1_avi::laws::{file_is_read, frames_in_turn, read_is_file, whole};
+use ffv1_files::FileReader;
+use ffv1_files::laws::{frames_in_turn, read_is_file};
 use ffv1_reads::FileHead;
 use ffv1_record::Checked;
 use ffv1_wire::{ByteIn, ByteOut, write_all};
@@ -43,7 +44,7 @@ fn write_stream<W: ByteOut, A: Allocator + Copy>(
 /// Decodes all frames of a file that was opened, and writes what each cost.
 fn tell_costs<R: ByteIn, W: ByteOut, A: Allocator + Copy>(
     alloc: A,
-    reader: AviReader<A>,
+    reader: FileReader<A>,
     checked: Checked<A>,
     input: &mut R,
     output: &mut W,
@@ -54,10 +55,13 @@ fn tell_costs<R: ByteIn, W: ByteOut, A: Allocator + Copy>(
         × ToldAll line.Cost false checked reader.place
         (passage R.remaining R.failures input.old input.new)
         (passage W.contents W.failures output.old output.new) frames) }
-    ensures err { IfErr result (TellingStops line.Cost false checked reader.place
+    ensures err { IfErr result (λ f.
+        NoDecoder (passage R.remaining R.failures input.old input.new)
+        (passage W.contents W.failures output.old output.new) f
+        ⊎ TellingStops line.Cost false checked reader.place
         (passage R.remaining R.failures input.old input.new)
-        (passage W.contents W.failures output.old output.new)) }
-    ensures own { IfErr result (λ f. is_telling_fault f ≡ true) }
+        (passage W.contents W.failures output.old output.new) f) }
+    ensures own { IfErr result (IsToldFault (container_of reader.place)) }
 {
     let mut player = player_of(alloc, reader, checked)?;
     tell_frames(alloc, &mut player, input, output, FrameLine::Cost, false)?;
@@ -90,16 +94,18 @@ fn tell_costs<R: ByteIn, W: ByteOut, A: Allocator + Copy>(
 /// ```
 ///
 /// Frames are counted from 0; a count of 64 bits stays at its greatest value. Without `cost`
-/// nothing after the header of the first `movi` is read, and no decoder is made; with it, beside
-/// what the decoder holds, one payload and one line are held.
+/// nothing after the header of the first `movi`, or of the first Cluster, is read, and no decoder is
+/// made; with it, beside what the decoder holds, one payload and one line are held.
 ///
 /// The faults are those of the file up to its first frame (`NotAvi`, `NoFfv1`, `Truncated`,
 /// `ChunkTooLong`) and of its record, with nothing written; with `cost` then those of the chunks of
 /// its frames (`EmptyFrame`, too) and of a payload, after the lines of the stream and of the frames
 /// before. With `cost`, at `Wide`, `Truncated` is also a file that ends inside a `RIFF`, or that
 /// has fewer frames than its `dmlh` says, and `NotAvi` one where something that is no `RIFF` comes
-/// after the last one. `Read`, `OutOfMemory` and `Write` come as they come; where a write failed, a
-/// beginning of what was to be written is.
+/// after the last one. At `Wide` a file that begins with the byte 1A is Matroska, with the faults
+/// that `MatroskaReader::open` and `MatroskaReader::next_frame` name in place of those of AVI.
+/// `Read`, `OutOfMemory` and `Write` come as they come; where a write failed, a beginning of what
+/// was to be written is.
 pub fn show<R: ByteIn, W: ByteOut, A: Allocator + Copy>(
     alloc: A,
     profile: Profile,
@@ -113,12 +119,10 @@ pub fn show<R: ByteIn, W: ByteOut, A: Allocator + Copy>(
     ensures err { IfErr result (ShowStops profile
         (passage R.remaining R.failures input.old input.new)
         (passage W.contents W.failures output.old output.new) cost) }
-    ensures own { IfErr result (λ f. is_show_fault cost f ≡ true) }
+    ensures own { IfErr result (IsShowFault profile cost) }
 {
     frames_in_turn();
     read_is_file();
-    file_is_read();
-    whole();
     let (reader, checked) = open_stream(alloc, profile, input)?;
     write_stream(alloc, output, reader.head(), &checked)?;
     if cost {

@@ -4,15 +4,14 @@ ghost use Rattle.std.specs.Prelude.{◌≡◌, ◌<◌, IfErr, IfOk, None, OnOk,
 ghost use Rattle.ffv1_wire.specs.Passage.{passage};
 ghost use Rattle.ffv1_range.specs.Counts.{saturated};
 ghost use Rattle.ffv1_record.specs.Accepted.{IsAccepted};
-ghost use Rattle.ffv1_codec.specs.Answer.{decided_by};
-ghost use Rattle.ffv1_avi.specs.Places.{amount};
-ghost use Rattle.ffv1_engine.specs.FrameLines.{frame_line, place_line, place_text};
+ghost use Rattle.ffv1_files.specs.Places.{amount, container_of};
+ghost use Rattle.ffv1_engine.specs.FrameLines.{frame_line, place_text};
 ghost use Rattle.ffv1_engine.specs.Stream.{Frame};
 ghost use Rattle.ffv1_engine.specs.Told.{FrameAnswers, TellingStops, ToldAll, WritesFrame};
-ghost use Rattle.ffv1_engine.specs.Told.{WritesLine, is_telling_fault};
+ghost use Rattle.ffv1_engine.specs.Told.{IsToldFault, WritesLine};
 
 use crate::fault::Fault;
-use crate::frame_line::{FrameLine, put_cost, put_place, put_sizes};
+use crate::frame_line::{FrameLine, put_cost, put_sizes, write_place};
 use crate::player::{Player, Stop, play};
 use ffv1_codec::answer_laws::{answered, decode_faults};
 use ffv1_codec::sink_laws::taken_lines;
@@ -70,28 +69,10 @@ fn write_line<W: ByteOut, A: Allocator>(
     Ok(())
 }
 
-/// Writes the line of the place where a frame is refused.
-fn write_place<W: ByteOut, A: Allocator>(
-    output: &mut W,
-    text: &mut Vec<u8, A>,
-    number: u64,
-    fault: FrameFault,
-    decoder: &FrameDecoder<A>,
-) -> Result<(), Fault>
-    ensures { WritesFrame (place_line number fault (decided_by decoder.now.tally))
-        (passage W.contents W.failures output.old output.new) result }
-{
-    put_place(text, number, fault, decoder.decisions())?;
-    if write_all(output, text).is_err() {
-        return Err(Fault::Write);
-    }
-    Ok(())
-}
-
-/// Writes that line where it is asked for. Where it cannot be written, that is not told.
+/// Writes the line of the place where a frame is refused, where it is asked for. A write that fails
+/// is counted, and not told.
 fn tell_place<W: ByteOut, A: Allocator>(
     output: &mut W,
-    text: &mut Vec<u8, A>,
     place: bool,
     number: u64,
     fault: FrameFault,
@@ -103,7 +84,7 @@ fn tell_place<W: ByteOut, A: Allocator>(
     if !place {
         return;
     }
-    let _told = write_place(output, text, number, fault, decoder);
+    let _told = write_place(output, number, fault, decoder.decisions());
 }
 
 /// Reads the next frame, decodes it, and writes its line, or with `place` that of the place where
@@ -128,7 +109,9 @@ fn tell_frame<R: ByteIn, W: ByteOut, A: Allocator>(
     ensures less { IfOk result (λ more. more ≡ true →
         amount player.new.reader.place < amount player.old.reader.place) }
     ensures same { player.new.decoder.accepted ≡ player.old.decoder.accepted }
-    ensures own { IfErr result (λ f. is_telling_fault f ≡ true) }
+    ensures container { container_of player.new.reader.place
+        ≡ container_of player.old.reader.place }
+    ensures own { IfErr result (IsToldFault (container_of player.old.reader.place)) }
 {
     answered::<DropLines>();
     decode_faults::<DropLines>();
@@ -142,7 +125,7 @@ fn tell_frame<R: ByteIn, W: ByteOut, A: Allocator>(
         }
         Err(Stop::File(fault)) => Err(Fault::from(fault)),
         Err(Stop::Payload(fault)) => {
-            tell_place(output, text, place, number, fault, &player.decoder);
+            tell_place(output, place, number, fault, &player.decoder);
             Err(Fault::from(fault.fault))
         }
     }
@@ -168,7 +151,7 @@ pub(crate) fn tell_frames<R: ByteIn, W: ByteOut, A: Allocator + Copy>(
     ensures err { IfErr result (TellingStops kind place player.old.decoder.accepted
         player.old.reader.place (passage R.remaining R.failures input.old input.new)
         (passage W.contents W.failures output.old output.new)) }
-    ensures own { IfErr result (λ f. is_telling_fault f ≡ true) }
+    ensures own { IfErr result (IsToldFault (container_of player.old.reader.place)) }
 {
     let mut text = Vec::new(alloc);
     let mut count = 0u64;

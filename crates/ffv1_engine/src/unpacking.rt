@@ -3,11 +3,13 @@
 ghost use Rattle.std.specs.Prelude.{◌≡◌, ◌⊎◌, ℕ, IfErr, IfOk, IfSome, List, length, None};
 ghost use Rattle.ffv1_wire.specs.Passage.{passage};
 ghost use Rattle.ffv1_range.specs.Counts.{saturated};
+ghost use Rattle.ffv1_files.specs.Places.{container_of};
 ghost use Rattle.ffv1_record.specs.Accepted.{IsAccepted};
 ghost use Rattle.ffv1_record.specs.Configuration.{configuration_of, is_rct};
 ghost use Rattle.ffv1_engine.specs.Opens.{OpensStream, stream_of};
 ghost use Rattle.ffv1_engine.specs.Stream.{Frame};
-ghost use Rattle.ffv1_engine.specs.Unpack.{IsUnpackFault, LacksUnpacking, UnpackDone, UnpackStops};
+ghost use Rattle.ffv1_engine.specs.Unpack.{IsUnpackFaultIn, IsWritingFault, LacksUnpacking};
+ghost use Rattle.ffv1_engine.specs.Unpack.{UnpackDone, UnpackStops};
 ghost use Rattle.ffv1_engine.specs.Unpacked.{HasText, HasTextBy, LacksTextBy};
 ghost use Rattle.ffv1_engine.specs.Unpacking.{UnpackedAll, UnpackingStops};
 
@@ -16,7 +18,7 @@ use crate::images_out::write_images;
 use crate::pictures_out::write_pictures;
 use crate::player::{Player, open_stream, player_of};
 use crate::profile::Profile;
-use ffv1_avi::laws::{file_is_read, frames_in_turn, read_is_file, whole};
+use ffv1_files::laws::{frames_in_turn, read_is_file};
 use ffv1_record::{Checked, Colour};
 use ffv1_wire::{ByteIn, ByteOut};
 use std::alloc::Allocator;
@@ -55,7 +57,7 @@ fn open_unpacking<R: ByteIn, A: Allocator + Copy>(
     ensures text { IfOk result (λ p. HasText (stream_of p.reader p.decoder.accepted)) }
     ensures err { IfErr result (LacksUnpacking profile
         (passage R.remaining R.failures input.old input.new)) }
-    ensures own { IfErr result IsUnpackFault }
+    ensures own { IfErr result (IsUnpackFaultIn profile) }
 {
     let (reader, checked) = open_stream(alloc, profile, input)?;
     check_text(&checked)?;
@@ -82,7 +84,7 @@ fn write_frames<R: ByteIn, W: ByteOut, A: Allocator + Copy>(
         (stream_of player.old.reader player.old.decoder.accepted) player.old.reader.place
         (passage R.remaining R.failures input.old input.new)
         (passage W.contents W.failures output result.0)) }
-    ensures own { IfErr result.1 IsUnpackFault }
+    ensures own { IfErr result.1 (IsWritingFault (container_of player.old.reader.place)) }
 {
     match player.decoder.config().config().colour {
         Colour::YCbCr => {
@@ -108,9 +110,10 @@ fn write_frames<R: ByteIn, W: ByteOut, A: Allocator + Copy>(
 /// frame's structure or aspect are not those of the header, and `NoFrames` where there was none;
 /// `Read`, `OutOfMemory` and `Write` as they come. At `Wide`, `Truncated` is also a file that ends
 /// inside a `RIFF`, or that has fewer frames than its `dmlh` says, and `NotAvi` one where something
-/// that is no `RIFF` comes after the last one. What is written then is the text of the frames
-/// before, and of an image the rows before the fault; after `Write` a beginning of the next picture
-/// or row, too.
+/// that is no `RIFF` comes after the last one; and a file that begins with the byte 1A is Matroska,
+/// with the faults that `MatroskaReader::open` and `MatroskaReader::next_frame` name in place of
+/// those of AVI. What is written then is the text of the frames before, and of an image the rows
+/// before the fault; after `Write` a beginning of the next picture or row, too.
 pub fn unpack<R: ByteIn, W: ByteOut, A: Allocator + Copy>(
     alloc: A,
     profile: Profile,
@@ -123,12 +126,10 @@ pub fn unpack<R: ByteIn, W: ByteOut, A: Allocator + Copy>(
     ensures err { IfErr result.1 (UnpackStops profile
         (passage R.remaining R.failures input.old input.new)
         (passage W.contents W.failures output result.0)) }
-    ensures own { IfErr result.1 IsUnpackFault }
+    ensures own { IfErr result.1 (IsUnpackFaultIn profile) }
 {
     frames_in_turn();
     read_is_file();
-    file_is_read();
-    whole();
     match open_unpacking(alloc, profile, input) {
         Err(fault) => (output, Err(fault)),
         Ok(mut player) => {

@@ -67,7 +67,7 @@ module _ (before : List Decision) (t : Table) (states : List ℕ) (set : Set) (b
   pub behind_none : (now : Reading) → At now (interval_of before) → CodesCellBy now.bytes before t states set bits c rows → StandsBehind before t states set bits c rows 0 now states
   behind_none now at cell = record { cell = cell; at = subst (λ ds. At now (interval_of ds)) (sym (append-nil before)) at; moved = refl }
 
-  -- the next row is coded behind those that were read
+  -- the next row is coded after those that were read
   next_row : (y : ℕ) (now : Reading) (between : List ℕ) → y < length rows → StandsBehind before t states set bits c rows y now between →
       CodesRowBy now.bytes (before ++ decided t states (cell_steps set c 0 (take y rows))) t between set bits c y (get_or rows y [])
   next_row y now between inside behind =

@@ -215,7 +215,7 @@ module _ (bytes : List ℕ) (are : AreBytes bytes) (t : Table) (set : Set) (bits
       let one = one_step states i x p q _ _ same in_c.0 in_d.0 (grouped_c states i x c y p ps xs f) (grouped_c states i x d z q qs _ g) in
       not_refused (moved_by t states (sample_steps set (around c x y) p)) (narrowed i (decided t states (sample_steps set (around c x y) p))) (suc x) n ps qs xs (omega (arith, short)) (omega (arith, is)) one.same in_c.1 in_d.1 one.rest_c one.rest_d
 
--- from what bytes code behind some decisions
+-- from what bytes code after some decisions
 pub code_of : (bytes : List ℕ) (before : List Decision) (t : Table) (states : List ℕ) (steps : List Step) → CodesSteps bytes before t states steps → Code bytes t states (narrowed start before) steps
 code_of bytes before t states steps f = record { named = f.named; inside = subst (Inside bytes) (narrowed-append start before (decided t states steps)) f.codes }
 

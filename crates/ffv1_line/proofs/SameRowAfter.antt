@@ -46,7 +46,7 @@ unfolding slots_of
 below_slots [] = tt
 below_slots (s ∷ ss) = (omega arith, below_more ss (slots_of ss) (suc s.slot + slots_of ss) (omega arith) (below_slots ss))
 
--- behind a history is behind its decisions, by the states that it left
+-- after a history is after its decisions, by the states that it left
 coded_by : (bytes : List ℕ) (t : Table) (base : ℕ) (past steps : List Step) (n : ℕ) → IsTable t.floor t.one → AreBelow steps n → Codes bytes (decisions_after t [] (past ++ shifted base steps)) →
     CodesSteps bytes (decisions_after t [] past) t (states_from t base past n) steps
 coded_by bytes t base past steps n table below codes =

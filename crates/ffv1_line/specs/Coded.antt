@@ -17,11 +17,11 @@ pub record AreSame (c : Cell) (y : ℕ) (d : Cell) (z n : ℕ) : Type 0 where
   pub each : (x : ℕ) → x < n →
       seen c (suc (suc x)) (suc (suc y)) ≡ seen d (suc (suc x)) (suc (suc z))
 
--- the decisions of the residuals of a row, and of a symbol behind them that is refused
+-- the decisions of the residuals of a row, and of a symbol after them that is refused
 abbrev pub refused_row_steps : Set → Cell → ℕ → List ℤ → List Step
 refused_row_steps set c y qs = row_steps set c y 0 qs ++ refused_steps set (around c (length qs) y)
 
--- behind the steps of past the bytes code suiting residuals of row y, at the slots from base on
+-- after the steps of past the bytes code suiting residuals of row y, at the slots from base on
 pub record CodesRow (bytes : List ℕ) (t : Table) (base : ℕ) (past : List Step) (set : Set)
     (bits : ℕ)
     (c : Cell) (y : ℕ) (qs : List ℤ) : Type 0 where
@@ -36,13 +36,13 @@ pub record RefusesRow (bytes : List ℕ) (t : Table) (base : ℕ) (past : List S
   pub codes : Codes bytes (decisions_after t []
       (past ++ shifted base (refused_row_steps set c y qs)))
 
--- behind some decisions the bytes code these steps, by these states
+-- after some decisions the bytes code these steps, by these states
 pub record CodesSteps (bytes : List ℕ) (before : List Decision) (t : Table) (states : List ℕ)
     (steps : List Step) : Type 0 where
   pub named : AreStates (decided t states steps)
   pub codes : Codes bytes (before ++ decided t states steps)
 
--- behind some decisions the bytes code suiting residuals of row y, by these states
+-- after some decisions the bytes code suiting residuals of row y, by these states
 pub record CodesRowBy (bytes : List ℕ) (before : List Decision) (t : Table) (states : List ℕ)
     (set : Set)
     (bits : ℕ) (c : Cell) (y : ℕ) (qs : List ℤ) : Type 0 where
@@ -56,7 +56,7 @@ pub record RefusesRowBy (bytes : List ℕ) (before : List Decision) (t : Table) 
   pub suits : AreSuiting set bits c y 0 qs
   pub coded : CodesSteps bytes before t states (refused_row_steps set c y qs)
 
--- behind some decisions the bytes code suiting residuals of the rows of a cell, by these states
+-- after some decisions the bytes code suiting residuals of the rows of a cell, by these states
 pub record CodesCellBy (bytes : List ℕ) (before : List Decision) (t : Table) (states : List ℕ)
     (set : Set)
     (bits : ℕ) (c : Cell) (rows : List (List ℤ)) : Type 0 where
@@ -64,7 +64,7 @@ pub record CodesCellBy (bytes : List ℕ) (before : List Decision) (t : Table) (
   pub suits : RowsSuit set bits c 0 rows
   pub coded : CodesSteps bytes before t states (cell_steps set c 0 rows)
 
--- a decoder and its states stand behind the first y rows of a cell that its bytes code
+-- a decoder and its states stand after the first y rows of a cell that its bytes code
 pub record StandsBehind (before : List Decision) (t : Table) (states : List ℕ) (set : Set)
     (bits : ℕ)
     (c : Cell) (rows : List (List ℤ)) (y : ℕ) (now : Reading) (between : List ℕ) : Type 0 where

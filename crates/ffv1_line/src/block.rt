@@ -23,7 +23,7 @@ use std::simd::prelude::*;
 pub(crate) const PLACES: usize = 64;
 
 /// How many numbers their decisions take at most, 19 a place, with room for a row of the table of
-/// symbols behind them.
+/// symbols after them.
 pub(crate) const LIST: usize = 1240;
 
 /// A block's contexts, its residuals modulo 512, and the list of its decisions.
@@ -193,7 +193,7 @@ pub(crate) fn prepare<A: Allocator>(block: &mut Block, part: &Part<'_, A>)
     } = *part;
     let few_levels = set.has_few_levels();
     let lanes = set.lanes();
-    // Behind the last place that has a sample above to the right.
+    // After the last place that has a sample above to the right.
     let end = count.min(cur.len().saturating_sub(from + 1));
     let mut at = 0;
     while at < count {

@@ -29,8 +29,8 @@ use std::alloc::Allocator;
 /// takes no memory.
 ///
 /// `TooLong { x }` where the symbol at `x`, the first such place, has 31 exponent decisions 1: the
-/// decoder stands behind the last of them, the places before `x` are filled, and `x` and those
-/// behind it are as before.
+/// decoder stands after the last of them, the places before `x` are filled, and `x` and those
+/// after it are as before.
 #[inline(never)]
 pub fn decode_line<'a, B: Allocator>(
     decoder: &mut RangeDecoder<'a>,

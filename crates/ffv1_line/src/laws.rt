@@ -94,7 +94,7 @@ pub fn lengths()
         residuals_in (chosen_rows set bits c n) ≡ n * c.width }
 {}
 
-/// Behind one past the bytes code one row at most, below two given rows: residuals of so many
+/// After one past the bytes code one row at most, below two given rows: residuals of so many
 /// samples that suit them are one list and make one row; a row that is refused is no beginning of
 /// one that is coded, and is refused at one place.
 pub fn only_row()
@@ -120,7 +120,7 @@ pub fn only_row()
         (ps ≡ qs) × AreSame c y d z (length ps) }
 {}
 
-/// The same behind any decisions, by any states.
+/// The same after any decisions, by any states.
 pub fn only_row_by_states()
     ensures one { (bytes : List ℕ) (before : List Decision) (t : Table) (states : List ℕ)
         (set : Set)
@@ -184,7 +184,7 @@ pub fn cell_comes_back()
         Refused t set bits now between new after two one cur x → ⊥ }
 {}
 
-/// What an encoder wrote is coded by either ending, behind what it had written before: the rows of
+/// What an encoder wrote is coded by either ending, after what it had written before: the rows of
 /// a cell, if they suit.
 pub fn written_is_coded()
     ensures sentinel { (before : List Decision) (t : Table) (old w : Writing)

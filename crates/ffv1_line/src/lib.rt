@@ -1,3 +1,4 @@
+// SPDX-License-Identifier: MIT OR Apache-2.0
 //! One row of one cell of a plane, coded and decoded (RFC 9043, 3.1 to 3.8 and 4.7).
 //!
 //! A cell is the part of a plane that one slice holds. `encode_line` puts the residuals of a row's

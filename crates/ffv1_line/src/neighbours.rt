@@ -7,7 +7,7 @@ ghost use Rattle.ffv1_plane.specs.Context.{size_of, flip_of};
 use ffv1_plane::{Around, QuantSet, context, context_near};
 use std::alloc::Allocator;
 
-/// The sample to the right above a place, whose sample above is `t`: behind the end of a row stands
+/// The sample to the right above a place, whose sample above is `t`: after the end of a row stands
 /// its last sample (RFC 9043, 3.1).
 #[inline(always)]
 pub(crate) fn right_above(one: &[u16], x: usize, last: usize, t: u16) -> u16

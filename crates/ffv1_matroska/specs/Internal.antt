@@ -1,11 +1,13 @@
 -- What ties types of the code to the definitions. No public clause cites it.
-pub mod Ending
-pub mod Headers
+pub mod Keeping
 use Rattle.std.specs.Prelude.{ℕ, List, Option, Some, None, Result, Ok, Err}
 use Rattle.std.specs.Borrow.{Bor}
 use Rattle.ffv1_reads.specs.declared.fault.FileFault.{FileFault}
 use Rattle.ffv1_matroska.specs.Rates.{Rate}
+use Rattle.ffv1_matroska.specs.Opened.{Opened}
 use Rattle.ffv1_matroska.specs.Tracks.{Track}
+use Rattle.ffv1_matroska.specs.declared.place.Place.{Place}
+use Rattle.ffv1_matroska.specs.declared.track.Numbers.{Numbers}
 use Rattle.ffv1_matroska.specs.declared.track.Track.{Track as LentTrack}
 
 -- a track whose record is lent
@@ -43,3 +45,24 @@ contents (Err f) = Err f
 abbrev pub bytes_of : Option ℕ → ℕ
 bytes_of None = 0
 bytes_of (Some size) = size
+
+-- a track whose record is kept
+abbrev pub track_kept : Numbers → List ℕ → Track
+track_kept n bytes = record {
+  number = n.number;
+  head = record {
+    width = n.width;
+    height = n.height;
+    rate = n.rate;
+    scale = n.scale;
+    config_record = bytes;
+  };
+}
+
+abbrev pub found_kept : Option Numbers → List ℕ → Option Track
+found_kept None bytes = None
+found_kept (Some n) bytes = Some (track_kept n bytes)
+
+-- a file whose frames begin at a place
+abbrev pub opened_kept : Option ℕ × Numbers × Place → List ℕ → Opened
+opened_kept p bytes = record { track = track_kept p.1 bytes; segment = p.0; place = p.2 }

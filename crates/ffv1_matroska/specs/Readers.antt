@@ -4,6 +4,8 @@ use Rattle.std.specs.Prelude.{Result, Ok, Err, ⊤, ◌⊎◌}
 use Rattle.ffv1_reads.specs.declared.fault.FileFault.{FileFault}
 use Rattle.ffv1_reads.specs.declared.fault.FileFault.TheVariants as fault
 use Rattle.ffv1_matroska.specs.Files.{frame_found}
+use Rattle.ffv1_matroska.specs.Opened.{Opened}
+use Rattle.ffv1_matroska.specs.Places.{ended}
 use Rattle.ffv1_matroska.specs.Tracks.{Track}
 use Rattle.ffv1_matroska.specs.declared.place.Place.{Place}
 
@@ -14,6 +16,14 @@ pub record Standing : Type 0 where
   pub segment : Option ℕ
   pub place : Place
   pub fault : Option FileFault
+
+-- what is known of its file, and where it stands
+abbrev pub opened_at : Standing → Opened
+opened_at r = record { track = r.track; segment = r.segment; place = r.place }
+
+-- a file that ends before its frames begin
+abbrev pub HasEnded : Opened → Type 0
+HasEnded o = o.place ≡ ended
 
 -- a frame, with the place after it
 abbrev pub next_with : List ℕ → Option Place → Option (List ℕ × Place)
@@ -44,7 +54,21 @@ StandsAfter old (Err f) new =
     (new.fault ≡ Some f) × (new.track ≡ old.track) × (new.segment ≡ old.segment)
     × (new.place ≡ old.place)
 
--- the faults that reading a frame has, whatever the file
+-- the faults that opening has, whatever the file
+abbrev pub is_opening_fault : FileFault → Bool
+is_opening_fault fault.OutOfMemory = true
+is_opening_fault fault.NoFfv1 = true
+is_opening_fault fault.Truncated = true
+is_opening_fault fault.ChunkTooLong = true
+is_opening_fault fault.Read = true
+is_opening_fault fault.NotMatroska = true
+is_opening_fault fault.BadElement = true
+is_opening_fault fault.NoTracks = true
+is_opening_fault fault.Encoded = true
+is_opening_fault fault.Checksum = true
+is_opening_fault f = false
+
+-- and those that reading a frame has
 abbrev pub is_frame_fault : FileFault → Bool
 is_frame_fault fault.OutOfMemory = true
 is_frame_fault fault.Truncated = true

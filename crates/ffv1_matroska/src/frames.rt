@@ -4,7 +4,7 @@ ghost use Rattle.std.specs.Prelude.{◌≡◌, ◌<◌, ◌≤◌, ℕ, List, []
 ghost use Rattle.std.specs.Prelude.{OnErr, OnSome, length};
 ghost use Rattle.ffv1_wire.specs.Passage.{passage};
 ghost use Rattle.ffv1_matroska.specs.Files.{frame_found, frame_read};
-ghost use Rattle.ffv1_matroska.specs.Internal.Ending.{AnswersOrNone};
+ghost use Rattle.ffv1_reads.specs.Ends.{AnswersOrNone};
 ghost use Rattle.ffv1_matroska.specs.Places.{amount};
 ghost use Rattle.ffv1_matroska.specs.Readers.{Leaves, next_with};
 ghost use Rattle.ffv1_matroska.specs.declared.place.Place.{Place};

@@ -1,6 +1,32 @@
-//! Laws of files.
+//! Laws of files: what is read is a file by its elements, and such a file is read.
 
+ghost use Rattle.std.specs.Prelude.{◌≡◌, ◌⊎◌, ◌<◌, ◌+◌, ◌*◌, ◌^◌, ◌++◌, ℕ, List, Option, Some, Ok};
+ghost use Rattle.std.specs.Prelude.{Err, All, [], bit_xor, length};
+ghost use Rattle.ffv1_reads.specs.Head.{Head};
+ghost use Rattle.ffv1_reads.specs.Reads.{EndsEarly, Met, Stop};
+ghost use Rattle.ffv1_reads.specs.declared.fault.FileFault.TheVariants as fault;
+ghost use Rattle.ffv1_sum.specs.Sum.{crc_of, number_of as low_number};
+ghost use Rattle.ffv1_ebml.specs.Elements.{crc_ident};
+ghost use Rattle.ffv1_ebml.specs.Spelled.{SaysSize};
+ghost use Rattle.ffv1_matroska.specs.Begun.{ClusterBegins, EntryPasses, FieldPasses, Fits};
+ghost use Rattle.ffv1_matroska.specs.Begun.{GroupBegins, HeaderBegins, IsNotWrong, LooseBegins};
+ghost use Rattle.ffv1_matroska.specs.Begun.{Passes, SegmentBegins, TracksBegin, room};
+ghost use Rattle.ffv1_matroska.specs.Elements.{AreTopLevel, SaysIdent, TopLevel, leaves_frames};
+ghost use Rattle.ffv1_matroska.specs.Elements.{parts_frames, pieces_frames, tops_text};
+ghost use Rattle.ffv1_matroska.specs.Given.{GivesThen, GivesTo, ReadsToEnd, StopsEarly};
+ghost use Rattle.ffv1_matroska.specs.MatroskaFiles.{AreBefore, FileBegins, MatroskaFile};
+ghost use Rattle.ffv1_matroska.specs.MatroskaFiles.{SegmentEnds};
+ghost use Rattle.ffv1_matroska.specs.Opened.{file_read, open_read};
+ghost use Rattle.ffv1_matroska.specs.Opening.{doc_type};
+ghost use Rattle.ffv1_matroska.specs.Places.{cluster_entered};
 ghost use Rattle.ffv1_matroska.specs.Rates.{IsTimed};
+ghost use Rattle.std.specs.Prelude.{None};
+ghost use Rattle.ffv1_reads.specs.Reads.{read_on};
+ghost use Rattle.ffv1_matroska.specs.Files.{frame_read, frames_read, more_frames};
+ghost use Rattle.ffv1_matroska.specs.Places.{ended};
+ghost use Rattle.ffv1_matroska.specs.Segments.{cluster};
+ghost use Rattle.ffv1_matroska.specs.Tracks.{Track, entry};
+ghost use Rattle.ffv1_matroska.specs.declared.place.Place.{Place};
 
 /// Frame rates that are read back as they were written: 24, 25, 30, 50 and 60 a second, and those
 /// times 1000/1001 of 24, 30 and 60.
@@ -13,4 +39,130 @@ pub fn rates()
     ensures slow_film { IsTimed (record { rate = 24000; scale = 1001 }) }
     ensures ntsc { IsTimed (record { rate = 30000; scale = 1001 }) }
     ensures fields { IsTimed (record { rate = 60000; scale = 1001 }) }
+{}
+
+/// The frames of a track are the next one and those after it; at the end there is none, and nothing
+/// is read.
+pub fn frames_in_turn()
+    ensures next { (track : ℕ) (place : Place) (text : List ℕ) → frames_read track place text
+        ≡ read_on (frame_read track place text) (more_frames (frames_read track)) }
+    ensures end { (track : ℕ) (text : List ℕ) → frame_read track ended text ≡ Ok (None, text) }
+{}
+
+/// A file of a head and frames, by its elements, is read as that head and those frames, and it
+/// has no others.
+pub fn file_is_read()
+    ensures read { (file : List ℕ) (head : Head) (frames : List (List ℕ))
+        (is : MatroskaFile file head frames) → file_read file ≡ Ok ((head, frames), is.rest) }
+    ensures only { (file : List ℕ) (head other : Head) (frames others : List (List ℕ)) →
+        MatroskaFile file head frames → MatroskaFile file other others →
+        (head ≡ other) × (frames ≡ others) }
+{}
+
+/// Where a Cluster comes before any Tracks, or the Segment ends, the file has no Tracks, and
+/// nothing after the header of the Cluster, or after the Segment, is read.
+pub fn no_tracks()
+    ensures cluster { (file : List ℕ) (size : Option ℕ) (before : List TopLevel)
+        (ident said rest : List ℕ) (known : Option ℕ) →
+        FileBegins file size (tops_text before ++ ((ident ++ said) ++ rest)) →
+        AreTopLevel before → AreBefore before → SaysIdent ident cluster → SaysSize said known →
+        Fits (room size) (tops_text before ++ (ident ++ said)) known →
+        open_read file ≡ Err (Met fault.NoTracks rest) }
+    ensures end { (file : List ℕ) (size : Option ℕ) (before : List TopLevel) (rest : List ℕ) →
+        FileBegins file size (tops_text before ++ rest) → AreTopLevel before → AreBefore before →
+        SegmentEnds size (length (tops_text before)) rest →
+        open_read file ≡ Err (Met fault.NoTracks rest) }
+{}
+
+/// An element that passes what it stands in is truncated, and nothing after its header is read:
+/// in the Segment, before the first Tracks and after them; in a Cluster of known size; and in a
+/// BlockGroup of a Cluster. The frames before it are given, one by one. In the header of EBML, in
+/// Tracks and in a TrackEntry, which are in memory, it is met where what is looked for first does
+/// not stand before it, and nothing after the header or Tracks is read. What is refused so is not
+/// read as a whole file.
+pub fn long_element()
+    ensures before { (file : List ℕ) (size : Option ℕ) (before : List TopLevel) (left : ℕ)
+        (ident said rest : List ℕ) →
+        FileBegins file size (tops_text before ++ ((ident ++ said) ++ rest)) →
+        AreTopLevel before → AreBefore before → room size ≡ length (tops_text before) + left →
+        Passes left ident said → open_read file ≡ Err (Met fault.Truncated rest) }
+    ensures segment { (file : List ℕ) (track : Track) (left : ℕ) (ident said rest : List ℕ)
+        (b : SegmentBegins file track left ((ident ++ said) ++ rest)) → Passes left ident said →
+        GivesThen file track.head (parts_frames b.parts) (Met fault.Truncated rest) }
+    ensures cluster { (file : List ℕ) (track : Track) (left : ℕ) (ident said rest : List ℕ)
+        (b : ClusterBegins file track left ((ident ++ said) ++ rest)) → Passes left ident said →
+        GivesThen file track.head (parts_frames b.segment.parts ++ pieces_frames b.pieces)
+        (Met fault.Truncated rest) }
+    ensures group { (file text : List ℕ) (track : Track) (left more : ℕ)
+        (ident said rest : List ℕ) (b : ClusterBegins file track left text)
+        (g : GroupBegins text track.number left more ((ident ++ said) ++ rest)) →
+        Passes more ident said → GivesThen file track.head
+        ((parts_frames b.segment.parts ++ pieces_frames b.pieces) ++ leaves_frames g.leaves)
+        (Met fault.Truncated rest) }
+    ensures loose_group { (file text : List ℕ) (track : Track) (left more : ℕ)
+        (ident said rest : List ℕ) (b : LooseBegins file track left text)
+        (g : GroupBegins text track.number left more ((ident ++ said) ++ rest)) →
+        Passes more ident said → GivesThen file track.head
+        ((parts_frames b.segment.parts ++ pieces_frames b.pieces) ++ leaves_frames g.leaves)
+        (Met fault.Truncated rest) }
+    ensures refused { (file : List ℕ) (head : Head) (frames : List (List ℕ)) (why : Stop) →
+        GivesThen file head frames why → file_read file ≡ Err why }
+    ensures header { (file header rest : List ℕ) → HeaderBegins file header rest →
+        FieldPasses header doc_type → IsNotWrong header →
+        open_read file ≡ Err (Met fault.Truncated rest) }
+    ensures tracks { (file content rest : List ℕ) → TracksBegin file content rest →
+        FieldPasses content entry → IsNotWrong content →
+        open_read file ≡ Err (Met fault.Truncated rest) }
+    ensures track_entry { (file content rest : List ℕ) → TracksBegin file content rest →
+        EntryPasses content → IsNotWrong content →
+        open_read file ≡ Err (Met fault.Truncated rest) }
+{}
+
+/// A Cluster that begins with a CRC-32, and of which frames are given up to its end, has the sum
+/// that is stated. So bytes after its CRC-32 that were changed only within 32 neighbouring bits,
+/// each byte's low bit first, are never read to its end.
+pub fn summed_clusters()
+    ensures sum { (track : ℕ) (place after : Place) (ident size stated content rest left : List ℕ)
+        (frames : List (List ℕ)) → SaysIdent ident crc_ident → SaysSize size (Some 4) →
+        length stated ≡ 4 → GivesTo track
+        (cluster_entered place (length ((ident ++ size) ++ (stated ++ content))))
+        (((ident ++ size) ++ (stated ++ content)) ++ rest) frames after left →
+        ReadsToEnd track place after left → low_number stated ≡ crc_of content }
+    ensures damage { (track : ℕ) (place after : Place)
+        (ident size stated content changed rest left : List ℕ) (frames : List (List ℕ))
+        (bits at : ℕ) → SaysIdent ident crc_ident → SaysSize size (Some 4) → length stated ≡ 4 →
+        low_number stated ≡ crc_of content → All (λ b. b < 256) content →
+        All (λ b. b < 256) changed → length content ≡ length changed → 0 < bits →
+        bits < 2 ^ 32 → bit_xor (low_number content) (low_number changed) ≡ bits * 2 ^ at →
+        GivesTo track (cluster_entered place (length ((ident ++ size) ++ (stated ++ changed))))
+        (((ident ++ size) ++ (stated ++ changed)) ++ rest) frames after left →
+        ReadsToEnd track place after left → ⊥ }
+{}
+
+/// Of a beginning of a file whose Segment's size is known, up to the end of the Segment, some of
+/// the first frames are given, one by one, and then more bytes are wanted. A beginning of one whose
+/// size is unknown ends so too, or has no Tracks, or is read as some of the first frames: nothing
+/// says then that it was cut.
+pub fn beginnings()
+    ensures known { (file : List ℕ) (head : Head) (frames : List (List ℕ))
+        (is : MatroskaFile file head frames) (size : ℕ) (beginning more : List ℕ) →
+        is.size ≡ Some size → file ≡ (beginning ++ more) ++ is.rest → 0 < length more →
+        StopsEarly beginning head frames }
+    ensures unknown { (file : List ℕ) (head : Head) (frames : List (List ℕ))
+        (is : MatroskaFile file head frames) (beginning more : List ℕ) →
+        file ≡ (beginning ++ more) ++ is.rest → 0 < length more →
+        StopsEarly beginning head frames
+        ⊎ ((open_read beginning ≡ Err (Met fault.NoTracks []))
+        ⊎ ((some others : List (List ℕ)) × (frames ≡ some ++ others)
+        × (file_read beginning ≡ Ok ((head, some), [])))) }
+    ensures early { (beginning : List ℕ) (head : Head) (frames : List (List ℕ)) →
+        StopsEarly beginning head frames → EndsEarly file_read beginning }
+{}
+
+/// What is read is a file of that head and those frames, by its elements, and what is left is
+/// what stands after its Segment.
+pub fn read_is_file()
+    ensures { (file : List ℕ) (head : Head) (frames : List (List ℕ)) (rest : List ℕ) →
+        file_read file ≡ Ok ((head, frames), rest) →
+        (is : MatroskaFile file head frames) × (is.rest ≡ rest) }
 {}

@@ -1,15 +1,36 @@
-//! Matroska (RFC 9559), by elements of EBML: files of FFV1 frames (RFC 9043, 4.3.3).
+// SPDX-License-Identifier: MIT OR Apache-2.0
+//! Matroska (RFC 9559), by elements of EBML: files of FFV1 frames (RFC 9043, 4.3.3) are read,
+//! element by element.
+//!
+//! `MatroskaReader::open` reads a file up to its first Cluster; then `MatroskaReader::head` tells
+//! its head and `MatroskaReader::segment` the size of its Segment, and each
+//! `MatroskaReader::next_frame` gives the next frame of its first track of FFV1 video, until it
+//! answers false. A reader holds no input, each call is lent the same one. `ffv1_reads::FileFault`
+//! says why a file could not be read. `rate_of` and `duration_of` turn nanoseconds a frame into a
+//! frame rate and back. The test `reading::smallest` of `ffv1_tests` runs this:
+//!
+//! ```text
+//! let mut reader = MatroskaReader::open(rt.alloc(), &mut input)?;
+//! let mut frame = Vec::new(rt.alloc());
+//! while reader.next_frame(&mut input, &mut frame)? { .. }
+//! ```
 #![tactic(auto)]
 
+mod beginning;
 mod block;
 mod frames;
-mod header;
 pub mod laws;
 mod opening;
 mod place;
 mod rate;
 mod reader;
 mod segment;
+pub mod shown;
 mod track;
+mod write;
+pub mod written_laws;
 
 pub use rate::{duration_of, rate_of};
+pub use reader::MatroskaReader;
+pub use shown::Shown;
+pub use write::MatroskaWriter;

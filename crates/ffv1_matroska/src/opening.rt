@@ -1,19 +1,24 @@
 //! The beginning of a file: the header of EBML, and that of the Segment.
 
-ghost use Rattle.std.specs.Prelude.{◌≡◌, ◌≤◌, ℕ, List, Option, IfOk, OnErr, OnOk, length};
+ghost use Rattle.std.specs.Prelude.{◌≡◌, ◌≤◌, ◌<◌, ◌^◌, ℕ, List, Option, OnOk, length};
 ghost use Rattle.ffv1_wire.specs.Passage.{passage};
+ghost use Rattle.ffv1_reads.specs.First.{passage_with};
 ghost use Rattle.ffv1_reads.specs.Reads.{Answers};
+ghost use Rattle.ffv1_ebml.specs.Vints.{number_of};
+ghost use Rattle.ffv1_matroska.specs.Opened.{ebml_read};
 ghost use Rattle.ffv1_matroska.specs.Opening.{content_kept, header_in, ident_read};
 ghost use Rattle.ffv1_matroska.specs.Opening.{segment_begun, segment_entered, top_size};
+ghost use Rattle.ffv1_matroska.specs.Sizes.{size_with};
 
 use crate::block::LIMIT;
-use crate::header::{number_of, size_with};
 use crate::place::Place;
 use crate::track::content_at;
 use ffv1_ebml::{Sum, judge, next_data, number, text};
-use ffv1_reads::{FileFault, fill, take};
+use ffv1_reads::{FileFault, fill, take_after};
 use ffv1_wire::ByteIn;
 use std::alloc::Allocator;
+
+const EBML: u32 = 0x1A45_DFA3;
 
 const SEGMENT: u32 = 0x1853_8067;
 
@@ -23,11 +28,38 @@ const READ_VERSION: u32 = 0x42F7;
 
 const TYPE_READ_VERSION: u32 = 0x4285;
 
+/// The number of at most four bytes, big end first.
+fn number_of(bytes: &[u8]) -> u64
+    requires { length bytes.now ≤ 4 }
+    ensures value { result ≡ number_of bytes.now }
+    ensures fits { result < 256 ^ length bytes.now }
+{
+    let mut number = 0u64;
+    for byte in bytes {
+        number = 256 * number + u64::from(*byte);
+    }
+    number
+}
+
+/// The size of so many bytes with this data, or None where all its bits are 1.
+#[tactic(auto, unfolding(crate::specs::Sizes::size_with))]
+fn size_with(len: u64, value: u64) -> Option<u64>
+    ensures { result ≡ size_with len value }
+{
+    if len <= 8 {
+        let all = 1u64 << (7 * len);
+        if value < all && value + 1 == all {
+            return None;
+        }
+    }
+    Some(value)
+}
+
 /// Judges the header of EBML in memory.
 ///
-/// `Checksum` where its CRC-32 differs; `NotMatroska` where its DocType is another one, or a version
-/// is above those that are read: 1 of EBML and 4 of Matroska; `Truncated` and `BadElement` where an
-/// element that is looked at can't be read.
+/// `Checksum` where its CRC-32 differs; `NotMatroska` where its DocType is another one, or a
+/// version is above those that are read: 1 of EBML and 4 of Matroska; `Truncated` and `BadElement`
+/// where an element that is looked at can't be read.
 #[tactic(auto, unfolding(crate::specs::Opening::header_in))]
 fn judge_header(content: &[u8]) -> Result<(), FileFault>
     ensures { result ≡ header_in content.now }
@@ -48,14 +80,14 @@ fn judge_header(content: &[u8]) -> Result<(), FileFault>
     Ok(())
 }
 
-/// Four bytes that are this ID. `NotMatroska` where they are not.
+/// Four bytes that are this ID, of which the first may have been read. `NotMatroska` where they are not.
 #[tactic(auto, unfolding(crate::specs::Opening::ident_read))]
-fn read_ident<R: ByteIn>(input: &mut R, ident: u32) -> Result<(), FileFault>
+fn read_ident<R: ByteIn>(first: Option<u8>, input: &mut R, ident: u32) -> Result<(), FileFault>
     ensures { Answers (λ (_ : Unit {0}). tt) (ident_read ident)
-        (passage R.remaining R.failures input.old input.new) result }
+        (passage_with first R.remaining R.failures input.old input.new) result }
 {
     let mut bytes = [0u8; 4];
-    take(input, &mut bytes)?;
+    take_after(first, input, &mut bytes)?;
     if number_of(&bytes) != u64::from(ident) {
         return Err(FileFault::NotMatroska);
     }
@@ -75,8 +107,8 @@ fn read_top_size<R: ByteIn>(input: &mut R) -> Result<Option<u64>, FileFault>
 
 /// Reads content in place of what the vector has.
 ///
-/// `BadElement` where its size is unknown, `ChunkTooLong` where it is above 67108864 bytes, of which
-/// no byte is read; then as `fill`.
+/// `BadElement` where its size is unknown, `ChunkTooLong` where it is above 67108864 bytes, of
+/// which no byte is read; then as `fill`.
 #[tactic(auto, unfolding(crate::specs::Opening::content_kept))]
 fn keep_content<R: ByteIn, A: Allocator>(
     input: &mut R,
@@ -95,20 +127,41 @@ fn keep_content<R: ByteIn, A: Allocator>(
     fill(input, size as usize, content)
 }
 
+/// Reads the header of EBML, of which the first byte may have been read; it is kept in place of what
+/// the vector has.
+///
+/// `NotMatroska` where the file begins otherwise, then as `read_top_size`, `keep_content` and
+/// `judge_header`.
+#[tactic(auto, unfolding(crate::specs::Opened::ebml_read))]
+pub(crate) fn read_ebml<R: ByteIn, A: Allocator>(
+    first: Option<u8>,
+    input: &mut R,
+    content: &mut Vec<u8, A>,
+) -> Result<(), FileFault>
+    ensures { Answers (λ (_ : Unit {0}). tt) ebml_read
+        (passage_with first R.remaining R.failures input.old input.new) result }
+{
+    read_ident(first, input, EBML)?;
+    let size = read_top_size(input)?;
+    keep_content(input, size, content)?;
+    judge_header(content.as_slice())?;
+    Ok(())
+}
+
 /// The size of the Segment, which stands next, or None where it is unknown.
 ///
 /// `NotMatroska` where another element does, then as `read_top_size`.
 #[tactic(auto, unfolding(crate::specs::Opening::segment_entered))]
-fn enter_segment<R: ByteIn>(input: &mut R) -> Result<Option<u64>, FileFault>
+pub(crate) fn enter_segment<R: ByteIn>(input: &mut R) -> Result<Option<u64>, FileFault>
     ensures { Answers (λ (s : Option ℕ). s) segment_entered
         (passage R.remaining R.failures input.old input.new) result }
 {
-    read_ident(input, SEGMENT)?;
+    read_ident(None, input, SEGMENT)?;
     read_top_size(input)
 }
 
 /// The place at the beginning of a Segment.
-fn begin_segment(size: Option<u64>) -> Place
+pub(crate) fn begin_segment(size: Option<u64>) -> Place
     ensures { result ≡ segment_begun size }
 {
     match size {

@@ -3,14 +3,19 @@
 ghost use Rattle.std.specs.Prelude.{◌≡◌, ◌<◌, ◌≤◌, Bool, List, [], true, false, Option, None, Some};
 ghost use Rattle.std.specs.Prelude.{IfErr, IfOk, OnErr, Ok, Err, length};
 ghost use Rattle.ffv1_wire.specs.Passage.{passage};
-ghost use Rattle.ffv1_reads.specs.Ends.{AnswersOrEnds};
+ghost use Rattle.ffv1_reads.specs.Ends.{AnswersOrEnds, AnswersOrFaults};
+ghost use Rattle.ffv1_reads.specs.First.{passage_with};
 ghost use Rattle.ffv1_reads.specs.Head.{head_of};
 ghost use Rattle.ffv1_reads.specs.declared.fault.FileFault.{FileFault};
+ghost use Rattle.ffv1_reads.specs.declared.fault.FileFault.TheVariants as fault;
 ghost use Rattle.ffv1_matroska.specs.Files.{frame_read};
+ghost use Rattle.ffv1_matroska.specs.Opened.{open_read};
 ghost use Rattle.ffv1_matroska.specs.Places.{amount, ended};
-ghost use Rattle.ffv1_matroska.specs.Readers.{Leaves, Standing, StandsAfter, is_frame_fault};
-ghost use Rattle.ffv1_matroska.specs.Readers.{next_of};
+ghost use Rattle.ffv1_matroska.specs.Readers.{HasEnded, Leaves, Standing, StandsAfter};
+ghost use Rattle.ffv1_matroska.specs.Readers.{is_frame_fault, is_opening_fault, next_of};
+ghost use Rattle.ffv1_matroska.specs.Readers.{opened_at};
 
+use crate::beginning::read_opening;
 use crate::frames::read_frame;
 use crate::place::{Place, ended};
 use ffv1_reads::{FileFault, FileHead};
@@ -40,6 +45,66 @@ impl<A: Allocator> Model for MatroskaReader<A> {
       place = r.place;
       fault = r.fault;
     } };
+}
+
+impl<A: Allocator + Copy> MatroskaReader<A> {
+    /// Reads a file up to where its frames begin: the header of EBML, and the elements of the
+    /// Segment up to its first Cluster, or its end. The first Tracks say which frames are read:
+    /// those of their first track that is FFV1 video. Memory is taken for the header of EBML and
+    /// for Tracks, which is given back, and room as large as Tracks for the configuration record.
+    ///
+    /// `NotMatroska` where the file does not begin with a header of EBML that says Matroska of a
+    /// version that is read, and a Segment; `Truncated` where an element does not fit in what it
+    /// stands in, or the input ends inside it; `BadElement` where an ID has more than 4 bytes, a
+    /// size or a field more than 8, a size is unknown other than that of the Segment or a Cluster,
+    /// or an element may not stand in a Segment; `ChunkTooLong` where the header of EBML or Tracks
+    /// are above 67108864 bytes; `NoTracks` where a Cluster comes before any Tracks, or the end of
+    /// the Segment does; `NoFfv1` where no track is FFV1 video, `Encoded` where the one that counts
+    /// is compressed or encrypted; `Checksum` where a CRC-32 is not the sum, which is known at the
+    /// end of the element; `Read` where a read failed, `OutOfMemory`. A fault of the header of EBML
+    /// or of Tracks comes after all of their bytes.
+    pub fn open<R: ByteIn>(alloc: A, input: &mut R) -> Result<MatroskaReader<A>, FileFault>
+        ensures answer { AnswersOrFaults fault.NoTracks HasEnded opened_at open_read
+            (passage R.remaining R.failures input.old input.new) result }
+        ensures sound { IfOk result (λ r. r.fault ≡ None) }
+        ensures own { IfErr result (λ f. is_opening_fault f ≡ true) }
+    {
+        MatroskaReader::open_after(alloc, None, input)
+    }
+
+    /// The same of a file whose first byte was read before, where there was one.
+    pub fn open_after<R: ByteIn>(
+        alloc: A,
+        first: Option<u8>,
+        input: &mut R,
+    ) -> Result<MatroskaReader<A>, FileFault>
+        ensures answer { AnswersOrFaults fault.NoTracks HasEnded opened_at open_read
+            (passage_with first R.remaining R.failures input.old input.new) result }
+        ensures sound { IfOk result (λ r. r.fault ≡ None) }
+        ensures own { IfErr result (λ f. is_opening_fault f ≡ true) }
+    {
+        let mut content = Vec::new(alloc);
+        let mut config_record = Vec::new(alloc);
+        let (segment, numbers, place) = read_opening(
+            first,
+            input,
+            &mut content,
+            &mut config_record,
+        )?;
+        Ok(MatroskaReader {
+            head: FileHead {
+                width: numbers.width,
+                height: numbers.height,
+                rate: numbers.rate,
+                scale: numbers.scale,
+                config_record,
+            },
+            track: numbers.number,
+            segment,
+            place,
+            fault: None,
+        })
+    }
 }
 
 impl<A: Allocator> MatroskaReader<A> {

@@ -6,7 +6,7 @@ ghost use Rattle.ffv1_ebml.specs.Elements.{IsWithin};
 ghost use Rattle.ffv1_ebml.specs.declared.element.Element.{Element};
 ghost use Rattle.ffv1_reads.specs.Reads.{Answers};
 ghost use Rattle.ffv1_matroska.specs.Internal.{bytes_of};
-ghost use Rattle.ffv1_matroska.specs.Internal.Ending.{AnswersOrNone};
+ghost use Rattle.ffv1_reads.specs.Ends.{AnswersOrNone};
 ghost use Rattle.ffv1_matroska.specs.Places.{amount};
 ghost use Rattle.ffv1_matroska.specs.Segments.{child_by, cluster_child, cluster_read, crc_read};
 ghost use Rattle.ffv1_matroska.specs.Segments.{first_child, group_child, group_read, header_read};
@@ -15,11 +15,10 @@ ghost use Rattle.ffv1_matroska.specs.Segments.{other_read, segment_child, segmen
 ghost use Rattle.ffv1_matroska.specs.declared.place.Step.{Step};
 
 use crate::block::{pass_on, read_block};
-use crate::header::header_or_end;
 use crate::place::{
     Place, Step, closed, cluster_at, cluster_entered, group_at, segment_at, summed_at,
 };
-use ffv1_ebml::{Element, Sum, next_element, pass_content};
+use ffv1_ebml::{Element, Sum, first_element, next_element, pass_content};
 use ffv1_reads::{FileFault, take};
 use ffv1_wire::ByteIn;
 
@@ -36,7 +35,7 @@ const CRC_32: u32 = 0xBF;
 /// Whether an element of a Segment is one whose CRC-32 is judged: SeekHead, Info, Tracks, Cues,
 /// Attachments, Chapters or Tags.
 #[tactic(auto, unfolding(crate::specs::Segments::is_section))]
-fn is_section(ident: u32) -> bool
+pub(crate) fn is_section(ident: u32) -> bool
     ensures { result ≡ is_section ident }
 {
     ident == 0x114D_9B74
@@ -50,7 +49,7 @@ fn is_section(ident: u32) -> bool
 
 /// Whether it is Void or CRC-32.
 #[tactic(auto, unfolding(crate::specs::Segments::is_filler))]
-fn is_filler(ident: u32) -> bool
+pub(crate) fn is_filler(ident: u32) -> bool
     ensures { result ≡ is_filler ident }
 {
     ident == 0xEC || ident == 0xBF
@@ -341,7 +340,7 @@ pub(crate) fn next_header<R: ByteIn>(
         return Ok(None);
     }
     if place.endless {
-        return header_or_end(input, place.segment);
+        return first_element(input, place.segment);
     }
     let mut none = Sum::Absent;
     let element = next_element(input, place.segment, &mut none)?;

@@ -1,6 +1,6 @@
 //! Tracks, in memory.
 
-ghost use Rattle.std.specs.Prelude.{◌≡◌, min};
+ghost use Rattle.std.specs.Prelude.{◌≡◌, ◌≤◌, IfOk, IfSome, length, min};
 ghost use Rattle.ffv1_ebml.specs.Children.{slices};
 ghost use Rattle.ffv1_matroska.specs.Internal.{contents, track_found, tracks};
 ghost use Rattle.ffv1_matroska.specs.Rates.{greatest};
@@ -42,6 +42,16 @@ pub(crate) struct Track<'a> {
     pub(crate) config_record: &'a [u8],
 }
 
+/// What a track says beside its configuration record.
+#[derive(Clone, Copy)]
+pub(crate) struct Numbers {
+    pub(crate) number: u64,
+    pub(crate) width: u32,
+    pub(crate) height: u32,
+    pub(crate) rate: u32,
+    pub(crate) scale: u32,
+}
+
 /// The number that the first element with this ID holds, and 0 where there is none.
 fn number_at(content: &[u8], ident: u32) -> Result<u64, FileFault>
     ensures { result ≡ number_at ident content.now }
@@ -54,7 +64,8 @@ fn number_at(content: &[u8], ident: u32) -> Result<u64, FileFault>
 
 /// The content of the first element with this ID, and no bytes where there is none.
 pub(crate) fn content_at(content: &[u8], ident: u32) -> Result<&[u8], FileFault>
-    ensures { contents result ≡ content_at ident content.now }
+    ensures value { contents result ≡ content_at ident content.now }
+    ensures short { IfOk result (λ s. length s.now ≤ length content.now) }
 {
     match find(content, ident)? {
         Some(field) => Ok(field),
@@ -71,7 +82,8 @@ fn is_format(format: &[u8]) -> bool
 
 /// The configuration record of an entry of this codec, where that is FFV1.
 fn record_of<'a>(codec: &[u8], content: &'a [u8]) -> Result<Option<&'a [u8]>, FileFault>
-    ensures { slices result ≡ record_of codec.now content.now }
+    ensures value { slices result ≡ record_of codec.now content.now }
+    ensures short { IfOk result (λ o. IfSome o (λ s. length s.now ≤ length content.now)) }
 {
     if codec == b"V_FFV1".as_slice() {
         let record = content_at(content, CODEC_PRIVATE)?;
@@ -90,7 +102,8 @@ fn record_of<'a>(codec: &[u8], content: &'a [u8]) -> Result<Option<&'a [u8]>, Fi
 /// The configuration record of an entry, where that is FFV1 video.
 #[tactic(auto, unfolding(crate::specs::Tracks::record_in))]
 fn record_in(content: &[u8]) -> Result<Option<&[u8]>, FileFault>
-    ensures { slices result ≡ record_in content.now }
+    ensures value { slices result ≡ record_in content.now }
+    ensures short { IfOk result (λ o. IfSome o (λ s. length s.now ≤ length content.now)) }
 {
     if number_at(content, TRACK_TYPE)? != 1 {
         return Ok(None);
@@ -109,7 +122,8 @@ fn samples(number: u64) -> u32
 /// The track of an entry with this record.
 #[tactic(auto, unfolding(crate::specs::Tracks::track_of))]
 fn track_of<'a>(content: &[u8], config_record: &'a [u8]) -> Result<Track<'a>, FileFault>
-    ensures { tracks result ≡ track_of content.now config_record.now }
+    ensures value { tracks result ≡ track_of content.now config_record.now }
+    ensures kept { IfOk result (λ t. t.config_record.now ≡ config_record.now) }
 {
     if find(content, CONTENT_ENCODINGS)?.is_some() {
         return Err(FileFault::Encoded);
@@ -132,7 +146,9 @@ fn track_of<'a>(content: &[u8], config_record: &'a [u8]) -> Result<Track<'a>, Fi
 /// The track of an element of Tracks, where that is an entry of FFV1 video.
 #[tactic(auto, unfolding(crate::specs::Tracks::track_at))]
 fn track_at<'a>(child: &Child<'a>) -> Result<Option<Track<'a>>, FileFault>
-    ensures { track_found result ≡ track_at child.now.ident child.now.content.now }
+    ensures value { track_found result ≡ track_at child.now.ident child.now.content.now }
+    ensures short { IfOk result (λ o. IfSome o
+        (λ t. length t.config_record.now ≤ length child.now.content.now)) }
 {
     if child.ident != TRACK_ENTRY {
         return Ok(None);
@@ -154,7 +170,8 @@ fn track_at<'a>(child: &Child<'a>) -> Result<Option<Track<'a>>, FileFault>
 /// field is looked for only while the entry may be one of FFV1 video.
 #[tactic(auto, unfolding(crate::specs::Tracks::track_in))]
 pub(crate) fn read_track(content: &[u8]) -> Result<Track<'_>, FileFault>
-    ensures { tracks result ≡ track_in content.now }
+    ensures value { tracks result ≡ track_in content.now }
+    ensures short { IfOk result (λ t. length t.config_record.now ≤ length content.now) }
 {
     judge(content)?;
     let mut rest = content;

@@ -6,7 +6,7 @@ use Rattle.ffv1_plane.specs.Quantisation.{is_filled, are_filled, scale_behind}
 use Rattle.ffv1_plane.specs.Raised.{RaisedTable, AreRaised, table_of, half_of}
 use Rattle.ffv1_plane.proofs.Levels.{filled_from}
 
--- a table's scale and the one behind it
+-- a table's scale and the one after it
 pub scale_more : (s n : ℕ) → 0 < n → s * (2 * n - 1) ≡ s + 2 * (s * (n - 1))
 scale_more s zero some = absurd (omega arith)
 scale_more s (suc m) some =
@@ -22,7 +22,7 @@ scale_most s n few =
 chained : (a b c d e s2 s3 s4 s5 s6 : ℕ) → s2 ≡ 1 * a → s3 ≡ s2 * b → s4 ≡ s3 * c → s5 ≡ s4 * d → s6 ≡ s5 * e → s6 ≡ 1 * a * b * c * d * e
 chained a b c d e s2 s3 s4 s5 s6 p q r s t = rw (t, s, r, q, p) refl
 
--- the last scale is that behind the five tables
+-- the last scale is that after the five tables
 pub scale_is : (a b c d e : List ℕ) (s2 s3 s4 s5 s6 : ℕ) →
     s2 ≡ 1 * (2 * length a - 1) → s3 ≡ s2 * (2 * length b - 1) → s4 ≡ s3 * (2 * length c - 1) → s5 ≡ s4 * (2 * length d - 1) → s6 ≡ s5 * (2 * length e - 1) →
     s6 ≡ scale_behind 1 (a ∷ b ∷ c ∷ d ∷ e ∷ [])
@@ -34,7 +34,7 @@ all_filled a b c d e p q r s t = rw (p, q, r, s, t) refl
 telescoped : (h1 h2 h3 h4 h5 s2 s3 s4 s5 s6 : ℕ) → s2 ≡ 1 + 2 * h1 → s3 ≡ s2 + 2 * h2 → s4 ≡ s3 + 2 * h3 → s5 ≡ s4 + 2 * h4 → s6 ≡ s5 + 2 * h5 → s6 ≡ 1 + 2 * (h1 + h2 + h3 + h4 + h5)
 telescoped h1 h2 h3 h4 h5 s2 s3 s4 s5 s6 p q r s t = omega arith
 
--- the scale behind all tables is one more than twice the sum of their greatest entries
+-- the scale after all tables is one more than twice the sum of their greatest entries
 pub half_is : (a b c d e : List ℕ) (s2 s3 s4 s5 s6 : ℕ) → is_filled a ≡ true → is_filled b ≡ true → is_filled c ≡ true → is_filled d ≡ true → is_filled e ≡ true →
     s2 ≡ 1 * (2 * length a - 1) → s3 ≡ s2 * (2 * length b - 1) → s4 ≡ s3 * (2 * length c - 1) → s5 ≡ s4 * (2 * length d - 1) → s6 ≡ s5 * (2 * length e - 1) →
     s6 ≡ 1 + 2 * (1 * (length a - 1) + s2 * (length b - 1) + s3 * (length c - 1) + s4 * (length d - 1) + s5 * (length e - 1))

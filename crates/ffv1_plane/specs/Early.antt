@@ -11,7 +11,7 @@ abbrev pub left_above : List ℕ → List ℕ → ℕ → ℕ
 left_above two one zero = slice_index two 0
 left_above two one (suc x) = slice_index one x
 
--- the sample above to the right: behind the end of a row stands its last sample (RFC 9043, 3.1)
+-- the sample above to the right: after the end of a row stands its last sample (RFC 9043, 3.1)
 abbrev pub right_above : List ℕ → ℕ → ℕ
 right_above one x = slice_index one (min (x + 1) (length one - 1))
 

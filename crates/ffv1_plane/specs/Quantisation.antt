@@ -29,7 +29,7 @@ entry_of runs scale k =
     else if k == 128 then pos 0 -ℤ pos (scale * runs_below runs 127)
     else pos 0 -ℤ pos (scale * runs_below runs (256 - k))
 
--- RFC 9043, 4.1: the scale behind some tables, where it was `scale` before them
+-- RFC 9043, 4.1: the scale after some tables, where it was `scale` before them
 abbrev pub scale_behind : ℕ → Set → ℕ
 scale_behind scale [] = scale
 scale_behind scale (runs ∷ more) = scale_behind (scale * (2 * length runs - 1)) more
@@ -38,7 +38,7 @@ scale_behind scale (runs ∷ more) = scale_behind (scale * (2 * length runs - 1)
 abbrev pub entry : Set → ℕ → ℕ → ℤ
 entry set i k = entry_of (slice_index_or set i []) (scale_behind 1 (take i set)) k
 
--- RFC 9043, 4.1: half of the scale behind all tables, rounded up
+-- RFC 9043, 4.1: half of the scale after all tables, rounded up
 abbrev pub contexts_of : Set → ℕ
 contexts_of set = (scale_behind 1 set + 1) / 2
 

@@ -54,7 +54,7 @@ pub record IsRaised (runs : List ℕ) (scale : ℕ) (raised : List ℕ) : Type 0
       pos (slice_index raised k) ≡ entry_of runs scale k +ℤ pos (scale * (length runs - 1))
   pub most : (k : ℕ) → k < 256 → slice_index raised k ≤ 2 * (scale * (length runs - 1))
 
--- the five tables of a set, each at the scale behind those before it, and the sum of their greatest
+-- the five tables of a set, each at the scale after those before it, and the sum of their greatest
 -- entries
 pub record AreRaised (first second third fourth fifth : RaisedTable) (half : ℕ) : Type 0 where
   pub set : IsSet (first.runs ∷ second.runs ∷ third.runs ∷ fourth.runs ∷ fifth.runs ∷ [])
@@ -69,7 +69,7 @@ pub record AreRaised (first second third fourth fifth : RaisedTable) (half : ℕ
   pub halves : half_of first + half_of second + half_of third + half_of fourth + half_of
       fifth ≡ half
 
--- table i of a set, at the scale behind those before it
+-- table i of a set, at the scale after those before it
 abbrev pub table_at : Set → ℕ → RaisedTable
 table_at set i = table_of (slice_index_or set i []) (scale_behind 1 (take i set))
 

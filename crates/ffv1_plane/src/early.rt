@@ -160,7 +160,7 @@ fn fill_sums<A: Allocator>(
         left_above two.now one.now (from + i) }
     ensures { AreEarly set.now two.now one.now from sum.new count }
 {
-    // Behind the last place that has a sample above to the right.
+    // After the last place that has a sample above to the right.
     let end = count.min(one.len() - 1 - from);
     let mut at = if from == 0 { 1 } else { 0 };
     sum_places(set, two, one, from, 0, at, tl, sum, near);

@@ -1,3 +1,4 @@
+// SPDX-License-Identifier: MIT OR Apache-2.0
 //! Prediction, contexts and folded sample differences of FFV1 (RFC 9043, 3.3 to 3.5, 3.8 and 4.1).
 //!
 //! A `QuantSet` is a quantisation table set, made by its runs (`QuantSet::from_runs`) or one of two

@@ -209,7 +209,7 @@ impl<A: Allocator + Copy> QuantSet<A> {
 }
 
 impl<A: Allocator> QuantSet<A> {
-    /// The number of contexts, from 1 to 32768 (RFC 9043, 4.1): half of the scale behind the five
+    /// The number of contexts, from 1 to 32768 (RFC 9043, 4.1): half of the scale after the five
     /// tables, rounded up.
     pub fn contexts(&self) -> u32
         ensures value { result ≡ contexts_of self.now }

@@ -66,7 +66,7 @@ pub fn fills(runs: &[u8]) -> bool
     filled == 128
 }
 
-/// The scale behind a table of these runs (RFC 9043, 4.1).
+/// The scale after a table of these runs (RFC 9043, 4.1).
 pub fn scale_after(scale: u64, runs: &[u8]) -> u64
     requires filled { IsTrue (is_filled runs.now) }
     requires room { scale < 2 ^ 40 }

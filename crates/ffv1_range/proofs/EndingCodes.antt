@@ -68,7 +68,7 @@ pub bytes-digits : (k n : ℕ) → AreBytes (digits k n)
 bytes-digits zero n = λ j. omega arith
 bytes-digits (suc k) n = bytes-pushed (digits k (n / 256)) (n % 256) (bytes-digits k (n / 256)) (omega arith)
 
--- one byte behind the end is 0
+-- one byte after the end is 0
 pub value-past : (xs : List ℕ) (k : ℕ) → length xs ≡ k → value xs (suc k) ≡ 256 * value xs k
 value-past xs k long =
     let none = get_or_past xs k 0 (omega arith) in
@@ -80,7 +80,7 @@ zeros_at xs n k = elim (cases_lt k (length xs)) [
   | inr behind ↦ get_or-append_right xs (replicate n 0) k 0 behind ∙ zero_of n (k - length xs) ∙ sym (get_or_past xs k 0 behind)
 ]
 
--- zeros behind the end change no value
+-- zeros after the end change no value
 pub value-zeros : (xs : List ℕ) (n k : ℕ) → value (xs ++ replicate n 0) k ≡ value xs k
 value-zeros xs n zero = refl
 value-zeros xs n (suc k) =
@@ -125,7 +125,7 @@ full-inside i ys is =
     let front = value-append (digits i.count i.low) ys i.count (omega arith) in
     record { above = omega arith; below = omega (arith, is.least) }
 
--- zeros behind the end change nothing
+-- zeros after the end change nothing
 pub inside-zeros : (xs : List ℕ) (i : Interval) (n : ℕ) → Inside xs i → Inside (xs ++ replicate n 0) i
 inside-zeros xs i n is =
     let same = value-zeros xs n i.count in

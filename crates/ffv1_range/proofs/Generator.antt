@@ -1,4 +1,4 @@
--- The rule behind the standard's table gives it.
+-- The rule after the standard's table gives it.
 use Rattle.std.proofs.Common.{◌≡◌, refl}
 use Rattle.ffv1_range.specs.Standard.{default_state_transition}
 use Rattle.ffv1_range.specs.Generator.{chained, filled, generated}

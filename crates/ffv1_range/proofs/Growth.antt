@@ -68,7 +68,7 @@ pub refused_second : (t : Table) (a b : Writing) (states after : List ℕ) (xs y
 refused_second t a b states after xs ys puts (inl failed) = inl (subst IsTrue puts.failed failed)
 refused_second t a b states after xs ys puts (inr grows) = inr (grows_on t a.interval b.interval states after xs ys puts.interval puts.moves grows)
 
--- an exponent goes on behind some of its ones
+-- an exponent goes on after some of its ones
 raising_on : (k more : ℕ) → (rest : List Step) × (raising (k + more) ≡ raising k ++ rest)
 unfolding raising
 raising_on k zero = ([], let same : k + 0 ≡ k = omega arith in rw (same, append-nil (raising k)) refl)
@@ -86,7 +86,7 @@ exponent_on k e within =
     let last : List Step = record { slot = 1 + min e 9; bit = false } ∷ [] in
     (before.0 ++ last, ap (λ l. l ++ last) (rw all at before.1) ∙ append_assoc (raising k) before.0 last)
 
--- a mantissa goes on behind some of its bits
+-- a mantissa goes on after some of its bits
 pub mantissa_on : (count low place n : ℕ) → (rest : List Step) × (mantissa_steps (count + low) place n ≡ mantissa_steps count (place + low) (n / 2 ^ low) ++ rest)
 mantissa_on count zero place n =
     let same : count + 0 ≡ count = omega arith in

@@ -22,7 +22,7 @@ bits_at-other slot past s e =
     let test : (s.slot == slot) ≡ false = grind (arith, nat_tests) in
     simp (filter-append, map-append, test, append-nil)
 
--- a step behind base
+-- a step after base
 abbrev pub behind : ℕ → Step → Step
 behind base s = record { slot = base + s.slot; bit = s.bit }
 
@@ -61,7 +61,7 @@ decided_is t states base past (s ∷ ss) below has =
     let rest = decided_is t (stepped t states s) base (past ++ (behind base s ∷ [])) ss (still_below t states s ss below.1) (stepped-has t states base past s below.0 has) in
     rw (rest, first) refl
 
--- and they are still the states of the history behind the steps
+-- and they are still the states of the history after the steps
 pub moved_has : (t : Table) (states : List ℕ) (base : ℕ) (past ss : List Step) → AreBelow ss (length states) → HasStates t states base past →
     HasStates t (moved_by t states ss) base (past ++ shifted base ss)
 moved_has t states base past [] below has = rw (append-nil past) has

@@ -24,7 +24,7 @@ raising_two = let more = raising-add-one 1 in rw raising_one at more
 pub none_reads : (t : Table) (a b : Reading) (ss ts : List ℕ) → Reads t a ss b ts (record { slot = 1; bit = false } ∷ []) → Reads t a ss b ts (exponent_steps 0 ++ mantissa_steps 0 0 1)
 none_reads t a b ss ts reads = rw raising-zero reads
 
--- an exponent 1 and the bit behind it
+-- an exponent 1 and the bit after it
 pub one_reads : (t : Table) (a b c d : Reading) (ss ts us vs : List ℕ) (bit : Bool) → Reads t a ss b ts (record { slot = 1; bit = true } ∷ []) → Reads t b ts c us (record { slot = 2; bit = false } ∷ []) →
     Reads t c us d vs (record { slot = 22; bit = bit } ∷ []) → Reads t a ss d vs (exponent_steps 1 ++ mantissa_steps 1 0 (2 + one_if bit))
 one_reads t a b c d ss ts us vs true first second third = rw raising_one (reads_append t a c d ss us vs _ _ (reads_append t a b c ss ts us _ _ first second) third)

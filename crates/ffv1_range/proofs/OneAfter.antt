@@ -1,4 +1,4 @@
--- Bytes code at most one number next, with the states that the history names, at slots behind base.
+-- Bytes code at most one number next, with the states that the history names, at slots after base.
 use Rattle.std.proofs.Common.{◌≡◌, refl, ℕ, ◌+◌, ◌^◌, ◌<◌, List, [], ◌∷◌, ◌++◌, ap, sym, subst, ◌∙◌, append-nil, append_assoc, ℤ, ◌⊎◌, inl, inr}
 use Rattle.std.proofs.Math.IntN.{nat_abs}
 use Rattle.ffv1_range.specs.Table.{Table}
@@ -50,7 +50,7 @@ none_after bytes are t base past i v small p q f g =
       | inr b ↦ refused_apart v [] b.0 small (append-nil (signed_steps v) ∙ sym b.1)
     ]
 
--- decisions behind a history, in two parts
+-- decisions after a history, in two parts
 pub after_append : (t : Table) (past xs ys : List Step) → decisions_after t past (xs ++ ys) ≡ decisions_after t past xs ++ decisions_after t (past ++ xs) ys
 after_append t past [] ys = ap (λ p. decisions_after t p ys) (sym (append-nil past))
 after_append t past (x ∷ xs) ys =

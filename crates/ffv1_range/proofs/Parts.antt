@@ -52,7 +52,7 @@ outside_one b k s (x ∷ ss) out below =
     let first = below.0 in
     (elim out [ inl front ↦ inr (omega (arith, front)) | inr behind ↦ inl (omega (arith, behind, first)) ], outside_one b k s ss out below.1)
 
--- a slot's state is what it was, behind steps at slots of a part that it is not in
+-- a slot's state is what it was, after steps at slots of a part that it is not in
 pub state_stays : (t : Table) (b k s : ℕ) (past ss : List Step) → (s < b) ⊎ (b + k ≤ s) → AreBelow ss k → state_of t s (past ++ shifted b ss) ≡ state_of t s past
 state_stays t b k s past ss out below =
     let base : s + 0 ≡ s = omega arith in

@@ -78,7 +78,7 @@ pairs_next one other pairs at entry inside now before k below = elim (cases_eq k
   | inr apart ↦ get_or-set_other pairs at k entry 0 apart ∙ before k (omega arith)
 ]
 
--- where a state goes is found behind 0 or 256 places, by the decision
+-- where a state goes is found after 0 or 256 places, by the decision
 pub next_moved : (floor : ℕ) (one zeros next : List ℕ) (state bit : ℕ) → AreZeros floor one zeros → AreNext floor one zeros next →
     floor ≤ state → state + floor ≤ 256 → bit < 2 →
     get_or next (bit * 256 + state) 0 ≡ moved (record { floor = floor; one = one }) state (bit == 1)

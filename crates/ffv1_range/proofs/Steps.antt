@@ -147,7 +147,7 @@ writes_summed t a b c d ss ts xs before after u z writes first last failed count
   named = writes.named;
 }
 
--- where the decoder stands behind what it had read before
+-- where the decoder stands after what it had read before
 pub read_on : (t : Table) (old : Reading) (states : List ℕ) (new : Reading) (after : List ℕ) (steps : List Step) (past : List Decision) →
     At old (interval_of past) → Follows t old states new after steps → At new (interval_of (past ++ decided t states steps))
 read_on t old states new after steps past h f = rw (narrowed-append start past (decided t states steps)) (f.at (interval_of past) h)

@@ -41,7 +41,7 @@ all_short : all_below is_short 512 ≡ true
 unfolding all_below is_short raising lib.Count.count_leading_zeros
 all_short = refl
 
--- rows of one length, one behind the other
+-- rows of one length, one after the other
 block_at : (f : ℕ → List ℕ) (width : ℕ) → ((x : ℕ) → length (f x) ≡ width) → (xs : List ℕ) (i : ℕ) → i < length xs → take width (drop (i * width) (flat_map f xs)) ≡ f (get_or xs i 0)
 block_at f width long [] i inside = absurd (omega arith)
 block_at f width long (x ∷ xs) zero inside =

@@ -6,7 +6,7 @@ use Rattle.std.proofs.Math.Seq.{take-suc}
 use Rattle.std.proofs.Math.Nat.{pow-succ'}
 use Rattle.ffv1_range.specs.Codes.{value, AreBytes, digits}
 
--- what stands behind the first bytes does not count
+-- what stands after the first bytes does not count
 pub value-append : (xs ys : List ℕ) (k : ℕ) → k ≤ length xs → value (xs ++ ys) k ≡ value xs k
 value-append xs ys zero h = refl
 value-append xs ys (suc k) h =
@@ -20,7 +20,7 @@ value-push xs b n e =
     let last : get_or (xs ++ (b ∷ [])) n 0 ≡ b = grind (arith, common_steps) in
     cc
 
--- a byte is changed behind the first k
+-- a byte is changed after the first k
 pub value-set-behind : (xs : List ℕ) (j b k : ℕ) → k ≤ j → value (slice_set xs j b) k ≡ value xs k
 value-set-behind xs j b zero h = refl
 value-set-behind xs j b (suc k) h =
@@ -29,7 +29,7 @@ value-set-behind xs j b (suc k) h =
     let last = get_or-set_other xs j k b 0 other in
     cc
 
--- byte j is changed, which has d more of the first n behind it
+-- byte j is changed, which has d more of the first n after it
 pub value-set : (xs : List ℕ) (j b n d : ℕ) → n ≡ suc (j + d) → j < length xs →
     value (slice_set xs j b) n + 256 ^ d * get_or xs j 0 ≡ value xs n + 256 ^ d * b
 value-set xs j b zero d e fits = absurd (omega arith)

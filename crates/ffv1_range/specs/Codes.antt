@@ -5,7 +5,7 @@ use Rattle.std.specs.Prelude.{slice_index, length, take, ◌⊎◌, ◌≡◌}
 use Rattle.std.proofs.Common.{zero, suc}
 use Rattle.ffv1_range.specs.Interval.{Interval, Decision, narrow, interval_of}
 
--- the number of the first bytes, big end first, with zeros behind the end
+-- the number of the first bytes, big end first, with zeros after the end
 abbrev pub value : List ℕ → ℕ → ℕ
 value bytes zero = 0
 value bytes (suc count) = 256 * value bytes count + slice_index bytes count
@@ -40,7 +40,7 @@ rounded_of i = take (i.count - 1) (digits i.count (raised i.low))
 abbrev pub sentinel_of : Interval → List ℕ
 sentinel_of i = rounded_of (narrow i 129 false)
 
--- each is a byte, the zeros behind the end too
+-- each is a byte, the zeros after the end too
 abbrev pub AreBytes : List ℕ → Type 0
 AreBytes bytes = (k : ℕ) → slice_index bytes k < 256
 

@@ -1,4 +1,4 @@
--- The rule behind the standard's table: the recurrence by which FFmpeg builds it
+-- The rule after the standard's table: the recurrence by which FFmpeg builds it
 -- (ff_build_rac_states of libavcodec/rangecoder.c, with the factor 0.05 * 2 ^ 32, cut to 214748364,
 -- and the greatest state 248). A probability is a number of 2 ^ 32.
 use Rattle.std.specs.Prelude.{ℕ, ◌+◌, ◌-◌, ◌*◌, ◌/◌, ◌==◌, ◌&&◌, nat_lt, nat_le, max, min}

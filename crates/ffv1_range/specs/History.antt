@@ -18,7 +18,7 @@ moved_along t state (b ∷ bs) = moved_along t (moved t state b) bs
 abbrev pub state_of : Table → ℕ → List Step → ℕ
 state_of t slot past = moved_along t 128 (bits_at slot past)
 
--- the decisions of some steps, behind those of past
+-- the decisions of some steps, after those of past
 abbrev pub decisions_after : Table → List Step → List Step → List Decision
 decisions_after t past [] = []
 decisions_after t past (s ∷ ss) =
@@ -35,7 +35,7 @@ AreOutside [] base count = Unit {0}
 AreOutside (s ∷ ss) base count = ((s.slot < base) ⊎ (base + count ≤ s.slot)) ×
     AreOutside ss base count
 
--- an array has the states of the slots from base on, behind the steps of past
+-- an array has the states of the slots from base on, after the steps of past
 pub record HasStates (t : Table) (states : List ℕ) (base : ℕ) (past : List Step) : Type 0 where
   pub each : (slot : ℕ) → slot < length states →
       slice_index states slot ≡ state_of t (base + slot) past

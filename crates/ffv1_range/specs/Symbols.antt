@@ -77,7 +77,7 @@ pub record AreHeld (t : Table) (states : List ℕ) : Type 0 where
   pub count : length states ≡ 32
   pub held : (slot : ℕ) → slot < 32 → Holds t (slice_index states slot)
 
--- steps at slots behind base
+-- steps at slots after base
 abbrev pub shifted : ℕ → List Step → List Step
 shifted base [] = []
 shifted base (s ∷ ss) = record { slot = base + s.slot; bit = s.bit } ∷ shifted base ss

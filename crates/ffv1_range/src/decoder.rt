@@ -18,7 +18,7 @@ use crate::tally::{Nonzeros, Sums, Tally};
 use std::alloc::AllocError;
 use std::marker::Model;
 
-/// A decoder of the decisions that some bytes code (RFC 9043, 3.8.1.1). Bytes behind the end are
+/// A decoder of the decisions that some bytes code (RFC 9043, 3.8.1.1). Bytes after the end are
 /// read as 0. It takes no memory.
 ///
 /// It is seen as a `Reading`: its bytes, the width of its interval, how far the interval's upper
@@ -74,7 +74,7 @@ impl<'a> Clone for RangeDecoder<'a> {
 
 impl<'a> RangeDecoder<'a> {
     /// Begins at the bytes. Answers `BadStart` exactly where their first two, big end first and
-    /// with zeros behind the end, are 65280 or more: such bytes code no decisions, not even none.
+    /// with zeros after the end, are 65280 or more: such bytes code no decisions, not even none.
     pub fn new(bytes: &'a [u8]) -> Result<RangeDecoder<'a>, Fault>
         ensures refused { IsErr result ↔ (65280 ≤ value bytes.now 2) }
         ensures fault { IfErr result (λ f. f ≡ Fault.BadStart) }
@@ -283,7 +283,7 @@ impl<'a> RangeDecoder<'a> {
         self.gap = gap * 256 - next;
     }
 
-    /// The byte that comes next, or 0 behind the end.
+    /// The byte that comes next, or 0 after the end.
     #[inline(always)]
     fn next_byte(&mut self) -> u32
         ensures byte { result ≡ slice_index self.old.bytes (self.old.renormalisations + 2) }

@@ -15,7 +15,7 @@ pub enum Fault {
     /// A growth of memory was refused.
     #[error("2 OutOfMemory")]
     OutOfMemory,
-    /// The first two bytes, with zeros behind the end, are 65280 or more.
+    /// The first two bytes, with zeros after the end, are 65280 or more.
     #[error("3 BadStart")]
     BadStart,
     /// The 31st decision of an exponent is 1.

@@ -51,7 +51,7 @@ pub fn one_list()
         (ds : List Decision) × IsOnlyList bytes name count ds }
 {}
 
-/// The sentinel ending of a list codes it, with zeros behind too.
+/// The sentinel ending of a list codes it, with zeros after too.
 pub fn sentinel_ending()
     ensures codes { (ds : List Decision) → AreStates ds → Codes (sentinel_of (interval_of ds)) ds }
     ensures bytes { (i : Interval) → AreBytes (sentinel_of i) }
@@ -121,7 +121,7 @@ pub fn two_parts()
         AreBelow (xs ++ ys) count }
 {}
 
-/// What a decoder has read is coded by its bytes, behind the decisions that it had read before.
+/// What a decoder has read is coded by its bytes, after the decisions that it had read before.
 pub fn read_is_coded()
     ensures { (t : Table) (old : Reading) (states : List ℕ) (new : Reading) (after : List ℕ)
         (steps : List Step) (past : List Decision) →
@@ -130,7 +130,7 @@ pub fn read_is_coded()
         Codes new.bytes (past ++ decided t states steps) }
 {}
 
-/// What an encoder has written stands behind what it had written before.
+/// What an encoder has written stands after what it had written before.
 pub fn written_is_kept()
     ensures { (t : Table) (old : Writing) (states : List ℕ) (new : Writing) (after : List ℕ)
         (steps : List Step) (past : List Decision) →

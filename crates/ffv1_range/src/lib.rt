@@ -1,3 +1,4 @@
+// SPDX-License-Identifier: MIT OR Apache-2.0
 //! The range coder of FFV1 (RFC 9043, 3.8.1): decisions and numbers to bytes, and back.
 //!
 //! A `StateTable` comes first: `StateTable::standard()`, or `StateTable::with_deltas` for the table

@@ -371,7 +371,7 @@ fn length_of(residual: usize) -> usize
     LENGTHS[residual] as usize
 }
 
-/// The places of a row of numbers from `from` to before `upto`, each behind a base.
+/// The places of a row of numbers from `from` to before `upto`, each after a base.
 #[inline(always)]
 fn list_places(list: &mut [u32], at: usize, base: u32, row: &[u16], from: usize, upto: usize)
     requires ordered { from ≤ upto }
@@ -388,7 +388,7 @@ fn list_places(list: &mut [u32], at: usize, base: u32, row: &[u16], from: usize,
 }
 
 /// Lists the decisions of a residual of nine bits, given modulo 512, in the states of a context,
-/// behind the first `at` numbers of a list that has room for 24 more, all of which may be
+/// after the first `at` numbers of a list that has room for 24 more, all of which may be
 /// overwritten. Answers how many numbers the list has then, at most 19 more (RFC 9043, 3.8.1.2).
 #[inline(always)]
 pub fn list_signed(list: &mut [u32], at: usize, context: u32, residual: usize) -> usize

@@ -42,7 +42,7 @@ struct Magnitude {
     ones: u32,
 }
 
-/// An exponent of 2 and more, behind its first two decisions, which are 1.
+/// An exponent of 2 and more, after its first two decisions, which are 1.
 #[inline(always)]
 fn get_long_exponent(
     decoder: &mut RangeDecoder<'_>,
@@ -72,7 +72,7 @@ fn get_long_exponent(
     Err(TooLong)
 }
 
-/// A number of an exponent of 2 and more, behind the exponent's first two decisions.
+/// A number of an exponent of 2 and more, after the exponent's first two decisions.
 #[inline(always)]
 fn get_long(
     decoder: &mut RangeDecoder<'_>,
@@ -218,8 +218,8 @@ impl RangeDecoder<'_> {
 
     /// As `get_signed_in_row`, but that a number is given by its size and its sign, and 0 as none,
     /// and that nothing is counted but `nonzeros`: their symbol, where the number is not zero.
-    /// Behind `n` such symbols the decoder's counts are to go on by `nonzeros.among(n)`, and where
-    /// the one behind them was refused by `nonzeros.among_refused(n)`. Fewer than 2^20 nonzero
+    /// After `n` such symbols the decoder's counts are to go on by `nonzeros.among(n)`, and where
+    /// the one after them was refused by `nonzeros.among_refused(n)`. Fewer than 2^20 nonzero
     /// numbers have room.
     #[inline(always)]
     pub fn tally_signed_in_row(

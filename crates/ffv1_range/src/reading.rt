@@ -197,7 +197,7 @@ pub(crate) fn ones_below(number: u32) -> u32
 impl RangeDecoder<'_> {
     /// The signed number whose symbol comes next, of a size below 2^31, by 32 states that the table
     /// holds. The states move by the decisions. Answers `SymbolTooLong` exactly where the 31st
-    /// decision of the exponent is 1; the decoder then stands behind that decision.
+    /// decision of the exponent is 1; the decoder then stands after that decision.
     #[inline(always)]
     pub fn get_signed(&mut self, table: &StateTable, states: &mut [u8]) -> Result<i32, Fault>
         requires { AreHeld table.now states.old }
@@ -255,7 +255,7 @@ impl RangeDecoder<'_> {
 
     /// The number without a sign whose symbol comes next, below 2^31, by 32 states that the table
     /// holds. The states move by the decisions. Answers `SymbolTooLong` exactly where the 31st
-    /// decision of the exponent is 1; the decoder then stands behind that decision.
+    /// decision of the exponent is 1; the decoder then stands after that decision.
     #[inline(always)]
     pub fn get_unsigned(&mut self, table: &StateTable, states: &mut [u8]) -> Result<u32, Fault>
         requires { AreHeld table.now states.old }

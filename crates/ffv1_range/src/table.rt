@@ -156,7 +156,7 @@ impl StateTable {
     }
 }
 
-/// Where each state goes after a decision 0, and behind it where each goes after a decision 1.
+/// Where each state goes after a decision 0, and after it where each goes after a decision 1.
 fn joined(one: &[u8; 256], zero: &[u8; 256]) -> [u8; 512]
     ensures zeros { (state : ℕ) → state < 256 →
         slice_index result state ≡ slice_index zero.now state }

@@ -39,7 +39,7 @@ impl Sums {
 }
 
 /// Of a run of symbols those of nonzero numbers: how many they are, their exponents together, and
-/// how many of the bits behind their exponents, the sign among them, were 1. With the number of all
+/// how many of the bits after their exponents, the sign among them, were 1. With the number of all
 /// symbols this tells their decisions, so that a zero needs no count.
 #[derive(Clone, Copy, Debug, PartialEq, Eq)]
 pub struct Nonzeros {
@@ -47,12 +47,12 @@ pub struct Nonzeros {
     pub symbols: u32,
     /// Their exponents together.
     pub exponents: u32,
-    /// Their decisions 1 behind the exponent.
+    /// Their decisions 1 after the exponent.
     pub ones: u32,
 }
 
 impl Nonzeros {
-    /// Counts a symbol of an exponent up to 30, of whose bits behind it some are 1.
+    /// Counts a symbol of an exponent up to 30, of whose bits after it some are 1.
     #[inline(always)]
     pub(crate) fn count(&mut self, exponent: u32, ones: u32)
         requires are { AreNonzeros self.old }
@@ -85,7 +85,7 @@ impl Nonzeros {
         }
     }
 
-    /// The same with a symbol behind them that is refused, of 31 decisions 1 and one 0.
+    /// The same with a symbol after them that is refused, of 31 decisions 1 and one 0.
     #[inline(always)]
     pub fn among_refused(&self, symbols: u32) -> Sums
         requires are { AreNonzeros self.now }

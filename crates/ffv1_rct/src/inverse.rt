@@ -110,7 +110,7 @@ fn inverse_rest(
 /// length, any.
 ///
 /// Refuses exactly where a place has no red, green and blue from 0 to 255, with the first such
-/// place `x`: the places before `x` are filled then, `x` and all behind it are as before.
+/// place `x`: the places before `x` are filled then, `x` and all after it are as before.
 pub fn inverse_line(
     y: &[u16],
     cb: &[u16],

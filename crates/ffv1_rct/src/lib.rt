@@ -1,3 +1,4 @@
+// SPDX-License-Identifier: MIT OR Apache-2.0
 //! The reversible colour transform of one line, forward and inverse (RFC 9043, 3.7.2), and the
 //! narrowing of a transparency line to bytes.
 //!

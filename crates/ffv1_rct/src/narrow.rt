@@ -55,7 +55,7 @@ fn narrow_rest(at: usize, a: &[u16], out: &mut [u8]) -> Result<(), NoColour>
 /// length, any.
 ///
 /// Refuses exactly where a place lies above 255, with the first such place `x`: the places before
-/// `x` are filled then, `x` and all behind it are as before.
+/// `x` are filled then, `x` and all after it are as before.
 pub fn narrow_line(a: &[u16], out: &mut [u8]) -> Result<(), NoColour>
     requires { length out.old ≡ length a.now }
     ensures exact { IsErr result ↔ ((x : ℕ) × (x < length a.now) × (255 < slice_index a.now x)) }

@@ -1,7 +1,8 @@
 -- What a call on known bytes answers.
 use Rattle.std.proofs.Common.{◌≡◌, ℕ, Option, Some, None, Ok, Err, List, [], ◌++◌, append-nil, ap, ◌∙◌, refl}
 use Rattle.ffv1_reads.specs.declared.fault.FileFault.{FileFault}
-use Rattle.ffv1_reads.specs.Ends.{Ends, Stops}
+use Rattle.std.specs.Io.KnownBytes.{IsAtEnd}
+use Rattle.ffv1_reads.specs.Ends.{Ends, FaultsAtEnd, Stops}
 use Rattle.ffv1_reads.specs.Reads.{Faults, Lacks, Met, Read, Reading, Short, Want}
 
 pub known_read : {X : Type 0} (reading : Reading X) (text : List ℕ) (new : Option (List ℕ)) (x : X) → Read reading (Some text) new x → (rest : List ℕ) × (new ≡ Some rest) × (reading text ≡ Ok (x, rest))
@@ -28,3 +29,15 @@ pub known_stop : {X : Type 0} (reading : Reading X) (text : List ℕ) (new : Opt
     (bytes rest : List ℕ) × (text ≡ bytes ++ rest) × (new ≡ Some rest) × (reading bytes ≡ Ok (x, []))
 known_stop reading text None x h = absurd h.consumed
 known_stop reading text (Some rest) x h = (h.bytes, rest, h.consumed, refl, h.is)
+
+pub known_end_fault : {X : Type 0} (reading : Reading X) (text : List ℕ) (new : Option (List ℕ)) (f : FileFault) → FaultsAtEnd reading (Some text) new f → IsAtEnd new → (new ≡ Some []) × (reading text ≡ Err (Met f []))
+known_end_fault reading text None f h ended = absurd h.consumed
+known_end_fault reading text (Some rest) f h ended =
+    let none : rest ≡ [] = ended in
+    let all : text ≡ h.bytes = h.consumed ∙ ap (λ z. h.bytes ++ z) none ∙ append-nil h.bytes in
+    (ap Some none, ap reading all ∙ h.is)
+
+pub known_fault_there : {X : Type 0} (reading : Reading X) (text : List ℕ) (new : Option (List ℕ)) (f : FileFault) → FaultsAtEnd reading (Some text) new f →
+    (bytes rest : List ℕ) × (text ≡ bytes ++ rest) × (new ≡ Some rest) × (reading bytes ≡ Err (Met f []))
+known_fault_there reading text None f h = absurd h.consumed
+known_fault_there reading text (Some rest) f h = (h.bytes, rest, h.consumed, refl, h.is)

@@ -9,7 +9,7 @@ use Rattle.ffv1_wire.specs.Reads.{Fills, FillsBeginning, Skips, SkipsBeginning}
 use Rattle.ffv1_reads.specs.declared.fault.FileFault.{FileFault}
 use Rattle.ffv1_reads.specs.declared.fault.FileFault.TheVariants as fault
 use Rattle.ffv1_reads.specs.Reads.{AppendsSome, Begins, Faults, Kept, Lacks, Looked, Met, Read, Refused, Short, Stop, Want, Wants, appended, passed, read_on, taken, wanted}
-use Rattle.ffv1_reads.proofs.WantedBytes.{passed_complete, wanted_complete}
+use Rattle.ffv1_reads.proofs.WantedBytes.{passed_complete, wanted_complete, wanted_sound}
 use Rattle.ffv1_reads.proofs.Reading.{consumes_none}
 use Rattle.ffv1_reads.proofs.Results.{ok_is}
 
@@ -60,7 +60,7 @@ skipped_not old new count h =
 pub append_none : (now : Option (List ℕ)) (items : List ℕ) (more : ℕ) → 0 < more → Lacks (appended items more) now now Kept
 append_none now items more some = record { bytes = []; consumed = consumes_none now; is = appended_short items more [] some }
 
--- bytes that were read behind others
+-- bytes that were read after others
 pub append_all : (old new : Option (List ℕ)) (items buf : List ℕ) (more n : ℕ) → length buf ≡ more → n ≡ more → Fills old new n buf → Read (appended items more) old new (items ++ buf)
 append_all old new items buf more n long all h =
     let P : List ℕ → Type 0 = λ z. Consumes old new z in
@@ -79,6 +79,12 @@ append_not old new items buf more long h =
 -- all were read
 pub fill_done : (old now : Option (List ℕ)) (items : List ℕ) (size : ℕ) → length items ≡ size → Consumes old now items → Read (wanted Kept size) old now items
 fill_done old now items size long h = record { bytes = items; consumed = h; is = λ rest. wanted_complete Kept size items rest long }
+
+pub wanted_consumed : (w : Want) (n : ℕ) (old now : Option (List ℕ)) (items : List ℕ) → Read (wanted w n) old now items → Consumes old now items
+wanted_consumed w n old now items read =
+    let all = (wanted_sound w n (read.bytes ++ []) (items, []) (read.is [])).0 in
+    let P : List ℕ → Type 0 = λ z. Consumes old now z in
+    subst P (sym (append-nil read.bytes) ∙ all ∙ append-nil items) read.consumed
 
 -- what a piece reads as
 abbrev Piece : Type 0
@@ -142,7 +148,7 @@ fill_begins (Some text) None items x more size room h some = absurd h
 fill_begins (Some text) (Some left) items x more size room h some =
     (length items + some.0, omega (arith, room, some.1), some.2 ∙ sym (rw h (take-append-add items left some.0)))
 
--- the bytes that were read behind others, where they are fewer than were wanted
+-- the bytes that were read after others, where they are fewer than were wanted
 pub appends_some : (old new : Option (List ℕ)) (items buf : List ℕ) (done n m : ℕ) → take done buf ≡ items → done + n ≤ length buf → Fills old new n (drop done buf) → n ≤ m → AppendsSome old m items (take (done + n) buf)
 appends_some None new items buf done n m kept bound read most = tt
 appends_some (Some text) None items buf done n m kept bound read most = absurd read.0

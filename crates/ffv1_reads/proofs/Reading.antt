@@ -1,4 +1,4 @@
--- Readings, one behind the other.
+-- Readings, one after the other.
 use Rattle.std.proofs.Common.{◌≡◌, ℕ, Option, Some, None, Result, Ok, Err, List, [], ◌++◌, inl, inr, ap, ◌∙◌, refl, append_assoc}
 use Rattle.std.specs.Io.KnownBytes.{Consumes}
 use Rattle.ffv1_wire.proofs.Bytes.{consumes_then}

@@ -1,3 +1,6 @@
 pub mod Head
 pub mod Reads
 pub mod Ends
+pub mod Known
+pub mod First
+pub mod Writes

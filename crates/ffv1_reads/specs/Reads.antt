@@ -15,7 +15,7 @@ pub data Want : Type 0 where
   Kept : Want
 
 -- why bytes read as no value: they end where more are wanted; or they have this fault, and those
--- behind it are left
+-- after it are left
 pub data Stop : Type 0 where
   Short : Want → Stop
   Met : FileFault → List ℕ → Stop
@@ -54,14 +54,14 @@ taken n = wanted Looked n
 abbrev pub passed : ℕ → Reading (Unit {0})
 passed n = λ text. if nat_lt (length text) n then Err (Short Looked) else Ok (tt, drop n text)
 
--- bytes were read, and whatever stands behind them, they read as this value
+-- bytes were read, and whatever stands after them, they read as this value
 pub record Read {X : Type 0} (reading : Reading X) (old new : Option (List ℕ))
     (x : X) : Type 0 where
   pub bytes : List ℕ
   pub consumed : Consumes old new bytes
   pub is : (rest : List ℕ) → reading (bytes ++ rest) ≡ Ok (x, rest)
 
--- bytes were read, and whatever stands behind them, they have this fault
+-- bytes were read, and whatever stands after them, they have this fault
 pub record Faults {X : Type 0} (reading : Reading X) (old new : Option (List ℕ))
     (f : FileFault) : Type 0 where
   pub bytes : List ℕ
@@ -83,7 +83,7 @@ Wants reading old new = (w : Want) × Lacks reading old new w
 abbrev pub EndsEarly : {X : Type 0} → Reading X → List ℕ → Type 0
 EndsEarly reading bytes = (w : Want) × (reading bytes ≡ Err (Short w))
 
--- why a call was refused, with what is left behind the bytes that it has read. A read failed, which
+-- why a call was refused, with what is left after the bytes that it has read. A read failed, which
 -- was counted, where more bytes were wanted; memory was refused where more were wanted to be kept;
 -- the bytes ended where more were wanted; or those that were read have the fault
 abbrev pub Refused : {X : Type 0} → Reading X → Option (List ℕ) → Option (List ℕ) → ℕ → ℕ →
@@ -104,7 +104,7 @@ abbrev pub Answers : {X Y : Type 0} → (Y → X) → Reading X → Passage → 
 Answers view reading p (Ok y) = (p.after ≡ p.before) × Read reading p.old p.new (view y)
 Answers view reading p (Err f) = Refused reading p.old p.new p.before p.after f
 
--- so many bytes behind others
+-- so many bytes after others
 abbrev pub appended : List ℕ → ℕ → Reading (List ℕ)
 appended bytes n = wanted Kept n >>= λ more. given (bytes ++ more)
 

@@ -4,6 +4,7 @@ ghost use Rattle.std.specs.Prelude.{◌≡◌, ◌+◌, ◌<◌, ◌≤◌, IfOk
 ghost use Rattle.ffv1_wire.specs.Failures.{Counted};
 ghost use Rattle.ffv1_wire.specs.Passage.{passage};
 ghost use Rattle.ffv1_wire.specs.Reads.{Fills, FillsBeginning};
+ghost use Rattle.ffv1_reads.specs.First.{passage_with};
 ghost use Rattle.ffv1_reads.specs.Reads.{Answers, AppendsSome, Begins, Kept, appended, passed};
 ghost use Rattle.ffv1_reads.specs.Reads.{taken, wanted};
 
@@ -27,6 +28,25 @@ pub fn take<R: ByteIn>(input: &mut R, buf: &mut [u8]) -> Result<(), FileFault>
         },
         Err(_) => Err(FileFault::Read),
     }
+}
+
+/// Fills `buf`, which has room for a byte at least: first by a byte that was read before, where
+/// there is one. Faults as of `take`.
+pub fn take_after<R: ByteIn>(
+    first: Option<u8>,
+    input: &mut R,
+    buf: &mut [u8],
+) -> Result<(), FileFault>
+    requires { 0 < length buf.old }
+    ensures { Answers (λ (_ : Unit {0}). buf.new) (taken (length buf.old))
+        (passage_with first R.remaining R.failures input.old input.new) result }
+{
+    let Some(first) = first else {
+        return take(input, buf);
+    };
+    buf[0] = first;
+    take(input, &mut buf[1..])?;
+    Ok(())
 }
 
 /// Passes so many bytes.
@@ -64,9 +84,11 @@ fn fill_from<R: ByteIn>(input: &mut R, done: usize, bytes: &mut [u8]) -> Result<
     read_full(input, &mut bytes[done..])
 }
 
-/// Reads `more` bytes after those that the vector has. `Truncated` where the input ends before;
-/// after a fault the vector holds a beginning of them after the others.
-fn append<R: ByteIn, A: Allocator>(
+/// Reads `more` bytes, at least one, after those that the vector has.
+///
+/// `Truncated` where the input ends before, `Read` where a read failed, `OutOfMemory` where memory
+/// was refused for them; after a fault the vector holds a beginning of them after the others.
+pub fn append<R: ByteIn, A: Allocator>(
     input: &mut R,
     more: usize,
     bytes: &mut Vec<u8, A>,

@@ -1,3 +1,4 @@
+// SPDX-License-Identifier: MIT OR Apache-2.0
 //! What the readers of files share, whatever the container: why a file cannot be read or written,
 //! what its head says, bytes that are taken, passed and kept, and what a call on a reader of bytes
 //! answers.
@@ -20,6 +21,6 @@ pub mod fault;
 pub mod head;
 pub mod laws;
 
-pub use bytes::{fill, pass, take};
+pub use bytes::{append, fill, pass, take, take_after};
 pub use fault::FileFault;
 pub use head::FileHead;

@@ -19,7 +19,7 @@ use Rattle.ffv1_record.specs.Record.{IsCoded, number_steps, signed_number_steps,
 use Rattle.ffv1_record.specs.Reader.{Reader, Spot, behind, ◌>>=◌, done, require, next_table, number, signed_number, truth, number_within, makes_table}
 use Rattle.ffv1_record.proofs.ReadIsCoded.{ok_same, not_both}
 
--- the decisions of steps behind others
+-- the decisions of steps after others
 behind_decisions : (past steps : List Step) → List Decision
 behind_decisions past steps = decisions_after standard past steps
 
@@ -29,7 +29,7 @@ coded_front b are xs ys h =
     narrowed-inside b are (narrowed start (decisions_after standard [] xs)) (decisions_after standard xs ys) (named standard standard_table xs ys)
     (rw (after_append standard [] xs ys, narrowed-append start (decisions_after standard [] xs) (decisions_after standard xs ys)) at h)
 
--- behind some steps
+-- after some steps
 coded_behind : (b : List ℕ) (xs ys : List Step) → IsCoded b (xs ++ ys) → Inside b (narrowed (narrowed start (decisions_after standard [] xs)) (decisions_after standard xs ys))
 coded_behind b xs ys h = rw (after_append standard [] xs ys, narrowed-append start (decisions_after standard [] xs) (decisions_after standard xs ys)) at h
 

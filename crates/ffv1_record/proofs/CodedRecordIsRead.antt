@@ -162,7 +162,7 @@ filled_sum rs h =
     let parts = both (list_all (λ r. nat_lt 0 r) rs) (sum rs == 128) h in
     (parts.0, eqb-true (sum rs) 128 parts.1)
 
--- a place behind a table
+-- a place after a table
 abbrev pub behind_table : Spot → List Step → Spot
 behind_table s steps = record { past = s.past ++ steps; fresh = s.fresh + 32 }
 
@@ -174,7 +174,7 @@ module _ (b : List ℕ) (are : AreBytes b) where
       forced_then b are next_table (λ base. runs_onto base 128 128 []) s t (behind_table s (runs_steps s.fresh rs)) s.fresh rs (runs_steps s.fresh rs) refl (forced_next b s)
       (forced_runs b are s.fresh 128 rs [] 128 t parts.1 (omega arith) (omega arith) parts.0)
 
--- lists one behind the other, in other groups
+-- lists one after the other, in other groups
 five_parts : (p a b c d e : List Step) → p ++ a ++ b ++ c ++ d ++ e ≡ p ++ (a ++ (b ++ (c ++ (d ++ (e ++ [])))))
 five_parts p a b c d e = simp (append_assoc, append-nil) refl
 

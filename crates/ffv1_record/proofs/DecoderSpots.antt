@@ -1,4 +1,4 @@
--- A decoder that stands at a spot of the bytes, and reads on, stands behind what it read.
+-- A decoder that stands at a spot of the bytes, and reads on, stands after what it read.
 use Rattle.std.proofs.Common.{◌≡◌, ℕ, ◌+◌, List, [], ◌++◌, length, replicate, ap, sym, subst, ◌∙◌, arith}
 use Rattle.ffv1_range.specs.Interval.{start, narrowed, interval_of}
 use Rattle.ffv1_range.specs.Codes.{Inside}
@@ -16,7 +16,7 @@ use Rattle.ffv1_record.specs.Reader.{Spot, behind}
 use Rattle.ffv1_record.specs.Internal.Given.{Source, Stands, StandsIn}
 use Rattle.ffv1_record.proofs.Slots.{shifted_within, shifted_beside, below_beside, below_more}
 
--- the interval of a history and of steps behind it
+-- the interval of a history and of steps after it
 pub interval_behind : (states : List ℕ) (base : ℕ) (past steps : List Step) → AreBelow steps (length states) → HasStates standard states base past →
     narrowed (interval_of (decisions_after standard [] past)) (decided standard states steps) ≡ interval_of (decisions_after standard [] (past ++ shifted base steps))
 interval_behind states base past steps below has =

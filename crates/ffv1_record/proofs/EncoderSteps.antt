@@ -1,4 +1,4 @@
--- A writer that has written the steps of a spot, and writes on, has written those behind them.
+-- A writer that has written the steps of a spot, and writes on, has written those after them.
 use Rattle.std.proofs.Common.{◌≡◌, refl, ℕ, zero, suc, ◌+◌, ◌-◌, ◌*◌, ◌^◌, ◌<◌, ◌≤◌, Bool, true, false, IsTrue, nat_lt, List, [], ◌∷◌, ◌++◌, length, replicate, take, get_or, append_assoc, append-nil, ap, sym, subst, ◌∙◌, arith, ℤ, add-one, take-suc}
 use Rattle.std.specs.List.{list_all}
 use Rattle.std.proofs.Math.IntN.{nat_abs}

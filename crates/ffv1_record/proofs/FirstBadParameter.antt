@@ -311,7 +311,7 @@ module _ (b : List ℕ) (are : AreBytes b) where
         then_ok truth _ b s c.extra_plane t (Ok (planes_read, t)) ((forced_truth b are s c.extra_plane).reads coded)
         (then_ok (require (c.chroma_planes || not c.extra_plane) fault.ExtraPlane) _ b t true t (Ok (planes_read, t)) (require_ok (c.chroma_planes || not c.extra_plane) fault.ExtraPlane b t e) refl)) h
 
-    -- behind the planes
+    -- after the planes
     planes_end : Spot → Spot
     planes_end s = behind (behind (behind (behind (behind (behind s (number_steps 0 (one_if (is_rct c.colour)))) (number_steps 0 bits)) (truth_steps c.chroma_planes)) (number_steps 0 c.log2_h)) (number_steps 0 c.log2_v)) (truth_steps c.extra_plane)
 

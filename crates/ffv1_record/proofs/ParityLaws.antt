@@ -14,7 +14,7 @@ use Rattle.ffv1_record.specs.Parity.{generator, struck, divided, remainder_of, p
 use Rattle.ffv1_record.proofs.Division.{divided-suc, divided-zero, divided_xor, divided_small, divided_scaled, divided_below, struck_below, struck_scaled, struck_one, struck_none, bit_is}
 use Rattle.ffv1_record.proofs.Numbers.{value_in_parts, value_taken, value_below}
 
--- ---- no remainder but 0 becomes 0 by bits 0 behind it
+-- ---- no remainder but 0 becomes 0 by bits 0 after it
 
 odd_sum : (n : ℕ) → 0 < bit_xor (n * 2) generator
 odd_sum n =
@@ -46,7 +46,7 @@ kept_apart (suc count) n positive small =
 none_left : (count : ℕ) → divided count 0 ≡ 0
 none_left count = let same : count + 0 ≡ count = omega arith in sym (ap (λ k. divided k 0) same) ∙ divided_small count 0 0 (omega arith) ∙ divided-zero 0
 
--- bits 0 behind a remainder leave 0 only of 0
+-- bits 0 after a remainder leave 0 only of 0
 from_zero : (count n : ℕ) → n < 2 ^ 32 → divided count (n * 2 ^ count) ≡ 0 → n ≡ 0
 from_zero count zero small none = refl
 from_zero count (suc n) small none = absurd (omega (arith, kept_apart count (suc n) (omega arith) small, none))

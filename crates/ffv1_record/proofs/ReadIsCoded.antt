@@ -43,7 +43,7 @@ bind_ok first next b s y u h = elim h.either [
   | inr e ↦ absurd (not_both (y, u) e.0 e.2)
 ]
 
--- some steps behind a spot, and the slots of as many more tables
+-- some steps after a spot, and the slots of as many more tables
 pub record After (s : Spot) (steps : List Step) (t : Spot) (grown : ℕ) : Type 0 where
   pub past : t.past ≡ s.past ++ steps
   pub fresh : t.fresh ≡ s.fresh + grown
@@ -278,7 +278,7 @@ table_ok b s runs t h =
     let whole = after_then s one.1 t [] (runs_steps one.0 rest.0) 32 0 next.1 rest.2 in
     subst (λ (rs : List ℕ). After s (runs_steps s.fresh rs) t 32) (sym rest.1) (subst (λ k. After s (runs_steps k rest.0) t 32) next.0 whole)
 
--- a table, and those behind it
+-- a table, and those after it
 table_then : (b : List ℕ) (s t u : Spot) (runs : List ℕ) (more : Set) (g : ℕ) → table b s (Ok (runs, t)) → After t (set_steps t.fresh more) u g → After s (set_steps s.fresh (runs ∷ more)) u (32 + g)
 table_then b s t u runs more g h rest =
     let one = table_ok b s runs t h in

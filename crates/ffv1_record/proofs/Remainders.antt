@@ -74,7 +74,7 @@ by_bytes (b ∷ bs) small =
     ∙ ap (λ x. bit_xor (divided (n + 8) x) (divided (n + 8) (m * 2 ^ 32))) high
     ∙ ap (bit_xor (divided (n + 8) (b * 2 ^ (n + 32)))) (ap (λ k. divided k (m * 2 ^ 32)) turned ∙ divided_small 8 n (m * 2 ^ 32) bound ∙ by_bytes bs small.1)
 
--- ---- a block behind some bytes
+-- ---- a block after some bytes
 
 sixteen : (a b c d e f g h i j k l m n o p : ℕ) → a < 256 → b < 256 → c < 256 → d < 256 → e < 256 → f < 256 → g < 256 → h < 256 → i < 256 → j < 256 → k < 256 → l < 256 → m < 256 → n < 256 → o < 256 → p < 256 →
     bit_xor (byte_remainder 15 a) (bit_xor (byte_remainder 14 b) (bit_xor (byte_remainder 13 c) (bit_xor (byte_remainder 12 d) (bit_xor (byte_remainder 11 e) (bit_xor (byte_remainder 10 f) (bit_xor (byte_remainder 9 g) (bit_xor (byte_remainder 8 h) (bit_xor (byte_remainder 7 i) (bit_xor (byte_remainder 6 j) (bit_xor (byte_remainder 5 k) (bit_xor (byte_remainder 4 l) (bit_xor (byte_remainder 3 m) (bit_xor (byte_remainder 2 n) (bit_xor (byte_remainder 1 o) (byte_remainder 0 p)))))))))))))))
@@ -100,7 +100,7 @@ bytes_of n =
     let fourth : bit_and n 255 ≡ n % 256 = and_mask n 8 in
     omega (arith, second, third, fourth)
 
--- a block of a number of four bytes and one of twelve, behind bytes of a remainder
+-- a block of a number of four bytes and one of twelve, after bytes of a remainder
 pub block : (remainder high low e f g h i j k l m n o p : ℕ) → remainder < 2 ^ 32 → high < 2 ^ 32 → e < 256 → f < 256 → g < 256 → h < 256 → i < 256 → j < 256 → k < 256 → l < 256 → m < 256 → n < 256 → o < 256 → p < 256 →
     low ≡ e * 2 ^ 88 + f * 2 ^ 80 + g * 2 ^ 72 + h * 2 ^ 64 + i * 2 ^ 56 + j * 2 ^ 48 + k * 2 ^ 40 + l * 2 ^ 32 + m * 2 ^ 24 + n * 2 ^ 16 + o * 2 ^ 8 + p →
     bit_xor (bit_xor (bit_xor (bit_xor (bit_xor (bit_xor (bit_xor (bit_xor (bit_xor (bit_xor (bit_xor (bit_xor (bit_xor (bit_xor (bit_xor (byte_remainder 15 (bit_xor remainder high / 16777216)) (byte_remainder 14 (bit_and (bit_xor remainder high / 65536) 255))) (byte_remainder 13 (bit_and (bit_xor remainder high / 256) 255))) (byte_remainder 12 (bit_and (bit_xor remainder high) 255))) (byte_remainder 11 e)) (byte_remainder 10 f)) (byte_remainder 9 g)) (byte_remainder 8 h)) (byte_remainder 7 i)) (byte_remainder 6 j)) (byte_remainder 5 k)) (byte_remainder 4 l)) (byte_remainder 3 m)) (byte_remainder 2 n)) (byte_remainder 1 o)) (byte_remainder 0 p)
@@ -123,7 +123,7 @@ block remainder high low e f g h i j k l m n o p small_r small_h se sf sg sh si 
     ∙ by_table ∙ ap (λ x. divided 128 (x * 2 ^ 32)) (whole ∙ sym sums ∙ ap (λ x. bit_xor x (high * 2 ^ 96 + low)) plain)
     ∙ shifted_xor 128 (remainder * 2 ^ 96) (high * 2 ^ 96 + low) ∙ sym (ap (λ x. bit_xor x (divided 128 ((high * 2 ^ 96 + low) * 2 ^ 32))) (ap (divided 128) wide))
 
--- a byte behind bytes of a remainder
+-- a byte after bytes of a remainder
 pub single : (remainder byte : ℕ) → remainder < 2 ^ 32 → byte < 256 →
     bit_xor (remainder * 256 % 4294967296) (byte_remainder 0 (bit_xor (remainder / 16777216) byte)) ≡ bit_xor (divided 8 (remainder * 256)) (divided 8 (byte * 4294967296))
 single remainder byte small_r small_b =

@@ -1,4 +1,4 @@
--- Steps behind base stand where they stand, and nowhere else.
+-- Steps after base stand where they stand, and nowhere else.
 use Rattle.std.proofs.Common.{ℕ, ◌+◌, ◌≤◌, inl, inr, List, [], ◌∷◌, arith}
 use Rattle.ffv1_range.specs.Symbols.{Step, shifted}
 use Rattle.ffv1_range.specs.History.{AreBelow, AreOutside}
@@ -9,7 +9,7 @@ shifted_within base count n (s ∷ ss) below room =
     let first = below.0 in
     (omega arith, shifted_within base count n ss below.1 room)
 
--- steps behind base leave the slots below it
+-- steps after base leave the slots below it
 pub shifted_beside : (base count : ℕ) (steps : List Step) → count ≤ base → AreOutside (shifted base steps) 0 count
 shifted_beside base count [] above = tt
 shifted_beside base count (s ∷ ss) above = (inr (omega arith), shifted_beside base count ss above)

@@ -25,7 +25,7 @@ narrowed_least (d ∷ ds) i =
     let rest = narrowed_least ds (narrow i d.state d.bit) in
     omega arith
 
--- some bytes, the full ending of decisions, and four more behind
+-- some bytes, the full ending of decisions, and four more after
 module _ (ds : List Decision) (n : ℕ) where
   unfoldable pub whole : List ℕ
   whole = full_of (interval_of ds) ++ digits 4 n

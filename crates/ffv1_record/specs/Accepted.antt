@@ -1,7 +1,7 @@
 -- Which configurations are accepted (RFC 9043, 4.2 and 4.3, and this project's profile), and why
 -- one is refused.
 use Rattle.std.specs.Prelude.{◌≡◌, ◌⊎◌, ℕ, ◌*◌, ◌/◌, ◌%◌, ◌^◌, ◌<◌, nat_le, Bool, ◌&&◌, ◌||◌, not}
-use Rattle.std.specs.Prelude.{◌==◌, IsTrue, List, [], ◌∷◌, length}
+use Rattle.std.specs.Prelude.{◌==◌, IsTrue, true, false, List, [], ◌∷◌, length}
 use Rattle.ffv1_range.specs.Table.{Table, IsTable}
 use Rattle.ffv1_range.specs.Standard.{standard}
 use Rattle.ffv1_range.specs.Deltas.{IsTableOf}
@@ -79,6 +79,18 @@ PassesAll (f ∷ fs) c = Passes f c × PassesAll fs c
 abbrev pub IsFirst : List RecordFault → Configuration → RecordFault → Type 0
 IsFirst [] c found = ⊥
 IsFirst (f ∷ fs) c found = ((Passes f c → ⊥) × (found ≡ f)) ⊎ (Passes f c × IsFirst fs c found)
+
+-- the same of a configuration whose depth, in bits a sample, is judged after its size: whether that
+-- depth is accepted, and all else stands as it does at 8
+abbrev pub IsFirstWhere : Bool → Configuration → RecordFault → Type 0
+IsFirstWhere true c found = IsFirst checks c found
+IsFirstWhere false c found =
+    ((Passes fault.Size c → ⊥) × (found ≡ fault.Size))
+    ⊎ (Passes fault.Size c × (found ≡ fault.Depth))
+
+-- why a configuration is refused at a depth: 8 is accepted alone (RFC 9043, 4.2.7)
+abbrev pub IsFirstAt : ℕ → Configuration → RecordFault → Type 0
+IsFirstAt depth c found = IsFirstWhere (depth == 8) c found
 
 -- a configuration that was checked, its state transition table, and the profile that it was checked
 -- in

@@ -199,7 +199,7 @@ in_order =
     ∷ log2_h_chroma_subsample ∷ log2_v_chroma_subsample ∷ extra_plane ∷ num_h_slices
     ∷ num_v_slices ∷ quant_table_set_count ∷ quant_table_sets ∷ states_coded ∷ ec ∷ intra ∷ []
 
--- of parameters behind some symbols the bytes code good ones, and then this fault
+-- of parameters after some symbols the bytes code good ones, and then this fault
 abbrev pub FirstBad : List Parameter → List ℕ → List Step → ℕ → Configuration → RecordFault → Type 0
 FirstBad [] bytes past bits c f = ⊥
 FirstBad (p ∷ ps) bytes past bits c f =

@@ -14,11 +14,11 @@ pub record Spot : Type 0 where
   pub past : List Step
   pub fresh : ℕ
 
--- the same behind some more steps
+-- the same after some more steps
 abbrev pub behind : Spot → List Step → Spot
 behind s steps = record { past = s.past ++ steps; fresh = s.fresh }
 
--- what is read from bytes at a spot: a value and the spot behind it, or the first fault
+-- what is read from bytes at a spot: a value and the spot after it, or the first fault
 abbrev pub Reader : Type 0 → Type 1
 Reader X = List ℕ → Spot → Result (X × Spot) RecordFault → Type 0
 

@@ -19,14 +19,14 @@ use Rattle.ffv1_record.specs.Record.{body_of}
 use Rattle.ffv1_record.specs.Reader.{Reader, Spot, ◌>>=◌, done, require, next_table, number}
 use Rattle.ffv1_record.specs.Reader.{signed_number, truth, number_within, makes_table}
 
--- so many deltas, behind some
+-- so many deltas, after some
 unfoldable pub deltas_onto : ℕ → List ℤ → Reader (List ℤ)
 deltas_onto zero ds = done ds
 deltas_onto (suc k) ds = do
   d ← signed_number
   deltas_onto k (ds ++ (d ∷ []))
 
--- the deltas of coder_type 2, judged behind the last
+-- the deltas of coder_type 2, judged after the last
 abbrev pub coder_of : ℕ → Reader Coder
 coder_of (suc zero) = done coder.One
 coder_of kind = do
@@ -76,7 +76,7 @@ count_of = do
   n ← number 0
   done (n + 1)
 
--- the runs of a table behind some, with so many entries left to fill; each run fills at least one,
+-- the runs of a table after some, with so many entries left to fill; each run fills at least one,
 -- so that many steps suffice
 unfoldable pub runs_onto : ℕ → ℕ → ℕ → List ℕ → Reader (List ℕ)
 runs_onto base steps zero runs = done runs
@@ -91,7 +91,7 @@ table = do
   base ← next_table
   runs_onto base 128 128 []
 
--- a set, and its contexts behind its last run
+-- a set, and its contexts after its last run
 abbrev pub set : Reader Set
 set = do
   first ← table
@@ -103,7 +103,7 @@ set = do
       ∷ [])) 32768) fault.Contexts
   done (first ∷ second ∷ third ∷ fourth ∷ fifth ∷ [])
 
--- so many sets, behind some
+-- so many sets, after some
 unfoldable pub sets_onto : ℕ → List Set → Reader (List Set)
 sets_onto zero ss = done ss
 sets_onto (suc k) ss = do

@@ -9,7 +9,7 @@ ghost use Rattle.ffv1_record.specs.Sets.{AreSets};
 ghost use Rattle.ffv1_record.specs.Writable.{AreDeltas, IsWritable};
 ghost use Rattle.ffv1_record.specs.Accepted.{is_sized, is_subsampled, is_transparent, are_counted};
 ghost use Rattle.ffv1_record.specs.Accepted.{is_divided, IsTableFor, AreMultiples, IsFirst, Passes};
-ghost use Rattle.ffv1_record.specs.Accepted.{checks, IsAccepted};
+ghost use Rattle.ffv1_record.specs.Accepted.{checks, IsAccepted, IsFirstAt};
 
 use crate::checked::Checked;
 use crate::fault::RecordFault;
@@ -200,14 +200,19 @@ impl<A: Allocator> Config<A> {
             && are_multiples(self.height, self.rows, self.log2_v)
     }
 
-    /// The state transition table of a configuration that is accepted. Refuses as `check` does.
-    fn judged(&self) -> Result<StateTable, RecordFault>
+    /// The state transition table of a configuration that is accepted at a depth. Refuses as
+    /// `check_in` does.
+    fn judged(&self, depth: u32) -> Result<StateTable, RecordFault>
+        ensures depth { IfOk result (λ _. depth ≡ 8) }
         ensures accepted { IfOk result (λ t. IsAccepted (configuration_of self.now) t) }
-        ensures refused { IfErr result (λ f. IsFirst checks (configuration_of self.now) f) }
+        ensures refused { IfErr result (λ f. IsFirstAt depth (configuration_of self.now) f) }
         ensures memory { IfErr result (λ f. f ≢ RecordFault.OutOfMemory) }
     {
         if !self.is_sized() {
             return Err(RecordFault::Size);
+        }
+        if depth != 8 {
+            return Err(RecordFault::Depth);
         }
         if !self.is_subsampled() {
             return Err(RecordFault::Subsampling);
@@ -240,24 +245,25 @@ impl<A: Allocator> Config<A> {
         ensures refused { IfErr result (λ f. IsFirst checks (configuration_of self) f) }
         ensures memory { IfErr result (λ f. f ≢ RecordFault.OutOfMemory) }
     {
-        match self.check_in(Profile::Strict) {
+        match self.check_in(Profile::Strict, 8) {
             Ok(checked) => Ok(checked),
             Err(fault) => Err(fault),
         }
     }
 
-    /// The configuration, checked in a profile, which it keeps. Refuses with the first of these
-    /// that stands: `Size`, `Subsampling`, `ExtraPlane`, `Sets`, `StateTable`, `Grid`,
-    /// `ChromaEdge`; else accepts. Both profiles accept the same configurations. It takes no
-    /// memory.
-    pub fn check_in(self, profile: Profile) -> Result<Checked<A>, RecordFault>
+    /// The configuration, checked in a profile, which it keeps, for samples of so many bits. Refuses
+    /// with the first of these that stands: `Size`, `Depth` where the bits are not 8,
+    /// `Subsampling`, `ExtraPlane`, `Sets`, `StateTable`, `Grid`, `ChromaEdge`; else accepts. Both
+    /// profiles accept the same configurations. It takes no memory.
+    pub fn check_in(self, profile: Profile, depth: u32) -> Result<Checked<A>, RecordFault>
+        ensures depth { IfOk result (λ _. depth ≡ 8) }
         ensures ok { IfOk result (λ c. c.configuration ≡ configuration_of self) }
         ensures profile { IfOk result (λ c. c.profile ≡ profile) }
         ensures accepted { IfOk result (λ c. IsAccepted c.configuration c.table) }
-        ensures refused { IfErr result (λ f. IsFirst checks (configuration_of self) f) }
+        ensures refused { IfErr result (λ f. IsFirstAt depth (configuration_of self) f) }
         ensures memory { IfErr result (λ f. f ≢ RecordFault.OutOfMemory) }
     {
-        match self.judged() {
+        match self.judged(depth) {
             Ok(table) => Ok(Checked::new(self, table, profile)),
             Err(fault) => Err(fault),
         }

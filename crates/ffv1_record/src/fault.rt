@@ -63,7 +63,7 @@ pub enum RecordFault {
     /// The colour space type is not 0 or 1.
     #[error("20 ColourSpace")]
     ColourSpace,
-    /// The bits of a sample are not 0 or 8.
+    /// The bits of a sample are not 8, nor in a record 0, which means the same.
     #[error("21 Depth")]
     Depth,
     /// The initial states of a set are coded.

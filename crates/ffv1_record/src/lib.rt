@@ -1,3 +1,4 @@
+// SPDX-License-Identifier: MIT OR Apache-2.0
 //! The configuration of an FFV1 stream (RFC 9043, 4.2 and 4.3): which are accepted, how one is
 //! written and read as a configuration record, and the parity that guards records and slices
 //! (4.3.2, 4.9.3).

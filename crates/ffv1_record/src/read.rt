@@ -303,7 +303,7 @@ pub fn read_record<A: Allocator + Copy>(
 /// Refuses with `Short` where there are fewer than 5 bytes; else with `Parity` where their
 /// remainder is not 0; else with `BadStart` where the first two are 65280 or more; else with the
 /// first in the order of the bytes of `SymbolTooLong`, `Version` to `ExtraPlane`, `StateTable`,
-/// `Runs`, `Contexts` and `Sets`, each judged where its symbol has been read, the deltas behind
+/// `Runs`, `Contexts` and `Sets`, each judged where its symbol has been read, the deltas after
 /// their last; else with the first that `Config::check_in` finds. `OutOfMemory` where a growth was
 /// refused before another fault was met: no memory is taken before the first set, so a fault that
 /// stands before it is told first. Bytes between the parameters and the parity are ignored, and 0
@@ -337,7 +337,7 @@ pub fn read_record_in<A: Allocator + Copy>(
     let mut reader = RecordReader::new(&bytes[..bytes.len() - 4])?;
     let config = read_parameters(alloc, &mut reader, width, height)?;
     // Both arms are written out, so that the clauses are proved by arm.
-    match config.check_in(profile) {
+    match config.check_in(profile, 8) {
         Ok(checked) => Ok(checked),
         Err(fault) => Err(fault),
     }

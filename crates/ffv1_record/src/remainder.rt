@@ -6,7 +6,7 @@ ghost use Rattle.ffv1_range.specs.Codes.{value};
 
 use crate::tables::REMAINDERS;
 
-/// The remainder of a byte, some bytes 0 behind it, and 32 bits 0.
+/// The remainder of a byte, some bytes 0 after it, and 32 bits 0.
 #[inline(always)]
 fn remainder_at(behind: usize, byte: usize) -> u32
     requires behind { behind < 16 }

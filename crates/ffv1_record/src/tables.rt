@@ -1,5 +1,5 @@
 //! Remainders of single bytes, for slicing by sixteen: sixteen bytes of a record or slice are
-//! taken at once, each by the table of how many bytes stand behind it in the sixteen.
+//! taken at once, each by the table of how many bytes stand after it in the sixteen.
 
 /// Row `behind` has, for each byte, the remainder of that byte, `behind` bytes 0 and 32 bits 0.
 pub(crate) static REMAINDERS: [[u32; 256]; 16] = [

@@ -43,7 +43,7 @@ stops_below (r ∷ rs) before f steps p =
       ]
     ]
 
--- the value before what comes behind some values
+-- the value before what comes after some values
 last_of : ℕ → List ℕ → ℕ
 last_of before [] = before
 last_of before (v ∷ vs) = last_of v vs
@@ -75,7 +75,7 @@ stops_behind (r ∷ rs) qs before [] f steps p q = absurd p
 stops_behind (r ∷ rs) qs before (v ∷ vs) f steps p q =
     inr (inr (v, values_steps vs ++ steps, p.0, p.1, stops_behind rs qs v vs f steps p.2 q, append_assoc (unsigned_steps v) (values_steps vs) steps))
 
--- what is given behind some values
+-- what is given after some values
 abbrev pub behind : List ℕ → Result (List ℕ) SliceFault → Result (List ℕ) SliceFault
 behind vs (Ok ws) = Ok (vs ++ ws)
 behind vs (Err f) = Err f
@@ -205,7 +205,7 @@ pub and_puts : {t : Table} {a b c : Writing} {ss ts us : List ℕ} (vs ws : List
 and_puts {t = t} {a = a} {b = b} {c = c} {ss = ss} {ts = ts} {us = us} vs ws one two =
     subst (Puts t a ss c us) (sym (values_steps-append vs ws)) (puts_append t a b c ss ts us (values_steps vs) (values_steps ws) one two)
 
--- numbers that may be refused memory, before others and behind others
+-- numbers that may be refused memory, before others and after others
 pub refused_first_of : (t : Table) (w : Writing) (states vs ws : List ℕ) → MayBeRefused t w states (values_steps vs) → MayBeRefused t w states (values_steps (vs ++ ws))
 refused_first_of t w states vs ws refused =
     subst (MayBeRefused t w states) (sym (values_steps-append vs ws)) (refused_first t w states (values_steps vs) (values_steps ws) refused)

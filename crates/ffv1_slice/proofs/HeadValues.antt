@@ -34,7 +34,7 @@ pub found_head : (pr : Profile) (c : Configuration) (n : ℕ) (h : SliceHead) (t
     ReadsAt t 1 32 old new (head_steps c n h)
 found_head pr c n h t old new after one = reads_at t 1 32 old new after (values_steps (head_values c n h)) (values_below (head_values c n h)) (one.gives 0).1
 
--- what the rules say of the values behind the place
+-- what the rules say of the values after the place
 pub record Judged (pr : Profile) (extra : Bool) (count : ℕ) (xs : List ℕ) (s num den : ℕ) : Type 0 where
   pub first : get_or xs 0 0 < count
   pub second : get_or xs 1 0 < count
@@ -197,7 +197,7 @@ key_outside : (n : ℕ) → AreOutside (key_steps n) 1 32
 key_outside zero = (inl (omega arith), tt)
 key_outside (suc n) = tt
 
--- what was read behind the key is coded by the bytes
+-- what was read after the key is coded by the bytes
 pub coded_behind_key : (t : Table) (n : ℕ) (old new : Reading) (steps : List Step) → ReadsAt t 1 32 old new steps → StandsBehind old t (key_steps n) →
     Codes old.bytes (decisions_after t [] (key_steps n ++ steps))
 coded_behind_key t n old new steps reads stands =

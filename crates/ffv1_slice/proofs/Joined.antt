@@ -1,4 +1,4 @@
--- Coded bytes with their footers, one slice's behind the other's, are cut where they were joined.
+-- Coded bytes with their footers, one slice's after the other's, are cut where they were joined.
 use Rattle.std.proofs.Common.{◌≡◌, refl, ℕ, zero, suc, ◌+◌, ◌-◌, ◌*◌, ◌/◌, ◌%◌, ◌<◌, ◌≤◌, Bool, true, false, Some, List, [], ◌∷◌, ◌++◌}
 use Rattle.std.proofs.Common.{length, take, drop, get_or, slice_get, slice_index, ap, sym, subst, ◌∙◌, arith, append_assoc, length-append}
 use Rattle.std.proofs.lemmas.List.{get_or-append-add, get_or_append_left, take-append-le}
@@ -70,7 +70,7 @@ whole_length ec (bytes ∷ more) =
 three : (n : ℕ) → n < 16777216 → 65536 * (n / 256 / 256 % 256) + 256 * (n / 256 % 256) + n % 256 ≡ n
 three n small = omega (arith, small)
 
--- a place behind two lists
+-- a place after two lists
 at_place : (before bytes ys : List ℕ) (k : ℕ) → get_or (before ++ (bytes ++ ys)) (length before + length bytes + k) 0 ≡ get_or ys k 0
 at_place before bytes ys k =
     let sum : length before + length bytes + k ≡ length before + (length bytes + k) = omega arith in

@@ -1,4 +1,4 @@
--- What a call that reads leaves of a decoder, and one that writes of an encoder, behind any steps
+-- What a call that reads leaves of a decoder, and one that writes of an encoder, after any steps
 -- of a slice at other slots.
 use Rattle.std.specs.Prelude.{◌≡◌, ◌⊎◌, ◌*◌, ◌<◌, ℕ, IsTrue, true, List, [], ◌++◌, replicate}
 use Rattle.ffv1_range.specs.Interval.{Interval, narrow, interval_of}
@@ -21,7 +21,7 @@ use Rattle.ffv1_slice.specs.Head.{CodesKey, RefusesKey, CodesHead, RefusesHead}
 abbrev pub interval_behind : Table → List Step → Interval
 interval_behind t past = interval_of (decisions_after t [] past)
 
--- the decoder stands behind these steps
+-- the decoder stands after these steps
 abbrev pub StandsBehind : Reading → Table → List Step → Type 0
 StandsBehind r t past = At r (interval_behind t past)
 
@@ -84,7 +84,7 @@ BeginsByKey a n r = AreBytes r.bytes × StandsBehind r a.table [] × CodesKey r.
 abbrev pub BeginsWithoutKey : Accepted → ℕ → Reading → Type 0
 BeginsWithoutKey a n r = StandsBehind r a.table [] → RefusesKey r.bytes a.table n
 
--- the decoder stands behind the key of slice n
+-- the decoder stands after the key of slice n
 abbrev pub StandsAtHead : Accepted → ℕ → Reading → Type 0
 StandsAtHead a n r = StandsBehind r a.table (key_steps n)
 

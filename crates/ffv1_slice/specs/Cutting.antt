@@ -25,13 +25,13 @@ abbrev pub IsSized : List ℕ → ℕ → (ℕ → ℕ) → ℕ → Type 0
 IsSized payload foot spans s =
     spans s + size_before payload foot (spans (suc s)) + foot ≡ spans (suc s)
 
--- so many slices lie one behind the other, and nothing else is there
+-- so many slices lie one after the other, and nothing else is there
 pub record IsCutting (payload : List ℕ) (foot count : ℕ) (spans : ℕ → ℕ) : Type 0 where
   pub first : spans 0 ≡ 0
   pub last : spans count ≡ length payload
   pub each : (s : ℕ) → s < count → IsSized payload foot spans s
 
--- of so many slices those from number s on lie one behind the other, up to the end of the payload
+-- of so many slices those from number s on lie one after the other, up to the end of the payload
 pub record AreBehind (payload : List ℕ) (foot count s : ℕ) (spans : ℕ → ℕ) : Type 0 where
   pub last : spans count ≡ length payload
   pub each : (k : ℕ) → s ≤ k → k < count → IsSized payload foot spans k
@@ -95,7 +95,7 @@ IsRefused c payload f =
     × HasLeftover payload (foot_length c.ec) (c.columns * c.rows))
     ⊎ IsDamaged c payload f.slice f.fault
 
--- coded bytes with their footers, one behind the other
+-- coded bytes with their footers, one after the other
 abbrev pub joined_of : Bool → List (List ℕ) → List ℕ
 joined_of ec [] = []
 joined_of ec (bytes ∷ more) = (bytes ++ footer_of ec bytes) ++ joined_of ec more

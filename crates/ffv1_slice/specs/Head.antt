@@ -134,13 +134,13 @@ Stops (r ∷ rs) before f steps =
     ⊎ ((v : ℕ) × (more : List Step) × (v < 2 ^ 31) × (r.passes before v ≡ true)
     × Stops rs v f more × (steps ≡ unsigned_steps v ++ more))
 
--- behind its key the bytes code a head of slice n
+-- after its key the bytes code a head of slice n
 pub record CodesHead (bytes : List ℕ) (t : Table) (p : Profile) (c : Configuration) (n : ℕ)
     (h : SliceHead) : Type 0 where
   pub head : IsHead p c h
   pub codes : Codes bytes (decisions_after t [] (key_steps n ++ head_steps c n h))
 
--- behind its key the bytes code steps of a head that is refused with them
+-- after its key the bytes code steps of a head that is refused with them
 pub record RefusesHead (bytes : List ℕ) (t : Table) (p : Profile) (c : Configuration) (n : ℕ)
     (f : SliceFault) (steps : List Step) : Type 0 where
   pub stops : Stops (head_rules p c n) 0 f steps

@@ -1,4 +1,4 @@
-//! What stands behind the coded bytes of a slice.
+//! What stands after the coded bytes of a slice.
 
 ghost use Rattle.std.specs.Prelude.{◌≡◌, ◌<◌, ◌≤◌, ◌↔◌, IfOk, IfErr, IsErrOf, length, true, false};
 ghost use Rattle.ffv1_slice.specs.Footer.{footer_of, HasNoFooter};

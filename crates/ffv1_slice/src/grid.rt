@@ -209,7 +209,7 @@ impl Grid {
         reduced(factor_of(self.log2_v, plane), self.height)
     }
 
-    /// Where a column of slices begins in a plane; behind the last, where it ends.
+    /// Where a column of slices begins in a plane; after the last, where it ends.
     pub fn left(&self, plane: u32, column: u32) -> u32
         requires { column ≤ self.now.columns }
         ensures { result ≡ begin_of (across self.now plane) column }
@@ -223,7 +223,7 @@ impl Grid {
         begin_of(column, width, columns, factor_of(log2_h, plane))
     }
 
-    /// Where a row of slices begins in a plane; behind the last, where it ends.
+    /// Where a row of slices begins in a plane; after the last, where it ends.
     pub fn top(&self, plane: u32, row: u32) -> u32
         requires { row ≤ self.now.rows }
         ensures { result ≡ begin_of (down self.now plane) row }

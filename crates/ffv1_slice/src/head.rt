@@ -31,7 +31,7 @@ pub struct SliceHead {
 }
 
 /// Reads the key of a slice: the first begins with a keyframe of 1 in a state of its own, and the
-/// others have none. Answers `NotKey` exactly where that of the first is 0, behind which the
+/// others have none. Answers `NotKey` exactly where that of the first is 0, after which the
 /// decoder then stands. Of any other slice nothing is read.
 pub fn get_key<A: Allocator>(
     decoder: &mut RangeDecoder<'_>,
@@ -125,10 +125,10 @@ fn read_head<A: Allocator>(
 
 /// Reads the head of a slice, whose number in raster order gives its place, by 32 fresh states.
 ///
-/// Of a decoder that stands behind the key of its slice, what is read is the one head that its
+/// Of a decoder that stands after the key of its slice, what is read is the one head that its
 /// bytes code. Where they code none, the answer is the first of `SymbolTooLong`, `Place`,
-/// `SetIndex`, `Structure` and `Aspect` in the order of the symbols, each told behind its own
-/// symbol, and `Aspect` behind both its numbers; the decoder then stands behind that symbol. Where
+/// `SetIndex`, `Structure` and `Aspect` in the order of the symbols, each told after its own
+/// symbol, and `Aspect` after both its numbers; the decoder then stands after that symbol. Where
 /// just one of these is 0, that is `Aspect` at `Strict`, and read as it is at `Wide`. It takes no
 /// memory.
 pub fn get_head<A: Allocator>(

@@ -48,7 +48,7 @@ pub fn cutting()
         IsRefused c payload f → cut_of c payload ≡ Err f }
 {}
 
-/// Coded bytes with their footers, one slice's behind the other's, are cut where they were joined.
+/// Coded bytes with their footers, one slice's after the other's, are cut where they were joined.
 pub fn joined()
     ensures cuts { (c : Configuration) (codes : List (List ℕ)) → AreCodedBytes codes →
         length codes ≡ c.columns * c.rows → Cuts c (joined_of c.ec codes) (offset_in c.ec codes) }
@@ -58,7 +58,7 @@ pub fn joined()
     footing();
 }
 
-/// The parts of a side stand one behind the other, from 0 to its end, and none is empty.
+/// The parts of a side stand one after the other, from 0 to its end, and none is empty.
 pub fn parts()
     ensures first { (s : Side) → IsDivided s → begin_of s 0 ≡ 0 }
     ensures next { (s : Side) (k : ℕ) → IsDivided s → k < s.count →
@@ -109,7 +109,7 @@ pub fn divided()
     accepted();
 }
 
-/// Behind its key bytes code one head at most, or are refused in one way.
+/// After its key bytes code one head at most, or are refused in one way.
 pub fn one_head()
     ensures head { (bytes : List ℕ) (t : Table) (p : Profile) (c : Configuration) (n : ℕ)
         (g h : SliceHead) → AreBytes bytes → IsTable t.floor t.one → n < 2 ^ 31 →

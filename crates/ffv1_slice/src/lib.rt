@@ -1,8 +1,9 @@
+// SPDX-License-Identifier: MIT OR Apache-2.0
 //! Slices of a frame (RFC 9043, 4.4 to 4.9): the grid of their cells, what stands before their
-//! samples, what stands behind their coded bytes, and how a payload is cut into them.
+//! samples, what stands after their coded bytes, and how a payload is cut into them.
 //!
 //! [`Grid::of`] a checked configuration tells each plane's size, and the [`Cell`] of each slice in
-//! it. An encoder of a slice begins with [`put_key`] and [`put_head`], and puts [`footer`] behind
+//! it. An encoder of a slice begins with [`put_key`] and [`put_head`], and puts [`footer`] after
 //! its coded bytes. A decoder makes a [`Spans`] once; [`cut`] fills it for each payload, and of
 //! each span's bytes [`get_key`] and [`get_head`] come first.
 //!

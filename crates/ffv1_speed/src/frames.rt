@@ -46,7 +46,7 @@ fn configuration(alloc: Global, format: &str, sizes: [u32; 4]) -> Result<Checked
     Ok(config.check()?)
 }
 
-/// The planes of a raw picture, one behind the other.
+/// The planes of a raw picture, one after the other.
 fn planes(alloc: Global, checked: &Checked, samples: &[u8]) -> Result<Vec<Vec<u8>>> {
     let grid = Grid::of(checked);
     let mut planes = Vec::new(alloc);

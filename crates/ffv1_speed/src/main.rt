@@ -1,3 +1,4 @@
+// SPDX-License-Identifier: MIT OR Apache-2.0
 //! Times the rows of one plane: codes and decodes a raw plane of 8 bits, and prints the least time
 //! of each.
 //!
@@ -5,7 +6,7 @@
 //! timed. With `park` the decoder is parked and woken between any two rows.
 //!
 //! `ffv1_speed frame PATH FORMAT WIDTH HEIGHT COLUMNS ROWS TIMES`: a raw picture, its planes one
-//! behind the other, of the format `mono`, `420`, `444` or `rgb`, encoded as a frame with parity,
+//! after the other, of the format `mono`, `420`, `444` or `rgb`, encoded as a frame with parity,
 //! and decoded.
 #![tactic(auto)]
 

@@ -1,3 +1,4 @@
+// SPDX-License-Identifier: MIT OR Apache-2.0
 //! The CRC-32 of EBML (RFC 8794, 11.3.1), which is the one of ISO 3309 and ITU-T V.42.
 //!
 //! [`crc32`] is the sum of bytes. [`more`] goes on with a sum where bytes come bit by bit: it begins

@@ -11,6 +11,7 @@ mod frames;
 mod lanes;
 mod line;
 mod made;
+mod matroska;
 mod orders;
 mod packs;
 mod pictures;

@@ -1,5 +1,7 @@
-//! Asks the crates what `model/ffv1.py` answered, and reads two files made by FFmpeg: each line of
-//! the text files in `data/` is one case. It prints how many cases of each agree.
+// SPDX-License-Identifier: MIT OR Apache-2.0
+//! Asks the crates what `model/ffv1.py` and `model/matroska.py` answered, and reads two files made
+//! by FFmpeg: each line of the text files in `data/` is one case. It prints how many cases of each
+//! agree.
 #![tactic(auto)]
 
 mod decoding;
@@ -7,7 +9,9 @@ mod fields;
 mod files;
 mod frames;
 mod heads;
+mod matroska;
 mod payloads;
+mod written;
 
 use std::rt::Files;
 
@@ -24,6 +28,8 @@ fn run<R: AllocGlobal + Files + Print>(rt: &R) -> anyhow::Result<()> {
     print(rt, "frames", frames::count(rt)?)?;
     print(rt, "decoded", decoding::count(rt)?)?;
     print(rt, "files", files::count(rt)?)?;
+    print(rt, "matroska", matroska::count(rt)?)?;
+    print(rt, "matroska written", written::count(rt)?)?;
     Ok(())
 }
 

@@ -1,4 +1,4 @@
--- Runs of a sink, one behind the other.
+-- Runs of a sink, one after the other.
 use Rattle.std.proofs.Common.{◌≡◌, ℕ, List, [], ◌∷◌, ◌++◌, refl, ap, ◌∙◌, sym, subst, append_assoc, inl, inr, arith}
 use Rattle.std.proofs.lemmas.Grind.{common_steps, flat_map-append}
 use Rattle.std.specs.Prelude.{◌⊎◌, Option, fold, flat_map}
@@ -40,7 +40,7 @@ none_else (x ∷ xs) y ys h = cc
 pub refuses_none : {S : Type 0} (takes refuses : LineStep S) (s t : S) → Refuses takes refuses s [] t → ⊥
 refuses_none takes refuses s t r = none_else r.before r.line r.after r.parts
 
--- the refusal of a line behind those that were taken
+-- the refusal of a line after those that were taken
 pub refuses_at : {S : Type 0} (takes refuses : LineStep S) (s m t : S) (xs : List Line) (l : Line) (ys : List Line) → Grows takes s xs m → refuses m l.plane l.row l.samples t → Refuses takes refuses s (xs ++ l ∷ ys) t
 refuses_at takes refuses s m t xs l ys h k = record { before = xs; line = l; after = ys; between = m; parts = refl; grows = h; last = k }
 
@@ -77,7 +77,7 @@ parted (x ∷ xs) ys (b ∷ bs) l after h =
     let rest : xs ++ ys ≡ bs ++ l ∷ after = cc in
     elim (parted xs ys bs l after rest) [ inl w ↦ inl (w.0, cc) | inr w ↦ inr (w.0, cc, w.2) ]
 
--- a refusal among joined lines is one among the first, or comes behind a run of them
+-- a refusal among joined lines is one among the first, or comes after a run of them
 pub refuses_part : {S : Type 0} (takes refuses : LineStep S) (s t : S) (xs ys : List Line) → Refuses takes refuses s (xs ++ ys) t
     → Refuses takes refuses s xs t ⊎ ((m : S) × Grows takes s xs m × Refuses takes refuses m ys t)
 refuses_part takes refuses s t xs ys r =

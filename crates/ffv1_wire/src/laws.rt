@@ -27,7 +27,7 @@ pub fn reads()
         Passes a c (i + j) }
 {}
 
-/// Bytes that are written in a row are written as one; behind them a failed write leaves a
+/// Bytes that are written in a row are written as one; after them a failed write leaves a
 /// beginning of both, and a beginning of some bytes is one of those and more.
 pub fn writes()
     ensures join { (a b c : Option (List ℕ)) (xs ys : List ℕ) → Appends a b xs → Appends b c ys →
@@ -81,7 +81,7 @@ pub fn runs<S: LineSink>()
         × Grows S.takes s xs m × Grows S.takes m ys t }
 {}
 
-/// A refusal wants a line; behind a run, and before further lines, it is one of all the lines; and
+/// A refusal wants a line; after a run, and before further lines, it is one of all the lines; and
 /// it parts as they do.
 pub fn refusals<S: LineSink>()
     ensures none { (s t : S) → Refuses S.takes S.refuses s [] t → ⊥ }
@@ -109,7 +109,7 @@ pub fn moves<S: LineSink, V>()
         shown t ≡ fold next (shown s) r.before }
 {}
 
-/// A sink that keeps a list of its lines has those that it took behind the others.
+/// A sink that keeps a list of its lines has those that it took after the others.
 pub fn keeps<S: LineSink>()
     ensures all { (kept : S → List Line) → MovesBy S.takes kept (λ ls l. ls ++ l ∷ []) →
         (s t : S) (lines : List Line) → Grows S.takes s lines t → kept t ≡ kept s ++ lines }

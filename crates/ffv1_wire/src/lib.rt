@@ -1,3 +1,4 @@
+// SPDX-License-Identifier: MIT OR Apache-2.0
 //! Byte readers, byte writers and line sinks, as traits whose contracts name the bytes and count
 //! the failures.
 //!

@@ -24,7 +24,7 @@ const NAME: &str = "ffv1";
 /// The version of the program.
 pub const VERSION: &str = "0.1.0";
 
-const AVI_FILE: &str = "The AVI file, or - for standard input";
+const CODED_FILE: &str = "The AVI or Matroska file, or - for standard input";
 
 const STATUSES: &str = "Exit status: 0 all done, 1 a fault, told by its number, 2 a line refused";
 
@@ -187,7 +187,7 @@ fn unpack_command<'a>(alloc: Global) -> Result<Command<'a>, AllocError>
 {
     let about = "Decode a file into YUV4MPEG2, or into PPM where it holds RGB";
     let output = "The video, or - for standard output: written anew as soon as it has a byte";
-    let command = two_files_command(alloc, "unpack", about, AVI_FILE, output)?;
+    let command = two_files_command(alloc, "unpack", about, CODED_FILE, output)?;
     add_making(alloc, command)
 }
 
@@ -197,7 +197,7 @@ fn check_command<'a>(alloc: Global) -> Result<Command<'a>, AllocError>
 {
     let about = "Decode all frames of a file, and tell of each what it takes";
     let place = "Tell where a frame is refused: slice, plane, line and column";
-    one_file_command(alloc, "check", about, AVI_FILE)?
+    one_file_command(alloc, "check", about, CODED_FILE)?
         .arg(flag_arg(alloc, "place", place))?
         .arg(progress_arg(alloc))
 }
@@ -208,7 +208,7 @@ fn show_command<'a>(alloc: Global) -> Result<Command<'a>, AllocError>
 {
     let about = "Tell what a file says of its pictures, and how much a decoder of it holds";
     let cost = "Decode all frames then, and tell what each costs";
-    one_file_command(alloc, "show", about, AVI_FILE)?.arg(flag_arg(alloc, "cost", cost))
+    one_file_command(alloc, "show", about, CODED_FILE)?.arg(flag_arg(alloc, "cost", cost))
 }
 
 fn trial_command<'a>(alloc: Global) -> Result<Command<'a>, AllocError>

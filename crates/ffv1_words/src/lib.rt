@@ -1,3 +1,4 @@
+// SPDX-License-Identifier: MIT OR Apache-2.0
 //! The words of a command line, read as an order: what the program `ffv1` is asked for.
 //!
 //! `words` reads a line as an `Order`, by `clap`'s meaning of it. An `Order` has the paths and

@@ -48,9 +48,9 @@ pub enum Order<'a> {
         /// Whether it is told how much of the video is read.
         progress: bool,
     },
-    /// The video of an AVI file is decoded.
+    /// The video of a file, AVI or Matroska, is decoded.
     Unpack {
-        /// The path of the AVI file.
+        /// The path of the file.
         input: &'a str,
         /// The path of the video.
         output: &'a str,
@@ -59,18 +59,18 @@ pub enum Order<'a> {
         /// Whether it is told how much of the file is read.
         progress: bool,
     },
-    /// The video of an AVI file is decoded, and what its frames hold is told.
+    /// The video of a file is decoded, and what its frames hold is told.
     Check {
-        /// The path of the AVI file.
+        /// The path of the file.
         input: &'a str,
         /// Whether the place of a fault is told too.
         place: bool,
         /// Whether it is told how much of the file is read.
         progress: bool,
     },
-    /// The configuration of an AVI file is told.
+    /// The configuration of a file is told.
     Show {
-        /// The path of the AVI file.
+        /// The path of the file.
         input: &'a str,
         /// Whether the cost of its frames is told too.
         cost: bool,

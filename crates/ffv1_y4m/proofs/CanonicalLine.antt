@@ -138,7 +138,7 @@ joined a b c d e f = a ++ 32 ∷ (b ++ 32 ∷ (c ++ 32 ∷ (d ++ 32 ∷ (e ++ 32
 abbrev pub head_line : VideoHead → List ℕ
 head_line h = codes "YUV4MPEG2 " ++ joined (width_word h) (height_word h) (rate_word h) (structure_word h) (aspect_word h) (chroma_word h)
 
--- three texts, the last two behind two bytes
+-- three texts, the last two after two bytes
 two_behind : (x y : ℕ) (a b r s : List ℕ) → b ++ r ≡ s → (a ++ x ∷ y ∷ b) ++ r ≡ a ++ x ∷ y ∷ s
 two_behind x y a b r s e = append_assoc a (x ∷ y ∷ b) r ∙ ap (λ z. a ++ x ∷ y ∷ z) e
 

@@ -29,7 +29,7 @@ some_long (x ∷ xs) ys c = omega arith
 line_at : (line : List ℕ) (n : ℕ) → n < length line → line ≡ take n line ++ get_or line n 0 ∷ drop (n + 1) line
 line_at line n h = sym (take-append-drop n line) ∙ ap (λ z. take n line ++ z) (rw add-one (drop-cons line n 0 h))
 
--- the byte behind the first n of the line
+-- the byte after the first n of the line
 after_front : (line : List ℕ) (n c : ℕ) (behind : List ℕ) → n < length line →
     begun_with line (take n line ++ c ∷ behind) ≡ cond (c == get_or line n 0) (bytes_read (drop (n + 1) line) behind) (Err (fault.FrameLine, behind))
 after_front line n c behind h =

@@ -14,7 +14,7 @@ use Rattle.ffv1_y4m.proofs.Written.{appends_then, appends_none}
 abbrev sink_text : {W : Type 0} → PpmSink W → List Line → List ℕ
 sink_text s lines = text_of_lines s.width s.height s.kept s.row lines
 
--- behind a line that it takes
+-- after a line that it takes
 taken_text : {W : Type 0} (contents : W → Option (List ℕ)) (failed : W → ℕ) (s m : PpmSink W) (l : Line) (ls : List Line) → Takes contents failed s l.plane l.row l.samples m →
     sink_text m ls ≡ text_of_lines s.width s.height (kept_behind s.kept l.samples) (row_with s.height s.row s.kept) ls
 taken_text contents failed s m l ls t = ap (λ z. sink_text z ls) t.sink
@@ -29,7 +29,7 @@ lines_taken {W = W} contents failed s t (l ∷ ls) (m, step, more) =
     let P : List ℕ → Type 0 = λ z. Appends (contents m.out) (contents t.out) z in
     appends_then (contents s.out) (contents m.out) (contents t.out) _ _ step.written (subst P (taken_text contents failed s m l ls step) rest)
 
--- the text of lines behind others
+-- the text of lines after others
 text_parts : {W : Type 0} (contents : W → Option (List ℕ)) (failed : W → ℕ) (s m : PpmSink W) (xs ys : List Line) → Grows (Takes contents failed) s xs m →
     sink_text s (xs ++ ys) ≡ sink_text s xs ++ sink_text m ys
 text_parts contents failed s m [] ys h = ap (λ z. sink_text z ys) (sym h)

@@ -1,4 +1,4 @@
--- Planes that are read one behind the other.
+-- Planes that are read one after the other.
 use Rattle.std.proofs.Common.{◌≡◌, ℕ, ◌+◌, ◌<◌, ◌≤◌, nat_lt, Bool, true, false, cond, Option, List, [], ◌∷◌, ◌++◌, length, take, drop, get_or, map, flat_map, Ok, Err, inl, inr, refl, ap, ◌∙◌, sym, subst, append_assoc, append-nil, arith, add-one, drop-cons, length-append, length-take, take-append-drop}
 use Rattle.std.proofs.Math.ListN.{set}
 use Rattle.std.proofs.Math.Seq.{take-suc}
@@ -16,7 +16,7 @@ use Rattle.ffv1_y4m.specs.Sequence.{Outcome, Reading, ◌>>=◌, ◌then◌, giv
 use Rattle.ffv1_y4m.proofs.Sequences.{consumes_none, consumes_then, moved, shortens_then, stands_first}
 use Rattle.ffv1_y4m.proofs.Texts.{plane_found, plane_only, planes_found}
 
--- the planes that were read, and those behind them
+-- the planes that were read, and those after them
 abbrev pub onto : List (List ℕ) → Outcome (List (List ℕ)) → Outcome (List (List ℕ))
 onto done (Ok p) = Ok (done ++ p.0, p.1)
 onto done (Err f) = Err f
@@ -33,7 +33,7 @@ onto_left : (done : List (List ℕ)) (r : Outcome (List (List ℕ))) → left (o
 onto_left done (Ok p) = refl
 onto_left done (Err f) = refl
 
--- planes, and what is read behind them
+-- planes, and what is read after them
 planes_front : (done : List (List ℕ)) (sizes behind : List ℕ) → planes_read (map (λ p. length p) done ++ sizes) (flat_map (λ p. p) done ++ behind) ≡ onto done (planes_read sizes behind)
 planes_front [] sizes behind = onto_none (planes_read sizes behind)
 planes_front (p ∷ done) sizes behind =
@@ -100,7 +100,7 @@ partway_step sizes old mid new n m k planes plane inside many h read =
     let Q : List ℕ → Type 0 = λ z. Consumes old new z in
     (rw (more, size) lengths, rw more (subst Q (sym flat) (consumes_then old mid new (flat_map (λ p. p) (take n planes)) plane h.1 taken)))
 
--- what is read behind other bytes, in a turn that leaves faults as they are
+-- what is read after other bytes, in a turn that leaves faults as they are
 says_behind : {X Y : Type 0} (r : Reading X) (q : Reading Y) (turn : Outcome X → Outcome Y) (g more : List ℕ → Type 0) (old mid new : Option (List ℕ)) (n m k : ℕ) (front bytes : List ℕ) (f : Fault) →
     m ≡ n → ((o : Outcome X) → left (turn o) ≡ left o) → ((e : Fault × List ℕ) → turn (Err e) ≡ Err e) → ((text : List ℕ) → q (front ++ text) ≡ turn (r text)) → (g bytes → more (front ++ bytes)) →
     Says r g bytes (moved mid new m k) (Err f) → Says q more (front ++ bytes) (moved old new n k) (Err f)

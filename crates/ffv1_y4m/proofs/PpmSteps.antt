@@ -25,7 +25,7 @@ left_head : (o : Option VideoHead) (text : List ℕ) → length (left (some_head
 left_head None text = omega arith
 left_head (Some h) text = omega arith
 
--- the readings behind the lines of a header
+-- the readings after the lines of a header
 abbrev pub behind_two : List ℕ → List ℕ → List ℕ → Reading VideoHead
 behind_two magic sizes most = some_head (image_head magic sizes most)
 

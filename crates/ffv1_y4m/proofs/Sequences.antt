@@ -1,4 +1,4 @@
--- Readings one behind the other, and what a call took of its input.
+-- Readings one after the other, and what a call took of its input.
 use Rattle.std.proofs.Common.{◌≡◌, ℕ, ◌≤◌, Bool, false, Option, Some, None, List, [], ◌∷◌, ◌++◌, length, Result, Ok, Err, inl, inr, refl, ap, ◌∙◌, sym, append_assoc, append-nil, arith}
 use Rattle.std.specs.Io.KnownBytes.{Consumes, Keeps}
 use Rattle.ffv1_wire.specs.Failures.{one_more}
@@ -28,7 +28,7 @@ consumes_kept (Some s) (Some t) (Some u) xs h k = h ∙ ap (λ z. xs ++ z) (sym 
 abbrev pub moved : Option (List ℕ) → Option (List ℕ) → ℕ → ℕ → Passage
 moved old new before after = record { old = old; new = new; before = before; after = after }
 
--- a value that is read of these bytes, whatever stands behind them
+-- a value that is read of these bytes, whatever stands after them
 abbrev pub Local : {X : Type 0} → Reading X → List ℕ → X → Type 0
 Local r bytes x = (behind : List ℕ) → r (bytes ++ behind) ≡ Ok (x, behind)
 
@@ -83,7 +83,7 @@ says_first r next g more p bytes fault.FrameLine short to s = (s.0, faults_first
 says_first r next g more p bytes fault.FrameTruncated short to s = (s.0, faults_first r next bytes p.new fault.FrameTruncated s.1)
 says_first r next g more p bytes fault.FormatChanged short to s = (s.0, faults_first r next bytes p.new fault.FormatChanged s.1)
 
--- a value that stays what it is behind the end of the bytes that gave it
+-- a value that stays what it is after the end of the bytes that gave it
 local_by : {X : Type 0} (r : Reading X) (bytes : List ℕ) (new : Option (List ℕ)) (x : X) → (r bytes ≡ Ok (x, []) → Local r bytes x) → Decides r bytes new (Ok x) → Local r bytes x
 local_by r bytes new x stays (inl k) = k
 local_by r bytes new x stays (inr k) = stays k.1

@@ -1,4 +1,4 @@
--- Texts written one behind the other.
+-- Texts written one after the other.
 use Rattle.std.proofs.Common.{◌≡◌, ℕ, ◌+◌, ◌<◌, ◌≤◌, Option, Some, None, List, [], ◌∷◌, ◌++◌, length, take, drop, get_or, flat_map, Result, Ok, Err, ap, ◌∙◌, sym, subst, append_assoc, arith, add-one, append-nil, take-append-drop, drop-cons}
 use Rattle.std.proofs.lemmas.Grind.{common_steps, flat_map-append}
 use Rattle.std.proofs.Math.Seq.{take-append-add, take-suc}
@@ -45,7 +45,7 @@ parts_more : {A : Type 0} (text : A → List ℕ) (parts : List A) (i : ℕ) (d 
 parts_more text parts i d h =
     rw (add-one i, take-suc parts i d h) (flat_map-append text (take i parts) (get_or parts i d ∷ []) ∙ ap (λ z. flat_map text (take i parts) ++ z) (append-nil (text (get_or parts i d))))
 
--- the part at i, and those before and behind it
+-- the part at i, and those before and after it
 parts_at : {A : Type 0} (text : A → List ℕ) (parts : List A) (i : ℕ) (d : A) → i < length parts → flat_map text parts ≡ flat_map text (take i parts) ++ (text (get_or parts i d) ++ flat_map text (drop (i + 1) parts))
 parts_at text parts i d h =
     let rest : drop i parts ≡ get_or parts i d ∷ drop (i + 1) parts = rw add-one (drop-cons parts i d h) in

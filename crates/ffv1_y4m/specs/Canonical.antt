@@ -26,15 +26,15 @@ name_of_chroma planes log2_h log2_v extra =
 abbrev pub chroma_name : VideoHead → List ℕ
 chroma_name h = name_of_chroma h.chroma_planes h.log2_h h.log2_v h.extra_plane
 
--- a number behind a tag's letter
+-- a number after a tag's letter
 unfoldable pub number_text : List ℕ → ℕ → List ℕ
 number_text tag n = tag ++ decimal n
 
--- two numbers and a colon between them, behind a tag's letter
+-- two numbers and a colon between them, after a tag's letter
 unfoldable pub ratio_text : List ℕ → ℕ → ℕ → List ℕ
 ratio_text tag n d = tag ++ (decimal n ++ (codes ":" ++ decimal d))
 
--- a name behind a tag's letter
+-- a name after a tag's letter
 unfoldable pub name_text : List ℕ → List ℕ → List ℕ
 name_text tag name = tag ++ name
 

@@ -15,7 +15,7 @@ use Rattle.ffv1_y4m.specs.declared.tags.Tags.{Tags}
 use Rattle.ffv1_y4m.specs.declared.fault.Fault.{Fault}
 use Rattle.ffv1_y4m.specs.declared.fault.Fault.TheVariants as fault
 
--- what stands before and behind the first such byte, where there is one
+-- what stands before and after the first such byte, where there is one
 abbrev pub IsSplitOnce : ℕ → List ℕ → Option (Bor (List ℕ) × Bor (List ℕ)) → Type 0
 IsSplitOnce byte text None = position (λ c. c == byte) text ≡ None
 IsSplitOnce byte text (Some p) =
@@ -57,7 +57,7 @@ both_of None second = None
 both_of (Some n) None = None
 both_of (Some n) (Some d) = pair_of n d
 
--- the texts before and behind a colon
+-- the texts before and after a colon
 abbrev pub parted_of : ℕ → List ℕ → Option ℕ → Option (ℕ × ℕ)
 parted_of most value None = None
 parted_of most value (Some colon) =
@@ -211,7 +211,7 @@ head_of_line line =
 abbrev pub line_end : ℕ → List ℕ → Option ℕ
 line_end most text = position (λ c. c == 10) (take most text)
 
--- a line, and what stands behind its line feed; where it does not end in time, those bytes are left
+-- a line, and what stands after its line feed; where it does not end in time, those bytes are left
 -- out
 abbrev pub line_to : ℕ → List ℕ → Option ℕ → Result (List ℕ × List ℕ) (Fault × List ℕ)
 line_to most text None = Err (fault.Header, drop most text)

@@ -1,4 +1,4 @@
--- What a header line says: tags behind `YUV4MPEG2`, each a letter and a value behind one space, in
+-- What a header line says: tags after `YUV4MPEG2`, each a letter and a value after one space, in
 -- any order.
 use Rattle.std.specs.Prelude.{◌≡◌, ℕ, ◌==◌, ◌||◌, Bool, true, false, if◌then◌else◌, List, [], ◌∷◌}
 use Rattle.std.specs.Prelude.{◌++◌, codes, flat_map, Some, Ok}
@@ -22,7 +22,7 @@ AreTags ([] ∷ tags) = ⊥
 AreTags ((letter ∷ value) ∷ tags) =
     (is_letter letter ≡ true) × Without 32 (letter ∷ value) × AreTags tags
 
--- the tags behind one space each
+-- the tags after one space each
 abbrev pub spaced : List (List ℕ) → List ℕ
 spaced tags = flat_map (λ tag. 32 ∷ tag) tags
 

@@ -1,4 +1,4 @@
--- The text of a stream of PPM: images of one size, one behind the other.
+-- The text of a stream of PPM: images of one size, one after the other.
 use Rattle.std.specs.Prelude.{◌≡◌, ℕ, zero, suc, take, drop, ◌*◌, true, false, List, [], ◌∷◌, ◌++◌}
 use Rattle.std.specs.Prelude.{length, flat_map, Some, None, Ok}
 use Rattle.std.specs.List.{range_with_len}

@@ -1,4 +1,4 @@
--- The pictures behind a header: each a line FRAME and the samples of its planes.
+-- The pictures after a header: each a line FRAME and the samples of its planes.
 use Rattle.std.specs.Prelude.{◌≡◌, ℕ, ◌<◌, ◌==◌, ◌++◌, Bool, true, false, if◌then◌else◌, nat_lt}
 use Rattle.std.specs.Prelude.{List, [], ◌∷◌, length, take, drop, map, codes, flat_map, Option, Ok}
 use Rattle.std.specs.Prelude.{Err}
@@ -17,7 +17,7 @@ plane_read size text =
     if nat_lt (length text) size then Err (fault.FrameTruncated, []) else Ok
     (take size text, drop size text)
 
--- the planes of these sizes, one behind the other
+-- the planes of these sizes, one after the other
 abbrev pub planes_read : List ℕ → Reading (List (List ℕ))
 planes_read [] = give []
 planes_read (size ∷ sizes) =
@@ -29,7 +29,7 @@ bytes_read [] text = Ok (true, text)
 bytes_read (b ∷ bytes) [] = Err (fault.FrameTruncated, [])
 bytes_read (b ∷ bytes) (c ∷ cs) = if c == b then bytes_read bytes cs else Err (fault.FrameLine, cs)
 
--- whether a text has ended, or begins with these bytes, behind which it then stands
+-- whether a text has ended, or begins with these bytes, after which it then stands
 abbrev pub begun_with : List ℕ → Reading Bool
 begun_with line [] = Ok (false, [])
 begun_with line (c ∷ cs) = bytes_read line (c ∷ cs)
@@ -46,7 +46,7 @@ picture_read head = frame_begun then where_begun (planes_read (plane_sizes head)
 abbrev pub picture_text : List (List ℕ) → List ℕ
 picture_text planes = frame_line ++ flat_map (λ plane. plane) planes
 
--- where memory may be refused: behind the line that begins a picture and some of its planes, not
+-- where memory may be refused: after the line that begins a picture and some of its planes, not
 -- all of them
 abbrev pub GrowsBeforePlane : List ℕ → List ℕ → Type 0
 GrowsBeforePlane sizes bytes =

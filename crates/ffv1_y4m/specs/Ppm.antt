@@ -45,7 +45,7 @@ image_header =
     line_read 3 then λ magic. line_read 10 then λ sizes. line_read 4 then λ most. some_head
     (image_head magic sizes most)
 
--- each third element, behind the first so many
+-- each third element, after the first so many
 abbrev pub each_third : ℕ → List ℕ → List ℕ
 each_third n [] = []
 each_third zero (x ∷ xs) = x ∷ each_third 2 xs

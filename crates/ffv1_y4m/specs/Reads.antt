@@ -19,7 +19,7 @@ ReadsAs reading (Some text) (Some rest) r = reading text ≡ judge r rest
 abbrev pub Took : (List ℕ → Type 0) → Passage → Type 0
 Took are p = (bytes : List ℕ) × Consumes p.old p.new bytes × are bytes
 
--- behind these bytes the reading takes one more, whichever comes: they have met no fault, and are
+-- after these bytes the reading takes one more, whichever comes: they have met no fault, and are
 -- not all
 abbrev pub Wants : {X : Type 0} → Reading X → List ℕ → Type 0
 Wants reading bytes =
@@ -48,7 +48,7 @@ Nowhere bytes = ⊥
 abbrev pub IsNone : List ℕ → Type 0
 IsNone bytes = bytes ≡ []
 
--- the bytes that were taken read so whatever stands behind them, or the input has ended there and
+-- the bytes that were taken read so whatever stands after them, or the input has ended there and
 -- they read so
 abbrev pub Decides : {X : Type 0} → Reading X → List ℕ → Option (List ℕ) → Result X Fault → Type 0
 Decides reading bytes new r =

@@ -1,4 +1,4 @@
--- Readings of a text, one behind the other.
+-- Readings of a text, one after the other.
 use Rattle.std.specs.Prelude.{ℕ, Bool, true, false, List, Option, Some, None, Result, Ok, Err}
 use Rattle.ffv1_y4m.specs.declared.fault.Fault.{Fault}
 
@@ -27,7 +27,7 @@ give x text = Ok (x, text)
 abbrev pub refuse : {X : Type 0} → Fault → Reading X
 refuse f text = Err (f, text)
 
--- what is left of the text, behind a value as behind a fault
+-- what is left of the text, after a value as after a fault
 abbrev pub left : {X : Type 0} → Outcome X → List ℕ
 left (Ok p) = p.1
 left (Err f) = f.1

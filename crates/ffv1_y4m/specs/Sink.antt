@@ -6,7 +6,7 @@ use Rattle.ffv1_wire.specs.Failures.{one_more}
 use Rattle.ffv1_wire.specs.Writes.{AppendsBeginning}
 use Rattle.ffv1_y4m.specs.Ppm.{image_header_text, interleaved}
 
--- a sink: its writer, the sizes of its images, the lines of its row that wait for those behind
+-- a sink: its writer, the sizes of its images, the lines of its row that wait for those after
 -- them, the row, whether a write has failed, and how many lines were refused
 pub record PpmSink (W : Type 0) : Type 0 where
   pub out : W
@@ -23,12 +23,12 @@ kept_of plane red green =
     if plane == 0 then [] else if plane == 1 then red ∷ [] else red ∷ green ∷ []
 
 -- the line is the one that comes next: red, green, blue of each row, the rows from the top, one
--- image behind the other
+-- image after the other
 abbrev pub IsNext : {W : Type 0} → PpmSink W → ℕ → ℕ → List ℕ → Type 0
 IsNext s plane row samples =
     (s.failed ≡ false) × (plane ≡ length s.kept) × (row ≡ s.row) × (length samples ≡ s.width)
 
--- the row behind a row of an image
+-- the row after a row of an image
 abbrev pub row_behind : ℕ → ℕ → ℕ
 row_behind height row = if nat_lt (row + 1) height then row + 1 else 0
 
@@ -47,7 +47,7 @@ text_with width height row (red ∷ green ∷ more) samples =
 abbrev pub line_text : {W : Type 0} → PpmSink W → List ℕ → List ℕ
 line_text s samples = text_with s.width s.height s.row s.kept samples
 
--- the lines that are kept behind a line, and the row that comes next
+-- the lines that are kept after a line, and the row that comes next
 abbrev pub kept_behind : List (List ℕ) → List ℕ → List (List ℕ)
 kept_behind [] samples = samples ∷ []
 kept_behind (red ∷ []) samples = red ∷ samples ∷ []
@@ -71,7 +71,7 @@ pub record Takes {W : Type 0} (contents : W → Option (List ℕ)) (failed : W �
   }
 
 -- the sink by a line that it refuses: it is not the next, and nothing is changed but the count; or
--- the write of the row failed, a beginning of it written, and all lines behind it are refused
+-- the write of the row failed, a beginning of it written, and all lines after it are refused
 abbrev pub Refuses : {W : Type 0} → (W → Option (List ℕ)) → (W → ℕ) → PpmSink W → ℕ → ℕ → List ℕ →
     PpmSink W → Type 0
 Refuses contents failed s plane row samples t =

@@ -47,7 +47,7 @@ Lent None old new (Ok false) = new ≡ old
 Lent None old new (Ok true) = Unit {0}
 Lent None old new (Err f) = Unit {0}
 
--- the fault that a reader has met behind a call
+-- the fault that a reader has met after a call
 abbrev pub failing : {Y : Type 0} → Option Fault → Result Y Fault → Option Fault
 failing (Some f) r = Some f
 failing None (Ok y) = None

@@ -1,4 +1,4 @@
--- The text of a stream of YUV4MPEG2: a header line, and pictures behind it.
+-- The text of a stream of YUV4MPEG2: a header line, and pictures after it.
 use Rattle.std.specs.Prelude.{◌≡◌, ℕ, ◌≤◌, List, [], ◌∷◌, ◌++◌, length, flat_map, Some, None, Ok}
 use Rattle.ffv1_y4m.specs.HeaderLine.{IsHeaderLine, Without}
 use Rattle.ffv1_y4m.specs.Pictures.{picture_read, picture_text}

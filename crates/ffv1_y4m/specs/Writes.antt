@@ -26,7 +26,7 @@ abbrev pub NextWrites : Bool → List ℕ → Passage → Result (Unit {0}) Faul
 NextWrites true text p r = (r ≡ Err fault.Write) × (p.new ≡ p.old) × (p.after ≡ p.before)
 NextWrites false text p r = Writes text p r
 
--- the writer behind a call
+-- the writer after a call
 abbrev pub written_by : Y4mWriting → Result (Unit {0}) Fault → Y4mWriting
 written_by w (Ok x) = record w { begun = true }
 written_by w (Err f) = record w { failed = true }

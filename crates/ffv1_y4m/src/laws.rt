@@ -68,7 +68,7 @@ pub fn images()
         ReadsFrom head rest image images → IsImages text head.width head.height (image ∷ images) }
 {}
 
-/// A sink that has taken whole images and takes the lines of one more has written its text behind
+/// A sink that has taken whole images and takes the lines of one more has written its text after
 /// the others, and again has taken whole images.
 pub fn image_runs<W: ByteOut>()
     ensures image { (red green blue : List ℕ) (s t : PpmSink W) → 1 ≤ s.height → AtImage s →

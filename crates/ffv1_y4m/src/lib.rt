@@ -1,3 +1,4 @@
+// SPDX-License-Identifier: MIT OR Apache-2.0
 //! Pictures as text: YUV4MPEG2 and binary PPM, read and written.
 //!
 //! `Y4mReader::open` and `PpmReader::open` read a header, which `head` then tells as a `VideoHead`;

@@ -91,7 +91,7 @@ fn same_sizes(head: &VideoHead, next: &VideoHead) -> bool
     head.width == next.width && head.height == next.height
 }
 
-/// Reads the header of a later image: true, the input then standing behind it; or false where the
+/// Reads the header of a later image: true, the input then standing after it; or false where the
 /// input has ended.
 fn read_later_header<R: ByteIn>(head: &VideoHead, input: &mut R) -> Result<bool, Fault>
     ensures answer { Stands (image_begun head.now) Nowhere
@@ -109,7 +109,7 @@ fn read_later_header<R: ByteIn>(head: &VideoHead, input: &mut R) -> Result<bool,
     Ok(true)
 }
 
-/// Each third sample behind the first so many.
+/// Each third sample after the first so many.
 fn part(samples: &[u8], first: usize, plane: &mut [u8])
     requires long { length samples.now ≡ 3 * length plane.old }
     requires first { first ≤ 2 }

@@ -14,7 +14,7 @@ use ffv1_wire::{ByteOut, LineSink, SinkFault};
 use std::alloc::{AllocError, Allocator, Global};
 use std::marker::Model;
 
-/// A sink of lines that writes them as binary PPM, one image behind the other. It owns its writer.
+/// A sink of lines that writes them as binary PPM, one image after the other. It owns its writer.
 ///
 /// Lines come as red, green, blue of each row, the rows from the top. The lines of red and green
 /// are kept until the row's blue one comes, which writes the row, and before the first row of an
@@ -164,7 +164,7 @@ impl<W: ByteOut, A: Allocator> LineSink for PpmWriter<W, A> {
 
     /// Takes the line that comes next; a blue one writes its row. Any other line, and one of
     /// another length, is refused and changes nothing but the count. A line whose write fails is
-    /// refused, a beginning of its row written; behind it each line is refused. It takes no memory.
+    /// refused, a beginning of its row written; after it each line is refused. It takes no memory.
     fn line(&mut self, plane: u8, y: u16, samples: &[u8]) -> Result<(), SinkFault> {
         if self.failed
             || plane != self.plane

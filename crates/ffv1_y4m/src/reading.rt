@@ -56,7 +56,7 @@ fn next_byte<R: ByteIn>(first: &mut Option<u8>, input: &mut R) -> Result<Option<
 }
 
 /// Reads a line, without its line feed, into the front of `line`, and answers how long it is.
-/// `Header` where no line feed is among as many bytes as `line` has room for; behind these nothing
+/// `Header` where no line feed is among as many bytes as `line` has room for; after these nothing
 /// is read.
 pub(crate) fn read_line<R: ByteIn>(
     first: Option<u8>,
@@ -97,10 +97,10 @@ pub(crate) fn read_header<R: ByteIn>(first: Option<u8>, input: &mut R) -> Result
 /// The line that begins a picture.
 const FRAME: [u8; 6] = *b"FRAME\n";
 
-/// Reads the line that begins a picture: true, the input then standing behind it; or false where
+/// Reads the line that begins a picture: true, the input then standing after it; or false where
 /// the input has ended.
 ///
-/// `FrameLine` where a byte differs, behind which nothing is read; `FrameTruncated` where the input
+/// `FrameLine` where a byte differs, after which nothing is read; `FrameTruncated` where the input
 /// ends inside the line; `Read` where a read failed.
 pub(crate) fn read_frame_line<R: ByteIn>(input: &mut R) -> Result<bool, Fault>
     ensures answer { Stands frame_begun Nowhere

@@ -17,7 +17,7 @@ fn place(text: &[u8], byte: u8) -> Option<usize>
     text.iter().position(|c| *c == byte)
 }
 
-/// What stands before and behind the first such byte.
+/// What stands before and after the first such byte.
 pub(crate) fn split_once(text: &[u8], byte: u8) -> Option<(&[u8], &[u8])>
     ensures { IsSplitOnce byte text.now result }
 {

@@ -66,7 +66,7 @@ fn chroma_name(head: &VideoHead) -> &'static [u8]
     }
 }
 
-/// Writes a number behind a tag's letter.
+/// Writes a number after a tag's letter.
 #[tactic(auto, unfolding(crate::specs::Canonical::number_text))]
 fn write_number<W: ByteOut>(output: &mut W, tag: &[u8], n: u32) -> Result<(), Fault>
     ensures { Writes (number_text tag.now n)
@@ -78,7 +78,7 @@ fn write_number<W: ByteOut>(output: &mut W, tag: &[u8], n: u32) -> Result<(), Fa
     Ok(())
 }
 
-/// Writes two numbers and a colon between them, behind a tag's letter.
+/// Writes two numbers and a colon between them, after a tag's letter.
 #[tactic(auto, unfolding(crate::specs::Canonical::ratio_text))]
 fn write_ratio<W: ByteOut>(output: &mut W, tag: &[u8], n: u32, d: u32) -> Result<(), Fault>
     ensures { Writes (ratio_text tag.now n d)
@@ -96,7 +96,7 @@ fn write_ratio<W: ByteOut>(output: &mut W, tag: &[u8], n: u32, d: u32) -> Result
     Ok(())
 }
 
-/// Writes a name behind a tag's letter.
+/// Writes a name after a tag's letter.
 #[tactic(auto, unfolding(crate::specs::Canonical::name_text))]
 fn write_name<W: ByteOut>(output: &mut W, tag: &[u8], name: &[u8]) -> Result<(), Fault>
     ensures { Writes (name_text tag.now name.now)

@@ -42,10 +42,10 @@ impl<A: Allocator> Model for Y4mReader<A> {
 impl<A: Allocator + Copy> Y4mReader<A> {
     /// Reads the header from an input of which the caller has read the first byte, if it has one.
     ///
-    /// The input then stands behind the line feed, behind a fault too. The first fault from the
+    /// The input then stands after the line feed, after a fault too. The first fault from the
     /// left is answered: `Header` where the line does not begin with `YUV4MPEG2` and a space or the
     /// line feed, has no line feed, or is longer than 1024 bytes, of which 1025 are read and none
-    /// behind them; `Tag` where a tag is empty, has an unknown letter, is there for the second time
+    /// after them; `Tag` where a tag is empty, has an unknown letter, is there for the second time
     /// (but for X) or has no value of its kind, or W or H is missing; `Unsupported` where C names
     /// no chroma that is read here, or I is mixed; `Read` where a read failed.
     pub fn open<R: ByteIn>(

@@ -56,7 +56,7 @@ impl Y4mWriter {
     /// the head.
     ///
     /// `Write` where a write failed: a beginning of the text of this call is then written, and not
-    /// all of it. Each call behind it answers `Write` again and writes nothing.
+    /// all of it. Each call after it answers `Write` again and writes nothing.
     pub fn picture<W: ByteOut, A: Allocator>(
         &mut self,
         output: &mut W,

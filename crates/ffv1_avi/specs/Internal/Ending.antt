@@ -10,7 +10,7 @@ use Rattle.ffv1_avi.specs.declared.place.Extent.TheVariants.{FirstMovi, EveryRif
 use Rattle.ffv1_reads.specs.Ends.{Stops}
 use Rattle.ffv1_reads.specs.Reads.{Read, Reading, Refused, Wants}
 
--- bytes were read, and where nothing stands behind them, there is nothing more; the first movi does
+-- bytes were read, and where nothing stands after them, there is nothing more; the first movi does
 -- not end so
 abbrev pub Halts : {X : Type 0} → Extent → Reading (Option X) → Option (List ℕ) →
     Option (List ℕ) → Type 0

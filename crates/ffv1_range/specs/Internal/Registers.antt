@@ -20,7 +20,7 @@ abbrev pub AreZeros : ℕ → List ℕ → List ℕ → Type 0
 AreZeros floor one zero = (state : ℕ) → floor ≤ state → state + floor ≤ 256 →
     slice_index zero state ≡ 256 - slice_index one (256 - state)
 
--- where each state that is held goes after a 0, and 256 places behind it after a 1
+-- where each state that is held goes after a 0, and 256 places after it after a 1
 pub record AreNext (floor : ℕ) (one zero next : List ℕ) : Type 0 where
   pub zeros : (state : ℕ) → floor ≤ state → state + floor ≤ 256 →
       slice_index next state ≡ slice_index zero state

@@ -66,7 +66,7 @@ fn said(
     aspects: &[(u32, u32)],
 ) -> Result<Result<Info, FrameFault>, Fail> {
     let count = u32::try_from(aspects.len())?;
-    let checked = made::mono(alloc, count, 1, count, false)?.check_in(profile)?;
+    let checked = made::mono(alloc, count, 1, count, false)?.check_in(profile, 8)?;
     let payload = payload_of(alloc, &checked, aspects)?;
     let mut sink = KeepLines::new(alloc, &checked)?;
     let mut decoder = FrameDecoder::new(alloc, checked)?;

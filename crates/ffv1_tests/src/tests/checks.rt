@@ -2,6 +2,7 @@
 
 use crate::tests::made;
 use ffv1_avi::write_avi;
+use ffv1_doubles::Scarce;
 use ffv1_engine::{Fault, Profile, check};
 use ffv1_reads::FileHead;
 use ffv1_record::{Checked, RecordFault, write_record};
@@ -101,15 +102,35 @@ fn no_frame(rt: HostRuntime) -> Result<(), Fail> {
     Ok(())
 }
 
+const MISPLACED: &[u8] = b"\xFE\x7B\x00\x00\x02\xFE\x7B\x00\x00\x02";
+
+const PLACE: &[u8] = b"fault frame 0 slice 1 plane 0 line 0 x 0 decisions 11\n";
+
 #[test]
 fn the_place_of_a_fault(rt: HostRuntime) -> Result<(), Fail> {
-    comes_to(
-        &rt,
-        rt.alloc(),
-        (2, b"\xFE\x7B\x00\x00\x02\xFE\x7B\x00\x00\x02", 1),
-        true,
-        Err(Fault::Place),
-        b"fault frame 0 slice 1 plane 0 line 0 x 0 decisions 11\n",
-    )?;
+    let frames = (2, MISPLACED, 1);
+    comes_to(&rt, rt.alloc(), frames, true, Err(Fault::Place), PLACE)?;
+    Ok(())
+}
+
+#[test]
+fn a_place_takes_no_memory(rt: HostRuntime) -> Result<(), Fail> {
+    let file = file_of(rt.alloc(), 2, MISPLACED, 1)?;
+    let mut refused = 0u8;
+    for before in 0..40u64 {
+        let heap = Scarce::new(rt.alloc(), before);
+        let mut input = FromRead::new(file.as_slice());
+        let mut output = ToWrite::new(Vec::new(rt.alloc()));
+        let answer = check(&heap, Profile::Strict, &mut input, &mut output, true);
+        let text = if answer == Err(Fault::OutOfMemory) {
+            refused = refused.saturating_add(1);
+            b"".as_slice()
+        } else {
+            assert!(rt; answer == Err(Fault::Place));
+            PLACE
+        };
+        assert!(rt; output.into_inner().as_slice() == text);
+    }
+    assert!(rt; 10 < refused && refused < 40);
     Ok(())
 }

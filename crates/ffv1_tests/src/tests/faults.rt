@@ -1,5 +1,7 @@
-//! The texts of faults: each the number and the name that stand for it on standard error.
+//! The texts of faults, of each crate all of them: the number and the name that stand for a fault on
+//! standard error.
 
+use ffv1_codec::CodecFault;
 use ffv1_engine::Fault;
 use ffv1_reads::FileFault;
 use ffv1_record::RecordFault;
@@ -15,6 +17,41 @@ fn of_the_engine(rt: HostRuntime) -> Result<(), Fail> {
         (Fault::SymbolTooLong, "4 SymbolTooLong"),
         (Fault::Runs, "5 Runs"),
         (Fault::Contexts, "6 Contexts"),
+        (Fault::Colour, "7 Colour"),
+        (Fault::Size, "10 Size"),
+        (Fault::Grid, "11 Grid"),
+        (Fault::ChromaEdge, "12 ChromaEdge"),
+        (Fault::Subsampling, "13 Subsampling"),
+        (Fault::Sets, "14 Sets"),
+        (Fault::Short, "15 Short"),
+        (Fault::Parity, "16 Parity"),
+        (Fault::Version, "17 Version"),
+        (Fault::MicroVersion, "18 MicroVersion"),
+        (Fault::Coder, "19 Coder"),
+        (Fault::ColourSpace, "20 ColourSpace"),
+        (Fault::Depth, "21 Depth"),
+        (Fault::CodedStates, "22 CodedStates"),
+        (Fault::Ec, "23 Ec"),
+        (Fault::Intra, "24 Intra"),
+        (Fault::ExtraPlane, "25 ExtraPlane"),
+        (Fault::NotKey, "30 NotKey"),
+        (Fault::Place, "31 Place"),
+        (Fault::SetIndex, "32 SetIndex"),
+        (Fault::Structure, "33 Structure"),
+        (Fault::Aspect, "34 Aspect"),
+        (Fault::Footer, "35 Footer"),
+        (Fault::Leftover, "36 Leftover"),
+        (Fault::SliceParity, "37 SliceParity"),
+        (Fault::SliceStatus, "38 SliceStatus"),
+        (Fault::SliceTooLong, "40 SliceTooLong"),
+        (Fault::InfoDiffers, "41 InfoDiffers"),
+        (Fault::Sink, "42 Sink"),
+        (Fault::NotAvi, "50 NotAvi"),
+        (Fault::NoFfv1, "51 NoFfv1"),
+        (Fault::Truncated, "52 Truncated"),
+        (Fault::ChunkTooLong, "53 ChunkTooLong"),
+        (Fault::EmptyFrame, "54 EmptyFrame"),
+        (Fault::TooLarge, "55 TooLarge"),
         (Fault::Read, "56 Read"),
         (Fault::Write, "57 Write"),
         (Fault::Header, "60 Header"),
@@ -24,6 +61,15 @@ fn of_the_engine(rt: HostRuntime) -> Result<(), Fail> {
         (Fault::FrameTruncated, "64 FrameTruncated"),
         (Fault::NoFrames, "70 NoFrames"),
         (Fault::FormatChanged, "71 FormatChanged"),
+        (Fault::NoY4mName, "72 NoY4mName"),
+        (Fault::NoPpm, "73 NoPpm"),
+        (Fault::NotMatroska, "80 NotMatroska"),
+        (Fault::BadElement, "81 BadElement"),
+        (Fault::NoTracks, "82 NoTracks"),
+        (Fault::Encoded, "83 Encoded"),
+        (Fault::Laced, "84 Laced"),
+        (Fault::Checksum, "85 Checksum"),
+        (Fault::Rate, "86 Rate"),
     ] {
         assert_eq!(rt; fault.to_string(rt.alloc())?.as_str(), text);
     }
@@ -87,7 +133,7 @@ fn of_the_record(rt: HostRuntime) -> Result<(), Fail> {
 }
 
 #[test]
-fn of_avi(rt: HostRuntime) -> Result<(), Fail> {
+fn of_files(rt: HostRuntime) -> Result<(), Fail> {
     for (fault, text) in [
         (FileFault::OutOfMemory, "2 OutOfMemory"),
         (FileFault::NotAvi, "50 NotAvi"),
@@ -98,6 +144,13 @@ fn of_avi(rt: HostRuntime) -> Result<(), Fail> {
         (FileFault::TooLarge, "55 TooLarge"),
         (FileFault::Read, "56 Read"),
         (FileFault::Write, "57 Write"),
+        (FileFault::NotMatroska, "80 NotMatroska"),
+        (FileFault::BadElement, "81 BadElement"),
+        (FileFault::NoTracks, "82 NoTracks"),
+        (FileFault::Encoded, "83 Encoded"),
+        (FileFault::Laced, "84 Laced"),
+        (FileFault::Checksum, "85 Checksum"),
+        (FileFault::Rate, "86 Rate"),
     ] {
         assert_eq!(rt; fault.to_string(rt.alloc())?.as_str(), text);
     }
@@ -146,6 +199,31 @@ fn of_slices(rt: HostRuntime) -> Result<(), Fail> {
         (SliceFault::SliceParity, "37 SliceParity"),
         (SliceFault::SliceStatus, "38 SliceStatus"),
         (SliceFault::SliceTooLong, "40 SliceTooLong"),
+    ] {
+        assert_eq!(rt; fault.to_string(rt.alloc())?.as_str(), text);
+    }
+    Ok(())
+}
+
+#[test]
+fn of_the_codec(rt: HostRuntime) -> Result<(), Fail> {
+    for (fault, text) in [
+        (CodecFault::OutOfMemory, "2 OutOfMemory"),
+        (CodecFault::BadStart, "3 BadStart"),
+        (CodecFault::SymbolTooLong, "4 SymbolTooLong"),
+        (CodecFault::Colour, "7 Colour"),
+        (CodecFault::NotKey, "30 NotKey"),
+        (CodecFault::Place, "31 Place"),
+        (CodecFault::SetIndex, "32 SetIndex"),
+        (CodecFault::Structure, "33 Structure"),
+        (CodecFault::Aspect, "34 Aspect"),
+        (CodecFault::Footer, "35 Footer"),
+        (CodecFault::Leftover, "36 Leftover"),
+        (CodecFault::SliceParity, "37 SliceParity"),
+        (CodecFault::SliceStatus, "38 SliceStatus"),
+        (CodecFault::SliceTooLong, "40 SliceTooLong"),
+        (CodecFault::InfoDiffers, "41 InfoDiffers"),
+        (CodecFault::Sink, "42 Sink"),
     ] {
         assert_eq!(rt; fault.to_string(rt.alloc())?.as_str(), text);
     }

@@ -156,7 +156,7 @@ fn decoder<A: Allocator + Copy>(alloc: A, checked: Checked<A>, frame: &[u8]) -> 
     }
 }
 
-/// The same of a kind, where the request behind so many others is refused once the configuration
+/// The same of a kind, where the request after so many others is refused once the configuration
 /// is made.
 fn decoder_of<A: Allocator + Copy>(alloc: A, kind: &Kind<'_>, before: u64) -> Option<(Came, bool)> {
     let ample = Scarce::new(alloc, u64::MAX);
@@ -217,7 +217,7 @@ fn wide<A: Allocator + Copy>(alloc: A) -> Option<Checked<A>> {
     config.check().ok()
 }
 
-/// Whether the making of their decoder is refused, where the request behind so many others is.
+/// Whether the making of their decoder is refused, where the request after so many others is.
 fn wide_is_refused<A: Allocator + Copy>(alloc: A, before: u64) -> Option<bool> {
     let ample = Scarce::new(alloc, u64::MAX);
     let scarce = Scarce::new(alloc, before);

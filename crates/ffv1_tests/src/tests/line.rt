@@ -48,7 +48,7 @@ fn put_samples(
     Ok(())
 }
 
-/// Whether such rows from fresh states, and behind them others from fresh states, have these bytes
+/// Whether such rows from fresh states, and after them others from fresh states, have these bytes
 /// by the sentinel ending, else by the full one. Also how many decisions they are.
 fn codes(
     alloc: Global,

@@ -21,7 +21,7 @@ fn names<'a>(rt: &impl Abort, alloc: Global, line: &'a [&'a str], order: Order<'
     assert!(rt; words(alloc, line).ok() == Some(order));
 }
 
-/// `pack` of `a` to `b` with these options, before and behind the files.
+/// `pack` of `a` to `b` with these options, before and after the files.
 fn packs(rt: &impl Abort, alloc: Global, option: &str, value: &str, choice: Choice) {
     let order = Order::Pack {
         input: "a",

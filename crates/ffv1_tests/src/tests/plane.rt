@@ -3,7 +3,6 @@
 
 ghost use Rattle.std.specs.Prelude.{◌≡◌, ◌⊎◌};
 
-use crate::tests::made::shows;
 use ffv1_plane::{
     Around, Fault, QuantSet, context, context_near, fold, predict, residual_of, sample_from,
     sample_signed, unfold,
@@ -43,7 +42,7 @@ const RUNS: [[&[u8]; 5]; 10] = [
 /// How many contexts the first of them have.
 const CONTEXTS: [u32; 6] = [666, 666, 7563, 1, 128, 32513];
 
-/// Puts a set that was made behind others.
+/// Puts a set that was made after others.
 fn add_set(sets: &mut Vec<QuantSet>, made: Result<QuantSet, Fault>) -> Result<(), Fault> {
     match sets.push(made?) {
         Ok(()) => Ok(()),
@@ -92,16 +91,6 @@ fn refuses_runs(rt: HostRuntime) {
     for (runs, fault) in &REFUSED {
         assert!(rt; QuantSet::from_runs(rt.alloc(), runs).err() == Some(*fault));
     }
-}
-
-#[test]
-fn shows_number_and_name(rt: HostRuntime) {
-    let shown = [
-        shows(rt.alloc(), &Fault::OutOfMemory, "2 OutOfMemory"),
-        shows(rt.alloc(), &Fault::Runs, "5 Runs"),
-        shows(rt.alloc(), &Fault::Contexts, "6 Contexts"),
-    ];
-    assert!(rt; shown == [true; 3]);
 }
 
 /// The neighbours left, above, above to the left and to the right, two to the left and two above.

@@ -11,7 +11,7 @@ use ffv1_wire::{FromRead, ToWrite};
 use std::alloc::Global;
 use std::test::Fail;
 
-/// A file of one frame of 1 by 1, and so many RIFFs of one frame behind it; then these bytes.
+/// A file of one frame of 1 by 1, and so many RIFFs of one frame after it; then these bytes.
 fn file_of(alloc: Global, riffs: usize, last: &[u8]) -> Result<Vec<u8>, Fault> {
     let checked = made::mono(alloc, 1, 1, 1, false)?.check()?;
     let head = FileHead {

@@ -11,7 +11,7 @@ use std::test::Fail;
 /// The frame of the sample 0, with a parity; its slice_size is the three bytes from the third on.
 const GUARDED: [u8; 10] = [0xFE, 0x7B, 0, 0, 2, 0, 0x94, 0x8C, 0x13, 0x3C];
 
-/// A decoder of pictures of one sample, with a parity behind each slice or without.
+/// A decoder of pictures of one sample, with a parity after each slice or without.
 fn decoder(alloc: Global, ec: bool) -> Result<FrameDecoder, Fail> {
     let checked = pictures(alloc, &mono((1, 1), (1, 1), ec))?;
     Ok(FrameDecoder::new(alloc, checked)?)

@@ -58,7 +58,7 @@ enum Command {
 struct Case<'a> {
     command: Command,
     input: &'a [u8],
-    /// Behind so many bytes read, so many stand written; the last are all.
+    /// After so many bytes read, so many stand written; the last are all.
     steps: &'a [(usize, usize)],
     owed: &'a [u8],
     /// From so many bytes on, a write that fails is not told.
@@ -127,7 +127,7 @@ fn beginning(owed: &[u8], written: &[u8]) -> Option<usize> {
     None
 }
 
-/// How many bytes stand written behind so many read.
+/// How many bytes stand written after so many read.
 fn written_behind(steps: &[(usize, usize)], read: usize) -> usize {
     let mut written = 0;
     for step in steps {
@@ -138,12 +138,12 @@ fn written_behind(steps: &[(usize, usize)], read: usize) -> usize {
     written
 }
 
-/// Whether so many bytes stand written behind some number of bytes read.
+/// Whether so many bytes stand written after some number of bytes read.
 fn is_step(steps: &[(usize, usize)], written: usize) -> bool {
     written == 0 || steps.iter().any(|step| step.1 == written)
 }
 
-/// The answer, and what was written, where the request behind so many others is refused.
+/// The answer, and what was written, where the request after so many others is refused.
 fn refused<A: Allocator + Copy>(
     alloc: A,
     case: &Case<'_>,
@@ -155,7 +155,7 @@ fn refused<A: Allocator + Copy>(
     (answer, beginning(case.owed, &output.into_inner()))
 }
 
-/// The same, where the read behind so many of one byte fails.
+/// The same, where the read after so many of one byte fails.
 fn unread<A: Allocator + Copy>(
     alloc: A,
     case: &Case<'_>,
@@ -179,7 +179,7 @@ fn unwritten<A: Allocator + Copy>(
 }
 
 /// Each request is refused in turn: `OutOfMemory` from the first to the last, with the text of some
-/// frames written. How many were refused behind something written, and how many behind the fault
+/// frames written. How many were refused after something written, and how many after the fault
 /// whose place was then not told.
 fn each_request<A: Allocator + Copy>(rt: &impl Abort, alloc: A, case: &Case<'_>) -> (u64, u64) {
     let (mut count, mut begun, mut lost) = (0u64, 0u64, 0u64);
@@ -201,7 +201,7 @@ fn each_request<A: Allocator + Copy>(rt: &impl Abort, alloc: A, case: &Case<'_>)
     (begun, lost)
 }
 
-/// Each read fails in turn: `Read`, and what stands behind the bytes that were read.
+/// Each read fails in turn: `Read`, and what stands after the bytes that were read.
 fn each_read<A: Allocator + Copy>(rt: &impl Abort, alloc: A, case: &Case<'_>) {
     let all = match case.steps.last() {
         Some(step) => step.0,
@@ -234,7 +234,7 @@ fn each_write<A: Allocator + Copy>(rt: &impl Abort, alloc: A, case: &Case<'_>) {
     }
 }
 
-/// All of them; how many requests were refused behind something written.
+/// All of them; how many requests were refused after something written.
 fn in_turn<A: Allocator + Copy>(rt: &impl Abort, alloc: A, case: &Case<'_>) -> (u64, u64) {
     each_read(rt, alloc, case);
     each_write(rt, alloc, case);
@@ -286,8 +286,8 @@ fn file_of<A: Allocator + Copy>(alloc: A, text: &[u8], damage: bool) -> Result<V
     Ok(file)
 }
 
-/// A file of two frames, the first of which ends behind so many bytes, whose text or lines have so
-/// many behind each frame. How many requests were refused behind something written.
+/// A file of two frames, the first of which ends after so many bytes, whose text or lines have so
+/// many after each frame. How many requests were refused after something written.
 fn plays<A: Allocator + Copy>(
     rt: &impl Abort,
     alloc: A,
@@ -349,7 +349,7 @@ fn checking(rt: HostRuntime) -> Result<(), Fail> {
     Ok(())
 }
 
-/// Behind the lines of the stream, the decoder takes its memory.
+/// After the lines of the stream, the decoder takes its memory.
 #[test]
 fn showing(rt: HostRuntime) -> Result<(), Fail> {
     let show = Command::Show;
@@ -372,8 +372,8 @@ fn showing(rt: HostRuntime) -> Result<(), Fail> {
     Ok(())
 }
 
-/// The line of a place that cannot be written, or has no memory, is not told: the fault stays that
-/// of the frame.
+/// The line of a place takes no memory. Where it cannot be written, the fault stays that of the
+/// frame.
 #[test]
 fn places(rt: HostRuntime) -> Result<(), Fail> {
     let file = file_of(rt.alloc(), MONO, true)?;
@@ -396,7 +396,6 @@ fn places(rt: HostRuntime) -> Result<(), Fail> {
         told: 0,
         ends: Err(Fault::NotKey),
     };
-    let (begun, lost) = in_turn(&rt, rt.alloc(), &case);
-    assert!(rt; begun == 0 && lost > 0);
+    assert!(rt; in_turn(&rt, rt.alloc(), &case) == (0, 0));
     Ok(())
 }

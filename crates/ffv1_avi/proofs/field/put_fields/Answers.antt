@@ -2,7 +2,7 @@ use Rattle.std.proofs.Common.{[]}
 use Rattle.std.proofs.lemmas.Result.{err_from_is_err_and}
 use Rattle.ffv1_avi.specs.Written.{field_bytes}
 use Rattle.ffv1_avi.specs.declared.field.Field.TheVariants.{Name}
-use Rattle.ffv1_avi.proofs.Writing.{pieces_stop}
+use Rattle.ffv1_reads.proofs.Writing.{pieces_stop}
 use Rattle.ffv1_avi.proofs.field.put_fields.Goals as goal
 
 pub returns-in_err-put : goal.returns-in_err-put

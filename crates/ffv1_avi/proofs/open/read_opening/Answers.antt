@@ -5,6 +5,7 @@ use Rattle.byteorder.specs.Endian.{little_number}
 use Rattle.ffv1_reads.specs.declared.fault.FileFault.TheVariants as fault
 use Rattle.ffv1_avi.specs.declared.stream.Sizes.{Sizes}
 use Rattle.ffv1_avi.specs.Files.{begins, open_read, top_read}
+use Rattle.ffv1_reads.specs.First.{bytes_with}
 use Rattle.ffv1_reads.specs.Head.{Head}
 use Rattle.ffv1_avi.specs.declared.place.Extent.{Extent}
 use Rattle.ffv1_avi.specs.declared.place.Place.{Place}
@@ -44,26 +45,26 @@ no_third a b c p q r = rw (p, q, r) refl
 
 pub returns-then-not-is_name : goal.returns-then-not-is_name
 returns-then-not-is_name g c =
-    let head = c.take.new.buf in
-    let long : length head ≡ 12 = (wanted_sound Looked 12 (c.in_ok-take.ensures.1.bytes ++ []) (head, []) (c.in_ok-take.ensures.1.is [])).1 in
+    let head = c.take_after.new.buf in
+    let long : length head ≡ 12 = (wanted_sound Looked 12 (c.in_ok-take_after.ensures.1.bytes ++ []) (head, []) (c.in_ok-take_after.ensures.1.is [])).1 in
     let form : take 4 (drop 8 head) ≡ drop 8 head = take_all 4 (drop 8 head) (omega (arith, long, length-drop 8 head)) in
     let size : c.read_u32-size.result ≡ little_number 4 (drop 4 head) = c.read_u32-size.ensures ∙ number_taken 8 (drop 4 head) (omega arith) in
     let a = is_name (take 4 head) (codes "RIFF") in
     let b = is_name (drop 8 head) (codes "AVI ") in
     let z = nat_le 4 (little_number 4 (drop 4 head)) in
     let other : begins head ≡ false = elim c.then-not-is_name.branch [ then-not-is_name-via-then-not-is_name w ↦ no_first a b z (sym w.if-not-is_name.ensures) | then-not-is_name-via-else-not-is_name+then-not-is_name-2 w ↦ no_second a b z (sym w.if-not-is_name.ensures) (ap (λ y. is_name y (codes "AVI ")) (sym form) ∙ sym w.if-not-is_name-2.ensures) | then-not-is_name-via-else-not-is_name+else-not-is_name-2+then-size-lt4 w ↦ no_third a b z (sym w.if-not-is_name.ensures) (ap (λ y. is_name y (codes "AVI ")) (sym form) ∙ sym w.if-not-is_name-2.ensures) (lt-leb _ _ (omega (arith, size, w.if-size-lt4.true))) ] in
-    let start = goes_same _ (taken 12 >>= behind c.args.extent) (opened c.args.extent) (goes_none (open_read c.args.extent) (g.R.ByteIn.remaining c.args.input.now) (g.R.ByteIn.failures c.args.input.now)) in
-    let here = goes_same _ (refused fault.NotAvi) (not_begun c.args.extent head other) (goes_read (taken 12) (behind c.args.extent) _ _ head start c.in_ok-take.ensures) in
+    let start = goes_same _ (taken 12 >>= behind c.args.extent) (opened c.args.extent) (goes_none (open_read c.args.extent) (bytes_with c.args.first (g.R.ByteIn.remaining c.args.input.now)) (g.R.ByteIn.failures c.args.input.now)) in
+    let here = goes_same _ (refused fault.NotAvi) (not_begun c.args.extent head other) (goes_read (taken 12) (behind c.args.extent) _ _ head start c.in_ok-take_after.ensures) in
     goes_fault fault.NotAvi here (refl, faults_here (Head × Place) fault.NotAvi _)
 
 pub returns : goal.returns
 returns g c =
-    let head = c.take.new.buf in
-    let long : length head ≡ 12 = (wanted_sound Looked 12 (c.in_ok-take.ensures.1.bytes ++ []) (head, []) (c.in_ok-take.ensures.1.is [])).1 in
+    let head = c.take_after.new.buf in
+    let long : length head ≡ 12 = (wanted_sound Looked 12 (c.in_ok-take_after.ensures.1.bytes ++ []) (head, []) (c.in_ok-take_after.ensures.1.is [])).1 in
     let form : take 4 (drop 8 head) ≡ drop 8 head = take_all 4 (drop 8 head) (omega (arith, long, length-drop 8 head)) in
     let size : c.read_u32-size.result ≡ little_number 4 (drop 4 head) = c.read_u32-size.ensures ∙ number_taken 8 (drop 4 head) (omega arith) in
     let enough : nat_le 4 (little_number 4 (drop 4 head)) ≡ true = le-leb _ _ (omega (arith, size, c.if-size-lt4.false)) in
     let here : begins head ≡ true = all_three _ _ _ (sym c.if-not-is_name.ensures) (ap (λ y. is_name y (codes "AVI ")) (sym form) ∙ sym c.if-not-is_name-2.ensures) enough in
-    let start = goes_same _ (taken 12 >>= behind c.args.extent) (opened c.args.extent) (goes_none (open_read c.args.extent) (g.R.ByteIn.remaining c.args.input.now) (g.R.ByteIn.failures c.args.input.now)) in
-    let next = goes_same _ (top_read c.args.extent (little_number 4 (drop 4 head) - 4)) (begun c.args.extent head here) (goes_read (taken 12) (behind c.args.extent) _ _ head start c.in_ok-take.ensures) in
+    let start = goes_same _ (taken 12 >>= behind c.args.extent) (opened c.args.extent) (goes_none (open_read c.args.extent) (bytes_with c.args.first (g.R.ByteIn.remaining c.args.input.now)) (g.R.ByteIn.failures c.args.input.now)) in
+    let next = goes_same _ (top_read c.args.extent (little_number 4 (drop 4 head) - 4)) (begun c.args.extent head here) (goes_read (taken 12) (behind c.args.extent) _ _ head start c.in_ok-take_after.ensures) in
     goes_last (top_read c.args.extent (little_number 4 (drop 4 head) - 4)) (λ (p : Sizes × Place). (head_with p.0 c.read_top.new.config.items, p.1)) _ _ c.read_top.result next (rw size at c.read_top.ensures)

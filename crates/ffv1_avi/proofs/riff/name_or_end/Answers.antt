@@ -18,7 +18,7 @@ unfolding name_or_end
 owed_name zero some text = absurd (omega (arith, some))
 owed_name (suc n) some text = refl
 
--- behind the first of four bytes
+-- after the first of four bytes
 abbrev others_of : ℕ → List ℕ → Reading (Option (List ℕ))
 others_of first others = given (Some (first ∷ others))
 

@@ -1,7 +1,7 @@
 use Rattle.std.proofs.Common.{List, ℕ, [], ◌∷◌, ◌++◌, length, codes, ◌∙◌}
 use Rattle.std.proofs.lemmas.Result.{err_from_is_err_and}
 use Rattle.ffv1_avi.specs.Written.{number, padding, spelled}
-use Rattle.ffv1_avi.proofs.Writing.{appends_then, stops_then, writes_stop, writes_then}
+use Rattle.ffv1_reads.proofs.Writing.{appends_then, stops_then, writes_stop, writes_then}
 use Rattle.ffv1_avi.proofs.write.put_frame.Goals as goal
 
 fields : List ℕ → List ℕ

@@ -5,8 +5,8 @@ use Rattle.ffv1_reads.specs.Head.{Head, head_of}
 use Rattle.ffv1_avi.specs.Padding.{padded}
 use Rattle.ffv1_avi.specs.Written.{avih, format_size, head_text, opening, padding, spelled, stream, strf}
 use Rattle.ffv1_wire.specs.Passage.{between}
-use Rattle.ffv1_avi.specs.Writes.{Writes}
-use Rattle.ffv1_avi.proofs.Writing.{appends_then, stops_then, writes_stop, writes_then}
+use Rattle.ffv1_reads.specs.Writes.{Writes}
+use Rattle.ffv1_reads.proofs.Writing.{appends_then, stops_then, writes_stop, writes_then}
 use Rattle.ffv1_avi.proofs.write.put_head.Goals as goal
 
 -- the parts before each step

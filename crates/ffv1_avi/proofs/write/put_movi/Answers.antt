@@ -5,7 +5,7 @@ use Rattle.std.proofs.lemmas.List.Folds.{flat_map-map}
 use Rattle.std.specs.declared.vec.Vec.{Vec}
 use Rattle.ffv1_avi.specs.Written.{frame_chunk, frames_of, movi, spelled}
 use Rattle.ffv1_avi.proofs.Sizes.{movi_more, movi_part}
-use Rattle.ffv1_avi.proofs.Writing.{appends_then, pieces_stop, stops_then, writes_stop}
+use Rattle.ffv1_reads.proofs.Writing.{appends_then, pieces_stop, stops_then, writes_stop}
 use Rattle.ffv1_avi.proofs.write.put_movi.Goals as goal
 
 abbrev chunk_of : {A : Type 0} → Vec ℕ A → List ℕ

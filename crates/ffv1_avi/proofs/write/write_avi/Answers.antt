@@ -7,9 +7,10 @@ use Rattle.ffv1_reads.specs.declared.fault.FileFault.TheVariants as fault
 use Rattle.ffv1_reads.specs.Head.{Head, head_of}
 use Rattle.ffv1_avi.specs.Written.{file_of, frame_chunk, frames_of, head_text, most, movi, movi_size, riff_size, sizes_of, spelled}
 use Rattle.ffv1_wire.specs.Passage.{between}
-use Rattle.ffv1_avi.specs.Writes.{Writes, WritesFile}
+use Rattle.ffv1_reads.specs.Writes.{Writes}
+use Rattle.ffv1_avi.specs.Writes.{WritesFile}
 use Rattle.ffv1_avi.proofs.Sizes.{movi_count}
-use Rattle.ffv1_avi.proofs.Writing.{writes_stop, writes_then}
+use Rattle.ffv1_reads.proofs.Writing.{writes_stop, writes_then}
 use Rattle.ffv1_avi.proofs.write.write_avi.Goals as goal
 
 record AreSizes (head : Head) (frames : List (List ℕ)) (p : ℕ × ℕ) : Type 0 where

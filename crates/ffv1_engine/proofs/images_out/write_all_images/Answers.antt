@@ -22,6 +22,7 @@ loop-count-init g c =
             images_none (stream_of c.args.player.now.reader c.args.player.now.decoder.accepted) c.requires.colour c.args.player.now.reader.place (g.R.ByteIn.remaining c.args.input.now)
             (g.W.ByteOut.contents c.args.sink.now.out) (g.R.ByteIn.failures c.args.input.now) (g.W.ByteOut.failures c.args.sink.now.out);
       },
+      refl,
     )
 
 pub returns-in_err-write_next-clause-err : goal.returns-in_err-write_next-clause-err
@@ -37,6 +38,11 @@ returns-in_err-write_next-clause-err g c =
     (g.R.ByteIn.failures c.args.input.now) (g.R.ByteIn.failures c.loop-count.input) (g.R.ByteIn.failures c.write_next.new.input)
     (g.W.ByteOut.failures c.args.sink.now.out) (g.W.ByteOut.failures c.loop-count.sink.out) (g.W.ByteOut.failures c.write_next.new.sink.out)
     so.frames so.un f (cause_of f) (rw same at c.in_err-write_next.ensures.answer))
+
+pub returns-in_err-write_next-clause-own : goal.returns-in_err-write_next-clause-own
+returns-in_err-write_next-clause-own g c =
+    let p = err_from_is_err_and c.from_residual.result c.from_residual.ensures.1 in
+    rw (p.1, p.2) (rw c.loop-count.invariant.4 at c.in_err-write_next.ensures.own)
 
 pub loop-count-preserved : goal.loop-count-preserved
 loop-count-preserved g c =
@@ -64,6 +70,7 @@ loop-count-preserved g c =
             (g.W.ByteOut.failures c.args.sink.now.out) (g.W.ByteOut.failures c.loop-count.sink.out) (g.W.ByteOut.failures c.write_next.new.sink.out)
             so.frames so.un f answer.1 answer.2 answer.3;
       },
+      c.in_ok-write_next.ensures.container ∙ c.loop-count.invariant.4,
     )
 
 pub returns-clause-ok : goal.returns-clause-ok

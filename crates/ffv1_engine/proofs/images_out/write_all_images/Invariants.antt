@@ -1,6 +1,6 @@
 use Rattle.std.proofs.Common.{◌≡◌, None}
 use Rattle.ffv1_wire.specs.Passage.{passage}
-use Rattle.ffv1_avi.specs.Places.{amount}
+use Rattle.ffv1_files.specs.Places.{amount, container_of}
 use Rattle.ffv1_engine.specs.ImagesOut.{IsSinkFor}
 use Rattle.ffv1_engine.specs.Opens.{stream_of}
 use Rattle.ffv1_engine.proofs.ImagesSoFar.{ImagesSo}
@@ -13,6 +13,7 @@ invariant-loop-count g l =
     × ImagesSo (stream_of l.fn.player.reader l.fn.player.decoder.accepted) l.fn.player.reader.place
     (passage g.R.ByteIn.remaining g.R.ByteIn.failures l.initial.input l.input)
     (passage g.W.ByteOut.contents g.W.ByteOut.failures l.initial.sink.out l.sink.out) l.count l.player.reader.place
+    × (container_of l.player.reader.place ≡ container_of l.fn.player.reader.place)
 
 abbrev pub decreases-loop-count : goal.decreases-loop-count
 decreases-loop-count g l = amount l.player.reader.place

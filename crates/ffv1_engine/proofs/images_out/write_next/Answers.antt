@@ -9,14 +9,12 @@ use Rattle.ffv1_y4m.specs.Images.{image_places}
 use Rattle.ffv1_y4m.specs.Sink.{Refuses, Takes}
 use Rattle.ffv1_engine.specs.Faults.{cause_of, of_codec}
 use Rattle.ffv1_engine.specs.ImagesOut.{ImageStopsBy}
-use Rattle.ffv1_engine.specs.Told.{is_telling_fault}
 use Rattle.ffv1_engine.specs.Stream.{Frame}
 use Rattle.ffv1_engine.specs.Told.{is_telling_fault}
 use Rattle.ffv1_engine.specs.Unpacked.{lines_before}
 use Rattle.ffv1_engine.proofs.FrameDecoded.{is_decided}
 use Rattle.ffv1_engine.proofs.ImageLines.{colour_of, image_of}
 use Rattle.ffv1_engine.proofs.ImagesWritten.{counted, either, image_faults, image_written, line_long, payload_stops, row_cut, sinks_own}
-use Rattle.ffv1_engine.proofs.OwnFaults.{payload_tells}
 use Rattle.ffv1_engine.proofs.PicturesWritten.{decode_cause}
 use Rattle.ffv1_engine.proofs.OwnFaults.{payload_tells}
 use Rattle.ffv1_engine.proofs.images_out.write_next.Goals as goal
@@ -127,5 +125,6 @@ returns-in_default g c =
       sound = tt;
       less = tt;
       same = c.play.ensures.same;
-      own = inr (inl (ap is_telling_fault c.from-in_default.ensures ∙ payload_tells f.fault is c.in_default.not-Sink));
+      container = c.play.ensures.container;
+      own = inl (inr (inl (ap is_telling_fault c.from-in_default.ensures ∙ payload_tells f.fault is c.in_default.not-Sink)));
     }

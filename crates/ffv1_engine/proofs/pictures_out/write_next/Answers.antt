@@ -92,4 +92,4 @@ returns-in-Err-Payload-clause-own g c =
     let answer = rw c.in-Err-Payload.field-0-is at c.in-Err-Payload.ensures.answer in
     let own = c.taken_lines.ensures.kept a payload c.args.kept.now c.play.new.sink tally f c.requires.accepted answer.1 c.requires.kept.grid in
     let decode = c.decode_faults.ensures a payload c.args.kept.now c.play.new.sink tally f answer.1 in
-    inr (inl (ap is_telling_fault c.from-in-Err-Payload.ensures ∙ payload_tells f.fault decode own))
+    inl (inr (inl (ap is_telling_fault c.from-in-Err-Payload.ensures ∙ payload_tells f.fault decode own)))

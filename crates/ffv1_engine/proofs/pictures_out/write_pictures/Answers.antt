@@ -33,6 +33,7 @@ loop-kept-init g c =
             (g.R.ByteIn.remaining c.args.input.now) (g.W.ByteOut.contents c.args.output.now) (g.R.ByteIn.failures c.args.input.now) (g.W.ByteOut.failures c.args.output.now);
         begun_is = refl;
       },
+      refl,
     )
 
 pub returns-in_err-write_next-clause-err : goal.returns-in_err-write_next-clause-err
@@ -57,6 +58,11 @@ returns-in_err-write_next-clause-err g c =
     (g.R.ByteIn.failures c.args.input.now) (g.R.ByteIn.failures c.loop-kept.input) (g.R.ByteIn.failures c.write_next.new.input)
     (g.W.ByteOut.failures c.args.output.now) (g.W.ByteOut.failures c.loop-kept.output) (g.W.ByteOut.failures c.write_next.new.output)
     so.frames so.un f (cause_of f) answer)
+
+pub returns-in_err-write_next-clause-own : goal.returns-in_err-write_next-clause-own
+returns-in_err-write_next-clause-own g c =
+    let p = err_from_is_err_and c.from_residual-in_err-write_next.result c.from_residual-in_err-write_next.ensures.1 in
+    rw (p.1, p.2) (rw c.loop-kept.invariant.5 at c.in_err-write_next.ensures.own)
 
 pub loop-kept-preserved : goal.loop-kept-preserved
 loop-kept-preserved g c =
@@ -97,6 +103,7 @@ loop-kept-preserved g c =
       subst (λ z. IsKeptFor z c.write_next.new.kept) i.1 c.in_ok-write_next.ensures.kept,
       subst (λ z. (said : Said) → head_saying z said ≡ video_of s said) head i.3,
       subst (λ z. UnpackedSo s z c.args.player.now.reader.place all_input all_output c.write_next.new.text.begun c.saturating_add-count.result last) head unpacked,
+      c.in_ok-write_next.ensures.container ∙ i.5,
     )
 
 pub returns-clause-ok : goal.returns-clause-ok

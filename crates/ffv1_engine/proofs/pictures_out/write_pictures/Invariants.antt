@@ -1,7 +1,7 @@
 use Rattle.std.proofs.Common.{◌≡◌, None}
 use Rattle.ffv1_wire.specs.Passage.{passage}
 use Rattle.ffv1_codec.specs.SliceList.{Said}
-use Rattle.ffv1_avi.specs.Places.{amount}
+use Rattle.ffv1_files.specs.Places.{amount, container_of}
 use Rattle.ffv1_engine.specs.Opens.{stream_of}
 use Rattle.ffv1_engine.specs.PicturesOut.{IsKeptFor, head_saying}
 use Rattle.ffv1_engine.specs.Unpacked.{video_of}
@@ -16,6 +16,7 @@ invariant-loop-kept g l =
     × UnpackedSo (stream_of l.fn.player.reader l.fn.player.decoder.accepted) l.text.head l.fn.player.reader.place
     (passage g.R.ByteIn.remaining g.R.ByteIn.failures l.initial.input l.input)
     (passage g.W.ByteOut.contents g.W.ByteOut.failures l.initial.output l.output) l.text.begun l.count l.player.reader.place
+    × (container_of l.player.reader.place ≡ container_of l.fn.player.reader.place)
 
 abbrev pub decreases-loop-kept : goal.decreases-loop-kept
 decreases-loop-kept g l = amount l.player.reader.place

@@ -2,4 +2,4 @@ use Rattle.ffv1_engine.proofs.OwnFaults.{frame_tells}
 use Rattle.ffv1_engine.proofs.player.play.Goals as goal
 
 pub returns-in-Err-clause-own : goal.returns-in-Err-clause-own
-returns-in-Err-clause-own g c = frame_tells c.in-Err.fault (c.in-Err.ensures.own c.requires.sound)
+returns-in-Err-clause-own g c = frame_tells c.args.player.now.reader.place c.in-Err.fault (c.in-Err.ensures.own c.requires.sound)

@@ -1,6 +1,7 @@
 use Rattle.std.proofs.Common.{refl}
 use Rattle.ffv1_engine.specs.declared.profile.Profile.{Profile}
 use Rattle.ffv1_engine.specs.declared.profile.Profile.TheVariants.{Strict, Wide}
+use Rattle.ffv1_files.specs.declared.container.Scope.TheVariants.{FirstMovi, Whole}
 use Rattle.ffv1_engine.proofs.PackedFrames.{FrameLaws}
 use Rattle.ffv1_engine.proofs.PackedIsUnpacked.{FileLaws, accepted_in, check_refused, given, holds, same_ppm, same_video, show_refused, unpack_refused, written}
 use Rattle.ffv1_engine.proofs.PackedText.{RecordLaws}
@@ -8,20 +9,20 @@ use Rattle.ffv1_engine.proofs.round_trip.packed_is_unpacked.Goals as goal
 
 file_laws : (profile : Profile) → goal.After-written_is_record → FileLaws profile
 file_laws Strict c = record {
-  file = c.written_is_read.ensures.file;
-  read = c.written_is_read.ensures.read;
-  is_read = c.file_is_read.ensures.read;
-  is_whole = c.file_is_read.ensures.every;
-  next = c.frames_in_turn.ensures.next;
+  file = c.written_is_read-2.ensures.file;
+  read = c.written_is_read.ensures FirstMovi;
+  is_read = c.file_is_read.ensures.first;
+  is_whole = c.file_is_read.ensures.whole;
+  next = c.frames_in_turn.ensures;
   said = c.said_heads.ensures;
   canonical = c.texts.ensures.canonical;
 }
 file_laws Wide c = record {
-  file = c.written_is_read.ensures.riff;
-  read = c.written_is_read.ensures.every;
-  is_read = c.file_is_read.ensures.read;
-  is_whole = c.file_is_read.ensures.every;
-  next = c.frames_in_turn.ensures.next;
+  file = c.written_is_read-2.ensures.riff;
+  read = c.written_is_read.ensures Whole;
+  is_read = c.file_is_read.ensures.first;
+  is_whole = c.file_is_read.ensures.whole;
+  next = c.frames_in_turn.ensures;
   said = c.said_heads.ensures;
   canonical = c.texts.ensures.canonical;
 }

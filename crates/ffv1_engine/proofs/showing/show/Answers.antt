@@ -1,15 +1,15 @@
-use Rattle.std.proofs.Common.{◌≡◌, false, true, Err, Ok, inr, subst, sym}
+use Rattle.std.proofs.Common.{Err, Ok, inl, inr, subst, sym}
 use Rattle.std.proofs.lemmas.Result.{err_from_is_err_and}
 use Rattle.ffv1_wire.specs.Passage.{passage}
 use Rattle.ffv1_reads.specs.Head.{Head, head_of}
 use Rattle.ffv1_engine.specs.Faults.{cause_of}
 use Rattle.ffv1_engine.specs.Opens.{stream_of}
-use Rattle.ffv1_engine.specs.Show.{ShowDone, ShowStops, is_show_fault}
+use Rattle.ffv1_engine.specs.Show.{IsShowFault, ShowDone, ShowStops}
 use Rattle.ffv1_engine.specs.StreamLines.{show_text}
 use Rattle.ffv1_engine.specs.Told.{WritesFrame}
 use Rattle.ffv1_engine.proofs.FileChecked.{reads_file}
-use Rattle.ffv1_engine.proofs.FileShown.{before_costs, costs_stop, lacks_stream, shows, shows_costs, text_stops}
-use Rattle.ffv1_engine.proofs.OwnFaults.{line_shows, telling_shows}
+use Rattle.ffv1_engine.proofs.FileShown.{before_costs, costs_stop, lacks_stream, no_decoder, shows, shows_costs, text_stops}
+use Rattle.ffv1_engine.proofs.OwnFaults.{line_shows, opened_shows, told_shows}
 use Rattle.ffv1_engine.proofs.showing.show.Goals as goal
 
 pub returns-in_err-reader-clause-err : goal.returns-in_err-reader-clause-err
@@ -42,7 +42,10 @@ returns-in_err-tell_costs-clause-err g c =
     let a = c.in_ok-reader.checked in
     let writes = subst (λ (h : Head). WritesFrame (show_text (record { head = h; accepted = a })) between (Ok c.in_ok-write_stream.field-0)) c.head.ensures c.in_ok-write_stream.ensures in
     rw (p.1, p.2) (subst (λ b. ShowStops c.args.profile input output b f) (sym c.if-cost.true)
-    (inr (costs_stop _ _ _ _ _ _ _ _ _ _ _ _ _ r a c.in_ok-reader.ensures.ok writes.0 writes.1 f c.in_err-tell_costs.ensures.err)))
+    (inr (elim c.in_err-tell_costs.ensures.err [
+      | inl none ↦ no_decoder _ _ _ _ _ _ _ _ _ _ _ _ _ r a c.in_ok-reader.ensures.ok writes.0 writes.1 f none
+      | inr stops ↦ costs_stop _ _ _ _ _ _ _ _ _ _ _ _ _ r a c.in_ok-reader.ensures.ok writes.0 writes.1 f stops
+    ])))
 
 pub returns-in_ok-tell_costs-clause-ok : goal.returns-in_ok-tell_costs-clause-ok
 returns-in_ok-tell_costs-clause-ok g c =
@@ -54,7 +57,7 @@ returns-in_ok-tell_costs-clause-ok g c =
     let opens = c.in_ok-reader.ensures.ok in
     let told = c.in_ok-tell_costs.ensures.ok in
     let writes = subst (λ (h : Head). WritesFrame (show_text (record { head = h; accepted = a })) between (Ok c.in_ok-write_stream.field-0)) c.head.ensures c.in_ok-write_stream.ensures in
-    let reads = reads_file c.frames_in_turn.ensures.next c.read_is_file.ensures c.file_is_read.ensures.read c.whole.ensures c.args.profile _ _ _ (stream_of r a) r.place told.0 opens.known told.1.ends in
+    let reads = reads_file c.frames_in_turn.ensures c.read_is_file.ensures.first c.read_is_file.ensures.whole c.args.profile _ _ _ (stream_of r a) r.place told.0 opens.known told.1.ends in
     subst (λ b. ShowDone c.args.profile input output b) (sym c.if-cost.true) (shows_costs _ _ _ _ _ _ _ _ _ _ _ _ _ r a opens writes.0 writes.1 told.0 told.1 reads)
 
 pub returns-in_err-write_stream-clause-own : goal.returns-in_err-write_stream-clause-own
@@ -62,13 +65,13 @@ returns-in_err-write_stream-clause-own g c =
     let p = err_from_is_err_and c.from_residual-in_err-write_stream.result c.from_residual-in_err-write_stream.ensures.1 in
     let output = passage g.W.ByteOut.contents g.W.ByteOut.failures c.args.output.now c.write_stream.new.output in
     let text = show_text (record { head = head_of c.head.result.now; accepted = c.in_ok-reader.checked }) in
-    rw (p.1, p.2) (line_shows c.args.cost text output c.in_err-write_stream.field-0.0 c.in_err-write_stream.ensures)
+    rw (p.1, p.2) (inl (line_shows c.args.cost text output c.in_err-write_stream.field-0.0 c.in_err-write_stream.ensures))
 
 pub returns-in_err-tell_costs-clause-own : goal.returns-in_err-tell_costs-clause-own
 returns-in_err-tell_costs-clause-own g c =
     let p = err_from_is_err_and c.from_residual-in_err-tell_costs.result c.from_residual-in_err-tell_costs.ensures.1 in
     let f = c.in_err-tell_costs.field-0.0 in
-    rw (p.1, p.2) (subst (λ b. is_show_fault b f ≡ true) (sym c.if-cost.true) (telling_shows f c.in_err-tell_costs.ensures.own))
+    rw (p.1, p.2) (subst (λ b. IsShowFault c.args.profile b f) (sym c.if-cost.true) (told_shows c.args.profile c.in_ok-reader.reader.place f c.in_ok-reader.ensures.ok.within c.in_err-tell_costs.ensures.own))
 
 pub returns-else-cost-clause-ok : goal.returns-else-cost-clause-ok
 returns-else-cost-clause-ok g c =
@@ -78,3 +81,8 @@ returns-else-cost-clause-ok g c =
     let a = c.in_ok-reader.checked in
     let writes = subst (λ (h : Head). WritesFrame (show_text (record { head = h; accepted = a })) output (Ok c.in_ok-write_stream.field-0)) c.head.ensures c.in_ok-write_stream.ensures in
     subst (λ b. ShowDone c.args.profile input output b) (sym c.if-cost.false) (shows c.args.profile _ _ _ _ _ _ _ _ r a c.in_ok-reader.ensures.ok writes.0 writes.1)
+
+pub returns-in_err-reader-clause-own : goal.returns-in_err-reader-clause-own
+returns-in_err-reader-clause-own g c =
+    let p = err_from_is_err_and c.from_residual.result c.from_residual.ensures.1 in
+    rw (p.1, p.2) (opened_shows c.args.profile c.args.cost c.in_err-reader.field-0.0 c.in_err-reader.ensures.own)

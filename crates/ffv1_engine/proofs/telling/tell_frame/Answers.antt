@@ -7,6 +7,9 @@ use Rattle.ffv1_codec.specs.Kept.{Dropped, Drops, DropsNot}
 use Rattle.ffv1_engine.specs.Stream.{Frame}
 use Rattle.ffv1_engine.specs.Told.{is_telling_fault}
 use Rattle.ffv1_engine.proofs.FrameDecoded.{frame_fails, is_decided, is_faulty}
+use Rattle.ffv1_engine.specs.Faults.{cause_of}
+use Rattle.ffv1_engine.specs.Faults.Cause.{Content}
+use Rattle.ffv1_engine.proofs.PicturesWritten.{decode_cause}
 use Rattle.ffv1_engine.proofs.OwnFaults.{payload_tells}
 use Rattle.ffv1_engine.proofs.telling.tell_frame.Goals as goal
 
@@ -59,6 +62,9 @@ returns-in-Err-Payload-clause-answer g c =
       reads = answer.0;
       faulty = is_faulty Drops DropsNot a payload c.new-sink.result c.play.new.sink tally f own answer.1;
       is = rw c.in-Err-Payload.field-0-is at c.from-in-Err-Payload.ensures;
+      content =
+          subst (λ z. cause_of z ≡ Content) (sym (rw c.in-Err-Payload.field-0-is at c.from-in-Err-Payload.ensures))
+          (decode_cause f.fault (c.decode_faults.ensures a payload c.new-sink.result c.play.new.sink tally f answer.1) own);
       writes = rw c.in-Err-Payload.field-0-is at c.tell_place.ensures;
     })
 
@@ -73,4 +79,4 @@ returns-in-Err-Payload-clause-own g c =
     let own = c.taken_lines.ensures.dropped a payload c.new-sink.result c.play.new.sink tally f c.requires.accepted answer.1 grid in
     let decode = c.decode_faults.ensures a payload c.new-sink.result c.play.new.sink tally f answer.1 in
     let is = rw c.in-Err-Payload.field-0-is at c.from-in-Err-Payload.ensures in
-    subst (λ z. is_telling_fault z ≡ true) (sym is) (payload_tells f.fault decode own)
+    inl (subst (λ z. is_telling_fault z ≡ true) (sym is) (payload_tells f.fault decode own))

@@ -17,6 +17,7 @@ loop-text-init g c =
         told = told_none c.args.kind c.args.place c.args.player.now.decoder.accepted c.args.player.now.reader.place (g.R.ByteIn.remaining c.args.input.now) (g.W.ByteOut.contents c.args.output.now)
             (g.R.ByteIn.failures c.args.input.now) (g.W.ByteOut.failures c.args.output.now);
       },
+      refl,
     )
 
 pub returns-in_err-tell_frame-clause-err : goal.returns-in_err-tell_frame-clause-err
@@ -31,6 +32,11 @@ returns-in_err-tell_frame-clause-err g c =
     (g.R.ByteIn.failures c.args.input.now) (g.R.ByteIn.failures c.loop-text.input) (g.R.ByteIn.failures c.tell_frame.new.input)
     (g.W.ByteOut.failures c.args.output.now) (g.W.ByteOut.failures c.loop-text.output) (g.W.ByteOut.failures c.tell_frame.new.output)
     so.frames so.is so.told c.in_err-tell_frame.field-0.0 (rw same at c.in_err-tell_frame.ensures.answer))
+
+pub returns-in_err-tell_frame-clause-own : goal.returns-in_err-tell_frame-clause-own
+returns-in_err-tell_frame-clause-own g c =
+    let p = err_from_is_err_and c.from_residual.result c.from_residual.ensures.1 in
+    rw (p.1, p.2) (rw c.loop-text.invariant.3 at c.in_err-tell_frame.ensures.own)
 
 pub loop-text-preserved : goal.loop-text-preserved
 loop-text-preserved g c =
@@ -56,6 +62,7 @@ loop-text-preserved g c =
             (g.W.ByteOut.failures c.args.output.now) (g.W.ByteOut.failures c.loop-text.output) (g.W.ByteOut.failures c.tell_frame.new.output)
             so.frames so.is so.told f answer.1 answer.2 answer.3;
       },
+      c.in_ok-tell_frame.ensures.container ∙ c.loop-text.invariant.3,
     )
 
 pub returns-clause-ok : goal.returns-clause-ok

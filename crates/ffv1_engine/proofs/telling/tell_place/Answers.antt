@@ -1,12 +1,11 @@
 use Rattle.ffv1_wire.specs.Passage.{passage}
 use Rattle.ffv1_codec.specs.Answer.{decided_by}
 use Rattle.ffv1_engine.specs.FrameLines.{place_line}
-use Rattle.ffv1_engine.proofs.FrameDecoded.{line_written, place_some}
+use Rattle.ffv1_engine.proofs.FrameDecoded.{line_written}
 use Rattle.ffv1_engine.proofs.telling.tell_place.Goals as goal
 
 pub returns : goal.returns
 returns g c =
-    let decisions = decided_by c.args.decoder.now.tally in
     rw c.if-not-place.false
-    (line_written (place_line c.args.number c.args.fault decisions) (passage g.W.ByteOut.contents g.W.ByteOut.failures c.args.output.now c.write_place-told.new.output)
-    c.write_place-told.result (place_some c.args.number c.args.fault decisions) c.write_place-told.ensures)
+    (line_written (place_line c.args.number c.args.fault (decided_by c.args.decoder.now.tally))
+    (passage g.W.ByteOut.contents g.W.ByteOut.failures c.args.output.now c.write_place-told.new.output) c.write_place-told.result (rw c.decisions.ensures at c.write_place-told.ensures))

@@ -1,7 +1,8 @@
-use Rattle.std.proofs.Common.{◌≡◌, ◌∙◌, sym}
+use Rattle.std.proofs.Common.{◌≡◌}
 use Rattle.ffv1_engine.specs.Opens.{stream_of}
 use Rattle.ffv1_engine.proofs.FileChecked.{reads_file}
 use Rattle.ffv1_engine.proofs.FileUnpacked.{done, lacks_unpacking, no_frames, unpack_stops}
+use Rattle.ffv1_engine.proofs.OwnFaults.{written_unpacks}
 use Rattle.ffv1_engine.proofs.unpacking.unpack.Goals as goal
 
 pub returns-in-Err-clause-err : goal.returns-in-Err-clause-err
@@ -31,7 +32,7 @@ returns-in-Ok-answer-clause-ok g c =
     let a = c.in-Ok.player.decoder.accepted in
     let opens = c.in-Ok.ensures.ok in
     let some : c.in-Ok-answer.count ≡ 0 → ⊥ = rw c.in-Ok-answer.is at c.in-Ok-answer.count-test.1 in
-    let reads = reads_file c.frames_in_turn.ensures.next c.read_is_file.ensures c.file_is_read.ensures.read c.whole.ensures c.args.profile i0 i1 i2 (stream_of r a) r.place all.0 opens.known all.2.ends in
+    let reads = reads_file c.frames_in_turn.ensures c.read_is_file.ensures.first c.read_is_file.ensures.whole c.args.profile i0 i1 i2 (stream_of r a) r.place all.0 opens.known all.2.ends in
     done c.args.profile i0 i1 i2 (g.W.ByteOut.contents c.args.output) (g.W.ByteOut.contents c.write_frames-output.result.0) (g.R.ByteIn.failures c.args.input.now) (g.R.ByteIn.failures c.open_unpacking.new.input)
     (g.R.ByteIn.failures c.write_frames-output.new.input) (g.W.ByteOut.failures c.args.output) (g.W.ByteOut.failures c.write_frames-output.result.0)
     r a opens c.in-Ok.ensures.text all.0 c.in-Ok-answer.count all.1 all.2 some reads
@@ -44,4 +45,5 @@ returns-clause-err g c =
     c.in-Ok.player.reader c.in-Ok.player.decoder.accepted c.in-Ok.ensures.ok c.in-Ok.ensures.text c.in-Err-answer.fault (rw c.in-Err-answer.is at c.write_frames-output.ensures.err)
 
 pub returns-clause-own : goal.returns-clause-own
-returns-clause-own g c = rw c.in-Err-answer.is at c.write_frames-output.ensures.own
+returns-clause-own g c =
+    written_unpacks c.args.profile c.in-Ok.player.reader.place c.in-Err-answer.fault c.in-Ok.ensures.ok.within (rw c.in-Err-answer.is at c.write_frames-output.ensures.own)

@@ -4,7 +4,7 @@ use Rattle.ffv1_reads.proofs.Reading.{goes_none}
 use Rattle.ffv1_matroska.specs.Files.{found_or_on, frame_found, frame_found_up_to}
 use Rattle.ffv1_matroska.specs.Places.{amount}
 use Rattle.ffv1_matroska.specs.Segments.{step_read}
-use Rattle.ffv1_matroska.proofs.EndReadings.{none_ends, none_given, none_read, none_refused_end}
+use Rattle.ffv1_reads.proofs.EndReadings.{none_ends, none_given, none_read, none_refused_end}
 use Rattle.ffv1_matroska.proofs.Steps.{fewer}
 use Rattle.ffv1_matroska.proofs.frames.find_frame.Goals as goal
 

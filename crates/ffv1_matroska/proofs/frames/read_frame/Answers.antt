@@ -8,7 +8,7 @@ use Rattle.ffv1_ebml.specs.declared.sum.Sum.{Sum}
 use Rattle.ffv1_matroska.specs.Files.{found_read, frame_found, frame_read}
 use Rattle.ffv1_matroska.specs.Places.{closed, is_sound, summed_at}
 use Rattle.ffv1_matroska.specs.declared.place.Place.{Place}
-use Rattle.ffv1_matroska.proofs.EndReadings.{none_ends, none_given, none_read, none_refused, none_refused_end, some_read}
+use Rattle.ffv1_reads.proofs.EndReadings.{none_ends, none_given, none_read, none_refused, none_refused_end, some_read}
 use Rattle.ffv1_matroska.proofs.FoundFrames.{begins_all, leaves_begun}
 use Rattle.ffv1_matroska.proofs.frames.read_frame.Goals as goal
 

@@ -4,7 +4,7 @@ use Rattle.ffv1_matroska.specs.Places.{amount, segment_at}
 use Rattle.ffv1_matroska.specs.Segments.{header_read, segment_child, segment_read, segment_rest}
 use Rattle.ffv1_matroska.specs.declared.place.Step.{Step}
 use Rattle.ffv1_reads.proofs.Reading.{goes_last, goes_none}
-use Rattle.ffv1_matroska.proofs.EndReadings.{answers_none, none_read}
+use Rattle.ffv1_reads.proofs.EndReadings.{answers_none, none_read}
 use Rattle.ffv1_matroska.proofs.Steps.{steps_less, within_bytes}
 use Rattle.ffv1_matroska.proofs.segment.read_segment.Goals as goal
 

@@ -10,7 +10,7 @@ use std::alloc::{AllocError, Global};
 use std::process::Abort;
 use std::test::Fail;
 
-/// A chunk of two parts behind others: its header, its bytes, its padding.
+/// A chunk of two parts after others: its header, its bytes, its padding.
 pub(super) fn chunk(
     out: &mut Vec<u8>,
     name: &[u8; 4],
@@ -74,7 +74,7 @@ fn stream_chunks(out: &mut Vec<u8>, width: u8, record: &[u8]) -> Result<(), Allo
     chunk(out, b"vprp", &[0; 68], b"")
 }
 
-/// A stream's list behind others.
+/// A stream's list after others.
 pub(super) fn stream(
     alloc: Global,
     out: &mut Vec<u8>,
@@ -93,7 +93,7 @@ fn hdrl_chunks(out: &mut Vec<u8>, streams: &[u8]) -> Result<(), AllocError> {
     chunk(out, b"JUNK", b"odmldmlh\xF8\x00\x00\x00", &[0; 248])
 }
 
-/// The list hdrl behind others.
+/// The list hdrl after others.
 fn hdrl(alloc: Global, out: &mut Vec<u8>, streams: &[u8]) -> Result<(), AllocError> {
     let mut chunks = Vec::new(alloc);
     hdrl_chunks(&mut chunks, streams)?;
@@ -180,7 +180,7 @@ fn answer(alloc: Global, streams: &[u8]) -> Result<(), FileFault> {
     Ok(())
 }
 
-/// A stream's header with such a scale, and behind it these bytes as its format, where there are
+/// A stream's header with such a scale, and after it these bytes as its format, where there are
 /// some.
 fn header_and_format(out: &mut Vec<u8>, scale: u8, format: &[u8]) -> Result<(), AllocError> {
     chunk(out, b"strh", &header(b"vids", 25, scale), b"")?;
@@ -212,7 +212,7 @@ fn with_format(alloc: Global, scale: u8, len: usize) -> Result<(), FileFault>
     answer(alloc, streams.as_slice())
 }
 
-/// A stream, behind it another list, and behind that these bytes.
+/// A stream, after it another list, and after that these bytes.
 fn streams_before(alloc: Global, out: &mut Vec<u8>, behind: &[u8]) -> Result<(), AllocError> {
     stream(alloc, out, 2, b"abc\0")?;
     let chunks = b"dmlh\x04\x00\x00\x00\x01\x00\x00\x00";

@@ -3,7 +3,6 @@
 ghost use Rattle.std.specs.Prelude.{◌≡◌, ◌+◌, ◌<◌, ◌≤◌, IfOk, length};
 
 use super::example::EXAMPLE;
-use crate::tests::made::shows;
 use ffv1_avi::{AviReader, write_avi};
 use ffv1_reads::{FileFault, FileHead};
 use ffv1_wire::{FromRead, ToWrite};
@@ -268,20 +267,4 @@ fn long_frames(rt: HostRuntime) {
 fn long_formats(rt: HostRuntime) {
     assert!(rt; opened(rt.alloc(), &long_format(67108865)) == Err(FileFault::ChunkTooLong));
     assert!(rt; opened(rt.alloc(), &long_format(67108864)) == Err(FileFault::Truncated));
-}
-
-#[test]
-fn texts(rt: HostRuntime) {
-    let shown = [
-        shows(rt.alloc(), &FileFault::OutOfMemory, "2 OutOfMemory"),
-        shows(rt.alloc(), &FileFault::NotAvi, "50 NotAvi"),
-        shows(rt.alloc(), &FileFault::NoFfv1, "51 NoFfv1"),
-        shows(rt.alloc(), &FileFault::Truncated, "52 Truncated"),
-        shows(rt.alloc(), &FileFault::ChunkTooLong, "53 ChunkTooLong"),
-        shows(rt.alloc(), &FileFault::EmptyFrame, "54 EmptyFrame"),
-        shows(rt.alloc(), &FileFault::TooLarge, "55 TooLarge"),
-        shows(rt.alloc(), &FileFault::Read, "56 Read"),
-        shows(rt.alloc(), &FileFault::Write, "57 Write"),
-    ];
-    assert!(rt; shown == [true; 9]);
 }

@@ -36,7 +36,7 @@ fn every_frame(alloc: Global, file: &[u8]) -> Result<Ending, FileFault> {
     Ok((count, end, reader.next_frame(&mut input, &mut frame)))
 }
 
-/// The example, and behind it these bytes twice.
+/// The example, and after it these bytes twice.
 fn behind(alloc: Global, first: &[u8], second: &[u8]) -> Result<Vec<u8>, AllocError> {
     let mut file = EXAMPLE.to_vec(alloc)?;
     file.extend_from_slice(first)?;
@@ -67,7 +67,7 @@ fn all_riffs(rt: HostRuntime) {
     assert!(rt; has(rt.alloc(), &MORE, &MORE, 3));
 }
 
-/// The first movi alone, and the bytes behind it are left.
+/// The first movi alone, and the bytes after it are left.
 #[test]
 fn first_movi(rt: HostRuntime) -> Result<(), Fail> {
     let file = behind(rt.alloc(), &MORE, &MORE)?;
@@ -148,7 +148,7 @@ fn no_riff(rt: HostRuntime) {
 
 // ------------------------------------------------------------------------------ streams and records
 
-/// A stream of sound, and one of width 2 behind it, of which the file has so many frames.
+/// A stream of sound, and one of width 2 after it, of which the file has so many frames.
 fn sound_first(alloc: Global, total: u8) -> Result<Vec<u8>, AllocError> {
     let sound = one_chunk(alloc, b"strh", &header(b"auds", 25, 1), b"")?;
     let mut streams = one_chunk(alloc, b"LIST", b"strl", sound.as_slice())?;
@@ -186,7 +186,7 @@ fn too_few(rt: HostRuntime) -> Result<(), Fail> {
     Ok(())
 }
 
-/// The record of a file whose format says that it ends at such a byte, and has ten behind its first
+/// The record of a file whose format says that it ends at such a byte, and has ten after its first
 /// forty.
 fn record_len(alloc: Global, end: u8) -> Result<usize, FileFault> {
     let mut strf = format(2);

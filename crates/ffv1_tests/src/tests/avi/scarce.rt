@@ -54,7 +54,7 @@ fn read_two<A: Allocator + Copy>(
     Ok((first, len, second))
 }
 
-/// The same where the request behind `before` others is refused.
+/// The same where the request after `before` others is refused.
 fn read_scarcely(
     alloc: Global,
     file: &[u8],
@@ -95,7 +95,7 @@ fn read_short<A: Allocator + Copy>(
     Ok((answer, frame.len(), frame.capacity()))
 }
 
-/// Room is made for a frame that ends behind so many bytes.
+/// Room is made for a frame that ends after so many bytes.
 fn makes_room(rt: &impl Abort, alloc: Global, file: &[u8], read: usize) {
     let head = file.len().saturating_sub(400_000);
     let end = head.saturating_add(read).min(file.len());

@@ -2,7 +2,6 @@
 
 ghost use Rattle.ffv1_range.specs.Table.{Holds};
 
-use crate::tests::made::shows;
 use ffv1_range::{Fault, RangeDecoder, RangeEncoder, StateTable, Tally};
 use std::alloc::Global;
 
@@ -113,15 +112,4 @@ fn starts(rt: HostRuntime) {
     let good = RangeDecoder::new(&[0xfe, 0xff]).is_ok();
     let empty = RangeDecoder::new(&[]).is_ok();
     assert!(rt; (bad, good, empty) == (Some(Fault::BadStart), true, true));
-}
-
-#[test]
-fn faults_show_number_and_name(rt: HostRuntime) {
-    let shown = [
-        shows(rt.alloc(), &Fault::StateTable, "1 StateTable"),
-        shows(rt.alloc(), &Fault::OutOfMemory, "2 OutOfMemory"),
-        shows(rt.alloc(), &Fault::BadStart, "3 BadStart"),
-        shows(rt.alloc(), &Fault::SymbolTooLong, "4 SymbolTooLong"),
-    ];
-    assert!(rt; shown == [true; 4]);
 }

@@ -20,7 +20,7 @@ pub(crate) fn put_at(
     encoder.put(table, &mut states[slot], bit)
 }
 
-/// A symbol whose exponent has 31 ones, behind the decision that the number is not zero.
+/// A symbol whose exponent has 31 ones, after the decision that the number is not zero.
 pub(crate) fn put_long_exponent(
     encoder: &mut RangeEncoder,
     table: &StateTable,

@@ -154,7 +154,7 @@ fn unsigned(rt: HostRuntime) {
     );
 }
 
-/// The bytes of an exponent of 31 ones, behind the decision that the number is not zero.
+/// The bytes of an exponent of 31 ones, after the decision that the number is not zero.
 fn long_exponent(rt: &HostRuntime, table: &StateTable) -> Result<Vec<u8>, Fault>
     requires { AreHeld table.now (replicate 32 128) }
 {
@@ -164,7 +164,7 @@ fn long_exponent(rt: &HostRuntime, table: &StateTable) -> Result<Vec<u8>, Fault>
     encoder.finish_full()
 }
 
-/// Such bytes are refused behind 32 decisions, as a number with a sign and as one without.
+/// Such bytes are refused after 32 decisions, as a number with a sign and as one without.
 fn refuses(rt: &impl Abort, table: &StateTable, bytes: &[u8]) -> Result<(), Fault>
     requires { AreHeld table.now (replicate 32 128) }
 {

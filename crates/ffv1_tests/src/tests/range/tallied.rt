@@ -51,7 +51,7 @@ fn numbers(rt: HostRuntime) {
     tallied(&rt, &long, signed(1_073_741_824, false), 30, 33, 5);
 }
 
-/// Whether two zeros come next, each read by one state, the state behind them, and the number that
+/// Whether two zeros come next, each read by one state, the state after them, and the number that
 /// comes then by states of its own.
 fn takes(code: &[u8]) -> Result<(bool, bool, u8, Result<i32, Fault>), Fault> {
     let table = StateTable::standard();

@@ -159,7 +159,7 @@ fn numbers_and_names(rt: HostRuntime) {
 /// named, and where one is.
 fn profiles(alloc: Global, profile: Profile) -> Result<[Profile; 4], RecordFault> {
     let checked = mono(alloc, 1, 1)?.check()?;
-    let checked_in = mono(alloc, 1, 1)?.check_in(profile)?;
+    let checked_in = mono(alloc, 1, 1)?.check_in(profile, 8)?;
     let read = read_record(alloc, &SMALL, 1, 1)?;
     let read_in = read_record_in(alloc, &SMALL, 1, 1, profile)?;
     Ok([
@@ -185,4 +185,22 @@ fn kept_profiles(rt: HostRuntime) -> Result<(), Fail> {
     let same = are_same(rt.alloc(), wide, wide)?;
     assert!(rt; same && !are_same(rt.alloc(), strict, wide)?);
     Ok(())
+}
+
+/// Why a configuration of this width is refused at a depth; None where it is accepted.
+fn fault_at(alloc: Global, width: u32, depth: u32) -> Option<RecordFault> {
+    match mono(alloc, width, 1) {
+        Ok(config) => config.check_in(Profile::Wide, depth).err(),
+        Err(fault) => Some(fault),
+    }
+}
+
+#[test]
+fn depths(rt: HostRuntime) {
+    let alloc = rt.alloc();
+    assert!(rt; fault_at(alloc, 1, 8).is_none());
+    for depth in [0, 7, 9, 10, 16] {
+        assert!(rt; fault_at(alloc, 1, depth) == Some(RecordFault::Depth));
+        assert!(rt; fault_at(alloc, 0, depth) == Some(RecordFault::Size));
+    }
 }

@@ -134,7 +134,7 @@ fn put_parameters(symbols: &mut Symbols, made: Made) -> Result<(), Fault> {
     put_numbers(symbols, &[made.ec, made.intra])
 }
 
-/// Puts the parity behind bytes, big end first.
+/// Puts the parity after bytes, big end first.
 pub(super) fn sealed(mut bytes: Vec<u8>) -> Result<Vec<u8>, RecordFault> {
     let tail = parity(&bytes).to_be_bytes();
     bytes.extend_from_slice(&tail)?;

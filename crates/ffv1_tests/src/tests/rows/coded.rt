@@ -47,7 +47,7 @@ fn code_row(
     Ok(())
 }
 
-/// The rows of a cell, coded both ways with the same counts, and the same states behind them.
+/// The rows of a cell, coded both ways with the same counts, and the same states after them.
 fn code_rows(
     passes: &mut RangeEncoder,
     plain: &mut RangeEncoder,
@@ -90,7 +90,7 @@ fn same_bytes(passes: RangeEncoder, plain: RangeEncoder) -> Result<Vec<u8>, Fail
     Ok(bytes)
 }
 
-/// The bytes of the rows of a cell, coded both ways from fresh states, with the same states behind
+/// The bytes of the rows of a cell, coded both ways from fresh states, with the same states after
 /// them.
 pub(super) fn code_cell(
     rt: &HostRuntime,

@@ -73,7 +73,7 @@ pub(super) fn residual(seed: &mut u64) -> i32
     if next(seed) % 2 == 0 { -size } else { size }
 }
 
-/// The next sample of a kind behind another one, of so many bits.
+/// The next sample of a kind after another one, of so many bits.
 fn sample(kind: Kind, before: u16, bits: u8, seed: &mut u64) -> u16 {
     let most: u32 = if bits == 8 { 256 } else { 512 };
     let number = next(seed);

@@ -50,7 +50,7 @@ fn decode_row(
     Ok(done.is_err())
 }
 
-/// Counts a row, by a decoder that stands behind it.
+/// Counts a row, by a decoder that stands after it.
 fn count_row(decoder: &RangeDecoder<'_>, bytes: &[u8], refused: bool, seen: &mut Seen) {
     seen.decoded = seen.decoded.saturating_add(1);
     if refused {
@@ -144,7 +144,7 @@ fn stand_alike(
     number == plain.get_signed(table, &mut others) && blocks.tally() == plain.tally()
 }
 
-/// Decodes the rows of a cell both ways, with the same states behind them, and decoders that read on
+/// Decodes the rows of a cell both ways, with the same states after them, and decoders that read on
 /// alike.
 pub(super) fn decode_cell(
     table: &StateTable,

@@ -22,7 +22,7 @@ const CODED: u32 = CELLS * 6 * 40;
 /// The rows that are decoded.
 const DECODED: u32 = CELLS * 16 * 40;
 
-/// The least rows that are refused, and that are decoded behind the end of their bytes.
+/// The least rows that are refused, and that are decoded after the end of their bytes.
 const LEAST: u32 = CELLS * 40;
 
 /// How many rows were compared.
@@ -34,7 +34,7 @@ pub(super) struct Seen {
     pub(super) decoded: u32,
     /// Refused.
     pub(super) refused: u32,
-    /// Decoded behind the end of the bytes, at least in part.
+    /// Decoded after the end of the bytes, at least in part.
     pub(super) early: u32,
 }
 
@@ -122,7 +122,7 @@ fn try_kind(
 }
 
 /// A cell of residuals of up to 31 bits, its rows refused or not. They give its samples, and those
-/// behind a symbol that is refused stay.
+/// after a symbol that is refused stay.
 fn try_residuals(
     rt: &HostRuntime,
     table: &StateTable,

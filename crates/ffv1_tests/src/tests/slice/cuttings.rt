@@ -7,7 +7,7 @@ use std::alloc::Global;
 use std::process::Abort;
 use std::test::Fail;
 
-/// The answer of a cut, and the first two spans behind it.
+/// The answer of a cut, and the first two spans after it.
 type Spanned = (
     Result<(), CutFault>,
     Option<(usize, usize)>,
@@ -36,7 +36,7 @@ fn gives(
     Ok(())
 }
 
-/// A payload is refused so, and there are no spans behind it.
+/// A payload is refused so, and there are no spans after it.
 fn refuses(
     rt: &impl Abort,
     alloc: Global,

@@ -66,7 +66,7 @@ fn answer(
     head_of(bytes.as_slice(), checked, 0)
 }
 
-/// A head is answered so, behind so many decisions.
+/// A head is answered so, after so many decisions.
 fn answers(
     rt: &impl Abort,
     bytes: &[u8],
@@ -101,7 +101,7 @@ fn stored_heads(rt: HostRuntime) -> Result<(), Fail> {
     two_heads(&rt, &two)
 }
 
-/// The first slice of two, with these numbers in the place of its head, has another place, behind
+/// The first slice of two, with these numbers in the place of its head, has another place, after
 /// so many decisions.
 fn is_elsewhere(
     rt: &impl Abort,

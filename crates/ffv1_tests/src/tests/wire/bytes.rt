@@ -16,7 +16,7 @@ use std::test::Fail;
 
 const BYTES: [u8; 6] = *b"abcdef";
 
-/// The bytes behind what the vector has.
+/// The bytes after what the vector has.
 fn appended(vec: Vec<u8>, bytes: &[u8]) -> Result<Vec<u8>, Failed>
     ensures { IfOk result (λ v. v.items ≡ vec.items ++ bytes.now) }
 {
@@ -119,7 +119,7 @@ fn three_rows(bytes: &[u8], width: usize) -> [Line<'_>; 3]
     ]
 }
 
-/// Whether bytes are put behind those of a vector.
+/// Whether bytes are put after those of a vector.
 fn appends(alloc: Global, first: &[u8], others: &[u8], all: &[u8]) -> Result<bool, Fail> {
     let appended = appended(first.to_vec(alloc)?, others)?;
     Ok(appended.as_slice() == all)
@@ -164,7 +164,7 @@ fn read_others<R: ByteIn>(
     Ok((len, byte, skip(input, 1)?))
 }
 
-/// What some bytes are read as, the room behind that, what others are read as, and the failures.
+/// What some bytes are read as, the room after that, what others are read as, and the failures.
 fn read_to_the_end(
     bytes: &[u8],
 ) -> (

@@ -41,7 +41,7 @@ impl<W: ByteOut> LineSink for RowsOut<W> {
     }
 }
 
-/// Hands over the lines, whose samples stand behind the others if all are taken.
+/// Hands over the lines, whose samples stand after the others if all are taken.
 pub fn keep_rows<A: Allocator>(sink: &mut KeepRows<A>, lines: &[Line<'_>]) -> Result<(), SinkFault>
     ensures { OnOk result
         (sink.new.samples.items ≡ sink.old.samples.items

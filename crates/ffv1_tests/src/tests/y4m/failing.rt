@@ -1,4 +1,4 @@
-//! Reads that fail behind bytes that were read.
+//! Reads that fail after bytes that were read.
 
 use super::pictures::first_fault;
 use ffv1_doubles::BrokenReader;
@@ -7,7 +7,7 @@ use ffv1_y4m::{Fault, PpmReader};
 use std::alloc::Global;
 use std::test::Fail;
 
-/// Texts of pictures behind which reads fail, and their faults.
+/// Texts of pictures after which reads fail, and their faults.
 const PICTURES: [(&[u8], Option<Fault>); 8] = [
     (b"", Some(Fault::Read)),
     (b"YUV4MPEG2 W1", Some(Fault::Read)),
@@ -37,7 +37,7 @@ fn image_fault(alloc: Global, text: &[u8]) -> Option<Fault> {
     }
 }
 
-/// Texts of images behind which reads fail, and their faults.
+/// Texts of images after which reads fail, and their faults.
 const IMAGES: [(&[u8], Option<Fault>); 5] = [
     (b"P6", Some(Fault::Read)),
     (b"P6 1", Some(Fault::Header)),

@@ -236,7 +236,7 @@ fn first_byte_read_before(rt: HostRuntime) -> Result<(), Fault> {
     Ok(())
 }
 
-/// How many bytes are left behind a header line without an end.
+/// How many bytes are left after a header line without an end.
 fn left_of_long(alloc: Global, len: usize) -> usize
     requires { len < 1040 }
 {

@@ -6,7 +6,7 @@ use std::alloc::Global;
 use std::process::Abort;
 use std::test::Fail;
 
-/// The planes of the last image of a text, one behind the other, and how many images there are.
+/// The planes of the last image of a text, one after the other, and how many images there are.
 fn read_all(alloc: Global, text: &[u8]) -> Result<(Vec<u8>, u32), Fault> {
     let mut input = FromRead::new(text);
     let mut reader = PpmReader::open(alloc, None, &mut input)?;
@@ -22,7 +22,7 @@ fn read_all(alloc: Global, text: &[u8]) -> Result<(Vec<u8>, u32), Fault> {
     Ok((last, images))
 }
 
-/// Reads the next image, and puts its planes one behind the other. Whether there was one.
+/// Reads the next image, and puts its planes one after the other. Whether there was one.
 fn read_next(
     reader: &mut PpmReader,
     input: &mut FromRead<&[u8]>,
@@ -227,7 +227,7 @@ fn longest_sizes(rt: HostRuntime) -> Result<(), Fault> {
     Ok(())
 }
 
-/// The fault of a text's second image, and how many bytes are left behind it; the call after it
+/// The fault of a text's second image, and how many bytes are left after it; the call after it
 /// reads nothing.
 fn second_fault(alloc: Global, text: &[u8]) -> Result<(Option<Fault>, usize), Fault> {
     let mut input = FromRead::new(text);
@@ -242,7 +242,7 @@ fn second_fault(alloc: Global, text: &[u8]) -> Result<(Option<Fault>, usize), Fa
     Ok((fault, input.into_inner().len()))
 }
 
-/// Texts, the faults of their second images, and how many bytes are left behind them.
+/// Texts, the faults of their second images, and how many bytes are left after them.
 const LATER: [(&[u8], Option<Fault>, usize); 5] = [
     (b"P6\n1 1\n255\nabc", None, 0),
     (

@@ -157,7 +157,7 @@ fn frame_lines(rt: HostRuntime) -> Result<(), Fail> {
 }
 
 /// The fault of opening a text or of its next picture, and how many bytes of the text are left
-/// behind it.
+/// after it.
 fn fault_and_left(alloc: Global, text: &[u8]) -> (Option<Fault>, usize) {
     let mut input = FromRead::new(text);
     let fault = first_fault(alloc, &mut input);
@@ -172,7 +172,7 @@ pub(super) fn first_fault<R: Read>(alloc: Global, input: &mut FromRead<R>) -> Op
     }
 }
 
-/// Texts, their first faults, and how many bytes are left behind them.
+/// Texts, their first faults, and how many bytes are left after them.
 const FAULTS: [(&[u8], Option<Fault>, usize); 9] = [
     (b"YUV4MPEG1 W1 H1\nrest", Some(Fault::Header), 4),
     (b"YUV4MPEG2 W1 H1", Some(Fault::Header), 0),

@@ -197,7 +197,7 @@ fn images_cut(rt: HostRuntime) -> Result<(), Fail> {
     Ok(())
 }
 
-/// The failures of a sink of which a request is refused behind others; or of its writer, and why
+/// The failures of a sink of which a request is refused after others; or of its writer, and why
 /// that one comes back and how much it then holds.
 fn sink_answer(alloc: Global, before: u64) -> (u64, Option<(Fault, usize)>) {
     let heap = Scarce::new(alloc, before);

@@ -1,0 +1,5 @@
+pub mod Answering
+pub mod FirstByte
+pub mod FileLaws
+pub mod Openings
+pub mod Nexts

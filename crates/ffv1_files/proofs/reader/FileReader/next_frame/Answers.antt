@@ -1,0 +1,17 @@
+use Rattle.ffv1_wire.specs.Passage.{passage}
+use Rattle.ffv1_files.proofs.Nexts.{avi_next, matroska_stands}
+use Rattle.ffv1_files.proofs.reader.FileReader.next_frame.Goals as goal
+use Rattle.ffv1_files.proofs.reader.FileReader.next_frame.Goals.{in-Avi, in-Matroska}
+
+pub returns-clause-answer : goal.returns-clause-answer
+returns-clause-answer g c = elim c.match-self.branch [
+  | in-Avi w ↦
+      rw (← c.self.view_is, w.in-Avi.is, w.result-is, w.frame-is, w.input-is, w.self-inside-is)
+      (λ none. avi_next w.in-Avi.reader.place w.next_frame.new.self.place w.next_frame.new.frame.items
+      (passage g.R.ByteIn.remaining g.R.ByteIn.failures c.args.input.now w.next_frame.new.input) w.next_frame.result (w.next_frame.ensures.answer none))
+  | in-Matroska w ↦
+      rw (← c.self.view_is, w.in-Matroska.is, w.result-is, w.frame-is, w.input-is, w.self-inside-is)
+      (λ none. matroska_stands w.in-Matroska.reader w.next_frame-in-Matroska.new.self w.next_frame-in-Matroska.new.frame.items
+      (passage g.R.ByteIn.remaining g.R.ByteIn.failures c.args.input.now w.next_frame-in-Matroska.new.input) w.next_frame-in-Matroska.result
+      w.next_frame-in-Matroska.ensures.stands (w.next_frame-in-Matroska.ensures.answer none))
+]

@@ -1,0 +1,15 @@
+use Rattle.ffv1_wire.specs.Passage.{passage}
+use Rattle.ffv1_files.proofs.Openings.{movi_opens, movi_stops}
+use Rattle.ffv1_files.proofs.reader.FileReader.open.Goals as goal
+
+pub returns-in-Ok-clause-answer : goal.returns-in-Ok-clause-answer
+returns-in-Ok-clause-answer g c =
+    let reader = c.in-Ok.reader in
+    rw c.in-FirstMovi.is (movi_opens (passage g.R.ByteIn.remaining g.R.ByteIn.failures c.args.input.now c.open.new.input) (reader.head, reader.place) c.in-Ok.ensures.answer)
+
+pub returns-in-Err-clause-answer : goal.returns-in-Err-clause-answer
+returns-in-Err-clause-answer g c =
+    rw c.in-FirstMovi.is (movi_stops (passage g.R.ByteIn.remaining g.R.ByteIn.failures c.args.input.now c.open.new.input) c.in-Err.fault c.in-Err.ensures.answer)
+
+pub returns-in-Err-open_whole-clause-answer : goal.returns-in-Err-open_whole-clause-answer
+returns-in-Err-open_whole-clause-answer g c = rw c.in-Whole.is c.in-Err-open_whole.ensures.answer

@@ -1,0 +1,64 @@
+use Rattle.std.proofs.Common.{◌≡◌, subst, true, ◌∙◌}
+use Rattle.ffv1_wire.specs.Passage.{between}
+use Rattle.ffv1_wire.specs.Reads.{GivesByte}
+use Rattle.ffv1_reads.specs.Ends.{ReadOrOver, RefusedOrFaults}
+use Rattle.ffv1_reads.specs.First.{bytes_with}
+use Rattle.ffv1_reads.specs.Reads.{Looked}
+use Rattle.ffv1_reads.specs.declared.fault.FileFault.TheVariants as fault
+use Rattle.ffv1_matroska.specs.Opened as beginning
+use Rattle.ffv1_matroska.specs.Readers.{HasEnded}
+use Rattle.ffv1_files.specs.declared.container.Scope.TheVariants.{Whole}
+use Rattle.ffv1_files.specs.Answers.{StopsReading}
+use Rattle.ffv1_files.specs.Files.{open_read}
+use Rattle.ffv1_files.proofs.FirstByte.{nothing_read, other_first, same_first}
+use Rattle.ffv1_files.proofs.Openings.{avi_opens, avi_stops, matroska_opens, matroska_stops, none_short}
+use Rattle.ffv1_files.proofs.reader.open_whole.Goals as goal
+
+pub returns-in_default-clause-answer : goal.returns-in_default-clause-answer
+returns-in_default-clause-answer g c = (c.in_default.ensures.counted, nothing_read (open_read Whole) Looked _ _ none_short c.in_default.ensures.err)
+
+pub returns-in-Ok-open_after-clause-answer : goal.returns-in-Ok-open_after-clause-answer
+returns-in-Ok-open_after-clause-answer g c =
+    let old = g.R.ByteIn.remaining c.args.input.now in
+    let mid = g.R.ByteIn.remaining c.read_byte.new.input in
+    let new = g.R.ByteIn.remaining c.open_after.new.input in
+    let before = g.R.ByteIn.failures c.read_byte.new.input in
+    let after = g.R.ByteIn.failures c.open_after.new.input in
+    let first = same_first c.in-Ok.first 26 c.eq.result c.eq.ensures c.if-eq.true in
+    let reader = c.in-Ok-open_after.reader in
+    let opened : beginning.Opened = record { track = reader.track; segment = reader.segment; place = reader.place } in
+    let answer = subst (λ b. (after ≡ before) × ReadOrOver HasEnded beginning.open_read (bytes_with b mid) new opened) first c.in-Ok-open_after.ensures.answer in
+    let read = matroska_opens old mid new before after (subst (GivesByte old mid) first c.in-Ok.ensures.ok) opened answer in
+    (read.0 ∙ c.in-Ok.ensures.counted, read.1)
+
+pub returns-in-Err-clause-answer : goal.returns-in-Err-clause-answer
+returns-in-Err-clause-answer g c =
+    let old = g.R.ByteIn.remaining c.args.input.now in
+    let mid = g.R.ByteIn.remaining c.read_byte.new.input in
+    let new = g.R.ByteIn.remaining c.open_after.new.input in
+    let before = g.R.ByteIn.failures c.read_byte.new.input in
+    let after = g.R.ByteIn.failures c.open_after.new.input in
+    let first = same_first c.in-Ok.first 26 c.eq.result c.eq.ensures c.if-eq.true in
+    let f = c.in-Err.fault in
+    let answer = subst (λ b. RefusedOrFaults fault.NoTracks HasEnded beginning.open_read (bytes_with b mid) new before after f) first c.in-Err.ensures.answer in
+    subst (λ n. StopsReading true (open_read Whole) (between old new n after) f) c.in-Ok.ensures.counted
+    (matroska_stops old mid new before after (subst (GivesByte old mid) first c.in-Ok.ensures.ok) f answer)
+
+pub returns-in-Ok-open_all_after-clause-answer : goal.returns-in-Ok-open_all_after-clause-answer
+returns-in-Ok-open_all_after-clause-answer g c =
+    let reader = c.in-Ok-open_all_after.reader in
+    let read =
+    avi_opens c.in-Ok.first (g.R.ByteIn.remaining c.args.input.now) (g.R.ByteIn.remaining c.read_byte.new.input) (g.R.ByteIn.remaining c.open_all_after.new.input)
+    (g.R.ByteIn.failures c.read_byte.new.input) (g.R.ByteIn.failures c.open_all_after.new.input) c.in-Ok.ensures.ok (other_first c.in-Ok.first 26 c.eq.result c.eq.ensures c.if-eq.false)
+    (reader.head, reader.place) c.in-Ok-open_all_after.ensures.answer in
+    (read.0 ∙ c.in-Ok.ensures.counted, read.1)
+
+pub returns-in-Err-open_all_after-clause-answer : goal.returns-in-Err-open_all_after-clause-answer
+returns-in-Err-open_all_after-clause-answer g c =
+    let old = g.R.ByteIn.remaining c.args.input.now in
+    let new = g.R.ByteIn.remaining c.open_all_after.new.input in
+    let after = g.R.ByteIn.failures c.open_all_after.new.input in
+    let f = c.in-Err-open_all_after.fault in
+    subst (λ n. StopsReading true (open_read Whole) (between old new n after) f) c.in-Ok.ensures.counted
+    (avi_stops c.in-Ok.first old (g.R.ByteIn.remaining c.read_byte.new.input) new (g.R.ByteIn.failures c.read_byte.new.input) after c.in-Ok.ensures.ok
+    (other_first c.in-Ok.first 26 c.eq.result c.eq.ensures c.if-eq.false) f c.in-Err-open_all_after.ensures.answer)

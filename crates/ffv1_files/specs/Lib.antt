@@ -1,0 +1,5 @@
+pub mod Places
+pub mod Files
+pub mod Answers
+pub mod Readers
+pub mod Whole

@@ -1,0 +1,41 @@
+-- Where a reader stands in a file, of either container.
+use Rattle.std.specs.Prelude.{ℕ, Bool, true, false, Option}
+use Rattle.ffv1_avi.specs.declared.place.Extent.{Extent}
+use Rattle.ffv1_avi.specs.declared.place.Extent.TheVariants.{FirstMovi, EveryRiff}
+use Rattle.ffv1_avi.specs.declared.place.Place.{Place as AviPlace}
+use Rattle.ffv1_avi.specs.Places as avi
+use Rattle.ffv1_files.specs.declared.container.Container.{Container}
+use Rattle.ffv1_files.specs.declared.container.Container.TheVariants as container
+use Rattle.ffv1_files.specs.declared.container.Scope.{Scope}
+use Rattle.ffv1_files.specs.declared.container.Scope.TheVariants as scope
+use Rattle.ffv1_matroska.specs.declared.place.Place.{Place as MatroskaPlace}
+use Rattle.ffv1_matroska.specs.Places as matroska
+
+-- in an AVI; or in a Segment of this size, before blocks of a track
+pub data Place : Type 0 where
+  InAvi : AviPlace → Place
+  InMatroska : Option ℕ → ℕ → MatroskaPlace → Place
+
+-- a number of bytes that no reading from here passes
+abbrev pub amount : Place → ℕ
+amount (InAvi place) = avi.amount place
+amount (InMatroska segment track place) = matroska.amount place
+
+-- the container
+abbrev pub container_of : Place → Container
+container_of (InAvi place) = container.Avi
+container_of (InMatroska segment track place) = container.Matroska segment
+
+-- the end of the input may be an answer: of an AVI of which every RIFF is read, and of a Segment
+abbrev pub ends_by : Extent → Bool
+ends_by FirstMovi = false
+ends_by EveryRiff = true
+
+abbrev pub may_end : Place → Bool
+may_end (InAvi place) = ends_by (avi.extent_of place)
+may_end (InMatroska segment track place) = true
+
+-- and while a file is opened
+abbrev pub opening_may_end : Scope → Bool
+opening_may_end scope.FirstMovi = false
+opening_may_end scope.Whole = true

@@ -1,0 +1,51 @@
+-- A reader of a file.
+use Rattle.std.specs.Prelude.{◌≡◌, ◌||◌, Bool, true, false, List, ℕ, Option, Some, None, Result, Ok}
+use Rattle.std.specs.Prelude.{Err}
+use Rattle.ffv1_reads.specs.Head.{Head}
+use Rattle.ffv1_reads.specs.declared.fault.FileFault.{FileFault}
+use Rattle.ffv1_avi.specs.Readers as avi
+use Rattle.ffv1_matroska.specs.Readers as matroska
+use Rattle.ffv1_files.specs.declared.container.Scope.{Scope}
+use Rattle.ffv1_files.specs.declared.container.Scope.TheVariants as scope
+use Rattle.ffv1_files.specs.declared.reader.Inner.{Inner}
+use Rattle.ffv1_files.specs.declared.reader.Inner.TheVariants as inner
+use Rattle.ffv1_files.specs.Places.{InAvi, InMatroska, Place}
+
+-- the head of its file, where it stands in that, and the fault that it has met
+pub record Standing : Type 0 where
+  pub head : Head
+  pub place : Place
+  pub fault : Option FileFault
+
+abbrev pub opened_at : Standing → Head × Place
+opened_at r = (r.head, r.place)
+
+-- what a call that answers so has read: a frame, with the place after it; none at the end
+abbrev pub next_of : Bool → List ℕ → Place → Option (List ℕ × Place)
+next_of true bytes place = Some (bytes, place)
+next_of false bytes place = None
+
+-- where a reader stands after a call: in the same file, and with the fault that it answered
+abbrev pub StandsAfter : Standing → Result Bool FileFault → Standing → Type 0
+StandsAfter old (Ok more) new = (old.fault ≡ None) × (new.fault ≡ None) × (new.head ≡ old.head)
+StandsAfter old (Err f) new =
+    (new.fault ≡ Some f) × (new.head ≡ old.head) × (new.place ≡ old.place)
+
+-- the faults that opening has, whatever the file
+abbrev pub is_opening_fault : Scope → FileFault → Bool
+is_opening_fault scope.FirstMovi f = avi.is_opening_fault f
+is_opening_fault scope.Whole f = avi.is_opening_fault f || matroska.is_opening_fault f
+
+-- and those that reading a frame has
+abbrev pub is_frame_fault : Place → FileFault → Bool
+is_frame_fault (InAvi place) f = avi.is_frame_fault f
+is_frame_fault (InMatroska segment track place) f = matroska.is_frame_fault f
+
+-- by the reader of its container
+abbrev pub standing_of : {A : Type 0} → Inner A → Standing
+standing_of (inner.Avi r) = record { head = r.head; place = InAvi r.place; fault = r.fault }
+standing_of (inner.Matroska r) = record {
+  head = r.track.head;
+  place = InMatroska r.segment r.track.number r.place;
+  fault = r.fault;
+}

@@ -1,0 +1,22 @@
+// SPDX-License-Identifier: MIT OR Apache-2.0
+//! Files of FFV1 frames, whichever container holds them: AVI or Matroska (RFC 9043, 4.3.3).
+//!
+//! `FileReader::open` looks at the first byte of a file, and reads it up to where its frames begin;
+//! then `FileReader::head` tells its head, `FileReader::container` what it is, and each
+//! `FileReader::next_frame` gives the next frame, until it answers false. A reader holds no input,
+//! each call is lent the same one. `laws` says that what is read is a file by its chunks or its
+//! elements, and that such a file is read.
+//!
+//! ```text
+//! let mut reader = FileReader::open(rt.alloc(), Scope::Whole, &mut input)?;
+//! let mut frame = Vec::new(rt.alloc());
+//! while reader.next_frame(&mut input, &mut frame)? { .. }
+//! ```
+#![tactic(auto)]
+
+mod container;
+pub mod laws;
+mod reader;
+
+pub use container::{Container, Scope};
+pub use reader::FileReader;

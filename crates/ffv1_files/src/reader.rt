@@ -1,0 +1,161 @@
+//! Files are read, frame by frame.
+
+ghost use Rattle.std.specs.Prelude.{◌≡◌, ◌<◌, ◌≤◌, Bool, List, [], true, false, Option, None, Some};
+ghost use Rattle.std.specs.Prelude.{IfErr, IfOk, OnErr, Ok, Err, length};
+ghost use Rattle.ffv1_wire.specs.Passage.{passage};
+ghost use Rattle.ffv1_reads.specs.Head.{head_of};
+ghost use Rattle.ffv1_reads.specs.declared.fault.FileFault.{FileFault};
+ghost use Rattle.ffv1_files.specs.declared.container.Container.TheVariants as container;
+ghost use Rattle.ffv1_files.specs.declared.container.Scope.TheVariants.{FirstMovi, Whole};
+ghost use Rattle.ffv1_files.specs.Answers.{FileAnswers};
+ghost use Rattle.ffv1_files.specs.Files.{frame_read, open_read};
+ghost use Rattle.ffv1_files.specs.Places.{amount, container_of, may_end, opening_may_end};
+ghost use Rattle.ffv1_files.specs.Readers.{StandsAfter, is_frame_fault, is_opening_fault, next_of};
+ghost use Rattle.ffv1_files.specs.Readers.{opened_at};
+
+use crate::container::{Container, Scope};
+use ffv1_avi::AviReader;
+use ffv1_matroska::MatroskaReader;
+use ffv1_reads::{FileFault, FileHead};
+use ffv1_wire::{ByteIn, read_byte};
+use std::alloc::{Allocator, Global};
+use std::marker::Model;
+
+/// The first byte of a Matroska file, of the ID of its header of EBML.
+const EBML: u8 = 0x1A;
+
+/// A reader of the frames of a file. It holds no input: each call is lent the same one.
+#[derive(Drop)]
+pub struct FileReader<A: Allocator = Global> {
+    inner: Inner<A>,
+}
+
+/// The reader of its container.
+#[derive(Drop)]
+enum Inner<A: Allocator = Global> {
+    Avi(AviReader<A>),
+    Matroska(MatroskaReader<A>),
+}
+
+impl<A: Allocator> Model for FileReader<A> {
+    ghost use Rattle.ffv1_files.specs.Readers.{Standing, standing_of};
+
+    ghost Value = { Standing };
+
+    ghost view = { λ r. standing_of r.inner };
+}
+
+impl<A: Allocator + Copy> FileReader<A> {
+    /// Reads a file up to where its frames begin. What begins with the byte 1A is read as Matroska,
+    /// and all else as AVI; up to its first `movi` a file is read as AVI alone.
+    ///
+    /// The faults are those of `AviReader::open`, and where all of a file is read those of
+    /// `AviReader::open_all` or of `MatroskaReader::open`.
+    pub fn open<R: ByteIn>(
+        alloc: A,
+        scope: Scope,
+        input: &mut R,
+    ) -> Result<FileReader<A>, FileFault>
+        ensures answer { FileAnswers (opening_may_end scope) opened_at (open_read scope)
+            (passage R.remaining R.failures input.old input.new) result }
+        ensures sound { IfOk result (λ r. r.fault ≡ None) }
+        ensures avi { scope ≡ FirstMovi →
+            IfOk result (λ r. container_of r.place ≡ container.Avi) }
+        ensures own { IfErr result (λ f. is_opening_fault scope f ≡ true) }
+    {
+        // All arms are written out, so that the clauses are proved by arm.
+        match scope {
+            Scope::FirstMovi => match AviReader::open(alloc, input) {
+                Ok(reader) => Ok(FileReader {
+                    inner: Inner::Avi(reader),
+                }),
+                Err(fault) => Err(fault),
+            },
+            Scope::Whole => match open_whole(alloc, input) {
+                Ok(reader) => Ok(reader),
+                Err(fault) => Err(fault),
+            },
+        }
+    }
+}
+
+/// Looks at the first byte of a file, and opens it as what it is.
+fn open_whole<R: ByteIn, A: Allocator + Copy>(
+    alloc: A,
+    input: &mut R,
+) -> Result<FileReader<A>, FileFault>
+    ensures answer { FileAnswers true opened_at (open_read Whole)
+        (passage R.remaining R.failures input.old input.new) result }
+    ensures sound { IfOk result (λ r. r.fault ≡ None) }
+    ensures own { IfErr result (λ f. is_opening_fault Whole f ≡ true) }
+{
+    let Ok(first) = read_byte(input) else {
+        return Err(FileFault::Read);
+    };
+    if first == Some(EBML) {
+        return match MatroskaReader::open_after(alloc, first, input) {
+            Ok(reader) => Ok(FileReader {
+                inner: Inner::Matroska(reader),
+            }),
+            Err(fault) => Err(fault),
+        };
+    }
+    match AviReader::open_all_after(alloc, first, input) {
+        Ok(reader) => Ok(FileReader {
+            inner: Inner::Avi(reader),
+        }),
+        Err(fault) => Err(fault),
+    }
+}
+
+impl<A: Allocator> FileReader<A> {
+    /// The head of the file.
+    pub fn head(&self) -> &FileHead<A>
+        ensures { head_of result.now ≡ self.now.head }
+    {
+        match &self.inner {
+            Inner::Avi(reader) => reader.head(),
+            Inner::Matroska(reader) => reader.head(),
+        }
+    }
+
+    /// What holds its frames.
+    pub fn container(&self) -> Container
+        ensures { result ≡ container_of self.now.place }
+    {
+        match &self.inner {
+            Inner::Avi(_) => Container::Avi,
+            Inner::Matroska(reader) => Container::Matroska(reader.segment()),
+        }
+    }
+
+    /// Reads the next frame in place of what the vector has, and answers true; or false at the end,
+    /// where the vector is then empty, as `AviReader::next_frame` and `MatroskaReader::next_frame`
+    /// do, with their faults. The input has to be the one that the reader was opened on.
+    pub fn next_frame<R: ByteIn>(
+        &mut self,
+        input: &mut R,
+        frame: &mut Vec<u8, A>,
+    ) -> Result<bool, FileFault>
+        ensures answer { self.old.fault ≡ None → FileAnswers (may_end self.old.place)
+            (λ (more : Bool). next_of more frame.new.items self.new.place)
+            (frame_read self.old.place)
+            (passage R.remaining R.failures input.old input.new) result }
+        ensures stands { StandsAfter self.old result self.new }
+        ensures sized { IfOk result (λ more. more ≡ true → (0 < length frame.new.items)
+            × (length frame.new.items ≤ 67108864)) }
+        ensures end { IfOk result (λ more. more ≡ false → frame.new.items ≡ []) }
+        ensures less { IfOk result
+            (λ more. more ≡ true → amount self.new.place < amount self.old.place) }
+        ensures same { container_of self.new.place ≡ container_of self.old.place }
+        ensures own { self.old.fault ≡ None →
+            IfErr result (λ f. is_frame_fault self.old.place f ≡ true) }
+        ensures again { (f : FileFault) → self.old.fault ≡ Some f → (result ≡ Err f)
+            × (self.new ≡ self.old) × (frame.new.items ≡ []) × (input.new ≡ input.old) }
+    {
+        match &mut self.inner {
+            Inner::Avi(reader) => reader.next_frame(input, frame),
+            Inner::Matroska(reader) => reader.next_frame(input, frame),
+        }
+    }
+}

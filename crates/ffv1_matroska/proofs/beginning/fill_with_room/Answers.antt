@@ -1,0 +1,24 @@
+use Rattle.std.proofs.Common.{◌-◌, ◌∙◌, arith}
+use Rattle.std.proofs.lemmas.Result.{err_from_is_err_and}
+use Rattle.ffv1_reads.specs.Reads.{Kept}
+use Rattle.ffv1_reads.proofs.LoopReadings.{fill_done, fill_more, fill_refused, wanted_consumed}
+use Rattle.ffv1_matroska.proofs.beginning.fill_with_room.Goals as goal
+
+pub returns-in_err-append-clause-answer : goal.returns-in_err-append-clause-answer
+returns-in_err-append-clause-answer g c =
+    let p = err_from_is_err_and c.from_residual-in_err-append.result c.from_residual-in_err-append.ensures.1 in
+    let size = c.args.size in
+    let read = c.in_ok-fill.ensures.answer in
+    let items = c.fill.new.bytes.items in
+    let before = wanted_consumed Kept (size - 1) _ _ items read.1 in
+    rw (p.1, p.2) (fill_refused _ _ _ items 1 size _ _ _ c.in_err-append.field-0.0 (omega (arith, c.requires, c.in_ok-fill.ensures.long)) read.0 before c.in_err-append.ensures.answer)
+
+pub returns-clause-answer : goal.returns-clause-answer
+returns-clause-answer g c =
+    let size = c.args.size in
+    let read = c.in_ok-fill.ensures.answer in
+    let items = c.fill.new.bytes.items in
+    let before = wanted_consumed Kept (size - 1) _ _ items read.1 in
+    let last = c.in_ok-append.ensures in
+    let all = fill_more _ _ _ items c.append.new.bytes.items 1 before last.answer.1 in
+    (last.answer.0 ∙ read.0, fill_done _ _ c.append.new.bytes.items size (omega (arith, c.requires, c.in_ok-fill.ensures.long, last.long)) all)

@@ -1,0 +1,15 @@
+use Rattle.std.specs.Prelude.{ℕ, suc, ◌≤◌}
+use Rattle.ffv1_reads.proofs.Reading.{Goes}
+use Rattle.ffv1_matroska.specs.Internal.{found_kept}
+use Rattle.ffv1_matroska.specs.Opened.{begin_read, begin_up_to}
+use Rattle.ffv1_matroska.specs.Places.{amount}
+use Rattle.ffv1_matroska.proofs.beginning.read_beginning.Given as goal
+
+abbrev pub invariant-loop-element : goal.invariant-loop-element
+invariant-loop-element g l =
+    (k : ℕ) × (amount l.here ≤ k)
+    × Goes (begin_read l.fn.place) (g.R.ByteIn.remaining l.initial.input) (g.R.ByteIn.failures l.initial.input)
+    (begin_up_to (suc k) (found_kept l.found l.config.items) l.here) (g.R.ByteIn.remaining l.input) (g.R.ByteIn.failures l.input)
+
+abbrev pub decreases-loop-element : goal.decreases-loop-element
+decreases-loop-element g l = amount l.here

@@ -1,0 +1,57 @@
+use Rattle.std.proofs.Common.{ℕ, Option}
+use Rattle.std.proofs.lemmas.Result.{err_from_is_err_and}
+use Rattle.ffv1_reads.specs.First.{bytes_with}
+use Rattle.ffv1_reads.specs.Reads.{Reading, ◌>>=◌}
+use Rattle.ffv1_reads.specs.declared.fault.FileFault.TheVariants as fault
+use Rattle.ffv1_reads.proofs.EndFaults.{faults_refused, made_read, made_refused}
+use Rattle.ffv1_reads.proofs.Reading.{goes_none, goes_read}
+use Rattle.ffv1_matroska.specs.Internal.{track_kept}
+use Rattle.ffv1_matroska.specs.Opened.{Opened, begin_read, ebml_read, open_read, segment_opened}
+use Rattle.ffv1_matroska.specs.Opening.{segment_begun, segment_entered}
+use Rattle.ffv1_matroska.specs.Readers.{HasEnded}
+use Rattle.ffv1_matroska.specs.Tracks.{Track}
+use Rattle.ffv1_matroska.specs.declared.place.Place.{Place}
+use Rattle.ffv1_matroska.proofs.Beginnings.{Over}
+use Rattle.ffv1_matroska.proofs.beginning.read_opening.Goals as goal
+
+abbrev made : Option ℕ → Track × Place → Opened
+made size p = record { track = p.0; segment = size; place = p.1 }
+
+abbrev behind : Unit {0} → Reading Opened
+behind _ = segment_entered >>= segment_opened
+
+pub returns-in_err-read_ebml : goal.returns-in_err-read_ebml
+unfolding open_read
+returns-in_err-read_ebml g c =
+    let p = err_from_is_err_and c.from_residual.result c.from_residual.ensures.1 in
+    let start = goes_none open_read (bytes_with c.args.first (g.R.ByteIn.remaining c.args.input.now)) (g.R.ByteIn.failures c.args.input.now) in
+    rw (p.1, p.2) (faults_refused fault.NoTracks HasEnded ebml_read behind _ _ c.in_err-read_ebml.field-0.0 start c.in_err-read_ebml.ensures)
+
+pub returns-in_err-size : goal.returns-in_err-size
+unfolding open_read
+returns-in_err-size g c =
+    let p = err_from_is_err_and c.from_residual-in_err-size.result c.from_residual-in_err-size.ensures.1 in
+    let start = goes_none open_read (bytes_with c.args.first (g.R.ByteIn.remaining c.args.input.now)) (g.R.ByteIn.failures c.args.input.now) in
+    let next = goes_read ebml_read behind _ _ (tt {0}) start c.in_ok-read_ebml.ensures in
+    rw (p.1, p.2) (faults_refused fault.NoTracks HasEnded segment_entered segment_opened _ _ c.in_err-size.field-0.0 next c.in_err-size.ensures)
+
+pub returns-in_err-numbers : goal.returns-in_err-numbers
+unfolding open_read
+returns-in_err-numbers g c =
+    let p = err_from_is_err_and c.from_residual-in_err-numbers.result c.from_residual-in_err-numbers.ensures.1 in
+    let start = goes_none open_read (bytes_with c.args.first (g.R.ByteIn.remaining c.args.input.now)) (g.R.ByteIn.failures c.args.input.now) in
+    let next = goes_read ebml_read behind _ _ (tt {0}) start c.in_ok-read_ebml.ensures in
+    let size = c.in_ok-size.size in
+    let entered = goes_read segment_entered segment_opened _ _ size next c.in_ok-size.ensures in
+    let why = rw c.begin_segment.ensures at c.in_err-numbers.ensures in
+    rw (p.1, p.2) (made_refused fault.NoTracks Over HasEnded (begin_read (segment_begun size)) (made size) _ _ c.in_err-numbers.field-0.0 (λ p is. is) entered why)
+
+pub returns : goal.returns
+unfolding open_read
+returns g c =
+    let start = goes_none open_read (bytes_with c.args.first (g.R.ByteIn.remaining c.args.input.now)) (g.R.ByteIn.failures c.args.input.now) in
+    let next = goes_read ebml_read behind _ _ (tt {0}) start c.in_ok-read_ebml.ensures in
+    let size = c.in_ok-size.size in
+    let entered = goes_read segment_entered segment_opened _ _ size next c.in_ok-size.ensures in
+    let read = rw c.begin_segment.ensures at c.in_ok-numbers.ensures in
+    made_read Over HasEnded (begin_read (segment_begun size)) (made size) _ _ (track_kept c.in_ok-numbers.numbers c.read_beginning.new.config.items, c.in_ok-numbers.place) (λ p is. is) entered read

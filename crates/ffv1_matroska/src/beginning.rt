@@ -1,0 +1,214 @@
+//! A file up to where its frames begin.
+
+ghost use Rattle.std.specs.Prelude.{◌≡◌, ◌≤◌, ◌<◌, [], ℕ, List, Option, OnOk, length};
+ghost use Rattle.std.specs.Vec.{vec_capacity};
+ghost use Rattle.ffv1_wire.specs.Passage.{passage};
+ghost use Rattle.ffv1_reads.specs.Ends.{AnswersOrFaults};
+ghost use Rattle.ffv1_reads.specs.First.{passage_with};
+ghost use Rattle.ffv1_reads.specs.Reads.{Answers, Kept, wanted};
+ghost use Rattle.ffv1_reads.specs.declared.fault.FileFault.TheVariants as fault;
+ghost use Rattle.ffv1_matroska.specs.Internal.{found_kept, opened_kept, track_kept};
+ghost use Rattle.ffv1_matroska.specs.Opened.{begin_read, element_passed, in_cluster, open_read};
+ghost use Rattle.ffv1_matroska.specs.Opened.{tracks_or_passed, tracks_read};
+ghost use Rattle.ffv1_matroska.specs.Opening.{content_kept};
+ghost use Rattle.ffv1_matroska.specs.Places.{ended};
+ghost use Rattle.ffv1_matroska.specs.Readers.{HasEnded};
+ghost use Rattle.ffv1_matroska.specs.Tracks.{Track};
+ghost use Rattle.ffv1_matroska.specs.declared.place.Place.{Place};
+ghost use Rattle.ffv1_matroska.specs.declared.track.Numbers.{Numbers};
+
+use crate::block::LIMIT;
+use crate::opening::{begin_segment, enter_segment, read_ebml};
+use crate::place::{Place, cluster_entered, ended, segment_at};
+use crate::segment::{CLUSTER, is_filler, is_section, next_header};
+use crate::track::{Numbers, read_track};
+use ffv1_ebml::{Element, pass_content};
+use ffv1_reads::{FileFault, append, fill, pass};
+use ffv1_wire::ByteIn;
+use std::alloc::Allocator;
+
+const TRACKS: u32 = 0x1654_AE6B;
+
+/// Reads so many bytes, at least one, in place of what the vector has, and makes room for as many
+/// in another vector, which is emptied, before the last of them is read.
+fn fill_with_room<R: ByteIn, A: Allocator>(
+    input: &mut R,
+    size: usize,
+    content: &mut Vec<u8, A>,
+    room: &mut Vec<u8, A>,
+) -> Result<(), FileFault>
+    requires { 0 < size }
+    ensures answer { Answers (λ (_ : Unit {0}). content.new.items) (wanted Kept size)
+        (passage R.remaining R.failures input.old input.new) result }
+    ensures long { OnOk result (length content.new.items ≡ size) }
+    ensures room { OnOk result (size ≤ vec_capacity room.new) }
+    ensures empty { OnOk result (room.new.items ≡ []) }
+{
+    fill(input, size - 1, content)?;
+    room.clear();
+    room.reserve_exact(size)?;
+    append(input, 1, content)?;
+    Ok(())
+}
+
+/// Reads the content of Tracks in place of what the vector has, and makes room for a record as
+/// long as that in another vector, which is emptied.
+///
+/// `BadElement` where the size is unknown, `ChunkTooLong` where it is above 67108864 bytes, of
+/// which no byte is read; `Truncated` where the input ends before, `Read`, `OutOfMemory`.
+#[tactic(auto, unfolding(crate::specs::Opening::content_kept))]
+fn keep_tracks<R: ByteIn, A: Allocator>(
+    input: &mut R,
+    size: Option<u64>,
+    content: &mut Vec<u8, A>,
+    room: &mut Vec<u8, A>,
+) -> Result<(), FileFault>
+    ensures answer { Answers (λ (_ : Unit {0}). content.new.items) (content_kept size)
+        (passage R.remaining R.failures input.old input.new) result }
+    ensures room { OnOk result (length content.new.items ≤ vec_capacity room.new) }
+    ensures empty { OnOk result (room.new.items ≡ []) }
+{
+    let Some(size) = size else {
+        return Err(FileFault::BadElement);
+    };
+    if size > LIMIT {
+        return Err(FileFault::ChunkTooLong);
+    }
+    if size == 0 {
+        content.clear();
+        room.clear();
+        return Ok(());
+    }
+    fill_with_room(input, size as usize, content, room)?;
+    Ok(())
+}
+
+/// Reads Tracks: what their first track of FFV1 video says, with its record in place of what the
+/// vector `config` has. Memory is taken before the last byte of Tracks is read.
+///
+/// Faults as of `keep_tracks` and `read_track`, of which the latter come after all of Tracks.
+#[tactic(auto, unfolding(crate::specs::Opened::tracks_read))]
+fn read_tracks<R: ByteIn, A: Allocator>(
+    input: &mut R,
+    size: Option<u64>,
+    content: &mut Vec<u8, A>,
+    config: &mut Vec<u8, A>,
+) -> Result<Numbers, FileFault>
+    ensures { Answers (λ (n : Numbers). track_kept n config.new.items) (tracks_read size)
+        (passage R.remaining R.failures input.old input.new) result }
+{
+    keep_tracks(input, size, content, config)?;
+    let track = read_track(content.as_slice())?;
+    config.extend_from_slice(track.config_record)?;
+    Ok(Numbers {
+        number: track.number,
+        width: track.width,
+        height: track.height,
+        rate: track.rate,
+        scale: track.scale,
+    })
+}
+
+/// Passes an element of the Segment that holds no frames, after its header.
+///
+/// `BadElement` where its size is unknown or it may not stand there, and then as `pass_content`.
+#[tactic(auto, unfolding(crate::specs::Opened::element_passed))]
+fn pass_element<R: ByteIn>(input: &mut R, ident: u32, size: Option<u64>) -> Result<(), FileFault>
+    ensures { Answers (λ (_ : Unit {0}). tt) (element_passed ident size)
+        (passage R.remaining R.failures input.old input.new) result }
+{
+    let Some(size) = size else {
+        return Err(FileFault::BadElement);
+    };
+    if is_section(ident) {
+        return pass_content(input, size);
+    }
+    if is_filler(ident) {
+        return pass(input, size);
+    }
+    Err(FileFault::BadElement)
+}
+
+/// Reads Tracks, where there were none yet, or passes an element.
+fn visit<R: ByteIn, A: Allocator>(
+    input: &mut R,
+    found: Option<Numbers>,
+    element: Element,
+    content: &mut Vec<u8, A>,
+    config: &mut Vec<u8, A>,
+) -> Result<Option<Numbers>, FileFault>
+    ensures { Answers (λ (n : Option Numbers). found_kept n config.new.items)
+        (tracks_or_passed (found_kept found config.old.items) element.ident element.size)
+        (passage R.remaining R.failures input.old input.new) result }
+{
+    if found.is_none() && element.ident == TRACKS {
+        let numbers = read_tracks(input, element.size, content, config)?;
+        return Ok(Some(numbers));
+    }
+    pass_element(input, element.ident, element.size)?;
+    Ok(found)
+}
+
+/// The place after the header of a Cluster, in that.
+fn in_cluster(place: Place, size: Option<u64>) -> Place
+    ensures { result ≡ in_cluster place size }
+{
+    match size {
+        None => segment_at(place, true, place.segment),
+        Some(size) => cluster_entered(place, size),
+    }
+}
+
+/// Reads the elements of a Segment from a place on, up to where its frames begin: what its track
+/// says, with the record in place of what the vector `config` has, and the place.
+///
+/// `NoTracks` where no Tracks come before the first Cluster, or the end of the Segment; faults of
+/// the header of an element as of `next_header`, then as `read_tracks` and `pass_element`.
+fn read_beginning<R: ByteIn, A: Allocator>(
+    input: &mut R,
+    place: Place,
+    content: &mut Vec<u8, A>,
+    config: &mut Vec<u8, A>,
+) -> Result<(Numbers, Place), FileFault>
+    ensures { AnswersOrFaults fault.NoTracks (λ (p : Track × Place). p.1 ≡ ended)
+        (λ (p : Numbers × Place). (track_kept p.0 config.new.items, p.1)) (begin_read place)
+        (passage R.remaining R.failures input.old input.new) result }
+{
+    let mut found = None;
+    let mut here = place;
+    while let Some(element) = next_header(input, here)? {
+        let after = segment_at(here, false, element.left);
+        if element.ident == CLUSTER {
+            let Some(numbers) = found else {
+                return Err(FileFault::NoTracks);
+            };
+            return Ok((numbers, in_cluster(after, element.size)));
+        }
+        found = visit(input, found, element, content, config)?;
+        here = after;
+    }
+    let Some(numbers) = found else {
+        return Err(FileFault::NoTracks);
+    };
+    Ok((numbers, ended()))
+}
+
+/// Reads a file, whose first byte may have been read, up to where its frames begin: the size of its
+/// Segment, what its track says, with the record in place of what the vector `config` has, and the
+/// place.
+#[tactic(auto, unfolding(crate::specs::Opened::open_read))]
+pub(crate) fn read_opening<R: ByteIn, A: Allocator>(
+    first: Option<u8>,
+    input: &mut R,
+    content: &mut Vec<u8, A>,
+    config: &mut Vec<u8, A>,
+) -> Result<(Option<u64>, Numbers, Place), FileFault>
+    ensures { AnswersOrFaults fault.NoTracks HasEnded
+        (λ (p : Option ℕ × Numbers × Place). opened_kept p config.new.items) open_read
+        (passage_with first R.remaining R.failures input.old input.new) result }
+{
+    read_ebml(first, input, content)?;
+    let size = enter_segment(input)?;
+    let (numbers, place) = read_beginning(input, begin_segment(size), content, config)?;
+    Ok((size, numbers, place))
+}

@@ -1,0 +1,252 @@
+//! Files that are written: whole, open and begun, and what is refused.
+
+use super::written_example::{EXAMPLE, FILE, FRAME, RECORD, SECOND};
+use ffv1_doubles::{FailingWriter, Scarce};
+use ffv1_matroska::{MatroskaWriter, Shown};
+use ffv1_reads::{FileFault, FileHead};
+use ffv1_sum::crc32;
+use ffv1_wire::{ByteOut, PatchOut, ToMemory, ToWrite};
+use std::alloc::{Allocator, Global};
+use std::io::ErrorKind;
+use std::process::Abort;
+use std::test::Fail;
+
+/// Nothing is known of how pictures are shown.
+const PLAIN: Shown = Shown {
+    structure: 0,
+    sar_num: 0,
+    sar_den: 0,
+};
+
+/// A head of this size and rate.
+fn head_of<A: Allocator>(
+    alloc: A,
+    size: (u32, u32),
+    rate: (u32, u32),
+) -> Result<FileHead<A>, FileFault> {
+    Ok(FileHead {
+        width: size.0,
+        height: size.1,
+        rate: rate.0,
+        scale: rate.1,
+        config_record: Vec::from_slice(alloc, &RECORD)?,
+    })
+}
+
+/// Writes two frames, or one where the second is empty, and ends the file.
+fn put_all<W: PatchOut>(
+    alloc: Global,
+    out: &mut W,
+    head: &FileHead,
+    shown: Shown,
+    second: &[u8],
+) -> Result<bool, FileFault> {
+    let mut writer = MatroskaWriter::new(alloc, head, shown)?;
+    writer.put(out, FRAME)?;
+    if !second.is_empty() {
+        writer.put(out, second)?;
+    }
+    writer.finish(out)
+}
+
+/// The example in its open form.
+fn open_example() -> [u8; 399] {
+    let mut file = EXAMPLE;
+    file[44..52].copy_from_slice(b"\x01\xFF\xFF\xFF\xFF\xFF\xFF\xFF");
+    file[57..63].copy_from_slice(b"\xBF\x84\xAD\xF0\x40\x38");
+    file[105..126].copy_from_slice(b"\xEC\x93\0\0\0\0\0\0\0\0\0\0\0\0\0\0\0\0\0\0\0");
+    file[131..137].copy_from_slice(b"\xBF\x84\x20\xDD\x34\x93");
+    file[149..160].copy_from_slice(b"\xEC\x89\0\0\0\0\0\0\0\0\0");
+    file
+}
+
+#[test]
+fn finished(rt: HostRuntime) -> Result<(), Fail> {
+    let mut out = ToMemory::new(rt.alloc());
+    let head = head_of(rt.alloc(), (1, 1), (0, 0))?;
+    assert_eq!(rt; put_all(rt.alloc(), &mut out, &head, PLAIN, b""), Ok(true));
+    assert_eq!(rt; out.bytes(), EXAMPLE.as_slice());
+    Ok(())
+}
+
+#[test]
+fn open(rt: HostRuntime) -> Result<(), Fail> {
+    let mut out = ToWrite::new(Vec::new(rt.alloc()));
+    let head = head_of(rt.alloc(), (1, 1), (0, 0))?;
+    assert_eq!(rt; put_all(rt.alloc(), &mut out, &head, PLAIN, b""), Ok(false));
+    assert_eq!(rt; out.into_inner().as_slice(), open_example().as_slice());
+    Ok(())
+}
+
+/// Writes one frame alone.
+fn begin<W: ByteOut>(alloc: Global, out: &mut W, head: &FileHead) -> Result<(), FileFault> {
+    let mut writer = MatroskaWriter::new(alloc, head, PLAIN)?;
+    writer.put(out, FRAME)
+}
+
+#[test]
+fn begun(rt: HostRuntime) -> Result<(), Fail> {
+    let mut out = ToMemory::new(rt.alloc());
+    let head = head_of(rt.alloc(), (1, 1), (0, 0))?;
+    begin(rt.alloc(), &mut out, &head)?;
+    assert_eq!(rt; out.bytes().len(), 354);
+    assert!(rt; open_example().as_slice().starts_with(out.bytes()));
+    Ok(())
+}
+
+#[test]
+fn all_is_said(rt: HostRuntime) -> Result<(), Fail> {
+    let shown = Shown {
+        structure: 1,
+        sar_num: 10,
+        sar_den: 11,
+    };
+    let mut out = ToMemory::new(rt.alloc());
+    let head = head_of(rt.alloc(), (352, 288), (30000, 1001))?;
+    assert_eq!(rt;
+        put_all(rt.alloc(), &mut out, &head, shown, SECOND),
+        Ok(true)
+    );
+    assert_eq!(rt; out.bytes(), FILE.as_slice());
+    Ok(())
+}
+
+/// The bytes and the CRC-32 of a file of two frames of 720 by 576 at 25.
+fn summed(alloc: Global, structure: u8, aspect: (u16, u16)) -> Result<(usize, u32), FileFault> {
+    let shown = Shown {
+        structure,
+        sar_num: aspect.0,
+        sar_den: aspect.1,
+    };
+    let mut out = ToMemory::new(alloc);
+    let head = head_of(alloc, (720, 576), (25, 1))?;
+    put_all(alloc, &mut out, &head, shown, SECOND)?;
+    Ok((out.bytes().len(), crc32(out.bytes())))
+}
+
+#[test]
+fn structures_and_aspects(rt: HostRuntime) {
+    assert!(rt; summed(rt.alloc(), 1, (0, 0)) == Ok((485, 0x5A96_20F7)));
+    assert!(rt; summed(rt.alloc(), 2, (16, 15)) == Ok((511, 0xED86_2015)));
+    assert!(rt; summed(rt.alloc(), 3, (1, 1)) == Ok((508, 0xAAB1_B003)));
+    assert!(rt; summed(rt.alloc(), 0, (65535, 1)) == Ok((508, 0xDA07_4DD3)));
+    assert!(rt; summed(rt.alloc(), 0, (0, 0)) == Ok((482, 0x2B37_09CA)));
+    assert!(rt; summed(rt.alloc(), 4, (0, 7)) == Ok((482, 0x2B37_09CA)));
+}
+
+/// Writes so many frames of one byte.
+fn put_many<W: PatchOut>(
+    alloc: Global,
+    out: &mut W,
+    head: &FileHead,
+    count: u64,
+) -> Result<bool, FileFault> {
+    let mut writer = MatroskaWriter::new(alloc, head, PLAIN)?;
+    for number in 0..count {
+        writer.put(out, &[(number % 251) as u8])?;
+    }
+    writer.finish(out)
+}
+
+/// The bytes and the CRC-32 of a file of so many frames.
+fn many(alloc: Global, count: u64) -> Result<(usize, u32), FileFault> {
+    let mut out = ToMemory::new(alloc);
+    let head = head_of(alloc, (1, 1), (0, 0))?;
+    put_many(alloc, &mut out, &head, count)?;
+    Ok((out.bytes().len(), crc32(out.bytes())))
+}
+
+#[test]
+fn cues_are_thinned(rt: HostRuntime) {
+    assert!(rt; many(rt.alloc(), 8192) == Ok((565_574, 0xF5BF_1915)));
+    assert!(rt; many(rt.alloc(), 8193) == Ok((455_051, 0x3C7D_D0BB)));
+    assert!(rt; many(rt.alloc(), 16385) == Ok((799_115, 0x4538_C0F5)));
+}
+
+/// What a writer for this rate answers.
+fn rated(alloc: Global, rate: u32, scale: u32) -> Result<(), FileFault> {
+    let head = head_of(alloc, (1, 1), (rate, scale))?;
+    let _writer = MatroskaWriter::new(alloc, &head, PLAIN)?;
+    Ok(())
+}
+
+#[test]
+fn rates_that_do_not_come_back(rt: HostRuntime) {
+    assert!(rt; rated(rt.alloc(), 25, 1) == Ok(()));
+    assert!(rt; rated(rt.alloc(), 24000, 1001) == Ok(()));
+    assert!(rt; rated(rt.alloc(), 1, 4_294_967_295) == Ok(()));
+    assert!(rt; rated(rt.alloc(), 50, 2) == Err(FileFault::Rate));
+    assert!(rt; rated(rt.alloc(), 19001, 317) == Err(FileFault::Rate));
+    assert!(rt; rated(rt.alloc(), 0, 1) == Err(FileFault::Rate));
+}
+
+/// What a writer answers where so many requests for memory are passed on.
+fn in_scarce<'a>(heap: &'a Scarce<Global>) -> Result<(), FileFault> {
+    let head = head_of(heap, (1, 1), (0, 0))?;
+    let _writer = MatroskaWriter::new(heap, &head, PLAIN)?;
+    Ok(())
+}
+
+#[test]
+fn memory_refused(rt: HostRuntime) {
+    assert!(rt; in_scarce(&Scarce::new(rt.alloc(), 1)) == Err(FileFault::OutOfMemory));
+    assert!(rt; in_scarce(&Scarce::new(rt.alloc(), 2)) == Err(FileFault::OutOfMemory));
+    assert!(rt; in_scarce(&Scarce::new(rt.alloc(), 3)) == Ok(()));
+}
+
+/// Puts the frame twice and ends the file, whatever is answered.
+fn answers<W: PatchOut>(
+    alloc: Global,
+    out: &mut W,
+    head: &FileHead,
+) -> Result<(bool, bool, bool), FileFault> {
+    let mut writer = MatroskaWriter::new(alloc, head, PLAIN)?;
+    let first = writer.put(out, FRAME) == Err(FileFault::Write);
+    let second = writer.put(out, FRAME) == Err(FileFault::Write);
+    let end = writer.finish(out) == Err(FileFault::Write);
+    Ok((first, second, end))
+}
+
+/// A write fails after so many bytes: the bytes are a beginning of those of the open form, and each
+/// call from there on answers so.
+fn fails_after(
+    rt: &impl Abort,
+    alloc: Global,
+    head: &FileHead,
+    before: usize,
+    told: (bool, bool, bool),
+) -> Result<(), FileFault> {
+    let mut out = ToWrite::new(FailingWriter::new(alloc, before, Some(ErrorKind::Other)));
+    let answers = answers(alloc, &mut out, head)?;
+    let failures = out.failures();
+    let inner = out.into_inner();
+    assert!(rt; (answers, failures) == (told, 1));
+    assert!(rt; inner.held().len() == before);
+    Ok(())
+}
+
+#[test]
+fn each_byte_fails(rt: HostRuntime) -> Result<(), Fail> {
+    let head = head_of(rt.alloc(), (1, 1), (0, 0))?;
+    for before in 0..354usize {
+        fails_after(&rt, rt.alloc(), &head, before, (true, true, true))?;
+    }
+    for before in 354..400usize {
+        fails_after(&rt, rt.alloc(), &head, before, (false, true, true))?;
+    }
+    for before in 400..472usize {
+        fails_after(&rt, rt.alloc(), &head, before, (false, false, true))?;
+    }
+    Ok(())
+}
+
+/// A writer that has no frame writes nothing.
+#[test]
+fn no_frame(rt: HostRuntime) -> Result<(), Fail> {
+    let mut out = ToMemory::new(rt.alloc());
+    let head = head_of(rt.alloc(), (1, 1), (0, 0))?;
+    let writer = MatroskaWriter::new(rt.alloc(), &head, PLAIN)?;
+    assert_eq!(rt; writer.finish(&mut out), Ok(false));
+    assert_eq!(rt; out.bytes().len(), 0);
+    Ok(())
+}
