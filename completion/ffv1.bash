@@ -13,6 +13,7 @@ _ffv1() {
     case "$before" in
         --coder) words="1 2" ;;
         --contexts) words="small large" ;;
+        --container) words="auto avi mkv" ;;
         --ec) words="0 1" ;;
         --columns | --rows | --rate | --scale) return ;;
     esac
@@ -22,7 +23,7 @@ _ffv1() {
             help) words="pack unpack check show trial" ;;
             pack)
                 words="--coder --contexts --columns --rows --ec --rate --scale"
-                words="$words --no-clobber --progress --help"
+                words="$words --container --no-clobber --progress --help"
                 ;;
             unpack) words="--no-clobber --progress --help" ;;
             check) words="--place --progress --help" ;;

@@ -5,7 +5,7 @@ complete -c ffv1 -n "not __fish_seen_subcommand_from $commands" -f
 complete -c ffv1 -n "not __fish_seen_subcommand_from $commands" -l version -d "Tell the version"
 complete -c ffv1 -l help -d "Tell what it takes"
 
-complete -c ffv1 -n "not __fish_seen_subcommand_from $commands" -a pack -d "Code a video as FFV1 in AVI"
+complete -c ffv1 -n "not __fish_seen_subcommand_from $commands" -a pack -d "Code a video as FFV1 in AVI or Matroska"
 complete -c ffv1 -n "not __fish_seen_subcommand_from $commands" -a unpack -d "Decode a file into a video"
 complete -c ffv1 -n "not __fish_seen_subcommand_from $commands" -a check -d "Decode all frames of a file"
 complete -c ffv1 -n "not __fish_seen_subcommand_from $commands" -a show -d "Tell what a file says"
@@ -20,6 +20,7 @@ complete -c ffv1 -n "__fish_seen_subcommand_from pack" -l rows -x -d "Rows of sl
 complete -c ffv1 -n "__fish_seen_subcommand_from pack" -l ec -x -a "0 1" -d "Parity of slices"
 complete -c ffv1 -n "__fish_seen_subcommand_from pack" -l rate -x -d "Frames of PPM in --scale seconds"
 complete -c ffv1 -n "__fish_seen_subcommand_from pack" -l scale -x -d "Seconds of --rate frames"
+complete -c ffv1 -n "__fish_seen_subcommand_from pack" -l container -x -a "auto avi mkv" -d "What is written"
 complete -c ffv1 -n "__fish_seen_subcommand_from pack" -l no-clobber -d "Refuse an output that exists"
 complete -c ffv1 -n "__fish_seen_subcommand_from pack" -l progress -d "Say how much is read"
 complete -c ffv1 -n "__fish_seen_subcommand_from unpack" -l no-clobber -d "Refuse an output that exists"

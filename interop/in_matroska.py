@@ -1,13 +1,14 @@
 # SPDX-License-Identifier: MIT OR Apache-2.0
-"""Files of Matroska by FFmpeg and mkvmerge, and the model's of FFmpeg's frames: `check` counts
-their frames, and `unpack` gives FFmpeg's samples; what is not read has its fault, and damage is
-told."""
+"""Files of Matroska: those of `pack` are read by FFmpeg, mkvmerge and MediaConch, sample for sample.
+Of files by FFmpeg and mkvmerge, and the model's of FFmpeg's frames, `check` counts the frames, and
+`unpack` gives FFmpeg's samples; what is not read has its fault, and damage is told."""
 import os
 import random
 import shutil
 import sys
 
-from exchange import KINDS, TOP, encoded, ffmpeg, ffv1, flipped, load, run, save, whole, words_of
+from exchange import ASPECT, FRAMES, KINDS, TOP, conch, decoded, encoded, ffmpeg, ffv1, flipped, load
+from exchange import raw, run, save, text, whole, words_of
 
 sys.path.append(os.path.join(TOP, "model"))
 
@@ -20,6 +21,72 @@ MONO, C420, C422, C444, _, ALPHA, RGB = KINDS
 def pixels_of(kind):
     """FFmpeg's name of the pictures that it codes for a kind."""
     return "bgr0" if kind.tag is None else kind.name
+
+
+# ------------------------------------------------------------------------------------ files of ours
+
+MADE = [["--columns", "2", "--rows", "2"], ["--ec", "0"], ["--coder", "2", "--columns", "4"]]
+
+
+def packed(data, options, piped):
+    """Matroska that is packed of a text: a finished file, or an open one by way of a pipe."""
+    save("ours.in", data)
+    if piped:
+        status, out, errors = ffv1("pack", "--container", "mkv", "ours.in", "-", *options)
+        save("ours.mkv", out)
+    else:
+        status, _, errors = ffv1("pack", "ours.in", "ours.mkv", *options)
+    assert status == 0, errors
+    return "ours.mkv"
+
+
+def write_one(results, kind, options, piped):
+    """One file of ours, read whole by the others and by ourselves."""
+    what = f"{'open' if piped else 'finished'} Matroska of ours, {kind.name} {' '.join(options)}"
+    samples = raw(kind, 96, 64)
+    file = packed(text(kind, 96, 64, samples), options, piped)
+    warnings = [] if kind.tag else [ASPECT]
+    results.same(f"{what}: FFmpeg", decoded(file, kind.name), (samples, warnings))
+    whole(results, what, kind, (96, 64), file)
+    if not piped:                           # of a Segment without a size MediaConch says fail
+        results.same(f"{what}: MediaConch", conch(file), "pass!")
+    if shutil.which("mkvmerge"):
+        results.same(f"{what}: mkvmerge", merged("ours_merged.mkv", file), 0)
+        results.same(f"{what}: mkvmerge's samples", decoded("ours_merged.mkv", kind.name)[0], samples)
+    if not piped:
+        last = ffmpeg("-ss", f"{(FRAMES - 1) / 25}", "-i", file, "-frames:v", "1", "-f", "rawvideo",
+                      "-pix_fmt", kind.name, "-")
+        results.same(f"{what}: the last frame", last, samples[-kind.length(96, 64):])
+
+
+def write_plain(results):
+    """Each kind of pictures, finished and open."""
+    for kind in KINDS:
+        for options in MADE:
+            for piped in [False, True]:
+                write_one(results, kind, options, piped)
+
+
+ENTRIES = "stream=r_frame_rate,sample_aspect_ratio,field_order,nb_read_packets:format=duration"
+
+
+def write_said(results):
+    """Rate, aspect, structure, and length in time of ours, as FFmpeg tells them."""
+    samples = raw(C422, 64, 64)
+    for rate, wanted in [("25:1", "25/1"), ("30000:1001", "30000/1001"), ("24000:1001", "24000/1001"),
+                         ("50:1", "50/1"), ("15:2", "15/2")]:
+        for letter, field in [("p", "progressive"), ("t", "tb"), ("b", "bt")]:
+            file = packed(text(C422, 64, 64, samples, f"F{rate} I{letter} A16:15"), [], False)
+            out = run("ffprobe", "-v", "error", "-count_packets", "-show_entries", ENTRIES, "-of",
+                      "default=nk=0:nw=1", file)[1].decode().split()
+            found = dict(line.split("=", 1) for line in out)
+            results.same(f"ours at {rate}, {letter}",
+                         (found["r_frame_rate"], found["sample_aspect_ratio"], found["field_order"],
+                          found["nb_read_packets"]), (wanted, "16:15", field, f"{FRAMES}"))
+            frames, scale = map(int, wanted.split("/"))
+            seconds = FRAMES * scale / frames
+            results.same(f"ours at {rate}: length in time",
+                         abs(float(found["duration"]) - seconds) < 0.001, True)
 
 
 # ----------------------------------------------------------------------------------- FFmpeg's files
@@ -239,5 +306,5 @@ def read_damaged(results):
                          (1, "ffv1: 52 Truncated\n"))
 
 
-PARTS = [read_plain, read_around, read_archived, read_said, read_forms, read_merged, read_outside,
-         read_damaged]
+PARTS = [write_plain, write_said, read_plain, read_around, read_archived, read_said, read_forms,
+         read_merged, read_outside, read_damaged]

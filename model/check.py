@@ -17,7 +17,7 @@ import check_matroska
 import commands
 import ffv1
 import files
-from known_answers import cases
+from known_answers import avi_files, cases, frames, slices
 from known_answers.case import fault_of
 
 
@@ -147,7 +147,9 @@ def results():
     """Whether each check passed."""
     for case in cases():
         yield passes(case, by_model)
-    for name, found, wanted in itertools.chain(example_checks(), check_matroska.checks()):
+    for name, found, wanted in itertools.chain(example_checks(), frames.checks(), slices.checks(),
+                                               avi_files.checks(),
+                                               check_matroska.checks()):
         if found != wanted:
             print(f"{name}: found {found}, wanted {wanted}")
         yield found == wanted

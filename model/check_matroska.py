@@ -13,7 +13,7 @@ import ebml
 import ffv1
 import matroska
 from known_answers import matroska as known
-from known_answers import matroska_tracks, matroska_written
+from known_answers import matroska_others, matroska_tracks, matroska_written
 from known_answers.case import fault_of
 from known_answers.matroska import C, FRAME, H, RECORD, T, element, spell
 from random_matroska import Small, made, written
@@ -87,7 +87,7 @@ def same_whatever(data, answer):
 
 def known_files():
     """The rows of files and of Tracks."""
-    for name, file, frames, fault, left in known.files():
+    for name, file, frames, fault, left in [*known.files(), *matroska_others.files()]:
         answer = read(file)
         yield name, (answer.frames, answer.fault, len(file) - answer.at), \
             ([FRAME] * frames, fault, left)
@@ -97,6 +97,9 @@ def known_files():
         answer, is_fault = read(file), isinstance(wanted, int)
         yield name, (answer.said() or answer.fault, len(file) - answer.at), \
             (wanted, 5 if is_fault else 0)
+    foreign = read(matroska_others.FOREIGN)
+    yield "a file of another program", (foreign.said(), foreign.size), \
+        (matroska_others.FOREIGN_SAID, None)
     yield "the length of an EBML header", len(H), 40
     yield "the length of Tracks", len(T), 79
     yield "the length of a Cluster", len(C), 26

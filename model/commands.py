@@ -67,6 +67,7 @@ COMMANDS = {
         "coder": (number(1, 2), 1), "contexts": (one_of("small", "large"), "small"),
         "columns": (number(1, 32), 1), "rows": (number(1, 32), 1), "ec": (number(0, 1), 1),
         "rate": (number(1, 2 ** 32 - 1), 25), "scale": (number(1, 2 ** 32 - 1), 1),
+        "container": (one_of("auto", "avi", "mkv"), "auto"),
     }, flags=["no-clobber", "progress"]),
     "unpack": Level(2, flags=["no-clobber", "progress"]),
     "check": Level(1, flags=["place", "progress"]),
@@ -159,8 +160,8 @@ def config_of(head, choice):
         ec=choice["ec"], intra=1)
 
 
-def pack(source, out, choice):
-    """A text of pictures becomes a file, when all its frames are encoded."""
+def video_of(source, choice):
+    """The head of a text, the configuration of its pictures, and what encodes them one by one."""
     first = source.some(1)
     if first == b"P":
         head, pictures = files.open_ppm(source, first), files.ppm_pictures
@@ -170,13 +171,53 @@ def pack(source, out, choice):
     config = config_of(head, choice)
     ffv1.check(config)
     info = [head.structure, *head.aspect]
-    frames = [ffv1.encode_frame(config, planes, info) for planes in pictures(source, head)]
-    if not frames:
+    frames = (ffv1.encode_frame(config, planes, info) for planes in pictures(source, head))
+    return head, config, frames
+
+
+def packed(lengths):
+    """The count of a text that was packed; 70 where it has no picture."""
+    if not lengths:
         raise Fault(70)
-    record = ffv1.write_record(config)
-    avi = files.AviHead(head.width, head.height, head.rate, head.scale, record)
+    return f"frames {len(lengths)} bytes {sum(lengths)}\n"
+
+
+def pack(source, out, choice):
+    """A text of pictures becomes an AVI, when all its frames are encoded."""
+    head, config, frames = video_of(source, choice)
+    frames = list(frames)
+    count = packed([len(frame) for frame in frames])
+    avi = files.AviHead(head.width, head.height, head.rate, head.scale, ffv1.write_record(config))
     out(files.write_avi(avi, frames))
-    return f"frames {len(frames)} bytes {sum(map(len, frames))}\n"
+    return count
+
+
+def is_matroska(container, path):
+    """Whether OUT becomes Matroska."""
+    return container == "mkv" or container == "auto" and path.endswith(".mkv")
+
+
+def pack_matroska(source, out, over, choice):
+    """A text of pictures becomes Matroska, and each frame is written as soon as it is encoded. At
+    the end the opening is written over, which does nothing where OUT is no regular file."""
+    head, config, frames = video_of(source, choice)
+    matroska.timed(head.rate, head.scale)
+    track = matroska.Head(1, head.width, head.height, head.rate, head.scale,
+                          ffv1.write_record(config))
+    tracks = matroska.tracks(track, matroska.Shown(head.structure, head.aspect))
+    lengths, begins, end = [], [], matroska.TRACKS_PLACE + len(tracks)
+    for frame in frames:
+        begin, end = matroska.places(end, [len(frame)])
+        if not begins:
+            out(matroska.opening(track) + tracks)
+        out(matroska.cluster(len(begins), frame))
+        lengths.append(len(frame))
+        begins.append(begin)
+    count = packed(lengths)
+    cues = matroska.cues(begins)
+    out(cues)
+    over(matroska.opening(track, matroska.Finish(end + len(cues), end, len(lengths))))
+    return count
 
 
 # --------------------------------------------------------------------------- unpack, check and show
@@ -194,17 +235,20 @@ def after(data, read):
 
 
 def opened(source):
-    """The head of a file, its configuration, and its frames. Own: what begins with the byte 1A is
-    Matroska, and all else an AVI, which is read to the end of its last RIFF."""
+    """The head of a file, its configuration, its frames, and the line of a Segment. Own: what
+    begins with the byte 1A is Matroska, and all else an AVI, which is read to the end of its last
+    RIFF."""
     first = source.some(1)
     read = after(first, source.read)
     if first == EBML:
-        head, _, frames = matroska.open_matroska(ebml.Input(read))
+        head, size, frames = matroska.open_matroska(ebml.Input(read))
+        segment = [f"segment {'open' if size is None else size}"]
     else:
         head, frames = files.open_avi(files.Source(read), True)
+        segment = []
     config = ffv1.read_record(head.record, head.width, head.height)
     config.wide = True
-    return head, config, frames
+    return head, config, frames, segment
 
 
 def planes_of(config, lines):
@@ -256,7 +300,7 @@ def unpack_ppm(config, frames, out):
 
 
 def unpack(source, out):
-    head, config, frames = opened(source)
+    head, config, frames, _ = opened(source)
     if config.rct:
         count = unpack_ppm(config, frames, out)
     else:
@@ -275,7 +319,7 @@ def place_line(number, decoded):
 def check(source, out, place):
     """A line for each frame; own: where a place is asked for, one more where decoding is refused,
     whether or not that can be written."""
-    _, config, frames = opened(source)
+    _, config, frames, _ = opened(source)
     count = 0
     for payload in frames:
         decoded = ffv1.decode_frame(config, payload)
@@ -302,7 +346,7 @@ def held(config):
     return states, 3 * planes * config.width, planes * config.width, config.columns
 
 
-def shown(head, config):
+def shown(head, config, segment):
     """What a file says, a line each."""
     chroma = f"{config.log2_h},{config.log2_v}" if config.chroma else "mono"
     states, samples, output, columns = held(config)
@@ -314,14 +358,15 @@ def shown(head, config):
         *["note other programs refuse sets of more than 16384 contexts"]
         * any(ffv1.contexts_of(runs) > 16384 for runs in config.sets),
         f"ec {config.ec}", f"intra {config.intra}", f"rate {head.rate}/{head.scale}",
+        *segment,
         f"held states {states} samples {samples} output {output} columns {columns} offsets 1025",
     ]
 
 
 def show(source, out, cost):
     """What a file says, and what its frames cost."""
-    head, config, frames = opened(source)
-    for line in shown(head, config):
+    head, config, frames, segment = opened(source)
+    for line in shown(head, config, segment):
         out(line + "\n")
     for number, payload in enumerate(frames if cost else []):
         decoded = ffv1.decode_frame(config, payload)
@@ -417,16 +462,37 @@ def opened_output(path, no_clobber):
     return opened_file(path, os.O_WRONLY | os.O_CREAT, 57)
 
 
+def overwriter(descriptor):
+    """Writes over the beginning of a regular file; nothing of what is none."""
+    def over(data):
+        if stat.S_ISREG(os.fstat(descriptor).st_mode):
+            try:
+                while data:
+                    data = data[os.pwrite(descriptor, data, 0):]
+            except OSError:
+                raise Fault(57)
+    return over
+
+
+def made(order, source, out, over):
+    """The count of what `pack` or `unpack` makes."""
+    if order.command == "unpack":
+        return unpack(source, out)
+    if is_matroska(order.choice["container"], order.files[1]):
+        return pack_matroska(source, out, over, order.choice)
+    return pack(source, out, order.choice)
+
+
 def make(order, source, descriptors, output):
     """Does what `pack` or `unpack` asks for: OUT is opened where it is not the file of IN. It
     answers what is printed on standard error, the count where OUT is standard output."""
-    path, out = order.files[1], output
+    path, out, over = order.files[1], output, lambda data: None
     if is_one_file(descriptors[0], path):
         raise Kept("IN and OUT are one file")
     if path != "-":
         descriptors.append(opened_output(path, order.choice["no-clobber"]))
-        out = writer(descriptors[1], anew=True)
-    count = pack(source, out, order.choice) if order.command == "pack" else unpack(source, out)
+        out, over = writer(descriptors[1], anew=True), overwriter(descriptors[1])
+    count = made(order, source, out, over)
     if path == "-":
         return count
     output(count)

@@ -15,9 +15,15 @@ import zlib
 import ebml
 import ffv1
 import matroska
+from known_answers import avi_files
+from known_answers import frames as known_frames
+from known_answers import matroska_others
 from known_answers import matroska_written as known_written
+from known_answers import slices as known_slices
+from known_answers.frames import counts_of
 from known_answers.matroska import files as known_files
 from known_answers.matroska_tracks import file_of, files as known_tracks
+from known_answers.slices import cut_answer, head_answer
 from random_matroska import RATES, made, written
 
 DATA = os.path.join(os.path.dirname(os.path.abspath(__file__)), "..", "crates", "ffv1_vectors", "data")
@@ -61,20 +67,12 @@ def head_bytes(random, config, slice):
     return encoder.sentinel()
 
 
-def head_answer(config, slice, data):
-    """The fault, the decisions that were read, and what the head says."""
-    decoder = ffv1.Decoder(data)
-    try:
-        ffv1.get_key(decoder, slice)
-        indexes, structure, num, den = ffv1.get_head(decoder, config, slice)
-    except ffv1.Fault as fault:
-        return [fault.number, decoder.history.count, 0, 0, 0, 0, 0, 0]
-    return [0, decoder.history.count, *(indexes + [0])[:3], structure, num, den]
-
-
 def heads(random, count):
-    """columns rows extra sets slice bytes fault decisions three-indexes structure num den"""
-    lines = []
+    """columns rows extra sets slice bytes fault decisions three-indexes structure num den; those
+    that are known, and so many"""
+    lines = [[2, 1, 0, 1, slice, hexadecimal(data), *head_answer(known_slices.two(), slice, data)]
+             for slice, data, *_ in known_slices.HEADS]
+    count += len(lines)
     while len(lines) < count:
         columns, rows = random.choice([1, 2, 3, 17, 32]), random.choice([1, 2, 20, 32])
         sets, extra = random.choice([1, 2, 8]), random.random() < 0.4
@@ -113,18 +111,18 @@ def payload_of(random, config):
 
 
 def payloads(random, count):
-    """columns rows ec bytes fault slice spans"""
+    """columns rows ec bytes fault slice spans; those that are known, each where spans of another
+    payload stand, and so many"""
     lines = []
+    for row in known_slices.CUT:
+        for columns, ec, payload, *answer, spans in [known_slices.FULL, row]:
+            lines.append([columns, 1, ec, payload.lower() or "-", *answer, *spans])
     for _ in range(count):
         columns, rows, ec = random.choice([1, 2, 3]), random.choice([1, 2]), random.choice([0, 1, 1])
         config = ffv1.Config(columns, rows, columns=columns, rows=rows, ec=ec)
         payload = payload_of(random, config)
-        try:
-            spans = ffv1.cut(config, payload)
-            answer = [0, 0, *(place for span in spans for place in span)]
-        except ffv1.Fault as fault:
-            answer = [fault.number, fault.slice]
-        lines.append([columns, rows, ec, hexadecimal(payload), *answer])
+        lines.append([columns, rows, ec, hexadecimal(payload),
+                      *cut_answer(columns, rows, ec, payload)])
     return lines
 
 
@@ -208,10 +206,17 @@ def config_fields(config):
     return [config.width, config.height, hexadecimal(ffv1.write_record(config))]
 
 
+def frame_line(config, planes, info, payload):
+    return [*config_fields(config), *info, planes_text(planes), hexadecimal(payload),
+            *counts_of(config, info, payload)]
+
+
 def frames(random, count):
-    """width height record structure num den planes payload"""
-    return [[*config_fields(config), *info, planes_text(planes), hexadecimal(payload)]
-            for config, planes, info, payload in pictures(random, count)]
+    """width height record structure num den planes payload decisions renormalisations; those that
+    are known, and so many"""
+    known = [frame_line(config, planes, info, bytes.fromhex(payload))
+             for _, config, info, planes, payload, *_ in known_frames.ENCODED]
+    return known + [frame_line(*picture) for picture in pictures(random, count)]
 
 
 def sealed(config, slices):
@@ -294,6 +299,11 @@ def lines_text(lines):
 def decoded_line(random, config, payload):
     """One case: a sink takes so many lines, and refuses the next."""
     room = random.choice([100000, 100000, 100000, random.randrange(4)])
+    return decoded_in(config, payload, room)
+
+
+def decoded_in(config, payload, room):
+    """The case of a sink that takes so many lines."""
     out = ffv1.decode_frame(config, payload, room)
     fault = out.fault
     place = [fault.number, fault.slice, fault.plane, fault.line, fault.x] if fault else [0] * 5
@@ -310,6 +320,30 @@ def decoded(random, count):
         lines.append(decoded_line(random, config, payload))
         for _ in range(6):
             lines.append(decoded_line(random, config, other_payload(random, config, info, payload)))
+    return lines
+
+
+def known_aspects(is_wide):
+    """The same of slices with aspects that are known, at the wide or at the strict profile."""
+    return [decoded_in(*known_frames.with_aspects(is_wide, aspects), known_frames.ALL)
+            for at_wide, aspects, _ in known_frames.ASPECTS if at_wide == is_wide]
+
+
+def known_decoded():
+    """The same of the payloads that are known, at the strict profile."""
+    return [decoded_in(config, bytes.fromhex(payload), room)
+            for _, config, payload, room, *_ in known_frames.given()] + known_aspects(False)
+
+
+def files_of_avi():
+    """bytes whole fault left opened (width height rate scale record) frames, all of them known;
+    whether all RIFFs are read, and each frame's length and CRC-32."""
+    lines = []
+    for _, is_whole, file, *_ in avi_files.rows():
+        said, frames, fault, left = avi_files.answer(file, is_whole)
+        head = [*said[:4], hexadecimal(said[4])] if said else []
+        lines.append([hexadecimal(file), is_whole, fault, left, int(said is not None), *head,
+                      *(f"{len(frame)}:{zlib.crc32(frame)}" for frame in frames)])
     return lines
 
 
@@ -332,7 +366,8 @@ def matroska_answer(file):
 def files_of_matroska(random, count):
     """bytes place bits fault left opened (segment width height rate scale record) frames. `=` is
     the file of the line before; the byte at the place is then changed by exclusive or."""
-    known = [file for _, file, *_ in known_files()] + [file_of(row[1]) for row in known_tracks()]
+    known = [file for _, file, *_ in [*matroska_others.files(), *known_files()]] \
+        + [file_of(row[1]) for row in known_tracks()]
     lines = [[hexadecimal(file), 0, 0, *matroska_answer(file)] for file in known]
     for number in range(count):
         file = bytearray(made(random, str(number)).file())
@@ -417,6 +452,8 @@ if __name__ == "__main__":
     write("heads.txt", heads(random.Random(9043), 400))
     write("payloads.txt", payloads(random.Random(9044), 2000))
     write("frames.txt", frames(random.Random(9045), 300))
-    write("decoded.txt", decoded(random.Random(9046), 300))
+    write("decoded.txt", known_decoded() + decoded(random.Random(9046), 300))
+    write("wide.txt", known_aspects(True))
+    write("avi.txt", files_of_avi())
     write("matroska.txt", files_of_matroska(random.Random(9559), 300))
-    write("written.txt", files_written(random.Random(9560), 150))
+    write("written.txt", files_written(random.Random(9560), 151))

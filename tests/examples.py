@@ -32,10 +32,10 @@ PACKED = r"frames 3 bytes \d+\n"
 CHECKED = r"(frame \d: \d+ bytes, \d+ slices, \d+ decisions\n){3}frames 3\n"
 README = [
     PACKED + CHECKED + r"frames 3\n",
-    r"broken\.avi\n",
+    r"broken\.mkv\n",
     r"samples 1024\ndecisions \d+\ncode [0-9A-F]+\nsame yes\n",
 ]
-MANUAL = [PACKED + CHECKED, r"frames 3\n", r"broken\.avi\n"]
+MANUAL = [PACKED + CHECKED, r"frames 3\n", r"broken\.mkv\n"]
 
 
 def run(folder, script):
@@ -51,8 +51,8 @@ def examples_of(name, blocks, wanted, program):
     """Whether each block prints what it should, one behind the other in one folder."""
     with tempfile.TemporaryDirectory() as folder:
         os.symlink(program, os.path.join(folder, "ffv1"))
-        with open(os.path.join(folder, "broken.avi"), "wb") as file:
-            file.write(b"RIFF")
+        with open(os.path.join(folder, "broken.mkv"), "wb") as file:
+            file.write(b"\x1a")
         status, printed = run(folder, MAKING)
         yield told(f"{name}: making", status == 0, printed)
         yield told(f"{name}: number of examples", len(blocks) == len(wanted), blocks)

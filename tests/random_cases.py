@@ -254,6 +254,7 @@ VALUES = {
     "columns": ["1", "2", "3", "4", "12", "32", "33", "0"],
     "rows": ["1", "2", "3", "5", "+2", "02", "33"], "ec": ["0", "1", "0", "1", "2", "-0"],
     "rate": ["25", "30000", "4294967295", "0", "4294967296"], "scale": ["1", "1001", "-1", "x", ""],
+    "container": ["mkv", "avi", "auto", "mkv", "mp4"],
 }
 
 
@@ -287,9 +288,9 @@ SOME_WORDS = [
     "in", "out", "in", "out", "no", ".", "./in", "/dev/full", "/dev/null", "", "--", "-", "-h",
     "--help", "help", "--place", "--cost", "--ec", "--ec=0", "--columns", "2", "--deep", "-x", "-1",
     "pack", "check", "--place=1", "---", "\u00e9", "in/x", "--progress", "--version", "-V",
-    "--no-clobber",
+    "--no-clobber", "--container", "--container=mkv", "out.mkv",
 ]
-OUTPUTS = ["out"] * 40 + ["in", "./in", "no/out", "/dev/full", "-", *commands.STANDARD_OUTPUT]
+OUTPUTS = ["out"] * 24 + ["out.mkv"] * 16 + ["in", "./in", "no/out", "/dev/full", "-", *commands.STANDARD_OUTPUT]
 NAMES = ["pack", "unpack", "check", "show", "trial"]
 
 

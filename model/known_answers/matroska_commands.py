@@ -13,6 +13,7 @@ from known_answers.shown import FIRST, SHOWN, SHOWN_IMAGE
 
 LINE = "frame 0: 5 bytes, 1 slices, 11 decisions\n"
 SHOWN_MONO = SHOWN.replace("25/1", "0/0")
+SEGMENT = bytes.fromhex("18538067")
 
 
 def lines(count):
@@ -34,9 +35,19 @@ def read(name, file, count, fault=""):
         Step(["unpack", "in", "out"], ended, fault)], {"in": file, "out": text(count)})
 
 
+def of_segment(text, file):
+    """What `show` prints of Matroska: a line more, of how many bytes its Segment says that it has."""
+    at = file.find(SEGMENT) + 4
+    length = 9 - file[at].bit_length()
+    size = int.from_bytes(file[at:at + length], "big") - 2 ** (7 * length)
+    said = "open" if size == 2 ** (7 * length) - 1 else size
+    return text.replace("held", f"segment {said}\nheld", 1)
+
+
 def shown(name, file, text, fault=""):
     """A file that is shown."""
-    return Case(name, {"in": file}, [Step(["show", "in"], text, fault)], {"in": file})
+    return Case(name, {"in": file}, [Step(["show", "in"], of_segment(text, file), fault)],
+                {"in": file})
 
 
 # ------------------------------------------------------------------------------------- known files
@@ -81,7 +92,8 @@ def forms():
         yield Case(f"the smallest file, {name}", {"in": file}, [
             Step(["check", "in"], LINE + "frames 1\n"),
             Step(["check", "--place", "in"], LINE + "frames 1\n"),
-            Step(["show", "in"], SHOWN_MONO), Step(["show", "--cost", "in"], SHOWN_MONO + FIRST),
+            Step(["show", "in"], of_segment(SHOWN_MONO, file)),
+            Step(["show", "--cost", "in"], of_segment(SHOWN_MONO + FIRST, file)),
             Step(["unpack", "in", "out"], "frames 1\n"),
             Step(["unpack", "in", "-"], MONO.decode("latin-1"), errors="frames 1\n"),
         ], {"in": file, "out": MONO})
@@ -98,7 +110,8 @@ def cut(name, file, length, ends):
     is_open = length >= CLUSTER_BEGINS or length == TRACKS_END and length in ends
     ended = "" if fault else "frames 1\n"
     return Case(f"{length} bytes of {name}", {"in": file[:length]}, [
-        Step(["show", "in"], SHOWN_MONO if is_open else "", "" if is_open else fault),
+        Step(["show", "in"], of_segment(SHOWN_MONO, file) if is_open else "",
+             "" if is_open else fault),
         Step(["check", "in"], lines(count) + ended, fault),
         Step(["unpack", "in", "out"], ended, fault)], {"out": text(count)})
 
@@ -211,7 +224,7 @@ def damaged():
             Step(["check", "--place", "in"], lines(count) + place.format(count, decisions),
                  fault),
             Step(["unpack", "in", "out"], "", fault),
-            Step(["show", "--cost", "in"], SHOWN_MONO + FIRST * count, fault)],
+            Step(["show", "--cost", "in"], of_segment(SHOWN_MONO + FIRST * count, file), fault)],
             {"out": text(count)})
     judged = cluster(summed("E78100", B))
     other = judged[:-5] + b"\xff" + judged[-4:]

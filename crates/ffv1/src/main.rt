@@ -13,11 +13,14 @@ mod output;
 mod progress;
 mod refusal;
 
-use ffv1_engine::{Fault, Profile, check, pack, show, trial, unpack};
-use ffv1_wire::ToWrite;
-use ffv1_words::{Choice, Order, is_hyphen, words};
+use either::{Left, Right};
+use ffv1_engine::{
+    Fault, PackedMatroska, Profile, check, pack, pack_matroska, show, trial, unpack,
+};
+use ffv1_wire::{ByteIn, ToFile, ToWrite};
+use ffv1_words::{Choice, ContainerChoice, Order, is_hyphen, words};
 use input::{open_input, watched};
-use output::open_output;
+use output::{Target, open_output};
 use refusal::Refusal;
 use std::alloc::Global;
 use std::io::Input;
@@ -50,19 +53,61 @@ struct Making<'a> {
     progress: bool,
 }
 
+/// Packs a video into Matroska. A regular file is written over at the end; a pipe, a device and
+/// standard output are not.
+fn pack_target<R: ByteIn, H: Files + Print>(
+    alloc: Global,
+    reader: &mut R,
+    target: Target<'_, H>,
+    choice: &Choice,
+) -> Result<PackedMatroska, Fault> {
+    match target {
+        Left(file) if file.is_regular() => {
+            pack_matroska(alloc, Profile::Wide, reader, &mut ToFile::new(file), choice)
+        }
+        Left(file) => pack_matroska(
+            alloc,
+            Profile::Wide,
+            reader,
+            &mut ToWrite::new(file),
+            choice,
+        ),
+        Right(printer) => pack_matroska(
+            alloc,
+            Profile::Wide,
+            reader,
+            &mut ToWrite::new(printer),
+            choice,
+        ),
+    }
+}
+
 /// Packs a video into a file, and prints how many frames and bytes of them there are. The input is
 /// opened first, and then the output.
 fn run_pack(
     rt: &(impl Files + Input + Print + Eprint + Clock),
     alloc: Global,
     files: &Making<'_>,
+    container: ContainerChoice,
     choice: &Choice,
 ) -> Result<(), Refusal> {
     let (source, metadata) = open_input(rt, files.input)?;
-    let mut writer = open_output(rt, files.output, &metadata, files.no_clobber)?;
+    let target = open_output(rt, files.output, &metadata, files.no_clobber)?;
     let mut reader = watched(rt, source, &metadata, files.progress);
-    let packed = pack(alloc, Profile::Wide, &mut reader, &mut writer, choice)?;
-    let count = format!(in alloc; "frames {} bytes {}", packed.frames, packed.bytes)?;
+    let (frames, bytes) = if container.is_matroska(files.output) {
+        let packed = pack_target(alloc, &mut reader, target, choice)?;
+        (packed.frames, packed.bytes)
+    } else {
+        let packed = pack(
+            alloc,
+            Profile::Wide,
+            &mut reader,
+            &mut ToWrite::new(target),
+            choice,
+        )?;
+        (packed.frames, packed.bytes)
+    };
+    let count = format!(in alloc; "frames {frames} bytes {bytes}")?;
     print_count(rt, files.output, &count)
 }
 
@@ -74,9 +119,9 @@ fn run_unpack(
     files: &Making<'_>,
 ) -> Result<(), Refusal> {
     let (source, metadata) = open_input(rt, files.input)?;
-    let writer = open_output(rt, files.output, &metadata, files.no_clobber)?;
+    let target = open_output(rt, files.output, &metadata, files.no_clobber)?;
     let mut reader = watched(rt, source, &metadata, files.progress);
-    let (_written, answer) = unpack(alloc, Profile::Wide, &mut reader, writer);
+    let (_written, answer) = unpack(alloc, Profile::Wide, &mut reader, ToWrite::new(target));
     let frames = answer?;
     let count = format!(in alloc; "frames {frames}")?;
     print_count(rt, files.output, &count)
@@ -129,6 +174,7 @@ fn run(
             input,
             output,
             choice,
+            container,
             no_clobber,
             progress,
         } => {
@@ -138,7 +184,7 @@ fn run(
                 no_clobber,
                 progress,
             };
-            run_pack(rt, alloc, &files, &choice)
+            run_pack(rt, alloc, &files, container, &choice)
         }
         Order::Unpack {
             input,

@@ -8,10 +8,9 @@ ghost use Rattle.ffv1_engine.specs.declared.fault.Fault.TheVariants as fault;
 use crate::refusal::Refusal;
 use either::{Either, Left, Right};
 use ffv1_engine::Fault;
-use ffv1_wire::ToWrite;
 use ffv1_words::is_hyphen;
 use std::fs::{Metadata, OpenFile, OpenOptions};
-use std::io::{ErrorKind, Printer, Write};
+use std::io::{ErrorKind, Printer, Seek, SeekFrom, Write};
 use std::os::unix::fs::{FileTypeExt, MetadataExt};
 use std::rt::Files;
 use std::{fs, io};
@@ -22,6 +21,17 @@ pub struct Anew<F: Drop> {
     file: F,
     // Whether it still holds what it held when it was opened.
     is_old: bool,
+    // Whether it is a regular file, which may be written over.
+    is_regular: bool,
+}
+
+impl<F: Drop> Anew<F> {
+    /// Whether it is a regular file, which may be written over.
+    pub fn is_regular(&self) -> bool
+        ensures { result ≡ self.now.is_regular }
+    {
+        self.is_regular
+    }
 }
 
 impl<F: OpenFile + Drop> Anew<F> {
@@ -50,8 +60,14 @@ impl<F: Write + OpenFile + Drop> Write for Anew<F> {
     }
 }
 
-/// A writer of a file, or of standard output.
-pub type Target<'a, H> = ToWrite<Either<Anew<<H as Files>::File>, Printer<'a, H>>>;
+impl<F: Seek + OpenFile + Drop> Seek for Anew<F> {
+    fn seek(&mut self, to: SeekFrom) -> io::Result<u64> {
+        self.file.seek(to)
+    }
+}
+
+/// A file, or standard output.
+pub type Target<'a, H> = Either<Anew<<H as Files>::File>, Printer<'a, H>>;
 
 /// Whether these are one file, by its device and number. Streams and terminals, of which nothing
 /// is lost, are none.
@@ -82,17 +98,21 @@ pub fn open_output<'a, H: Files + Print>(
         }
     }
     if is_hyphen(path) {
-        return Ok(ToWrite::new(Right(io::writer(rt))));
+        return Ok(Right(io::writer(rt)));
     }
     let mut options = OpenOptions::new();
     options.write(true).create(true).create_new(no_clobber);
     match options.open(rt, path) {
         Ok(file) => {
-            let is_old = match file.metadata() {
-                Ok(metadata) => metadata.is_file() && metadata.len() > 0,
-                Err(_) => false,
+            let (is_regular, is_old) = match file.metadata() {
+                Ok(metadata) => (metadata.is_file(), metadata.is_file() && metadata.len() > 0),
+                Err(_) => (false, false),
             };
-            Ok(ToWrite::new(Left(Anew { file, is_old })))
+            Ok(Left(Anew {
+                file,
+                is_old,
+                is_regular,
+            }))
         }
         Err(error) if no_clobber && error.kind() == ErrorKind::AlreadyExists => {
             Err(Refusal::Exists)

@@ -5,7 +5,7 @@ use Rattle.std.proofs.KnownBytes.{Appends-kept, Appends-trans, Keeps-refl}
 use Rattle.ffv1_wire.specs.Failures.{one_more}
 use Rattle.ffv1_wire.specs.Passage.{Passage, between}
 use Rattle.ffv1_record.specs.Accepted.{Accepted}
-use Rattle.ffv1_files.specs.Places.{Place}
+use Rattle.ffv1_files.specs.Places.{Place, container_of}
 use Rattle.ffv1_files.specs.Readers.{Standing}
 use Rattle.ffv1_engine.specs.declared.profile.Profile.{Profile}
 use Rattle.ffv1_engine.specs.declared.fault.Fault.{Fault}
@@ -16,7 +16,7 @@ use Rattle.ffv1_engine.specs.FrameLines.{frame_lines}
 use Rattle.ffv1_engine.specs.Opens.{LacksOpeningBy, OpensKnown, OpensStream, stream_of}
 use Rattle.ffv1_engine.specs.Play.{but_last}
 use Rattle.ffv1_engine.specs.Play.End.{File, Payload}
-use Rattle.ffv1_engine.specs.Show.{CostFails, CostPayload, CostStops, CostStopsBy, CostsSome, CostsTo, NoDecoder, ShowStops, ShowsCosts, ShowsStream, StreamStopsBy}
+use Rattle.ffv1_engine.specs.Show.{ComesFrom, CostFails, CostPayload, CostStops, CostStopsBy, CostsSome, CostsTo, NoDecoder, ShowStops, ShowsCosts, ShowsStream, StreamStopsBy}
 use Rattle.ffv1_engine.specs.Stream.{AreFrames, Frame, ReadsFile}
 use Rattle.ffv1_engine.specs.StreamLines.{show_text}
 use Rattle.ffv1_engine.specs.Told.{LineFails, PayloadStops, ReadsSome, TellingStops, TellingStopsBy, ToldAll, ToldSome, WritesFrame, WritesLine}
@@ -45,7 +45,7 @@ module _ (profile : Profile) (i0 i1 o0 o1 : Option (List ℕ)) (ib im ob om : �
 
   module _ (r : Standing) (a : Accepted) (opens : OpensStream profile r a (between i0 i1 ib im)) where
     -- its lines are written, or not
-    pub shows : om ≡ ob → Appends o0 o1 (show_text (stream_of r a)) → ShowsStream profile (between i0 i1 ib im) (between o0 o1 ob om)
+    pub shows : om ≡ ob → Appends o0 o1 (show_text (container_of r.place) (stream_of r a)) → ShowsStream profile (between i0 i1 ib im) (between o0 o1 ob om)
     shows same writes = record {
       stream = stream_of r a;
       is = opens.stream;
@@ -56,7 +56,7 @@ module _ (profile : Profile) (i0 i1 o0 o1 : Option (List ℕ)) (ib im ob om : �
       writes = writes;
     }
 
-    pub text_stops : (f : Fault) → WritesFrame (show_text (stream_of r a)) (between o0 o1 ob om) (Err f) → StreamStopsBy profile (between i0 i1 ib im) (between o0 o1 ob om) f (cause_of f)
+    pub text_stops : (f : Fault) → WritesFrame (show_text (container_of r.place) (stream_of r a)) (between o0 o1 ob om) (Err f) → StreamStopsBy profile (between i0 i1 ib im) (between o0 o1 ob om) f (cause_of f)
     text_stops f h = elim h [
       | inl write ↦
           subst (λ z. StreamStopsBy profile (between i0 i1 ib im) (between o0 o1 ob om) z (cause_of z)) (sym write.0) (record {
@@ -73,9 +73,12 @@ module _ (profile : Profile) (i0 i1 o0 o1 : Option (List ℕ)) (ib im ob om : �
     ]
 
 module _ (profile : Profile) (i0 i1 i2 o0 o1 o2 : Option (List ℕ)) (ib im ia ob om oa : ℕ) (r : Standing) (a : Accepted) (opens : OpensStream profile r a (between i0 i1 ib im)) (same : om ≡ ob)
-    (writes : Appends o0 o1 (show_text (stream_of r a))) where
-  behind : (lines : List ℕ) → Appends o1 o2 lines → Appends o0 o2 (show_text (stream_of r a) ++ lines)
-  behind lines more = Appends-trans o0 o1 o2 (show_text (stream_of r a)) lines writes more
+    (writes : Appends o0 o1 (show_text (container_of r.place) (stream_of r a))) where
+  abbrev from : ComesFrom profile i0 r.head
+  from = record { place = r.place; rest = i1; opens = opens.known }
+
+  behind : (lines : List ℕ) → Appends o1 o2 lines → Appends o0 o2 (show_text (container_of r.place) (stream_of r a) ++ lines)
+  behind lines more = Appends-trans o0 o1 o2 (show_text (container_of r.place) (stream_of r a)) lines writes more
 
   some : (frames : List Frame) → AreFrames a frames → ReadsSome r.place i1 frames → oa ≡ om → Appends o1 o2 (frame_lines line.Cost a.configuration frames) →
       CostsSome profile (between i0 i2 ib ia) (between o0 o2 ob oa) (stream_of r a) frames
@@ -83,6 +86,7 @@ module _ (profile : Profile) (i0 i1 i2 o0 o1 o2 : Option (List ℕ)) (ib im ia o
     played = record { stream = opens.stream; decoded = are };
     begins = begins_some profile i0 i1 (stream_of r a) r.place frames opens.known reads;
     written = silent ∙ same;
+    comes = from;
     writes = behind (frame_lines line.Cost a.configuration frames) lines;
   }
 
@@ -92,12 +96,13 @@ module _ (profile : Profile) (i0 i1 i2 o0 o1 o2 : Option (List ℕ)) (ib im ia o
     played = record { stream = opens.stream; decoded = told.are };
     begins = begins_to profile i0 i1 at (stream_of r a) r.place to frames opens.known told.read;
     written = told.written ∙ same;
+    comes = from;
     writes = behind (frame_lines line.Cost a.configuration frames) told.writes;
   }
 
   line_fails : (frames : List Frame) → LineFails line.Cost false a r.place (between i1 i2 im ia) (between o1 o2 om oa) frames → CostFails profile (between i0 i2 ib ia) (between o0 o2 ob oa)
   line_fails frames h =
-      let text = show_text (stream_of r a) in
+      let text = show_text (container_of r.place) (stream_of r a) in
       let lines = frame_lines line.Cost a.configuration frames in
       let fewer = frame_lines line.Cost a.configuration (but_last frames) in
       let long : length (text ++ lines) ≡ length text + length lines = length-append text lines in
@@ -109,6 +114,7 @@ module _ (profile : Profile) (i0 i1 i2 o0 o1 o2 : Option (List ℕ)) (ib im ia o
         begins = begins_known profile i0 i1 i2 (stream_of r a) r.place h.to frames opens.known h.read;
         kept = h.kept ∙ opens.kept;
         written = h.written ∙ ap one_more same;
+        comes = from;
         writes = record {
           count = length text + h.writes.count;
           enough = omega (arith, short, h.writes.enough);
@@ -159,7 +165,7 @@ module _ (profile : Profile) (i0 i1 i2 o0 o1 o2 : Option (List ℕ)) (ib im ia o
           opens = subst (λ z. OpensKnown profile i0 z r.head r.place) h.left opens.known;
           kept = h.unread ∙ opens.kept;
           written = h.silent.same ∙ same;
-          writes = Appends-kept o0 o1 o2 (show_text (stream_of r a)) writes h.silent.kept;
+          writes = Appends-kept o0 o1 o2 (show_text (container_of r.place) (stream_of r a)) writes h.silent.kept;
         }),
       ))
 
@@ -177,5 +183,6 @@ module _ (profile : Profile) (i0 i1 i2 o0 o1 o2 : Option (List ℕ)) (ib im ia o
     reads = reads;
     kept = told.kept ∙ opens.kept;
     written = told.written ∙ same;
+    comes = from;
     writes = behind (frame_lines line.Cost a.configuration frames) told.writes;
   }

@@ -4,13 +4,17 @@ mod PlaneCount
 mod Refusals
 mod Compared
 mod PlaneBack
+mod KnownTexts
 mod VideoHeads
 mod VideoPictures
 mod VideoFits
 mod VideoChecks
 mod PicturesEncoded
 mod PicturesSoFar
+mod ClustersPut
 mod VideoEncoded
+mod MatroskaFinished
+mod MatroskaPacked
 mod VideoEnds
 mod FrameBytes
 mod FilePacked
@@ -35,3 +39,4 @@ mod FileTurns
 mod PackedFrames
 mod PackedText
 mod PackedIsUnpacked
+mod MatroskaUnpacked

@@ -112,12 +112,12 @@ pub record Same (a : Accepted) (said : Said) (frames : List Frame) (more : List 
   pub coded : AllCoded a said others
 
 module _ (laws : FrameLaws) (a : Accepted) (accepted : IsAccepted a.configuration a.table) where
-  frame_bytes : (planes : Planes) (said : Said) → AreBytes (frame_of a planes said)
+  pub frame_bytes : (planes : Planes) (said : Said) → AreBytes (frame_of a planes said)
   frame_bytes planes said =
       row_bytes a.configuration.ec (slice_bytes a planes said) (range_with_len 0 (a.configuration.columns * a.configuration.rows))
       (λ n. laws.sentinel (interval_of (decisions_after a.table [] (chosen_slice a.configuration planes said n))))
 
-  frame_some : (planes : Planes) (said : Said) → 0 < length (frame_of a planes said)
+  pub frame_some : (planes : Planes) (said : Said) → 0 < length (frame_of a planes said)
   frame_some planes said =
       let columns = laws.columns a accepted in
       let rows = laws.rows a accepted in

@@ -1,5 +1,5 @@
 -- A video that was packed is unpacked.
-use Rattle.std.proofs.Common.{◌≡◌, refl, ℕ, suc, ◌<◌, Bool, true, false, Option, Some, None, Result, Ok, inl, inr, List, [], ◌∷◌, ◌++◌, length, map, ap, sym, subst, ◌∙◌, arith, append-nil}
+use Rattle.std.proofs.Common.{◌≡◌, refl, ℕ, suc, ◌<◌, ◌≤◌, Bool, true, false, Option, Some, None, Result, Ok, inl, inr, List, [], ◌∷◌, ◌++◌, length, map, ap, sym, subst, ◌∙◌, arith, append-nil}
 use Rattle.std.specs.Io.KnownBytes.{Appends}
 use Rattle.ffv1_range.specs.Codes.{AreBytes}
 use Rattle.ffv1_range.specs.Counts.{saturated}
@@ -32,11 +32,11 @@ use Rattle.ffv1_engine.specs.Check.{CheckStops, CheckStopsBy}
 use Rattle.ffv1_engine.specs.Show.{CostStopsBy, ShowStops, StreamStopsBy}
 use Rattle.ffv1_engine.specs.Faults.{cause_of}
 use Rattle.ffv1_engine.specs.Faults.Cause.{Content}
-use Rattle.ffv1_engine.specs.Pack.{IsPackable}
-use Rattle.ffv1_engine.specs.Packing.{AllShort, configuration_for, packed_file, packed_frames, packed_head, said_for}
+use Rattle.ffv1_avi.specs.Written.{most, riff_size}
+use Rattle.ffv1_engine.specs.Packing.{AllShort, AreReadable, IsFor, configuration_for, packed_file, packed_frames, packed_head, said_for}
 use Rattle.ffv1_engine.specs.Play.{End, EndsKnown, EndsWith, FaultsRead, IsOfFile, LacksStream, Played}
 use Rattle.ffv1_engine.specs.Play.End.{File, Payload, Over}
-use Rattle.ffv1_engine.specs.RoundTrip.{AreReadable, Holds, IsFileIn, IsNoContent, IsUnpacked, WasPacked, canonical_by, canonical_of, video_in}
+use Rattle.ffv1_engine.specs.RoundTrip.{HoldsBy, IsFileIn, IsNoContent, IsUnpacked, WasPacked, canonical_by, canonical_of, video_in}
 use Rattle.ffv1_engine.specs.Stream.{AreFrames, Begins, BeginsKnown, FaultsFrame, Frame, IsRead, IsStream, ReadsFile, ReadsFrames, Stream, payloads}
 use Rattle.ffv1_engine.specs.Unpack.{LacksTextIn, UnpackDone, UnpackStops, UnpackStopsBy}
 use Rattle.ffv1_engine.specs.Unpacked.{AllSay, AreAlike, HasTextBy, LacksText, LacksTextBy, is_ppm_stream, pictures, text_of}
@@ -75,11 +75,11 @@ text_or_none true c f has lacks = absurd (let wrong : true ≡ false = sym lacks
 text_or_none false c f has lacks = absurd (let wrong : true ≡ false = sym has ∙ lacks.0 in cc)
 
 -- the canonical text is one of the same video
-same_by : {profile : Profile} → FileLaws profile → (ppm : Bool) (text : List ℕ) (h : VideoHead) (ps : List Planes) → IsVideoBy ppm text h ps → IsVideoBy ppm (canonical_by ppm h ps) h ps
+pub same_by : {profile : Profile} → FileLaws profile → (ppm : Bool) (text : List ℕ) (h : VideoHead) (ps : List Planes) → IsVideoBy ppm text h ps → IsVideoBy ppm (canonical_by ppm h ps) h ps
 same_by laws true text h ps v = (v.0, record { sized = v.1.sized; whole = refl; fit = v.1.fit })
 same_by laws false text h ps v = laws.canonical h ps (laws.said v.line h v.said) v.fit
 
-ppm_by : (ppm : Bool) (text : List ℕ) (h : VideoHead) (ps : List Planes) → IsVideoBy ppm text h ps → ppm ≡ true → canonical_by ppm h ps ≡ text
+pub ppm_by : (ppm : Bool) (text : List ℕ) (h : VideoHead) (ps : List Planes) → IsVideoBy ppm text h ps → ppm ≡ true → canonical_by ppm h ps ≡ text
 ppm_by true text h ps v is = sym v.1.whole
 ppm_by false text h ps v is = absurd (cc)
 
@@ -119,226 +119,224 @@ begins_in profile file (Some rest) s frames h = record { to = h.0; at = rest; be
 pub record Given (choice : Choice) (text : List ℕ) (v : Video) (a : Accepted) : Type 0 where
   pub is : IsVideo text v
   pub bytes : AreBytes text
-  pub packable : IsPackable choice v a
+  pub for : IsFor choice v.ppm v.head a
+  pub some : 0 < length v.pictures
+  pub short : AllShort a v.head v.pictures
   pub readable : AreReadable (packed_frames v a)
   pub rated : v.ppm ≡ true → IsRatio 4294967295 choice.rate choice.scale
 
 module _ (profile : Profile) (files : FileLaws profile) (frame_laws : FrameLaws) (records : RecordLaws) (choice : Choice) (text : List ℕ) (v : Video) (a : Accepted) (profiled : a.profile ≡ record_profile profile)
     (g : Given choice text v a) where
   for : a.configuration ≡ configuration_for choice v.ppm v.head
-  for = g.packable.for.configuration
+  for = g.for.configuration
 
-  head : IsHeadBy v.ppm v.head
+  pub head : IsHeadBy v.ppm v.head
   head = head_given files.said v.ppm text v.head v.pictures g.is
 
   said : IsSaid (said_for v.head)
   said = said_given v.ppm v.head head
 
-  coded : AllCoded a (said_for v.head) v.pictures
-  coded = all_coded frame_laws a g.packable.for.accepted choice v.ppm v.head for head said v.pictures (pictures_given v.ppm text v.head v.pictures g.is g.bytes) g.packable.short
+  pub coded : AllCoded a (said_for v.head) v.pictures
+  coded = all_coded frame_laws a g.for.accepted choice v.ppm v.head for head said v.pictures (pictures_given v.ppm text v.head v.pictures g.is g.bytes) g.short
 
-  can_write : IsWritable (packed_head choice v a) (packed_frames v a)
-  can_write = writable profile records choice v.ppm v.head a for g.packable.for.accepted profiled head g.rated v.pictures coded g.readable g.packable.small
+  pub can_write : riff_size (packed_head choice v a) (packed_frames v a) ≤ most → IsWritable (packed_head choice v a) (packed_frames v a)
+  can_write small = writable profile records choice v.ppm v.head a for g.for.accepted profiled head g.rated v.pictures coded g.readable small
 
   stream : Stream
   stream = stream_for choice v.ppm v.head a
 
-  file_is : IsFileIn profile (packed_file choice v a) (packed_head choice v a) (packed_frames v a)
-  file_is = files.file (packed_head choice v a) (packed_frames v a) can_write
+  -- a file of its head and its frames
+  module _ (file : List ℕ) (reads_whole : file_read (scope_in profile) file ≡ Ok ((packed_head choice v a, packed_frames v a), [])) where
+    whole : Opened (scope_in profile) file (packed_head choice v a) (packed_frames v a) []
+    whole = opened (scope_in profile) file (packed_head choice v a) (packed_frames v a) [] reads_whole
 
-  reads_whole : file_read (scope_in profile) (packed_file choice v a) ≡ Ok ((packed_head choice v a, packed_frames v a), [])
-  reads_whole = files.read (packed_head choice v a) (packed_frames v a) can_write
-
-  whole : Opened (scope_in profile) (packed_file choice v a) (packed_head choice v a) (packed_frames v a) []
-  whole = opened (scope_in profile) (packed_file choice v a) (packed_head choice v a) (packed_frames v a) [] reads_whole
-
-  -- what the file holds
-  pub holds : Holds profile (packed_file choice v a) v
-  unfolding stream
-  holds =
-      let m = made frame_laws a g.packable.for.accepted (said_for v.head) v.pictures coded in record {
-        stream = stream;
-        frames = m.frames;
-        is = subst (λ ps. IsFileIn profile (packed_file choice v a) (packed_head choice v a) ps) (sym m.payloads_are) file_is;
-        played = record { stream = stream_is profile records choice v.ppm v.head a for g.packable.for.accepted profiled head; decoded = m.are };
-        pictures_are = m.pictures_are;
-        say = m.say;
-        text = text_given choice v.ppm v.head a for head;
-        alike = alike_given choice v.ppm v.head a for m.frames m.say;
-        writes = canonical_given choice v.ppm v.head a for m.frames v.pictures m.say m.pictures_are g.packable.some;
-      }
-
-  -- a stream with that head is the one
-  the_stream : (s : Stream) → IsStream profile s → s.head ≡ packed_head choice v a → s ≡ stream
-  unfolding stream
-  the_stream s is e = one_stream profile records choice v.ppm v.head a for g.packable.for.accepted profiled head s is e
-
-  -- frames of it that the file begins with are those of the first pictures
-  the_frames : (s : Stream) (frames : List Frame) (more : List (List ℕ)) → s ≡ stream → AreFrames s.accepted frames → packed_frames v a ≡ payloads frames ++ more → Same a (said_for v.head) frames more v.pictures
-  unfolding stream
-  the_frames s frames more e are parts =
-      same frame_laws a g.packable.for.accepted (said_for v.head) frames more v.pictures (subst (λ (t : Stream). AreFrames t.accepted frames) e are) coded parts
-
-  -- all of them, and nothing is left after them
-  all_frames : (s : Stream) (frames : List Frame) (rest : List ℕ) → Played profile s frames → file_read (scope_in profile) (packed_file choice v a) ≡ Ok ((s.head, payloads frames), rest) →
-      (s ≡ stream) × AllSay (said_for v.head) frames × (pictures frames ≡ v.pictures) × (rest ≡ [])
-  all_frames s frames rest played is =
-      let both : ((s.head, payloads frames), rest) ≡ ((packed_head choice v a, packed_frames v a), []) = same_ok (file_read (scope_in profile) (packed_file choice v a)) _ _ is reads_whole in
-      let e = the_stream s played.stream (ap (λ (z : (Head × List (List ℕ)) × List ℕ). z.0.0) both) in
-      let same_of = the_frames s frames [] e played.decoded (sym (ap (λ (z : (Head × List (List ℕ)) × List ℕ). z.0.1) both) ∙ sym (append-nil (payloads frames))) in
-      let none : same_of.others ≡ [] = no_others same_of.others same_of.more_are in
-      (e, same_of.say, sym (same_of.parts ∙ ap (λ ps. pictures frames ++ ps) none ∙ append-nil (pictures frames)), ap (λ (z : (Head × List (List ℕ)) × List ℕ). z.1) both)
-    where
-      no_others : (ps : List Planes) → map (λ planes. frame_of a planes (said_for v.head)) ps ≡ [] → ps ≡ []
-      no_others [] e = refl
-      no_others (p ∷ ps) e = absurd (cc)
-
-  -- what unpack wrote
-  pub written : (input output : Passage) (count : ℕ) → input.old ≡ Some (packed_file choice v a) → UnpackDone profile input output count → IsUnpacked v input output count
-  unfolding stream
-  written input output count known done =
-      let reads = subst (λ o. ReadsFile profile o input.new done.stream done.frames) known done.reads in
-      let read = whole_of profile files (packed_file choice v a) input.new done.stream done.frames reads in
-      let all = all_frames done.stream done.frames read.rest done.played read.is in
-      let bytes : text_of done.stream done.frames ≡ canonical_of v =
-      ap (λ s. text_of s done.frames) all.0 ∙ canonical_given choice v.ppm v.head a for done.frames v.pictures all.1 all.2 g.packable.some in
-      let long : length done.frames ≡ length v.pictures = sym (many (λ (f : Frame). f.planes) done.frames) ∙ ap (λ ps. length ps) all.2 in record {
-        left = read.left ∙ ap (λ t. Some t) all.3;
-        counted = done.counted ∙ ap saturated long;
-        writes = subst (λ text. Appends output.old output.new text) bytes done.writes;
-      }
-
-  -- the payload that comes next has no fault
-  not_next : (ps : List Planes) (payload : List ℕ) (more : List (List ℕ)) (f : FrameFault) (tally : Tally) → AllCoded a (said_for v.head) ps →
-      map (λ planes. frame_of a planes (said_for v.head)) ps ≡ payload ∷ more → FaultsFrame a payload f tally → ⊥
-  not_next [] payload more f tally coded e faulty = cc
-  not_next (p ∷ ps) payload more f tally coded e faulty =
-      let here : frame_of a p (said_for v.head) ≡ payload = cc in
-      no_fault frame_laws a g.packable.for.accepted (said_for v.head) p f tally coded.0 (subst (λ bytes. FaultsFrame a bytes f tally) (sym here) faulty)
-
-  -- where the file begins with frames, the others are read after them
-  module _ (s : Stream) (frames : List Frame) (b : Known profile (packed_file choice v a) s frames) where
-    first : (s.head ≡ packed_head choice v a) × Others b.to b.at (payloads frames) (packed_frames v a) []
-    first =
-        let e : ((s.head, b.begins.from), b.begins.behind) ≡ ((packed_head choice v a, whole.from), whole.behind) = same_ok (open_read (scope_in profile) (packed_file choice v a)) _ _ b.begins.opened whole.opened in
-        let from : b.begins.from ≡ whole.from = ap (λ (z : (Head × Place) × List ℕ). z.0.1) e in
-        let behind : b.begins.behind ≡ whole.behind = ap (λ (z : (Head × Place) × List ℕ). z.1) e in (
-          ap (λ (z : (Head × Place) × List ℕ). z.0.0) e,
-          others files.next whole.from whole.behind (payloads frames) b.to b.at (packed_frames v a) []
-              (subst (λ m. ReadsFrames m whole.behind (payloads frames) b.to b.at) from (subst (λ t. ReadsFrames b.begins.from t (payloads frames) b.to b.at) behind b.begins.read))
-              whole.read,
-        )
-
-    same_frames : Played profile s frames → Same a (said_for v.head) frames first.1.more v.pictures
-    same_frames played = the_frames s frames first.1.more (the_stream s played.stream first.0) played.decoded first.1.parts
-
-    -- no fault stands in the place of a frame
-    never_stops : (rest : List ℕ) (f : Fault) → FaultsRead (frame_read b.to) b.at rest f → ⊥
-    never_stops rest f h = no_stop files.next b.to b.at rest f first.1.more [] h first.1.read
-
-    -- nor does movi end before the first one
-    never_empty : (rest : List ℕ) → frame_read b.to b.at ≡ Ok (None, rest) → frames ≡ [] → ⊥
-    never_empty rest h none =
-        let over = no_more files.next b.to b.at rest first.1.more [] h first.1.read in
-        let all : packed_frames v a ≡ [] = first.1.parts ∙ ap (λ fs. payloads fs ++ first.1.more) none ∙ over in
-        some_in (λ planes. frame_of a planes (said_for v.head)) v.pictures (sym all) g.packable.some
-
-    -- the next payload has none
-    never_faulty : Played profile s frames → (payload rest : List ℕ) (to : Place) (f : FrameFault) (tally : Tally) → frame_read b.to b.at ≡ Ok (Some (payload, to), rest) → FaultsFrame s.accepted payload f tally → ⊥
+    -- what the file holds
+    pub holds : (Is : List ℕ → Head → List (List ℕ) → Type 0) → Is file (packed_head choice v a) (packed_frames v a) → HoldsBy Is profile file v
     unfolding stream
-    never_faulty played payload rest to f tally h faulty =
-        let turn = one_more files.next b.to to b.at rest payload first.1.more [] h first.1.read in
-        let of = same_frames played in
-        not_next of.others payload turn.0 f tally of.coded (of.more_are ∙ turn.1) (subst (λ (t : Stream). FaultsFrame t.accepted payload f tally) (the_stream s played.stream first.0) faulty)
+    holds Is file_is =
+        let m = made frame_laws a g.for.accepted (said_for v.head) v.pictures coded in record {
+          stream = stream;
+          frames = m.frames;
+          is = subst (λ ps. Is file (packed_head choice v a) ps) (sym m.payloads_are) file_is;
+          played = record { stream = stream_is profile records choice v.ppm v.head a for g.for.accepted profiled head; decoded = m.are };
+          pictures_are = m.pictures_are;
+          say = m.say;
+          text = text_given choice v.ppm v.head a for head;
+          alike = alike_given choice v.ppm v.head a for m.frames m.say;
+          writes = canonical_given choice v.ppm v.head a for m.frames v.pictures m.say m.pictures_are g.some;
+        }
 
-  -- so the file has a stream
-  lacks_stream : (new : Option (List ℕ)) (f : Fault) → LacksStream profile (Some (packed_file choice v a)) new f → ⊥
-  lacks_stream None f h = h
-  lacks_stream (Some rest) f (inl h) = no_read_fault (open_read (scope_in profile)) (packed_file choice v a) rest f _ h whole.opened
-  lacks_stream (Some rest) f (inr h) =
-      let e : ((h.head, h.place), rest) ≡ ((packed_head choice v a, whole.from), whole.behind) = same_ok (open_read (scope_in profile) (packed_file choice v a)) _ _ h.opened whole.opened in
-      none_refused profile records choice v.ppm v.head a for g.packable.for.accepted profiled head h.head h.refusal (ap (λ (z : (Head × Place) × List ℕ). z.0.0) e) h.refused
+    -- a stream with that head is the one
+    the_stream : (s : Stream) → IsStream profile s → s.head ≡ packed_head choice v a → s ≡ stream
+    unfolding stream
+    the_stream s is e = one_stream profile records choice v.ppm v.head a for g.for.accepted profiled head s is e
 
-  -- which has a text
-  lacks_text : (f : Fault) → LacksTextIn profile (Some (packed_file choice v a)) f → ⊥
-  unfolding stream
-  lacks_text f h =
-      let e = the_stream h.stream h.is (first h.stream [] (record { to = h.begins.0; at = h.begins.1; begins = h.begins.2 })).0 in
-      text_or_none (is_ppm_stream stream) a.configuration f (text_given choice v.ppm v.head a for head) (subst (λ s. LacksText s f) e h.lacks)
+    -- frames of it that the file begins with are those of the first pictures
+    the_frames : (s : Stream) (frames : List Frame) (more : List (List ℕ)) → s ≡ stream → AreFrames s.accepted frames → packed_frames v a ≡ payloads frames ++ more → Same a (said_for v.head) frames more v.pictures
+    unfolding stream
+    the_frames s frames more e are parts =
+        same frame_laws a g.for.accepted (said_for v.head) frames more v.pictures (subst (λ (t : Stream). AreFrames t.accepted frames) e are) coded parts
 
-  -- after its frames it ends without a fault, and not before the first
-  file_ends : (new : Option (List ℕ)) (s : Stream) (frames : List Frame) (e : End) (f : Fault) → EndsKnown profile (Some (packed_file choice v a)) new s frames e → IsOfFile e → EndsWith frames e f → ⊥
-  file_ends None s frames e f h is with_ = h
-  file_ends (Some rest) s frames (File fault) f (to, at, begins, h) is with_ = never_stops s frames (record { to = to; at = at; begins = begins }) rest fault h
-  file_ends (Some rest) s frames (Payload payload fault tally) f h is with_ = is
-  file_ends (Some rest) s frames Over f (to, at, begins, h) is with_ = never_empty s frames (record { to = to; at = at; begins = begins }) rest h with_.0
+    -- all of them, and nothing is left after them
+    all_frames : (s : Stream) (frames : List Frame) (rest : List ℕ) → Played profile s frames → file_read (scope_in profile) file ≡ Ok ((s.head, payloads frames), rest) →
+        (s ≡ stream) × AllSay (said_for v.head) frames × (pictures frames ≡ v.pictures) × (rest ≡ [])
+    all_frames s frames rest played is =
+        let both : ((s.head, payloads frames), rest) ≡ ((packed_head choice v a, packed_frames v a), []) = same_ok (file_read (scope_in profile) file) _ _ is reads_whole in
+        let e = the_stream s played.stream (ap (λ (z : (Head × List (List ℕ)) × List ℕ). z.0.0) both) in
+        let same_of = the_frames s frames [] e played.decoded (sym (ap (λ (z : (Head × List (List ℕ)) × List ℕ). z.0.1) both) ∙ sym (append-nil (payloads frames))) in
+        let none : same_of.others ≡ [] = no_others same_of.others same_of.more_are in
+        (e, same_of.say, sym (same_of.parts ∙ ap (λ ps. pictures frames ++ ps) none ∙ append-nil (pictures frames)), ap (λ (z : (Head × List (List ℕ)) × List ℕ). z.1) both)
+      where
+        no_others : (ps : List Planes) → map (λ planes. frame_of a planes (said_for v.head)) ps ≡ [] → ps ≡ []
+        no_others [] e = refl
+        no_others (p ∷ ps) e = absurd (cc)
 
-  -- no payload of it has a fault
-  payload_ends : (new : Option (List ℕ)) (s : Stream) (frames : List Frame) (payload : List ℕ) (f : FrameFault) (tally : Tally) → Played profile s frames →
-      EndsKnown profile (Some (packed_file choice v a)) new s frames (Payload payload f tally) → FaultsFrame s.accepted payload f tally → ⊥
-  payload_ends None s frames payload f tally played h faulty = h
-  payload_ends (Some rest) s frames payload f tally played (to, at, begins, (last, h)) faulty =
-      never_faulty s frames (record { to = to; at = at; begins = begins }) played payload rest last f tally h faulty
+    -- what unpack wrote
+    pub written : (input output : Passage) (count : ℕ) → input.old ≡ Some file → UnpackDone profile input output count → IsUnpacked v input output count
+    unfolding stream
+    written input output count known done =
+        let reads = subst (λ o. ReadsFile profile o input.new done.stream done.frames) known done.reads in
+        let read = whole_of profile files file input.new done.stream done.frames reads in
+        let all = all_frames done.stream done.frames read.rest done.played read.is in
+        let bytes : text_of done.stream done.frames ≡ canonical_of v =
+        ap (λ s. text_of s done.frames) all.0 ∙ canonical_given choice v.ppm v.head a for done.frames v.pictures all.1 all.2 g.some in
+        let long : length done.frames ≡ length v.pictures = sym (many (λ (f : Frame). f.planes) done.frames) ∙ ap (λ ps. length ps) all.2 in record {
+          left = read.left ∙ ap (λ t. Some t) all.3;
+          counted = done.counted ∙ ap saturated long;
+          writes = subst (λ text. Appends output.old output.new text) bytes done.writes;
+        }
 
-  -- and its frames say the same
-  alike : (new : Option (List ℕ)) (s : Stream) (frames : List Frame) → Played profile s frames → BeginsKnown profile (Some (packed_file choice v a)) new s frames → AreAlike s frames
-  unfolding stream
-  alike new s frames played h =
-      let b = begins_in profile (packed_file choice v a) new s frames h in
-      let e = the_stream s played.stream (first s frames b).0 in
-      subst (λ t. AreAlike t frames) (sym e) (alike_given choice v.ppm v.head a for frames (same_frames s frames b played).say)
+    -- the payload that comes next has no fault
+    not_next : (ps : List Planes) (payload : List ℕ) (more : List (List ℕ)) (f : FrameFault) (tally : Tally) → AllCoded a (said_for v.head) ps →
+        map (λ planes. frame_of a planes (said_for v.head)) ps ≡ payload ∷ more → FaultsFrame a payload f tally → ⊥
+    not_next [] payload more f tally coded e faulty = cc
+    not_next (p ∷ ps) payload more f tally coded e faulty =
+        let here : frame_of a p (said_for v.head) ≡ payload = cc in
+        no_fault frame_laws a g.for.accepted (said_for v.head) p f tally coded.0 (subst (λ bytes. FaultsFrame a bytes f tally) (sym here) faulty)
 
-  module _ (input output : Passage) (known : input.old ≡ Some (packed_file choice v a)) where
-    stream_lacks : (f : Fault) → LacksStream profile input.old input.new f → ⊥
-    stream_lacks f h = lacks_stream input.new f (subst (λ o. LacksStream profile o input.new f) known h)
+    -- where the file begins with frames, the others are read after them
+    module _ (s : Stream) (frames : List Frame) (b : Known profile file s frames) where
+      first : (s.head ≡ packed_head choice v a) × Others b.to b.at (payloads frames) (packed_frames v a) []
+      first =
+          let e : ((s.head, b.begins.from), b.begins.behind) ≡ ((packed_head choice v a, whole.from), whole.behind) = same_ok (open_read (scope_in profile) file) _ _ b.begins.opened whole.opened in
+          let from : b.begins.from ≡ whole.from = ap (λ (z : (Head × Place) × List ℕ). z.0.1) e in
+          let behind : b.begins.behind ≡ whole.behind = ap (λ (z : (Head × Place) × List ℕ). z.1) e in (
+            ap (λ (z : (Head × Place) × List ℕ). z.0.0) e,
+            others files.next whole.from whole.behind (payloads frames) b.to b.at (packed_frames v a) []
+                (subst (λ m. ReadsFrames m whole.behind (payloads frames) b.to b.at) from (subst (λ t. ReadsFrames b.begins.from t (payloads frames) b.to b.at) behind b.begins.read))
+                whole.read,
+          )
 
-    file_ended : (s : Stream) (frames : List Frame) (e : End) (f : Fault) → EndsKnown profile input.old input.new s frames e → IsOfFile e → EndsWith frames e f → ⊥
-    file_ended s frames e f h = file_ends input.new s frames e f (subst (λ o. EndsKnown profile o input.new s frames e) known h)
+      same_frames : Played profile s frames → Same a (said_for v.head) frames first.1.more v.pictures
+      same_frames played = the_frames s frames first.1.more (the_stream s played.stream first.0) played.decoded first.1.parts
 
-    payload_ended : (s : Stream) (frames : List Frame) (payload : List ℕ) (f : FrameFault) (tally : Tally) → Played profile s frames → EndsKnown profile input.old input.new s frames (Payload payload f tally) →
-        FaultsFrame s.accepted payload f tally → ⊥
-    payload_ended s frames payload f tally played h = payload_ends input.new s frames payload f tally played (subst (λ o. EndsKnown profile o input.new s frames (Payload payload f tally)) known h)
+      -- no fault stands in the place of a frame
+      never_stops : (rest : List ℕ) (f : Fault) → FaultsRead (frame_read b.to) b.at rest f → ⊥
+      never_stops rest f h = no_stop files.next b.to b.at rest f first.1.more [] h first.1.read
 
-    -- unpack
-    no_unpack_fault : (f : Fault) → UnpackStopsBy profile input output f Content → ⊥
-    no_unpack_fault f (kept, inl (none, h)) = stream_lacks f h
-    no_unpack_fault f (kept, inr (inl (none, h))) = lacks_text f (subst (λ o. LacksTextIn profile o f) known h)
-    no_unpack_fault f (kept, inr (inr (inl h))) = file_ended h.stream h.frames h.end f h.ends h.file h.is
-    no_unpack_fault f (kept, inr (inr (inr (inl h)))) = payload_ended h.stream h.frames h.payload h.fault h.tally h.played h.ends h.faulty
-    no_unpack_fault f (kept, inr (inr (inr (inr h)))) =
-        let all = h.frames ++ (h.last ∷ []) in
-        h.changed (alike input.new h.stream all h.played (subst (λ o. BeginsKnown profile o input.new h.stream all) known h.begins))
+      -- nor does movi end before the first one
+      never_empty : (rest : List ℕ) → frame_read b.to b.at ≡ Ok (None, rest) → frames ≡ [] → ⊥
+      never_empty rest h none =
+          let over = no_more files.next b.to b.at rest first.1.more [] h first.1.read in
+          let all : packed_frames v a ≡ [] = first.1.parts ∙ ap (λ fs. payloads fs ++ first.1.more) none ∙ over in
+          some_in (λ planes. frame_of a planes (said_for v.head)) v.pictures (sym all) g.some
 
-    pub unpack_refused : (f : Fault) → UnpackStops profile input output f → IsNoContent f
-    unpack_refused f h = no_content f (λ e. no_unpack_fault f (subst (λ why. UnpackStopsBy profile input output f why) e h))
+      -- the next payload has none
+      never_faulty : Played profile s frames → (payload rest : List ℕ) (to : Place) (f : FrameFault) (tally : Tally) → frame_read b.to b.at ≡ Ok (Some (payload, to), rest) → FaultsFrame s.accepted payload f tally → ⊥
+      unfolding stream
+      never_faulty played payload rest to f tally h faulty =
+          let turn = one_more files.next b.to to b.at rest payload first.1.more [] h first.1.read in
+          let of = same_frames played in
+          not_next of.others payload turn.0 f tally of.coded (of.more_are ∙ turn.1) (subst (λ (t : Stream). FaultsFrame t.accepted payload f tally) (the_stream s played.stream first.0) faulty)
 
-    -- check
-    no_check_fault : (place : Bool) (f : Fault) → CheckStopsBy profile place input output f Content → ⊥
-    no_check_fault place f (kept, inl (none, h)) = stream_lacks f h
-    no_check_fault place f (kept, inr h) = file_ended h.stream h.frames h.end f h.ends h.file h.is
+    -- so the file has a stream
+    lacks_stream : (new : Option (List ℕ)) (f : Fault) → LacksStream profile (Some file) new f → ⊥
+    lacks_stream None f h = h
+    lacks_stream (Some rest) f (inl h) = no_read_fault (open_read (scope_in profile)) file rest f _ h whole.opened
+    lacks_stream (Some rest) f (inr h) =
+        let e : ((h.head, h.place), rest) ≡ ((packed_head choice v a, whole.from), whole.behind) = same_ok (open_read (scope_in profile) file) _ _ h.opened whole.opened in
+        none_refused profile records choice v.ppm v.head a for g.for.accepted profiled head h.head h.refusal (ap (λ (z : (Head × Place) × List ℕ). z.0.0) e) h.refused
 
-    pub check_refused : (place : Bool) (f : Fault) → CheckStops profile place input output f → IsNoContent f
-    check_refused place f (inl h) = absurd (payload_ended h.stream h.frames h.payload h.fault h.tally h.played h.ends h.faulty)
-    check_refused place f (inr h) = no_content f (λ e. no_check_fault place f (subst (λ why. CheckStopsBy profile place input output f why) e h))
+    -- which has a text
+    lacks_text : (f : Fault) → LacksTextIn profile (Some file) f → ⊥
+    unfolding stream
+    lacks_text f h =
+        let e = the_stream h.stream h.is (first h.stream [] (record { to = h.begins.0; at = h.begins.1; begins = h.begins.2 })).0 in
+        text_or_none (is_ppm_stream stream) a.configuration f (text_given choice v.ppm v.head a for head) (subst (λ s. LacksText s f) e h.lacks)
 
-    -- show
-    no_show_fault : (f : Fault) → StreamStopsBy profile input output f Content → ⊥
-    no_show_fault f h = stream_lacks f h.2
+    -- after its frames it ends without a fault, and not before the first
+    file_ends : (new : Option (List ℕ)) (s : Stream) (frames : List Frame) (e : End) (f : Fault) → EndsKnown profile (Some file) new s frames e → IsOfFile e → EndsWith frames e f → ⊥
+    file_ends None s frames e f h is with_ = h
+    file_ends (Some rest) s frames (File fault) f (to, at, begins, h) is with_ = never_stops s frames (record { to = to; at = at; begins = begins }) rest fault h
+    file_ends (Some rest) s frames (Payload payload fault tally) f h is with_ = is
+    file_ends (Some rest) s frames Over f (to, at, begins, h) is with_ = never_empty s frames (record { to = to; at = at; begins = begins }) rest h with_.0
 
-    stream_refused : (f : Fault) → StreamStopsBy profile input output f (cause_of f) → IsNoContent f
-    stream_refused f h = no_content f (λ e. no_show_fault f (subst (λ why. StreamStopsBy profile input output f why) e h))
+    -- no payload of it has a fault
+    payload_ends : (new : Option (List ℕ)) (s : Stream) (frames : List Frame) (payload : List ℕ) (f : FrameFault) (tally : Tally) → Played profile s frames →
+        EndsKnown profile (Some file) new s frames (Payload payload f tally) → FaultsFrame s.accepted payload f tally → ⊥
+    payload_ends None s frames payload f tally played h faulty = h
+    payload_ends (Some rest) s frames payload f tally played (to, at, begins, (last, h)) faulty =
+        never_faulty s frames (record { to = to; at = at; begins = begins }) played payload rest last f tally h faulty
 
-    no_cost_fault : (f : Fault) → CostStopsBy profile input output f Content → ⊥
-    no_cost_fault f h = file_ended h.stream h.frames (File f) f h.ends tt refl
+    -- and its frames say the same
+    alike : (new : Option (List ℕ)) (s : Stream) (frames : List Frame) → Played profile s frames → BeginsKnown profile (Some file) new s frames → AreAlike s frames
+    unfolding stream
+    alike new s frames played h =
+        let b = begins_in profile file new s frames h in
+        let e = the_stream s played.stream (first s frames b).0 in
+        subst (λ t. AreAlike t frames) (sym e) (alike_given choice v.ppm v.head a for frames (same_frames s frames b played).say)
 
-    pub show_refused : (cost : Bool) (f : Fault) → ShowStops profile input output cost f → IsNoContent f
-    show_refused false f h = stream_refused f h
-    show_refused true f (inl h) = stream_refused f h
-    show_refused true f (inr (inl h)) = absurd (payload_ended h.stream h.frames h.payload h.fault h.tally h.costs.played h.ends h.faulty)
-    show_refused true f (inr (inr h)) = no_content f (λ e. no_cost_fault f (subst (λ why. CostStopsBy profile input output f why) e h))
+    module _ (input output : Passage) (known : input.old ≡ Some file) where
+      stream_lacks : (f : Fault) → LacksStream profile input.old input.new f → ⊥
+      stream_lacks f h = lacks_stream input.new f (subst (λ o. LacksStream profile o input.new f) known h)
+
+      file_ended : (s : Stream) (frames : List Frame) (e : End) (f : Fault) → EndsKnown profile input.old input.new s frames e → IsOfFile e → EndsWith frames e f → ⊥
+      file_ended s frames e f h = file_ends input.new s frames e f (subst (λ o. EndsKnown profile o input.new s frames e) known h)
+
+      payload_ended : (s : Stream) (frames : List Frame) (payload : List ℕ) (f : FrameFault) (tally : Tally) → Played profile s frames → EndsKnown profile input.old input.new s frames (Payload payload f tally) →
+          FaultsFrame s.accepted payload f tally → ⊥
+      payload_ended s frames payload f tally played h = payload_ends input.new s frames payload f tally played (subst (λ o. EndsKnown profile o input.new s frames (Payload payload f tally)) known h)
+
+      -- unpack
+      no_unpack_fault : (f : Fault) → UnpackStopsBy profile input output f Content → ⊥
+      no_unpack_fault f (kept, inl (none, h)) = stream_lacks f h
+      no_unpack_fault f (kept, inr (inl (none, h))) = lacks_text f (subst (λ o. LacksTextIn profile o f) known h)
+      no_unpack_fault f (kept, inr (inr (inl h))) = file_ended h.stream h.frames h.end f h.ends h.file h.is
+      no_unpack_fault f (kept, inr (inr (inr (inl h)))) = payload_ended h.stream h.frames h.payload h.fault h.tally h.played h.ends h.faulty
+      no_unpack_fault f (kept, inr (inr (inr (inr h)))) =
+          let all = h.frames ++ (h.last ∷ []) in
+          h.changed (alike input.new h.stream all h.played (subst (λ o. BeginsKnown profile o input.new h.stream all) known h.begins))
+
+      pub unpack_refused : (f : Fault) → UnpackStops profile input output f → IsNoContent f
+      unpack_refused f h = no_content f (λ e. no_unpack_fault f (subst (λ why. UnpackStopsBy profile input output f why) e h))
+
+      -- check
+      no_check_fault : (place : Bool) (f : Fault) → CheckStopsBy profile place input output f Content → ⊥
+      no_check_fault place f (kept, inl (none, h)) = stream_lacks f h
+      no_check_fault place f (kept, inr h) = file_ended h.stream h.frames h.end f h.ends h.file h.is
+
+      pub check_refused : (place : Bool) (f : Fault) → CheckStops profile place input output f → IsNoContent f
+      check_refused place f (inl h) = absurd (payload_ended h.stream h.frames h.payload h.fault h.tally h.played h.ends h.faulty)
+      check_refused place f (inr h) = no_content f (λ e. no_check_fault place f (subst (λ why. CheckStopsBy profile place input output f why) e h))
+
+      -- show
+      no_show_fault : (f : Fault) → StreamStopsBy profile input output f Content → ⊥
+      no_show_fault f h = stream_lacks f h.2
+
+      stream_refused : (f : Fault) → StreamStopsBy profile input output f (cause_of f) → IsNoContent f
+      stream_refused f h = no_content f (λ e. no_show_fault f (subst (λ why. StreamStopsBy profile input output f why) e h))
+
+      no_cost_fault : (f : Fault) → CostStopsBy profile input output f Content → ⊥
+      no_cost_fault f h = file_ended h.stream h.frames (File f) f h.ends tt refl
+
+      pub show_refused : (cost : Bool) (f : Fault) → ShowStops profile input output cost f → IsNoContent f
+      show_refused false f h = stream_refused f h
+      show_refused true f (inl h) = stream_refused f h
+      show_refused true f (inr (inl h)) = absurd (payload_ended h.stream h.frames h.payload h.fault h.tally h.costs.played h.ends h.faulty)
+      show_refused true f (inr (inr h)) = no_content f (λ e. no_cost_fault f (subst (λ why. CostStopsBy profile input output f why) e h))
 
 -- a text that was packed is such a text
-reads_is : (text : List ℕ) (old new : Option (List ℕ)) (v : Video) → old ≡ Some text → ReadsVideo old new v → IsVideo text v
+pub reads_is : (text : List ℕ) (old new : Option (List ℕ)) (v : Video) → old ≡ Some text → ReadsVideo old new v → IsVideo text v
 reads_is text old new v known h = is_video new (subst (λ o. ReadsVideo o new v) known h)
   where
     is_video : (rest : Option (List ℕ)) → ReadsVideo (Some text) rest v → IsVideo text v
@@ -349,7 +347,7 @@ reads_is text old new v known h = is_video new (subst (λ o. ReadsVideo o new v)
 abbrev pub accepted_in : {choice : Choice} → {text : List ℕ} → Profile → WasPacked choice text → Accepted
 accepted_in profile w = record { configuration = w.packs.accepted.configuration; table = w.packs.accepted.table; profile = record_profile profile }
 
-short_in : (profile : Profile) (a : Accepted) (h : VideoHead) (ps : List Planes) → AllShort a h ps → AllShort (record { configuration = a.configuration; table = a.table; profile = record_profile profile }) h ps
+pub short_in : (profile : Profile) (a : Accepted) (h : VideoHead) (ps : List Planes) → AllShort a h ps → AllShort (record { configuration = a.configuration; table = a.table; profile = record_profile profile }) h ps
 short_in profile a h [] short = tt
 short_in profile a h (p ∷ ps) short = (λ long. short.0 (record { slice = long.slice; inside = long.inside; long = long.long }), short_in profile a h ps short.1)
 
@@ -357,7 +355,9 @@ pub given : (profile : Profile) (choice : Choice) (text : List ℕ) (w : WasPack
 given profile choice text w = record {
   is = reads_is text w.input.old w.input.new w.packs.video w.known w.packs.reads;
   bytes = w.bytes;
-  packable = record { for = record { configuration = w.packs.packable.for.configuration; accepted = w.packs.packable.for.accepted }; some = w.packs.packable.some; short = short_in profile w.packs.accepted w.packs.video.head w.packs.video.pictures w.packs.packable.short; small = w.packs.packable.small };
+  for = record { configuration = w.packs.packable.for.configuration; accepted = w.packs.packable.for.accepted };
+  some = w.packs.packable.some;
+  short = short_in profile w.packs.accepted w.packs.video.head w.packs.video.pictures w.packs.packable.short;
   readable = w.readable;
   rated = w.rated;
 }
@@ -367,3 +367,14 @@ same_video files choice text w = same_by files w.packs.video.ppm text w.packs.vi
 
 pub same_ppm : (choice : Choice) (text : List ℕ) (w : WasPacked choice text) → (video_in w).ppm ≡ true → canonical_of (video_in w) ≡ text
 same_ppm choice text w = ppm_by w.packs.video.ppm text w.packs.video.head w.packs.video.pictures (given Strict choice text w).is
+
+-- the AVI of such a text
+module _ (profile : Profile) (files : FileLaws profile) (frame_laws : FrameLaws) (records : RecordLaws) (choice : Choice) (text : List ℕ) (w : WasPacked choice text) where
+  avi_writable : IsWritable (packed_head choice (video_in w) (accepted_in profile w)) (packed_frames (video_in w) (accepted_in profile w))
+  avi_writable = can_write profile files frame_laws records choice text (video_in w) (accepted_in profile w) refl (given profile choice text w) w.packs.packable.small
+
+  pub avi_reads : file_read (scope_in profile) (packed_file choice (video_in w) (accepted_in profile w)) ≡ Ok ((packed_head choice (video_in w) (accepted_in profile w), packed_frames (video_in w) (accepted_in profile w)), [])
+  avi_reads = files.read (packed_head choice (video_in w) (accepted_in profile w)) (packed_frames (video_in w) (accepted_in profile w)) avi_writable
+
+  pub avi_is : IsFileIn profile (packed_file choice (video_in w) (accepted_in profile w)) (packed_head choice (video_in w) (accepted_in profile w)) (packed_frames (video_in w) (accepted_in profile w))
+  avi_is = files.file (packed_head choice (video_in w) (accepted_in profile w)) (packed_frames (video_in w) (accepted_in profile w)) avi_writable

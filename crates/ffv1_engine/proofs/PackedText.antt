@@ -21,8 +21,8 @@ use Rattle.ffv1_words.specs.declared.order.Choice.{Choice}
 use Rattle.ffv1_record.specs.declared.config.Profile.{Profile as RecordProfile}
 use Rattle.ffv1_engine.specs.declared.profile.Profile.{Profile}
 use Rattle.ffv1_engine.specs.Profiles.{record_profile}
-use Rattle.ffv1_engine.specs.Packing.{configuration_for, head_for, said_for}
-use Rattle.ffv1_engine.specs.RoundTrip.{AreReadable, canonical_by}
+use Rattle.ffv1_engine.specs.Packing.{AreReadable, configuration_for, head_for, said_for}
+use Rattle.ffv1_engine.specs.RoundTrip.{canonical_by}
 use Rattle.ffv1_engine.specs.Stream.{Frame, IsStream, Stream}
 use Rattle.ffv1_engine.specs.Unpacked.{AllSay, AreAlike, HasText, pictures, text_of, video_of}
 use Rattle.ffv1_engine.specs.VideoReads.{IsHeadBy}
@@ -42,14 +42,14 @@ abbrev pub stream_for : Choice → Bool → VideoHead → Accepted → Stream
 stream_for choice ppm h a = record { head = head_for choice ppm h a.configuration; accepted = a }
 
 -- sizes of 1 to 8192
-sized : (ppm : Bool) (h : VideoHead) → IsHeadBy ppm h → IsSized h
+pub sized : (ppm : Bool) (h : VideoHead) → IsHeadBy ppm h → IsSized h
 sized true h is = is.0
 sized false h is = is.sized
 
-record Rated (head : Head) : Type 0 where
-  is : IsRatio 4294967295 head.rate head.scale
+pub record Rated (head : Head) : Type 0 where
+  pub is : IsRatio 4294967295 head.rate head.scale
 
-rated_by : (choice : Choice) (ppm : Bool) (h : VideoHead) (c : Configuration) → IsHeadBy ppm h → (ppm ≡ true → IsRatio 4294967295 choice.rate choice.scale) → Rated (head_for choice ppm h c)
+pub rated_by : (choice : Choice) (ppm : Bool) (h : VideoHead) (c : Configuration) → IsHeadBy ppm h → (ppm ≡ true → IsRatio 4294967295 choice.rate choice.scale) → Rated (head_for choice ppm h c)
 rated_by choice true h c is rated = record { is = rated refl }
 rated_by choice false h c is rated = record { is = is.rate }
 

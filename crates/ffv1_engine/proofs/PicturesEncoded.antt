@@ -1,6 +1,6 @@
 -- A picture that was read and encoded, after others.
-use Rattle.std.specs.Prelude.{◌≡◌, ℕ, true, List, [], ◌∷◌, ◌++◌, Option, Some, IfSome}
-use Rattle.std.proofs.Common.{refl, ◌∙◌, ap, subst}
+use Rattle.std.specs.Prelude.{◌≡◌, ◌⊎◌, ℕ, true, List, [], ◌∷◌, ◌++◌, Option, Some, IfSome}
+use Rattle.std.proofs.Common.{refl, ◌∙◌, ap, inl, inr, subst, sym}
 use Rattle.std.specs.declared.vec.Vec.{Vec}
 use Rattle.ffv1_wire.specs.Passage.{Passage}
 use Rattle.ffv1_record.specs.Accepted.{Accepted}
@@ -8,9 +8,14 @@ use Rattle.ffv1_codec.specs.Frame.{frame_of, HasLongSlice}
 use Rattle.ffv1_codec.specs.Picture.{Planes}
 use Rattle.ffv1_codec.specs.SliceList.{Said}
 use Rattle.ffv1_avi.specs.Written.{frames_of}
-use Rattle.ffv1_engine.specs.Encoding.{EncodesNext}
+use Rattle.ffv1_codec.specs.declared.fault.CodecFault.{CodecFault}
+use Rattle.ffv1_codec.specs.declared.fault.CodecFault.TheVariants as codec_fault
+use Rattle.ffv1_engine.specs.declared.fault.Fault.{Fault}
+use Rattle.ffv1_engine.specs.Encoding.{EncodesNext, EncodesOne, StopsBy, StopsNext}
+use Rattle.ffv1_engine.specs.Faults.{Cause, cause_of, of_codec}
+use Rattle.ffv1_engine.specs.Faults.Cause.{Reading, Writing, Memory, Content}
 use Rattle.ffv1_engine.specs.Packing.{said_for}
-use Rattle.ffv1_engine.specs.VideoReads.{NextRead, VideoReading}
+use Rattle.ffv1_engine.specs.VideoReads.{NextRead, NextRefused, NextRefusedBy, VideoReading}
 
 pub frames_behind : {A : Type 0} (old : List (Vec ℕ A)) (frame : Vec ℕ A) → frames_of (old ++ (frame ∷ [])) ≡ frames_of old ++ (frame.items ∷ [])
 frames_behind [] frame = refl
@@ -19,12 +24,45 @@ frames_behind (f ∷ fs) frame = ap (λ z. f.items ∷ z) (frames_behind fs fram
 pub made_of : (made : Option Planes) (picture planes : Planes) → made ≡ Some picture → IfSome made (λ p. p ≡ planes) → picture ≡ planes
 made_of made picture planes e some = subst (λ r. IfSome r (λ p. p ≡ planes)) e some
 
-pub encoded_next : {A : Type 0} (p : Passage) (a : Accepted) (r s : VideoReading) (planes picture : Planes) (info : Said) (old new : List (Vec ℕ A)) (frame : Vec ℕ A)
-    → NextRead p r (Some planes) s → picture ≡ planes → info ≡ said_for r.head → (HasLongSlice a picture info → ⊥) → frame.items ≡ frame_of a picture info → new ≡ old ++ (frame ∷ [])
-    → EncodesNext p a r s (frames_of old) (frames_of new) true
-encoded_next p a r s planes picture info old new frame read same said short bytes behind = (
+pub encoded_one : {A : Type 0} (p : Passage) (a : Accepted) (r s : VideoReading) (planes picture : Planes) (info : Said) (frame : Vec ℕ A)
+    → NextRead p r (Some planes) s → picture ≡ planes → info ≡ said_for r.head → (HasLongSlice a picture info → ⊥) → frame.items ≡ frame_of a picture info
+    → EncodesOne p a r s (Some frame.items)
+encoded_one p a r s planes picture info frame read same said short bytes = (
   planes,
   read,
   subst (λ i. HasLongSlice a planes i → ⊥) said (subst (λ q. HasLongSlice a q info → ⊥) same short),
-  ap frames_of behind ∙ (frames_behind old frame ∙ ap (λ z. frames_of old ++ (z ∷ [])) (bytes ∙ (ap (λ q. frame_of a q info) same ∙ ap (λ i. frame_of a planes i) said))),
+  bytes ∙ (ap (λ q. frame_of a q info) same ∙ ap (λ i. frame_of a planes i) said),
 )
+
+-- it stands after others
+pub encoded_after : (p : Passage) (a : Accepted) (r s : VideoReading) (frames : List (List ℕ)) (frame : List ℕ) → EncodesOne p a r s (Some frame) → EncodesNext p a r s frames (frames ++ (frame ∷ [])) true
+encoded_after p a r s frames frame (planes, read, short, is) = (planes, read, short, ap (λ z. frames ++ (z ∷ [])) is)
+
+pub encoded_next : {A : Type 0} (p : Passage) (a : Accepted) (r s : VideoReading) (old new : List (Vec ℕ A)) (frame : Vec ℕ A) → EncodesOne p a r s (Some frame.items) → new ≡ old ++ (frame ∷ [])
+    → EncodesNext p a r s (frames_of old) (frames_of new) true
+encoded_next p a r s old new frame one behind =
+    subst (λ fs. EncodesNext p a r s (frames_of old) fs true) (sym (ap frames_of behind ∙ frames_behind old frame)) (encoded_after p a r s (frames_of old) frame.items one)
+
+-- ---- why none was
+
+next_stops_by : (c : Cause) (p : Passage) (a : Accepted) (r : VideoReading) (f : Fault) → NextRefusedBy c p r f → StopsBy c p a r f
+next_stops_by Reading p a r f n = n
+next_stops_by Writing p a r f n = n
+next_stops_by Memory p a r f n = inl n
+next_stops_by Content p a r f n = inl n
+
+-- there was no picture
+pub next_stops : (p : Passage) (a : Accepted) (r : VideoReading) (f : Fault) → NextRefused p r f → StopsNext p a r f
+next_stops p a r f n = next_stops_by (cause_of f) p a r f n
+
+-- or no frame of it
+pub frame_stops : (p : Passage) (a : Accepted) (r s : VideoReading) (planes picture : Planes) (info : Said) (g : CodecFault) → NextRead p r (Some planes) s → picture ≡ planes → info ≡ said_for r.head
+    → (g ≡ codec_fault.OutOfMemory) ⊎ ((g ≡ codec_fault.SliceTooLong) × HasLongSlice a picture info) → StopsNext p a r (of_codec g)
+frame_stops p a r s planes picture info g read same said (inl e) = subst (λ x. StopsNext p a r (of_codec x)) (sym e) (inr (planes, s, read))
+frame_stops p a r s planes picture info g read same said (inr (e, long)) = subst (λ x. StopsNext p a r (of_codec x)) (sym e) (inr (record {
+  planes = planes;
+  after = s;
+  read = read;
+  long = subst (λ i. HasLongSlice a planes i) said (subst (λ q. HasLongSlice a q info) same long);
+  is = refl;
+}))

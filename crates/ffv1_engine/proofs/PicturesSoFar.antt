@@ -1,5 +1,5 @@
 -- Pictures that are encoded one after the other.
-use Rattle.std.specs.Prelude.{◌≡◌, ◌⊎◌, ℕ, Bool, true, false, List, [], ◌∷◌, ◌++◌, Option, Some, None, Ok}
+use Rattle.std.specs.Prelude.{◌≡◌, ◌⊎◌, ℕ, ◌≤◌, length, Bool, true, false, List, [], ◌∷◌, ◌++◌, Option, Some, None, Ok}
 use Rattle.std.proofs.Common.{refl, sym, ◌∙◌, ap, subst, inl, inr}
 use Rattle.ffv1_wire.specs.Passage.{Passage}
 use Rattle.ffv1_wire.specs.Failures.{one_more}
@@ -9,12 +9,17 @@ use Rattle.ffv1_codec.specs.Picture.{Planes}
 use Rattle.ffv1_y4m.specs.declared.head.VideoHead.{VideoHead}
 use Rattle.ffv1_engine.specs.declared.fault.Fault.{Fault}
 use Rattle.ffv1_engine.specs.declared.fault.Fault.TheVariants as fault
-use Rattle.ffv1_engine.specs.Encoding.{AllKnown, Encoded, EncodesAll, EncodesNext, EndsKnown, IsTooLong, PicturesKnown, StopsBy, StopsEncoding, StopsEncodingBy, StopsNext}
+use Rattle.ffv1_engine.specs.Encoding.{AllKnown, Encoded, EncodesAll, EncodesNext, EndsKnown, IsTooLong, PicturesKnown, ReadsOne, StopsBy, StopsEncoding, StopsEncodingBy, StopsNext}
 use Rattle.ffv1_engine.specs.Faults.{Cause, cause_of}
 use Rattle.ffv1_engine.specs.Faults.Cause.{Reading, Writing, Memory, Content}
 use Rattle.ffv1_engine.specs.Packing.{AllShort, frames_for, said_for}
 use Rattle.ffv1_engine.specs.Video.{ReadsPictures, at_first, picture_next}
-use Rattle.ffv1_engine.specs.VideoReads.{NextKnown, StopsKnown, VideoReading}
+use Rattle.ffv1_reads.specs.Known.{Known}
+use Rattle.ffv1_y4m.specs.Ppm.{GrowsInImage}
+use Rattle.ffv1_y4m.specs.Reads.{Wants}
+use Rattle.ffv1_y4m.specs.Sequence.{left}
+use Rattle.ffv1_engine.specs.VideoReads.{GrowsInNext, NextKnown, NextRead, NextRefusedBy, PictureLacks, PictureWants, StopsKnown, Taken, VideoReading}
+use Rattle.ffv1_engine.proofs.KnownTexts.{known_map, known_taken, known_then}
 
 -- a call after another one
 abbrev pub joined : Passage → Passage → Passage
@@ -69,17 +74,33 @@ known_long (Some text) None new a r s ps q f same k n long is = absurd k
 known_long (Some text) (Some left) None a r s ps q f same k n long is = n
 known_long (Some text) (Some left) (Some rest) a r s ps q f same k n long is = (left, k, inr (q, sym (same left) ∙ n, long, is))
 
+known_here : (old mid new : Option (List ℕ)) (r s : VideoReading) (ps : List Planes) (q : Planes) → ((text : List ℕ) → picture_next s.ppm s.head s.begun text ≡ picture_next r.ppm r.head (at_first ps) text) → PicturesKnown old mid r ps → NextKnown mid new s (Some q) →
+    Known old new (λ text rest. (left : List ℕ) × ReadsPictures r.ppm r.head true text ps left × (picture_next r.ppm r.head (at_first ps) left ≡ Ok (Some q, rest)))
+known_here None mid new r s ps q same k n = tt
+known_here (Some text) None new r s ps q same k n = absurd k
+known_here (Some text) (Some left) None r s ps q same k n = n
+known_here (Some text) (Some left) (Some rest) r s ps q same k n = (left, k, sym (same left) ∙ n)
+
 all_short : (a : Accepted) (h : VideoHead) (ps : List Planes) (q : Planes) → AllShort a h ps → (HasLongSlice a q (said_for h) → ⊥) → AllShort a h (ps ++ (q ∷ []))
 all_short a h [] q s n = (n, tt)
 all_short a h (p ∷ ps) q s n = (s.0, all_short a h ps q s.1 n)
 
-all_frames : (a : Accepted) (h : VideoHead) (ps : List Planes) (q : Planes) → frames_for a h (ps ++ (q ∷ [])) ≡ frames_for a h ps ++ (frame_of a q (said_for h) ∷ [])
+pub all_frames : (a : Accepted) (h : VideoHead) (ps : List Planes) (q : Planes) → frames_for a h (ps ++ (q ∷ [])) ≡ frames_for a h ps ++ (frame_of a q (said_for h) ∷ [])
 all_frames a h [] q = refl
 all_frames a h (p ∷ ps) q = ap (λ z. frame_of a p (said_for h) ∷ z) (all_frames a h ps q)
 
 first_behind : (ps : List Planes) (q : Planes) → at_first (ps ++ (q ∷ [])) ≡ false
 first_behind [] q = refl
 first_behind (p ∷ ps) q = refl
+
+-- memory that was refused is no failure
+pub memory_kept : (p : Passage) (r : VideoReading) (f : Fault) → NextRefusedBy Memory p r f ⊎ ReadsOne p r → p.after ≡ p.before
+memory_kept p r f (inl n) = n.0
+memory_kept p r f (inr (planes, s, read)) = read.kept
+
+same_grows : (ppm begun first : Bool) (h : VideoHead) (bytes : List ℕ) → (ppm ≡ true → begun ≡ first) → GrowsInNext ppm h begun bytes → GrowsInNext ppm h first bytes
+same_grows true begun first h bytes e grows = subst (λ b. GrowsInImage h b bytes) (e refl) grows
+same_grows false begun first h bytes e grows = grows
 
 -- p leads to where the reader is s and the frames are these; a call q follows it
 module _ (p q : Passage) (a : Accepted) (r s : VideoReading) (frames : List (List ℕ)) (e : Encoded p a r s frames)
@@ -109,24 +130,58 @@ module _ (p q : Passage) (a : Accepted) (r s : VideoReading) (frames : List (Lis
     are = are ∙ e.are;
   }
 
+  pub ends_after : (f : Fault) → ((q.after ≡ q.before) × StopsKnown q.old q.new s f) ⊎ IsTooLong q a s f → (q.after ≡ p.before) × EndsKnown p.old q.new a r e.pictures f
+  ends_after f (inl n) = (n.0 ∙ (counts ∙ e.kept), known_ends p.old p.new q.new a r s e.pictures f same e.known (subst (λ o. StopsKnown o q.new s f) joins n.1))
+  ends_after f (inr l) = (
+    l.read.kept ∙ (counts ∙ e.kept),
+    known_long p.old p.new q.new a r s e.pictures l.planes f same e.known (subst (λ o. NextKnown o q.new s (Some l.planes)) joins l.read.known) (subst (λ h. HasLongSlice a l.planes (said_for h)) e.head l.long) l.is,
+  )
+
   ends : (f : Fault) → ((q.after ≡ q.before) × StopsKnown q.old q.new s f) ⊎ IsTooLong q a s f → StopsEncodingBy Content (joined p q) a r f
-  ends f (inl n) = record {
-    pictures = e.pictures;
-    known = known_ends p.old p.new q.new a r s e.pictures f same e.known (subst (λ o. StopsKnown o q.new s f) joins n.1);
-    kept = n.0 ∙ (counts ∙ e.kept);
-    short = e.short;
-  }
-  ends f (inr l) = record {
-    pictures = e.pictures;
-    known = known_long p.old p.new q.new a r s e.pictures l.planes f same e.known (subst (λ o. NextKnown o q.new s (Some l.planes)) joins l.read.known) (subst (λ h. HasLongSlice a l.planes (said_for h)) e.head l.long) l.is;
-    kept = l.read.kept ∙ (counts ∙ e.kept);
-    short = e.short;
-  }
+  ends f n =
+      let known = ends_after f n in
+      record { pictures = e.pictures; known = known.1; kept = known.0; short = e.short }
+
+  -- the next picture was read, where the text is known
+  pub known_next : (t : VideoReading) (planes : Planes) → NextRead q s (Some planes) t → PicturesKnown p.old q.new r (e.pictures ++ (planes ∷ []))
+  known_next t planes n = known_more p.old p.new q.new r s e.pictures planes same e.known (subst (λ o. NextKnown o q.new s (Some planes)) joins n.known)
+
+  pub known_after : (t : VideoReading) (planes : Planes) → NextRead q s (Some planes) t →
+      Known p.old q.new (λ text rest. (left : List ℕ) × ReadsPictures r.ppm r.head true text e.pictures left × (picture_next r.ppm r.head (at_first e.pictures) left ≡ Ok (Some planes, rest)))
+  known_after t planes n = known_here p.old p.new q.new r s e.pictures planes same e.known (subst (λ o. NextKnown o q.new s (Some planes)) joins n.known)
+
+  -- a read of the next picture failed, or memory was refused for it
+  wants : (bytes : List ℕ) → Wants (picture_next s.ppm s.head s.begun) bytes → Wants (picture_next r.ppm r.head (at_first e.pictures)) bytes
+  wants bytes takes next behind = subst (λ o. length (left o) ≤ length behind) (same (bytes ++ (next ∷ behind))) (takes next behind)
+
+  grows : (bytes : List ℕ) → GrowsInNext s.ppm s.head s.begun bytes → GrowsInNext r.ppm r.head (at_first e.pictures) bytes
+  grows bytes lacks =
+      subst (λ h. GrowsInNext r.ppm h (at_first e.pictures) bytes) e.head
+      (subst (λ b. GrowsInNext b s.head (at_first e.pictures) bytes) e.ppm (same_grows s.ppm s.begun (at_first e.pictures) s.head bytes e.begun lacks))
+
+  lacks : (f : Fault) → NextRefusedBy Memory q s f ⊎ ReadsOne q s → Known p.new q.new (PictureLacks r.ppm r.head e.pictures)
+  lacks f (inl n) =
+      known_map p.new q.new (Taken (GrowsInNext r.ppm r.head (at_first e.pictures))) (PictureLacks r.ppm r.head e.pictures) (λ text rest taken. inl taken)
+      (subst (λ o. Known o q.new (Taken (GrowsInNext r.ppm r.head (at_first e.pictures)))) joins (known_taken q.old q.new (GrowsInNext s.ppm s.head s.begun) (GrowsInNext r.ppm r.head (at_first e.pictures)) grows n.1))
+  lacks f (inr (planes, t, read)) =
+      known_map p.new q.new (λ text rest. picture_next s.ppm s.head s.begun text ≡ Ok (Some planes, rest)) (PictureLacks r.ppm r.head e.pictures) (λ text rest is. inr (planes, sym (same text) ∙ is))
+      (subst (λ o. NextKnown o q.new s (Some planes)) joins read.known)
+
+  abbrev Reads : List ℕ → List ℕ → Type 0
+  Reads text left = ReadsPictures r.ppm r.head true text e.pictures left
+
+  pub wants_after : (f : Fault) → NextRefusedBy Reading q s f → Known p.old q.new (λ text rest. (left : List ℕ) × ReadsPictures r.ppm r.head true text e.pictures left × PictureWants r.ppm r.head e.pictures left rest)
+  wants_after f n =
+      known_then p.old p.new q.new Reads (PictureWants r.ppm r.head e.pictures) e.known
+      (subst (λ o. Known o q.new (PictureWants r.ppm r.head e.pictures)) joins (known_taken q.old q.new (Wants (picture_next s.ppm s.head s.begun)) (Wants (picture_next r.ppm r.head (at_first e.pictures))) wants n.1))
+
+  pub lacks_after : (f : Fault) → NextRefusedBy Memory q s f ⊎ ReadsOne q s → Known p.old q.new (λ text rest. (left : List ℕ) × ReadsPictures r.ppm r.head true text e.pictures left × PictureLacks r.ppm r.head e.pictures left rest)
+  lacks_after f n = known_then p.old p.new q.new Reads (PictureLacks r.ppm r.head e.pictures) e.known (lacks f n)
 
   stops_by : (c : Cause) (f : Fault) → StopsBy c q a s f → StopsEncodingBy c (joined p q) a r f
-  stops_by Reading f n = n ∙ ap one_more (counts ∙ e.kept)
+  stops_by Reading f n = n.0 ∙ ap one_more (counts ∙ e.kept)
   stops_by Writing f n = n
-  stops_by Memory f n = n ∙ (counts ∙ e.kept)
+  stops_by Memory f n = memory_kept q s f n ∙ (counts ∙ e.kept)
   stops_by Content f n = ends f n
 
   pub encoding_stops : (f : Fault) → StopsNext q a s f → StopsEncoding (joined p q) a r f

@@ -132,12 +132,15 @@ stored_long c =
     let many = decisions_long standard [] (record_steps 8 c) in
     omega (arith, all, front, tail, most, many)
 
-pub record_short : SymbolLaws → (choice : Choice) (ppm : Bool) (h : VideoHead) → 40 + length (record_of (configuration_for choice ppm h)) ≤ limit
+pub record_most : SymbolLaws → (choice : Choice) (ppm : Bool) (h : VideoHead) → length (record_of (configuration_for choice ppm h)) ≤ 2568
 unfolding c
-record_short laws choice ppm h =
+record_most laws choice ppm h =
     let long = stored_long (configuration_for choice ppm h) in
     let few = (record_few laws choice ppm h).few in
     omega (arith, long, few)
+
+pub record_short : SymbolLaws → (choice : Choice) (ppm : Bool) (h : VideoHead) → 40 + length (record_of (configuration_for choice ppm h)) ≤ limit
+record_short laws choice ppm h = let most = record_most laws choice ppm h in omega (arith, most)
 
 pub record_are_bytes : (c : Configuration) → AreBytes (record_of c)
 record_are_bytes c =

@@ -16,7 +16,7 @@ use Rattle.ffv1_engine.specs.Faults.Cause.{Reading, Writing, Memory, Content}
 use Rattle.ffv1_engine.specs.Pack.{EndsBehind, FaultsPacked, HasHead, StopsVideo, StopsVideoBy}
 use Rattle.ffv1_engine.specs.Packing.{AllShort, IsFor, configuration_for, frames_for}
 use Rattle.ffv1_engine.specs.Video.{Video}
-use Rattle.ffv1_engine.specs.VideoReads.{HeadKnown, HeadRead, VideoReading}
+use Rattle.ffv1_engine.specs.VideoReads.{HeadKnown, HeadRead, HeadRefused, HeadRefusedBy, LacksKnown, VideoReading}
 use Rattle.ffv1_engine.proofs.PicturesSoFar.{joined}
 
 -- the faults of a configuration are no want of memory
@@ -30,7 +30,22 @@ content_check c g (inr (a, inr (b, inr (d, inr (e, inr (f, inl p)))))) = rw p.1 
 content_check c g (inr (a, inr (b, inr (d, inr (e, inr (f, inr (i, inl p))))))) = rw p.1 refl
 content_check c g (inr (a, inr (b, inr (d, inr (e, inr (f, inr (i, inr (j, p)))))))) = absurd p
 
-has_head : (old new : Option (List ℕ)) (r : VideoReading) → HeadKnown old new r.ppm r.head → HasHead old
+lacks_packed : (old new : Option (List ℕ)) (choice : Choice) (f : Fault) → LacksKnown old new f → FaultsPacked choice old new f
+lacks_packed None new choice f k = tt
+lacks_packed (Some text) None choice f k = k
+lacks_packed (Some text) (Some rest) choice f k = inl k
+
+no_head_by : (c : Cause) (choice : Choice) (p : Passage) (f : Fault) → HeadRefusedBy c p f → StopsVideoBy c choice p f
+no_head_by Reading choice p f h = h.0
+no_head_by Writing choice p f h = absurd h
+no_head_by Memory choice p f h = absurd h
+no_head_by Content choice p f h = (h.0, lacks_packed p.old p.new choice f h.1)
+
+-- it has no head
+pub no_head : (choice : Choice) (p : Passage) (f : Fault) → HeadRefused p f → StopsVideo choice p f
+no_head choice p f h = no_head_by (cause_of f) choice p f h
+
+pub has_head : (old new : Option (List ℕ)) (r : VideoReading) → HeadKnown old new r.ppm r.head → HasHead old
 has_head None new r k = tt
 has_head (Some text) None r k = absurd k
 has_head (Some text) (Some rest) r k = (r.head, rest, k.1)

@@ -123,7 +123,7 @@ ends_video (Some text) None new r ps h k = absurd h
 ends_video (Some text) (Some behind) None r ps h k = k
 ends_video (Some text) (Some behind) (Some rest) r ps h (left, reads, end) = (left, record { kind = h.0; behind = behind; head = h.1; pictures = reads }, end)
 
-some_pictures : (a : Accepted) (r : VideoReading) (ps : List Planes) (frames : List (List ℕ)) → frames ≡ frames_for a r.head ps → 0 < length frames → 0 < length ps
+pub some_pictures : (a : Accepted) (r : VideoReading) (ps : List Planes) (frames : List (List ℕ)) → frames ≡ frames_for a r.head ps → 0 < length frames → 0 < length ps
 some_pictures a r [] frames e some = subst (λ f. 0 < length f) e some
 some_pictures a r (p ∷ ps) frames e some = omega (arith)
 
@@ -136,7 +136,7 @@ module _ (texts_only : (text : List ℕ) (h : VideoHead) (rest : List ℕ) (pict
   by_kind false h text behind left rest ps kind head reads end some is =
       texts_only text h behind ps (ap (λ b. cond b (image_header text) (header_of text)) kind ∙ head) (all_pictures h true behind ps left rest reads end)
 
-  reads_video : (old mid new : Option (List ℕ)) (r : VideoReading) (ps : List Planes) → HeadKnown old mid r.ppm r.head → IsHeadOf r → AllKnown mid new r ps → 0 < length ps → ReadsVideo old new (video_of r ps)
+  pub reads_video : (old mid new : Option (List ℕ)) (r : VideoReading) (ps : List Planes) → HeadKnown old mid r.ppm r.head → IsHeadOf r → AllKnown mid new r ps → 0 < length ps → ReadsVideo old new (video_of r ps)
   reads_video None mid new r ps h is k some = tt
   reads_video (Some text) None new r ps h is k some = absurd h
   reads_video (Some text) (Some behind) None r ps h is k some = k

@@ -1,6 +1,7 @@
 -- What encoding the next picture of a video answers.
 use Rattle.std.specs.Prelude.{◌≡◌, ◌⊎◌, ℕ, Bool, true, false, List, [], ◌∷◌, ◌++◌, Option, Some}
 use Rattle.std.specs.Prelude.{None, Ok, Err}
+use Rattle.std.specs.declared.vec.Vec.{Vec}
 use Rattle.ffv1_wire.specs.Failures.{one_more}
 use Rattle.ffv1_wire.specs.Passage.{Passage}
 use Rattle.ffv1_record.specs.Accepted.{Accepted}
@@ -14,7 +15,20 @@ use Rattle.ffv1_engine.specs.Faults.{Cause, cause_of, of_y4m}
 use Rattle.ffv1_engine.specs.Faults.Cause.{Reading, Writing, Memory, Content}
 use Rattle.ffv1_engine.specs.Packing.{AllShort, frames_for, said_for}
 use Rattle.ffv1_engine.specs.Video.{ReadsPictures, at_first, picture_next}
-use Rattle.ffv1_engine.specs.VideoReads.{NextRead, StopsKnown, VideoReading}
+use Rattle.ffv1_engine.specs.VideoReads.{NextRead, NextRefusedBy, StopsKnown, VideoReading}
+
+-- a picture was read, and this is its frame; or there was none
+abbrev pub EncodesOne : Passage → Accepted → VideoReading → VideoReading → Option (List ℕ) → Type 0
+EncodesOne p a r s None = NextRead p r None s
+EncodesOne p a r s (Some frame) =
+    (planes : Planes) × NextRead p r (Some planes) s
+    × (HasLongSlice a planes (said_for r.head) → ⊥)
+    × (frame ≡ frame_of a planes (said_for r.head))
+
+-- the bytes of a frame in memory
+abbrev pub frame_in : {A : Type 0} → Option (Vec ℕ A) → Option (List ℕ)
+frame_in None = None
+frame_in (Some frame) = Some frame.items
 
 -- a picture was read and its frame stands after the others; or there was none, and nothing is
 -- changed
@@ -34,11 +48,15 @@ pub record IsTooLong (p : Passage) (a : Accepted) (r : VideoReading) (f : Fault)
   pub long : HasLongSlice a planes (said_for r.head)
   pub is : f ≡ fault.SliceTooLong
 
--- why none was encoded
+-- a picture was read
+abbrev pub ReadsOne : Passage → VideoReading → Type 0
+ReadsOne p r = (planes : Planes) × (s : VideoReading) × NextRead p r (Some planes) s
+
+-- why none was encoded: no picture was read; or memory was refused for the frame of one
 abbrev pub StopsBy : Cause → Passage → Accepted → VideoReading → Fault → Type 0
-StopsBy Reading p a r f = p.after ≡ one_more p.before
+StopsBy Reading p a r f = NextRefusedBy Reading p r f
 StopsBy Writing p a r f = ⊥
-StopsBy Memory p a r f = p.after ≡ p.before
+StopsBy Memory p a r f = NextRefusedBy Memory p r f ⊎ ReadsOne p r
 StopsBy Content p a r f =
     ((p.after ≡ p.before) × StopsKnown p.old p.new r f) ⊎ IsTooLong p a r f
 

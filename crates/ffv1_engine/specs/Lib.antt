@@ -23,4 +23,7 @@ pub mod Unpack
 pub mod ImagesOut
 pub mod StreamLines
 pub mod Show
+pub mod Clusters
+pub mod PackMatroska
 pub mod RoundTrip
+pub mod MatroskaRoundTrip

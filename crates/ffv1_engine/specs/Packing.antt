@@ -1,6 +1,6 @@
 -- What a video is packed as: its configuration, the frames of its pictures, and the file.
 use Rattle.std.specs.Prelude.{◌≡◌, ℕ, Bool, true, if◌then◌else◌, List, [], ◌∷◌, length, map}
-use Rattle.std.specs.Prelude.{◌+◌, pos, replicate}
+use Rattle.std.specs.Prelude.{◌+◌, ◌≤◌, pos, replicate}
 use Rattle.ffv1_plane.specs.Quantisation.{Set, small_set, large_set}
 use Rattle.ffv1_record.specs.Configuration.{Configuration}
 use Rattle.ffv1_record.specs.Accepted.{Accepted, IsAccepted}
@@ -13,6 +13,7 @@ use Rattle.ffv1_codec.specs.Picture.{Planes}
 use Rattle.ffv1_codec.specs.SliceList.{Said}
 use Rattle.ffv1_codec.specs.Frame.{frame_of, HasLongSlice}
 use Rattle.ffv1_reads.specs.Head.{Head}
+use Rattle.ffv1_avi.specs.Streams.{limit}
 use Rattle.ffv1_avi.specs.Written.{file_of}
 use Rattle.ffv1_y4m.specs.declared.head.VideoHead.{VideoHead}
 use Rattle.ffv1_words.specs.declared.order.Choice.{Choice}
@@ -77,6 +78,11 @@ frames_for a h pictures = map (λ planes. frame_of a planes (said_for h)) pictur
 abbrev pub AllShort : Accepted → VideoHead → List Planes → Type 0
 AllShort a h [] = Unit {0}
 AllShort a h (p ∷ ps) = (HasLongSlice a p (said_for h) → ⊥) × AllShort a h ps
+
+-- none of these frames is longer than a reader of files takes: 67108864 bytes
+abbrev pub AreReadable : List (List ℕ) → Type 0
+AreReadable [] = Unit {0}
+AreReadable (f ∷ fs) = (length f ≤ limit) × AreReadable fs
 
 -- the head and the frames of the file, and all its bytes
 abbrev pub packed_head : Choice → Video → Accepted → Head

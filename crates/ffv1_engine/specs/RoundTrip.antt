@@ -1,6 +1,6 @@
 -- What is packed is unpacked: of a text that was packed, what its file holds, and the text that is
 -- written of the file.
-use Rattle.std.specs.Prelude.{◌≡◌, ◌⊎◌, ℕ, ◌≤◌, Bool, true, false, List, [], ◌∷◌, length, flat_map}
+use Rattle.std.specs.Prelude.{◌≡◌, ◌⊎◌, ℕ, Bool, true, false, List, [], length, flat_map}
 use Rattle.std.specs.Prelude.{Some}
 use Rattle.std.specs.Io.KnownBytes.{Appends}
 use Rattle.ffv1_wire.specs.Passage.{Passage}
@@ -10,7 +10,6 @@ use Rattle.ffv1_codec.specs.Picture.{Planes}
 use Rattle.ffv1_avi.specs.Chunks.{AviFile}
 use Rattle.ffv1_reads.specs.Head.{Head}
 use Rattle.ffv1_avi.specs.Riffs.{RiffFile}
-use Rattle.ffv1_avi.specs.Streams.{limit}
 use Rattle.ffv1_y4m.specs.Canonical.{canonical_text}
 use Rattle.ffv1_y4m.specs.Images.{image_text}
 use Rattle.ffv1_y4m.specs.VideoHead.{IsRatio}
@@ -22,16 +21,11 @@ use Rattle.ffv1_engine.specs.declared.fault.Fault.TheVariants as fault
 use Rattle.ffv1_words.specs.declared.order.Choice.{Choice}
 use Rattle.ffv1_engine.specs.declared.packing.Packed.{Packed}
 use Rattle.ffv1_engine.specs.Pack.{Packs}
-use Rattle.ffv1_engine.specs.Packing.{packed_file, packed_frames, said_for}
+use Rattle.ffv1_engine.specs.Packing.{AreReadable, packed_file, packed_frames, said_for}
 use Rattle.ffv1_engine.specs.Play.{Played}
 use Rattle.ffv1_engine.specs.Stream.{Frame, Stream, payloads}
 use Rattle.ffv1_engine.specs.Unpacked.{AllSay, AreAlike, HasText, pictures, text_of}
 use Rattle.ffv1_engine.specs.Video.{Video}
-
--- none of these frames is longer than a reader of files takes: 67108864 bytes
-abbrev pub AreReadable : List (List ℕ) → Type 0
-AreReadable [] = Unit {0}
-AreReadable (f ∷ fs) = (length f ≤ limit) × AreReadable fs
 
 -- a text of bytes that was packed, with no frame that is too long to be read. PPM has the rate and
 -- the scale of the choice: numbers of 32 bits, both zero or neither, since the file has 32 bits for
@@ -67,18 +61,24 @@ abbrev pub IsFileIn : Profile → List ℕ → Head → List (List ℕ) → Type
 IsFileIn Strict file head frames = AviFile file head frames
 IsFileIn Wide file head frames = RiffFile file head frames
 
--- a file is a stream of frames, one for each picture of a video, which code those pictures and say
--- what the video's head says; and their text is the canonical text of the video
-pub record Holds (profile : Profile) (file : List ℕ) (v : Video) : Type 0 where
+-- a file, of whatever kind, is a stream of frames, one for each picture of a video, which code
+-- those pictures and say what the video's head says; and their text is the canonical text of the
+-- video
+pub record HoldsBy (IsFile : List ℕ → Head → List (List ℕ) → Type 0) (profile : Profile)
+    (file : List ℕ) (v : Video) : Type 0 where
   pub stream : Stream
   pub frames : List Frame
-  pub is : IsFileIn profile file stream.head (payloads frames)
+  pub is : IsFile file stream.head (payloads frames)
   pub played : Played profile stream frames
   pub pictures_are : pictures frames ≡ v.pictures
   pub say : AllSay (said_for v.head) frames
   pub text : HasText stream
   pub alike : AreAlike stream frames
   pub writes : text_of stream frames ≡ canonical_of v
+
+-- an AVI is so
+abbrev pub Holds : Profile → List ℕ → Video → Type 0
+Holds profile file v = HoldsBy (IsFileIn profile) profile file v
 
 -- the whole file was read, and the canonical text of this video was written of it
 pub record IsUnpacked (v : Video) (input output : Passage) (count : ℕ) : Type 0 where

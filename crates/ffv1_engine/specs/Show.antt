@@ -7,7 +7,9 @@ use Rattle.ffv1_wire.specs.Failures.{one_more}
 use Rattle.ffv1_wire.specs.Passage.{Passage}
 use Rattle.ffv1_wire.specs.Writes.{AppendsBeginning}
 use Rattle.ffv1_codec.specs.declared.fault.FrameFault.{FrameFault}
-use Rattle.ffv1_files.specs.Places.{Place}
+use Rattle.ffv1_files.specs.Places.{Place, container_of}
+use Rattle.ffv1_files.specs.declared.container.Container.{Container}
+use Rattle.ffv1_reads.specs.Head.{Head}
 use Rattle.ffv1_engine.specs.declared.profile.Profile.{Profile}
 use Rattle.ffv1_engine.specs.declared.fault.Fault.{Fault}
 use Rattle.ffv1_engine.specs.declared.fault.Fault.TheVariants as fault
@@ -26,8 +28,15 @@ use Rattle.ffv1_engine.specs.Told.{LineLacks, NextFails, PayloadLacks, is_tellin
 use Rattle.ffv1_engine.specs.Trial.{Silent}
 
 -- the lines of a stream, and after them what each frame cost
-abbrev pub cost_text : Stream → List Frame → List ℕ
-cost_text s frames = show_text s ++ frame_lines line.Cost s.accepted.configuration frames
+abbrev pub cost_text : Container → Stream → List Frame → List ℕ
+cost_text container s frames =
+    show_text container s ++ frame_lines line.Cost s.accepted.configuration frames
+
+-- where the file is known, its frames come from this place, in its container
+pub record ComesFrom (profile : Profile) (old : Option (List ℕ)) (head : Head) : Type 0 where
+  pub place : Place
+  pub rest : Option (List ℕ)
+  pub opens : OpensKnown profile old rest head place
 
 -- a decoder was refused its memory, before anything more was read or written
 pub record NoDecoder (input output : Passage) (f : Fault) : Type 0 where
@@ -45,7 +54,7 @@ module _ (profile : Profile) (input output : Passage) where
     pub opens : OpensKnown profile input.old input.new stream.head place
     pub kept : input.after ≡ input.before
     pub written : output.after ≡ output.before
-    pub writes : Appends output.old output.new (show_text stream)
+    pub writes : Appends output.old output.new (show_text (container_of place) stream)
 
   -- all frames of the file were decoded, and what each cost was written after those lines
   pub record ShowsCosts : Type 0 where
@@ -55,7 +64,9 @@ module _ (profile : Profile) (input output : Passage) where
     pub reads : ReadsFile profile input.old input.new stream frames
     pub kept : input.after ≡ input.before
     pub written : output.after ≡ output.before
-    pub writes : Appends output.old output.new (cost_text stream frames)
+    pub comes : ComesFrom profile input.old stream.head
+    pub writes : Appends output.old output.new
+        (cost_text (container_of comes.place) stream frames)
 
   -- by whether the costs are asked for
   abbrev pub ShowDone : Bool → Type 0
@@ -70,7 +81,7 @@ module _ (profile : Profile) (input output : Passage) where
     pub opens : OpensKnown profile input.old input.new stream.head place
     pub kept : input.after ≡ input.before
     pub written : output.after ≡ one_more output.before
-    pub writes : AppendsBeginning output.old output.new (show_text stream)
+    pub writes : AppendsBeginning output.old output.new (show_text (container_of place) stream)
 
   -- why the lines of the stream were not written, by the cause: a write failed, which was counted;
   -- and else with nothing written a read failed, which was counted; memory was refused; or the file
@@ -90,7 +101,9 @@ module _ (profile : Profile) (input output : Passage) where
     pub played : Played profile stream frames
     pub begins : BeginsSome profile input.old stream frames
     pub written : output.after ≡ output.before
-    pub writes : Appends output.old output.new (cost_text stream frames)
+    pub comes : ComesFrom profile input.old stream.head
+    pub writes : Appends output.old output.new
+        (cost_text (container_of comes.place) stream frames)
 
   -- the same up to a place where this stands
   pub record CostsTo (stream : Stream) (frames : List Frame) (to : Place) (at : Option (List ℕ))
@@ -98,7 +111,9 @@ module _ (profile : Profile) (input output : Passage) where
     pub played : Played profile stream frames
     pub begins : BeginsTo profile input.old at stream frames to
     pub written : output.after ≡ output.before
-    pub writes : Appends output.old output.new (cost_text stream frames)
+    pub comes : ComesFrom profile input.old stream.head
+    pub writes : Appends output.old output.new
+        (cost_text (container_of comes.place) stream frames)
 
   -- a read of the next frame failed
   pub record CostReadFails : Type 0 where
@@ -126,8 +141,10 @@ module _ (profile : Profile) (input output : Passage) where
     pub begins : BeginsKnown profile input.old input.new stream frames
     pub kept : input.after ≡ input.before
     pub written : output.after ≡ one_more output.before
-    pub writes : WritesUpTo output.old output.new (length (cost_text stream (but_last frames)))
-        (cost_text stream frames)
+    pub comes : ComesFrom profile input.old stream.head
+    pub writes : WritesUpTo output.old output.new
+        (length (cost_text (container_of comes.place) stream (but_last frames)))
+        (cost_text (container_of comes.place) stream frames)
 
   -- after these frames the file has this fault
   pub record CostEnds (f : Fault) : Type 0 where

@@ -1,6 +1,6 @@
 -- The lines that are written of a file's head and of the configuration of its frames.
 use Rattle.std.specs.Prelude.{ℕ, Bool, true, false, List, [], ◌++◌, codes, decimal, flat_map}
-use Rattle.std.specs.Prelude.{if◌then◌else◌, nat_lt}
+use Rattle.std.specs.Prelude.{if◌then◌else◌, nat_lt, Some, None}
 use Rattle.std.specs.List.{list_any}
 use Rattle.ffv1_range.specs.Weight.{one_if}
 use Rattle.ffv1_plane.specs.Quantisation.{Set, contexts_of}
@@ -10,6 +10,8 @@ use Rattle.ffv1_record.specs.declared.config.Coder.TheVariants as coder
 use Rattle.ffv1_record.specs.declared.config.Colour.{Colour}
 use Rattle.ffv1_record.specs.declared.config.Colour.TheVariants as colour
 use Rattle.ffv1_record.specs.Held.{held_of}
+use Rattle.ffv1_files.specs.declared.container.Container.{Container}
+use Rattle.ffv1_files.specs.declared.container.Container.TheVariants as container
 use Rattle.ffv1_engine.specs.Stream.{Stream}
 
 -- a line of a name and a number
@@ -64,9 +66,15 @@ held_line held =
     ++ codes " output " ++ decimal held.output ++ codes " columns " ++ decimal held.columns
     ++ codes " offsets " ++ decimal held.offsets ++ codes "\n"
 
--- the lines of a stream
-abbrev pub show_text : Stream → List ℕ
-show_text s =
+-- of Matroska how many bytes its Segment has, where that is known; nothing of AVI
+abbrev pub segment_line : Container → List ℕ
+segment_line container.Avi = []
+segment_line (container.Matroska (Some size)) = number_line (codes "segment ") size
+segment_line (container.Matroska None) = codes "segment open\n"
+
+-- the lines of a stream in its container
+abbrev pub show_text : Container → Stream → List ℕ
+show_text container s =
     let c = s.accepted.configuration in
     pair_line (codes "size ") c.width (codes "x") c.height
     ++ number_line (codes "coder ") (coder_type c.coder)
@@ -79,4 +87,5 @@ show_text s =
     ++ number_line (codes "ec ") (one_if c.ec)
     ++ number_line (codes "intra ") (one_if c.intra)
     ++ pair_line (codes "rate ") s.head.rate (codes "/") s.head.scale
+    ++ segment_line container
     ++ held_line (held_of c)

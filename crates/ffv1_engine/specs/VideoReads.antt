@@ -1,7 +1,11 @@
 -- What a reader of a video knows, and what its calls answer.
-use Rattle.std.specs.Prelude.{◌≡◌, ℕ, Bool, true, false, List, Option, None, Ok, Err}
+use Rattle.std.specs.Prelude.{◌≡◌, ◌⊎◌, ℕ, ◌++◌, Bool, true, false, List, Option, Some, None}
+use Rattle.std.specs.Prelude.{Ok, Err}
 use Rattle.ffv1_wire.specs.Failures.{one_more}
 use Rattle.ffv1_wire.specs.Passage.{Passage}
+use Rattle.ffv1_y4m.specs.Pictures.{GrowsInPicture}
+use Rattle.ffv1_y4m.specs.Ppm.{GrowsInImage}
+use Rattle.ffv1_y4m.specs.Reads.{Took, Wants}
 use Rattle.ffv1_y4m.specs.VideoHead.{IsHead, IsSized, colour_head}
 use Rattle.ffv1_y4m.specs.declared.fault.Fault.{Fault as Y4mFault}
 use Rattle.ffv1_y4m.specs.declared.head.VideoHead.{VideoHead}
@@ -12,7 +16,7 @@ use Rattle.ffv1_engine.specs.declared.video.VideoReader.{VideoReader}
 use Rattle.ffv1_engine.specs.declared.video.VideoReader.TheVariants as reader
 use Rattle.ffv1_engine.specs.Faults.{Cause, cause_of, of_y4m}
 use Rattle.ffv1_engine.specs.Faults.Cause.{Reading, Writing, Memory, Content}
-use Rattle.ffv1_engine.specs.Video.{is_ppm, picture_next, video_head}
+use Rattle.ffv1_engine.specs.Video.{at_first, is_ppm, picture_next, video_head}
 
 -- whether it is PPM, the head, whether the samples of the first image come next, and the fault that
 -- it met
@@ -53,9 +57,14 @@ abbrev pub LacksKnown : Option (List ℕ) → Option (List ℕ) → Fault → Ty
 LacksKnown old new f = Known old new (λ text rest.
     (g : Y4mFault) × (video_head text ≡ Err (g, rest)) × (f ≡ of_y4m g))
 
--- why no head was read
+-- such bytes of a text were taken, up to what is left
+abbrev pub Taken : (List ℕ → Type 0) → List ℕ → List ℕ → Type 0
+Taken are text rest = (bytes : List ℕ) × (text ≡ bytes ++ rest) × are bytes
+
+-- why no head was read: a read failed, which was counted, where the head wants one more byte; or
+-- the text has a fault
 abbrev pub HeadRefusedBy : Cause → Passage → Fault → Type 0
-HeadRefusedBy Reading p f = p.after ≡ one_more p.before
+HeadRefusedBy Reading p f = (p.after ≡ one_more p.before) × Took (Wants video_head) p
 HeadRefusedBy Writing p f = ⊥
 HeadRefusedBy Memory p f = ⊥
 HeadRefusedBy Content p f = (p.after ≡ p.before) × LacksKnown p.old p.new f
@@ -83,12 +92,32 @@ abbrev pub StopsKnown : Option (List ℕ) → Option (List ℕ) → VideoReading
 StopsKnown old new r f = Known old new (λ text rest.
     (g : Y4mFault) × (picture_next r.ppm r.head r.begun text ≡ Err (g, rest)) × (f ≡ of_y4m g))
 
--- why no picture was read
+-- where memory may be refused for the next picture
+abbrev pub GrowsInNext : Bool → VideoHead → Bool → List ℕ → Type 0
+GrowsInNext true head first = GrowsInImage head first
+GrowsInNext false head first = GrowsInPicture head
+
+-- why no picture was read: a read failed, which was counted, where the picture wants one more byte;
+-- memory was refused, where it grows; or the text has a fault
 abbrev pub NextRefusedBy : Cause → Passage → VideoReading → Fault → Type 0
-NextRefusedBy Reading p r f = p.after ≡ one_more p.before
+NextRefusedBy Reading p r f =
+    (p.after ≡ one_more p.before) × Took (Wants (picture_next r.ppm r.head r.begun)) p
 NextRefusedBy Writing p r f = ⊥
-NextRefusedBy Memory p r f = p.after ≡ p.before
+NextRefusedBy Memory p r f =
+    (p.after ≡ p.before) × Took (GrowsInNext r.ppm r.head r.begun) p
 NextRefusedBy Content p r f = (p.after ≡ p.before) × StopsKnown p.old p.new r f
 
 abbrev pub NextRefused : Passage → VideoReading → Fault → Type 0
 NextRefused p r f = NextRefusedBy (cause_of f) p r f
+
+-- after pictures one more byte of the next one was to be read
+abbrev pub PictureWants : Bool → VideoHead → List Planes → List ℕ → List ℕ → Type 0
+PictureWants ppm h pictures left rest =
+    Taken (Wants (picture_next ppm h (at_first pictures))) left rest
+
+-- after pictures memory was refused: for the next one, where it grows; or for what is made of it,
+-- once it was read
+abbrev pub PictureLacks : Bool → VideoHead → List Planes → List ℕ → List ℕ → Type 0
+PictureLacks ppm h pictures left rest =
+    Taken (GrowsInNext ppm h (at_first pictures)) left rest
+    ⊎ ((p : Planes) × (picture_next ppm h (at_first pictures) left ≡ Ok (Some p, rest)))

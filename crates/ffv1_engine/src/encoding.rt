@@ -9,8 +9,8 @@ ghost use Rattle.ffv1_reads.specs.Head.{head_of};
 ghost use Rattle.ffv1_avi.specs.Written.{frames_of};
 ghost use Rattle.ffv1_engine.specs.declared.fault.Fault.TheVariants as fault;
 ghost use Rattle.ffv1_engine.specs.Faults.{of_record};
-ghost use Rattle.ffv1_engine.specs.Encoding.{EncodesAll, EncodesNext, StopsEncoding};
-ghost use Rattle.ffv1_engine.specs.Encoding.{StopsNext};
+ghost use Rattle.ffv1_engine.specs.Encoding.{EncodesAll, EncodesNext, EncodesOne, StopsEncoding};
+ghost use Rattle.ffv1_engine.specs.Encoding.{StopsNext, frame_in};
 ghost use Rattle.ffv1_engine.specs.Pack.{is_pack_fault};
 ghost use Rattle.ffv1_engine.specs.Packing.{IsFor, coder_for, colour_for, configuration_for};
 ghost use Rattle.ffv1_engine.specs.Packing.{head_for, said_for, set_for};
@@ -141,6 +141,35 @@ fn info_for(head: &VideoHead, ppm: bool) -> Info
     Info::new(head.structure, head.sar_num, head.sar_den).unwrap()
 }
 
+/// Reads and encodes the next picture; None at the end. The planes lend their memory.
+pub(crate) fn encode_picture<R: ByteIn, A: Allocator + Copy>(
+    alloc: A,
+    reader: &mut VideoReader<A>,
+    input: &mut R,
+    encoder: &mut FrameEncoder<A>,
+    planes: &mut Vec<Vec<u8, A>, A>,
+) -> Result<Option<Vec<u8, A>>, Fault>
+    requires working { (reading_of reader.old).failed ≡ None }
+    requires suits { (choice : Choice) × IsFor choice (reading_of reader.old).ppm
+        (reading_of reader.old).head encoder.old.accepted }
+    ensures same { encoder.new.accepted ≡ encoder.old.accepted }
+    ensures ok { IfOk result (λ o. EncodesOne (passage R.remaining R.failures input.old input.new)
+        encoder.old.accepted (reading_of reader.old) (reading_of reader.new) (frame_in o)) }
+    ensures err { IfErr result (StopsNext (passage R.remaining R.failures input.old input.new)
+        encoder.old.accepted (reading_of reader.old)) }
+    ensures own { IfErr result (λ f. is_pack_fault f ≡ true) }
+{
+    let info = info_for(reader.head(), reader.is_ppm());
+    if !reader.next(input, planes)? {
+        return Ok(None);
+    }
+    let lent = mem::replace(planes, Vec::new(alloc));
+    let picture = Picture::new(encoder.config(), lent).unwrap();
+    let frame = encoder.encode(&picture, info)?;
+    *planes = picture.into_planes();
+    Ok(Some(frame))
+}
+
 /// Encodes the next picture, whose frame comes after the others; false at the end. The planes lend
 /// their memory.
 fn encode_next<R: ByteIn, A: Allocator + Copy>(
@@ -162,15 +191,10 @@ fn encode_next<R: ByteIn, A: Allocator + Copy>(
         encoder.old.accepted (reading_of reader.old)) }
     ensures own { IfErr result (λ f. is_pack_fault f ≡ true) }
 {
-    let info = info_for(reader.head(), reader.is_ppm());
-    if !reader.next(input, planes)? {
+    let Some(frame) = encode_picture(alloc, reader, input, encoder, planes)? else {
         return Ok(false);
-    }
-    let lent = mem::replace(planes, Vec::new(alloc));
-    let picture = Picture::new(encoder.config(), lent).unwrap();
-    let frame = encoder.encode(&picture, info)?;
+    };
     frames.push(frame)?;
-    *planes = picture.into_planes();
     Ok(true)
 }
 

@@ -4,7 +4,8 @@
 //!
 //! `words` reads a command line as an `Order`, of one of five commands; the call of the order's
 //! name does it, over a reader and a writer of `ffv1_wire`, and answers a `Fault` that displays as
-//! its number and name. `pack` codes a video into a file, `unpack` decodes one into a text again,
+//! its number and name. `pack` codes a video into an AVI, and `pack_matroska` into Matroska, frame by
+//! frame; `unpack` decodes a file into a text again,
 //! `check` decodes all its frames, `show` tells what it says, and `trial` codes the first picture
 //! of a text and decodes it again; `code_plane` is its first half, over samples. The test
 //! `trials::example` of `ffv1_tests` runs these lines:
@@ -23,6 +24,7 @@ mod fault;
 pub mod frame_line;
 mod images_out;
 pub mod laws;
+mod matroska_packing;
 mod mono_trial;
 mod packing;
 mod picture;
@@ -40,7 +42,8 @@ mod video;
 
 pub use checking::check;
 pub use fault::Fault;
-pub use ffv1_words::{Choice, CoderChoice, Order, words};
+pub use ffv1_words::{Choice, CoderChoice, ContainerChoice, Order, words};
+pub use matroska_packing::{PackedMatroska, pack_matroska};
 pub use mono_trial::trial;
 pub use packing::{Packed, pack};
 pub use plane::{Coded, code_plane};

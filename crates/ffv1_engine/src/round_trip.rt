@@ -1,6 +1,6 @@
 //! What is packed is unpacked: the law that joins both.
 
-ghost use Rattle.std.specs.Prelude.{◌≡◌, ℕ, Bool, List, Some, true};
+ghost use Rattle.std.specs.Prelude.{◌≡◌, ◌<◌, ℕ, Bool, List, [], Ok, Some, length, true};
 ghost use Rattle.clap.specs.Words.{Row};
 ghost use Rattle.ffv1_wire.specs.Passage.{Passage};
 ghost use Rattle.ffv1_y4m.specs.VideoHead.{IsRatio};
@@ -10,16 +10,26 @@ ghost use Rattle.ffv1_words.specs.declared.order.Choice.{Choice};
 ghost use Rattle.ffv1_engine.specs.Check.{CheckStops};
 ghost use Rattle.ffv1_words.specs.Order.{NamesChoice};
 ghost use Rattle.ffv1_engine.specs.Show.{ShowStops};
+ghost use Rattle.ffv1_record.specs.Accepted.{Accepted};
+ghost use Rattle.ffv1_files.specs.Files.{file_read};
+ghost use Rattle.ffv1_files.specs.declared.container.Scope.TheVariants.{Whole};
+ghost use Rattle.ffv1_engine.specs.declared.profile.Profile.TheVariants.{Wide};
+ghost use Rattle.ffv1_engine.specs.MatroskaRoundTrip.{HoldsMatroska, WasPackedMatroska};
+ghost use Rattle.ffv1_engine.specs.MatroskaRoundTrip.{matroska_file, matroska_video};
+ghost use Rattle.ffv1_engine.specs.PackMatroska.{HasClusters, begun_file};
+ghost use Rattle.ffv1_engine.specs.Packing.{packed_frames, packed_head};
 ghost use Rattle.ffv1_engine.specs.RoundTrip.{Holds, IsNoContent, IsUnpacked, WasPacked};
 ghost use Rattle.ffv1_engine.specs.RoundTrip.{canonical_of, file_in, video_in};
 ghost use Rattle.ffv1_engine.specs.Unpack.{UnpackDone, UnpackStops};
-ghost use Rattle.ffv1_engine.specs.Video.{IsVideo};
+ghost use Rattle.ffv1_engine.specs.Video.{IsVideo, Video};
 
 use ffv1_avi::laws::written_is_read as avi_is_written;
 use ffv1_codec::answer_laws::one_picture;
 use ffv1_codec::decoding_laws::{is_decoded, one_end};
 use ffv1_codec::laws::{encoded_frame, frame_lengths};
 use ffv1_files::laws::{file_is_read, frames_in_turn, written_is_read};
+use ffv1_matroska::laws::read_is_file;
+use ffv1_matroska::written_laws::written_is_read as matroska_is_written;
 use ffv1_range::laws::{counts, lengths, sentinel_ending};
 use ffv1_record::laws::{accepted, one_configuration, one_refusal, written_is_record};
 use ffv1_slice::laws::cutting;
@@ -38,6 +48,10 @@ pub fn named_rate()
 /// same video, and for PPM the very text that was packed. Where `unpack`, `check` or `show` is
 /// refused on it, at either profile, that is for `OutOfMemory` (2), `Read` (56) or `Write` (57), and
 /// for no fault of the file.
+///
+/// The same holds, at `Wide`, of any text that `pack_matroska` has packed, whether its file is
+/// finished or open: it writes no longer frame. A file that is begun, of some first pictures, is
+/// read as their frames, and to its last byte.
 pub fn packed_is_unpacked()
     ensures holds { (profile : Profile) (choice : Choice) (text : List ℕ)
         (w : WasPacked choice text) → Holds profile (file_in w) (video_in w) }
@@ -58,6 +72,34 @@ pub fn packed_is_unpacked()
         IsVideo (canonical_of (video_in w)) (video_in w) }
     ensures ppm { (choice : Choice) (text : List ℕ) (w : WasPacked choice text) →
         (video_in w).ppm ≡ true → canonical_of (video_in w) ≡ text }
+    ensures matroska_holds { (choice : Choice) (text : List ℕ)
+        (w : WasPackedMatroska choice text) →
+        HoldsMatroska (matroska_file w) (matroska_video w) }
+    ensures matroska_written { (choice : Choice) (text : List ℕ)
+        (w : WasPackedMatroska choice text) (input output : Passage) (count : ℕ) →
+        input.old ≡ Some (matroska_file w) → UnpackDone Wide input output count →
+        IsUnpacked (matroska_video w) input output count }
+    ensures matroska_refused { (choice : Choice) (text : List ℕ)
+        (w : WasPackedMatroska choice text) (input output : Passage) (f : Fault) →
+        input.old ≡ Some (matroska_file w) → UnpackStops Wide input output f → IsNoContent f }
+    ensures matroska_checked { (choice : Choice) (text : List ℕ)
+        (w : WasPackedMatroska choice text) (place : Bool) (input output : Passage) (f : Fault) →
+        input.old ≡ Some (matroska_file w) → CheckStops Wide place input output f →
+        IsNoContent f }
+    ensures matroska_shown { (choice : Choice) (text : List ℕ)
+        (w : WasPackedMatroska choice text) (cost : Bool) (input output : Passage) (f : Fault) →
+        input.old ≡ Some (matroska_file w) → ShowStops Wide input output cost f →
+        IsNoContent f }
+    ensures matroska_same { (choice : Choice) (text : List ℕ)
+        (w : WasPackedMatroska choice text) →
+        IsVideo (canonical_of (matroska_video w)) (matroska_video w) }
+    ensures matroska_ppm { (choice : Choice) (text : List ℕ) (w : WasPackedMatroska choice text) →
+        (matroska_video w).ppm ≡ true → canonical_of (matroska_video w) ≡ text }
+    ensures begun { (choice : Choice) (v : Video) (a : Accepted) → HasClusters choice v a →
+        0 < length v.pictures →
+        (v.ppm ≡ true → IsRatio 4294967295 choice.rate choice.scale) →
+        file_read Whole (begun_file choice v a)
+        ≡ Ok ((packed_head choice v a, packed_frames v a), []) }
 {
     accepted();
     counts();
@@ -77,5 +119,7 @@ pub fn packed_is_unpacked()
     texts();
     written_is_read();
     avi_is_written();
+    matroska_is_written();
+    read_is_file();
     written_is_record();
 }

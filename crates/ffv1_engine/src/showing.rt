@@ -17,8 +17,8 @@ use crate::player::{open_stream, player_of};
 use crate::profile::Profile;
 use crate::stream_lines::show_text;
 use crate::telling::tell_frames;
-use ffv1_files::FileReader;
 use ffv1_files::laws::{frames_in_turn, read_is_file};
+use ffv1_files::{Container, FileReader};
 use ffv1_reads::FileHead;
 use ffv1_record::Checked;
 use ffv1_wire::{ByteIn, ByteOut, write_all};
@@ -28,13 +28,15 @@ use std::alloc::Allocator;
 fn write_stream<W: ByteOut, A: Allocator + Copy>(
     alloc: A,
     output: &mut W,
+    container: Container,
     head: &FileHead<A>,
     checked: &Checked<A>,
 ) -> Result<(), Fault>
-    ensures { WritesFrame (show_text (record { head = head_of head.now; accepted = checked.now }))
+    ensures { WritesFrame
+        (show_text container (record { head = head_of head.now; accepted = checked.now }))
         (passage W.contents W.failures output.old output.new) result }
 {
-    let text = show_text(alloc, head, checked)?;
+    let text = show_text(alloc, container, head, checked)?;
     if write_all(output, &text).is_err() {
         return Err(Fault::Write);
     }
@@ -81,10 +83,13 @@ fn tell_costs<R: ByteIn, W: ByteOut, A: Allocator + Copy>(
 /// ec {0 or 1}
 /// intra {0 or 1}
 /// rate {rate}/{scale}
+/// segment {size, or open}
 /// held states {n} samples {n} output {n} columns {n} offsets {n}
 /// ```
 ///
-/// The line `extra 1` is there where there is a plane of transparency. What is held is told as
+/// The line `extra 1` is there where there is a plane of transparency, and the line `segment` of
+/// Matroska: it has the bytes of the Segment, or says that their number is not known, so that the
+/// file may be cut where a Cluster ends. What is held is told as
 /// `Checked::held` says it. Which stream of the file is told, and where its record ends, is by the
 /// profile. A file without frames is none the worse. With `cost` all frames that the profile reads
 /// are then decoded, and a line of each is written as soon as it is decoded:
@@ -124,7 +129,7 @@ pub fn show<R: ByteIn, W: ByteOut, A: Allocator + Copy>(
     frames_in_turn();
     read_is_file();
     let (reader, checked) = open_stream(alloc, profile, input)?;
-    write_stream(alloc, output, reader.head(), &checked)?;
+    write_stream(alloc, output, reader.container(), reader.head(), &checked)?;
     if cost {
         tell_costs(alloc, reader, checked, input, output)?;
     }

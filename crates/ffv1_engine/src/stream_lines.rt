@@ -6,9 +6,11 @@ ghost use Rattle.ffv1_plane.specs.Quantisation.{contexts_of};
 ghost use Rattle.ffv1_reads.specs.Head.{head_of};
 ghost use Rattle.ffv1_engine.specs.StreamLines.{chroma_line, coder_type, colour_line};
 ghost use Rattle.ffv1_engine.specs.StreamLines.{contexts_line, extra_line, held_line, number_line};
-ghost use Rattle.ffv1_engine.specs.StreamLines.{is_wide, note_line, pair_line, show_text};
+ghost use Rattle.ffv1_engine.specs.StreamLines.{is_wide, note_line, pair_line, segment_line};
+ghost use Rattle.ffv1_engine.specs.StreamLines.{show_text};
 
 use crate::frame_line::push_number;
+use ffv1_files::Container;
 use ffv1_plane::QuantSet;
 use ffv1_reads::FileHead;
 use ffv1_record::{Checked, Coder, Colour, Held, Sets};
@@ -155,14 +157,29 @@ fn push_held<A: Allocator>(text: &mut Vec<u8, A>, held: Held) -> Result<(), Allo
     Ok(())
 }
 
-/// The lines of a file's head and of the configuration of its frames.
+/// Appends the line of a Segment: how many bytes it has, or that this is not known; nothing of AVI.
+fn push_segment<A: Allocator>(text: &mut Vec<u8, A>, container: Container) -> Result<(), AllocError>
+    ensures { OnOk result (text.new.items ≡ text.old.items ++ segment_line container) }
+{
+    match container {
+        Container::Avi => Ok(()),
+        Container::Matroska(Some(size)) => push_line(text, b"segment ", size),
+        Container::Matroska(None) => {
+            text.extend_from_slice(b"segment open\n")?;
+            Ok(())
+        }
+    }
+}
+
+/// The lines of a file's head, of its container and of the configuration of its frames.
 pub(crate) fn show_text<A: Allocator>(
     alloc: A,
+    container: Container,
     head: &FileHead<A>,
     checked: &Checked<A>,
 ) -> Result<Vec<u8, A>, AllocError>
     ensures { IfOk result (λ text. text.items
-        ≡ show_text (record { head = head_of head.now; accepted = checked.now })) }
+        ≡ show_text container (record { head = head_of head.now; accepted = checked.now })) }
 {
     let config = checked.config();
     let mut text = Vec::new(alloc);
@@ -182,6 +199,7 @@ pub(crate) fn show_text<A: Allocator>(
     push_line(&mut text, b"ec ", u64::from(config.ec))?;
     push_line(&mut text, b"intra ", u64::from(config.intra))?;
     push_pair(&mut text, b"rate ", head.rate, b"/", head.scale)?;
+    push_segment(&mut text, container)?;
     push_held(&mut text, checked.held())?;
     Ok(text)
 }

@@ -1,6 +1,5 @@
 //! Tests of each crate by what it makes public, and those that cross crates.
 
-mod aspects;
 mod avi;
 mod checks;
 mod decoded;

@@ -5,10 +5,11 @@ ghost use Rattle.std.specs.Prelude.{◌≡◌};
 ghost use Rattle.ffv1_wire.specs.Failures.{one_more};
 
 use crate::fields::{Count, bytes, counted, number};
-use crate::frames::configuration;
+use crate::frames::{configuration, is_next};
 use anyhow::Result;
 use ffv1_codec::{CodecFault, FrameDecoder, FrameFault, Info};
 use ffv1_range::Tally;
+use ffv1_record::Profile;
 use ffv1_wire::{LineSink, SinkFault};
 use std::alloc::{AllocError, Global};
 use std::fs;
@@ -124,31 +125,50 @@ fn tally_agrees(fields: &mut SplitWhitespace<'_>, tally: Tally) -> Result<bool> 
     Ok(tally == wanted)
 }
 
-/// Whether one case agrees.
-fn case(alloc: Global, line: &str) -> Result<bool> {
-    let mut fields = line.split_whitespace();
-    let checked = configuration(alloc, &mut fields)?;
-    let payload = bytes(alloc, &mut fields)?;
-    let room = number(&mut fields)?;
+/// Whether the next fields are an answer, what was decided and the lines that were handed over.
+fn agrees(
+    alloc: Global,
+    fields: &mut SplitWhitespace<'_>,
+    answer: Result<Info, FrameFault>,
+    tally: Tally,
+    lines: &[u8],
+) -> Result<bool> {
+    let same = next_are(fields, &numbers_of(answer))?;
+    let counted = tally_agrees(fields, tally)?;
+    Ok(is_next(alloc, fields, lines)? && same && counted)
+}
+
+/// Whether the payload in the next field is decoded as the rest of a line says.
+fn is_decoded(
+    alloc: Global,
+    fields: &mut SplitWhitespace<'_>,
+    decoder: &mut FrameDecoder,
+) -> Result<bool> {
+    let payload = bytes(alloc, fields)?;
+    let room = number(fields)?;
     let mut sink = FewLines {
         text: Vec::new(alloc),
         room,
         failures: 0,
     };
-    let mut decoder = FrameDecoder::new(alloc, checked)?;
     let answer = decoder.decode(payload.as_slice(), &mut sink);
-    let same = next_are(&mut fields, &numbers_of(answer))?;
-    let tally = tally_agrees(&mut fields, decoder.tally())?;
-    let lines = bytes(alloc, &mut fields)?;
-    Ok(same && tally && lines.as_slice() == sink.text.as_slice())
+    agrees(alloc, fields, answer, decoder.tally(), sink.text.as_slice())
 }
 
-/// How many cases agree.
-pub(crate) fn count<R: AllocGlobal + Files>(rt: &R) -> Result<Count> {
-    let text = fs::read_to_string(rt, "decoded.txt")?;
+/// Whether one case agrees.
+fn case(alloc: Global, line: &str, profile: Profile) -> Result<bool> {
+    let mut fields = line.split_whitespace();
+    let checked = configuration(alloc, &mut fields, profile)?;
+    let mut decoder = FrameDecoder::new(alloc, checked)?;
+    is_decoded(alloc, &mut fields, &mut decoder)
+}
+
+/// How many cases of a file agree, in a profile.
+pub(crate) fn count<R: AllocGlobal + Files>(rt: &R, name: &str, profile: Profile) -> Result<Count> {
+    let text = fs::read_to_string(rt, name)?;
     let mut count = Count { agree: 0, cases: 0 };
     for line in text.lines() {
-        count = counted(count, case(rt.alloc(), line)?);
+        count = counted(count, case(rt.alloc(), line, profile)?);
     }
     Ok(count)
 }

@@ -1,21 +1,25 @@
-//! Frames: the payload of a picture.
+//! Frames: the payload of a picture, and what is counted of it.
 
 use crate::fields::{Count, bytes, counted, number};
 use anyhow::{Context, Result, ensure};
-use ffv1_codec::{FrameEncoder, Info, Picture};
-use ffv1_record::{Checked, read_record};
+use ffv1_codec::{FrameCounts, FrameEncoder, Info, Picture};
+use ffv1_record::{Checked, Profile, read_record_in};
 use ffv1_slice::Grid;
 use std::alloc::Global;
 use std::fs;
 use std::rt::Files;
 use std::str::SplitWhitespace;
 
-/// The configuration of a record, of pictures of a size.
-pub(crate) fn configuration(alloc: Global, fields: &mut SplitWhitespace<'_>) -> Result<Checked> {
+/// The configuration of a record, of pictures of a size, in a profile.
+pub(crate) fn configuration(
+    alloc: Global,
+    fields: &mut SplitWhitespace<'_>,
+    profile: Profile,
+) -> Result<Checked> {
     let width = number(fields)?;
     let height = number(fields)?;
     let record = bytes(alloc, fields)?;
-    Ok(read_record(alloc, record.as_slice(), width, height)?)
+    Ok(read_record_in(alloc, record.as_slice(), width, height, profile)?)
 }
 
 /// What is said of a picture.
@@ -40,19 +44,52 @@ fn planes(alloc: Global, checked: &Checked, samples: &[u8]) -> Result<Vec<Vec<u8
     Ok(planes)
 }
 
+/// The picture of the samples in the next field.
+fn picture(alloc: Global, checked: &Checked, fields: &mut SplitWhitespace<'_>) -> Result<Picture> {
+    let samples = bytes(alloc, fields)?;
+    let planes = planes(alloc, checked, samples.as_slice())?;
+    Picture::new(checked, planes).context("no such picture")
+}
+
+/// Whether the next field is these bytes.
+pub(crate) fn is_next(
+    alloc: Global,
+    fields: &mut SplitWhitespace<'_>,
+    found: &[u8],
+) -> Result<bool> {
+    let wanted = bytes(alloc, fields)?;
+    Ok(found == wanted.as_slice())
+}
+
+/// Whether the next fields are what was counted.
+fn are_counted(fields: &mut SplitWhitespace<'_>, counts: FrameCounts) -> Result<bool> {
+    let decisions = u64::from(number(fields)?);
+    let renormalisations = u64::from(number(fields)?);
+    Ok((counts.decisions, counts.renormalisations) == (decisions, renormalisations))
+}
+
+/// Whether a picture has the payload and the counts of the next fields.
+fn is_encoded(
+    alloc: Global,
+    encoder: &mut FrameEncoder,
+    picture: &Picture,
+    info: Info,
+    fields: &mut SplitWhitespace<'_>,
+) -> Result<bool> {
+    ensure!(picture.fits(encoder.config()), "another picture");
+    let frame = encoder.encode(picture, info)?;
+    let same = is_next(alloc, fields, frame.as_slice())?;
+    Ok(are_counted(fields, encoder.counts())? && same)
+}
+
 /// Whether one case agrees.
 fn case(alloc: Global, line: &str) -> Result<bool> {
     let mut fields = line.split_whitespace();
-    let checked = configuration(alloc, &mut fields)?;
+    let checked = configuration(alloc, &mut fields, Profile::Strict)?;
     let info = info(&mut fields)?;
-    let samples = bytes(alloc, &mut fields)?;
-    let payload = bytes(alloc, &mut fields)?;
-    let planes = planes(alloc, &checked, samples.as_slice())?;
-    let picture = Picture::new(&checked, planes).context("no such picture")?;
+    let picture = picture(alloc, &checked, &mut fields)?;
     let mut encoder = FrameEncoder::new(alloc, checked);
-    ensure!(picture.fits(encoder.config()), "another picture");
-    let frame = encoder.encode(&picture, info)?;
-    Ok(frame.as_slice() == payload.as_slice())
+    is_encoded(alloc, &mut encoder, &picture, info, &mut fields)
 }
 
 /// How many cases agree.

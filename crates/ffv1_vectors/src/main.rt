@@ -1,9 +1,10 @@
 // SPDX-License-Identifier: MIT OR Apache-2.0
-//! Asks the crates what `model/ffv1.py` and `model/matroska.py` answered, and reads two files made
-//! by FFmpeg: each line of the text files in `data/` is one case. It prints how many cases of each
-//! agree.
+//! Asks the crates what `model/ffv1.py`, `model/files.py` and `model/matroska.py` answered, and
+//! reads two files made by FFmpeg: each line of the text files in `data/` is one case. It prints how
+//! many cases of each agree.
 #![tactic(auto)]
 
+mod avi;
 mod decoding;
 mod fields;
 mod files;
@@ -13,6 +14,7 @@ mod matroska;
 mod payloads;
 mod written;
 
+use ffv1_record::Profile;
 use std::rt::Files;
 
 /// Prints the count of one file.
@@ -26,8 +28,11 @@ fn run<R: AllocGlobal + Files + Print>(rt: &R) -> anyhow::Result<()> {
     print(rt, "heads", heads::count(rt)?)?;
     print(rt, "payloads", payloads::count(rt)?)?;
     print(rt, "frames", frames::count(rt)?)?;
-    print(rt, "decoded", decoding::count(rt)?)?;
+    let strict = decoding::count(rt, "decoded.txt", Profile::Strict)?;
+    print(rt, "decoded", strict)?;
+    print(rt, "wide", decoding::count(rt, "wide.txt", Profile::Wide)?)?;
     print(rt, "files", files::count(rt)?)?;
+    print(rt, "avi", avi::count(rt)?)?;
     print(rt, "matroska", matroska::count(rt)?)?;
     print(rt, "matroska written", written::count(rt)?)?;
     Ok(())

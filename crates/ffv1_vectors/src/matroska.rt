@@ -44,15 +44,26 @@ fn is_size(fields: &mut SplitWhitespace<'_>, size: Option<u64>) -> Result<bool> 
 }
 
 /// Whether a head has the next sizes, rates and record of a line.
-fn is_head(alloc: Global, fields: &mut SplitWhitespace<'_>, head: &FileHead) -> Result<bool> {
+pub(crate) fn is_head(
+    alloc: Global,
+    fields: &mut SplitWhitespace<'_>,
+    head: &FileHead,
+) -> Result<bool> {
     let sizes = head.width == number(fields)? && head.height == number(fields)?;
     let rates = head.rate == number(fields)? && head.scale == number(fields)?;
     let record = bytes(alloc, fields)?;
     Ok(sizes && rates && head.config_record.as_slice() == record.as_slice())
 }
 
+/// Whether a frame has the length and the sum of a field.
+pub(crate) fn is_frame(field: &str, frame: &[u8]) -> Result<bool> {
+    let (length, sum) = field.split_once(":").context("a sum is missing")?;
+    let has_length = frame.len() == length.parse::<usize>()?;
+    Ok(has_length && crc32(frame) == sum.parse::<u32>()?)
+}
+
 /// Whether the frames of a file have the lengths and sums of the rest of a line, and then it has
-/// this fault, or ends where that is 0.
+/// this fault, the second time too and with no frame, or ends where that is 0.
 fn are_frames<R: ByteIn>(
     alloc: Global,
     fields: &mut SplitWhitespace<'_>,
@@ -62,18 +73,16 @@ fn are_frames<R: ByteIn>(
 ) -> Result<bool> {
     let mut frame = Vec::new(alloc);
     for field in fields {
-        let (length, sum) = field.split_once(":").context("a sum is missing")?;
-        if reader.next_frame(input, &mut frame) != Ok(true) {
-            return Ok(false);
-        }
-        let has_length = frame.len() == length.parse::<usize>()?;
-        if !has_length || crc32(frame.as_slice()) != sum.parse::<u32>()? {
+        if reader.next_frame(input, &mut frame) != Ok(true) || !is_frame(field, frame.as_slice())? {
             return Ok(false);
         }
     }
     match reader.next_frame(input, &mut frame) {
         Ok(more) => Ok(!more && fault == 0),
-        Err(met) => Ok(number_of(met) == fault),
+        Err(met) => {
+            let again = reader.next_frame(input, &mut frame) == Err(met);
+            Ok(again && frame.is_empty() && number_of(met) == fault)
+        }
     }
 }
 

@@ -9,12 +9,12 @@ use Rattle.clap.proofs.OnLiterals.{clap_on_literals}
 use Rattle.clap.specs.Walk.{Rule, Text, answers_to, nothing_held, rows_after}
 use Rattle.clap.specs.Simple.{Shape, built, label_of, new_rule, subcommand_of}
 use Rattle.clap.specs.Takes.{level_passes, takes}
-use Rattle.ffv1_words.specs.CommandLine.{AreContexts, Words, line_app}
+use Rattle.ffv1_words.specs.CommandLine.{AreContainers, AreContexts, Words, line_app}
 use Rattle.ffv1_words.specs.Order.{Names, NamesChoice}
 use Rattle.ffv1_words.specs.declared.order.Choice.{Choice}
 use Rattle.ffv1_words.specs.declared.order.Order.{Order}
 use Rattle.ffv1_words.specs.declared.order.Order.TheVariants as order
-use Rattle.ffv1_words.proofs.TakenNames.{bit_named, coder_named, contexts_named, flag_named, number_named}
+use Rattle.ffv1_words.proofs.TakenNames.{bit_named, coder_named, container_named, contexts_named, flag_named, number_named}
 use Rattle.ffv1_words.proofs.TakenOrder.{taken_level}
 use Rattle.ffv1_words.proofs.TakenRows.{either, value_left}
 
@@ -45,9 +45,9 @@ NamesOrder s = (rest : List Text) → level_passes s [] nothing_held rest false 
 abbrev rule_at : Shape → ℕ → Rule
 rule_at s k = slice_index_or s.rules k (new_rule [])
 
-module _ (contexts : Words) (are : AreContexts contexts) where
+module _ (contexts containers : Words) (are : AreContexts contexts) (are_containers : AreContainers containers) where
   abbrev command : ℕ → Shape
-  command k = slice_index_or (built (line_app contexts)).subs k (line_app contexts).top
+  command k = slice_index_or (built (line_app contexts containers)).subs k (line_app contexts containers).top
 
   -- ---- pack
 
@@ -100,12 +100,14 @@ module _ (contexts : Words) (are : AreContexts contexts) where
       let input = value_left pack rest (rule_at pack 0) refl refl (inl refl) refl e in
       let output = value_left pack rest (rule_at pack 1) refl refl (inr (inl refl)) refl e in
       let choice = pack_choice rest e in
-      let kept = value_left pack rest (rule_at pack 9) refl refl (inr (inr (inr (inr (inr (inr (inr (inr (inr (inl refl)))))))))) refl e in
+      let holder = value_left pack rest (rule_at pack 9) refl refl (inr (inr (inr (inr (inr (inr (inr (inr (inr (inl refl)))))))))) refl e in
+      let container = container_named (rows_after pack.rules [] rest) (codes "container") containers holder.text are_containers holder.is holder.passes in
+      let kept = value_left pack rest (rule_at pack 10) refl refl (inr (inr (inr (inr (inr (inr (inr (inr (inr (inr (inl refl))))))))))) refl e in
       let no_clobber = flag_named (rows_after pack.rules [] rest) (codes "no-clobber") kept.text kept.is kept.passes in
-      let told = value_left pack rest (rule_at pack 10) refl refl (inr (inr (inr (inr (inr (inr (inr (inr (inr (inr (inl refl))))))))))) refl e in
+      let told = value_left pack rest (rule_at pack 11) refl refl (inr (inr (inr (inr (inr (inr (inr (inr (inr (inr (inr (inl refl)))))))))))) refl e in
       let progress = flag_named (rows_after pack.rules [] rest) (codes "progress") told.text told.is told.passes in (
-        order.Pack (path input.text) (path output.text) choice.0 no_clobber.0 progress.0,
-        (refl, input.is, output.is, choice.1, no_clobber.1, progress.1),
+        order.Pack (path input.text) (path output.text) choice.0 container.0 no_clobber.0 progress.0,
+        (refl, input.is, output.is, choice.1, container.1, no_clobber.1, progress.1),
       )
 
   -- ---- the others
@@ -169,7 +171,7 @@ module _ (contexts : Words) (are : AreContexts contexts) where
     | inr none ↦ absurd (true≢false (sym none))
   ]
 
-  named : (s : Shape) (word : Text) → IsOneOf s (built (line_app contexts)).subs → answers_to word (label_of s) ≡ true → bytes_eq word (codes "help") ≡ false → NamesOrder s
+  named : (s : Shape) (word : Text) → IsOneOf s (built (line_app contexts containers)).subs → answers_to word (label_of s) ≡ true → bytes_eq word (codes "help") ≡ false → NamesOrder s
   named s word (inl is) met no_help = subst NamesOrder is pack_named
   named s word (inr (inl is)) met no_help = subst NamesOrder is unpack_named
   named s word (inr (inr (inl is))) met no_help = subst NamesOrder is check_named
@@ -180,10 +182,10 @@ module _ (contexts : Words) (are : AreContexts contexts) where
   named s word (inr (inr (inr (inr (inr (inr none)))))) met no_help = absurd none
 
   -- a line that clap takes names an order
-  pub taken_names : (words : List Text) → takes (line_app contexts) words ≡ true → (o : Order) × Names o (subcommand_of (line_app contexts) words)
+  pub taken_names : (words : List Text) → takes (line_app contexts containers) words ≡ true → (o : Order) × Names o (subcommand_of (line_app contexts containers) words)
   unfolding clap_on_literals
   taken_names words e =
-      let level = taken_level (line_app contexts) words refl refl e in
-      let met = found_in (λ s. answers_to level.word (label_of s)) (built (line_app contexts)).subs level.shape level.found in
+      let level = taken_level (line_app contexts containers) words refl refl e in
+      let met = found_in (λ s. answers_to level.word (label_of s)) (built (line_app contexts containers)).subs level.shape level.found in
       let got = named level.shape level.word met.0 met.1 level.no_help level.rest level.passes in
       (got.0, subst (Names got.0) (sym level.is) got.1)

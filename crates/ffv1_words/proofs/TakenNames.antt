@@ -1,5 +1,5 @@
 -- A value that passes is a number, a flag or a word that an order can name.
-use Rattle.std.proofs.Common.{◌≡◌, ◌∙◌, ◌≤◌, ◌==◌, ◌||◌, cond, inl, inr, subst, ℕ, refl, sym, ap, arith, List, [], ◌∷◌, Bool, true, false, drop, Some, None, true≢false, codes}
+use Rattle.std.proofs.Common.{◌≡◌, ◌∙◌, ◌≤◌, ◌==◌, ◌||◌, cond, inl, inr, subst, ℕ, refl, sym, ap, arith, List, [], ◌∷◌, Bool, true, false, drop, Some, None, true≢false, codes, map}
 use Rattle.std.specs.Prelude.{pos, unwrap_or}
 use Rattle.std.specs.List.{list_any}
 use Rattle.std.specs.Str.{bytes_eq}
@@ -16,10 +16,12 @@ use Rattle.clap.specs.Walk.{Row, Text, first_of, one_of}
 use Rattle.clap.specs.declared.builder.value_parser.ValueParser.TheVariants as parser
 use Rattle.clap.proofs.ValueTestLemmas.{accepts-Accepts}
 use Rattle.clap.proofs.WalkLemmas.{list_any-map}
-use Rattle.ffv1_words.specs.CommandLine.{AreContexts, Words}
-use Rattle.ffv1_words.specs.Order.{NamesFlag, NamesNumber, bit_number, coder_number, contexts_word}
+use Rattle.ffv1_words.specs.CommandLine.{AreContainers, AreContexts, Words}
+use Rattle.ffv1_words.specs.Order.{NamesFlag, NamesNumber, bit_number, coder_number, container_word, contexts_word}
 use Rattle.ffv1_words.specs.declared.order.CoderChoice.{CoderChoice}
 use Rattle.ffv1_words.specs.declared.order.CoderChoice.TheVariants as coder
+use Rattle.ffv1_words.specs.declared.order.ContainerChoice.{ContainerChoice}
+use Rattle.ffv1_words.specs.declared.order.ContainerChoice.TheVariants as container
 use Rattle.ffv1_words.proofs.TakenRows.{either}
 
 -- ---- numbers
@@ -89,18 +91,32 @@ flag_named rows id t is passes = elim (either (bytes_eq t (codes "true")) (bytes
   | inr unset ↦ (false, is ∙ ap Some (is_text t (codes "false") unset))
 ]
 
-among : (words : Words) (t : Text) → AreContexts words → accepts false (parser.Names words) t ≡ true
-    → (bytes_eq (codes "small") t || (bytes_eq (codes "large") t || false)) ≡ true
-among words t are passes =
+among : (words : Words) (texts : List Text) (t : Text) → map (λ (w : Bor Text). w.now) words.now ≡ texts → accepts false (parser.Names words) t ≡ true
+    → list_any (λ (x : Text). bytes_eq x t) texts ≡ true
+among words texts t are passes =
     let mapped = list_any-map (λ (x : Text). bytes_eq x t) (λ (w : Bor Text). w.now) words.now in
     sym (ap (list_any (λ (x : Text). bytes_eq x t)) are) ∙ sym mapped ∙ passes
 
 pub contexts_named : (rows : List Row) (id : Text) (words : Words) (t : Text) → AreContexts words → first_of id rows ≡ Some t → accepts false (parser.Names words) t ≡ true
     → (b : Bool) × (first_of id rows ≡ Some (contexts_word b))
-contexts_named rows id words t are is passes = elim (either (bytes_eq (codes "small") t) (bytes_eq (codes "large") t || false) (among words t are passes)) [
+contexts_named rows id words t are is passes = elim (either (bytes_eq (codes "small") t) (bytes_eq (codes "large") t || false) (among words (codes "small" ∷ codes "large" ∷ []) t are passes)) [
   | inl small ↦ (false, is ∙ ap Some (sym (is_text (codes "small") t small)))
   | inr more ↦ elim (either (bytes_eq (codes "large") t) false more) [
     | inl large ↦ (true, is ∙ ap Some (sym (is_text (codes "large") t large)))
     | inr none ↦ absurd (true≢false (sym none))
   ]
 ]
+
+pub container_named : (rows : List Row) (id : Text) (words : Words) (t : Text) → AreContainers words → first_of id rows ≡ Some t → accepts false (parser.Names words) t ≡ true
+    → (c : ContainerChoice) × (first_of id rows ≡ Some (container_word c))
+container_named rows id words t are is passes =
+    elim (either (bytes_eq (codes "auto") t) (bytes_eq (codes "avi") t || (bytes_eq (codes "mkv") t || false)) (among words (codes "auto" ∷ codes "avi" ∷ codes "mkv" ∷ []) t are passes)) [
+      | inl auto ↦ (container.Auto, is ∙ ap Some (sym (is_text (codes "auto") t auto)))
+      | inr more ↦ elim (either (bytes_eq (codes "avi") t) (bytes_eq (codes "mkv") t || false) more) [
+        | inl avi ↦ (container.Avi, is ∙ ap Some (sym (is_text (codes "avi") t avi)))
+        | inr last ↦ elim (either (bytes_eq (codes "mkv") t) false last) [
+          | inl mkv ↦ (container.Matroska, is ∙ ap Some (sym (is_text (codes "mkv") t mkv)))
+          | inr none ↦ absurd (true≢false (sym none))
+        ]
+      ]
+    ]

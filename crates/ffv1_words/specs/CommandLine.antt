@@ -58,6 +58,10 @@ abbrev pub with_pace : App → App
 with_pace a = with_rule (with_rule a (number_rule (codes "rate") 1 4294967295 (codes "25")))
     (number_rule (codes "scale") 1 4294967295 (codes "1"))
 
+-- what holds the frames
+abbrev pub with_container : Words → App → App
+with_container words a = with_rule a (word_rule (codes "container") words (codes "auto"))
+
 -- how much is read is told
 abbrev pub with_progress : App → App
 with_progress a = with_rule a (flag_rule (codes "progress"))
@@ -66,10 +70,10 @@ with_progress a = with_rule a (flag_rule (codes "progress"))
 abbrev pub with_no_clobber : App → App
 with_no_clobber a = with_rule a (flag_rule (codes "no-clobber"))
 
-abbrev pub pack_app : Words → App
-pack_app words =
-    with_progress (with_no_clobber
-    (with_pace (with_slices (with_model words (two_files (codes "pack"))))))
+abbrev pub pack_app : Words → Words → App
+pack_app contexts containers =
+    with_progress (with_no_clobber (with_container containers
+    (with_pace (with_slices (with_model contexts (two_files (codes "pack")))))))
 
 abbrev pub unpack_app : App
 unpack_app = with_progress (with_no_clobber (two_files (codes "unpack")))
@@ -92,20 +96,27 @@ top_app = record (new_app (codes "ffv1")) {
 }
 
 -- the program with the commands that make a file
-abbrev pub files_app : Words → App
-files_app words =
-    with_subcommand (with_subcommand top_app (pack_app words).top) unpack_app.top
+abbrev pub files_app : Words → Words → App
+files_app contexts containers =
+    with_subcommand (with_subcommand top_app (pack_app contexts containers).top) unpack_app.top
 
--- the whole line, by the words that `--contexts` takes
-abbrev pub line_app : Words → App
-line_app words =
-    with_subcommand (with_subcommand (with_subcommand (files_app words) check_app.top) show_app.top)
+-- the whole line, by the words that `--contexts` and `--container` take
+abbrev pub line_app : Words → Words → App
+line_app contexts containers =
+    with_subcommand (with_subcommand (with_subcommand (files_app contexts containers)
+    check_app.top) show_app.top)
     (one_file (codes "trial")).top
 
 -- the words that `--contexts` takes
 abbrev pub AreContexts : Words → Type 0
 AreContexts words = map (λ w. w.now) words.now ≡ codes "small" ∷ codes "large" ∷ []
 
--- a fact of the whole line, wherever the words of `--contexts` lie
+-- the words that `--container` takes
+abbrev pub AreContainers : Words → Type 0
+AreContainers words =
+    map (λ w. w.now) words.now ≡ codes "auto" ∷ codes "avi" ∷ codes "mkv" ∷ []
+
+-- a fact of the whole line, wherever the words of `--contexts` and `--container` lie
 abbrev pub OnLine : (App → Type 0) → Type 0
-OnLine P = (contexts : Words) × AreContexts contexts × P (line_app contexts)
+OnLine P = (contexts containers : Words) × AreContexts contexts × AreContainers containers
+    × P (line_app contexts containers)

@@ -1,6 +1,7 @@
 -- What an order names of a command line, and when its files are in conflict.
-use Rattle.std.specs.Prelude.{◌≡◌, ◌≤◌, ◌⊎◌, ◌||◌, ◌&&◌, ℕ, Bool, true, false, not, codes}
+use Rattle.std.specs.Prelude.{◌≡◌, ◌≤◌, ◌⊎◌, ◌||◌, ◌&&◌, ◌==◌, ℕ, Bool, true, false, not, codes}
 use Rattle.std.specs.Prelude.{List, Option, Some, None}
+use Rattle.std.specs.List.{ends_with}
 use Rattle.std.specs.Str.{bytes_eq}
 use Rattle.std.specs.Str.Parse.{IsNumeral, digits_value, without_leading_plus}
 use Rattle.clap.specs.Words.{App, HasKind, Row, Text, fault_of, first_of, one_of, subcommand_of}
@@ -10,6 +11,8 @@ use Rattle.clap.specs.declared.error.kind.ErrorKind.TheVariants as kind
 use Rattle.ffv1_words.specs.declared.order.Choice.{Choice}
 use Rattle.ffv1_words.specs.declared.order.CoderChoice.{CoderChoice}
 use Rattle.ffv1_words.specs.declared.order.CoderChoice.TheVariants as coder
+use Rattle.ffv1_words.specs.declared.order.ContainerChoice.{ContainerChoice}
+use Rattle.ffv1_words.specs.declared.order.ContainerChoice.TheVariants as container
 use Rattle.ffv1_words.specs.declared.order.Order.{Order}
 use Rattle.ffv1_words.specs.declared.order.Order.TheVariants as order
 
@@ -43,6 +46,11 @@ abbrev pub contexts_word : Bool → Text
 contexts_word false = codes "small"
 contexts_word true = codes "large"
 
+abbrev pub container_word : ContainerChoice → Text
+container_word container.Auto = codes "auto"
+container_word container.Avi = codes "avi"
+container_word container.Matroska = codes "mkv"
+
 pub record NamesChoice (rows : List Row) (c : Choice) : Type 0 where
   pub coder : NamesNumber rows (codes "coder") 1 2 (coder_number c.coder)
   pub contexts : first_of (codes "contexts") rows ≡ Some (contexts_word c.large)
@@ -57,8 +65,9 @@ pub record NamesChoice (rows : List Row) (c : Choice) : Type 0 where
 -- the order is what the line's subcommand and its rows name
 abbrev pub Names : Order → Option (Text × List Row) → Type 0
 Names o None = ⊥
-Names (order.Pack i w c no_clobber progress) (Some p) = (p.0 ≡ codes "pack")
+Names (order.Pack i w c holder no_clobber progress) (Some p) = (p.0 ≡ codes "pack")
     × NamesFile p.1 (codes "IN") i.now × NamesFile p.1 (codes "OUT") w.now × NamesChoice p.1 c
+    × (first_of (codes "container") p.1 ≡ Some (container_word holder))
     × NamesFlag p.1 (codes "no-clobber") no_clobber × NamesFlag p.1 (codes "progress") progress
 Names (order.Unpack i w no_clobber progress) (Some p) = (p.0 ≡ codes "unpack")
     × NamesFile p.1 (codes "IN") i.now × NamesFile p.1 (codes "OUT") w.now
@@ -84,6 +93,16 @@ is_standard_output path = bytes_eq path (codes "/dev/stdout")
 abbrev pub is_hyphen : Text → Bool
 is_hyphen path = bytes_eq path (codes "-")
 
+-- a name that ends in .mkv
+abbrev pub is_matroska_name : Text → Bool
+is_matroska_name path = ends_with (λ a b. a == b) path (codes ".mkv")
+
+-- what holds the frames of an output of this name
+abbrev pub is_matroska : ContainerChoice → Text → Bool
+is_matroska container.Auto path = is_matroska_name path
+is_matroska container.Avi path = false
+is_matroska container.Matroska path = true
+
 -- what is written would be read, or stand among what is printed; with a hyphen for both nothing is
 -- read that is written
 abbrev pub is_conflict : Text → Text → Bool
@@ -91,7 +110,7 @@ is_conflict input output =
     (bytes_eq input output && not (is_hyphen output)) || is_standard_output output
 
 abbrev pub is_in_conflict : Order → Bool
-is_in_conflict (order.Pack i w c no_clobber progress) = is_conflict i.now w.now
+is_in_conflict (order.Pack i w c holder no_clobber progress) = is_conflict i.now w.now
 is_in_conflict (order.Unpack i w no_clobber progress) = is_conflict i.now w.now
 is_in_conflict (order.Check i place progress) = false
 is_in_conflict (order.Show i cost) = false

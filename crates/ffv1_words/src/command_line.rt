@@ -6,8 +6,9 @@ ghost use Rattle.clap.specs.declared.builder.command.Command.TheViews.{out-Comma
 ghost use Rattle.clap.specs.declared.error.kind.ErrorKind.TheVariants as kind;
 ghost use Rattle.ffv1_words.specs.CommandLine.{file_rule, flag_rule, number_rule, word_rule};
 ghost use Rattle.ffv1_words.specs.CommandLine.{one_file, two_files, with_model, with_no_clobber};
-ghost use Rattle.ffv1_words.specs.CommandLine.{with_pace, with_progress, with_slices, pack_app, unpack_app, check_app};
-ghost use Rattle.ffv1_words.specs.CommandLine.{show_app, top_app, files_app, line_app, AreContexts};
+ghost use Rattle.ffv1_words.specs.CommandLine.{with_container, with_pace, with_progress, with_slices};
+ghost use Rattle.ffv1_words.specs.CommandLine.{pack_app, unpack_app, check_app, show_app, top_app};
+ghost use Rattle.ffv1_words.specs.CommandLine.{files_app, line_app, AreContainers, AreContexts};
 ghost use Rattle.ffv1_words.specs.CommandLine.{OnLine};
 ghost use Rattle.ffv1_words.specs.Order.{IsOrder, IsRefused, IsRefusedIfTaken, is_in_conflict};
 
@@ -18,6 +19,8 @@ use clap::{Arg, ArgAction, Command, Error, value_parser};
 use std::alloc::{AllocError, Global};
 
 static CONTEXTS: [&str; 2] = ["small", "large"];
+
+static CONTAINERS: [&str; 3] = ["auto", "avi", "mkv"];
 
 const NAME: &str = "ffv1";
 
@@ -63,16 +66,30 @@ fn number_arg<'a>(
         .help(help)
 }
 
+fn word_arg<'a>(
+    alloc: Global,
+    id: &'a str,
+    words: &'a [&'a str],
+    text: &'a str,
+    help: &'a str,
+) -> Arg<'a>
+    ensures rule { rule_of result ≡ word_rule id.entry.now words.entry text.entry.now }
+    ensures own { result.global ≡ false }
+{
+    Arg::new(alloc, id)
+        .long(id)
+        .value_parser(words)
+        .default_value(text)
+        .help(help)
+}
+
 fn contexts_arg<'a>(alloc: Global, contexts: &'a [&'a str]) -> Arg<'a>
     ensures rule { rule_of result
         ≡ word_rule (codes "contexts") contexts.entry (codes "small") }
     ensures own { result.global ≡ false }
 {
-    Arg::new(alloc, "contexts")
-        .long("contexts")
-        .value_parser(contexts)
-        .default_value("small")
-        .help("666 contexts, or 16638, which no other program reads")
+    let help = "666 contexts, or 16638, which no other program reads";
+    word_arg(alloc, "contexts", contexts, "small", help)
 }
 
 fn progress_arg<'a>(alloc: Global) -> Arg<'a>
@@ -167,17 +184,36 @@ fn add_pace<'a>(alloc: Global, command: Command<'a>) -> Result<Command<'a>, Allo
         .arg(number_arg(alloc, "scale", 1, u32::MAX, "1", scale))
 }
 
-fn pack_command<'a>(alloc: Global, contexts: &'a [&'a str]) -> Result<Command<'a>, AllocError>
+fn add_container<'a>(
+    alloc: Global,
+    containers: &'a [&'a str],
+    command: Command<'a>,
+) -> Result<Command<'a>, AllocError>
+    requires { (fields_of command).has_globals ≡ false }
     ensures { IfOk result (λ c.
-        (app_of c ≡ pack_app contexts.entry) × ((fields_of c).has_globals ≡ false)) }
+        (app_of c ≡ with_container containers.entry (app_of command.entry))
+        × ((fields_of c).has_globals ≡ false)) }
 {
-    let about = "Code a video, YUV4MPEG2 or binary PPM, as FFV1 in AVI";
+    let help = "AVI, Matroska, or auto: Matroska where OUT ends in .mkv, else AVI";
+    command.arg(word_arg(alloc, "container", containers, "auto", help))
+}
+
+fn pack_command<'a>(
+    alloc: Global,
+    contexts: &'a [&'a str],
+    containers: &'a [&'a str],
+) -> Result<Command<'a>, AllocError>
+    ensures { IfOk result (λ c. (app_of c ≡ pack_app contexts.entry containers.entry)
+        × ((fields_of c).has_globals ≡ false)) }
+{
+    let about = "Code a video, YUV4MPEG2 or binary PPM, as FFV1 in AVI or Matroska";
     let input = "The video, or - for standard input: PPM where its first byte is P, else YUV4MPEG2";
-    let output = "The AVI file, or - for standard output: written anew as soon as it has a byte";
+    let output = "The file, or - for standard output: written anew as soon as it has a byte";
     let command = two_files_command(alloc, "pack", about, input, output)?;
     let command = add_model(alloc, contexts, command)?;
     let command = add_slices(alloc, command)?;
     let command = add_pace(alloc, command)?;
+    let command = add_container(alloc, containers, command)?;
     add_making(alloc, command)
 }
 
@@ -231,27 +267,35 @@ fn top_command<'a>(alloc: Global) -> Command<'a>
     new_command(
         alloc,
         NAME,
-        "Lossless video for archives: FFV1 version 3 in AVI",
+        "Lossless video for archives: FFV1 version 3 in AVI or Matroska",
     )
     .version(VERSION)
     .subcommand_required(true)
     .arg_required_else_help(true)
 }
 
-fn files_command<'a>(alloc: Global, contexts: &'a [&'a str]) -> Result<Command<'a>, AllocError>
-    ensures { IfOk result (λ c.
-        (app_of c ≡ files_app contexts.entry) × ((fields_of c).has_globals ≡ false)) }
+fn files_command<'a>(
+    alloc: Global,
+    contexts: &'a [&'a str],
+    containers: &'a [&'a str],
+) -> Result<Command<'a>, AllocError>
+    ensures { IfOk result (λ c. (app_of c ≡ files_app contexts.entry containers.entry)
+        × ((fields_of c).has_globals ≡ false)) }
 {
     top_command(alloc)
-        .subcommand(pack_command(alloc, contexts)?)?
+        .subcommand(pack_command(alloc, contexts, containers)?)?
         .subcommand(unpack_command(alloc)?)
 }
 
-fn line_command<'a>(alloc: Global, contexts: &'a [&'a str]) -> Result<Command<'a>, AllocError>
-    ensures { IfOk result (λ c.
-        (app_of c ≡ line_app contexts.entry) × ((fields_of c).has_globals ≡ false)) }
+fn line_command<'a>(
+    alloc: Global,
+    contexts: &'a [&'a str],
+    containers: &'a [&'a str],
+) -> Result<Command<'a>, AllocError>
+    ensures { IfOk result (λ c. (app_of c ≡ line_app contexts.entry containers.entry)
+        × ((fields_of c).has_globals ≡ false)) }
 {
-    files_command(alloc, contexts)?
+    files_command(alloc, contexts, containers)?
         .subcommand(check_command(alloc)?)?
         .subcommand(show_command(alloc)?)?
         .subcommand(trial_command(alloc)?)
@@ -260,7 +304,7 @@ fn line_command<'a>(alloc: Global, contexts: &'a [&'a str]) -> Result<Command<'a
 fn refusal(alloc: Global, kind: ErrorKind, why: &str) -> Result<Error, AllocError>
     ensures { IfOk result (λ e. kind_of e ≡ kind) }
 {
-    line_command(alloc, CONTEXTS.as_slice())?.error(kind, why)
+    line_command(alloc, CONTEXTS.as_slice(), CONTAINERS.as_slice())?.error(kind, why)
 }
 
 fn without_conflict<'a>(alloc: Global, order: Order<'a>) -> Result<Order<'a>, Error>
@@ -274,21 +318,23 @@ fn without_conflict<'a>(alloc: Global, order: Order<'a>) -> Result<Order<'a>, Er
     }
 }
 
-/// `words`, by a line whose `--contexts` takes these words.
+/// `words`, by a line whose `--contexts` and `--container` take these words.
 fn read<'a>(
     alloc: Global,
     contexts: &'a [&'a str],
+    containers: &'a [&'a str],
     words: &'a [&'a str],
 ) -> Result<Order<'a>, Error>
-    requires { AreContexts contexts }
-    ensures ok { IfOk result (IsOrder (line_app contexts.entry)
+    requires contexts { AreContexts contexts }
+    requires containers { AreContainers containers }
+    ensures ok { IfOk result (IsOrder (line_app contexts.entry containers.entry)
         (map (λ w. w.now) words.entry.now)) }
-    ensures err { IfErr result (IsRefused (line_app contexts.entry)
+    ensures err { IfErr result (IsRefused (line_app contexts.entry containers.entry)
         (map (λ w. w.now) words.entry.now)) }
-    ensures taken { IfErr result (IsRefusedIfTaken (line_app contexts.entry)
+    ensures taken { IfErr result (IsRefusedIfTaken (line_app contexts.entry containers.entry)
         (map (λ w. w.now) words.entry.now)) }
 {
-    let matches = line_command(alloc, contexts)?.try_get_matches_from(words)?;
+    let matches = line_command(alloc, contexts, containers)?.try_get_matches_from(words)?;
     if let Some((name, rows)) = matches.subcommand() {
         if let Some(order) = order_of(name, rows) {
             return without_conflict(alloc, order);
@@ -314,5 +360,5 @@ pub fn words<'a>(alloc: Global, words: &'a [&'a str]) -> Result<Order<'a>, Error
     ensures taken { IfErr result (λ e.
         OnLine (λ line. IsRefusedIfTaken line (map (λ w. w.now) words.entry.now) e)) }
 {
-    read(alloc, CONTEXTS.as_slice(), words)
+    read(alloc, CONTEXTS.as_slice(), CONTAINERS.as_slice(), words)
 }

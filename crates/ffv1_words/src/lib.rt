@@ -2,7 +2,7 @@
 //! The words of a command line, read as an order: what the program `ffv1` is asked for.
 //!
 //! `words` reads a line as an `Order`, by `clap`'s meaning of it. An `Order` has the paths and
-//! switches of one command, and `Choice` how `pack` codes. The test `trials::example` of
+//! switches of one command, `Choice` how `pack` codes, and `ContainerChoice` what it writes. The test `trials::example` of
 //! `ffv1_tests` runs this:
 //!
 //! ```text
@@ -15,4 +15,4 @@ mod matched;
 mod order;
 
 pub use command_line::{VERSION, words};
-pub use order::{Choice, CoderChoice, Order, is_hyphen};
+pub use order::{Choice, CoderChoice, ContainerChoice, Order, is_hyphen};

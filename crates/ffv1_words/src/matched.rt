@@ -5,10 +5,11 @@ ghost use Rattle.std.specs.Option.{option_map};
 ghost use Rattle.clap.specs.Words.{found_of, first_of, rows_of};
 ghost use Rattle.ffv1_words.specs.declared.order.Choice.{Choice};
 ghost use Rattle.ffv1_words.specs.declared.order.CoderChoice.{CoderChoice};
+ghost use Rattle.ffv1_words.specs.declared.order.ContainerChoice.{ContainerChoice};
 ghost use Rattle.ffv1_words.specs.Order.{Names, NamesChoice, NamesFlag, NamesNone, NamesNumber};
-ghost use Rattle.ffv1_words.specs.Order.{bit_number, coder_number, contexts_word};
+ghost use Rattle.ffv1_words.specs.Order.{bit_number, coder_number, container_word, contexts_word};
 
-use crate::order::{Choice, CoderChoice, Order};
+use crate::order::{Choice, CoderChoice, ContainerChoice, Order};
 use clap::ArgMatches;
 
 fn path<'a>(rows: &ArgMatches<'a>, id: &str) -> Option<&'a str>
@@ -82,6 +83,24 @@ fn large(rows: &ArgMatches<'_>) -> Option<bool>
     }
 }
 
+fn container(rows: &ArgMatches<'_>) -> Option<ContainerChoice>
+    ensures some { IfSome result (λ c.
+        first_of (codes "container") (rows_of (found_of rows.now)) ≡ Some (container_word c)) }
+    ensures none { IsNone result → (c : ContainerChoice)
+        → first_of (codes "container") (rows_of (found_of rows.now)) ≡ Some (container_word c) → ⊥ }
+{
+    let word = path(rows, "container")?;
+    if word == "auto" {
+        Some(ContainerChoice::Auto)
+    } else if word == "avi" {
+        Some(ContainerChoice::Avi)
+    } else if word == "mkv" {
+        Some(ContainerChoice::Matroska)
+    } else {
+        None
+    }
+}
+
 fn choice(matches: &ArgMatches<'_>) -> Option<Choice>
     ensures some { IfSome result (λ c. NamesChoice (rows_of (found_of matches.now)) c) }
     ensures none { IsNone result
@@ -113,12 +132,14 @@ fn pack_order<'a>(rows: &ArgMatches<'a>) -> Option<Order<'a>>
     let input = path(rows, "IN")?;
     let output = path(rows, "OUT")?;
     let choice = choice(rows)?;
+    let container = container(rows)?;
     let no_clobber = flag(rows, "no-clobber")?;
     let progress = flag(rows, "progress")?;
     Some(Order::Pack {
         input,
         output,
         choice,
+        container,
         no_clobber,
         progress,
     })

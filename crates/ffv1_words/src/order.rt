@@ -2,7 +2,7 @@
 
 ghost use Rattle.std.specs.Prelude.{◌≡◌, is_some};
 ghost use Rattle.ffv1_words.specs.Order.{is_conflict, is_hyphen, is_in_conflict};
-ghost use Rattle.ffv1_words.specs.Order.{is_standard_output};
+ghost use Rattle.ffv1_words.specs.Order.{is_matroska, is_matroska_name, is_standard_output};
 
 /// Which state transition table `pack` codes with.
 #[derive(Clone, Copy, Debug, PartialEq, Eq)]
@@ -11,6 +11,17 @@ pub enum CoderChoice {
     Standard,
     /// A table that the configuration record carries, whose deltas are all 0.
     Carried,
+}
+
+/// Which container `pack` writes.
+#[derive(Clone, Copy, Debug, PartialEq, Eq)]
+pub enum ContainerChoice {
+    /// Matroska where the name of the output ends in `.mkv`, else AVI.
+    Auto,
+    /// AVI.
+    Avi,
+    /// Matroska.
+    Matroska,
 }
 
 /// How `pack` codes.
@@ -35,14 +46,16 @@ pub struct Choice {
 /// What a command line asks for.
 #[derive(Clone, Copy, Debug, PartialEq, Eq)]
 pub enum Order<'a> {
-    /// A video is coded into an AVI file.
+    /// A video is coded into a file, AVI or Matroska.
     Pack {
         /// The path of the video.
         input: &'a str,
-        /// The path of the AVI file.
+        /// The path of the file.
         output: &'a str,
         /// How it is coded.
         choice: Choice,
+        /// What holds its frames.
+        container: ContainerChoice,
         /// Whether an output that exists is refused.
         no_clobber: bool,
         /// Whether it is told how much of the video is read.
@@ -94,6 +107,26 @@ pub fn is_hyphen(path: &str) -> bool
     ensures { result ≡ is_hyphen path.now }
 {
     path == "-"
+}
+
+fn is_matroska_name(path: &str) -> bool
+    ensures { result ≡ is_matroska_name path.now }
+{
+    path.as_bytes().ends_with(b".mkv")
+}
+
+impl ContainerChoice {
+    /// Whether an output of this name is Matroska: where that is chosen, or where neither is and the
+    /// name ends in `.mkv`. Standard output, `-`, is AVI where neither is chosen.
+    pub fn is_matroska(self, output: &str) -> bool
+        ensures { result ≡ is_matroska self output.now }
+    {
+        match self {
+            ContainerChoice::Auto => is_matroska_name(output),
+            ContainerChoice::Avi => false,
+            ContainerChoice::Matroska => true,
+        }
+    }
 }
 
 fn conflict_of(input: &str, output: &str) -> Option<&'static str>

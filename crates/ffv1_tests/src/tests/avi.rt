@@ -1,9 +1,9 @@
 //! Files of AVI, read and written.
 
-mod built;
 mod example;
 mod failing;
 mod files;
 mod large;
+mod rates;
 pub(super) mod riffs;
 mod scarce;

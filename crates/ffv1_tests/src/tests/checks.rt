@@ -1,54 +1,22 @@
 //! What `check` writes of files over memory, and its faults.
 
-use crate::tests::made;
-use ffv1_avi::write_avi;
+use super::{made, shows};
 use ffv1_doubles::Scarce;
 use ffv1_engine::{Fault, Profile, check};
-use ffv1_reads::FileHead;
-use ffv1_record::{Checked, RecordFault, write_record};
 use ffv1_wire::{FromRead, ToWrite};
-use std::alloc::Allocator;
+use std::alloc::Global;
 use std::process::Abort;
 use std::test::Fail;
 
-/// Mono pictures of one line in so many columns, a sample in each, without parity.
-fn mono<A: Allocator + Copy>(alloc: A, columns: u32) -> Result<Checked<A>, RecordFault> {
+/// A file of so many of these frames, of mono pictures of one line in so many columns, a sample in
+/// each, without parity.
+fn file_of(alloc: Global, columns: u32, frame: &[u8], count: usize) -> Result<Vec<u8>, Fault> {
     let config = made::mono(alloc, columns, 1, columns, false)?;
-    config.check()
-}
-
-/// A file of so many of these frames.
-fn file_of<A: Allocator + Copy>(
-    alloc: A,
-    columns: u32,
-    frame: &[u8],
-    count: usize,
-) -> Result<Vec<u8, A>, Fault> {
-    let head = FileHead {
-        width: columns,
-        height: 1,
-        rate: 25,
-        scale: 1,
-        config_record: write_record(alloc, &mono(alloc, columns)?)?,
-    };
-    let mut frames = Vec::new(alloc);
-    for _frame in 0..count {
-        frames.push(Vec::from_slice(alloc, frame)?)?;
-    }
-    let mut out = ToWrite::new(Vec::new(alloc));
-    if columns > 8192 {
-        return Err(Fault::Size);
-    }
-    write_avi(&mut out, &head, frames.as_slice())?;
-    Ok(out.into_inner())
+    shows::file_of(alloc, config, 25, 1, frame, count)
 }
 
 /// What a check of a file answers, and writes.
-fn checked<A: Allocator + Copy>(
-    alloc: A,
-    file: &[u8],
-    place: bool,
-) -> (Result<(), Fault>, Vec<u8, A>) {
+fn checked(alloc: Global, file: &[u8], place: bool) -> (Result<(), Fault>, Vec<u8>) {
     let mut output = ToWrite::new(Vec::new(alloc));
     let answer = check(
         alloc,
@@ -61,9 +29,9 @@ fn checked<A: Allocator + Copy>(
 }
 
 /// A check of so many frames answers so, and writes this.
-fn comes_to<A: Allocator + Copy>(
+fn comes_to(
     rt: &impl Abort,
-    alloc: A,
+    alloc: Global,
     frames: (u32, &[u8], usize),
     place: bool,
     answer: Result<(), Fault>,
@@ -102,9 +70,9 @@ fn no_frame(rt: HostRuntime) -> Result<(), Fail> {
     Ok(())
 }
 
-const MISPLACED: &[u8] = b"\xFE\x7B\x00\x00\x02\xFE\x7B\x00\x00\x02";
+static MISPLACED: &[u8] = b"\xFE\x7B\x00\x00\x02\xFE\x7B\x00\x00\x02";
 
-const PLACE: &[u8] = b"fault frame 0 slice 1 plane 0 line 0 x 0 decisions 11\n";
+static PLACE: &[u8] = b"fault frame 0 slice 1 plane 0 line 0 x 0 decisions 11\n";
 
 #[test]
 fn the_place_of_a_fault(rt: HostRuntime) -> Result<(), Fail> {

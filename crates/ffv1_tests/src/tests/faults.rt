@@ -1,231 +1,222 @@
 //! The texts of faults, of each crate all of them: the number and the name that stand for a fault on
 //! standard error.
 
+use super::made::shows;
 use ffv1_codec::CodecFault;
 use ffv1_engine::Fault;
 use ffv1_reads::FileFault;
 use ffv1_record::RecordFault;
 use ffv1_slice::SliceFault;
-use std::test::Fail;
+use std::alloc::Global;
+use std::fmt::Display;
+use std::process::Abort;
+
+/// Each fault has its text.
+fn are_shown<T: Display>(rt: &impl Abort, alloc: Global, rows: &[(T, &str)]) {
+    for (fault, text) in rows {
+        assert!(rt; shows(alloc, fault, text), "{text}");
+    }
+}
+
+/// Those of the engine.
+static ENGINE: [(Fault, &str); 59] = [
+    (Fault::StateTable, "1 StateTable"),
+    (Fault::OutOfMemory, "2 OutOfMemory"),
+    (Fault::BadStart, "3 BadStart"),
+    (Fault::SymbolTooLong, "4 SymbolTooLong"),
+    (Fault::Runs, "5 Runs"),
+    (Fault::Contexts, "6 Contexts"),
+    (Fault::Colour, "7 Colour"),
+    (Fault::Size, "10 Size"),
+    (Fault::Grid, "11 Grid"),
+    (Fault::ChromaEdge, "12 ChromaEdge"),
+    (Fault::Subsampling, "13 Subsampling"),
+    (Fault::Sets, "14 Sets"),
+    (Fault::Short, "15 Short"),
+    (Fault::Parity, "16 Parity"),
+    (Fault::Version, "17 Version"),
+    (Fault::MicroVersion, "18 MicroVersion"),
+    (Fault::Coder, "19 Coder"),
+    (Fault::ColourSpace, "20 ColourSpace"),
+    (Fault::Depth, "21 Depth"),
+    (Fault::CodedStates, "22 CodedStates"),
+    (Fault::Ec, "23 Ec"),
+    (Fault::Intra, "24 Intra"),
+    (Fault::ExtraPlane, "25 ExtraPlane"),
+    (Fault::NotKey, "30 NotKey"),
+    (Fault::Place, "31 Place"),
+    (Fault::SetIndex, "32 SetIndex"),
+    (Fault::Structure, "33 Structure"),
+    (Fault::Aspect, "34 Aspect"),
+    (Fault::Footer, "35 Footer"),
+    (Fault::Leftover, "36 Leftover"),
+    (Fault::SliceParity, "37 SliceParity"),
+    (Fault::SliceStatus, "38 SliceStatus"),
+    (Fault::SliceTooLong, "40 SliceTooLong"),
+    (Fault::InfoDiffers, "41 InfoDiffers"),
+    (Fault::Sink, "42 Sink"),
+    (Fault::NotAvi, "50 NotAvi"),
+    (Fault::NoFfv1, "51 NoFfv1"),
+    (Fault::Truncated, "52 Truncated"),
+    (Fault::ChunkTooLong, "53 ChunkTooLong"),
+    (Fault::EmptyFrame, "54 EmptyFrame"),
+    (Fault::TooLarge, "55 TooLarge"),
+    (Fault::Read, "56 Read"),
+    (Fault::Write, "57 Write"),
+    (Fault::Header, "60 Header"),
+    (Fault::Tag, "61 Tag"),
+    (Fault::Unsupported, "62 Unsupported"),
+    (Fault::FrameLine, "63 FrameLine"),
+    (Fault::FrameTruncated, "64 FrameTruncated"),
+    (Fault::NoFrames, "70 NoFrames"),
+    (Fault::FormatChanged, "71 FormatChanged"),
+    (Fault::NoY4mName, "72 NoY4mName"),
+    (Fault::NoPpm, "73 NoPpm"),
+    (Fault::NotMatroska, "80 NotMatroska"),
+    (Fault::BadElement, "81 BadElement"),
+    (Fault::NoTracks, "82 NoTracks"),
+    (Fault::Encoded, "83 Encoded"),
+    (Fault::Laced, "84 Laced"),
+    (Fault::Checksum, "85 Checksum"),
+    (Fault::Rate, "86 Rate"),
+];
+
+/// Those of the range coder.
+static RANGE: [(ffv1_range::Fault, &str); 4] = [
+    (ffv1_range::Fault::StateTable, "1 StateTable"),
+    (ffv1_range::Fault::OutOfMemory, "2 OutOfMemory"),
+    (ffv1_range::Fault::BadStart, "3 BadStart"),
+    (ffv1_range::Fault::SymbolTooLong, "4 SymbolTooLong"),
+];
+
+/// Those of planes.
+static PLANES: [(ffv1_plane::Fault, &str); 3] = [
+    (ffv1_plane::Fault::OutOfMemory, "2 OutOfMemory"),
+    (ffv1_plane::Fault::Runs, "5 Runs"),
+    (ffv1_plane::Fault::Contexts, "6 Contexts"),
+];
+
+/// Those of the record.
+static RECORD: [(RecordFault, &str); 22] = [
+    (RecordFault::StateTable, "1 StateTable"),
+    (RecordFault::OutOfMemory, "2 OutOfMemory"),
+    (RecordFault::BadStart, "3 BadStart"),
+    (RecordFault::SymbolTooLong, "4 SymbolTooLong"),
+    (RecordFault::Runs, "5 Runs"),
+    (RecordFault::Contexts, "6 Contexts"),
+    (RecordFault::Size, "10 Size"),
+    (RecordFault::Grid, "11 Grid"),
+    (RecordFault::ChromaEdge, "12 ChromaEdge"),
+    (RecordFault::Subsampling, "13 Subsampling"),
+    (RecordFault::Sets, "14 Sets"),
+    (RecordFault::Short, "15 Short"),
+    (RecordFault::Parity, "16 Parity"),
+    (RecordFault::Version, "17 Version"),
+    (RecordFault::MicroVersion, "18 MicroVersion"),
+    (RecordFault::Coder, "19 Coder"),
+    (RecordFault::ColourSpace, "20 ColourSpace"),
+    (RecordFault::Depth, "21 Depth"),
+    (RecordFault::CodedStates, "22 CodedStates"),
+    (RecordFault::Ec, "23 Ec"),
+    (RecordFault::Intra, "24 Intra"),
+    (RecordFault::ExtraPlane, "25 ExtraPlane"),
+];
+
+/// Those of files.
+static FILES: [(FileFault, &str); 16] = [
+    (FileFault::OutOfMemory, "2 OutOfMemory"),
+    (FileFault::NotAvi, "50 NotAvi"),
+    (FileFault::NoFfv1, "51 NoFfv1"),
+    (FileFault::Truncated, "52 Truncated"),
+    (FileFault::ChunkTooLong, "53 ChunkTooLong"),
+    (FileFault::EmptyFrame, "54 EmptyFrame"),
+    (FileFault::TooLarge, "55 TooLarge"),
+    (FileFault::Read, "56 Read"),
+    (FileFault::Write, "57 Write"),
+    (FileFault::NotMatroska, "80 NotMatroska"),
+    (FileFault::BadElement, "81 BadElement"),
+    (FileFault::NoTracks, "82 NoTracks"),
+    (FileFault::Encoded, "83 Encoded"),
+    (FileFault::Laced, "84 Laced"),
+    (FileFault::Checksum, "85 Checksum"),
+    (FileFault::Rate, "86 Rate"),
+];
+
+/// Those of texts of pictures.
+static Y4M: [(ffv1_y4m::Fault, &str); 9] = [
+    (ffv1_y4m::Fault::OutOfMemory, "2 OutOfMemory"),
+    (ffv1_y4m::Fault::Read, "56 Read"),
+    (ffv1_y4m::Fault::Write, "57 Write"),
+    (ffv1_y4m::Fault::Header, "60 Header"),
+    (ffv1_y4m::Fault::Tag, "61 Tag"),
+    (ffv1_y4m::Fault::Unsupported, "62 Unsupported"),
+    (ffv1_y4m::Fault::FrameLine, "63 FrameLine"),
+    (ffv1_y4m::Fault::FrameTruncated, "64 FrameTruncated"),
+    (ffv1_y4m::Fault::FormatChanged, "71 FormatChanged"),
+];
+
+/// Those of slices.
+static SLICES: [(SliceFault, &str); 12] = [
+    (SliceFault::OutOfMemory, "2 OutOfMemory"),
+    (SliceFault::SymbolTooLong, "4 SymbolTooLong"),
+    (SliceFault::NotKey, "30 NotKey"),
+    (SliceFault::Place, "31 Place"),
+    (SliceFault::SetIndex, "32 SetIndex"),
+    (SliceFault::Structure, "33 Structure"),
+    (SliceFault::Aspect, "34 Aspect"),
+    (SliceFault::Footer, "35 Footer"),
+    (SliceFault::Leftover, "36 Leftover"),
+    (SliceFault::SliceParity, "37 SliceParity"),
+    (SliceFault::SliceStatus, "38 SliceStatus"),
+    (SliceFault::SliceTooLong, "40 SliceTooLong"),
+];
+
+/// Those of the codec.
+static CODEC: [(CodecFault, &str); 16] = [
+    (CodecFault::OutOfMemory, "2 OutOfMemory"),
+    (CodecFault::BadStart, "3 BadStart"),
+    (CodecFault::SymbolTooLong, "4 SymbolTooLong"),
+    (CodecFault::Colour, "7 Colour"),
+    (CodecFault::NotKey, "30 NotKey"),
+    (CodecFault::Place, "31 Place"),
+    (CodecFault::SetIndex, "32 SetIndex"),
+    (CodecFault::Structure, "33 Structure"),
+    (CodecFault::Aspect, "34 Aspect"),
+    (CodecFault::Footer, "35 Footer"),
+    (CodecFault::Leftover, "36 Leftover"),
+    (CodecFault::SliceParity, "37 SliceParity"),
+    (CodecFault::SliceStatus, "38 SliceStatus"),
+    (CodecFault::SliceTooLong, "40 SliceTooLong"),
+    (CodecFault::InfoDiffers, "41 InfoDiffers"),
+    (CodecFault::Sink, "42 Sink"),
+];
 
 #[test]
-fn of_the_engine(rt: HostRuntime) -> Result<(), Fail> {
-    for (fault, text) in [
-        (Fault::StateTable, "1 StateTable"),
-        (Fault::OutOfMemory, "2 OutOfMemory"),
-        (Fault::BadStart, "3 BadStart"),
-        (Fault::SymbolTooLong, "4 SymbolTooLong"),
-        (Fault::Runs, "5 Runs"),
-        (Fault::Contexts, "6 Contexts"),
-        (Fault::Colour, "7 Colour"),
-        (Fault::Size, "10 Size"),
-        (Fault::Grid, "11 Grid"),
-        (Fault::ChromaEdge, "12 ChromaEdge"),
-        (Fault::Subsampling, "13 Subsampling"),
-        (Fault::Sets, "14 Sets"),
-        (Fault::Short, "15 Short"),
-        (Fault::Parity, "16 Parity"),
-        (Fault::Version, "17 Version"),
-        (Fault::MicroVersion, "18 MicroVersion"),
-        (Fault::Coder, "19 Coder"),
-        (Fault::ColourSpace, "20 ColourSpace"),
-        (Fault::Depth, "21 Depth"),
-        (Fault::CodedStates, "22 CodedStates"),
-        (Fault::Ec, "23 Ec"),
-        (Fault::Intra, "24 Intra"),
-        (Fault::ExtraPlane, "25 ExtraPlane"),
-        (Fault::NotKey, "30 NotKey"),
-        (Fault::Place, "31 Place"),
-        (Fault::SetIndex, "32 SetIndex"),
-        (Fault::Structure, "33 Structure"),
-        (Fault::Aspect, "34 Aspect"),
-        (Fault::Footer, "35 Footer"),
-        (Fault::Leftover, "36 Leftover"),
-        (Fault::SliceParity, "37 SliceParity"),
-        (Fault::SliceStatus, "38 SliceStatus"),
-        (Fault::SliceTooLong, "40 SliceTooLong"),
-        (Fault::InfoDiffers, "41 InfoDiffers"),
-        (Fault::Sink, "42 Sink"),
-        (Fault::NotAvi, "50 NotAvi"),
-        (Fault::NoFfv1, "51 NoFfv1"),
-        (Fault::Truncated, "52 Truncated"),
-        (Fault::ChunkTooLong, "53 ChunkTooLong"),
-        (Fault::EmptyFrame, "54 EmptyFrame"),
-        (Fault::TooLarge, "55 TooLarge"),
-        (Fault::Read, "56 Read"),
-        (Fault::Write, "57 Write"),
-        (Fault::Header, "60 Header"),
-        (Fault::Tag, "61 Tag"),
-        (Fault::Unsupported, "62 Unsupported"),
-        (Fault::FrameLine, "63 FrameLine"),
-        (Fault::FrameTruncated, "64 FrameTruncated"),
-        (Fault::NoFrames, "70 NoFrames"),
-        (Fault::FormatChanged, "71 FormatChanged"),
-        (Fault::NoY4mName, "72 NoY4mName"),
-        (Fault::NoPpm, "73 NoPpm"),
-        (Fault::NotMatroska, "80 NotMatroska"),
-        (Fault::BadElement, "81 BadElement"),
-        (Fault::NoTracks, "82 NoTracks"),
-        (Fault::Encoded, "83 Encoded"),
-        (Fault::Laced, "84 Laced"),
-        (Fault::Checksum, "85 Checksum"),
-        (Fault::Rate, "86 Rate"),
-    ] {
-        assert_eq!(rt; fault.to_string(rt.alloc())?.as_str(), text);
-    }
-    Ok(())
+fn of_commands(rt: HostRuntime) {
+    are_shown(&rt, rt.alloc(), &ENGINE);
+    are_shown(&rt, rt.alloc(), &FILES);
+    are_shown(&rt, rt.alloc(), &Y4M);
 }
 
 #[test]
-fn of_the_range_coder(rt: HostRuntime) -> Result<(), Fail> {
-    for (fault, text) in [
-        (ffv1_range::Fault::StateTable, "1 StateTable"),
-        (ffv1_range::Fault::OutOfMemory, "2 OutOfMemory"),
-        (ffv1_range::Fault::BadStart, "3 BadStart"),
-        (ffv1_range::Fault::SymbolTooLong, "4 SymbolTooLong"),
-    ] {
-        assert_eq!(rt; fault.to_string(rt.alloc())?.as_str(), text);
-    }
-    Ok(())
+fn of_pictures(rt: HostRuntime) {
+    are_shown(&rt, rt.alloc(), &RECORD);
+    are_shown(&rt, rt.alloc(), &SLICES);
+    are_shown(&rt, rt.alloc(), &CODEC);
 }
 
 #[test]
-fn of_planes(rt: HostRuntime) -> Result<(), Fail> {
-    for (fault, text) in [
-        (ffv1_plane::Fault::OutOfMemory, "2 OutOfMemory"),
-        (ffv1_plane::Fault::Runs, "5 Runs"),
-        (ffv1_plane::Fault::Contexts, "6 Contexts"),
-    ] {
-        assert_eq!(rt; fault.to_string(rt.alloc())?.as_str(), text);
-    }
-    Ok(())
-}
-
-#[test]
-fn of_the_record(rt: HostRuntime) -> Result<(), Fail> {
-    for (fault, text) in [
-        (RecordFault::StateTable, "1 StateTable"),
-        (RecordFault::OutOfMemory, "2 OutOfMemory"),
-        (RecordFault::BadStart, "3 BadStart"),
-        (RecordFault::SymbolTooLong, "4 SymbolTooLong"),
-        (RecordFault::Runs, "5 Runs"),
-        (RecordFault::Contexts, "6 Contexts"),
-        (RecordFault::Size, "10 Size"),
-        (RecordFault::Grid, "11 Grid"),
-        (RecordFault::ChromaEdge, "12 ChromaEdge"),
-        (RecordFault::Subsampling, "13 Subsampling"),
-        (RecordFault::Sets, "14 Sets"),
-        (RecordFault::Short, "15 Short"),
-        (RecordFault::Parity, "16 Parity"),
-        (RecordFault::Version, "17 Version"),
-        (RecordFault::MicroVersion, "18 MicroVersion"),
-        (RecordFault::Coder, "19 Coder"),
-        (RecordFault::ColourSpace, "20 ColourSpace"),
-        (RecordFault::Depth, "21 Depth"),
-        (RecordFault::CodedStates, "22 CodedStates"),
-        (RecordFault::Ec, "23 Ec"),
-        (RecordFault::Intra, "24 Intra"),
-        (RecordFault::ExtraPlane, "25 ExtraPlane"),
-    ] {
-        assert_eq!(rt; fault.to_string(rt.alloc())?.as_str(), text);
-    }
-    Ok(())
-}
-
-#[test]
-fn of_files(rt: HostRuntime) -> Result<(), Fail> {
-    for (fault, text) in [
-        (FileFault::OutOfMemory, "2 OutOfMemory"),
-        (FileFault::NotAvi, "50 NotAvi"),
-        (FileFault::NoFfv1, "51 NoFfv1"),
-        (FileFault::Truncated, "52 Truncated"),
-        (FileFault::ChunkTooLong, "53 ChunkTooLong"),
-        (FileFault::EmptyFrame, "54 EmptyFrame"),
-        (FileFault::TooLarge, "55 TooLarge"),
-        (FileFault::Read, "56 Read"),
-        (FileFault::Write, "57 Write"),
-        (FileFault::NotMatroska, "80 NotMatroska"),
-        (FileFault::BadElement, "81 BadElement"),
-        (FileFault::NoTracks, "82 NoTracks"),
-        (FileFault::Encoded, "83 Encoded"),
-        (FileFault::Laced, "84 Laced"),
-        (FileFault::Checksum, "85 Checksum"),
-        (FileFault::Rate, "86 Rate"),
-    ] {
-        assert_eq!(rt; fault.to_string(rt.alloc())?.as_str(), text);
-    }
-    Ok(())
-}
-
-#[test]
-fn of_y4m(rt: HostRuntime) -> Result<(), Fail> {
-    for (fault, text) in [
-        (ffv1_y4m::Fault::OutOfMemory, "2 OutOfMemory"),
-        (ffv1_y4m::Fault::Read, "56 Read"),
-        (ffv1_y4m::Fault::Write, "57 Write"),
-        (ffv1_y4m::Fault::Header, "60 Header"),
-        (ffv1_y4m::Fault::Tag, "61 Tag"),
-        (ffv1_y4m::Fault::Unsupported, "62 Unsupported"),
-        (ffv1_y4m::Fault::FrameLine, "63 FrameLine"),
-        (ffv1_y4m::Fault::FrameTruncated, "64 FrameTruncated"),
-        (ffv1_y4m::Fault::FormatChanged, "71 FormatChanged"),
-    ] {
-        assert_eq!(rt; fault.to_string(rt.alloc())?.as_str(), text);
-    }
-    Ok(())
-}
-
-#[test]
-fn of_rows_and_colour_lines(rt: HostRuntime) -> Result<(), Fail> {
-    let row = ffv1_line::TooLong { x: 3 };
-    assert_eq!(rt; row.to_string(rt.alloc())?.as_str(), "4 SymbolTooLong");
-    let line = ffv1_rct::NoColour { x: 3 };
-    assert_eq!(rt; line.to_string(rt.alloc())?.as_str(), "7 Colour");
-    Ok(())
-}
-
-#[test]
-fn of_slices(rt: HostRuntime) -> Result<(), Fail> {
-    for (fault, text) in [
-        (SliceFault::OutOfMemory, "2 OutOfMemory"),
-        (SliceFault::SymbolTooLong, "4 SymbolTooLong"),
-        (SliceFault::NotKey, "30 NotKey"),
-        (SliceFault::Place, "31 Place"),
-        (SliceFault::SetIndex, "32 SetIndex"),
-        (SliceFault::Structure, "33 Structure"),
-        (SliceFault::Aspect, "34 Aspect"),
-        (SliceFault::Footer, "35 Footer"),
-        (SliceFault::Leftover, "36 Leftover"),
-        (SliceFault::SliceParity, "37 SliceParity"),
-        (SliceFault::SliceStatus, "38 SliceStatus"),
-        (SliceFault::SliceTooLong, "40 SliceTooLong"),
-    ] {
-        assert_eq!(rt; fault.to_string(rt.alloc())?.as_str(), text);
-    }
-    Ok(())
-}
-
-#[test]
-fn of_the_codec(rt: HostRuntime) -> Result<(), Fail> {
-    for (fault, text) in [
-        (CodecFault::OutOfMemory, "2 OutOfMemory"),
-        (CodecFault::BadStart, "3 BadStart"),
-        (CodecFault::SymbolTooLong, "4 SymbolTooLong"),
-        (CodecFault::Colour, "7 Colour"),
-        (CodecFault::NotKey, "30 NotKey"),
-        (CodecFault::Place, "31 Place"),
-        (CodecFault::SetIndex, "32 SetIndex"),
-        (CodecFault::Structure, "33 Structure"),
-        (CodecFault::Aspect, "34 Aspect"),
-        (CodecFault::Footer, "35 Footer"),
-        (CodecFault::Leftover, "36 Leftover"),
-        (CodecFault::SliceParity, "37 SliceParity"),
-        (CodecFault::SliceStatus, "38 SliceStatus"),
-        (CodecFault::SliceTooLong, "40 SliceTooLong"),
-        (CodecFault::InfoDiffers, "41 InfoDiffers"),
-        (CodecFault::Sink, "42 Sink"),
-    ] {
-        assert_eq!(rt; fault.to_string(rt.alloc())?.as_str(), text);
-    }
-    Ok(())
+fn of_symbols_and_lines(rt: HostRuntime) {
+    are_shown(&rt, rt.alloc(), &RANGE);
+    are_shown(&rt, rt.alloc(), &PLANES);
+    are_shown(
+        &rt,
+        rt.alloc(),
+        &[(ffv1_line::TooLong { x: 3 }, "4 SymbolTooLong")],
+    );
+    are_shown(
+        &rt,
+        rt.alloc(),
+        &[(ffv1_rct::NoColour { x: 3 }, "7 Colour")],
+    );
 }

@@ -1,12 +1,12 @@
 //! Memory that is refused to an encoder and to a decoder of frames, at every request.
 
+use super::made;
 use ffv1_codec::{
     CodecFault, DropLines, FrameCounts, FrameDecoder, FrameEncoder, Info, KeepLines, Picture,
 };
 use ffv1_doubles::Scarce;
-use ffv1_plane::QuantSet;
-use ffv1_record::{Checked, Coder, Colour, Config, Sets};
-use std::alloc::Allocator;
+use ffv1_record::{Checked, Colour};
+use std::alloc::{Allocator, Global};
 use std::process::Abort;
 
 /// What is encoded: square pictures of these planes, in one slice, and their frame, whose residuals
@@ -22,7 +22,7 @@ struct Kind<'a> {
 }
 
 /// The sample 0, with a parity.
-const GUARDED: Kind<'static> = Kind {
+static GUARDED: Kind<'static> = Kind {
     size: 1,
     colour: Colour::YCbCr,
     ec: true,
@@ -32,7 +32,7 @@ const GUARDED: Kind<'static> = Kind {
 };
 
 /// Four samples.
-const FOUR: Kind<'static> = Kind {
+static FOUR: Kind<'static> = Kind {
     size: 2,
     colour: Colour::YCbCr,
     ec: false,
@@ -42,7 +42,7 @@ const FOUR: Kind<'static> = Kind {
 };
 
 /// A red sample.
-const RED: Kind<'static> = Kind {
+static RED: Kind<'static> = Kind {
     size: 1,
     colour: Colour::Rct,
     ec: false,
@@ -53,23 +53,9 @@ const RED: Kind<'static> = Kind {
 
 /// Pictures of a kind.
 fn pictures<A: Allocator + Copy>(alloc: A, kind: &Kind<'_>) -> Option<Checked<A>> {
-    let mut sets = Sets::new(alloc);
-    sets.push(QuantSet::small(alloc).ok()?).ok()?;
-    let config = Config {
-        width: kind.size,
-        height: kind.size,
-        coder: Coder::One,
-        colour: kind.colour,
-        chroma_planes: kind.planes.len() > 1,
-        extra_plane: false,
-        log2_h: 0,
-        log2_v: 0,
-        columns: 1,
-        rows: 1,
-        sets,
-        ec: kind.ec,
-        intra: true,
-    };
+    let mut config = made::mono(alloc, kind.size, kind.size, 1, kind.ec).ok()?;
+    config.colour = kind.colour;
+    config.chroma_planes = kind.planes.len() > 1;
     config.check().ok()
 }
 
@@ -158,7 +144,7 @@ fn decoder<A: Allocator + Copy>(alloc: A, checked: Checked<A>, frame: &[u8]) -> 
 
 /// The same of a kind, where the request after so many others is refused once the configuration
 /// is made.
-fn decoder_of<A: Allocator + Copy>(alloc: A, kind: &Kind<'_>, before: u64) -> Option<(Came, bool)> {
+fn decoder_of(alloc: Global, kind: &Kind<'_>, before: u64) -> Option<(Came, bool)> {
     let ample = Scarce::new(alloc, u64::MAX);
     let scarce = Scarce::new(alloc, before);
     let checked = pictures(&ample, kind)?;
@@ -181,44 +167,32 @@ fn kept<A: Allocator + Copy>(alloc: A) -> Option<Came> {
     }
 }
 
+/// A decoder of a kind makes five requests when it is made.
+fn makes_five(rt: &impl Abort, alloc: Global, kind: &Kind<'_>) {
+    for before in 0..9u64 {
+        let wanted = match before {
+            0..=4 => (Came::Refusal, false),
+            _ => (Came::Frame, before == 5),
+        };
+        assert!(rt; decoder_of(alloc, kind, before) == Some(wanted));
+    }
+}
+
 /// A decoder makes five requests, one for each vector that it holds, and none when it decodes.
 #[test]
 fn each_request_of_a_decoder(rt: HostRuntime) {
-    for kind in [GUARDED, FOUR, RED] {
-        for before in 0..9u64 {
-            let wanted = match before {
-                0..=4 => (Came::Refusal, false),
-                _ => (Came::Frame, before == 5),
-            };
-            assert!(rt; decoder_of(rt.alloc(), &kind, before) == Some(wanted));
-        }
-    }
+    makes_five(&rt, rt.alloc(), &GUARDED);
+    makes_five(&rt, rt.alloc(), &FOUR);
+    makes_five(&rt, rt.alloc(), &RED);
 }
 
 /// Pictures of 32 by 1 in 32 columns.
 fn wide<A: Allocator + Copy>(alloc: A) -> Option<Checked<A>> {
-    let mut sets = Sets::new(alloc);
-    sets.push(QuantSet::small(alloc).ok()?).ok()?;
-    let config = Config {
-        width: 32,
-        height: 1,
-        coder: Coder::One,
-        colour: Colour::YCbCr,
-        chroma_planes: false,
-        extra_plane: false,
-        log2_h: 0,
-        log2_v: 0,
-        columns: 32,
-        rows: 1,
-        sets,
-        ec: false,
-        intra: true,
-    };
-    config.check().ok()
+    made::mono(alloc, 32, 1, 32, false).ok()?.check().ok()
 }
 
 /// Whether the making of their decoder is refused, where the request after so many others is.
-fn wide_is_refused<A: Allocator + Copy>(alloc: A, before: u64) -> Option<bool> {
+fn wide_is_refused(alloc: Global, before: u64) -> Option<bool> {
     let ample = Scarce::new(alloc, u64::MAX);
     let scarce = Scarce::new(alloc, before);
     let checked = wide(&ample)?;
@@ -243,7 +217,7 @@ fn each_request_of_a_sink(rt: HostRuntime) {
             _ => {}
         }
     }
-    assert_eq!(rt; refused, 2);
+    assert!(rt; refused == 2);
 }
 
 /// Coded bytes, one by one, and a frame of them and their footer of so many bytes.
@@ -260,7 +234,7 @@ fn gathered<A: Allocator + Copy>(alloc: A, frame: &[u8], foot: usize) -> Option<
 }
 
 /// How many requests that takes.
-fn growth<A: Allocator + Copy>(alloc: A, frame: &[u8], foot: usize) -> u64 {
+fn growth(alloc: Global, frame: &[u8], foot: usize) -> u64 {
     let mut count = 0u64;
     for before in 0..20u64 {
         if gathered(&Scarce::new(alloc, before), frame, foot).is_none() {
@@ -272,7 +246,7 @@ fn growth<A: Allocator + Copy>(alloc: A, frame: &[u8], foot: usize) -> u64 {
 
 /// How many requests a first frame and a second one make; each that is refused is answered so, and
 /// the next frame is as if by a new encoder.
-fn frames_in_turn<A: Allocator + Copy>(rt: &impl Abort, alloc: A, kind: &Kind<'_>) -> (u64, u64) {
+fn frames_in_turn(rt: &impl Abort, alloc: Global, kind: &Kind<'_>) -> (u64, u64) {
     let (mut refused, mut again) = (0u64, 0u64);
     for before in 0..60u64 {
         match two_frames(&Scarce::new(alloc, before), kind) {
@@ -294,14 +268,20 @@ fn frames_in_turn<A: Allocator + Copy>(rt: &impl Abort, alloc: A, kind: &Kind<'_
     (refused, again)
 }
 
+/// The second frame of a kind makes requests for the growth of its code alone, of which the last
+/// bytes are a footer, and the first one for its states and so many lines, too.
+fn makes_requests(rt: &impl Abort, alloc: Global, kind: &Kind<'_>, foot: usize, lines: u64) {
+    let grown = growth(alloc, kind.frame, foot).saturating_add(u64::from(kind.ec));
+    let (first, second) = frames_in_turn(rt, alloc, kind);
+    assert!(rt; second == grown && first == grown.saturating_add(1).saturating_add(lines));
+}
+
 /// A warm encoder makes requests for the growth of its code alone, and for the copy whose parity a
 /// footer has; the first frame's are for its states, too, and for three lines of each plane that is
 /// coded beside others.
 #[test]
 fn each_request_of_a_frame(rt: HostRuntime) {
-    for (kind, foot, lines) in [(GUARDED, 8usize, 3u64), (FOUR, 3, 3), (RED, 3, 9)] {
-        let grown = growth(rt.alloc(), kind.frame, foot).saturating_add(u64::from(kind.ec));
-        let (first, second) = frames_in_turn(&rt, rt.alloc(), &kind);
-        assert!(rt; second == grown && first == grown.saturating_add(1).saturating_add(lines));
-    }
+    makes_requests(&rt, rt.alloc(), &GUARDED, 8, 3);
+    makes_requests(&rt, rt.alloc(), &FOUR, 3, 3);
+    makes_requests(&rt, rt.alloc(), &RED, 3, 9);
 }

@@ -1,10 +1,10 @@
 //! Matroska: what Tracks say, and files that are read and written.
 
 mod commands;
+mod packing;
 mod rates;
 mod reading;
 mod reading_bytes;
-mod reading_files;
 mod reading_refused;
 mod written;
 mod written_example;

@@ -2,7 +2,7 @@
 
 mod refused;
 
-use ffv1_engine::{Choice, CoderChoice, Order, words};
+use ffv1_engine::{Choice, CoderChoice, ContainerChoice, Order, words};
 use std::alloc::Global;
 use std::process::Abort;
 
@@ -18,7 +18,156 @@ const DEFAULTS: Choice = Choice {
 };
 
 fn names<'a>(rt: &impl Abort, alloc: Global, line: &'a [&'a str], order: Order<'a>) {
-    assert!(rt; words(alloc, line).ok() == Some(order));
+    assert!(rt; words(alloc, line).ok() == Some(order), "{line:?}");
+}
+
+/// Each line names its order.
+fn names_each<'a>(rt: &impl Abort, alloc: Global, rows: &'a [(&'a [&'a str], Order<'a>)]) {
+    for &(line, order) in rows {
+        names(rt, alloc, line, order);
+    }
+}
+
+/// Each command.
+static COMMANDS: [(&[&str], Order<'static>); 5] = [
+    (
+        &["ffv1", "pack", "a", "b"],
+        Order::Pack {
+            input: "a",
+            output: "b",
+            choice: DEFAULTS,
+            container: ContainerChoice::Auto,
+            no_clobber: false,
+            progress: false,
+        },
+    ),
+    (
+        &["ffv1", "unpack", "a", "b"],
+        Order::Unpack {
+            input: "a",
+            output: "b",
+            no_clobber: false,
+            progress: false,
+        },
+    ),
+    (
+        &["ffv1", "check", "a"],
+        Order::Check {
+            input: "a",
+            place: false,
+            progress: false,
+        },
+    ),
+    (
+        &["ffv1", "show", "a"],
+        Order::Show {
+            input: "a",
+            cost: false,
+        },
+    ),
+    (&["ffv1", "trial", "a"], Order::Trial { input: "a" }),
+];
+
+#[test]
+fn each_command(rt: HostRuntime) {
+    names_each(&rt, rt.alloc(), &COMMANDS);
+}
+
+/// Flags, and words that are files behind two hyphens.
+static FLAGS: [(&[&str], Order<'static>); 10] = [
+    (
+        &["ffv1", "pack", "a", "--no-clobber", "b"],
+        Order::Pack {
+            input: "a",
+            output: "b",
+            choice: DEFAULTS,
+            container: ContainerChoice::Auto,
+            no_clobber: true,
+            progress: false,
+        },
+    ),
+    (
+        &["ffv1", "unpack", "--no-clobber", "--progress", "a", "-"],
+        Order::Unpack {
+            input: "a",
+            output: "-",
+            no_clobber: true,
+            progress: true,
+        },
+    ),
+    (
+        &["ffv1", "pack", "--progress", "a", "b"],
+        Order::Pack {
+            input: "a",
+            output: "b",
+            choice: DEFAULTS,
+            container: ContainerChoice::Auto,
+            no_clobber: false,
+            progress: true,
+        },
+    ),
+    (
+        &["ffv1", "unpack", "a", "--progress", "b"],
+        Order::Unpack {
+            input: "a",
+            output: "b",
+            no_clobber: false,
+            progress: true,
+        },
+    ),
+    (
+        &["ffv1", "check", "a", "--place"],
+        Order::Check {
+            input: "a",
+            place: true,
+            progress: false,
+        },
+    ),
+    (
+        &["ffv1", "check", "--progress", "a"],
+        Order::Check {
+            input: "a",
+            place: false,
+            progress: true,
+        },
+    ),
+    (
+        &["ffv1", "check", "--progress", "--place", "a"],
+        Order::Check {
+            input: "a",
+            place: true,
+            progress: true,
+        },
+    ),
+    (
+        &["ffv1", "show", "--cost", "a"],
+        Order::Show {
+            input: "a",
+            cost: true,
+        },
+    ),
+    (
+        &["ffv1", "check", "--", "--place"],
+        Order::Check {
+            input: "--place",
+            place: false,
+            progress: false,
+        },
+    ),
+    (
+        &["ffv1", "unpack", "--", "-a", "--"],
+        Order::Unpack {
+            input: "-a",
+            output: "--",
+            no_clobber: false,
+            progress: false,
+        },
+    ),
+];
+
+#[test]
+fn flags(rt: HostRuntime) {
+    names_each(&rt, rt.alloc(), &FLAGS);
 }
 
 /// `pack` of `a` to `b` with these options, before and after the files.
@@ -27,6 +176,7 @@ fn packs(rt: &impl Abort, alloc: Global, option: &str, value: &str, choice: Choi
         input: "a",
         output: "b",
         choice,
+        container: ContainerChoice::Auto,
         no_clobber: false,
         progress: false,
     };
@@ -34,290 +184,262 @@ fn packs(rt: &impl Abort, alloc: Global, option: &str, value: &str, choice: Choi
     names(rt, alloc, &["ffv1", "pack", "a", "b", option, value], order);
 }
 
-/// A `check` of a file, with what is told of it.
-fn check(input: &str, place: bool, progress: bool) -> Order<'_> {
-    Order::Check {
-        input,
-        place,
-        progress,
-    }
-}
-
-/// An `unpack`, with what is told of it.
-fn unpack<'a>(input: &'a str, output: &'a str, progress: bool) -> Order<'a> {
-    Order::Unpack {
-        input,
-        output,
-        no_clobber: false,
-        progress,
-    }
-}
-
-#[test]
-fn each_command(rt: HostRuntime) {
-    let alloc = rt.alloc();
-    let input = "a";
-    let pack = Order::Pack {
-        input,
-        output: "b",
-        choice: DEFAULTS,
-        no_clobber: false,
-        progress: false,
-    };
-    let show = Order::Show { input, cost: false };
-    names(&rt, alloc, &["ffv1", "pack", "a", "b"], pack);
-    names(
-        &rt,
-        alloc,
-        &["ffv1", "unpack", "a", "b"],
-        unpack("a", "b", false),
-    );
-    names(
-        &rt,
-        alloc,
-        &["ffv1", "check", "a"],
-        check("a", false, false),
-    );
-    names(&rt, alloc, &["ffv1", "show", "a"], show);
-    names(&rt, alloc, &["ffv1", "trial", "a"], Order::Trial { input });
-}
-
-#[test]
-fn outputs_that_exist(rt: HostRuntime) {
-    let pack = Order::Pack {
-        input: "a",
-        output: "b",
-        choice: DEFAULTS,
-        no_clobber: true,
-        progress: false,
-    };
-    let unpack = Order::Unpack {
-        input: "a",
-        output: "-",
-        no_clobber: true,
-        progress: true,
-    };
-    let alloc = rt.alloc();
-    names(
-        &rt,
-        alloc,
-        &["ffv1", "pack", "a", "--no-clobber", "b"],
-        pack,
-    );
-    names(
-        &rt,
-        alloc,
-        &["ffv1", "unpack", "--no-clobber", "--progress", "a", "-"],
-        unpack,
-    );
-}
-
-#[test]
-fn flags(rt: HostRuntime) {
-    let alloc = rt.alloc();
-    let pack = Order::Pack {
-        input: "a",
-        output: "b",
-        choice: DEFAULTS,
-        no_clobber: false,
-        progress: true,
-    };
-    let show = Order::Show {
-        input: "a",
-        cost: true,
-    };
-    names(&rt, alloc, &["ffv1", "pack", "--progress", "a", "b"], pack);
-    names(
-        &rt,
-        alloc,
-        &["ffv1", "unpack", "a", "--progress", "b"],
-        unpack("a", "b", true),
-    );
-    names(
-        &rt,
-        alloc,
-        &["ffv1", "check", "a", "--place"],
-        check("a", true, false),
-    );
-    names(
-        &rt,
-        alloc,
-        &["ffv1", "check", "--progress", "a"],
-        check("a", false, true),
-    );
-    names(
-        &rt,
-        alloc,
-        &["ffv1", "check", "--progress", "--place", "a"],
-        check("a", true, true),
-    );
-    names(&rt, alloc, &["ffv1", "show", "--cost", "a"], show);
-}
-
-#[test]
-fn words_behind_two_hyphens_are_files(rt: HostRuntime) {
-    let alloc = rt.alloc();
-    names(
-        &rt,
-        alloc,
-        &["ffv1", "check", "--", "--place"],
-        check("--place", false, false),
-    );
-    names(
-        &rt,
-        alloc,
-        &["ffv1", "unpack", "--", "-a", "--"],
-        unpack("-a", "--", false),
-    );
-}
-
-#[test]
-fn each_option(rt: HostRuntime) {
-    let alloc = rt.alloc();
-    let carried = Choice {
-        coder: CoderChoice::Carried,
-        ..DEFAULTS
-    };
-    packs(&rt, alloc, "--coder", "1", DEFAULTS);
-    packs(&rt, alloc, "--coder", "2", carried);
-    packs(&rt, alloc, "--contexts", "small", DEFAULTS);
-    packs(
-        &rt,
-        alloc,
+/// Options of `pack`, their values and what they choose.
+static OPTIONS: [(&str, &str, Choice); 11] = [
+    ("--coder", "1", DEFAULTS),
+    (
+        "--coder",
+        "2",
+        Choice {
+            coder: CoderChoice::Carried,
+            ..DEFAULTS
+        },
+    ),
+    ("--contexts", "small", DEFAULTS),
+    (
         "--contexts",
         "large",
         Choice {
             large: true,
             ..DEFAULTS
         },
-    );
-    packs(
-        &rt,
-        alloc,
+    ),
+    (
         "--columns",
         "32",
         Choice {
             columns: 32,
             ..DEFAULTS
         },
-    );
-    packs(
-        &rt,
-        alloc,
+    ),
+    (
         "--columns",
         "+4",
         Choice {
             columns: 4,
             ..DEFAULTS
         },
-    );
-    packs(
-        &rt,
-        alloc,
+    ),
+    (
         "--rows",
         "32",
         Choice {
             rows: 32,
             ..DEFAULTS
         },
-    );
-    packs(
-        &rt,
-        alloc,
+    ),
+    (
         "--ec",
         "0",
         Choice {
             ec: false,
             ..DEFAULTS
         },
-    );
-    packs(&rt, alloc, "--ec", "1", DEFAULTS);
-    packs(
-        &rt,
-        alloc,
+    ),
+    ("--ec", "1", DEFAULTS),
+    (
         "--rate",
         "4294967295",
         Choice {
             rate: 4294967295,
             ..DEFAULTS
         },
-    );
-    packs(
-        &rt,
-        alloc,
+    ),
+    (
         "--scale",
         "1001",
         Choice {
             scale: 1001,
             ..DEFAULTS
         },
-    );
-}
+    ),
+];
 
 #[test]
-fn all_options(rt: HostRuntime) {
-    let line = [
-        "ffv1",
-        "pack",
-        "--coder=2",
-        "--contexts=large",
-        "a",
-        "--columns=3",
-        "--rows=2",
-        "--ec=-0",
-        "b",
-        "--rate=30000",
-        "--scale=1001",
-    ];
-    let choice = Choice {
-        coder: CoderChoice::Carried,
-        large: true,
-        columns: 3,
-        rows: 2,
-        ec: false,
-        rate: 30000,
-        scale: 1001,
-    };
-    names(
-        &rt,
-        rt.alloc(),
-        line.as_slice(),
+fn each_option(rt: HostRuntime) {
+    for &(option, value, choice) in &OPTIONS {
+        packs(&rt, rt.alloc(), option, value, choice);
+    }
+}
+
+/// All options, and each container.
+static MORE: [(&[&str], Order<'static>); 4] = [
+    (
+        &[
+            "ffv1",
+            "pack",
+            "--coder=2",
+            "--contexts=large",
+            "a",
+            "--columns=3",
+            "--rows=2",
+            "--ec=-0",
+            "b",
+            "--rate=30000",
+            "--scale=1001",
+        ],
         Order::Pack {
             input: "a",
             output: "b",
-            choice,
+            choice: Choice {
+                coder: CoderChoice::Carried,
+                large: true,
+                columns: 3,
+                rows: 2,
+                ec: false,
+                rate: 30000,
+                scale: 1001,
+            },
+            container: ContainerChoice::Auto,
             no_clobber: false,
             progress: false,
         },
-    );
+    ),
+    (
+        &["ffv1", "pack", "--container", "auto", "a", "b.mkv"],
+        Order::Pack {
+            input: "a",
+            output: "b.mkv",
+            choice: DEFAULTS,
+            container: ContainerChoice::Auto,
+            no_clobber: false,
+            progress: false,
+        },
+    ),
+    (
+        &["ffv1", "pack", "--container", "avi", "a", "b.mkv"],
+        Order::Pack {
+            input: "a",
+            output: "b.mkv",
+            choice: DEFAULTS,
+            container: ContainerChoice::Avi,
+            no_clobber: false,
+            progress: false,
+        },
+    ),
+    (
+        &["ffv1", "pack", "--container", "mkv", "a", "b.mkv"],
+        Order::Pack {
+            input: "a",
+            output: "b.mkv",
+            choice: DEFAULTS,
+            container: ContainerChoice::Matroska,
+            no_clobber: false,
+            progress: false,
+        },
+    ),
+];
+
+#[test]
+fn more_options(rt: HostRuntime) {
+    names_each(&rt, rt.alloc(), &MORE);
 }
 
-/// Paths are compared as texts: another text is another file, and an input may be standard output.
+/// Which names of OUT are Matroska: where a container is named, and where none is.
+#[test]
+fn names_of_matroska(rt: HostRuntime) {
+    for (container, by_name) in [
+        (ContainerChoice::Auto, true),
+        (ContainerChoice::Avi, false),
+        (ContainerChoice::Matroska, true),
+    ] {
+        assert!(rt; container.is_matroska("b.mkv") == by_name);
+        for output in ["-", "mkv", "b.mkv.avi", "b.MKV", "b.mk", ""] {
+            let named = container == ContainerChoice::Matroska;
+            assert!(rt; container.is_matroska(output) == named);
+        }
+    }
+    assert!(rt; ContainerChoice::Auto.is_matroska(".mkv"));
+}
+
+/// Paths are compared as texts: another text is another file, and an input may be standard
+/// output.
+static FILES: [(&[&str], Order<'static>); 10] = [
+    (
+        &["ffv1", "unpack", "a", "./a"],
+        Order::Unpack {
+            input: "a",
+            output: "./a",
+            no_clobber: false,
+            progress: false,
+        },
+    ),
+    (
+        &["ffv1", "unpack", "/dev/stdout", "b"],
+        Order::Unpack {
+            input: "/dev/stdout",
+            output: "b",
+            no_clobber: false,
+            progress: false,
+        },
+    ),
+    (
+        &["ffv1", "unpack", "a", "/dev/fd/3"],
+        Order::Unpack {
+            input: "a",
+            output: "/dev/fd/3",
+            no_clobber: false,
+            progress: false,
+        },
+    ),
+    (
+        &["ffv1", "unpack", "a", "/dev/fd/10"],
+        Order::Unpack {
+            input: "a",
+            output: "/dev/fd/10",
+            no_clobber: false,
+            progress: false,
+        },
+    ),
+    (
+        &["ffv1", "unpack", "a", "/dev/stdou"],
+        Order::Unpack {
+            input: "a",
+            output: "/dev/stdou",
+            no_clobber: false,
+            progress: false,
+        },
+    ),
+    (
+        &["ffv1", "unpack", "-", "-"],
+        Order::Unpack {
+            input: "-",
+            output: "-",
+            no_clobber: false,
+            progress: false,
+        },
+    ),
+    (
+        &["ffv1", "unpack", "a", "-"],
+        Order::Unpack {
+            input: "a",
+            output: "-",
+            no_clobber: false,
+            progress: false,
+        },
+    ),
+    (
+        &["ffv1", "unpack", "-", "./-"],
+        Order::Unpack {
+            input: "-",
+            output: "./-",
+            no_clobber: false,
+            progress: false,
+        },
+    ),
+    (
+        &["ffv1", "trial", "/dev/stdout"],
+        Order::Trial {
+            input: "/dev/stdout",
+        },
+    ),
+    (
+        &["ffv1", "trial", "/dev/fd/1"],
+        Order::Trial { input: "/dev/fd/1" },
+    ),
+];
+
 #[test]
 fn files_not_in_conflict(rt: HostRuntime) {
-    for (input, output) in [
-        ("a", "./a"),
-        ("/dev/stdout", "b"),
-        ("a", "/dev/fd/3"),
-        ("a", "/dev/fd/10"),
-        ("a", "/dev/stdou"),
-        ("-", "-"),
-        ("a", "-"),
-        ("-", "./-"),
-    ] {
-        names(
-            &rt,
-            rt.alloc(),
-            &["ffv1", "unpack", input, output],
-            unpack(input, output, false),
-        );
-    }
-    for input in ["/dev/stdout", "/dev/fd/1"] {
-        names(
-            &rt,
-            rt.alloc(),
-            &["ffv1", "trial", input],
-            Order::Trial { input },
-        );
-    }
+    names_each(&rt, rt.alloc(), &FILES);
 }

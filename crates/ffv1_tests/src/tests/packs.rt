@@ -2,7 +2,7 @@
 
 use ffv1_engine::{Choice, CoderChoice, Fault, Packed, Profile, pack};
 use ffv1_wire::{FromRead, ToWrite};
-use std::alloc::Allocator;
+use std::alloc::Global;
 use std::process::Abort;
 use std::test::Fail;
 
@@ -19,15 +19,8 @@ const PLAIN: Choice = Choice {
 /// A text of 4:2:0 with one picture of 2 by 2.
 const TEXT: &[u8] = b"YUV4MPEG2 W2 H2 F25:1 C420mpeg2 Xa\nFRAME\n\x01\x02\x03\x04\x05\x06";
 
-/// A red image of 1 by 1.
-const IMAGE: &[u8] = b"P6\n1 1\n255\n\xFF\x00\x00";
-
 /// What was packed of a text, and the file.
-fn packed<A: Allocator + Copy>(
-    alloc: A,
-    text: &[u8],
-    choice: &Choice,
-) -> Result<(Packed, Vec<u8, A>), Fault> {
+fn packed(alloc: Global, text: &[u8], choice: &Choice) -> Result<(Packed, Vec<u8>), Fault> {
     let mut input = FromRead::new(text);
     let mut output = ToWrite::new(Vec::new(alloc));
     let packed = pack(alloc, Profile::Strict, &mut input, &mut output, choice)?;
@@ -35,29 +28,23 @@ fn packed<A: Allocator + Copy>(
 }
 
 /// Compares how many frames and bytes of them there are, how long the file is, and its end.
-fn packs<A: Allocator + Copy>(
+fn packs(
     rt: &impl Abort,
-    alloc: A,
+    alloc: Global,
     text: &[u8],
     choice: &Choice,
-    want: Packed,
+    want: (u64, u64),
     end: &[u8],
 ) -> Result<(), Fault> {
     let (done, file) = packed(alloc, text, choice)?;
-    assert!(rt; done == want);
+    assert!(rt; (done.frames, done.bytes) == want);
     assert!(rt; file.as_slice().starts_with(b"RIFF".as_slice()));
     assert!(rt; file.as_slice().ends_with(end));
     Ok(())
 }
 
 /// A refused text: its fault, and that nothing is written.
-fn refuses<A: Allocator + Copy>(
-    rt: &impl Abort,
-    alloc: A,
-    text: &[u8],
-    choice: &Choice,
-    fault: Fault,
-) {
+fn refuses(rt: &impl Abort, alloc: Global, text: &[u8], choice: &Choice, fault: Fault) {
     let mut output = ToWrite::new(Vec::new(alloc));
     assert!(rt;
         pack(
@@ -71,120 +58,95 @@ fn refuses<A: Allocator + Copy>(
     assert!(rt; output.into_inner().is_empty());
 }
 
-#[test]
-fn one_frame(rt: HostRuntime) -> Result<(), Fail> {
-    packs(
-        &rt,
-        rt.alloc(),
+/// Texts, choices, how many frames and bytes of them are packed, and how the files end.
+static PACKED: [(&[u8], Choice, (u64, u64), &[u8]); 5] = [
+    (
         b"YUV4MPEG2 W1 H1 Cmono\nFRAME\n\x00",
-        &PLAIN,
-        Packed {
-            frames: 1,
-            bytes: 5,
-        },
+        PLAIN,
+        (1, 5),
         b"00dc\x05\x00\x00\x00\xFE\x7B\x00\x00\x02\x00",
-    )?;
-    packs(
-        &rt,
-        rt.alloc(),
+    ),
+    (
         b"YUV4MPEG2 W1 H1 Cmono\nFRAME\n\x00",
-        &Choice { ec: true, ..PLAIN },
-        Packed {
-            frames: 1,
-            bytes: 10,
-        },
+        Choice { ec: true, ..PLAIN },
+        (1, 10),
         b"00dc\x0A\x00\x00\x00\xFE\x7B\x00\x00\x02\x00\x94\x8C\x13\x3C",
-    )?;
-    packs(
-        &rt,
-        rt.alloc(),
-        IMAGE,
-        &PLAIN,
-        Packed {
-            frames: 1,
-            bytes: 9,
-        },
+    ),
+    (
+        b"P6\n1 1\n255\n\xFF\x00\x00",
+        PLAIN,
+        (1, 9),
         b"00dc\x09\x00\x00\x00\xFE\x78\xDF\x83\xD9\x2C\x00\x00\x06\x00",
-    )?;
-    Ok(())
-}
-
-#[test]
-fn more_frames(rt: HostRuntime) -> Result<(), Fail> {
-    packs(
-        &rt,
-        rt.alloc(),
+    ),
+    (
         b"YUV4MPEG2 W1 H1 Cmono\nFRAME\n\x00FRAME\n\xFF",
-        &PLAIN,
-        Packed {
-            frames: 2,
-            bytes: 10,
-        },
+        PLAIN,
+        (2, 10),
         b"\xFE\x7B\x00\x00\x02\x0000dc\x05\x00\x00\x00\xFE\x18\x00\x00\x02\x00",
-    )?;
-    packs(
-        &rt,
-        rt.alloc(),
+    ),
+    (
         b"YUV4MPEG2 W2 H1 Cmono\nFRAME\n\x00\x00",
-        &Choice {
+        Choice {
             columns: 2,
             ..PLAIN
         },
-        Packed {
-            frames: 1,
-            bytes: 10,
-        },
+        (1, 10),
         b"\xFE\x7B\x00\x00\x02\x3F\x76\x00\x00\x02",
-    )?;
+    ),
+];
+
+#[test]
+fn frames(rt: HostRuntime) -> Result<(), Fail> {
+    for &(text, choice, done, end) in &PACKED {
+        packs(&rt, rt.alloc(), text, &choice, done, end)?;
+    }
     Ok(())
 }
 
-#[test]
-fn faults(rt: HostRuntime) {
-    for (text, fault) in [
-        (b"".as_slice(), Fault::Header),
-        (b"YUV4MPEG2 W2 H2\n", Fault::NoFrames),
-        (b"YUV4MPEG2 W2 H2 C420p10\n", Fault::Unsupported),
-        (b"YUV4MPEG2 W2\n", Fault::Tag),
-        (b"YUV4MPEG2 W1 H1 Cmono\nFRAME Ip\n\x00", Fault::FrameLine),
-        (b"YUV4MPEG2 W1 H1 Cmono\nFRAME\n", Fault::FrameTruncated),
-        (
-            b"P6\n1 1\n255\n\xFF\x00\x00P6\n2 1\n255\n\x00\x00\x00\x00\x00\x00",
-            Fault::FormatChanged,
-        ),
-        (b"P5\n1 1\n255\n\xFF", Fault::Header),
-    ] {
-        refuses(&rt, rt.alloc(), text, &PLAIN, fault);
-    }
-}
-
-#[test]
-fn choices_that_do_not_suit(rt: HostRuntime) {
-    refuses(
-        &rt,
-        rt.alloc(),
+/// Texts that are refused, and why; choices that do not suit come last.
+static REFUSED: [(&[u8], Choice, Fault); 11] = [
+    (b"", PLAIN, Fault::Header),
+    (b"YUV4MPEG2 W2 H2\n", PLAIN, Fault::NoFrames),
+    (b"YUV4MPEG2 W2 H2 C420p10\n", PLAIN, Fault::Unsupported),
+    (b"YUV4MPEG2 W2\n", PLAIN, Fault::Tag),
+    (
+        b"YUV4MPEG2 W1 H1 Cmono\nFRAME Ip\n\x00",
+        PLAIN,
+        Fault::FrameLine,
+    ),
+    (
+        b"YUV4MPEG2 W1 H1 Cmono\nFRAME\n",
+        PLAIN,
+        Fault::FrameTruncated,
+    ),
+    (
+        b"P6\n1 1\n255\n\xFF\x00\x00P6\n2 1\n255\n\x00\x00\x00\x00\x00\x00",
+        PLAIN,
+        Fault::FormatChanged,
+    ),
+    (b"P5\n1 1\n255\n\xFF", PLAIN, Fault::Header),
+    (
         TEXT,
-        &Choice {
+        Choice {
             columns: 3,
             ..PLAIN
         },
         Fault::Grid,
-    );
-    refuses(
-        &rt,
-        rt.alloc(),
+    ),
+    (TEXT, Choice { rows: 0, ..PLAIN }, Fault::Grid),
+    (
         TEXT,
-        &Choice { rows: 0, ..PLAIN },
-        Fault::Grid,
-    );
-    refuses(
-        &rt,
-        rt.alloc(),
-        TEXT,
-        &Choice {
+        Choice {
             columns: 2,
             ..PLAIN
         },
         Fault::ChromaEdge,
-    );
+    ),
+];
+
+#[test]
+fn faults(rt: HostRuntime) {
+    for &(text, choice, fault) in &REFUSED {
+        refuses(&rt, rt.alloc(), text, &choice, fault);
+    }
 }

@@ -1,31 +1,18 @@
 //! Pictures and what they say.
 
+use super::made;
 use ffv1_codec::{Info, Picture};
-use ffv1_plane::QuantSet;
-use ffv1_record::{Checked, Coder, Colour, Config, Sets};
+use ffv1_record::Checked;
 use std::alloc::Global;
 use std::process::Abort;
 use std::test::Fail;
 
 /// Pictures of 5 by 3 samples in 4:2:0, or of one plane.
 fn pictures(alloc: Global, chroma_planes: bool) -> Result<Checked, Fail> {
-    let mut sets = Sets::new(alloc);
-    sets.push(QuantSet::small(alloc)?)?;
-    let config = Config {
-        width: 5,
-        height: 3,
-        coder: Coder::One,
-        colour: Colour::YCbCr,
-        chroma_planes,
-        extra_plane: false,
-        log2_h: u32::from(chroma_planes),
-        log2_v: u32::from(chroma_planes),
-        columns: 1,
-        rows: 1,
-        sets,
-        ec: true,
-        intra: true,
-    };
+    let mut config = made::mono(alloc, 5, 3, 1, true)?;
+    config.chroma_planes = chroma_planes;
+    config.log2_h = u32::from(chroma_planes);
+    config.log2_v = u32::from(chroma_planes);
     let checked = config.check()?;
     Ok(checked)
 }

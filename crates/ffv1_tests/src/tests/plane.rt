@@ -26,7 +26,7 @@ const OTHER: &[u8] = &[1, 5, 7, 115];
 const SEVEN: &[u8] = &[1, 1, 1, 1, 1, 1, 122];
 
 /// Runs of the five tables of sets.
-const RUNS: [[&[u8]; 5]; 10] = [
+static RUNS: [[&[u8]; 5]; 10] = [
     [ELEVEN, ELEVEN, ELEVEN, ONE, ONE],
     [ELEVEN_WIDE, ELEVEN_WIDE, ELEVEN_WIDE, ONE, ONE],
     [ELEVEN_WIDE, ELEVEN_WIDE, FIVE, FIVE, FIVE],
@@ -40,7 +40,7 @@ const RUNS: [[&[u8]; 5]; 10] = [
 ];
 
 /// How many contexts the first of them have.
-const CONTEXTS: [u32; 6] = [666, 666, 7563, 1, 128, 32513];
+static CONTEXTS: [u32; 6] = [666, 666, 7563, 1, 128, 32513];
 
 /// Puts a set that was made after others.
 fn add_set(sets: &mut Vec<QuantSet>, made: Result<QuantSet, Fault>) -> Result<(), Fault> {
@@ -76,7 +76,7 @@ fn have_runs(rt: &impl Abort, sets: [&QuantSet; 6]) {
 }
 
 /// Runs that are refused, and why.
-const REFUSED: [([&[u8]; 5], Fault); 7] = [
+static REFUSED: [([&[u8]; 5], Fault); 7] = [
     ([ELEVEN, ELEVEN, ELEVEN, ELEVEN, ELEVEN], Fault::Contexts),
     ([ALL, ALL, ALL, ALL, ALL], Fault::Contexts),
     ([&[], ONE, ONE, ONE, ONE], Fault::Runs),
@@ -108,7 +108,7 @@ pub(super) fn around_of(samples: [u16; 6]) -> Around {
 
 /// Neighbours, the prediction among them, and their contexts by the large set and by one of wider
 /// runs.
-const PLACES: [([u16; 6], i32, (u32, bool), (u32, bool)); 13] = [
+static PLACES: [([u16; 6], i32, (u32, bool), (u32, bool)); 13] = [
     ([0, 0, 0, 0, 0, 0], 0, (0, false), (0, false)),
     ([255, 0, 0, 0, 255, 0], 255, (1, true), (1, true)),
     ([0, 255, 255, 255, 0, 0], 0, (1, false), (3026, false)),
@@ -164,7 +164,7 @@ fn finds_each(rt: &impl Abort, large: &QuantSet, other: &QuantSet) {
 }
 
 /// Neighbours, a sample among them, its context by the small set, and its residual.
-const CODED: [([u16; 6], u16, u32, i32); 4] = [
+static CODED: [([u16; 6], u16, u32, i32); 4] = [
     ([0, 0, 0, 0, 0, 0], 10, 0, 10),
     ([10, 0, 0, 0, 0, 0], 20, 3, 10),
     ([10, 10, 0, 20, 0, 0], 30, 393, -20),
@@ -184,7 +184,7 @@ fn codes_each(rt: &impl Abort, small: &QuantSet) {
 }
 
 /// Differences, folded to 8 and to 9 bits.
-const FOLDED: [(i32, i32, i32); 16] = [
+static FOLDED: [(i32, i32, i32); 16] = [
     (0, 0, 0),
     (127, 127, 127),
     (128, -128, 128),
@@ -212,7 +212,7 @@ fn folds_differences(rt: HostRuntime) {
 }
 
 /// Predictions, residuals, and the samples of 8 and of 9 bits that they make.
-const UNFOLDED: [(i32, i32, u16, u16); 10] = [
+static UNFOLDED: [(i32, i32, u16, u16); 10] = [
     (0, -1, 255, 511),
     (255, 1, 0, 256),
     (255, -256, 255, 511),
@@ -235,7 +235,7 @@ fn unfolds_residuals(rt: HostRuntime) {
 
 /// Predictions, whether the sign is flipped, sizes of residuals and whether they lie below 0, and
 /// the samples of 8 and of 9 bits that they make.
-const SIGNED: [(i32, bool, u32, bool, u16, u16); 8] = [
+static SIGNED: [(i32, bool, u32, bool, u16, u16); 8] = [
     (100, false, 3, false, 103, 103),
     (100, false, 3, true, 97, 97),
     (100, true, 3, false, 97, 97),

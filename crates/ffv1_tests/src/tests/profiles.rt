@@ -2,30 +2,16 @@
 //! the first `movi`.
 
 use crate::tests::avi::riffs::MORE;
-use crate::tests::made;
-use ffv1_avi::write_avi;
+use crate::tests::{made, shows};
 use ffv1_engine::{Fault, Profile, check, show, unpack};
-use ffv1_reads::FileHead;
-use ffv1_record::write_record;
 use ffv1_wire::{FromRead, ToWrite};
 use std::alloc::Global;
 use std::test::Fail;
 
 /// A file of one frame of 1 by 1, and so many RIFFs of one frame after it; then these bytes.
 fn file_of(alloc: Global, riffs: usize, last: &[u8]) -> Result<Vec<u8>, Fault> {
-    let checked = made::mono(alloc, 1, 1, 1, false)?.check()?;
-    let head = FileHead {
-        width: 1,
-        height: 1,
-        rate: 25,
-        scale: 1,
-        config_record: write_record(alloc, &checked)?,
-    };
-    let mut frames = Vec::new(alloc);
-    frames.push(Vec::from_slice(alloc, b"\xFE\x7B\x00\x00\x02")?)?;
-    let mut out = ToWrite::new(Vec::new(alloc));
-    write_avi(&mut out, &head, frames.as_slice())?;
-    let mut file = out.into_inner();
+    let config = made::mono(alloc, 1, 1, 1, false)?;
+    let mut file = shows::file_of(alloc, config, 25, 1, b"\xFE\x7B\x00\x00\x02", 1)?;
     for _riff in 0..riffs {
         file.extend_from_slice(&MORE)?;
     }
@@ -56,7 +42,7 @@ fn unpacks(alloc: Global, profile: Profile, file: &[u8], count: u64, text: &[u8]
 }
 
 /// Whether what a file says ends with this text, with what its frames cost.
-fn shows(alloc: Global, profile: Profile, file: &[u8], end: &[u8]) -> bool {
+fn is_shown(alloc: Global, profile: Profile, file: &[u8], end: &[u8]) -> bool {
     let mut output = ToWrite::new(Vec::new(alloc));
     let found = show(alloc, profile, &mut FromRead::new(file), &mut output, true);
     let same = output.into_inner().as_slice().ends_with(end);
@@ -65,16 +51,16 @@ fn shows(alloc: Global, profile: Profile, file: &[u8], end: &[u8]) -> bool {
 
 const ONE: &[u8] = b"frame 0: 5 bytes, 1 slices, 11 decisions\nframes 1\n";
 
-const TWO: &[u8] =
+static TWO: &[u8] =
     b"frame 0: 5 bytes, 1 slices, 11 decisions\nframe 1: 5 bytes, 1 slices, 11 decisions\n\
     frame 2: 5 bytes, 1 slices, 11 decisions\n";
 
-const THREE: &[u8] =
+static THREE: &[u8] =
     b"frame 0: 5 bytes, 1 slices, 11 decisions\nframe 1: 5 bytes, 1 slices, 11 decisions\n\
     frame 2: 5 bytes, 1 slices, 11 decisions\nframes 3\n";
 
 /// What the second of two frames cost.
-const COST: &[u8] = b"cost frame 1: ones 11 zeros 0 renormalisations 1\n";
+static COST: &[u8] = b"cost frame 1: ones 11 zeros 0 renormalisations 1\n";
 
 #[test]
 fn each_frame_is_checked(rt: HostRuntime) -> Result<(), Fail> {
@@ -104,6 +90,6 @@ fn each_frame_is_unpacked(rt: HostRuntime) -> Result<(), Fail> {
 #[test]
 fn each_frame_is_shown(rt: HostRuntime) -> Result<(), Fail> {
     let file = file_of(rt.alloc(), 1, b"")?;
-    assert!(rt; shows(rt.alloc(), Profile::Wide, &file, COST));
+    assert!(rt; is_shown(rt.alloc(), Profile::Wide, &file, COST));
     Ok(())
 }

@@ -2,7 +2,6 @@
 
 ghost use Rattle.std.specs.Prelude.{◌≡◌, ◌≤◌, length};
 
-use crate::tests::made::shows;
 use ffv1_rct::{NoColour, forward_line, inverse_line, narrow_line};
 
 /// Y of a place.
@@ -257,9 +256,4 @@ fn first_of_two_refused_places(rt: HostRuntime) {
     let refused = inverse_line(&y, &[1; 70], &[1; 70], &mut r, &mut g, &mut b);
     let first = Err(NoColour { x: 3 });
     assert!(rt; (refused, narrow_line(&y, &mut r)) == (first, first));
-}
-
-#[test]
-fn refusal_as_text(rt: HostRuntime) {
-    assert!(rt; shows(rt.alloc(), &NoColour { x: 3 }, "7 Colour"));
 }

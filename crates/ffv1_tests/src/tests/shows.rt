@@ -8,7 +8,7 @@ use ffv1_plane::QuantSet;
 use ffv1_reads::FileHead;
 use ffv1_record::{Coder, Colour, Config, RecordFault, Sets, write_record};
 use ffv1_wire::{FromRead, ToWrite};
-use std::alloc::Allocator;
+use std::alloc::Global;
 use std::process::Abort;
 use std::test::Fail;
 
@@ -18,17 +18,17 @@ const MONO: &[u8] = b"size 1x1\ncoder 1\ncolour YCbCr\nchroma mono\nslices 1x1\n
         held states 21312 samples 3 output 1 columns 1 offsets 1025\n";
 
 /// Those of images of 1 by 1.
-const IMAGE: &[u8] = b"size 1x1\ncoder 1\ncolour RCT\nchroma 0,0\nslices 1x1\ncontexts 666\n\
+static IMAGE: &[u8] = b"size 1x1\ncoder 1\ncolour RCT\nchroma 0,0\nslices 1x1\ncontexts 666\n\
         ec 0\nintra 1\nrate 25/1\n\
         held states 42624 samples 9 output 3 columns 1 offsets 1025\n";
 
 /// Those of images of 352 by 2 in two columns, with transparency and two sets.
-const WIDE: &[u8] = b"size 352x2\ncoder 1\ncolour RCT\nchroma 0,0\nextra 1\nslices 2x1\n\
+static WIDE: &[u8] = b"size 352x2\ncoder 1\ncolour RCT\nchroma 0,0\nextra 1\nslices 2x1\n\
         contexts 666 666\nec 1\nintra 0\nrate 30000/1001\n\
         held states 127872 samples 4224 output 1408 columns 2 offsets 1025\n";
 
 /// Those of 4:2:0 with deltas, of 4 by 6 in two columns and three rows, of the large set.
-const CHROMA: &[u8] = b"size 4x6\ncoder 2\ncolour YCbCr\nchroma 1,0\nslices 2x3\n\
+static CHROMA: &[u8] = b"size 4x6\ncoder 2\ncolour YCbCr\nchroma 1,0\nslices 2x3\n\
         contexts 16638\nnote other programs refuse sets of more than 16384 contexts\nec 0\n\
         intra 1\nrate 0/0\n\
         held states 2129664 samples 12 output 4 columns 2 offsets 1025\n";
@@ -36,22 +36,22 @@ const CHROMA: &[u8] = b"size 4x6\ncoder 2\ncolour YCbCr\nchroma 1,0\nslices 2x3\
 /// A frame of a mono picture of 1 by 1, and the line of what it costs.
 const FRAME: &[u8] = b"\xFE\x7B\x00\x00\x02";
 
-const COST: &[u8] = b"cost frame 0: ones 11 zeros 0 renormalisations 1\n";
+static COST: &[u8] = b"cost frame 0: ones 11 zeros 0 renormalisations 1\n";
 
 /// Mono pictures of 1 by 1, without parity.
-fn mono<A: Allocator + Copy>(alloc: A) -> Result<Config<A>, RecordFault> {
+fn mono(alloc: Global) -> Result<Config, RecordFault> {
     made::mono(alloc, 1, 1, 1, false)
 }
 
 /// A file of such a rate and scale, and of so many of these frames.
-fn file_of<A: Allocator + Copy>(
-    alloc: A,
-    config: Config<A>,
+pub(super) fn file_of(
+    alloc: Global,
+    config: Config,
     rate: u32,
     scale: u32,
     frame: &[u8],
     count: usize,
-) -> Result<Vec<u8, A>, Fault> {
+) -> Result<Vec<u8>, Fault> {
     let (width, height) = (config.width, config.height);
     let checked = config.check()?;
     let head = FileHead {
@@ -74,11 +74,7 @@ fn file_of<A: Allocator + Copy>(
 }
 
 /// What is answered of a file, and written.
-fn shown<A: Allocator + Copy>(
-    alloc: A,
-    file: &[u8],
-    cost: bool,
-) -> (Result<(), Fault>, Vec<u8, A>) {
+fn shown(alloc: Global, file: &[u8], cost: bool) -> (Result<(), Fault>, Vec<u8>) {
     let mut output = ToWrite::new(Vec::new(alloc));
     let answer = show(
         alloc,
@@ -91,9 +87,9 @@ fn shown<A: Allocator + Copy>(
 }
 
 /// A file is answered so, and these lines and others are written.
-fn shows<A: Allocator + Copy>(
+fn shows(
     rt: &impl Abort,
-    alloc: A,
+    alloc: Global,
     file: &[u8],
     cost: bool,
     answer: Result<(), Fault>,

@@ -3,17 +3,19 @@
 //! what `model/commands.py` writes of the same input.
 
 use ffv1_doubles::{FailingReader, Scarce, ShortWriter};
-use ffv1_engine::{Choice, CoderChoice, Fault, Profile, check, pack, show, trial, unpack};
-use ffv1_wire::{ByteIn, ByteOut, FromRead, ToWrite};
-use std::alloc::Allocator;
+use ffv1_engine::{
+    Choice, CoderChoice, Fault, Profile, check, pack, pack_matroska, show, trial, unpack,
+};
+use ffv1_wire::{ByteIn, ByteOut, FromRead, PatchOut, ToWrite};
+use std::alloc::{Allocator, Global};
 use std::io::ErrorKind;
 use std::process::Abort;
 use std::test::Fail;
 
 /// A text of 4:2:0 with one picture of 2 by 2, and its file.
-const TEXT: &[u8] = b"YUV4MPEG2 W2 H2 F25:1 C420mpeg2 Xa\nFRAME\n\x01\x02\x03\x04\x05\x06";
+static TEXT: &[u8] = b"YUV4MPEG2 W2 H2 F25:1 C420mpeg2 Xa\nFRAME\n\x01\x02\x03\x04\x05\x06";
 
-const FILE: &[u8] = b"RIFF\x02\x01\0\0AVI LIST\xDA\0\0\0hdrlavih8\0\0\0\x40\x9C\0\0\
+static FILE: &[u8] = b"RIFF\x02\x01\0\0AVI LIST\xDA\0\0\0hdrlavih8\0\0\0\x40\x9C\0\0\
         \0\0\0\0\0\0\0\0\0\0\0\0\x01\0\0\0\0\0\0\0\x01\0\0\0\0\0\0\0\x02\0\0\0\x02\0\0\0\
         \0\0\0\0\0\0\0\0\0\0\0\0\0\0\0\0LIST\x8E\0\0\0strlstrh8\0\0\0vidsFFV1\0\0\0\0\
         \0\0\0\0\0\0\0\0\x01\0\0\0\x19\0\0\0\0\0\0\0\x01\0\0\0\0\0\0\0\0\0\0\0\0\0\0\0\
@@ -22,9 +24,9 @@ const FILE: &[u8] = b"RIFF\x02\x01\0\0AVI LIST\xDA\0\0\0hdrlavih8\0\0\0\x40\x9C\
         \x8B\xE0\x94\xE2\x8FBLIST\x14\0\0\0movi00dc\x08\0\0\0\xFD\xF71\x0B\x1D\0\0\x05";
 
 /// A red image of 1 by 1, and its file.
-const IMAGE: &[u8] = b"P6\n1 1\n255\n\xFF\x00\x00";
+static IMAGE: &[u8] = b"P6\n1 1\n255\n\xFF\x00\x00";
 
-const IMAGE_FILE: &[u8] = b"RIFF\x04\x01\0\0AVI LIST\xDA\0\0\0hdrlavih8\0\0\0\x40\x9C\0\0\
+static IMAGE_FILE: &[u8] = b"RIFF\x04\x01\0\0AVI LIST\xDA\0\0\0hdrlavih8\0\0\0\x40\x9C\0\0\
         \0\0\0\0\0\0\0\0\0\0\0\0\x01\0\0\0\0\0\0\0\x01\0\0\0\0\0\0\0\x01\0\0\0\x01\0\0\0\
         \0\0\0\0\0\0\0\0\0\0\0\0\0\0\0\0LIST\x8E\0\0\0strlstrh8\0\0\0vidsFFV1\0\0\0\0\
         \0\0\0\0\0\0\0\0\x01\0\0\0\x19\0\0\0\0\0\0\0\x01\0\0\0\0\0\0\0\0\0\0\0\0\0\0\0\
@@ -33,13 +35,31 @@ const IMAGE_FILE: &[u8] = b"RIFF\x04\x01\0\0AVI LIST\xDA\0\0\0hdrlavih8\0\0\0\x4
         \x02LIST\x16\0\0\0movi00dc\x09\0\0\0\xFEx\xDF\x83\xD9\x2C\0\0\x06\0";
 
 /// Texts of two pictures, the second of which has more bytes, or as many.
-const PICTURES: &[u8] = b"YUV4MPEG2 W2 H2 F25:1 I? A0:0 C420jpeg\n\
+static PICTURES: &[u8] = b"YUV4MPEG2 W2 H2 F25:1 I? A0:0 C420jpeg\n\
         FRAME\n\0\0\0\0\0\0FRAME\n\x01\x02\x03\x04\x05\x06";
 
-const TWICE: &[u8] = b"YUV4MPEG2 W2 H2 F25:1 I? A0:0 C420jpeg\n\
+/// The first of them in Matroska that cannot be written over.
+static MATROSKA: &[u8] =
+    b"\x1AE\xDF\xA3\xA3B\x86\x81\x01B\xF7\x81\x01B\xF2\x81\x04B\xF3\x81\x08B\x82\x88matroska\
+        B\x87\x81\x04B\x85\x81\x02\x18S\x80g\x01\xFF\xFF\xFF\xFF\xFF\xFF\xFF\x11M\x9Bt\xC5\xBF\
+        \x84\xAD\xF0@8M\xBB\x92S\xAB\x84\x15I\xA9fS\xAC\x88\0\0\0\0\0\0\0JM\xBB\x92S\xAB\x84\
+        \x16T\xAEkS\xAC\x88\0\0\0\0\0\0\0\x94\xEC\x93\0\0\0\0\0\0\0\0\0\0\0\0\0\0\0\0\0\0\0\
+        \x15I\xA9f\xC5\xBF\x84 \xDD4\x93*\xD7\xB1\x88\0\0\0\0\x02bZ\0\xEC\x89\0\0\0\0\0\0\0\0\
+        \0M\x80\x91Ravenbillon mkv 1WA\x91Ravenbillon mkv 1\x16T\xAEk\x01\0\0\0\0\0\0l\xBF\x84\
+        r!j\xB3\xAE\x01\0\0\0\0\0\0]\xD7\x81\x01s\xC5\x81\x01\x83\x81\x01\x9C\x81\0\x22\xB5\
+        \x9C\x83und\x86\x86V_FFV1#\xE3\x83\x88\0\0\0\0\x02bZ\0\xE0\x8F\xB0\x84\0\0\0\x02\xBA\
+        \x84\0\0\0\x02\x9A\x81\0c\xA2\x01\0\0\0\0\0\0\x1AV\x000\xB8N6\xE1?UX\xF2\xC20-\xAC\x90\
+        \xB3y\xB1b\x8B\xE0\x94\xE2\x8FB\x1FC\xB6u\x01\0\0\0\0\0\0\x22\xBF\x84\x03\x15\x18\x1C\
+        \xE7\x88\0\0\0\0\0\0\0\0\xA3\x01\0\0\0\0\0\0\x09\x81\0\0\x80\xFE\xFB\0\0\x02\x1FC\xB6u\
+        \x01\0\0\0\0\0\0%\xBF\x84\x0E\xF5\x10Z\xE7\x88\0\0\0\0\0\0\0\x01\xA3\x01\0\0\0\0\0\0\
+        \x0C\x81\0\0\x80\xFD\xF71\x0B\x1D\0\0\x05\x1CS\xBBk\x01\0\0\0\0\0\0<\xBF\x84m\xD1\xC3\
+        \x81\xBB\x99\xB3\x88\0\0\0\0\0\0\0\0\xB7\x8D\xF7\x81\x01\xF1\x88\0\0\0\0\0\0\x01\x0C\
+        \xBB\x99\xB3\x88\0\0\0\0\0\0\0\x01\xB7\x8D\xF7\x81\x01\xF1\x88\0\0\0\0\0\0\x01:";
+
+static TWICE: &[u8] = b"YUV4MPEG2 W2 H2 F25:1 I? A0:0 C420jpeg\n\
         FRAME\n\x01\x02\x03\x04\x05\x06FRAME\n\x01\x02\x03\x04\x05\x06";
 
-const IMAGES: &[u8] = b"P6\n1 1\n255\n\0\xFF\0P6\n1 1\n255\n\xFF\0\0";
+static IMAGES: &[u8] = b"P6\n1 1\n255\n\0\xFF\0P6\n1 1\n255\n\xFF\0\0";
 
 const MONO: &[u8] = b"YUV4MPEG2 W1 H1 Cmono\nFRAME\n\0FRAME\n\0";
 
@@ -47,6 +67,7 @@ const MONO: &[u8] = b"YUV4MPEG2 W1 H1 Cmono\nFRAME\n\0FRAME\n\0";
 #[derive(Clone, Copy)]
 enum Command {
     Pack,
+    PackMatroska,
     Unpack,
     Check,
     Show,
@@ -67,22 +88,36 @@ struct Case<'a> {
     ends: Result<(), Fault>,
 }
 
+/// Without parity.
+const PLAIN: Choice = Choice {
+    coder: CoderChoice::Standard,
+    large: false,
+    columns: 1,
+    rows: 1,
+    ec: false,
+    rate: 25,
+    scale: 1,
+};
+
+/// Packs without parity into Matroska.
+fn pack_clusters<R: ByteIn, W: PatchOut, A: Allocator + Copy>(
+    alloc: A,
+    input: &mut R,
+    output: &mut W,
+) -> Result<(), Fault> {
+    match pack_matroska(alloc, Profile::Wide, input, output, &PLAIN) {
+        Ok(_) => Ok(()),
+        Err(fault) => Err(fault),
+    }
+}
+
 /// Packs without parity.
 fn pack_plain<R: ByteIn, W: ByteOut, A: Allocator + Copy>(
     alloc: A,
     input: &mut R,
     output: &mut W,
 ) -> Result<(), Fault> {
-    let plain = Choice {
-        coder: CoderChoice::Standard,
-        large: false,
-        columns: 1,
-        rows: 1,
-        ec: false,
-        rate: 25,
-        scale: 1,
-    };
-    match pack(alloc, Profile::Strict, input, output, &plain) {
+    match pack(alloc, Profile::Strict, input, output, &PLAIN) {
         Ok(_) => Ok(()),
         Err(fault) => Err(fault),
     }
@@ -102,7 +137,7 @@ fn unpack_all<R: ByteIn, W: ByteOut, A: Allocator + Copy>(
 }
 
 /// Runs a command, and hands the writer back.
-fn run<R: ByteIn, W: ByteOut, A: Allocator + Copy>(
+fn run<R: ByteIn, W: PatchOut, A: Allocator + Copy>(
     alloc: A,
     command: Command,
     input: &mut R,
@@ -112,6 +147,7 @@ fn run<R: ByteIn, W: ByteOut, A: Allocator + Copy>(
     let answer = match command {
         Command::Unpack => return unpack_all(alloc, input, output),
         Command::Pack => pack_plain(alloc, input, &mut output),
+        Command::PackMatroska => pack_clusters(alloc, input, &mut output),
         Command::Check => check(alloc, Profile::Strict, input, &mut output, true),
         Command::Show => show(alloc, Profile::Strict, input, &mut output, true),
         Command::Trial => trial(alloc, input, &mut output),
@@ -144,11 +180,7 @@ fn is_step(steps: &[(usize, usize)], written: usize) -> bool {
 }
 
 /// The answer, and what was written, where the request after so many others is refused.
-fn refused<A: Allocator + Copy>(
-    alloc: A,
-    case: &Case<'_>,
-    before: u64,
-) -> (Result<(), Fault>, Option<usize>) {
+fn refused(alloc: Global, case: &Case<'_>, before: u64) -> (Result<(), Fault>, Option<usize>) {
     let heap = Scarce::new(alloc, before);
     let output = ToWrite::new(Vec::new(alloc));
     let (output, answer) = run(&heap, case.command, &mut FromRead::new(case.input), output);
@@ -156,11 +188,7 @@ fn refused<A: Allocator + Copy>(
 }
 
 /// The same, where the read after so many of one byte fails.
-fn unread<A: Allocator + Copy>(
-    alloc: A,
-    case: &Case<'_>,
-    before: usize,
-) -> (Result<(), Fault>, Option<usize>) {
+fn unread(alloc: Global, case: &Case<'_>, before: usize) -> (Result<(), Fault>, Option<usize>) {
     let mut input = FromRead::new(FailingReader::new(case.input, before, 1, ErrorKind::Other));
     let output = ToWrite::new(Vec::new(alloc));
     let (output, answer) = run(alloc, case.command, &mut input, output);
@@ -168,11 +196,7 @@ fn unread<A: Allocator + Copy>(
 }
 
 /// The same, where the writer takes so many bytes, seven at a time, and then fails.
-fn unwritten<A: Allocator + Copy>(
-    alloc: A,
-    case: &Case<'_>,
-    room: usize,
-) -> (Result<(), Fault>, Option<usize>) {
+fn unwritten(alloc: Global, case: &Case<'_>, room: usize) -> (Result<(), Fault>, Option<usize>) {
     let output = ToWrite::new(ShortWriter::new(alloc, room, 7, Some(ErrorKind::Other)));
     let (output, answer) = run(alloc, case.command, &mut FromRead::new(case.input), output);
     (answer, beginning(case.owed, output.into_inner().held()))
@@ -181,7 +205,7 @@ fn unwritten<A: Allocator + Copy>(
 /// Each request is refused in turn: `OutOfMemory` from the first to the last, with the text of some
 /// frames written. How many were refused after something written, and how many after the fault
 /// whose place was then not told.
-fn each_request<A: Allocator + Copy>(rt: &impl Abort, alloc: A, case: &Case<'_>) -> (u64, u64) {
+fn each_request(rt: &impl Abort, alloc: Global, case: &Case<'_>) -> (u64, u64) {
     let (mut count, mut begun, mut lost) = (0u64, 0u64, 0u64);
     for before in 0..80u64 {
         let (answer, written) = refused(alloc, case, before);
@@ -202,7 +226,7 @@ fn each_request<A: Allocator + Copy>(rt: &impl Abort, alloc: A, case: &Case<'_>)
 }
 
 /// Each read fails in turn: `Read`, and what stands after the bytes that were read.
-fn each_read<A: Allocator + Copy>(rt: &impl Abort, alloc: A, case: &Case<'_>) {
+fn each_read(rt: &impl Abort, alloc: Global, case: &Case<'_>) {
     let all = match case.steps.last() {
         Some(step) => step.0,
         None => 0,
@@ -221,7 +245,7 @@ fn each_read<A: Allocator + Copy>(rt: &impl Abort, alloc: A, case: &Case<'_>) {
 }
 
 /// The output is cut at each byte: `Write`, and as many bytes as it takes.
-fn each_write<A: Allocator + Copy>(rt: &impl Abort, alloc: A, case: &Case<'_>) {
+fn each_write(rt: &impl Abort, alloc: Global, case: &Case<'_>) {
     for room in 0..=case.owed.len() {
         let (answer, written) = unwritten(alloc, case, room);
         let wanted = if room < case.told {
@@ -235,14 +259,14 @@ fn each_write<A: Allocator + Copy>(rt: &impl Abort, alloc: A, case: &Case<'_>) {
 }
 
 /// All of them; how many requests were refused after something written.
-fn in_turn<A: Allocator + Copy>(rt: &impl Abort, alloc: A, case: &Case<'_>) -> (u64, u64) {
+fn in_turn(rt: &impl Abort, alloc: Global, case: &Case<'_>) -> (u64, u64) {
     each_read(rt, alloc, case);
     each_write(rt, alloc, case);
     each_request(rt, alloc, case)
 }
 
 /// A text is packed: nothing stands written before all was read.
-fn packs<A: Allocator + Copy>(rt: &impl Abort, alloc: A, text: &[u8], file: &[u8]) {
+fn packs(rt: &impl Abort, alloc: Global, text: &[u8], file: &[u8]) {
     let case = Case {
         command: Command::Pack,
         input: text,
@@ -260,6 +284,21 @@ fn packing(rt: HostRuntime) {
     packs(&rt, rt.alloc(), IMAGE, IMAGE_FILE);
 }
 
+/// A picture is written as soon as it was read, and Cues once the end was.
+#[test]
+fn packing_matroska(rt: HostRuntime) {
+    let case = Case {
+        command: Command::PackMatroska,
+        input: PICTURES,
+        steps: &[(51, 366), (63, 415), (64, 487)],
+        owed: MATROSKA,
+        told: MATROSKA.len(),
+        ends: Ok(()),
+    };
+    let (begun, lost) = in_turn(&rt, rt.alloc(), &case);
+    assert!(rt; 0 < begun && lost == 0);
+}
+
 #[test]
 fn trials(rt: HostRuntime) {
     let case = Case {
@@ -274,7 +313,7 @@ fn trials(rt: HostRuntime) {
 }
 
 /// The file of a text, whose last frame begins with a byte of 0 where it is to be damaged.
-fn file_of<A: Allocator + Copy>(alloc: A, text: &[u8], damage: bool) -> Result<Vec<u8, A>, Fault> {
+fn file_of(alloc: Global, text: &[u8], damage: bool) -> Result<Vec<u8>, Fault> {
     let mut output = ToWrite::new(Vec::new(alloc));
     pack_plain(alloc, &mut FromRead::new(text), &mut output)?;
     let mut file = output.into_inner();
@@ -288,9 +327,9 @@ fn file_of<A: Allocator + Copy>(alloc: A, text: &[u8], damage: bool) -> Result<V
 
 /// A file of two frames, the first of which ends after so many bytes, whose text or lines have so
 /// many after each frame. How many requests were refused after something written.
-fn plays<A: Allocator + Copy>(
+fn plays(
     rt: &impl Abort,
-    alloc: A,
+    alloc: Global,
     command: Command,
     file: &[u8],
     steps: &[(usize, usize)],

@@ -1,12 +1,12 @@
 //! Files that are unpacked, with texts computed outside the program, and their faults.
 
+use super::made;
 use ffv1_avi::write_avi;
 use ffv1_engine::{Choice, CoderChoice, Fault, Profile, pack, unpack};
-use ffv1_plane::QuantSet;
 use ffv1_reads::FileHead;
-use ffv1_record::{Coder, Colour, Config, Sets, write_record};
+use ffv1_record::{Colour, Config, write_record};
 use ffv1_wire::{FromRead, ToWrite};
-use std::alloc::Allocator;
+use std::alloc::Global;
 use std::process::Abort;
 use std::test::Fail;
 
@@ -30,11 +30,7 @@ const CANONICAL: &[u8] = b"YUV4MPEG2 W2 H2 F25:1 I? A0:0 C420jpeg\nFRAME\n\x01\x
 const IMAGE: &[u8] = b"P6\n1 1\n255\n\xFF\x00\x00";
 
 /// The file of a text.
-fn file_of<A: Allocator + Copy>(
-    alloc: A,
-    text: &[u8],
-    choice: &Choice,
-) -> Result<Vec<u8, A>, Fault> {
+fn file_of(alloc: Global, text: &[u8], choice: &Choice) -> Result<Vec<u8>, Fault> {
     let mut input = FromRead::new(text);
     let mut output = ToWrite::new(Vec::new(alloc));
     pack(alloc, Profile::Strict, &mut input, &mut output, choice)?;
@@ -42,13 +38,7 @@ fn file_of<A: Allocator + Copy>(
 }
 
 /// Unpacking a file answers so, and writes this.
-fn comes_to<A: Allocator + Copy>(
-    rt: &impl Abort,
-    alloc: A,
-    file: &[u8],
-    answer: Result<u64, Fault>,
-    text: &[u8],
-) {
+fn comes_to(rt: &impl Abort, alloc: Global, file: &[u8], answer: Result<u64, Fault>, text: &[u8]) {
     let output = ToWrite::new(Vec::new(alloc));
     let (written, found) = unpack(alloc, Profile::Strict, &mut FromRead::new(file), output);
     assert!(rt; found == answer);
@@ -56,9 +46,9 @@ fn comes_to<A: Allocator + Copy>(
 }
 
 /// A text that is packed and unpacked is this one.
-fn comes_back<A: Allocator + Copy>(
+fn comes_back(
     rt: &impl Abort,
-    alloc: A,
+    alloc: Global,
     text: &[u8],
     count: u64,
     back: &[u8],
@@ -68,73 +58,55 @@ fn comes_back<A: Allocator + Copy>(
     Ok(())
 }
 
-#[test]
-fn pictures(rt: HostRuntime) -> Result<(), Fail> {
-    assert!(&rt; CANONICAL.len() == 51);
-    comes_back(&rt, rt.alloc(), TEXT, 1, CANONICAL)?;
-    comes_back(
-        &rt,
-        rt.alloc(),
+/// Texts, how many pictures they have, and what comes back of them.
+static BACK: [(&[u8], u64, &[u8]); 5] = [
+    (TEXT, 1, CANONICAL),
+    (
         b"YUV4MPEG2 W1 H1 C444alpha\nFRAME\n\x01\x02\x03\x04",
         1,
         b"YUV4MPEG2 W1 H1 F0:0 I? A0:0 C444alpha\nFRAME\n\x01\x02\x03\x04",
-    )?;
-    comes_back(
-        &rt,
-        rt.alloc(),
+    ),
+    (
         b"YUV4MPEG2 H1 W1 F30000:1001 It A4:3 Cmono\nFRAME\n\x07FRAME\n\x08",
         2,
         b"YUV4MPEG2 W1 H1 F30000:1001 It A4:3 Cmono\nFRAME\n\x07FRAME\n\x08",
-    )?;
-    Ok(())
-}
-
-#[test]
-fn images(rt: HostRuntime) -> Result<(), Fail> {
-    comes_back(&rt, rt.alloc(), IMAGE, 1, IMAGE)?;
-    comes_back(
-        &rt,
-        rt.alloc(),
+    ),
+    (IMAGE, 1, IMAGE),
+    (
         b"P6\n2 1\n255\n\x01\x02\x03\x04\x05\x06P6\n2 1\n255\n\x11\x12\x13\x14\x15\x16",
         2,
         b"P6\n2 1\n255\n\x01\x02\x03\x04\x05\x06P6\n2 1\n255\n\x11\x12\x13\x14\x15\x16",
-    )?;
+    ),
+];
+
+#[test]
+fn pictures(rt: HostRuntime) -> Result<(), Fail> {
+    assert!(&rt; CANONICAL.len() == 51);
+    for &(text, count, back) in &BACK {
+        comes_back(&rt, rt.alloc(), text, count, back)?;
+    }
     Ok(())
 }
 
 /// Pictures of one slice, without parity.
-fn config_of<A: Allocator + Copy>(
-    alloc: A,
+fn config_of(
+    alloc: Global,
     size: (u32, u32),
     colour: Colour,
     planes: (bool, bool),
     log2: (u32, u32),
-) -> Result<Config<A>, Fault> {
-    let mut sets = Sets::new(alloc);
-    sets.push(QuantSet::small(alloc)?)?;
-    Ok(Config {
-        width: size.0,
-        height: size.1,
-        coder: Coder::One,
-        colour,
-        chroma_planes: planes.0,
-        extra_plane: planes.1,
-        log2_h: log2.0,
-        log2_v: log2.1,
-        columns: 1,
-        rows: 1,
-        sets,
-        ec: false,
-        intra: true,
-    })
+) -> Result<Config, Fault> {
+    let mut config = made::mono(alloc, size.0, size.1, 1, false)?;
+    config.colour = colour;
+    config.chroma_planes = planes.0;
+    config.extra_plane = planes.1;
+    config.log2_h = log2.0;
+    config.log2_v = log2.1;
+    Ok(config)
 }
 
 /// A file of this configuration and these frames.
-fn file_with<A: Allocator + Copy>(
-    alloc: A,
-    config: Config<A>,
-    frames: &[Vec<u8, A>],
-) -> Result<Vec<u8, A>, Fault> {
+fn file_with(alloc: Global, config: Config, frames: &[Vec<u8>]) -> Result<Vec<u8>, Fault> {
     let (width, height) = (config.width, config.height);
     if width > 8192 || height > 8192 {
         return Err(Fault::Size);
@@ -152,9 +124,9 @@ fn file_with<A: Allocator + Copy>(
 }
 
 /// A file without frames, of pictures of 2 by 2, is refused so, and nothing is written.
-fn refuses<A: Allocator + Copy>(
+fn refuses(
     rt: &impl Abort,
-    alloc: A,
+    alloc: Global,
     colour: Colour,
     planes: (bool, bool),
     log2: (u32, u32),
@@ -167,30 +139,38 @@ fn refuses<A: Allocator + Copy>(
     Ok(())
 }
 
+/// Colours, planes and subsampling of files without frames, and why they are refused.
+static REFUSED: [(Colour, (bool, bool), (u32, u32), Fault); 6] = [
+    (Colour::YCbCr, (true, false), (0, 1), Fault::NoY4mName),
+    (Colour::YCbCr, (true, true), (1, 1), Fault::NoY4mName),
+    (Colour::YCbCr, (true, false), (2, 2), Fault::NoY4mName),
+    (Colour::Rct, (true, true), (0, 0), Fault::NoPpm),
+    (Colour::YCbCr, (true, false), (1, 1), Fault::NoFrames),
+    (Colour::Rct, (true, false), (0, 0), Fault::NoFrames),
+];
+
 #[test]
-fn no_text(rt: HostRuntime) -> Result<(), Fail> {
-    let alloc = rt.alloc();
-    let no_name = Fault::NoY4mName;
-    refuses(&rt, alloc, Colour::YCbCr, (true, false), (0, 1), no_name)?;
-    refuses(&rt, alloc, Colour::YCbCr, (true, true), (1, 1), no_name)?;
-    refuses(&rt, alloc, Colour::YCbCr, (true, false), (2, 2), no_name)?;
-    refuses(&rt, alloc, Colour::Rct, (true, true), (0, 0), Fault::NoPpm)?;
+fn no_text_and_no_frames(rt: HostRuntime) -> Result<(), Fail> {
+    for &(colour, planes, log2, fault) in &REFUSED {
+        refuses(&rt, rt.alloc(), colour, planes, log2, fault)?;
+    }
     Ok(())
 }
 
 #[test]
-fn no_frames(rt: HostRuntime) -> Result<(), Fail> {
-    let alloc = rt.alloc();
-    let none = Fault::NoFrames;
-    refuses(&rt, alloc, Colour::YCbCr, (true, false), (1, 1), none)?;
-    refuses(&rt, alloc, Colour::Rct, (true, false), (0, 0), none)?;
-    comes_to(&rt, alloc, b"RIFX", Err(Fault::Truncated), b"");
-    comes_to(&rt, alloc, b"RIFX\0\0\0\0AVI ", Err(Fault::NotAvi), b"");
-    Ok(())
+fn no_file(rt: HostRuntime) {
+    comes_to(&rt, rt.alloc(), b"RIFX", Err(Fault::Truncated), b"");
+    comes_to(
+        &rt,
+        rt.alloc(),
+        b"RIFX\0\0\0\0AVI ",
+        Err(Fault::NotAvi),
+        b"",
+    );
 }
 
 /// Two frames of one sample 0, the second as wide as high.
-fn other_aspect<A: Allocator + Copy>(rt: &impl Abort, alloc: A) -> Result<(), Fault> {
+fn other_aspect(rt: &impl Abort, alloc: Global) -> Result<(), Fault> {
     let config = config_of(alloc, (1, 1), Colour::YCbCr, (false, false), (0, 0))?;
     let mut frames = Vec::new(alloc);
     frames.push(Vec::from_slice(alloc, b"\xFE\x7B\x00\x00\x02")?)?;
@@ -208,7 +188,7 @@ fn another_aspect(rt: HostRuntime) -> Result<(), Fail> {
 }
 
 /// Two images, the second damaged: its first byte that is decided by no sample.
-fn damaged<A: Allocator + Copy>(rt: &impl Abort, alloc: A) -> Result<(), Fault> {
+fn damaged(rt: &impl Abort, alloc: Global) -> Result<(), Fault> {
     let images = b"P6\n1 2\n255\n\x01\x02\x03\x04\x05\x06P6\n1 2\n255\n\x11\x12\x13\x14\x15\x16";
     let mut file = file_of(alloc, images, &Choice { ec: true, ..PLAIN })?;
     if let Some(place) = file.len().checked_sub(3) {

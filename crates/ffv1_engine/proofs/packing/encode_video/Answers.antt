@@ -3,8 +3,13 @@ use Rattle.std.proofs.Common.{refl, ap, ◌≡◌, ◌<◌, length, arith}
 use Rattle.std.proofs.lemmas.Grind.{common_steps}
 use Rattle.ffv1_engine.proofs.FrameBytes.{empty_of}
 use Rattle.ffv1_engine.proofs.VideoEnds.{encodes_video, no_frames, some_frames}
-use Rattle.ffv1_engine.proofs.VideoEncoded.{none, rejected, stops, wants_memory}
+use Rattle.ffv1_engine.proofs.VideoEncoded.{no_head, none, rejected, stops, wants_memory}
 use Rattle.ffv1_engine.proofs.packing.encode_video.Goals as goal
+
+pub returns-in_err-reader-clause-err : goal.returns-in_err-reader-clause-err
+returns-in_err-reader-clause-err g c =
+    let p = err_from_is_err_and c.from_residual.result c.from_residual.ensures.1 in
+    rw (p.1, p.2) (no_head c.args.choice.now _ c.in_err-reader.field-0.0 c.in_err-reader.ensures.err)
 
 pub returns-in_err-head-clause-err : goal.returns-in_err-head-clause-err
 returns-in_err-head-clause-err g c =

@@ -1,4 +1,8 @@
-use Rattle.std.proofs.Common.{Err, Ok, inl, inr, subst, sym}
+use Rattle.std.proofs.Common.{◌≡◌, Err, Ok, Result, inl, inr, subst, sym}
+use Rattle.ffv1_wire.specs.Passage.{Passage}
+use Rattle.ffv1_record.specs.Accepted.{Accepted}
+use Rattle.ffv1_files.specs.declared.container.Container.{Container}
+use Rattle.ffv1_engine.specs.declared.fault.Fault.{Fault}
 use Rattle.std.proofs.lemmas.Result.{err_from_is_err_and}
 use Rattle.ffv1_wire.specs.Passage.{passage}
 use Rattle.ffv1_reads.specs.Head.{Head, head_of}
@@ -11,6 +15,12 @@ use Rattle.ffv1_engine.proofs.FileChecked.{reads_file}
 use Rattle.ffv1_engine.proofs.FileShown.{before_costs, costs_stop, lacks_stream, no_decoder, shows, shows_costs, text_stops}
 use Rattle.ffv1_engine.proofs.OwnFaults.{line_shows, opened_shows, told_shows}
 use Rattle.ffv1_engine.proofs.showing.show.Goals as goal
+
+-- the lines that were written are those of the reader's head and container
+lines_told : (a : Accepted) (p : Passage) (r : Result (Unit {0}) Fault) {h k : Head} {d e : Container} → h ≡ k → d ≡ e → WritesFrame (show_text d (record { head = h; accepted = a })) p r →
+    WritesFrame (show_text e (record { head = k; accepted = a })) p r
+lines_told a p r {h = h} {e = e} head same writes =
+    subst (λ (j : Head). WritesFrame (show_text e (record { head = j; accepted = a })) p r) head (subst (λ (g : Container). WritesFrame (show_text g (record { head = h; accepted = a })) p r) same writes)
 
 pub returns-in_err-reader-clause-err : goal.returns-in_err-reader-clause-err
 returns-in_err-reader-clause-err g c =
@@ -28,7 +38,7 @@ returns-in_err-write_stream-clause-err g c =
     let f = c.in_err-write_stream.field-0.0 in
     let r = c.in_ok-reader.reader in
     let a = c.in_ok-reader.checked in
-    let writes = subst (λ (h : Head). WritesFrame (show_text (record { head = h; accepted = a })) output (Err f)) c.head.ensures c.in_err-write_stream.ensures in
+    let writes = lines_told a output (Err f) c.head.ensures c.container.ensures c.in_err-write_stream.ensures in
     rw (p.1, p.2) (before_costs c.args.profile input output c.args.cost f (text_stops _ _ _ _ _ _ _ _ _ r a c.in_ok-reader.ensures.ok f writes))
 
 pub returns-in_err-tell_costs-clause-err : goal.returns-in_err-tell_costs-clause-err
@@ -40,7 +50,7 @@ returns-in_err-tell_costs-clause-err g c =
     let f = c.in_err-tell_costs.field-0.0 in
     let r = c.in_ok-reader.reader in
     let a = c.in_ok-reader.checked in
-    let writes = subst (λ (h : Head). WritesFrame (show_text (record { head = h; accepted = a })) between (Ok c.in_ok-write_stream.field-0)) c.head.ensures c.in_ok-write_stream.ensures in
+    let writes = lines_told a between (Ok c.in_ok-write_stream.field-0) c.head.ensures c.container.ensures c.in_ok-write_stream.ensures in
     rw (p.1, p.2) (subst (λ b. ShowStops c.args.profile input output b f) (sym c.if-cost.true)
     (inr (elim c.in_err-tell_costs.ensures.err [
       | inl none ↦ no_decoder _ _ _ _ _ _ _ _ _ _ _ _ _ r a c.in_ok-reader.ensures.ok writes.0 writes.1 f none
@@ -56,7 +66,7 @@ returns-in_ok-tell_costs-clause-ok g c =
     let a = c.in_ok-reader.checked in
     let opens = c.in_ok-reader.ensures.ok in
     let told = c.in_ok-tell_costs.ensures.ok in
-    let writes = subst (λ (h : Head). WritesFrame (show_text (record { head = h; accepted = a })) between (Ok c.in_ok-write_stream.field-0)) c.head.ensures c.in_ok-write_stream.ensures in
+    let writes = lines_told a between (Ok c.in_ok-write_stream.field-0) c.head.ensures c.container.ensures c.in_ok-write_stream.ensures in
     let reads = reads_file c.frames_in_turn.ensures c.read_is_file.ensures.first c.read_is_file.ensures.whole c.args.profile _ _ _ (stream_of r a) r.place told.0 opens.known told.1.ends in
     subst (λ b. ShowDone c.args.profile input output b) (sym c.if-cost.true) (shows_costs _ _ _ _ _ _ _ _ _ _ _ _ _ r a opens writes.0 writes.1 told.0 told.1 reads)
 
@@ -64,7 +74,7 @@ pub returns-in_err-write_stream-clause-own : goal.returns-in_err-write_stream-cl
 returns-in_err-write_stream-clause-own g c =
     let p = err_from_is_err_and c.from_residual-in_err-write_stream.result c.from_residual-in_err-write_stream.ensures.1 in
     let output = passage g.W.ByteOut.contents g.W.ByteOut.failures c.args.output.now c.write_stream.new.output in
-    let text = show_text (record { head = head_of c.head.result.now; accepted = c.in_ok-reader.checked }) in
+    let text = show_text c.container.result (record { head = head_of c.head.result.now; accepted = c.in_ok-reader.checked }) in
     rw (p.1, p.2) (inl (line_shows c.args.cost text output c.in_err-write_stream.field-0.0 c.in_err-write_stream.ensures))
 
 pub returns-in_err-tell_costs-clause-own : goal.returns-in_err-tell_costs-clause-own
@@ -79,7 +89,7 @@ returns-else-cost-clause-ok g c =
     let output = passage g.W.ByteOut.contents g.W.ByteOut.failures c.args.output.now c.write_stream.new.output in
     let r = c.in_ok-reader.reader in
     let a = c.in_ok-reader.checked in
-    let writes = subst (λ (h : Head). WritesFrame (show_text (record { head = h; accepted = a })) output (Ok c.in_ok-write_stream.field-0)) c.head.ensures c.in_ok-write_stream.ensures in
+    let writes = lines_told a output (Ok c.in_ok-write_stream.field-0) c.head.ensures c.container.ensures c.in_ok-write_stream.ensures in
     subst (λ b. ShowDone c.args.profile input output b) (sym c.if-cost.false) (shows c.args.profile _ _ _ _ _ _ _ _ r a c.in_ok-reader.ensures.ok writes.0 writes.1)
 
 pub returns-in_err-reader-clause-own : goal.returns-in_err-reader-clause-own

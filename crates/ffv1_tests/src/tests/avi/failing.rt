@@ -50,7 +50,7 @@ fn failing_reads(rt: HostRuntime) {
             assert!(rt; answers == Ok((Ok(true), Ok(false), Ok(false))));
         }
     }
-    assert_eq!(rt; frames, 3);
+    assert!(rt; frames == 3);
     assert!(rt; 8 < opens && opens < 36);
 }
 

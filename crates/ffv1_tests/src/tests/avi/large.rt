@@ -1,13 +1,19 @@
 //! Frames of many bytes.
 
-use super::built::zeros;
 use super::files::file_of;
 use ffv1_avi::AviReader;
 use ffv1_reads::{FileFault, FileHead};
 use ffv1_wire::FromRead;
-use std::alloc::Global;
+use std::alloc::{AllocError, Global};
 use std::process::Abort;
 use std::test::Fail;
+
+/// So many zeros.
+fn zeros(alloc: Global, count: usize) -> Result<Vec<u8>, AllocError> {
+    let mut bytes = Vec::new(alloc);
+    bytes.resize(count, 0)?;
+    Ok(bytes)
+}
 
 /// One frame of so many zeros and a byte 7.
 fn frames_of(alloc: Global, zeros_before: usize) -> Result<Vec<Vec<u8>>, Fail> {

@@ -10,7 +10,7 @@ use std::test::Fail;
 
 const FRAME: &[u8] = b"\xFE\x7B\x00\x00\x02";
 
-const TOLD: &[u8] = b"frame 0: 5 bytes, 1 slices, 11 decisions\nframes 1\n";
+static TOLD: &[u8] = b"frame 0: 5 bytes, 1 slices, 11 decisions\nframes 1\n";
 
 #[test]
 fn container_of_a_file(rt: HostRuntime) -> Result<(), Fail> {

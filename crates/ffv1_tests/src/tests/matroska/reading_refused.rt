@@ -1,7 +1,7 @@
 //! Reads that fail, and memory that is refused.
 
 use super::reading::frames_of;
-use super::reading_files::SMALLEST;
+use super::written_example::EXAMPLE;
 use ffv1_doubles::{FailingReader, Scarce};
 use ffv1_reads::FileFault;
 use ffv1_wire::FromRead;
@@ -10,7 +10,7 @@ use std::io::ErrorKind;
 
 /// How many frames the smallest file gives where a read fails after so many, and the fault.
 fn failing(alloc: Global, before: usize) -> (u32, Option<FileFault>) {
-    let mut input = FromRead::new(FailingReader::new(&SMALLEST, before, 40, ErrorKind::Other));
+    let mut input = FromRead::new(FailingReader::new(&EXAMPLE, before, 40, ErrorKind::Other));
     frames_of(alloc, &mut input)
 }
 
@@ -35,7 +35,7 @@ fn failing_reads(rt: HostRuntime) {
 /// The same where the request of memory after so many others is refused.
 fn scarce(alloc: Global, before: u64) -> (u32, Option<FileFault>) {
     let heap = Scarce::new(alloc, before);
-    let mut input = FromRead::new(SMALLEST.as_slice());
+    let mut input = FromRead::new(EXAMPLE.as_slice());
     frames_of(&heap, &mut input)
 }
 

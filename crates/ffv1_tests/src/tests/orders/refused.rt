@@ -9,200 +9,133 @@ fn refuses(rt: &impl Abort, alloc: Global, line: &[&str], kind: ErrorKind) {
     assert!(rt; words(alloc, line).err().is_some_and(|e| e.kind() == kind));
 }
 
-/// `pack` of `a` to `b` with this option is refused.
-fn refuses_option(rt: &impl Abort, alloc: Global, option: &str, kind: ErrorKind) {
-    refuses(rt, alloc, &["ffv1", "pack", option, "a", "b"], kind);
+/// Each line is refused so.
+fn refuses_each(rt: &impl Abort, alloc: Global, lines: &[&[&str]], kind: ErrorKind) {
+    for &line in lines {
+        refuses(rt, alloc, line, kind);
+    }
 }
 
+/// Options of `pack` whose values are out of range.
+static OUT_OF_RANGE: [&[&str]; 16] = [
+    &["ffv1", "pack", "--coder=0", "a", "b"],
+    &["ffv1", "pack", "--coder=3", "a", "b"],
+    &["ffv1", "pack", "--columns=0", "a", "b"],
+    &["ffv1", "pack", "--columns=33", "a", "b"],
+    &["ffv1", "pack", "--columns=-1", "a", "b"],
+    &["ffv1", "pack", "--columns=", "a", "b"],
+    &["ffv1", "pack", "--columns=four", "a", "b"],
+    &["ffv1", "pack", "--rows=0", "a", "b"],
+    &["ffv1", "pack", "--rows=33", "a", "b"],
+    &["ffv1", "pack", "--ec=2", "a", "b"],
+    &["ffv1", "pack", "--rate=0", "a", "b"],
+    &["ffv1", "pack", "--rate=4294967296", "a", "b"],
+    &["ffv1", "pack", "--rate=99999999999999999999", "a", "b"],
+    &["ffv1", "pack", "--scale=0", "a", "b"],
+    &["ffv1", "pack", "--scale=4294967296", "a", "b"],
+    &["ffv1", "pack", "--scale=1.5", "a", "b"],
+];
+
+/// Other values than those that there are, and none.
+static INVALID: [&[&str]; 4] = [
+    &["ffv1", "pack", "--contexts=medium", "a", "b"],
+    &["ffv1", "pack", "--contexts=", "a", "b"],
+    &["ffv1", "pack", "--contexts=Large", "a", "b"],
+    &["ffv1", "pack", "a", "b", "--rows"],
+];
+
 #[test]
-fn values_out_of_range(rt: HostRuntime) {
-    for option in [
-        "--coder=0",
-        "--coder=3",
-        "--columns=0",
-        "--columns=33",
-        "--columns=-1",
-        "--columns=",
-        "--columns=four",
-        "--rows=0",
-        "--rows=33",
-        "--ec=2",
-        "--rate=0",
-        "--rate=4294967296",
-        "--rate=99999999999999999999",
-        "--scale=0",
-        "--scale=4294967296",
-        "--scale=1.5",
-    ] {
-        refuses_option(&rt, rt.alloc(), option, ErrorKind::ValueValidation);
-    }
-    refuses_option(
-        &rt,
-        rt.alloc(),
-        "--contexts=medium",
-        ErrorKind::InvalidValue,
-    );
-    refuses_option(&rt, rt.alloc(), "--contexts=", ErrorKind::InvalidValue);
-    refuses_option(&rt, rt.alloc(), "--contexts=Large", ErrorKind::InvalidValue);
+fn values(rt: HostRuntime) {
+    refuses_each(&rt, rt.alloc(), &OUT_OF_RANGE, ErrorKind::ValueValidation);
+    refuses_each(&rt, rt.alloc(), &INVALID, ErrorKind::InvalidValue);
 }
+
+/// Files are missing.
+static MISSING: [&[&str]; 7] = [
+    &["ffv1", "pack"],
+    &["ffv1", "unpack"],
+    &["ffv1", "check"],
+    &["ffv1", "show"],
+    &["ffv1", "trial"],
+    &["ffv1", "pack", "a"],
+    &["ffv1", "unpack", "a"],
+];
 
 #[test]
 fn words_missing(rt: HostRuntime) {
-    let alloc = rt.alloc();
-    for name in ["pack", "unpack", "check", "show", "trial"] {
-        refuses(
-            &rt,
-            alloc,
-            &["ffv1", name],
-            ErrorKind::MissingRequiredArgument,
-        );
-    }
-    refuses(
-        &rt,
-        alloc,
-        &["ffv1", "pack", "a"],
-        ErrorKind::MissingRequiredArgument,
-    );
-    refuses(
-        &rt,
-        alloc,
-        &["ffv1", "unpack", "a"],
-        ErrorKind::MissingRequiredArgument,
-    );
-    refuses(
-        &rt,
-        alloc,
-        &["ffv1", "pack", "a", "b", "--rows"],
-        ErrorKind::InvalidValue,
-    );
-    refuses(
-        &rt,
-        alloc,
-        &["ffv1"],
+    let (alone, missing) = (
         ErrorKind::DisplayHelpOnMissingArgumentOrSubcommand,
+        ErrorKind::MissingRequiredArgument,
     );
+    refuses_each(&rt, rt.alloc(), &MISSING, missing);
+    refuses(&rt, rt.alloc(), &["ffv1"], alone);
 }
 
-#[test]
-fn words_too_many(rt: HostRuntime) {
-    let alloc = rt.alloc();
-    for name in ["check", "show", "trial"] {
-        refuses(
-            &rt,
-            alloc,
-            &["ffv1", name, "a", "b"],
-            ErrorKind::UnknownArgument,
-        );
-    }
-    for name in ["pack", "unpack"] {
-        refuses(
-            &rt,
-            alloc,
-            &["ffv1", name, "a", "b", "c"],
-            ErrorKind::UnknownArgument,
-        );
-    }
-    let twice = ["ffv1", "pack", "a", "b", "--ec=1", "--ec=1"];
-    refuses(&rt, alloc, twice.as_slice(), ErrorKind::ArgumentConflict);
-    let twice = ["ffv1", "check", "a", "--place", "--place"];
-    refuses(&rt, alloc, twice.as_slice(), ErrorKind::ArgumentConflict);
-    refuses(
-        &rt,
-        alloc,
-        &["ffv1", "check", "a", "--place=1"],
-        ErrorKind::TooManyValues,
-    );
-}
+/// Files too many, options that a command does not have, and no options.
+static UNKNOWN: [&[&str]; 13] = [
+    &["ffv1", "check", "a", "b"],
+    &["ffv1", "show", "a", "b"],
+    &["ffv1", "trial", "a", "b"],
+    &["ffv1", "pack", "a", "b", "c"],
+    &["ffv1", "unpack", "a", "b", "c"],
+    &["ffv1", "--pack", "a"],
+    &["ffv1", "unpack", "a", "--ec=1"],
+    &["ffv1", "check", "a", "--ec=1"],
+    &["ffv1", "show", "a", "--ec=1"],
+    &["ffv1", "trial", "a", "--ec=1"],
+    &["ffv1", "check", "a", "--cost"],
+    &["ffv1", "show", "a", "--place"],
+    &["ffv1", "pack", "-c", "a", "b"],
+];
+
+/// No commands.
+static COMMANDS: [&[&str]; 2] = [&["ffv1", "try", "a"], &["ffv1", "Pack", "a", "b"]];
 
 #[test]
 fn words_unknown(rt: HostRuntime) {
-    let alloc = rt.alloc();
-    refuses(
-        &rt,
-        alloc,
-        &["ffv1", "try", "a"],
-        ErrorKind::InvalidSubcommand,
-    );
-    refuses(
-        &rt,
-        alloc,
-        &["ffv1", "Pack", "a", "b"],
-        ErrorKind::InvalidSubcommand,
-    );
-    refuses(
-        &rt,
-        alloc,
-        &["ffv1", "--pack", "a"],
-        ErrorKind::UnknownArgument,
-    );
-    for name in ["unpack", "check", "show", "trial"] {
-        refuses(
-            &rt,
-            alloc,
-            &["ffv1", name, "a", "--ec=1"],
-            ErrorKind::UnknownArgument,
-        );
-    }
-    refuses(
-        &rt,
-        alloc,
-        &["ffv1", "check", "a", "--cost"],
-        ErrorKind::UnknownArgument,
-    );
-    refuses(
-        &rt,
-        alloc,
-        &["ffv1", "show", "a", "--place"],
-        ErrorKind::UnknownArgument,
-    );
-    refuses_option(&rt, alloc, "-c", ErrorKind::UnknownArgument);
+    refuses_each(&rt, rt.alloc(), &UNKNOWN, ErrorKind::UnknownArgument);
+    refuses_each(&rt, rt.alloc(), &COMMANDS, ErrorKind::InvalidSubcommand);
+    let valued = ["ffv1", "check", "a", "--place=1"];
+    refuses(&rt, rt.alloc(), &valued, ErrorKind::TooManyValues);
 }
+
+/// Calls for help.
+static HELP: [&[&str]; 5] = [
+    &["ffv1", "help"],
+    &["ffv1", "--help"],
+    &["ffv1", "-h"],
+    &["ffv1", "help", "pack"],
+    &["ffv1", "pack", "--help"],
+];
 
 #[test]
 fn calls_for_help(rt: HostRuntime) {
-    let alloc = rt.alloc();
-    refuses(
-        &rt,
-        alloc,
-        &["ffv1", "--version"],
-        ErrorKind::DisplayVersion,
-    );
-    for help in ["help", "--help", "-h"] {
-        refuses(&rt, alloc, &["ffv1", help], ErrorKind::DisplayHelp);
-    }
-    refuses(
-        &rt,
-        alloc,
-        &["ffv1", "help", "pack"],
-        ErrorKind::DisplayHelp,
-    );
-    refuses(
-        &rt,
-        alloc,
-        &["ffv1", "pack", "--help"],
-        ErrorKind::DisplayHelp,
-    );
+    refuses_each(&rt, rt.alloc(), &HELP, ErrorKind::DisplayHelp);
+    let version = ["ffv1", "--version"];
+    refuses(&rt, rt.alloc(), &version, ErrorKind::DisplayVersion);
 }
 
+/// Options that are given twice, and files that are one, or are standard output.
+static CONFLICTS: [&[&str]; 16] = [
+    &["ffv1", "pack", "a", "b", "--ec=1", "--ec=1"],
+    &["ffv1", "check", "a", "--place", "--place"],
+    &["ffv1", "pack", "a", "a"],
+    &["ffv1", "pack", "", ""],
+    &["ffv1", "pack", "/dev/stdout", "/dev/stdout"],
+    &["ffv1", "pack", "a", "/dev/stdout"],
+    &["ffv1", "pack", "a", "/dev/fd/1"],
+    &["ffv1", "pack", "a", "/proc/self/fd/1"],
+    &["ffv1", "pack", "-", "/dev/stdout"],
+    &["ffv1", "unpack", "a", "a"],
+    &["ffv1", "unpack", "", ""],
+    &["ffv1", "unpack", "/dev/stdout", "/dev/stdout"],
+    &["ffv1", "unpack", "a", "/dev/stdout"],
+    &["ffv1", "unpack", "a", "/dev/fd/1"],
+    &["ffv1", "unpack", "a", "/proc/self/fd/1"],
+    &["ffv1", "unpack", "-", "/dev/stdout"],
+];
+
 #[test]
-fn files_in_conflict(rt: HostRuntime) {
-    let alloc = rt.alloc();
-    for name in ["pack", "unpack"] {
-        for (input, output) in [
-            ("a", "a"),
-            ("", ""),
-            ("/dev/stdout", "/dev/stdout"),
-            ("a", "/dev/stdout"),
-            ("a", "/dev/fd/1"),
-            ("a", "/proc/self/fd/1"),
-            ("-", "/dev/stdout"),
-        ] {
-            refuses(
-                &rt,
-                alloc,
-                &["ffv1", name, input, output],
-                ErrorKind::ArgumentConflict,
-            );
-        }
-    }
+fn words_in_conflict(rt: HostRuntime) {
+    refuses_each(&rt, rt.alloc(), &CONFLICTS, ErrorKind::ArgumentConflict);
 }

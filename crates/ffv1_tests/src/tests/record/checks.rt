@@ -2,7 +2,6 @@
 
 use super::made::mono;
 use super::stored::SMALL;
-use crate::tests::made::shows;
 use ffv1_record::{
     Coder, Colour, Config, Profile, RecordFault, Sets, parity, read_record, read_record_in,
 };
@@ -59,7 +58,7 @@ fn floor_of(alloc: Global, said: Said) -> Result<u8, RecordFault> {
 }
 
 /// What is said of configurations, and the floors of their tables or their first faults.
-const JUDGED: [(Said, Result<u8, RecordFault>); 9] = [
+static JUDGED: [(Said, Result<u8, RecordFault>); 9] = [
     (
         Said {
             width: 8193,
@@ -148,11 +147,6 @@ fn first_faults_and_grids(rt: HostRuntime) {
 #[test]
 fn parities(rt: HostRuntime) {
     assert!(rt; (parity(&[1]), parity(&[0, 0, 0])) == (0x04C1_1DB7, 0));
-}
-
-#[test]
-fn numbers_and_names(rt: HostRuntime) {
-    assert!(rt; shows(rt.alloc(), &RecordFault::ChromaEdge, "12 ChromaEdge"));
 }
 
 /// The profiles of a configuration that is checked, and of its record that is read: where none is

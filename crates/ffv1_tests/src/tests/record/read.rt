@@ -25,7 +25,7 @@ fn fault_of_made(
 }
 
 /// Values, widths, and what the records are refused for.
-const REFUSED: [(Made, u32, RecordFault); 21] = [
+static REFUSED: [(Made, u32, RecordFault); 21] = [
     (Made { version: 4, ..MONO }, 1, RecordFault::Version),
     (
         Made {

@@ -20,48 +20,42 @@ fn overwritten<W: PatchOut>(out: &mut W, back: u64) -> Result<bool, Failed>
 #[test]
 fn in_memory(rt: HostRuntime) {
     let mut out = ToMemory::new(rt.alloc());
-    assert_eq!(rt; overwritten(&mut out, 4), Ok(true));
-    assert_eq!(rt; out.bytes(), b"abXYefg".as_slice());
+    assert!(rt; overwritten(&mut out, 4) == Ok(true));
+    assert!(rt; out.bytes() == b"abXYefg".as_slice());
 }
 
 #[test]
 fn past_the_begin(rt: HostRuntime) {
     let mut out = ToMemory::new(rt.alloc());
-    assert_eq!(rt; overwritten(&mut out, 7), Ok(false));
-    assert_eq!(rt; out.bytes(), b"abcdefg".as_slice());
+    assert!(rt; overwritten(&mut out, 7) == Ok(false));
+    assert!(rt; out.bytes() == b"abcdefg".as_slice());
 }
 
 #[test]
 fn in_a_file(rt: HostRuntime) {
     let mut out = ToFile::new(Cursor::new(Vec::new(rt.alloc())));
-    assert_eq!(rt; overwritten(&mut out, 6), Ok(true));
-    assert_eq!(rt;
-        out.into_inner().into_inner().as_slice(),
-        b"XYcdefg".as_slice()
-    );
+    assert!(rt; overwritten(&mut out, 6) == Ok(true));
+    assert!(rt; out.into_inner().into_inner().as_slice() == b"XYcdefg".as_slice());
 }
 
 #[test]
 fn before_the_begin_of_a_file(rt: HostRuntime) {
     let mut out = ToFile::new(Cursor::new(Vec::new(rt.alloc())));
-    assert_eq!(rt; overwritten(&mut out, 7), Ok(false));
-    assert_eq!(rt;
-        out.into_inner().into_inner().as_slice(),
-        b"abcdefg".as_slice()
-    );
+    assert!(rt; overwritten(&mut out, 7) == Ok(false));
+    assert!(rt; out.into_inner().into_inner().as_slice() == b"abcdefg".as_slice());
 }
 
 #[test]
 fn not_over_a_pipe(rt: HostRuntime) {
     let mut out = ToWrite::new(Vec::new(rt.alloc()));
-    assert_eq!(rt; overwritten(&mut out, 4), Ok(false));
-    assert_eq!(rt; out.into_inner().as_slice(), b"abcdefg".as_slice());
+    assert!(rt; overwritten(&mut out, 4) == Ok(false));
+    assert!(rt; out.into_inner().as_slice() == b"abcdefg".as_slice());
 }
 
 #[test]
 fn memory_refused(rt: HostRuntime) {
     let heap = Scarce::new(rt.alloc(), 0);
     let mut out: ToMemory<&Scarce<Global>> = ToMemory::new(&heap);
-    assert_eq!(rt; overwritten(&mut out, 4), Err(Failed));
-    assert_eq!(rt; out.bytes().len(), 0);
+    assert!(rt; overwritten(&mut out, 4) == Err(Failed));
+    assert!(rt; out.bytes().len() == 0);
 }

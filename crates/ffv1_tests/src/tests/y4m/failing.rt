@@ -8,7 +8,7 @@ use std::alloc::Global;
 use std::test::Fail;
 
 /// Texts of pictures after which reads fail, and their faults.
-const PICTURES: [(&[u8], Option<Fault>); 8] = [
+static PICTURES: [(&[u8], Option<Fault>); 8] = [
     (b"", Some(Fault::Read)),
     (b"YUV4MPEG2 W1", Some(Fault::Read)),
     (b"YUV4MPEG2 W1\n", Some(Fault::Tag)),
@@ -38,7 +38,7 @@ fn image_fault(alloc: Global, text: &[u8]) -> Option<Fault> {
 }
 
 /// Texts of images after which reads fail, and their faults.
-const IMAGES: [(&[u8], Option<Fault>); 5] = [
+static IMAGES: [(&[u8], Option<Fault>); 5] = [
     (b"P6", Some(Fault::Read)),
     (b"P6 1", Some(Fault::Header)),
     (b"P6\n1 1\n255", Some(Fault::Read)),

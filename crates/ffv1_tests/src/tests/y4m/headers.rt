@@ -29,7 +29,7 @@ const PLAIN: VideoHead = VideoHead {
 };
 
 /// Texts that are refused, and why.
-const REFUSED: [(&[u8], Fault); 28] = [
+static REFUSED: [(&[u8], Fault); 28] = [
     (b"", Fault::Header),
     (b"YUV4MPEG", Fault::Header),
     (b"YUV4MPEG2 W2 H2", Fault::Header),
@@ -68,7 +68,7 @@ fn refused_headers(rt: HostRuntime) {
 }
 
 /// Headers and their heads: of each name of C, and as other programs write them.
-const HEADERS: [(&[u8], VideoHead); 13] = [
+static HEADERS: [(&[u8], VideoHead); 13] = [
     (
         b"YUV4MPEG2 C420jpeg W2 H2\n",
         VideoHead {

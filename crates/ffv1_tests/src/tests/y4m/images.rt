@@ -56,7 +56,7 @@ fn fault_of(alloc: Global, text: &[u8]) -> Option<Fault> {
 }
 
 /// Texts, the planes of their last images, and how many images they have.
-const PARTED: [(&[u8], &[u8], u32); 3] = [
+static PARTED: [(&[u8], &[u8], u32); 3] = [
     (b"P6\n1 1\n255\n\xFF\x00\x00", b"\xFF\x00\x00", 1),
     (b"P6\n2 1\n255\nabcdef", b"adbecf", 1),
     (b"P6\n1 2\n255\nabcdefP6\n1 2\n255\nghijkl", b"gjhkil", 2),
@@ -71,7 +71,7 @@ fn images_are_parted(rt: HostRuntime) -> Result<(), Fail> {
 }
 
 /// Texts and their faults.
-const REFUSED: [(&[u8], Option<Fault>); 19] = [
+static REFUSED: [(&[u8], Option<Fault>); 19] = [
     (b"P6\n8192 81920\n255\n", Some(Fault::Header)),
     (b"", Some(Fault::Header)),
     (b"P", Some(Fault::Header)),
@@ -149,7 +149,7 @@ fn images_of_several_blocks(rt: HostRuntime) -> Result<(), Fail> {
 type Line = (u8, u16, &'static [u8], bool);
 
 /// Lines of two images, and others between them.
-const LINES: [Line; 17] = [
+static LINES: [Line; 17] = [
     (1, 0, b"bb", false),
     (0, 1, b"aa", false),
     (0, 0, b"a", false),
@@ -243,7 +243,7 @@ fn second_fault(alloc: Global, text: &[u8]) -> Result<(Option<Fault>, usize), Fa
 }
 
 /// Texts, the faults of their second images, and how many bytes are left after them.
-const LATER: [(&[u8], Option<Fault>, usize); 5] = [
+static LATER: [(&[u8], Option<Fault>, usize); 5] = [
     (b"P6\n1 1\n255\nabc", None, 0),
     (
         b"P6\n1 1\n255\nabcP6\n2 1\n255\nrest",

@@ -51,7 +51,7 @@ fn becomes(alloc: Global, text: &[u8], canonical: &[u8]) -> bool {
 }
 
 /// Texts, and the canonical ones with their lengths; the first is that of the crate's example.
-const CANONICAL: [(&[u8], &[u8], usize); 7] = [
+static CANONICAL: [(&[u8], &[u8], usize); 7] = [
     (
         b"YUV4MPEG2 W1 H1 Cmono\nFRAME\na",
         b"YUV4MPEG2 W1 H1 F0:0 I? A0:0 Cmono\nFRAME\na",
@@ -134,7 +134,7 @@ fn ends_of_texts(rt: HostRuntime) -> Result<(), Fail> {
 }
 
 /// Texts and their last faults.
-const FRAME_LINES: [(&[u8], Option<Fault>); 5] = [
+static FRAME_LINES: [(&[u8], Option<Fault>); 5] = [
     (
         b"YUV4MPEG2 W1 H1 Cmono\nFRAME Ip\na",
         Some(Fault::FrameLine),
@@ -173,7 +173,7 @@ pub(super) fn first_fault<R: Read>(alloc: Global, input: &mut FromRead<R>) -> Op
 }
 
 /// Texts, their first faults, and how many bytes are left after them.
-const FAULTS: [(&[u8], Option<Fault>, usize); 9] = [
+static FAULTS: [(&[u8], Option<Fault>, usize); 9] = [
     (b"YUV4MPEG1 W1 H1\nrest", Some(Fault::Header), 4),
     (b"YUV4MPEG2 W1 H1", Some(Fault::Header), 0),
     (b"YUV4MPEG2 W1 H1 q\nrest", Some(Fault::Tag), 4),

@@ -8,9 +8,9 @@ use std::io::{ErrorKind, Read};
 use std::process::Abort;
 use std::test::Fail;
 
-const PICTURES: &[u8] = b"YUV4MPEG2 W2 H2 F25:1 I? A0:0 C420jpeg\nFRAME\nabcdefFRAME\nghijkl";
+static PICTURES: &[u8] = b"YUV4MPEG2 W2 H2 F25:1 I? A0:0 C420jpeg\nFRAME\nabcdefFRAME\nghijkl";
 
-const IMAGES: &[u8] = b"P6\n2 1\n255\nabcdefP6\n2 1\n255\nghijkl";
+static IMAGES: &[u8] = b"P6\n2 1\n255\nabcdefP6\n2 1\n255\nghijkl";
 
 /// How many pictures of YUV4MPEG2 an input has; the fault, where it is told again.
 fn pictures<R: Read, A: Allocator + Copy>(alloc: A, input: &mut FromRead<R>) -> Result<u32, Fault> {
@@ -155,7 +155,7 @@ fn pictures_cut(rt: HostRuntime) -> Result<(), Fail> {
 }
 
 /// The lines of two images.
-const LINES: [&[u8]; 6] = [b"ad", b"be", b"cf", b"gj", b"hk", b"il"];
+static LINES: [&[u8]; 6] = [b"ad", b"be", b"cf", b"gj", b"hk", b"il"];
 
 /// How many lines of two images a sink refuses, by its own count too.
 fn lines_refused(rt: &impl Abort, sink: &mut PpmWriter<ToWrite<ShortWriter>>) -> u64 {

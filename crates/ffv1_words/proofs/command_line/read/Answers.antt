@@ -11,13 +11,13 @@ use Rattle.ffv1_words.proofs.TakenLine.{taken_names}
 use Rattle.ffv1_words.proofs.command_line.read.Goals as goal
 use Rattle.ffv1_words.proofs.command_line.read.Goals.{in-Some+in_default-order_of, in_default}
 
-simple : (contexts : Words) → is_simple (line_app contexts) ≡ true
+simple : (contexts containers : Words) → is_simple (line_app contexts containers) ≡ true
 unfolding clap_on_literals
-simple contexts = refl
+simple contexts containers = refl
 
-free : (contexts : Words) → is_simple_and_free (line_app contexts) ≡ true
+free : (contexts containers : Words) → is_simple_and_free (line_app contexts containers) ≡ true
 unfolding clap_on_literals
-free contexts = refl
+free contexts containers = refl
 
 -- a subcommand's name and its rows, which are told one by one
 both_told : {X : Type 0} (s : Option X) (f : X → Text × List Row) (t : Text) (rs : List Row) → Some t ≡ option_map (λ x. (f x).0) s → Some rs ≡ option_map (λ p. p.1) (option_map f s) → option_map f s ≡ Some (t, rs)
@@ -36,7 +36,7 @@ returns-in_err-matches-clause-err c =
     let p = err_from_is_err_and c.from_residual-in_err-matches.result c.from_residual-in_err-matches.ensures.1 in
     let texts : List Text = map (λ w. w.now) c.args.words.now in
     let app = c.in_ok-line_command.ensures.0 in
-    rw (p.1, p.2) (inl (subst (λ a. HasKind (fault_of a texts) c.in_err-matches.field-0.0) app (c.in_err-matches.ensures.kinds (ap is_simple_and_free app ∙ free c.args.contexts))))
+    rw (p.1, p.2) (inl (subst (λ a. HasKind (fault_of a texts) c.in_err-matches.field-0.0) app (c.in_err-matches.ensures.kinds (ap is_simple_and_free app ∙ free c.args.contexts c.args.containers))))
 
 pub returns-in_err-matches-clause-taken : goal.returns-in_err-matches-clause-taken
 returns-in_err-matches-clause-taken c =
@@ -45,21 +45,21 @@ returns-in_err-matches-clause-taken c =
     rw (p.1, p.2) (λ taken. inl (c.in_err-matches.ensures.passes (ap (λ a. takes a texts) c.in_ok-line_command.ensures.0 ∙ taken)))
 
 -- the order that was found is what the line names
-named : (c : goal.Joined-matches) → Names c.in-Some-order_of.order (subcommand_of (line_app c.args.contexts) (map (λ w. w.now) c.args.words.now))
+named : (c : goal.Joined-matches) → Names c.in-Some-order_of.order (subcommand_of (line_app c.args.contexts c.args.containers) (map (λ w. w.now) c.args.words.now))
 named c =
     let app = c.in_ok-line_command.ensures.0 in
-    let m = c.in_ok-matches.ensures.matches (ap is_simple app ∙ simple c.args.contexts) in
+    let m = c.in_ok-matches.ensures.matches (ap is_simple app ∙ simple c.args.contexts c.args.containers) in
     let texts : List Text = map (λ w. w.now) c.args.words.now in
     let told = both_told _ _ _ _ c.in-Some.ensures.name c.in-Some.ensures.rows in
-    let line : ◌≡◌ {A = Option (Text × List Row)} (Some (c.in-Some.name.now, rows_of (found_of c.in-Some.rows.now))) (subcommand_of (line_app c.args.contexts) texts) =
+    let line : ◌≡◌ {A = Option (Text × List Row)} (Some (c.in-Some.name.now, rows_of (found_of c.in-Some.rows.now))) (subcommand_of (line_app c.args.contexts c.args.containers) texts) =
     sym told ∙ m.1 ∙ ap (λ a. subcommand_of a texts) app in
     subst (Names c.in-Some-order_of.order) line c.in-Some-order_of.ensures.some
 
 pub returns-in-Some-order_of-clause-ok : goal.returns-in-Some-order_of-clause-ok
 returns-in-Some-order_of-clause-ok c =
     let texts : List Text = map (λ w. w.now) c.args.words.now in
-    IfOk-weaker c.without_conflict.result (λ o. (o ≡ c.in-Some-order_of.order) × (is_in_conflict o ≡ false)) (IsOrder (line_app c.args.contexts) texts)
-    (λ o told. (subst (λ x. Names x (subcommand_of (line_app c.args.contexts) texts)) (sym told.0) (named c), told.1))
+    IfOk-weaker c.without_conflict.result (λ o. (o ≡ c.in-Some-order_of.order) × (is_in_conflict o ≡ false)) (IsOrder (line_app c.args.contexts c.args.containers) texts)
+    (λ o told. (subst (λ x. Names x (subcommand_of (line_app c.args.contexts c.args.containers) texts)) (sym told.0) (named c), told.1))
     c.without_conflict.ensures.ok
 
 -- why it was refused
@@ -69,7 +69,7 @@ Refusal o e = (kind_of e ≡ kind.OutOfMemory) ⊎ ((kind_of e ≡ kind.Argument
 pub returns-in-Some-order_of-clause-err : goal.returns-in-Some-order_of-clause-err
 returns-in-Some-order_of-clause-err c =
     let texts : List Text = map (λ w. w.now) c.args.words.now in
-    IfErr-weaker c.without_conflict.result (Refusal c.in-Some-order_of.order) (IsRefused (line_app c.args.contexts) texts)
+    IfErr-weaker c.without_conflict.result (Refusal c.in-Some-order_of.order) (IsRefused (line_app c.args.contexts c.args.containers) texts)
     (λ e why. elim why [
       | inl memory ↦ inl (inl memory)
       | inr conflict ↦ inr (inr (conflict.0, c.in-Some-order_of.order, named c, conflict.1))
@@ -79,7 +79,7 @@ returns-in-Some-order_of-clause-err c =
 pub returns-in-Some-order_of-clause-taken : goal.returns-in-Some-order_of-clause-taken
 returns-in-Some-order_of-clause-taken c =
     let texts : List Text = map (λ w. w.now) c.args.words.now in
-    IfErr-weaker c.without_conflict.result (Refusal c.in-Some-order_of.order) (IsRefusedIfTaken (line_app c.args.contexts) texts)
+    IfErr-weaker c.without_conflict.result (Refusal c.in-Some-order_of.order) (IsRefusedIfTaken (line_app c.args.contexts c.args.containers) texts)
     (λ e why taken. elim why [
       | inl memory ↦ inl memory
       | inr conflict ↦ inr (conflict.0, c.in-Some-order_of.order, named c, conflict.1)
@@ -87,19 +87,19 @@ returns-in-Some-order_of-clause-taken c =
     c.without_conflict.ensures.err
 
 -- where no order was found, the line names none
-no_order : (c : goal.Joined-matches-3) → NamesNone (subcommand_of (line_app c.args.contexts) (map (λ w. w.now) c.args.words.now))
+no_order : (c : goal.Joined-matches-3) → NamesNone (subcommand_of (line_app c.args.contexts c.args.containers) (map (λ w. w.now) c.args.words.now))
 no_order c =
     let app = c.in_ok-line_command.ensures.0 in
-    let m = c.in_ok-matches.ensures.matches (ap is_simple app ∙ simple c.args.contexts) in
+    let m = c.in_ok-matches.ensures.matches (ap is_simple app ∙ simple c.args.contexts c.args.containers) in
     let texts : List Text = map (λ w. w.now) c.args.words.now in
     elim c.match-subcommand.branch [
       | in-Some+in_default-order_of w ↦
           let told = both_told _ _ _ _ w.in-Some.ensures.name w.in-Some.ensures.rows in
-          let line : ◌≡◌ {A = Option (Text × List Row)} (Some (w.in-Some.name.now, rows_of (found_of w.in-Some.rows.now))) (subcommand_of (line_app c.args.contexts) texts) =
+          let line : ◌≡◌ {A = Option (Text × List Row)} (Some (w.in-Some.name.now, rows_of (found_of w.in-Some.rows.now))) (subcommand_of (line_app c.args.contexts c.args.containers) texts) =
           sym told ∙ m.1 ∙ ap (λ a. subcommand_of a texts) app in
           subst NamesNone line (w.in_default-order_of.ensures.none refl)
       | in_default w ↦
-          let line : ◌≡◌ {A = Option (Text × List Row)} None (subcommand_of (line_app c.args.contexts) texts) =
+          let line : ◌≡◌ {A = Option (Text × List Row)} None (subcommand_of (line_app c.args.contexts c.args.containers) texts) =
           sym (none_told _ _ w.in_default.ensures.rows) ∙ m.1 ∙ ap (λ a. subcommand_of a texts) app in
           subst NamesNone line (λ o named. named)
     ]
@@ -110,5 +110,5 @@ returns-clause-err c = inr (inl (no_order c))
 pub returns-clause-taken : goal.returns-clause-taken
 returns-clause-taken c = λ taken.
     let texts : List Text = map (λ w. w.now) c.args.words.now in
-    let order = taken_names c.args.contexts c.requires texts taken in
+    let order = taken_names c.args.contexts c.args.containers c.requires.contexts c.requires.containers texts taken in
     absurd (no_order c order.0 order.1)

@@ -1,0 +1,231 @@
+-- A video that was packed into Matroska is unpacked.
+use Rattle.std.specs.Prelude.{All, slice_index_or, zero}
+use Rattle.std.proofs.Common.{◌≡◌, refl, ℕ, suc, ◌+◌, ◌*◌, ◌<◌, ◌≤◌, ◌==◌, ◌||◌, Bool, true, false, Ok, inr, List, [], ◌∷◌, ◌++◌, length, map, sym, subst, arith, length-append, codes, cond}
+use Rattle.ffv1_range.specs.Codes.{AreBytes}
+use Rattle.ffv1_record.specs.Accepted.{Accepted, IsAccepted}
+use Rattle.ffv1_record.specs.Record.{record_of}
+use Rattle.ffv1_codec.specs.Frame.{frame_of}
+use Rattle.ffv1_codec.specs.Picture.{Planes}
+use Rattle.ffv1_codec.specs.SliceList.{Said}
+use Rattle.ffv1_reads.specs.Head.{Head}
+use Rattle.ffv1_ebml.specs.Spelled.{ident_length, number_element}
+use Rattle.ffv1_files.specs.Files.{file_read, is_matroska}
+use Rattle.ffv1_files.specs.Whole.{IsWhole}
+use Rattle.ffv1_files.specs.declared.container.Scope.TheVariants.{Whole}
+use Rattle.ffv1_matroska.specs.Blocks.{limit}
+use Rattle.ffv1_matroska.specs.MatroskaFiles.{MatroskaFile}
+use Rattle.ffv1_matroska.specs.Opened as matroska
+use Rattle.ffv1_matroska.specs.Written.{begun_of, checked, display, duration_field, ebml_header, entry_element, entry_fields, finished_of, frame_duration, interlaced_of, long_element, open_of, opening, order_element, short_element, video_content}
+use Rattle.ffv1_matroska.specs.WrittenFiles.{AreWritten, IsWritable}
+use Rattle.ffv1_matroska.specs.Tracks.{codec_id, codec_private, default_duration, entry, pixel_height, pixel_width, track_number, track_type, video}
+use Rattle.ffv1_matroska.specs.WrittenIdents.{display_height, display_unit, display_width, field_order, flag_interlaced, flag_lacing, language, track_uid}
+use Rattle.ffv1_matroska.specs.declared.shown.Shown.{Shown}
+use Rattle.ffv1_matroska.proofs.SpelledLengths.{ident_most, long_long, number_long, short_long}
+use Rattle.ffv1_matroska.proofs.WrittenLengths.{checked_long}
+use Rattle.ffv1_y4m.specs.VideoHead.{IsRatio}
+use Rattle.ffv1_words.specs.declared.order.Choice.{Choice}
+use Rattle.ffv1_engine.specs.MatroskaRoundTrip.{WasPackedMatroska, matroska_file, matroska_video}
+use Rattle.ffv1_engine.specs.PackMatroska.{HasClusters, begun_file, shown_for, whole_file}
+use Rattle.ffv1_engine.specs.Packing.{AreReadable, packed_frames, packed_head, said_for}
+use Rattle.ffv1_engine.specs.Video.{Video}
+use Rattle.ffv1_engine.specs.declared.profile.Profile.TheVariants.{Wide}
+use Rattle.ffv1_engine.specs.Profiles.{record_profile}
+use Rattle.ffv1_engine.proofs.PackedFrames.{FrameLaws, frame_bytes, frame_some}
+use Rattle.ffv1_engine.proofs.PackedIsUnpacked.{Given, reads_is, short_in}
+use Rattle.ffv1_engine.proofs.PackedText.{RecordLaws, rated_by, sized}
+use Rattle.ffv1_engine.proofs.RecordShort.{record_are_bytes, record_most}
+
+-- ---- Tracks are short
+
+either_most : (b : Bool) (xs ys : List ℕ) (n : ℕ) → length xs ≤ n → length ys ≤ n → length (cond b xs ys) ≤ n
+either_most true xs ys n h k = h
+either_most false xs ys n h k = k
+
+appended_most : (xs ys : List ℕ) (m n : ℕ) → length xs ≤ m → length ys ≤ n → length (xs ++ ys) ≤ m + n
+appended_most xs ys m n h k = let long = length-append xs ys in omega (arith, long, h, k)
+
+number_most : (ident width number : ℕ) → length (number_element ident width number) ≤ 5 + width
+number_most ident width number =
+    let long = number_long ident width number in
+    let few = ident_most ident in
+    omega (arith, long, few)
+
+short_most : (ident : ℕ) (content : List ℕ) (n : ℕ) → length content ≤ n → length (short_element ident content) ≤ 5 + n
+short_most ident content n h =
+    let long = short_long ident content in
+    let few = ident_most ident in
+    omega (arith, long, few, h)
+
+none_most : (n : ℕ) → length {A = ℕ} [] ≤ n
+none_most n = omega arith
+
+order_most : (structure : ℕ) → length (order_element structure) ≤ 6
+unfolding order_element
+order_most structure = either_most (structure == 1) _ _ 6 (number_most field_order 1 9) (either_most (structure == 2) _ _ 6 (number_most field_order 1 14) (none_most 6))
+
+display_most : (head : Head) (shown : Shown) → length (display head shown) ≤ 32
+unfolding display
+display_most head shown =
+    either_most (shown.sar_num == 0 || shown.sar_den == 0) _ _ 32 (none_most 32)
+    (appended_most _ _ 26 6 (appended_most _ _ 13 13 (number_most display_width 8 (head.width * shown.sar_num)) (number_most display_height 8 (head.height * shown.sar_den))) (number_most display_unit 1 3))
+
+content_most : (head : Head) (shown : Shown) → length (video_content head shown) ≤ 62
+unfolding video_content
+content_most head shown =
+    appended_most _ _ 30 32
+    (appended_most _ _ 24 6
+    (appended_most _ _ 18 6 (appended_most _ _ 9 9 (number_most pixel_width 4 head.width) (number_most pixel_height 4 head.height)) (number_most flag_interlaced 1 (interlaced_of shown.structure)))
+    (order_most shown.structure))
+    (display_most head shown)
+
+duration_most : (head : Head) → length (duration_field head) ≤ 13
+unfolding duration_field
+duration_most head = either_most (frame_duration head == 0) _ _ 13 (none_most 13) (number_most default_duration 8 (frame_duration head))
+
+text_three : length (codes "und") ≤ 3
+text_three = let e : length (codes "und") ≡ 3 = refl in omega (arith, e)
+
+text_six : length (codes "V_FFV1") ≤ 6
+text_six = let e : length (codes "V_FFV1") ≡ 6 = refl in omega (arith, e)
+
+fields_most : (head : Head) (shown : Shown) → length (entry_fields head shown) ≤ 123
+unfolding entry_fields
+fields_most head shown =
+    appended_most _ _ 56 67
+    (appended_most _ _ 43 13
+    (appended_most _ _ 32 11
+    (appended_most _ _ 24 8
+    (appended_most _ _ 18 6
+    (appended_most _ _ 12 6 (appended_most _ _ 6 6 (number_most track_number 1 1) (number_most track_uid 1 1)) (number_most track_type 1 1))
+    (number_most flag_lacing 1 0))
+    (short_most language (codes "und") 3 text_three))
+    (short_most codec_id (codes "V_FFV1") 6 text_six))
+    (duration_most head))
+    (short_most video (video_content head shown) 62 (content_most head shown))
+
+tracks_short : (head : Head) (shown : Shown) → length head.config_record ≤ 2568 → length (checked (entry_element head shown)) ≤ limit
+unfolding entry_element
+tracks_short head shown few =
+    let config = long_element codec_private head.config_record in
+    let inner = entry_fields head shown ++ config in
+    let fields = fields_most head shown in
+    let a = long_long codec_private head.config_record in
+    let b = length-append (entry_fields head shown) config in
+    let c = long_long entry inner in
+    let d = checked_long (long_element entry inner) in
+    let e = ident_most codec_private in
+    let f = ident_most entry in
+    omega (arith, few, fields, a, b, c, d, e, f)
+
+-- ---- what can be written
+
+byte_at : (xs : List ℕ) → AreBytes xs → (k d : ℕ) → k < length xs → slice_index_or xs k d < 256
+byte_at [] are k d inside = absurd (omega (arith, inside))
+byte_at (x ∷ xs) are zero d inside = are 0
+byte_at (x ∷ xs) are (suc k) d inside = byte_at xs (λ i. are (suc i)) k d (omega (arith, inside))
+
+all_bytes : (xs : List ℕ) → AreBytes xs → All (λ b. b < 256) xs
+all_bytes xs are = λ k d inside. byte_at xs are k d inside
+
+are_written : (laws : FrameLaws) (a : Accepted) (accepted : IsAccepted a.configuration a.table) (said : Said) (ps : List Planes) → AreReadable (map (λ planes. frame_of a planes said) ps) →
+    AreWritten (map (λ planes. frame_of a planes said) ps)
+are_written laws a accepted said [] readable = tt
+are_written laws a accepted said (p ∷ ps) readable =
+    ((frame_some laws a accepted p said, readable.0, all_bytes (frame_of a p said) (frame_bytes laws a accepted p said)), are_written laws a accepted said ps readable.1)
+
+pub writable : (frame_laws : FrameLaws) (records : RecordLaws) (choice : Choice) (v : Video) (a : Accepted) → HasClusters choice v a → 0 < length v.pictures →
+    (v.ppm ≡ true → IsRatio 4294967295 choice.rate choice.scale) → IsWritable (packed_head choice v a) (shown_for v.head) (packed_frames v a)
+writable frame_laws records choice v a has some rated =
+    let sizes = sized v.ppm v.head has.head in
+    let ratio = (rated_by choice v.ppm v.head a.configuration has.head rated).is in
+    record {
+      width = let few = sizes.wide in omega (arith, few);
+      height = let few = sizes.high in omega (arith, few);
+      rate = let few = ratio.first in omega (arith, few);
+      scale = let few = ratio.second in omega (arith, few);
+      timed = has.timed;
+      record_is = all_bytes (record_of a.configuration) (record_are_bytes a.configuration);
+      short = tracks_short (packed_head choice v a) (shown_for v.head)
+          (subst (λ c. length (record_of c) ≤ 2568) (sym has.for.configuration) (record_most records.symbols choice v.ppm v.head));
+      written = are_written frame_laws a has.for.accepted (said_for v.head) v.pictures has.readable;
+      near = has.near some;
+    }
+
+-- ---- what is read of it
+
+-- what is known of files
+pub record MatroskaLaws : Type 0 where
+  pub finished : (head : Head) (shown : Shown) (frames : List (List ℕ)) → IsWritable head shown frames → MatroskaFile (finished_of head shown frames) head frames × (matroska.file_read (finished_of head shown frames) ≡ Ok ((head, frames), []))
+  pub opened : (head : Head) (shown : Shown) (frames : List (List ℕ)) → IsWritable head shown frames → MatroskaFile (open_of head shown frames) head frames × (matroska.file_read (open_of head shown frames) ≡ Ok ((head, frames), []))
+  pub begun : (head : Head) (shown : Shown) (frames : List (List ℕ)) → 0 < length frames → IsWritable head shown frames →
+      MatroskaFile (begun_of head shown frames) head frames × (matroska.file_read (begun_of head shown frames) ≡ Ok ((head, frames), []))
+  pub is_file : (file : List ℕ) (head : Head) (frames : List (List ℕ)) (rest : List ℕ) → matroska.file_read file ≡ Ok ((head, frames), rest) → (is : MatroskaFile file head frames) × (is.rest ≡ rest)
+  pub is_whole : (file : List ℕ) (head : Head) (frames : List (List ℕ)) (rest : List ℕ) → IsWhole file head frames rest → file_read Whole file ≡ Ok ((head, frames), rest)
+
+-- its first byte
+open_first : (head : Head) (shown : Shown) (frames : List (List ℕ)) → is_matroska (open_of head shown frames) ≡ true
+unfolding opening ebml_header ident_length
+open_first head shown frames = refl
+
+finished_first : (head : Head) (shown : Shown) (frames : List (List ℕ)) → is_matroska (finished_of head shown frames) ≡ true
+unfolding opening ebml_header ident_length
+finished_first head shown frames = refl
+
+begun_first : (head : Head) (shown : Shown) (frames : List (List ℕ)) → 0 < length frames → is_matroska (begun_of head shown frames) ≡ true
+unfolding opening ebml_header ident_length
+begun_first head shown [] some = absurd (omega (arith, some))
+begun_first head shown (f ∷ fs) some = refl
+
+module _ (laws : MatroskaLaws) where
+  read_whole : (file : List ℕ) (head : Head) (frames : List (List ℕ)) → is_matroska file ≡ true → matroska.file_read file ≡ Ok ((head, frames), []) → file_read Whole file ≡ Ok ((head, frames), [])
+  read_whole file head frames first e = laws.is_whole file head frames [] (inr (first, laws.is_file file head frames [] e))
+
+  -- what is read of the whole file
+  pub whole_read : (b : Bool) (choice : Choice) (v : Video) (a : Accepted) → IsWritable (packed_head choice v a) (shown_for v.head) (packed_frames v a) →
+      MatroskaFile (whole_file b choice v a) (packed_head choice v a) (packed_frames v a) × (file_read Whole (whole_file b choice v a) ≡ Ok ((packed_head choice v a, packed_frames v a), []))
+  whole_read true choice v a can =
+      let both = laws.finished (packed_head choice v a) (shown_for v.head) (packed_frames v a) can in
+      (both.0, read_whole _ (packed_head choice v a) (packed_frames v a) (finished_first (packed_head choice v a) (shown_for v.head) (packed_frames v a)) both.1)
+  whole_read false choice v a can =
+      let both = laws.opened (packed_head choice v a) (shown_for v.head) (packed_frames v a) can in
+      (both.0, read_whole _ (packed_head choice v a) (packed_frames v a) (open_first (packed_head choice v a) (shown_for v.head) (packed_frames v a)) both.1)
+
+  -- and of one that is begun
+  pub begun_read : (choice : Choice) (v : Video) (a : Accepted) → 0 < length v.pictures → IsWritable (packed_head choice v a) (shown_for v.head) (packed_frames v a) →
+      file_read Whole (begun_file choice v a) ≡ Ok ((packed_head choice v a, packed_frames v a), [])
+  begun_read choice v a some can =
+      let many = some_frames v.pictures some in
+      let both = laws.begun (packed_head choice v a) (shown_for v.head) (packed_frames v a) many can in
+      read_whole (begun_file choice v a) (packed_head choice v a) (packed_frames v a) (begun_first (packed_head choice v a) (shown_for v.head) (packed_frames v a) many) both.1
+    where
+      some_frames : (ps : List Planes) → 0 < length ps → 0 < length (map (λ planes. frame_of a planes (said_for v.head)) ps)
+      some_frames [] some = some
+      some_frames (p ∷ ps) some = omega arith
+
+-- ---- a text that was packed
+
+-- what was accepted, in the profile that the file is read in
+abbrev pub accepted_wide : {choice : Choice} → {text : List ℕ} → WasPackedMatroska choice text → Accepted
+accepted_wide w = record { configuration = w.packs.accepted.configuration; table = w.packs.accepted.table; profile = record_profile Wide }
+
+pub given : (choice : Choice) (text : List ℕ) (w : WasPackedMatroska choice text) → Given choice text (matroska_video w) (accepted_wide w)
+given choice text w = record {
+  is = reads_is text w.input.old w.input.new w.packs.video w.known w.packs.reads;
+  bytes = w.bytes;
+  for = record { configuration = w.packs.has.for.configuration; accepted = w.packs.has.for.accepted };
+  some = w.packs.some;
+  short = short_in Wide w.packs.accepted w.packs.video.head w.packs.video.pictures w.packs.has.short;
+  readable = w.packs.has.readable;
+  rated = w.rated;
+}
+
+module _ (frame_laws : FrameLaws) (records : RecordLaws) (laws : MatroskaLaws) (choice : Choice) (text : List ℕ) (w : WasPackedMatroska choice text) where
+  reads : MatroskaFile (matroska_file w) (packed_head choice (matroska_video w) (w.packs.accepted)) (packed_frames (matroska_video w) (w.packs.accepted))
+      × (file_read Whole (matroska_file w) ≡ Ok ((packed_head choice (matroska_video w) (w.packs.accepted), packed_frames (matroska_video w) (w.packs.accepted)), []))
+  reads = whole_read laws w.packed.finished choice w.packs.video w.packs.accepted (writable frame_laws records choice w.packs.video w.packs.accepted w.packs.has w.packs.some w.rated)
+
+  pub file_is : MatroskaFile (matroska_file w) (packed_head choice (matroska_video w) (accepted_wide w)) (packed_frames (matroska_video w) (accepted_wide w))
+  file_is = reads.0
+
+  pub file_reads : file_read Whole (matroska_file w) ≡ Ok ((packed_head choice (matroska_video w) (accepted_wide w), packed_frames (matroska_video w) (accepted_wide w)), [])
+  file_reads = reads.1

@@ -1,0 +1,36 @@
+-- What is packed into Matroska is unpacked: of a text that was packed, the file that was written.
+use Rattle.std.specs.Prelude.{◌≡◌, ℕ, true, List, Some}
+use Rattle.ffv1_wire.specs.Passage.{Passage}
+use Rattle.ffv1_range.specs.Codes.{AreBytes}
+use Rattle.ffv1_matroska.specs.MatroskaFiles.{MatroskaFile}
+use Rattle.ffv1_y4m.specs.VideoHead.{IsRatio}
+use Rattle.ffv1_words.specs.declared.order.Choice.{Choice}
+use Rattle.ffv1_engine.specs.declared.matroska_packing.PackedMatroska.{PackedMatroska}
+use Rattle.ffv1_engine.specs.declared.profile.Profile.TheVariants.{Wide}
+use Rattle.ffv1_engine.specs.PackMatroska.{PacksMatroska, whole_file}
+use Rattle.ffv1_engine.specs.RoundTrip.{HoldsBy}
+use Rattle.ffv1_engine.specs.Video.{Video}
+
+-- a text of bytes that was packed into Matroska. PPM has the rate and the scale of the choice
+pub record WasPackedMatroska (choice : Choice) (text : List ℕ) : Type 0 where
+  pub input : Passage
+  pub output : Passage
+  pub packed : PackedMatroska
+  pub packs : PacksMatroska choice input output packed
+  pub known : input.old ≡ Some text
+  pub bytes : AreBytes text
+  pub rated : packs.video.ppm ≡ true → IsRatio 4294967295 choice.rate choice.scale
+
+-- the video of the text, and the file that was written of it: finished, or open
+abbrev pub matroska_video : {choice : Choice} → {text : List ℕ} → WasPackedMatroska choice text →
+    Video
+matroska_video w = w.packs.video
+
+abbrev pub matroska_file : {choice : Choice} → {text : List ℕ} → WasPackedMatroska choice text →
+    List ℕ
+matroska_file {choice = choice} w =
+    whole_file w.packed.finished choice w.packs.video w.packs.accepted
+
+-- it holds the stream of that video
+abbrev pub HoldsMatroska : List ℕ → Video → Type 0
+HoldsMatroska file v = HoldsBy MatroskaFile Wide file v

@@ -1,0 +1,248 @@
+-- What packing a video into Matroska answers, writes, and is refused by.
+use Rattle.std.specs.Prelude.{◌≡◌, ◌⊎◌, ℕ, ◌+◌, ◌<◌, ◌≤◌, Bool, true, false, List, [], ◌∷◌, ◌++◌}
+use Rattle.std.specs.Prelude.{length, Option, Some, None, Ok, Err}
+use Rattle.std.specs.Io.KnownBytes.{Appends, Keeps}
+use Rattle.ffv1_wire.specs.Failures.{one_more}
+use Rattle.ffv1_wire.specs.Passage.{Passage}
+use Rattle.ffv1_wire.specs.Patches.{PatchesBeginning}
+use Rattle.ffv1_record.specs.Accepted.{Accepted}
+use Rattle.ffv1_codec.specs.Picture.{Planes}
+use Rattle.ffv1_codec.specs.Frame.{frame_of, HasLongSlice}
+use Rattle.ffv1_reads.specs.Known.{Known}
+use Rattle.ffv1_avi.specs.Streams.{limit}
+use Rattle.ffv1_matroska.specs.Rates.{IsTimed}
+use Rattle.ffv1_matroska.specs.Writers.{Writing as Writer, rate_in, writing_of}
+use Rattle.ffv1_matroska.specs.Written.{begun_of, end_place, finish_of, finished_of, open_of, opening}
+use Rattle.ffv1_matroska.specs.WrittenPlaces.{cluster_bytes, last_place}
+use Rattle.ffv1_matroska.specs.declared.shown.Shown.{Shown}
+use Rattle.ffv1_y4m.specs.Reads.{Wants}
+use Rattle.ffv1_y4m.specs.declared.fault.Fault.{Fault as Y4mFault}
+use Rattle.ffv1_y4m.specs.declared.head.VideoHead.{VideoHead}
+use Rattle.ffv1_words.specs.declared.order.Choice.{Choice}
+use Rattle.ffv1_engine.specs.declared.fault.Fault.{Fault}
+use Rattle.ffv1_engine.specs.declared.fault.Fault.TheVariants as fault
+use Rattle.ffv1_engine.specs.declared.matroska_packing.PackedMatroska.{PackedMatroska}
+use Rattle.ffv1_engine.specs.Faults.{Cause, cause_of, of_y4m}
+use Rattle.ffv1_engine.specs.Faults.Cause.{Reading, Writing, Memory, Content}
+use Rattle.ffv1_engine.specs.Pack.{HasHead, IsRejected, LacksHead, is_pack_fault}
+use Rattle.ffv1_engine.specs.Packing.{AllShort, AreReadable, IsFor, bytes_in, head_for}
+use Rattle.ffv1_engine.specs.Packing.{packed_frames, packed_head, said_for}
+use Rattle.ffv1_engine.specs.Play.{WritesUpTo}
+use Rattle.ffv1_engine.specs.Video.{Begins, ReadsVideo, Video, at_first, is_ppm, picture_next}
+use Rattle.ffv1_engine.specs.Video.{video_head}
+use Rattle.ffv1_engine.specs.VideoReads.{HeadRead, IsHeadBy, IsHeadOf, PictureLacks}
+use Rattle.ffv1_engine.specs.VideoReads.{PictureWants, Taken, VideoReading}
+
+-- how the pictures of a video are shown
+abbrev pub shown_for : VideoHead → Shown
+shown_for h = record { structure = h.structure; sar_num = h.sar_num; sar_den = h.sar_den }
+
+-- the file of a video: while pictures may still come; with all of them, where it cannot be written
+-- over; and finished
+abbrev pub begun_file : Choice → Video → Accepted → List ℕ
+begun_file choice v a = begun_of (packed_head choice v a) (shown_for v.head) (packed_frames v a)
+
+abbrev pub open_file : Choice → Video → Accepted → List ℕ
+open_file choice v a = open_of (packed_head choice v a) (shown_for v.head) (packed_frames v a)
+
+abbrev pub finished_file : Choice → Video → Accepted → List ℕ
+finished_file choice v a =
+    finished_of (packed_head choice v a) (shown_for v.head) (packed_frames v a)
+
+-- by whether it was written over
+abbrev pub whole_file : Bool → Choice → Video → Accepted → List ℕ
+whole_file true choice v a = finished_file choice v a
+whole_file false choice v a = open_file choice v a
+
+-- what stands before Tracks of the finished one
+abbrev pub finished_opening_of : Choice → Video → Accepted → List ℕ
+finished_opening_of choice v a = opening (packed_head choice v a)
+    (Some (finish_of (packed_head choice v a) (shown_for v.head) (packed_frames v a)))
+
+-- where the Clusters of a video end
+abbrev pub clusters_end : Choice → Video → Accepted → ℕ
+clusters_end choice v a =
+    end_place (packed_head choice v a) (shown_for v.head) (packed_frames v a)
+
+-- a video whose pictures have Clusters: whole nanoseconds say its rate, no slice is too long, no
+-- frame is too long to be read, and the last Cluster does not end too far
+pub record HasClusters (choice : Choice) (v : Video) (a : Accepted) : Type 0 where
+  pub head : IsHeadBy v.ppm v.head
+  pub for : IsFor choice v.ppm v.head a
+  pub timed : IsTimed (rate_in (packed_head choice v a))
+  pub short : AllShort a v.head v.pictures
+  pub readable : AreReadable (packed_frames v a)
+  pub near : 0 < length v.pictures → clusters_end choice v a ≤ last_place
+
+-- the video was read, its file was written, and what was counted
+pub record PacksMatroska (choice : Choice) (input output : Passage) (packed : PackedMatroska)
+    : Type 0 where
+  pub video : Video
+  pub accepted : Accepted
+  pub reads : ReadsVideo input.old input.new video
+  pub some : 0 < length video.pictures
+  pub has : HasClusters choice video accepted
+  pub writes : Appends output.old output.new (whole_file packed.finished choice video accepted)
+  pub frames : packed.frames ≡ length video.pictures
+  pub bytes : packed.bytes ≡ bytes_in (packed_frames video accepted)
+  pub read : input.after ≡ input.before
+  pub written : output.after ≡ output.before
+
+-- its head asks for a configuration that is accepted, and says a rate that no whole nanoseconds say
+pub record IsUntimed (choice : Choice) (text rest : List ℕ) (f : Fault) : Type 0 where
+  pub head : VideoHead
+  pub read : video_head text ≡ Ok (head, rest)
+  pub accepted : Accepted
+  pub for : IsFor choice (is_ppm text) head accepted
+  pub untimed : IsTimed (rate_in (head_for choice (is_ppm text) head accepted.configuration)) → ⊥
+  pub is : f ≡ fault.Rate
+
+-- the first fault of a text before its pictures, where it is known
+abbrev pub FaultsBefore : Choice → Option (List ℕ) → Option (List ℕ) → Fault → Type 0
+FaultsBefore choice old new f = Known old new (λ text rest.
+    LacksHead text rest f ⊎ IsRejected choice text rest f ⊎ IsUntimed choice text rest f)
+
+-- the next picture has no Cluster: a slice of it is too long, or its frame is too long to be read,
+-- or its Cluster would end too far
+abbrev pub LacksCluster : Choice → Video → Accepted → Planes → Fault → Type 0
+LacksCluster choice v a p f =
+    (HasLongSlice a p (said_for v.head) × (f ≡ fault.SliceTooLong))
+    ⊎ ((HasLongSlice a p (said_for v.head) → ⊥)
+    × (limit < length (frame_of a p (said_for v.head)))
+    × (f ≡ fault.ChunkTooLong))
+    ⊎ ((HasLongSlice a p (said_for v.head) → ⊥)
+    × (length (frame_of a p (said_for v.head)) ≤ limit)
+    × (last_place
+    < clusters_end choice v a + cluster_bytes + length (frame_of a p (said_for v.head)))
+    × (f ≡ fault.TooLarge))
+
+-- why packing ends after the pictures of a video: the next one has a fault, or no Cluster; or there
+-- is no more, and there was none
+abbrev pub EndsClusters : Choice → Video → Accepted → List ℕ → List ℕ → Fault → Type 0
+EndsClusters choice v a left rest f =
+    ((g : Y4mFault) × (picture_next v.ppm v.head (at_first v.pictures) left ≡ Err (g, rest))
+    × (f ≡ of_y4m g))
+    ⊎ ((p : Planes) × (picture_next v.ppm v.head (at_first v.pictures) left ≡ Ok (Some p, rest))
+    × LacksCluster choice v a p f)
+    ⊎ ((picture_next v.ppm v.head (at_first v.pictures) left ≡ Ok (None, rest))
+    × (v.pictures ≡ []) × (f ≡ fault.NoFrames))
+
+-- the Clusters of a video were written, and of the text, where it is known, this video was read, and
+-- then so much as this says
+pub record PacksSome (Next : Video → Accepted → List ℕ → List ℕ → Type 0) (choice : Choice)
+    (input output : Passage) : Type 0 where
+  pub video : Video
+  pub accepted : Accepted
+  pub has : HasClusters choice video accepted
+  pub taken : Known input.old input.new (λ text rest.
+      (left : List ℕ) × Begins text video left × Next video accepted left rest)
+  pub writes : Appends output.old output.new (begun_file choice video accepted)
+
+-- and then packing ends
+abbrev pub EndsMatroska : Choice → Passage → Passage → Fault → Type 0
+EndsMatroska choice input output f =
+    PacksSome (λ v a left rest. EndsClusters choice v a left rest f) choice input output
+
+-- and then a read failed, where the next picture wants one more byte
+abbrev pub PackReadFails : Choice → Passage → Passage → Type 0
+PackReadFails choice input output =
+    PacksSome (λ v a. PictureWants v.ppm v.head v.pictures) choice input output
+
+-- and then memory was refused for the next picture, or for the frame of it
+abbrev pub PackLacks : Choice → Passage → Passage → Type 0
+PackLacks choice input output =
+    PacksSome (λ v a. PictureLacks v.ppm v.head v.pictures) choice input output
+
+-- the same video with a picture more
+abbrev pub with_picture : Video → Planes → Video
+with_picture v p = record { ppm = v.ppm; head = v.head; pictures = v.pictures ++ p ∷ [] }
+
+-- a write of the Cluster of the next picture failed: of that a beginning was written, and of the
+-- text, where it is known, nothing after that picture was read
+pub record ClusterFails (choice : Choice) (input output : Passage) : Type 0 where
+  pub video : Video
+  pub accepted : Accepted
+  pub has : HasClusters choice video accepted
+  pub next : Planes
+  pub reads : Known input.old input.new (λ text rest.
+      Begins text (with_picture video next) rest)
+  pub short : HasLongSlice accepted next (said_for video.head) → ⊥
+  pub readable : length (frame_of accepted next (said_for video.head)) ≤ limit
+  pub near : clusters_end choice video accepted + cluster_bytes
+      + length (frame_of accepted next (said_for video.head)) ≤ last_place
+  pub writes : WritesUpTo output.old output.new (length (begun_file choice video accepted))
+      (begun_file choice (with_picture video next) accepted)
+
+-- a write after all Clusters failed: of Cues a beginning was written; or the whole open file was,
+-- and over its own opening a beginning of the finished one
+pub record FinishFails (choice : Choice) (input output : Passage) : Type 0 where
+  pub video : Video
+  pub accepted : Accepted
+  pub reads : ReadsVideo input.old input.new video
+  pub some : 0 < length video.pictures
+  pub has : HasClusters choice video accepted
+  pub writes :
+      WritesUpTo output.old output.new (length (begun_file choice video accepted))
+      (open_file choice video accepted)
+      ⊎ ((mid : Option (List ℕ)) × Appends output.old mid (open_file choice video accepted)
+      × PatchesBeginning mid output.new (length (open_file choice video accepted))
+      (finished_opening_of choice video accepted))
+
+-- where the text is known, its head was read, and nothing after it
+abbrev pub StandsAfterHead : Option (List ℕ) → Option (List ℕ) → Type 0
+StandsAfterHead old new = Known old new (λ text rest.
+    (h : VideoHead) × (video_head text ≡ Ok (h, rest)))
+
+-- why packing is refused, by what the fault comes from: a write that failed, which was counted; a
+-- read that failed, which was counted, where the head wants one more byte, with nothing written, or
+-- the picture after those whose Clusters are written; memory after a head, with nothing written, or
+-- for the picture after those whose Clusters are; and else the first fault of the text, before its
+-- pictures, where nothing is written, or after those that it begins with, whose Clusters are
+abbrev pub RefusesMatroskaBy : Cause → Choice → Passage → Passage → Fault → Type 0
+RefusesMatroskaBy Writing choice input output f =
+    (output.after ≡ one_more output.before) × (input.after ≡ input.before)
+    × (ClusterFails choice input output ⊎ FinishFails choice input output)
+RefusesMatroskaBy Reading choice input output f =
+    (output.after ≡ output.before) × (input.after ≡ one_more input.before)
+    × ((Keeps output.old output.new × Known input.old input.new (Taken (Wants video_head)))
+    ⊎ PackReadFails choice input output)
+RefusesMatroskaBy Memory choice input output f =
+    (output.after ≡ output.before) × (input.after ≡ input.before) × HasHead input.old
+    × ((Keeps output.old output.new × StandsAfterHead input.old input.new)
+    ⊎ PackLacks choice input output)
+RefusesMatroskaBy Content choice input output f =
+    (output.after ≡ output.before) × (input.after ≡ input.before)
+    × ((Keeps output.old output.new × FaultsBefore choice input.old input.new f)
+    ⊎ EndsMatroska choice input output f)
+
+abbrev pub RefusesMatroska : Choice → Passage → Passage → Fault → Type 0
+RefusesMatroska choice input output f = RefusesMatroskaBy (cause_of f) choice input output f
+
+-- the faults that it has
+abbrev pub is_matroska_pack_fault : Fault → Bool
+is_matroska_pack_fault fault.Rate = true
+is_matroska_pack_fault fault.ChunkTooLong = true
+is_matroska_pack_fault f = is_pack_fault f
+
+-- a head was read, and its rate and a configuration for it are such as they have to be; the writer
+-- has written nothing
+pub record OpensMatroska (choice : Choice) (p : Passage) (r : VideoReading) (a : Accepted)
+    (w : Writer) : Type 0 where
+  pub read : HeadRead p r
+  pub head : IsHeadOf r
+  pub for : IsFor choice r.ppm r.head a
+  pub timed : IsTimed (rate_in (head_for choice r.ppm r.head a.configuration))
+  pub fresh : w
+      ≡ writing_of (head_for choice r.ppm r.head a.configuration) (shown_for r.head) []
+
+-- why not
+abbrev pub LacksMatroskaBy : Cause → Choice → Passage → Fault → Type 0
+LacksMatroskaBy Reading choice p f =
+    (p.after ≡ one_more p.before) × Known p.old p.new (Taken (Wants video_head))
+LacksMatroskaBy Writing choice p f = ⊥
+LacksMatroskaBy Memory choice p f =
+    (p.after ≡ p.before) × HasHead p.old × StandsAfterHead p.old p.new
+LacksMatroskaBy Content choice p f = (p.after ≡ p.before) × FaultsBefore choice p.old p.new f
+
+abbrev pub LacksMatroska : Choice → Passage → Fault → Type 0
+LacksMatroska choice p f = LacksMatroskaBy (cause_of f) choice p f

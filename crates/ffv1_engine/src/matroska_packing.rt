@@ -1,0 +1,189 @@
+//! A video is packed into Matroska, picture by picture.
+
+ghost use Rattle.std.specs.Prelude.{◌≡◌, [], Bool, IfOk, IfErr, None, Ok, Some, true};
+ghost use Rattle.ffv1_wire.specs.Passage.{passage};
+ghost use Rattle.ffv1_matroska.specs.Writers.{writing_of};
+ghost use Rattle.ffv1_engine.specs.Clusters.{PutsAll, StopsPutting};
+ghost use Rattle.ffv1_engine.specs.PackMatroska.{LacksMatroska, OpensMatroska, PacksMatroska};
+ghost use Rattle.ffv1_engine.specs.PackMatroska.{RefusesMatroska};
+ghost use Rattle.ffv1_engine.specs.PackMatroska.{is_matroska_pack_fault, shown_for};
+ghost use Rattle.ffv1_engine.specs.Packing.{IsFor};
+ghost use Rattle.ffv1_engine.specs.VideoReads.{reading_of};
+
+use crate::encoding::{checked_for, encode_picture, file_head};
+use crate::fault::Fault;
+use crate::packing::Packed;
+use crate::profile::Profile;
+use crate::video::VideoReader;
+use ffv1_codec::FrameEncoder;
+use ffv1_matroska::written_laws::pieces;
+use ffv1_matroska::{MatroskaWriter, Shown};
+use ffv1_wire::{ByteIn, ByteOut, PatchOut};
+use ffv1_words::Choice;
+use ffv1_y4m::VideoHead;
+use ffv1_y4m::laws::{images, texts};
+use std::alloc::{Allocator, Global};
+
+/// The most bytes of a frame that a reader of files takes.
+const LIMIT: usize = 67_108_864;
+
+/// What was packed into Matroska.
+#[derive(Clone, Copy, Debug, PartialEq, Eq)]
+pub struct PackedMatroska {
+    /// How many frames there are, at least 1.
+    pub frames: u64,
+    /// How many bytes the frames have, without what the file adds to them.
+    pub bytes: u64,
+    /// Whether the file was finished: false where the output cannot be written over, so that the
+    /// size of its Segment stays unknown.
+    pub finished: bool,
+}
+
+/// A video whose head was read, and what encodes and writes its pictures.
+#[derive(Drop)]
+struct Opened<A: Allocator = Global> {
+    reader: VideoReader<A>,
+    encoder: FrameEncoder<A>,
+    writer: MatroskaWriter<A>,
+}
+
+/// How the pictures of a video are shown.
+fn shown_for(head: &VideoHead) -> Shown
+    ensures { result ≡ shown_for head.now }
+{
+    Shown {
+        structure: head.structure,
+        sar_num: head.sar_num,
+        sar_den: head.sar_den,
+    }
+}
+
+/// Reads the head of a video, and makes what encodes and writes its pictures.
+fn open_video<R: ByteIn, A: Allocator + Copy>(
+    alloc: A,
+    profile: Profile,
+    input: &mut R,
+    choice: &Choice,
+) -> Result<Opened<A>, Fault>
+    ensures ok { IfOk result (λ o. OpensMatroska choice.now
+        (passage R.remaining R.failures input.old input.new) (reading_of o.reader)
+        o.encoder.accepted o.writer) }
+    ensures err { IfErr result (LacksMatroska choice.now
+        (passage R.remaining R.failures input.old input.new)) }
+    ensures own { IfErr result (λ f. is_matroska_pack_fault f ≡ true) }
+{
+    let reader = VideoReader::open(alloc, input)?;
+    let ppm = reader.is_ppm();
+    let checked = checked_for(alloc, profile, choice, ppm, reader.head())?;
+    let head = file_head(alloc, choice, ppm, reader.head(), &checked)?;
+    let writer = MatroskaWriter::new(alloc, &head, shown_for(reader.head()))?;
+    Ok(Opened {
+        encoder: FrameEncoder::new(alloc, checked),
+        reader,
+        writer,
+    })
+}
+
+/// Encodes all pictures, and writes the Cluster of each at once. What is encoded is held until it is
+/// written, and no longer.
+fn put_pictures<R: ByteIn, W: ByteOut, A: Allocator + Copy>(
+    alloc: A,
+    reader: &mut VideoReader<A>,
+    input: &mut R,
+    encoder: &mut FrameEncoder<A>,
+    writer: &mut MatroskaWriter<A>,
+    output: &mut W,
+) -> Result<Packed, Fault>
+    requires working { (reading_of reader.old).failed ≡ None }
+    requires begun { (reading_of reader.old).begun ≡ true }
+    requires suits { (choice : Choice) × IsFor choice (reading_of reader.old).ppm
+        (reading_of reader.old).head encoder.old.accepted }
+    requires fresh { writer.old ≡ writing_of writer.old.head writer.old.shown [] }
+    ensures ok { IfOk result (PutsAll encoder.old.accepted (reading_of reader.old)
+        writer.old writer.new (passage R.remaining R.failures input.old input.new)
+        (passage W.contents W.failures output.old output.new)) }
+    ensures err { IfErr result (StopsPutting encoder.old.accepted (reading_of reader.old)
+        writer.old (passage R.remaining R.failures input.old input.new)
+        (passage W.contents W.failures output.old output.new)) }
+    ensures own { IfErr result (λ f. is_matroska_pack_fault f ≡ true) }
+{
+    pieces();
+    let mut planes = Vec::new(alloc);
+    let mut packed = Packed {
+        frames: 0,
+        bytes: 0,
+    };
+    while let Some(frame) = encode_picture(alloc, reader, input, encoder, &mut planes)? {
+        let size = frame.as_slice().len();
+        if size > LIMIT {
+            return Err(Fault::ChunkTooLong);
+        }
+        writer.put(output, frame.as_slice())?;
+        packed.frames += 1;
+        packed.bytes += size as u64;
+    }
+    Ok(packed)
+}
+
+/// Packs a video into Matroska, picture by picture: YUV4MPEG2 or, where the first byte is `P`, binary
+/// PPM is read, and the Cluster of a picture is written as soon as it is encoded (RFC 9559, 5.1.3,
+/// with FFV1 as RFC 9043, 4.3.3, has it).
+///
+/// The configuration and the frames are those of `pack`, and so are rate and scale. Before the first
+/// Cluster comes all that stands before the Clusters, of a Segment of unknown size; after the last
+/// one come Cues, and then what stands before Tracks is written over, so that the file is finished.
+/// Where the output cannot be written over, the Segment's size stays unknown, and all else is there.
+/// One picture, its frame and the places of at most 8192 Clusters are held, however many pictures
+/// there are.
+///
+/// The first fault is answered in this order. `Header`, `Tag` and `Unsupported` where the text has
+/// no head; `Grid` and `ChromaEdge` where the choice does not suit its sizes; `Rate` where no whole
+/// nanoseconds a frame say its rate, as `ffv1_matroska::rate_of` reads them; nothing is written
+/// then. For each picture `FrameLine`, `FrameTruncated`, for a later image `Header` and
+/// `FormatChanged`, `SliceTooLong` where a slice takes more than 16777215 bytes, `ChunkTooLong`
+/// where its frame takes more than 67108864 bytes, which no reader here takes, and `TooLarge` where
+/// its Cluster would end more than 2^56 - 2^20 bytes after the first byte of the Segment's content;
+/// `NoFrames` where there is no picture. Then the Clusters of the pictures before are written,
+/// which can be read, and nothing where there is none.
+///
+/// No picture is read before the Clusters of those before it are written. `Read` where a read
+/// failed: nothing is written where the head wants one more byte; else the Clusters of exactly the
+/// pictures that were read whole are, and the next picture wants one more byte. `OutOfMemory`, which
+/// comes after the head alone: so, too, or the next picture was read whole, and memory for its frame
+/// was refused. `Write` where a write failed: a beginning of the file is then written, which ends in
+/// the Cluster of the last picture that was read, or in Cues; or the file whose Segment has no size,
+/// with a beginning of what it is written over by.
+pub fn pack_matroska<R: ByteIn, W: PatchOut, A: Allocator + Copy>(
+    alloc: A,
+    profile: Profile,
+    input: &mut R,
+    output: &mut W,
+    choice: &Choice,
+) -> Result<PackedMatroska, Fault>
+    ensures ok { IfOk result (PacksMatroska choice.now
+        (passage R.remaining R.failures input.old input.new)
+        (passage W.contents W.failures output.old output.new)) }
+    ensures err { IfErr result (RefusesMatroska choice.now
+        (passage R.remaining R.failures input.old input.new)
+        (passage W.contents W.failures output.old output.new)) }
+    ensures own { IfErr result (λ f. is_matroska_pack_fault f ≡ true) }
+{
+    texts();
+    images();
+    pieces();
+    let Opened {
+        mut reader,
+        mut encoder,
+        mut writer,
+    } = open_video(alloc, profile, input, choice)?;
+    let packed = put_pictures(alloc, &mut reader, input, &mut encoder, &mut writer, output)?;
+    if packed.frames == 0 {
+        return Err(Fault::NoFrames);
+    }
+    let finished = writer.finish(output)?;
+    Ok(PackedMatroska {
+        frames: packed.frames,
+        bytes: packed.bytes,
+        finished,
+    })
+}
