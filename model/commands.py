@@ -157,7 +157,7 @@ def config_of(head, choice):
         head.width, head.height, coder=choice["coder"], rct=head.rct, chroma=head.chroma,
         log2_h=head.log2_h, log2_v=head.log2_v, extra=head.extra, columns=choice["columns"],
         rows=choice["rows"], sets=[ffv1.LARGE if choice["contexts"] == "large" else ffv1.SMALL],
-        ec=choice["ec"], intra=1)
+        ec=choice["ec"], intra=1, depth=head.depth, wide=True)
 
 
 def video_of(source, choice):
@@ -246,8 +246,7 @@ def opened(source):
     else:
         head, frames = files.open_avi(files.Source(read), True)
         segment = []
-    config = ffv1.read_record(head.record, head.width, head.height)
-    config.wide = True
+    config = ffv1.read_record(head.record, head.width, head.height, wide=True)
     return head, config, frames, segment
 
 
@@ -262,7 +261,7 @@ def planes_of(config, lines):
 def unpack_y4m(head, config, frames, out):
     """The canonical text of a file; own: 71 where a frame's structure or aspect is another."""
     planes = (config.chroma, config.log2_h, config.log2_v, config.extra)
-    if files.name_of(planes) is None:
+    if files.name_of(planes, config.depth) is None:
         raise Fault(72)
     count, first = 0, None
     for payload in frames:
@@ -272,11 +271,11 @@ def unpack_y4m(head, config, frames, out):
         if first is None:
             first = decoded.info
             video = files.VideoHead(config.width, config.height, head.rate, head.scale, first[0],
-                                    first[1:], planes)
+                                    first[1:], planes, depth=config.depth)
             out(files.y4m_header(video))
         elif decoded.info != first:
             raise Fault(71)
-        out(files.y4m_picture(planes_of(config, decoded.lines)))
+        out(files.y4m_picture(planes_of(config, decoded.lines), config.depth))
         count += 1
     return count
 
@@ -290,9 +289,9 @@ def unpack_ppm(config, frames, out):
         decoded = ffv1.decode_frame(config, payload)
         rows = list(zip(*planes_of(config, decoded.lines)))
         if rows:
-            out(files.ppm_header(config.width, config.height))
+            out(files.ppm_header(config.width, config.height, config.depth))
         for row in rows:
-            out(files.ppm_line(*row))
+            out(files.ppm_line(row, config.depth))
         if decoded.fault:
             raise decoded.fault
         count += 1
@@ -343,7 +342,8 @@ def held(config):
     contexts = max(ffv1.contexts_of(runs) for runs in config.sets)
     planes = ffv1.plane_count(config) if config.rct else 1
     states = 32 * config.columns * classes * contexts
-    return states, 3 * planes * config.width, planes * config.width, config.columns
+    size = 1 if config.depth == 8 else 2
+    return states, 3 * planes * config.width, size * planes * config.width, config.columns
 
 
 def shown(head, config, segment):
@@ -353,7 +353,8 @@ def shown(head, config, segment):
     return [
         f"size {config.width}x{config.height}", f"coder {config.coder}",
         f"colour {'RCT' if config.rct else 'YCbCr'}", f"chroma {chroma}",
-        *["extra 1"] * config.extra, f"slices {config.columns}x{config.rows}",
+        *["extra 1"] * config.extra, *[f"depth {config.depth}"] * (config.depth > 8),
+        f"slices {config.columns}x{config.rows}",
         " ".join(["contexts", *(str(ffv1.contexts_of(runs)) for runs in config.sets)]),
         *["note other programs refuse sets of more than 16384 contexts"]
         * any(ffv1.contexts_of(runs) > 16384 for runs in config.sets),
@@ -397,7 +398,7 @@ def is_coded(config, plane, code):
 
 def trial(source, out):
     """The first picture of a text, which is to be mono, coded and decoded."""
-    head = files.open_y4m(source, source.some(1))
+    head = files.open_y4m(source, source.some(1), 8)
     if head.chroma:
         raise Fault(62)
     planes = next(files.y4m_pictures(source, head), None)

@@ -24,7 +24,7 @@ FAULTS = {
     37: "SliceParity", 38: "SliceStatus", 40: "SliceTooLong", 41: "InfoDiffers",
     42: "Sink", 50: "NotAvi", 51: "NoFfv1", 52: "Truncated", 53: "ChunkTooLong", 54: "EmptyFrame",
     55: "TooLarge", 56: "Read", 57: "Write", 60: "Header", 61: "Tag", 62: "Unsupported",
-    63: "FrameLine", 64: "FrameTruncated", 70: "NoFrames", 71: "FormatChanged", 72: "NoY4mName",
+    63: "FrameLine", 64: "FrameTruncated", 65: "SampleTooLarge", 70: "NoFrames", 71: "FormatChanged", 72: "NoY4mName",
     73: "NoPpm", 80: "NotMatroska", 81: "BadElement", 82: "NoTracks", 83: "Encoded", 84: "Laced",
     85: "Checksum", 86: "Rate",
 }
@@ -216,19 +216,22 @@ def contexts_of(runs):
 
 # -------------------------------------------------------------------------------- parameters (4.2)
 
+DEPTHS = [8, 9, 10, 12, 14, 16]     # own: the bits of a sample that are accepted at the wide profile
+
+
 class Config:
     """The parameters of the profile, and the size of the pictures, which the container tells; and
-    whether heads are read at the wide profile."""
+    whether the profile is the wide one, of other depths than 8 and of heads without an aspect."""
 
     def __init__(self, width, height, coder=1, deltas=None, rct=False, chroma=False, log2_h=0,
-                 log2_v=0, extra=False, columns=1, rows=1, sets=None, ec=1, intra=1):
+                 log2_v=0, extra=False, columns=1, rows=1, sets=None, ec=1, intra=1, depth=8,
+                 wide=False):
         self.width, self.height, self.coder = width, height, coder
         self.deltas = deltas if deltas is not None else [0] * 255
         self.rct, self.chroma, self.log2_h, self.log2_v = rct, chroma, log2_h, log2_v
         self.extra, self.columns, self.rows = extra, columns, rows
         self.sets = sets if sets is not None else [SMALL]
-        self.ec, self.intra = ec, intra
-        self.wide = False
+        self.ec, self.intra, self.depth, self.wide = ec, intra, depth, wide
 
     def table(self):
         return table_of(self.deltas) if self.coder == 2 else STANDARD
@@ -242,11 +245,18 @@ def edge(k, size, count):
     return k * size // count
 
 
+def depths_of(rct, wide):
+    """4.2.7, own: the bits of a sample that are accepted; the 17 of Cb and Cr of 16 are not."""
+    return [depth for depth in DEPTHS if depth == 8 or wide and not (rct and depth == 16)]
+
+
 def check(config):
     """Own: which parameters are of the profile; the first fault in this order."""
     c = config
     if not (1 <= c.width <= 8192 and 1 <= c.height <= 8192):
         raise Fault(10)
+    if c.depth not in depths_of(c.rct, c.wide):
+        raise Fault(21)
     plain = c.log2_h == 0 and c.log2_v == 0
     if c.log2_h > 2 or c.log2_v > 2 or (c.rct and not c.chroma) or \
             ((c.rct or not c.chroma) and not plain):
@@ -295,7 +305,7 @@ def write_record(config):
         for delta in c.deltas:                                       # state_transition_delta
             put_number(e, "record", delta, signed=True)
     put_number(e, "record", int(c.rct))                              # colorspace_type
-    put_number(e, "record", 8)                                       # bits_per_raw_sample
+    put_number(e, "record", c.depth)                                 # bits_per_raw_sample
     e.put(("record", 0), int(c.chroma))                              # chroma_planes
     put_number(e, "record", c.log2_h)
     put_number(e, "record", c.log2_v)
@@ -335,7 +345,7 @@ def get_judged(decoder, accepted, number):
     return value
 
 
-def read_record(data, width, height):
+def read_record(data, width, height, wide=False):
     """The configuration that a record codes, or the first fault in the order of its bytes."""
     if len(data) < 5:
         raise Fault(15)
@@ -349,7 +359,7 @@ def read_record(data, width, height):
     if deltas:
         table_of(deltas)
     rct = get_judged(d, [0, 1], 20) == 1
-    get_judged(d, [0, 8], 21)
+    depth = get_judged(d, [0, *depths_of(rct, wide)], 21) or 8
     chroma = d.get(("record", 0)) == 1
     log2_h, log2_v = get_number(d, "record"), get_number(d, "record")
     extra = d.get(("record", 0)) == 1
@@ -363,7 +373,7 @@ def read_record(data, width, height):
             raise Fault(22)
     ec, intra = get_judged(d, [0, 1], 23), get_judged(d, [0, 1], 24)
     config = Config(width, height, coder, deltas, rct, chroma, log2_h, log2_v, extra, columns, rows,
-                    sets, ec, intra)
+                    sets, ec, intra, depth, wide)
     check(config)
     return config
 
@@ -483,25 +493,34 @@ def lines_in(config, slice):
     return [(plane, y) for plane in planes for y in range(heights[plane])]
 
 
-def forward(red, green, blue):
-    """3.7.2: Y, and Cb and Cr raised by 256."""
+def swaps(config):
+    """3.7.2: with 9 to 15 bits and no transparency, green and blue change places."""
+    return 8 < config.depth < 16 and not config.extra
+
+
+def forward(config, red, green, blue):
+    """3.7.2: Y, and Cb and Cr raised by 2 to the bits of a sample."""
+    if swaps(config):
+        green, blue = blue, green
     cb, cr = blue - green, red - green
-    return green + (cb + cr) // 4, cb + 256, cr + 256
+    return green + (cb + cr) // 4, cb + 2 ** config.depth, cr + 2 ** config.depth
 
 
-def inverse(y, cb, cr):
-    """3.7.2: red, green and blue. Own: each from 0 to 255, or none."""
-    cb, cr = cb - 256, cr - 256
+def inverse(config, y, cb, cr):
+    """3.7.2: red, green and blue. Own: each of so many bits, or none."""
+    cb, cr = cb - 2 ** config.depth, cr - 2 ** config.depth
     green = y - (cb + cr) // 4
-    colour = cr + green, green, cb + green
-    return colour if all(0 <= sample <= 255 for sample in colour) else None
+    colour = [cr + green, green, cb + green]
+    if not all(0 <= sample < 2 ** config.depth for sample in colour):
+        return None
+    return [colour[0], colour[2], colour[1]] if swaps(config) else colour
 
 
 def coded_planes(config, planes):
     """The planes as they are coded; each is a list of lines."""
     if not config.rct:
         return planes
-    lines = [[forward(*place) for place in zip(*line)] for line in zip(*planes[:3])]
+    lines = [[forward(config, *place) for place in zip(*line)] for line in zip(*planes[:3])]
     return [[[place[k] for place in line] for line in lines] for k in range(3)] + planes[3:]
 
 
@@ -541,8 +560,11 @@ class Cell:
         return [self.seen(x + right, y + down) for right, down in places]
 
 
-def predicted(l, t, tl):
-    """3.3: the median of left, top, and left plus top less top left."""
+def predicted(config, l, t, tl):
+    """3.3: the median of left, top, and left plus top less top left. Of 16 bits of YCbCr these are
+    read as signed numbers."""
+    if bits_of(config) == 16:
+        l, t, tl = (value - 65536 * (value >= 32768) for value in (l, t, tl))
     return sorted([l, t, l + t - tl])[1]
 
 
@@ -556,7 +578,7 @@ def context_of(runs, l, t, tl, tr, ll, tt):
 
 def bits_of(config):
     """3.8: the bits of a coded sample."""
-    return 9 if config.rct else 8
+    return config.depth + config.rct
 
 
 def class_of(plane):
@@ -570,7 +592,7 @@ def put_line(encoder, config, runs, plane, cell, y):
     for x in range(cell.width):
         around = cell.around(x, y)
         context, negated = context_of(runs, *around)
-        difference = cell.lines[y][x] - predicted(*around[:3])
+        difference = cell.lines[y][x] - predicted(config, *around[:3])
         if negated:
             difference = -difference
         put_number(encoder, ("sample", class_of(plane), context), (difference + half) % (2 * half) - half,
@@ -589,7 +611,7 @@ def get_line(decoder, config, runs, plane, cell):
         except Fault as fault:
             raise Fault(fault.number, x=x)
         residual = -residual if negated else residual
-        cell.lines[y].append((predicted(*around[:3]) + residual) % 2 ** bits_of(config))
+        cell.lines[y].append((predicted(config, *around[:3]) + residual) % 2 ** bits_of(config))
 
 
 # ------------------------------------------------------------------------------- frames (4.4, 4.5)
@@ -658,9 +680,9 @@ def finished(config, row, planes, y):
     lines = [sum((slice.cells[plane].lines[y] for slice in row), []) for plane in planes]
     if not config.rct:
         return lines
-    colours = [inverse(*place) for place in zip(*lines[:3])]
+    colours = [inverse(config, *place) for place in zip(*lines[:3])]
     for x, colour in enumerate(colours):
-        if colour is None or (config.extra and lines[3][x] > 255):
+        if colour is None or (config.extra and lines[3][x] >= 2 ** config.depth):
             slice = [k for k in row if cell_of(config, k.number, 0)[0] <= x][-1]
             raise Fault(7, slice.number, 0, cell_of(config, row[0].number, 0)[1] + y, x)
     return [[colour[k] for colour in colours] for k in range(3)] + lines[3:]

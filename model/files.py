@@ -66,9 +66,9 @@ class VideoHead:
     """What a text of pictures says of them: a YUV4MPEG2 header, or a PPM, which is RCT."""
 
     def __init__(self, width, height, rate=0, scale=0, structure=0, aspect=(0, 0),
-                 planes=(True, 0, 0, False), rct=False):
+                 planes=(True, 0, 0, False), rct=False, depth=8):
         self.width, self.height, self.rate, self.scale = width, height, rate, scale
-        self.structure, self.aspect, self.rct = structure, aspect, rct
+        self.structure, self.aspect, self.rct, self.depth = structure, aspect, rct, depth
         self.chroma, self.log2_h, self.log2_v, self.extra = planes
 
     def sizes(self):
@@ -78,25 +78,46 @@ class VideoHead:
         return [whole] + [reduced] * 2 * self.chroma + [whole] * self.extra
 
 
-def get_plane(source, width, height):
-    """The lines of a plane."""
-    return [list(source.exactly(width, 64)) for _ in range(height)]
+def samples_in(data, depth, order):
+    """The samples of bytes: of two bytes each above 8 bits, in this order."""
+    size = 1 if depth == 8 else 2
+    return [int.from_bytes(data[at:at + size], order) for at in range(0, len(data), size)]
+
+
+def bytes_of(samples, depth, order):
+    """The bytes of samples: two of each above 8 bits, in this order."""
+    return b"".join(sample.to_bytes(1 if depth == 8 else 2, order) for sample in samples)
+
+
+def get_plane(source, width, height, depth, order):
+    """The lines of a plane. Own: 65 where a sample has more bits, after the bytes of the plane."""
+    size = width if depth == 8 else 2 * width
+    lines = [samples_in(source.exactly(size, 64), depth, order) for _ in range(height)]
+    if any(sample >= 2 ** depth for line in lines for sample in line):
+        raise Fault(65)
+    return lines
 
 
 # ---------------------------------------------------------------------------------------- YUV4MPEG2
 
-# the names of chroma: whether there are chroma planes, log2 of their factors, and transparency
+# the names of chroma: whether there are chroma planes, log2 of their factors, transparency; depth
 PLANES = {
-    b"420jpeg": (True, 1, 1, False), b"420mpeg2": (True, 1, 1, False),
-    b"420paldv": (True, 1, 1, False), b"422": (True, 1, 0, False), b"444": (True, 0, 0, False),
-    b"411": (True, 2, 0, False), b"mono": (False, 0, 0, False), b"444alpha": (True, 0, 0, True),
+    b"420jpeg": (True, 1, 1, False, 8), b"420mpeg2": (True, 1, 1, False, 8),
+    b"420paldv": (True, 1, 1, False, 8), b"422": (True, 1, 0, False, 8),
+    b"444": (True, 0, 0, False, 8), b"411": (True, 2, 0, False, 8), b"mono": (False, 0, 0, False, 8),
+    b"444alpha": (True, 0, 0, True, 8),
+    # as FFmpeg names them
+    **{b"%sp%d" % (name, depth): (True, log2_h, log2_v, False, depth)
+       for name, log2_h, log2_v in [(b"420", 1, 1), (b"422", 1, 0), (b"444", 0, 0)]
+       for depth in [9, 10, 12, 14, 16]},
+    **{b"mono%d" % depth: (False, 0, 0, False, depth) for depth in [9, 10, 12, 16]},
 }
 STRUCTURES = {b"?": 0, b"t": 1, b"b": 2, b"p": 3}
 
 
-def name_of(planes):
+def name_of(planes, depth):
     """The name of chroma that is written, or none."""
-    return next((name for name, named in PLANES.items() if named == planes), None)
+    return next((name for name, named in PLANES.items() if named == (*planes, depth)), None)
 
 
 def header_line(source, first):
@@ -118,11 +139,12 @@ def ratio(text, most):
     return None if num is None or den is None or (num == 0) != (den == 0) else (num, den)
 
 
-def tag_value(letter, text):
-    """What a tag says; 61 where it is not one, 62 where it is left out here."""
+def tag_value(letter, text, most):
+    """What a tag says; 61 where it is not one, 62 where it is left out here, as depths above the
+    most are."""
     if letter == b"X":
         return text
-    if letter == b"C" and text not in PLANES or letter == b"I" and text == b"m":
+    if letter == b"C" and PLANES.get(text, [17])[-1] > most or letter == b"I" and text == b"m":
         raise Fault(62)
     value = {
         b"W": lambda: decimal(text, 1, 8192), b"H": lambda: decimal(text, 1, 8192),
@@ -134,18 +156,19 @@ def tag_value(letter, text):
     return value
 
 
-def open_y4m(source, first):
-    """The header of a text whose first byte is read, if it has one."""
+def open_y4m(source, first, most=16):
+    """The header of a text whose first byte is read, if it has one, of so many bits at most."""
     tags = {}
     for tag in header_line(source, first).split(b" ")[1:]:
         letter, text = tag[:1], tag[1:]
         if letter != b"X" and letter in tags:
             raise Fault(61)
-        tags[letter] = tag_value(letter, text)
+        tags[letter] = tag_value(letter, text, most)
     if b"W" not in tags or b"H" not in tags:
         raise Fault(61)
+    *planes, depth = tags.get(b"C", PLANES[b"420jpeg"])
     return VideoHead(tags[b"W"], tags[b"H"], *tags.get(b"F", (0, 0)), tags.get(b"I", 0),
-                     tags.get(b"A", (0, 0)), tags.get(b"C", PLANES[b"420jpeg"]))
+                     tags.get(b"A", (0, 0)), planes, depth=depth)
 
 
 def y4m_pictures(source, head):
@@ -156,19 +179,19 @@ def y4m_pictures(source, head):
             if byte != bytes([wanted]):
                 raise Fault(63)
             byte = b""
-        yield [get_plane(source, *size) for size in head.sizes()]
+        yield [get_plane(source, *size, head.depth, "little") for size in head.sizes()]
 
 
 def y4m_header(head):
     """The header that is written: the tags W H F I A C."""
     letter = next(letter for letter, value in STRUCTURES.items() if value == head.structure)
-    name = name_of((head.chroma, head.log2_h, head.log2_v, head.extra))
+    name = name_of((head.chroma, head.log2_h, head.log2_v, head.extra), head.depth)
     return b"YUV4MPEG2 W%d H%d F%d:%d I%s A%d:%d C%s\n" % (
         head.width, head.height, head.rate, head.scale, letter, *head.aspect, name)
 
 
-def y4m_picture(planes):
-    return b"FRAME\n" + b"".join(bytes(line) for plane in planes for line in plane)
+def y4m_picture(planes, depth):
+    return b"FRAME\n" + b"".join(bytes_of(line, depth, "little") for plane in planes for line in plane)
 
 
 # ---------------------------------------------------------------------------------------------- PPM
@@ -184,40 +207,53 @@ def ppm_number(source, end):
     return size
 
 
-def ppm_size(source, first):
-    """The header of an image whose first byte is read: its width and height. Own: no comments, and
-    no other maximum value."""
+MAXIMA = {b"%d\n" % (2 ** depth - 1): depth for depth in [8, 9, 10, 12, 14, 16]}
+
+
+def ppm_depth(source):
+    """The depth of which the third line says the greatest number. Own: no other maximum."""
+    line = b""
+    while len(line) < 6 and not line.endswith(b"\n"):
+        line += source.exactly(1, 60)
+    if line not in MAXIMA:
+        raise Fault(60)
+    return MAXIMA[line]
+
+
+def ppm_format(source, first):
+    """The header of an image whose first byte is read: its width, height and depth. Own: no
+    comments."""
     if first + source.exactly(2, 60) != b"P6\n":
         raise Fault(60)
-    width, height = ppm_number(source, b" "), ppm_number(source, b"\n")
-    if source.exactly(4, 60) != b"255\n":
-        raise Fault(60)
-    return width, height
+    return ppm_number(source, b" "), ppm_number(source, b"\n"), ppm_depth(source)
 
 
 def open_ppm(source, first):
     """The first image's header. Own: structure and aspect are not known."""
-    return VideoHead(*ppm_size(source, first), rct=True)
+    width, height, depth = ppm_format(source, first)
+    return VideoHead(width, height, rct=True, depth=depth)
 
 
 def ppm_pictures(source, head):
-    """The images one behind the other, as planes of red, green and blue. Own: all have one size."""
+    """The images one after the other, as planes of red, green and blue. Own: all have one size and
+    one depth."""
     while True:
-        lines = get_plane(source, 3 * head.width, head.height)
+        lines = get_plane(source, 3 * head.width, head.height, head.depth, "big")
         yield [[line[k::3] for line in lines] for k in range(3)]
         first = source.some(1)
         if not first:
             return
-        if ppm_size(source, first) != (head.width, head.height):
+        if ppm_format(source, first) != (head.width, head.height, head.depth):
             raise Fault(71)
 
 
-def ppm_header(width, height):
-    return b"P6\n%d %d\n255\n" % (width, height)
+def ppm_header(width, height, depth):
+    """The header that is written."""
+    return b"P6\n%d %d\n%d\n" % (width, height, 2 ** depth - 1)
 
 
-def ppm_line(red, green, blue):
-    return bytes(sample for place in zip(red, green, blue) for sample in place)
+def ppm_line(colours, depth):
+    return bytes_of((sample for place in zip(*colours) for sample in place), depth, "big")
 
 
 # ---------------------------------------------------------------------------------------------- AVI

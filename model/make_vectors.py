@@ -14,6 +14,7 @@ import zlib
 
 import ebml
 import ffv1
+import files
 import matroska
 from known_answers import avi_files
 from known_answers import frames as known_frames
@@ -151,8 +152,9 @@ def deltas_of(random):
             pass
 
 
-def config_of(random):
-    """A configuration of small pictures that is accepted, of any kind."""
+def config_of(random, depths=(8,)):
+    """A configuration of small pictures that is accepted, of any kind and of one of these depths;
+    of the wide profile where these are not 8 alone."""
     while True:
         kind = random.choice(["mono", "chroma", "chroma", "rct"])
         wide = random.random() < 0.1
@@ -166,7 +168,8 @@ def config_of(random):
             extra=kind != "mono" and random.random() < 0.4,
             columns=32 if wide else random.choice([1, 1, 2, 3, 4]),
             rows=random.choice([1, 1, 2, 3]), sets=[set_of(random) for _ in range(random.choice([1, 1, 2, 3]))],
-            ec=random.randrange(2), intra=random.randrange(2))
+            ec=random.randrange(2), intra=random.randrange(2), wide=depths != (8,))
+        config.depth = random.choice(depths) if config.wide else 8
         try:
             ffv1.check(config)
             return config
@@ -176,11 +179,11 @@ def config_of(random):
 
 def picture_of(random, config):
     """Planes of noise, of slow change, or of one value."""
-    kind, base = random.randrange(3), random.randrange(256)
-    planes = []
+    kind, most = random.randrange(3), 2 ** config.depth
+    base, planes = random.randrange(most), []
     for plane in range(ffv1.plane_count(config)):
         width, height = ffv1.reduced(config, plane, config.width, config.height)
-        planes.append([[[random.randrange(256), (base + x + 2 * y + random.randrange(3)) % 256, base][kind]
+        planes.append([[[random.randrange(most), (base + x + 2 * y + random.randrange(3)) % most, base][kind]
                         for x in range(width)] for y in range(height)])
     return planes
 
@@ -190,14 +193,15 @@ def info_of(random):
     return [random.randrange(4)] + aspect
 
 
-def planes_text(planes):
-    return hexadecimal(bytes(sample for plane in planes for line in plane for sample in line))
+def planes_text(config, planes):
+    samples = (sample for plane in planes for line in plane for sample in line)
+    return hexadecimal(files.bytes_of(samples, config.depth, "little"))
 
 
-def pictures(random, count):
+def pictures(random, count, depths=(8,)):
     """A configuration, its picture, what is said of it, and the payload."""
     for _ in range(count):
-        config = config_of(random)
+        config = config_of(random, depths)
         planes, info = picture_of(random, config), info_of(random)
         yield config, planes, info, ffv1.encode_frame(config, planes, info)
 
@@ -207,7 +211,7 @@ def config_fields(config):
 
 
 def frame_line(config, planes, info, payload):
-    return [*config_fields(config), *info, planes_text(planes), hexadecimal(payload),
+    return [*config_fields(config), *info, planes_text(config, planes), hexadecimal(payload),
             *counts_of(config, info, payload)]
 
 
@@ -217,6 +221,11 @@ def frames(random, count):
     known = [frame_line(config, planes, info, bytes.fromhex(payload))
              for _, config, info, planes, payload, *_ in known_frames.ENCODED]
     return known + [frame_line(*picture) for picture in pictures(random, count)]
+
+
+def deep_frames(random, count, depth):
+    """The same of so many pictures of a depth."""
+    return [frame_line(*picture) for picture in pictures(random, count, (depth,))]
 
 
 def sealed(config, slices):
@@ -241,6 +250,8 @@ def put_changed_head(random, encoder, config, slice, info):
         values[random.randrange(4, first)] = len(config.sets)
     elif kind == 3:
         values[first] = 4
+    elif kind == 4 and config.wide:
+        values[first + 1] = 65536
     elif kind == 4:
         values[first + 1] = 0 if values[first + 1] else 1
     elif kind == 5:
@@ -290,9 +301,10 @@ def other_payload(random, config, info, payload):
     return sealed(config, slices)
 
 
-def lines_text(lines):
-    """Lines one behind the other, each by its plane, its row and its samples."""
-    return hexadecimal(b"".join(bytes([plane, row >> 8, row & 255]) + bytes(samples)
+def lines_text(config, lines):
+    """Lines one after the other, each by its plane, its row and its samples."""
+    return hexadecimal(b"".join(bytes([plane, row >> 8, row & 255])
+                                + files.bytes_of(samples, config.depth, "little")
                                 for plane, row, samples in lines))
 
 
@@ -309,18 +321,23 @@ def decoded_in(config, payload, room):
     place = [fault.number, fault.slice, fault.plane, fault.line, fault.x] if fault else [0] * 5
     info = [0] * 3 if fault else out.info
     return [*config_fields(config), hexadecimal(payload), room, *place, *info, out.ones, out.zeros,
-            out.renormalisations, lines_text(out.lines)]
+            out.renormalisations, lines_text(config, out.lines)]
 
 
-def decoded(random, count):
+def decoded(random, count, depths=(8,)):
     """width height record payload room fault slice plane line x structure num den ones zeros
     renormalisations lines"""
     lines = []
-    for config, _, info, payload in pictures(random, count):
+    for config, _, info, payload in pictures(random, count, depths):
         lines.append(decoded_line(random, config, payload))
         for _ in range(6):
             lines.append(decoded_line(random, config, other_payload(random, config, info, payload)))
     return lines
+
+
+def deep_decoded(random, count, depth):
+    """The same of so many pictures of a depth."""
+    return decoded(random, count, (depth,))
 
 
 def known_aspects(is_wide):
@@ -442,6 +459,11 @@ def files_written(random, count):
     return lines
 
 
+def by_depth(make, random, count):
+    """So many cases of each depth above 8 bits."""
+    return [line for depth in ffv1.DEPTHS[1:] for line in make(random, count, depth)]
+
+
 def write(name, lines):
     os.makedirs(DATA, exist_ok=True)
     with open(os.path.join(DATA, name), "w") as out:
@@ -453,6 +475,8 @@ if __name__ == "__main__":
     write("payloads.txt", payloads(random.Random(9044), 2000))
     write("frames.txt", frames(random.Random(9045), 300))
     write("decoded.txt", known_decoded() + decoded(random.Random(9046), 300))
+    write("deep_frames.txt", by_depth(deep_frames, random.Random(9047), 300))
+    write("deep_decoded.txt", by_depth(deep_decoded, random.Random(9048), 60))
     write("wide.txt", known_aspects(True))
     write("avi.txt", files_of_avi())
     write("matroska.txt", files_of_matroska(random.Random(9559), 300))

@@ -36,15 +36,22 @@ def ratio(dice, most):
     return dice.choice([(0, 0), (1, 1), (25, 1), large])
 
 
+def name_of(dice):
+    """A name of chroma, as often of 8 bits as of more."""
+    deep = dice.random() < 0.5
+    return dice.choice([name for name, said in files.PLANES.items() if (said[-1] > 8) == deep])
+
+
 def tags_of(dice):
     """The tags of a header, and its head."""
     width, height = size(dice)
-    name = dice.choice(list(files.PLANES))
+    name = name_of(dice)
     letter = dice.choice(list(files.STRUCTURES))
     rate, aspect = ratio(dice, 2 ** 32), ratio(dice, 2 ** 16)
     tags = [b"W%d" % width, b"H%d" % height, b"F%d:%d" % rate, b"I" + letter, b"A%d:%d" % aspect,
             b"C" + name, b"XYSCSS=420", b"X"]
-    head = files.VideoHead(width, height, planes=files.PLANES[name])
+    *planes, depth = files.PLANES[name]
+    head = files.VideoHead(width, height, planes=planes, depth=depth)
     if dice.random() < 0.3:
         dice.shuffle(tags)
     return tags, head
@@ -52,17 +59,21 @@ def tags_of(dice):
 
 BAD_TAGS = [
     b"", b"W0", b"W2", b"H9000", b"H01", b"F1", b"F0:1", b"F00:0", b"F1:4294967296", b"Im", b"Iz",
-    b"I", b"A1", b"A0:2", b"A70000:1", b"C", b"C420p10", b"C444", b"Q", b"w2", b"W+2", b"X ",
+    b"I", b"A1", b"A0:2", b"A70000:1", b"C", b"C420p11", b"C420p10", b"C444", b"Q", b"w2", b"W+2",
+    b"X ",
 ]
 BETWEEN = [b"\n", b" ", b"\r", b"FRAME", b"0", b"\0\xff", b"P6\n1 1\n255\n"]
 
 
-def planes_of(dice, head):
-    """The samples of a picture: noise, a slow change, or one value."""
-    kind, base = dice.randrange(3), dice.randrange(256)
-    return b"".join(bytes([dice.randrange(256), (base + x + 2 * y) % 256, base][kind]
-                          for y in range(height) for x in range(width))
-                    for width, height in head.sizes())
+def planes_of(dice, head, order="little"):
+    """The samples of a picture: noise, a slow change, or one value; now and then too large."""
+    kind, most = dice.randrange(3), 2 ** head.depth
+    base = dice.randrange(most)
+    samples = [[dice.randrange(most), (base + x + 2 * y) % most, base][kind]
+               for width, height in head.sizes() for y in range(height) for x in range(width)]
+    if 8 < head.depth < 16 and dice.random() < 0.1:
+        samples[dice.randrange(len(samples))] = dice.randrange(most, 65536)
+    return files.bytes_of(samples, head.depth, order)
 
 
 def y4m(dice):
@@ -76,15 +87,21 @@ def y4m(dice):
     return text
 
 
+def image_format(dice):
+    """A width, a height and a depth."""
+    return *size(dice), dice.choice([8] * 6 + [9, 10, 12, 14, 16])
+
+
 def ppm(dice):
-    """Images, now and then of two sizes."""
-    width, height = size(dice)
+    """Images, now and then of two sizes or depths."""
+    width, height, depth = image_format(dice)
     text = b""
     for _ in range(dice.choice(COUNTS) or 1):
         if text and dice.random() < 0.15:
-            width, height = size(dice)
-        head = files.VideoHead(width * 3, height, planes=(False, 0, 0, False))
-        text += b"P6\n%d %d\n255\n" % (width, height) + planes_of(dice, head)
+            width, height, depth = dice.choice([image_format(dice),
+                                                (width, height, dice.choice(ffv1.DEPTHS))])
+        head = files.VideoHead(width * 3, height, planes=(False, 0, 0, False), depth=depth)
+        text += files.ppm_header(width, height, depth) + planes_of(dice, head, "big")
     return text
 
 
@@ -109,13 +126,13 @@ def text_of(dice):
 
 def config_of(dice):
     """A configuration of small pictures, of those that texts have or, less often, of any kind."""
-    config = make_vectors.config_of(dice)
+    config = make_vectors.config_of(dice, ffv1.DEPTHS if dice.random() < 0.5 else [8])
     if dice.random() < 0.7:
-        planes = files.PLANES[dice.choice(list(files.PLANES))]
+        planes = files.PLANES[name_of(dice)]
         if config.rct:
             config.extra = False
         else:
-            config.chroma, config.log2_h, config.log2_v, config.extra = planes
+            (config.chroma, config.log2_h, config.log2_v, config.extra, config.depth) = planes
     samples = config.width * config.height * ffv1.plane_count(config)
     try:
         ffv1.check(config)

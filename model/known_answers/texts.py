@@ -95,7 +95,7 @@ def refused(name, text, fault, words=""):
 
 # tags, fault
 TAGS = [
-    ("W2 H2 C420p10", "62 Unsupported"), ("W2", "61 Tag"), ("W2 W2 H2", "61 Tag"),
+    ("W2 H2 C420p11", "62 Unsupported"), ("W2", "61 Tag"), ("W2 W2 H2", "61 Tag"),
     ("W02 H2", "61 Tag"), ("W2 H2 Im Q1", "62 Unsupported"), ("W2 H2 Q1 Im", "61 Tag"),
     ("W2 H8193", "61 Tag"), ("W0 H2", "61 Tag"), ("W2 H2 ", "61 Tag"), ("W2 H2 F25", "61 Tag"),
     ("W2 H2 F0:1", "61 Tag"), ("W2 H2 A1:65536", "61 Tag"), ("W2 H2 A1:0", "61 Tag"),
@@ -104,7 +104,7 @@ TAGS = [
 ]
 IMAGE_HEADERS = [
     b"P5\n1 1\n255\n", b"P6 1 1\n255\n", b"P6\n01 1\n255\n", b"P6\n1 8193\n255\n",
-    b"P6\n1 1\n65535\n", b"P6\n#c\n1 1\n255\n", b"P6\n1\n1\n255\n", b"P6\n1 0\n255\n",
+    b"P6\n1 1\n65534\n", b"P6\n#c\n1 1\n255\n", b"P6\n1\n1\n255\n", b"P6\n1 0\n255\n",
     b"P6\n1 1\n25",
 ]
 

@@ -3,6 +3,7 @@
 ghost use Rattle.std.specs.Prelude.{◌≡◌, ◌<◌, length, true, IfSome, OnSome, ◌+◌, ◌≤◌, ℕ, Bool};
 ghost use Rattle.std.specs.Prelude.{List, [], false, Option, None, Some, IfErr, IfOk, OnErr, Ok};
 ghost use Rattle.std.specs.Prelude.{Err};
+ghost use Rattle.std.specs.Vec.{vec_capacity};
 ghost use Rattle.ffv1_avi.specs.Extents.{AnswersFrom};
 ghost use Rattle.ffv1_avi.specs.Files.{frame_found, frame_name, frame_read, movi_found};
 ghost use Rattle.ffv1_avi.specs.Files.{open_read, visit_movi};
@@ -12,6 +13,7 @@ ghost use Rattle.ffv1_wire.specs.Passage.{passage};
 ghost use Rattle.ffv1_avi.specs.Internal.Ending.{AnswersOrNone};
 ghost use Rattle.ffv1_avi.specs.Places.{amount, ended, extent_of, frame_at};
 ghost use Rattle.ffv1_reads.specs.Reads.{Answers};
+ghost use Rattle.ffv1_reads.specs.Room.{HasRoom};
 ghost use Rattle.ffv1_avi.specs.Readers.{is_frame_fault, is_opening_fault};
 ghost use Rattle.ffv1_avi.specs.Readers.{Leaves, Standing, StandsAfter, frame_with, next_of};
 ghost use Rattle.ffv1_avi.specs.Readers.{next_with, opened_at};
@@ -125,6 +127,8 @@ fn read_frame<R: ByteIn, A: Allocator>(
     ensures less { IfOk result (λ o. IfSome o (λ after. amount after < amount place)) }
     ensures same { IfOk result (λ o. IfSome o (λ after. extent_of after ≡ extent_of place)) }
     ensures err { OnErr result (Leaves place (R.remaining input.old) frame.new.items) }
+    ensures room { HasRoom (vec_capacity frame.old) (vec_capacity frame.new)
+        (length frame.new.items) result }
 {
     frame.clear();
     let Some((size, after)) = find_frame(input, place)? else {
@@ -221,7 +225,7 @@ impl<A: Allocator> AviReader<A> {
     /// `AVIX` stands after a RIFF; `ChunkTooLong` for a frame above 67108864 bytes, of which no
     /// byte is read, `EmptyFrame` for one of none, `Read` where a read failed, `OutOfMemory`. After
     /// a fault the vector holds a beginning of the frame, and each further call answers the fault
-    /// again, empties the vector and reads nothing.
+    /// again, empties the vector and reads nothing. The vector has room as `ffv1_reads::fill` says.
     pub fn next_frame<R: ByteIn>(
         &mut self,
         input: &mut R,
@@ -242,6 +246,8 @@ impl<A: Allocator> AviReader<A> {
             (λ more. more ≡ true → extent_of self.new.place ≡ extent_of self.old.place) }
         ensures own { self.old.fault ≡ None → IfErr result (λ f. is_frame_fault f ≡ true) }
         ensures err { OnErr result (Leaves self.old.place (R.remaining input.old) frame.new.items) }
+        ensures room { HasRoom (vec_capacity frame.old) (vec_capacity frame.new)
+            (length frame.new.items) result }
         ensures over { self.old.fault ≡ None → self.old.place ≡ ended →
             (result ≡ Ok false) × (self.new ≡ self.old) × (frame.new.items ≡ [])
             × (input.new ≡ input.old) }

@@ -1,9 +1,11 @@
 //! A stream, by the chunks of its list.
 
 ghost use Rattle.std.specs.Prelude.{◌≡◌, ◌+◌, ◌*◌, ◌<◌, ◌≤◌, ℕ, List, Option, None, Some, length};
+ghost use Rattle.std.specs.Vec.{vec_capacity};
 ghost use Rattle.ffv1_avi.specs.Streams.{no_video, record_end};
 ghost use Rattle.ffv1_wire.specs.Passage.{at_rest, passage};
 ghost use Rattle.ffv1_reads.specs.Reads.{Answers};
+ghost use Rattle.ffv1_reads.specs.Room.{HasRoom};
 ghost use Rattle.ffv1_avi.specs.Streams.{format_in, format_read, rates_in, rates_read};
 ghost use Rattle.ffv1_avi.specs.Streams.{stream_judged, stream_read, visit_field};
 ghost use Rattle.ffv1_avi.specs.Internal.Views.{came_with, format_with, found_with, known_next, known_with};
@@ -69,15 +71,17 @@ fn record_end(extent: Extent, says: u32, size: u32) -> u32
 }
 
 /// The width and the height of a stream's format of such a size, and its record in place of what
-/// the vector has, where it is FFV1.
+/// the vector has, where it is FFV1. The vector has room as `ffv1_reads::fill` says.
 fn read_format<R: ByteIn, A: Allocator>(
     input: &mut R,
     extent: Extent,
     size: u32,
     config: &mut Vec<u8, A>,
 ) -> Result<Option<(u32, u32)>, FileFault>
-    ensures { Answers (λ (f : Option (ℕ × ℕ)). format_with f config.new.items)
+    ensures answer { Answers (λ (f : Option (ℕ × ℕ)). format_with f config.new.items)
         (format_in extent size) (passage R.remaining R.failures input.old input.new) result }
+    ensures room { HasRoom (vec_capacity config.old) (vec_capacity config.new)
+        (length config.new.items) result }
 {
     if size < 40 {
         pass(input, padded(size))?;

@@ -4,11 +4,13 @@ use Rattle.std.specs.List.{flat_map, range_with_len}
 use Rattle.std.proofs.lemmas.Bool.{cases_eq}
 use Rattle.std.proofs.lemmas.List.FromFn.{get_or-map-range_with_len}
 use Rattle.ffv1_wire.specs.Runs as wire
-use Rattle.ffv1_rct.specs.Transform.{IsCoded, luma_of, chroma_of}
+use Rattle.ffv1_samples.specs.Samples.{bytes_of, samples_of}
+use Rattle.ffv1_samples.proofs.Depths.{samples_back}
+use Rattle.ffv1_rct.specs.Transform.{IsCodedIn, luma_of, chroma_in}
 use Rattle.ffv1_record.specs.Configuration.{Configuration, is_rct}
 use Rattle.ffv1_slice.specs.Grid.{Side, begin_of, length_of, whole_of, across, down, division_of, factor_of}
 use Rattle.ffv1_codec.specs.Sides.{Alike, Tiles}
-use Rattle.ffv1_codec.specs.Picture.{Planes, plane, plane_count, plane_width, sample_at, transformed_at, coded_at}
+use Rattle.ffv1_codec.specs.Picture.{Planes, plane, plane_count, plane_width, plane_samples, line_bytes, green_of, blue_of, sample_at, transformed_at, coded_at}
 use Rattle.ffv1_codec.specs.SliceList.{Line}
 use Rattle.ffv1_codec.specs.Order.{numbered}
 use Rattle.ffv1_codec.specs.Decoding.{Slice, FinishesBy, width_in, left_of, row_in, top_of}
@@ -19,7 +21,8 @@ use Rattle.ffv1_codec.proofs.LinesRead.{lines_at}
 use Rattle.ffv1_codec.proofs.LinesMade.{MadeOf, handed, joined_line}
 use Rattle.ffv1_codec.proofs.Keys.{parts_from}
 use Rattle.ffv1_codec.proofs.JoinedLines.{tiled_at, row_long, row_at}
-use Rattle.ffv1_codec.proofs.LineSizes.{by_number, each_back}
+use Rattle.ffv1_codec.proofs.LineSizes.{by_number}
+use Rattle.ffv1_codec.proofs.Words.{get_or_bytes, row_samples, sample_row, green_few, blue_few}
 
 factor_zero : (p : ℕ) → factor_of 0 p ≡ 0
 factor_zero zero = refl
@@ -64,12 +67,12 @@ pub record InRct (c : Configuration) : Type 0 where
   pub few : is_rct c.colour ≡ true → AreFew c (plane_count c)
 
 module _ (c : Configuration) (planes : Planes) where
-  -- a line of the picture
+  -- a line of the picture, in bytes
   abbrev pub IsLine : wire.Line → Type 0
-  IsLine l = l.samples ≡ row_in (plane_width c l.plane) l.row (plane planes l.plane)
+  IsLine l = l.samples ≡ row_in (line_bytes c l.plane) l.row (plane planes l.plane)
 
   abbrev pub picture_row : ℕ → ℕ → List ℕ
-  picture_row y p = row_in (plane_width c p) y (plane planes p)
+  picture_row y p = row_in (line_bytes c p) y (plane planes p)
 
   module _ (slice : ℕ → Slice) (tiles : (p : ℕ) → Tiles (across (division_of c) p)) (r : ℕ) where
     -- what was read of a line is the picture's
@@ -90,11 +93,11 @@ module _ (c : Configuration) (planes : Planes) where
         ∙ row_at (width_in c p k) y x (plane (slice k).cells p) small
 
     -- a place of the picture's line
-    picture_at : (y p k x : ℕ) → k < c.columns → x < width_in c p k → get_or (picture_row y p) (left_of c p k + x) 0 ≡ sample_at c planes p (left_of c p k + x) y
-    picture_at y p k x inside small = row_at (plane_width c p) y (left_of c p k + x) (plane planes p) (inside_side (across (division_of c) p) (tiles p) k x inside small)
+    picture_at : (y p k x : ℕ) → k < c.columns → x < width_in c p k → get_or (sample_row c planes y p) (left_of c p k + x) 0 ≡ sample_at c planes p (left_of c p k + x) y
+    picture_at y p k x inside small = row_at (plane_width c p) y (left_of c p k + x) (plane_samples c planes p) (inside_side (across (division_of c) p) (tiles p) k x inside small)
 
     plain_shown : (y p : ℕ) → is_rct c.colour ≡ false → ((k : ℕ) → k < c.columns → suc y * width_in c p k ≤ length (plane (slice k).cells p)) →
-        joined_line c slice y p ≡ picture_row (top_of c p r + y) p → Shown (record { plane = p; y = y })
+        joined_line c slice y p ≡ sample_row c planes (top_of c p r + y) p → Shown (record { plane = p; y = y })
     plain_shown y p rct there same = λ k x inside small.
         sym (joined_at y p k x there inside small)
         ∙ ap (λ xs. get_or xs (left_of c p k + x) 0) same
@@ -103,7 +106,7 @@ module _ (c : Configuration) (planes : Planes) where
 
     module _ (rct : is_rct c.colour ≡ true) (alike : Alike c) (wide : (p : ℕ) → plane_width c p ≡ c.width) (few : AreFew c (plane_count c))
         (y : ℕ) (out : List (List ℕ)) (f : FinishesBy true c (map (joined_line c slice y) (range_with_len 0 (plane_count c))) out)
-        (own : (p : ℕ) → p < plane_count c → get_or out p [] ≡ picture_row (top_of c p r + y) p) where
+        (own : (p : ℕ) → p < plane_count c → get_or out p [] ≡ sample_row c planes (top_of c p r + y) p) where
       read : List (List ℕ)
       read = map (joined_line c slice y) (range_with_len 0 (plane_count c))
 
@@ -124,11 +127,11 @@ module _ (c : Configuration) (planes : Planes) where
       out_is : (i p x : ℕ) → i < plane_count c → x < c.width → out_at i x ≡ sample_at c planes i x (top_of c p r + y)
       out_is i p x inside small =
           ap (λ xs. get_or xs x 0) (own i inside)
-          ∙ row_at (plane_width c i) (top_of c i r + y) x (plane planes i) (rw (wide i) small)
+          ∙ row_at (plane_width c i) (top_of c i r + y) x (plane_samples c planes i) (rw (wide i) small)
           ∙ ap (λ n. sample_at c planes i x (n + y)) (top_alike i p)
 
       coded_there : (x : ℕ) → x < c.width →
-          IsCoded (out_at 0 x) (out_at 1 x) (out_at 2 x) (get_or (joined_line c slice y 0) x 0) (get_or (joined_line c slice y 1) x 0) (get_or (joined_line c slice y 2) x 0)
+          IsCodedIn c.depth (out_at 0 x) (out_at (green_of c) x) (out_at (blue_of c) x) (get_or (joined_line c slice y 0) x 0) (get_or (joined_line c slice y 1) x 0) (get_or (joined_line c slice y 2) x 0)
       coded_there x small =
           let coded = (f.2 x small).colour.coded in
           let two = three in record {
@@ -141,20 +144,25 @@ module _ (c : Configuration) (planes : Planes) where
       transformed : (p x : ℕ) → p < plane_count c → x < c.width → get_or (joined_line c slice y p) x 0 ≡ transformed_at c planes p x (top_of c p r + y)
       transformed zero x inside small =
           let two = three in
+          let green : green_of c < plane_count c = omega (arith, two, green_few c) in
+          let blue : blue_of c < plane_count c = omega (arith, two, blue_few c) in
           absolute _ _ (coded_there x small).luma
-          ∙ ap (λ n. unsigned_abs (luma_of n (out_at 1 x) (out_at 2 x))) (out_is 0 0 x inside small)
-          ∙ ap (λ n. unsigned_abs (luma_of (sample_at c planes 0 x (top_of c 0 r + y)) n (out_at 2 x))) (out_is 1 0 x (omega (arith, two)) small)
-          ∙ ap (λ n. unsigned_abs (luma_of (sample_at c planes 0 x (top_of c 0 r + y)) (sample_at c planes 1 x (top_of c 0 r + y)) n)) (out_is 2 0 x two small)
+          ∙ ap (λ n. unsigned_abs (luma_of n (out_at (green_of c) x) (out_at (blue_of c) x))) (out_is 0 0 x inside small)
+          ∙ ap (λ n. unsigned_abs (luma_of (sample_at c planes 0 x (top_of c 0 r + y)) n (out_at (blue_of c) x))) (out_is (green_of c) 0 x green small)
+          ∙ ap (λ n. unsigned_abs (luma_of (sample_at c planes 0 x (top_of c 0 r + y)) (sample_at c planes (green_of c) x (top_of c 0 r + y)) n)) (out_is (blue_of c) 0 x blue small)
       transformed (suc zero) x inside small =
           let two = three in
+          let green : green_of c < plane_count c = omega (arith, two, green_few c) in
+          let blue : blue_of c < plane_count c = omega (arith, two, blue_few c) in
           absolute _ _ (coded_there x small).blue
-          ∙ ap (λ n. unsigned_abs (chroma_of n (out_at 1 x))) (out_is 2 1 x two small)
-          ∙ ap (λ n. unsigned_abs (chroma_of (sample_at c planes 2 x (top_of c 1 r + y)) n)) (out_is 1 1 x inside small)
+          ∙ ap (λ n. unsigned_abs (chroma_in c.depth n (out_at (green_of c) x))) (out_is (blue_of c) 1 x blue small)
+          ∙ ap (λ n. unsigned_abs (chroma_in c.depth (sample_at c planes (blue_of c) x (top_of c 1 r + y)) n)) (out_is (green_of c) 1 x green small)
       transformed (suc (suc zero)) x inside small =
           let two = three in
+          let green : green_of c < plane_count c = omega (arith, two, green_few c) in
           absolute _ _ (coded_there x small).red
-          ∙ ap (λ n. unsigned_abs (chroma_of n (out_at 1 x))) (out_is 0 2 x (omega (arith, two)) small)
-          ∙ ap (λ n. unsigned_abs (chroma_of (sample_at c planes 0 x (top_of c 2 r + y)) n)) (out_is 1 2 x (omega (arith, two)) small)
+          ∙ ap (λ n. unsigned_abs (chroma_in c.depth n (out_at (green_of c) x))) (out_is 0 2 x (omega (arith, two)) small)
+          ∙ ap (λ n. unsigned_abs (chroma_in c.depth (sample_at c planes 0 x (top_of c 2 r + y)) n)) (out_is (green_of c) 2 x green small)
       transformed (suc (suc (suc zero))) x inside small = elim few [
         | inl is ↦ absurd (omega (arith, inside, is))
         | inr is ↦
@@ -172,8 +180,18 @@ module _ (c : Configuration) (planes : Planes) where
           ∙ transformed p (left_of c p k + x) inside place
           ∙ ap (λ b. if b then transformed_at c planes p (left_of c p k + x) (top_of c p r + y) else sample_at c planes p (left_of c p k + x) (top_of c p r + y)) (sym rct)
 
+    -- the samples that were made are those of the picture's lines
+    made_lines : (y : ℕ) (made : List (List ℕ)) (ips : List (ℕ × ℕ)) → Each IsLine (map (handed c r y (map (bytes_of c.depth) made)) ips) →
+        Each (λ (ip : ℕ × ℕ). get_or made ip.0 [] ≡ sample_row c planes (top_of c ip.1 r + y) ip.1) ips
+    made_lines y made [] lines = tt
+    made_lines y made (ip ∷ ips) lines = (
+      sym (samples_back c.depth (get_or made ip.0 [])) ∙ ap (samples_of c.depth) (sym (get_or_bytes c.depth ip.0 made) ∙ lines.0) ∙ row_samples c planes (top_of c ip.1 r + y) ip.1,
+      made_lines y made ips lines.1,
+    )
+
     all_plain : (y i : ℕ) (out : List (List ℕ)) (ps : List ℕ) → is_rct c.colour ≡ false → Each IsThere (lines_at ps y) →
-        Each (λ (ip : ℕ × ℕ). get_or out ip.0 [] ≡ joined_line c slice y ip.1) (numbered i ps) → Each IsLine (map (handed c r y out) (numbered i ps)) → Each Shown (lines_at ps y)
+        Each (λ (ip : ℕ × ℕ). get_or out ip.0 [] ≡ joined_line c slice y ip.1) (numbered i ps) →
+        Each (λ (ip : ℕ × ℕ). get_or out ip.0 [] ≡ sample_row c planes (top_of c ip.1 r + y) ip.1) (numbered i ps) → Each Shown (lines_at ps y)
     all_plain y i out [] rct there same lines = tt
     all_plain y i out (p ∷ ps) rct there same lines =
         (plain_shown y p rct there.0 (sym same.0 ∙ lines.0), all_plain y (suc i) out ps rct there.1 same.1 lines.1)
@@ -183,17 +201,17 @@ module _ (c : Configuration) (planes : Planes) where
     all_colours [] y inside there shown = tt
     all_colours (p ∷ ps) y inside there shown = (shown p inside.0 there.0, all_colours ps y inside.1 there.1 shown)
 
-    group_shown : InRct c → (rct : Bool) → is_rct c.colour ≡ rct → (g : Group) (out : List (List ℕ)) → IsGroup c r g → Each IsThere (group_lines g) →
-        FinishesBy rct c (map (joined_line c slice g.y) g.planes) out → Each IsLine (map (handed c r g.y out) (numbered 0 g.planes)) → Each Shown (group_lines g)
-    group_shown in_rct true e g out is there f lines =
-        let own : (p : ℕ) → p < plane_count c → get_or out p [] ≡ picture_row (top_of c p r + g.y) p = λ p inside.
-        at_own (λ (ip : ℕ × ℕ). get_or out ip.0 [] ≡ picture_row (top_of c ip.1 r + g.y) ip.1) 0 (plane_count c) p (omega arith) (omega (arith, inside))
-        (each_back IsLine (handed c r g.y out) (numbered 0 (range_with_len 0 (plane_count c)))
-        (subst (λ ps. Each IsLine (map (handed c r g.y out) (numbered 0 ps))) (is.rct e) lines)) in
+    group_shown : InRct c → (rct : Bool) → is_rct c.colour ≡ rct → (g : Group) (made : List (List ℕ)) → IsGroup c r g → Each IsThere (group_lines g) →
+        FinishesBy rct c (map (joined_line c slice g.y) g.planes) made →
+        Each (λ (ip : ℕ × ℕ). get_or made ip.0 [] ≡ sample_row c planes (top_of c ip.1 r + g.y) ip.1) (numbered 0 g.planes) → Each Shown (group_lines g)
+    group_shown in_rct true e g made is there f lines =
+        let own : (p : ℕ) → p < plane_count c → get_or made p [] ≡ sample_row c planes (top_of c p r + g.y) p = λ p inside.
+        at_own (λ (ip : ℕ × ℕ). get_or made ip.0 [] ≡ sample_row c planes (top_of c ip.1 r + g.y) ip.1) 0 (plane_count c) p (omega arith) (omega (arith, inside))
+        (subst (λ ps. Each (λ (ip : ℕ × ℕ). get_or made ip.0 [] ≡ sample_row c planes (top_of c ip.1 r + g.y) ip.1) (numbered 0 ps)) (is.rct e) lines) in
         all_colours g.planes g.y is.inside there
-        (colours_shown e (in_rct.alike e) (in_rct.wide e) (in_rct.few e) g.y out (subst (λ ps. FinishesBy true c (map (joined_line c slice g.y) ps) out) (is.rct e) f) own)
-    group_shown in_rct false e g out is there f lines =
-        all_plain g.y 0 out g.planes e there
+        (colours_shown e (in_rct.alike e) (in_rct.wide e) (in_rct.few e) g.y made (subst (λ ps. FinishesBy true c (map (joined_line c slice g.y) ps) made) (is.rct e) f) own)
+    group_shown in_rct false e g made is there f lines =
+        all_plain g.y 0 made g.planes e there
         (subst (λ xs. Each (λ (ip : ℕ × ℕ). get_or xs ip.0 [] ≡ joined_line c slice g.y ip.1) (numbered 0 g.planes)) (sym f) (by_number (joined_line c slice g.y) [] g.planes)) lines
 
     pub groups_shown : InRct c → (gs : List Group) (ls : List wire.Line) → Each (IsGroup c r) gs → Each IsThere (flat_map group_lines gs) → MadeOf c r slice gs ls → Each IsLine ls →
@@ -201,7 +219,9 @@ module _ (c : Configuration) (planes : Planes) where
     groups_shown in_rct [] ls are there made lines = tt
     groups_shown in_rct (g ∷ gs) ls are there made lines =
         let here = map (handed c r g.y made.0) (numbered 0 g.planes) in
+        let f = made.2 in
         let all : Each IsLine (here ++ made.1) = subst (Each IsLine) made.4 lines in
         each_append Shown (group_lines g) (flat_map group_lines gs)
-        (group_shown in_rct (is_rct c.colour) refl g made.0 are.0 (each_left IsThere (group_lines g) (flat_map group_lines gs) there) made.2 (each_left IsLine here made.1 all))
+        (group_shown in_rct (is_rct c.colour) refl g f.made are.0 (each_left IsThere (group_lines g) (flat_map group_lines gs) there) f.by
+        (made_lines g.y f.made (numbered 0 g.planes) (subst (λ out. Each IsLine (map (handed c r g.y out) (numbered 0 g.planes))) f.bytes (each_left IsLine here made.1 all))))
         (groups_shown in_rct gs made.1 are.1 (each_right IsThere (group_lines g) (flat_map group_lines gs) there) made.3 (each_right IsLine here made.1 all))

@@ -1,10 +1,10 @@
 -- Lines that stand one after the other, and what is made of them.
-use Rattle.std.proofs.Common.{◌≡◌, refl, ℕ, zero, suc, ◌+◌, ◌*◌, ◌<◌, ◌≤◌, true, false, List, ◌++◌, length, slice_index, take, drop, ap, sym, subst, ◌∙◌, arith, length-drop}
+use Rattle.std.proofs.Common.{◌≡◌, refl, ℕ, zero, suc, ◌+◌, ◌*◌, ◌^◌, ◌<◌, ◌≤◌, true, false, List, ◌++◌, length, slice_index, take, drop, ap, sym, subst, ◌∙◌, arith, length-drop}
 use Rattle.std.proofs.Math.Seq.{drop-append-add, take-append_seam, take-length}
 use Rattle.std.proofs.lemmas.List.{take-append-drop, take-append-le, drop-append-le}
-use Rattle.ffv1_rct.specs.Lines.{AreOnlyColours, HasColourAt}
+use Rattle.ffv1_rct.specs.Lines.{AreOnlyColoursIn, HasColourAtIn}
 use Rattle.ffv1_codec.specs.Stands.{window}
-use Rattle.ffv1_codec.specs.Finished.{line_at, AreMade, HasBoth, IsFirstWithout}
+use Rattle.ffv1_codec.specs.Finished.{line_at, Colouring, AreMade, HasBoth, IsFirstWithout}
 
 pub window_front : (at n : ℕ) (xs ys : List ℕ) → at + n ≤ length xs → window at n (xs ++ ys) ≡ window at n xs
 window_front at n xs ys fits =
@@ -32,20 +32,28 @@ module _ (w : ℕ) (a b c : List ℕ) (first : length a ≡ w) (second : length 
       let begins : 2 * w ≡ length a + (length b + 0) = omega (arith, first, second) in
       ap (λ k. take w (drop k (a ++ (b ++ c)))) begins ∙ ap (take w) (drop-append-add a (b ++ c) (length b + 0) ∙ drop-append-add b c 0) ∙ ap (λ k. take k c) (sym third) ∙ take-length c
 
-pub colours_at : (w : ℕ) (y cb cr r g b : List ℕ) (y2 cb2 cr2 r2 g2 b2 : List ℕ) → y ≡ y2 → cb ≡ cb2 → cr ≡ cr2 → r ≡ r2 → g ≡ g2 → b ≡ b2 → AreOnlyColours w y cb cr r g b → AreOnlyColours w y2 cb2 cr2 r2 g2 b2
-colours_at w y cb cr r g b y2 cb2 cr2 r2 g2 b2 ey ecb ecr er eg eb h =
-    let h = subst (λ z. AreOnlyColours w z cb cr r g b) ey h in
-    let h = subst (λ z. AreOnlyColours w y2 z cr r g b) ecb h in
-    let h = subst (λ z. AreOnlyColours w y2 cb2 z r g b) ecr h in
-    let h = subst (λ z. AreOnlyColours w y2 cb2 cr2 z g b) er h in
-    let h = subst (λ z. AreOnlyColours w y2 cb2 cr2 r2 z b) eg h in
-    subst (λ z. AreOnlyColours w y2 cb2 cr2 r2 g2 z) eb h
+module _ (depth : ℕ) where
+  pub colours_at : (w : ℕ) (y cb cr r g b : List ℕ) (y2 cb2 cr2 r2 g2 b2 : List ℕ) → y ≡ y2 → cb ≡ cb2 → cr ≡ cr2 → r ≡ r2 → g ≡ g2 → b ≡ b2 → AreOnlyColoursIn depth w y cb cr r g b → AreOnlyColoursIn depth w y2 cb2 cr2 r2 g2 b2
+  colours_at w y cb cr r g b y2 cb2 cr2 r2 g2 b2 ey ecb ecr er eg eb h =
+      let h = subst (λ z. AreOnlyColoursIn depth w z cb cr r g b) ey h in
+      let h = subst (λ z. AreOnlyColoursIn depth w y2 z cr r g b) ecb h in
+      let h = subst (λ z. AreOnlyColoursIn depth w y2 cb2 z r g b) ecr h in
+      let h = subst (λ z. AreOnlyColoursIn depth w y2 cb2 cr2 z g b) er h in
+      let h = subst (λ z. AreOnlyColoursIn depth w y2 cb2 cr2 r2 z b) eg h in
+      subst (λ z. AreOnlyColoursIn depth w y2 cb2 cr2 r2 g2 z) eb h
 
-pub has_at : (y cb cr y2 cb2 cr2 : List ℕ) (x : ℕ) → y ≡ y2 → cb ≡ cb2 → cr ≡ cr2 → HasColourAt y cb cr x → HasColourAt y2 cb2 cr2 x
-has_at y cb cr y2 cb2 cr2 x ey ecb ecr h =
-    let h = subst (λ z. HasColourAt z cb cr x) ey h in
-    let h = subst (λ z. HasColourAt y2 z cr x) ecb h in
-    subst (λ z. HasColourAt y2 cb2 z x) ecr h
+  pub has_at : (y cb cr y2 cb2 cr2 : List ℕ) (x : ℕ) → y ≡ y2 → cb ≡ cb2 → cr ≡ cr2 → HasColourAtIn depth y cb cr x → HasColourAtIn depth y2 cb2 cr2 x
+  has_at y cb cr y2 cb2 cr2 x ey ecb ecr h =
+      let h = subst (λ z. HasColourAtIn depth z cb cr x) ey h in
+      let h = subst (λ z. HasColourAtIn depth y2 z cr x) ecb h in
+      subst (λ z. HasColourAtIn depth y2 cb2 z x) ecr h
+
+-- without transparency, and with it
+abbrev pub plain : ℕ → ℕ → ℕ → ℕ → Colouring
+plain depth w green blue = record { depth = depth; width = w; green = green; blue = blue; extra = false }
+
+abbrev pub full : ℕ → ℕ → ℕ → ℕ → Colouring
+full depth w green blue = record { depth = depth; width = w; green = green; blue = blue; extra = true }
 
 pub three_parts : (w : ℕ) (xs front rest middle last : List ℕ) → front ≡ take w xs → rest ≡ drop w xs → middle ≡ take w rest → last ≡ drop w rest → xs ≡ front ++ (middle ++ last)
 three_parts w xs front rest middle last a b c d =
@@ -61,22 +69,22 @@ module _ (w : ℕ) (read y cb cr : List ℕ) (is : read ≡ y ++ (cb ++ cr)) (y_
   read_2 : cr ≡ line_at w 2 read
   read_2 = sym (ap (line_at w 2) is ∙ line_2 w y cb cr y_long cb_long cr_long)
 
-  pub colours_made : (r g b : List ℕ) → length r ≡ w → length g ≡ w → length b ≡ w → AreOnlyColours (length y) y cb cr r g b → AreMade false w read (r ++ (g ++ b))
-  colours_made r g b r_long g_long b_long colours = record {
-    colours = colours_at w y cb cr r g b (line_at w 0 read) (line_at w 1 read) (line_at w 2 read) (line_at w 0 (r ++ (g ++ b))) (line_at w 1 (r ++ (g ++ b))) (line_at w 2 (r ++ (g ++ b)))
-        read_0 read_1 read_2 (sym (line_0 w r g b r_long g_long b_long)) (sym (line_1 w r g b r_long g_long b_long)) (sym (line_2 w r g b r_long g_long b_long))
-        (subst (λ n. AreOnlyColours n y cb cr r g b) y_long colours);
-    transparency = λ e. absurd (let no : false ≡ true = e in cc);
-  }
+  module _ (depth green blue : ℕ) where
+    pub colours_made : (made r g b : List ℕ) → line_at w 0 made ≡ r → line_at w green made ≡ g → line_at w blue made ≡ b → AreOnlyColoursIn depth (length y) y cb cr r g b → AreMade (plain depth w green blue) read made
+    colours_made made r g b r_is g_is b_is colours = record {
+      colours = colours_at depth w y cb cr r g b (line_at w 0 read) (line_at w 1 read) (line_at w 2 read) (line_at w 0 made) (line_at w green made) (line_at w blue made)
+          read_0 read_1 read_2 (sym r_is) (sym g_is) (sym b_is) (subst (λ n. AreOnlyColoursIn depth n y cb cr r g b) y_long colours);
+      transparency = λ e. absurd (let no : false ≡ true = e in cc);
+    }
 
-  pub colours_end : (r g b : List ℕ) (x : ℕ) → x < length y → AreOnlyColours x y cb cr r g b → (HasColourAt y cb cr x → ⊥) → IsFirstWithout false w read x
-  colours_end r g b x inside filled none = record {
-    inside = omega (arith, inside, y_long);
-    before = λ z h.
-        let only = filled z h in
-        (has_at y cb cr (line_at w 0 read) (line_at w 1 read) (line_at w 2 read) z read_0 read_1 read_2 (slice_index r z, slice_index g z, slice_index b z, only.colour), λ e. absurd (let no : false ≡ true = e in cc));
-    none = λ both. none (has_at (line_at w 0 read) (line_at w 1 read) (line_at w 2 read) y cb cr x (sym read_0) (sym read_1) (sym read_2) both.0);
-  }
+    pub colours_end : (r g b : List ℕ) (x : ℕ) → x < length y → AreOnlyColoursIn depth x y cb cr r g b → (HasColourAtIn depth y cb cr x → ⊥) → IsFirstWithout (plain depth w green blue) read x
+    colours_end r g b x inside filled none = record {
+      inside = omega (arith, inside, y_long);
+      before = λ z h.
+          let only = filled z h in
+          (has_at depth y cb cr (line_at w 0 read) (line_at w 1 read) (line_at w 2 read) z read_0 read_1 read_2 (slice_index r z, slice_index g z, slice_index b z, only.colour), λ e. absurd (let no : false ≡ true = e in cc));
+      none = λ both. none (has_at depth (line_at w 0 read) (line_at w 1 read) (line_at w 2 read) y cb cr x (sym read_0) (sym read_1) (sym read_2) both.0);
+    }
 
 -- a line among four
 line_fits : (w n i : ℕ) → n ≡ 3 * w → i < 3 → i * w + w ≤ n
@@ -93,55 +101,59 @@ module _ (w : ℕ) (read coded alpha : List ℕ) (is : read ≡ coded ++ alpha) 
   fourth : alpha ≡ line_at w 3 read
   fourth = sym (ap (line_at w 3) is ∙ window_back (3 * w) w coded alpha (sym coded_long) (sym alpha_long))
 
-  has_front : (x : ℕ) → HasBoth false w coded x → HasColourAt (line_at w 0 read) (line_at w 1 read) (line_at w 2 read) x
-  has_front x both = has_at (line_at w 0 coded) (line_at w 1 coded) (line_at w 2 coded) (line_at w 0 read) (line_at w 1 read) (line_at w 2 read) x (front 0 (omega arith)) (front 1 (omega arith)) (front 2 (omega arith)) both.0
-
-  has_back : (x : ℕ) → HasBoth true w read x → HasBoth false w coded x
-  has_back x both = (
-    has_at (line_at w 0 read) (line_at w 1 read) (line_at w 2 read) (line_at w 0 coded) (line_at w 1 coded) (line_at w 2 coded) x (sym (front 0 (omega arith))) (sym (front 1 (omega arith))) (sym (front 2 (omega arith))) both.0,
-    λ e. absurd (let no : false ≡ true = e in cc),
-  )
-
   same_fourth : (x : ℕ) → slice_index alpha x ≡ slice_index (line_at w 3 read) x
   same_fourth x = ap (λ z. slice_index z x) fourth
 
-  pub both_made : (three out : List ℕ) → length three ≡ 3 * w → AreMade false w coded three → out ≡ alpha → ((x : ℕ) → slice_index alpha x < 256) → AreMade true w read (three ++ out)
-  both_made three out three_long made out_is small = record {
-    colours = colours_at w (line_at w 0 coded) (line_at w 1 coded) (line_at w 2 coded) (line_at w 0 three) (line_at w 1 three) (line_at w 2 three)
-        (line_at w 0 read) (line_at w 1 read) (line_at w 2 read) (line_at w 0 (three ++ out)) (line_at w 1 (three ++ out)) (line_at w 2 (three ++ out))
-        (front 0 (omega arith)) (front 1 (omega arith)) (front 2 (omega arith))
-        (sym (window_front (0 * w) w three out (line_fits w (length three) 0 three_long (omega arith)))) (sym (window_front (1 * w) w three out (line_fits w (length three) 1 three_long (omega arith))))
-        (sym (window_front (2 * w) w three out (line_fits w (length three) 2 three_long (omega arith)))) made.colours;
-    transparency = λ e.
-        let long : length out ≡ w = ap (λ (z : List ℕ). length z) out_is ∙ alpha_long in
-        (window_back (3 * w) w three out (sym three_long) (sym long) ∙ out_is ∙ fourth, λ x h. subst (λ z. z < 256) (same_fourth x) (small x));
-  }
+  module _ (depth green blue : ℕ) where
+    has_front : (x : ℕ) → HasBoth (plain depth w green blue) coded x → HasColourAtIn depth (line_at w 0 read) (line_at w 1 read) (line_at w 2 read) x
+    has_front x both = has_at depth (line_at w 0 coded) (line_at w 1 coded) (line_at w 2 coded) (line_at w 0 read) (line_at w 1 read) (line_at w 2 read) x (front 0 (omega arith)) (front 1 (omega arith)) (front 2 (omega arith)) both.0
 
-  -- colours everywhere, and a place without transparency
-  pub alpha_end : (three : List ℕ) (x : ℕ) → AreMade false w coded three → x < length alpha → ((y : ℕ) → y < x → slice_index alpha y < 256) → 255 < slice_index alpha x → IsFirstWithout true w read x
-  alpha_end three x made inside before above = record {
-    inside = omega (arith, inside, alpha_long);
-    before = λ y h.
-        let here : y < w = omega (arith, h, inside, alpha_long) in
-        let only = made.colours y here in (
-          has_front y ((slice_index (line_at w 0 three) y, slice_index (line_at w 1 three) y, slice_index (line_at w 2 three) y, only.colour), λ e. absurd (let no : false ≡ true = e in cc)),
-          λ e. subst (λ z. z < 256) (same_fourth y) (before y h),
-        );
-    none = λ both. let less = both.1 refl in let same = same_fourth x in absurd (omega (arith, less, same, above));
-  }
+    has_back : (x : ℕ) → HasBoth (full depth w green blue) read x → HasBoth (plain depth w green blue) coded x
+    has_back x both = (
+      has_at depth (line_at w 0 read) (line_at w 1 read) (line_at w 2 read) (line_at w 0 coded) (line_at w 1 coded) (line_at w 2 coded) x (sym (front 0 (omega arith))) (sym (front 1 (omega arith))) (sym (front 2 (omega arith))) both.0,
+      λ e. absurd (let no : false ≡ true = e in cc),
+    )
 
-  -- a place without colours, and transparency before it
-  pub colour_end : (x : ℕ) → IsFirstWithout false w coded x → ((y : ℕ) → y < x → slice_index alpha y < 256) → IsFirstWithout true w read x
-  colour_end x end before = record {
-    inside = end.inside;
-    before = λ y h. (has_front y (end.before y h), λ e. subst (λ z. z < 256) (same_fourth y) (before y h));
-    none = λ both. end.none (has_back x both);
-  }
+    pub both_made : green < 3 → blue < 3 → (three out : List ℕ) → length three ≡ 3 * w → AreMade (plain depth w green blue) coded three → out ≡ alpha → ((x : ℕ) → slice_index alpha x < 2 ^ depth) →
+        AreMade (full depth w green blue) read (three ++ out)
+    both_made green_few blue_few three out three_long made out_is small = record {
+      colours = colours_at depth w (line_at w 0 coded) (line_at w 1 coded) (line_at w 2 coded) (line_at w 0 three) (line_at w green three) (line_at w blue three)
+          (line_at w 0 read) (line_at w 1 read) (line_at w 2 read) (line_at w 0 (three ++ out)) (line_at w green (three ++ out)) (line_at w blue (three ++ out))
+          (front 0 (omega arith)) (front 1 (omega arith)) (front 2 (omega arith))
+          (sym (window_front (0 * w) w three out (line_fits w (length three) 0 three_long (omega arith)))) (sym (window_front (green * w) w three out (line_fits w (length three) green three_long green_few)))
+          (sym (window_front (blue * w) w three out (line_fits w (length three) blue three_long blue_few))) made.colours;
+      transparency = λ e.
+          let long : length out ≡ w = ap (λ (z : List ℕ). length z) out_is ∙ alpha_long in
+          (window_back (3 * w) w three out (sym three_long) (sym long) ∙ out_is ∙ fourth, λ x h. subst (λ z. z < 2 ^ depth) (same_fourth x) (small x));
+    }
 
-  -- a place without transparency before one without colours
-  pub sooner_end : (x y : ℕ) → IsFirstWithout false w coded x → y < x → ((z : ℕ) → z < y → slice_index alpha z < 256) → 255 < slice_index alpha y → IsFirstWithout true w read y
-  sooner_end x y end less before above = record {
-    inside = omega (arith, less, end.inside);
-    before = λ z h. (has_front z (end.before z (omega (arith, h, less))), λ e. subst (λ v. v < 256) (same_fourth z) (before z h));
-    none = λ both. let few = both.1 refl in let same = same_fourth y in absurd (omega (arith, few, same, above));
-  }
+    -- colours everywhere, and a place without transparency
+    pub alpha_end : (three : List ℕ) (x : ℕ) → AreMade (plain depth w green blue) coded three → x < length alpha → ((y : ℕ) → y < x → slice_index alpha y < 2 ^ depth) → 2 ^ depth ≤ slice_index alpha x →
+        IsFirstWithout (full depth w green blue) read x
+    alpha_end three x made inside before above = record {
+      inside = omega (arith, inside, alpha_long);
+      before = λ y h.
+          let here : y < w = omega (arith, h, inside, alpha_long) in
+          let only = made.colours y here in (
+            has_front y ((slice_index (line_at w 0 three) y, slice_index (line_at w green three) y, slice_index (line_at w blue three) y, only.colour), λ e. absurd (let no : false ≡ true = e in cc)),
+            λ e. subst (λ z. z < 2 ^ depth) (same_fourth y) (before y h),
+          );
+      none = λ both. let less = both.1 refl in let same = same_fourth x in absurd (omega (arith, less, same, above));
+    }
+
+    -- a place without colours, and transparency before it
+    pub colour_end : (x : ℕ) → IsFirstWithout (plain depth w green blue) coded x → ((y : ℕ) → y < x → slice_index alpha y < 2 ^ depth) → IsFirstWithout (full depth w green blue) read x
+    colour_end x end before = record {
+      inside = end.inside;
+      before = λ y h. (has_front y (end.before y h), λ e. subst (λ z. z < 2 ^ depth) (same_fourth y) (before y h));
+      none = λ both. end.none (has_back x both);
+    }
+
+    -- a place without transparency before one without colours
+    pub sooner_end : (x y : ℕ) → IsFirstWithout (plain depth w green blue) coded x → y < x → ((z : ℕ) → z < y → slice_index alpha z < 2 ^ depth) → 2 ^ depth ≤ slice_index alpha y →
+        IsFirstWithout (full depth w green blue) read y
+    sooner_end x y end less before above = record {
+      inside = omega (arith, less, end.inside);
+      before = λ z h. (has_front z (end.before z (omega (arith, h, less))), λ e. subst (λ v. v < 2 ^ depth) (same_fourth z) (before z h));
+      none = λ both. let few = both.1 refl in let same = same_fourth y in absurd (omega (arith, few, same, above));
+    }

@@ -46,6 +46,7 @@ picture_laws a sides cells few = record {
     wide = λ e p. wide_in_rct a.configuration (sides.rct e) p;
     few = λ e. few_in_rct a.configuration (sides.rct e).chroma;
   };
+  deep = sides.deep;
   columns = sides.columns;
   rows = sides.rows;
   cells = cells;

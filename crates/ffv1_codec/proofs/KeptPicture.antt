@@ -6,7 +6,7 @@ use Rattle.std.proofs.lemmas.List.{ext_get_or}
 use Rattle.ffv1_wire.specs.Runs as wire
 use Rattle.ffv1_wire.specs.Runs.{Grows}
 use Rattle.ffv1_record.specs.Configuration.{Configuration, is_rct}
-use Rattle.ffv1_slice.specs.Grid.{across, down, division_of, whole_of}
+use Rattle.ffv1_slice.specs.Grid.{down, division_of, whole_of}
 use Rattle.ffv1_codec.specs.Sides.{Tiles}
 use Rattle.ffv1_codec.specs.Picture.{Planes, AreOf, Fits, plane}
 use Rattle.ffv1_codec.specs.SliceList.{Line}
@@ -19,7 +19,7 @@ use Rattle.ffv1_codec.proofs.FlatLists.{flat_range_same}
 use Rattle.ffv1_codec.proofs.PlanesMade.{rows_in}
 use Rattle.ffv1_codec.proofs.Keys.{keys_of, line_of, lines_by_keys, rows_of_plane}
 use Rattle.ffv1_codec.proofs.OnePicture.{plane_by_rows}
-use Rattle.ffv1_codec.proofs.LinesKept.{line_here, line_others, sizes_kept}
+use Rattle.ffv1_codec.proofs.LinesKept.{row_bytes, line_here, line_others, sizes_kept}
 
 -- the sink with other planes
 abbrev with_planes : Kept → Planes → Kept
@@ -77,7 +77,7 @@ among_rows q z (k ∷ ks) has = elim (cases_eq k.plane q) [
 ]
 
 abbrev row_of : Configuration → ℕ → ℕ → Planes → List ℕ
-row_of c q z now = row_in (whole_of (across (division_of c) q)) z (plane now q)
+row_of c q z now = row_in (row_bytes (division_of c) q) z (plane now q)
 
 module _ (c : Configuration) (planes : Planes) (q z : ℕ) (inside : q < (division_of c).planes) (below : z < whole_of (down (division_of c) q)) where
   -- a row that is as in the picture, or among the lines that come, is as in the picture in the end
@@ -94,9 +94,9 @@ module _ (c : Configuration) (planes : Planes) (q z : ℕ) (inside : q < (divisi
       let rest = kept_from s t next ks own (sizes_kept (division_of c) now k.plane k.y l.samples are line)
       (behind_line s t now l (map (line_of c planes) ks) grows.0 grows.1 grows.2) in
       let here : (q ≡ k.plane) → (z ≡ k.y) → row_of c q z next ≡ row_of c q z planes = λ same row.
-      ap (λ n. row_in (whole_of (across (division_of c) n)) z (plane next n)) same ∙ ap (λ n. row_in (whole_of (across (division_of c) k.plane)) n (plane next k.plane)) row
+      ap (λ n. row_in (row_bytes (division_of c) n) z (plane next n)) same ∙ ap (λ n. row_in (row_bytes (division_of c) k.plane) n (plane next k.plane)) row
       ∙ line_here (division_of c) now k.plane k.y l.samples are line
-      ∙ sym (ap (λ n. row_in (whole_of (across (division_of c) n)) z (plane planes n)) same ∙ ap (λ n. row_in (whole_of (across (division_of c) k.plane)) n (plane planes k.plane)) row) in
+      ∙ sym (ap (λ n. row_in (row_bytes (division_of c) n) z (plane planes n)) same ∙ ap (λ n. row_in (row_bytes (division_of c) k.plane) n (plane planes k.plane)) row) in
       let there : ((q ≢ k.plane) ⊎ (z ≢ k.y)) → row_of c q z next ≡ row_of c q z planes ⊎ IsAmong q z ks = λ apart. elim known [
         | inl same ↦ inl (line_others (division_of c) now k.plane k.y l.samples are line q z inside below apart ∙ same)
         | inr among ↦ elim among [
@@ -124,12 +124,12 @@ module _ (c : Configuration) (tiles : (p : ℕ) → Tiles (down (division_of c) 
   pub planes_kept : (planes : Planes) (s t : Kept) → Fits c planes → s.grid ≡ division_of c → AreOf s.grid s.planes → Grows Keeps s (lines_of c planes) t → t.planes ≡ planes
   planes_kept planes s t fits own are grows =
       let stays = lines_stay s t (lines_of c planes) are grows in
-      let kept : Fits c t.planes = subst (λ d. AreOf d t.planes) (stays.grid ∙ own) stays.sizes in
-      ext_get_or {A = List ℕ} [] t.planes planes (kept.count ∙ sym fits.count) (λ p h.
+      let kept : AreOf (division_of c) t.planes = subst (λ d. AreOf d t.planes) (stays.grid ∙ own) stays.sizes in
+      ext_get_or {A = List ℕ} [] t.planes planes (kept.count ∙ sym fits.are.count) (λ p h.
       let inside : p < (division_of c).planes = subst (λ n. p < n) kept.count h in
-      let width = whole_of (across (division_of c) p) in
+      let width = row_bytes (division_of c) p in
       let height = whole_of (down (division_of c) p) in
       sym (plane_is t.planes p) ∙ sym (plane_by_rows c t.planes kept p inside)
       ∙ flat_range_same (λ y. row_in width y (plane t.planes p)) (λ y. row_in width y (plane planes p)) 0 height
       (λ y least most. rows_kept planes s t own are grows p y inside (omega (arith, most)))
-      ∙ plane_by_rows c planes fits p inside ∙ plane_is planes p)
+      ∙ plane_by_rows c planes fits.are p inside ∙ plane_is planes p)

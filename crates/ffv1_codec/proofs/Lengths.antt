@@ -4,6 +4,7 @@ use Rattle.std.specs.Prelude.{ℤ, unsigned_abs}
 use Rattle.std.specs.List.{flat_map, range_with_len}
 use Rattle.std.proofs.lemmas.List.FromFn.{length-map-range_with_len, length-range_with_len}
 use Rattle.std.proofs.Math.Nat.{mul-le-mul_left}
+use Rattle.std.proofs.Math.Pow.{pow_mono}
 use Rattle.ffv1_range.specs.Interval.{Interval, Decision, narrow, narrowed, interval_of, start, renormalised, part}
 use Rattle.ffv1_range.specs.Symbols.{Step, shifted}
 use Rattle.ffv1_range.specs.History.{decisions_after}
@@ -21,7 +22,7 @@ use Rattle.ffv1_line.specs.Length.{decisions_of, row_decisions, AreSmall, AreSma
 use Rattle.ffv1_record.specs.Configuration.{Configuration, is_rct}
 use Rattle.ffv1_slice.specs.declared.head.SliceHead.{SliceHead}
 use Rattle.ffv1_slice.specs.Head.{key_steps}
-use Rattle.ffv1_slice.specs.Grid.{Division, IsDivision, factor_of, reduced, planes_in, slices_in, across, down, length_of, division_of}
+use Rattle.ffv1_slice.specs.Grid.{Division, IsDivision, factor_of, reduced, planes_in, slices_in, across, down, length_of, whole_of, division_of}
 use Rattle.ffv1_codec.specs.Picture.{Planes, plane_count, cell_in, cell_height}
 use Rattle.ffv1_codec.specs.SliceList.{Line, base_of, bits_of, set_in, lines_of_plane, planes_of_line, lines_in, chosen_line, chosen_body}
 use Rattle.ffv1_codec.specs.Length.{line_residuals, body_residuals}
@@ -39,14 +40,18 @@ last_small : (rows : List (List ℤ)) (qs : List ℤ) → AreSmallRows (rows ++ 
 last_small [] qs small = small.0
 last_small (r ∷ rs) qs small = last_small rs qs small.1
 
-few_bits : (rct : Bool) → (0 < (if rct then 9 else 8)) × (2 ^ ((if rct then 9 else 8) - 1) < 2 ^ 31)
-few_bits true = (omega arith, omega arith)
-few_bits false = (omega arith, omega arith)
+-- residuals of so many bits are short
+small_bits : (bits : ℕ) → bits ≤ 17 → 2 ^ (bits - 1) < 2 ^ 31
+small_bits bits most = let few : 2 ^ (bits - 1) ≤ 2 ^ 16 = pow_mono {i = bits - 1} {j = 16} (omega (arith, most)) in omega (arith, few)
 
-row_small : Rows → (c : Configuration) (set : Set) (cell : Cell) (y : ℕ) → AreSmall (chosen_row set (bits_of c) cell y cell.width)
+few_bits : (rct : Bool) (depth : ℕ) → 0 < depth → depth ≤ 16 → (0 < (if rct then depth + 1 else depth)) × (2 ^ ((if rct then depth + 1 else depth) - 1) < 2 ^ 31)
+few_bits true depth some most = (omega arith, small_bits (depth + 1) (omega (arith, most)))
+few_bits false depth some most = (some, small_bits depth (omega (arith, most)))
+
+row_small : Rows → (c : Configuration) → 0 < c.depth → c.depth ≤ 16 → (set : Set) (cell : Cell) (y : ℕ) → AreSmall (chosen_row set (bits_of c) cell y cell.width)
 unfolding chosen_rows
-row_small laws c set cell y =
-    let bits = few_bits (is_rct c.colour) in
+row_small laws c some most set cell y =
+    let bits = few_bits (is_rct c.colour) c.depth some most in
     last_small (chosen_rows set (bits_of c) cell y) (chosen_row set (bits_of c) cell y cell.width) (laws.small set (bits_of c) cell (suc y) bits.0 bits.1)
 
 pub decisions_append : (xs ys : List ℤ) → row_decisions (xs ++ ys) ≡ row_decisions xs + row_decisions ys
@@ -58,16 +63,16 @@ row_most laws [] small = omega arith
 row_most laws (q ∷ qs) small = let first = laws.most q small.0 in let rest = row_most laws qs small.1 in omega (arith, first, rest)
 
 -- the decisions of lines are those of their residuals
-line_long : Rows → (c : Configuration) (h : SliceHead) (cell : ℕ → Cell) (l : Line) → length (chosen_line c h cell l) ≡ row_decisions (line_residuals c h cell l)
-line_long laws c h cell l =
+line_long : Rows → (c : Configuration) → 0 < c.depth → c.depth ≤ 16 → (h : SliceHead) (cell : ℕ → Cell) (l : Line) → length (chosen_line c h cell l) ≡ row_decisions (line_residuals c h cell l)
+line_long laws c some most h cell l =
     laws.shifted_long (base_of c l.plane) (row_steps (set_in c h l.plane) (cell l.plane) l.y 0 (line_residuals c h cell l))
-    ∙ laws.row (set_in c h l.plane) (cell l.plane) l.y 0 (line_residuals c h cell l) (row_small laws c (set_in c h l.plane) (cell l.plane) l.y)
+    ∙ laws.row (set_in c h l.plane) (cell l.plane) l.y 0 (line_residuals c h cell l) (row_small laws c some most (set_in c h l.plane) (cell l.plane) l.y)
 
-pub body_long : Rows → (c : Configuration) (h : SliceHead) (cell : ℕ → Cell) (ls : List Line) → length (chosen_body c h cell ls) ≡ row_decisions (body_residuals c h cell ls)
-body_long laws c h cell [] = refl
-body_long laws c h cell (l ∷ ls) =
-    let first = line_long laws c h cell l in
-    let rest = body_long laws c h cell ls in
+pub body_long : Rows → (c : Configuration) → 0 < c.depth → c.depth ≤ 16 → (h : SliceHead) (cell : ℕ → Cell) (ls : List Line) → length (chosen_body c h cell ls) ≡ row_decisions (body_residuals c h cell ls)
+body_long laws c some most h cell [] = refl
+body_long laws c some most h cell (l ∷ ls) =
+    let first = line_long laws c some most h cell l in
+    let rest = body_long laws c some most h cell ls in
     let steps = length-append (chosen_line c h cell l) (chosen_body c h cell ls) in
     let residuals = decisions_append (line_residuals c h cell l) (body_residuals c h cell ls) in
     omega (arith, first, rest, steps, residuals)
@@ -86,6 +91,13 @@ factor_few log2 (suc zero) few = few
 factor_few log2 (suc (suc zero)) few = few
 factor_few log2 (suc (suc (suc p))) few = omega arith
 
+-- no plane is wider or higher than a picture may be
+pub whole_wide : (d : Division) (p : ℕ) → IsDivision d → whole_of (across d p) ≤ 8192
+whole_wide d p is = let whole = reduced_few (factor_of d.log2_h p) d.width (factor_few d.log2_h p is.log2_h) in omega (arith, whole, is.width)
+
+pub whole_high : (d : Division) (p : ℕ) → IsDivision d → whole_of (down d p) ≤ 8192
+whole_high d p is = let whole = reduced_few (factor_of d.log2_v p) d.height (factor_few d.log2_v p is.log2_v) in omega (arith, whole, is.height)
+
 pub width_few : (d : Division) (n p : ℕ) → Sides → IsDivision d → length_of (across d p) (n % d.columns) ≤ 8192
 width_few d n p laws is =
     let column = column_inside n d.columns d.rows is.some_columns in
@@ -102,12 +114,12 @@ height_few d n p laws is inside =
     let whole = reduced_few (factor_of d.log2_v p) d.height (factor_few d.log2_v p is.log2_v) in
     omega (arith, end, whole, is.height)
 
-body_most : Rows → (c : Configuration) (h : SliceHead) (cell : ℕ → Cell) (ls : List Line) → ((p : ℕ) → (cell p).width ≤ 8192) → row_decisions (body_residuals c h cell ls) ≤ 516096 * length ls
-body_most laws c h cell [] wide = omega arith
-body_most laws c h cell (l ∷ ls) wide =
-    let first = row_most laws (line_residuals c h cell l) (row_small laws c (set_in c h l.plane) (cell l.plane) l.y) in
+body_most : Rows → (c : Configuration) → 0 < c.depth → c.depth ≤ 16 → (h : SliceHead) (cell : ℕ → Cell) (ls : List Line) → ((p : ℕ) → (cell p).width ≤ 8192) → row_decisions (body_residuals c h cell ls) ≤ 516096 * length ls
+body_most laws c some most h cell [] wide = omega arith
+body_most laws c some most h cell (l ∷ ls) wide =
+    let first = row_most laws (line_residuals c h cell l) (row_small laws c some most (set_in c h l.plane) (cell l.plane) l.y) in
     let long = laws.long (set_in c h l.plane) (bits_of c) (cell l.plane) l.y (cell l.plane).width in
-    let rest = body_most laws c h cell ls wide in
+    let rest = body_most laws c some most h cell ls wide in
     let residuals = decisions_append (line_residuals c h cell l) (body_residuals c h cell ls) in
     omega (arith, first, long, rest, residuals, wide l.plane)
 
@@ -139,9 +151,9 @@ lines_few c n high =
 
 pub residuals_few : Rows → Sides → (c : Configuration) (planes : Planes) (h : SliceHead) (n : ℕ) → IsDivision (division_of c) → n < c.columns * c.rows → row_decisions (body_residuals c h (cell_in c planes n) (lines_in c n)) < 2 ^ 40
 residuals_few laws sides c planes h n is inside =
-    let most = body_most laws c h (cell_in c planes n) (lines_in c n) (λ p. width_few (division_of c) n p sides is) in
+    let many = body_most laws c (omega (arith, is.shallow)) is.deep h (cell_in c planes n) (lines_in c n) (λ p. width_few (division_of c) n p sides is) in
     let few = lines_few c n (λ p. height_few (division_of c) n p sides is inside) in
-    omega (arith, most, few)
+    omega (arith, many, few)
 
 -- each decision makes one renormalisation at most
 one_more : (i : Interval) (b : Bool) → (let r : Interval = if b then record { low = 256 * i.low; width = 256 * i.width; count = suc i.count } else i in (i.count ≤ r.count) × (r.count ≤ i.count + 1))

@@ -9,6 +9,7 @@ pub mod Lengths
 pub mod Counted
 pub mod Frames
 pub mod Aspects
+mod Words
 mod Sizes
 mod WrittenParts
 mod ByNumber

@@ -3,19 +3,23 @@ use Rattle.std.proofs.Common.{◌≡◌, refl, ℕ, zero, suc, ◌+◌, ◌*◌,
 use Rattle.std.specs.List.{range_with_len}
 use Rattle.std.proofs.lemmas.List.FromFn.{get_or-map-range_with_len, length-map-range_with_len}
 use Rattle.std.proofs.lemmas.List.{length-take-le}
-use Rattle.std.proofs.lemmas.Grind.{common_steps}
+use Rattle.std.proofs.Math.Seq.{take-length}
+use Rattle.std.proofs.Math.Nat.{mul-le-mul_left}
+use Rattle.ffv1_samples.specs.Samples.{AreBelow, bytes_of, sample_bytes, samples_of}
+use Rattle.ffv1_samples.proofs.Depths.{length_bytes, length_samples}
 use Rattle.ffv1_record.specs.Configuration.{Configuration, is_rct}
 use Rattle.ffv1_record.specs.declared.config.Colour.{Colour}
 use Rattle.ffv1_record.specs.declared.config.Colour.TheVariants as colours
 use Rattle.ffv1_slice.specs.Grid.{planes_in, factor_of, reduced}
-use Rattle.ffv1_codec.specs.Picture.{plane_count, plane_width}
+use Rattle.ffv1_codec.specs.Picture.{plane_count, plane_width, line_bytes, width_bytes, green_of, blue_of}
 use Rattle.ffv1_codec.specs.SliceList.{bits_of}
 use Rattle.ffv1_codec.specs.Decoding.{State, FinishesBy, IsColourless, HasPlace, coded_line}
 use Rattle.ffv1_codec.specs.Stands.{window}
-use Rattle.ffv1_codec.specs.Finished.{AreMade, HasBoth, IsFirstWithout, AreTogether, IsTogether, StandRead, Finished, line_at}
+use Rattle.ffv1_codec.specs.Finished.{colouring_of, AreMade, HasBoth, IsFirstWithout, AreTogether, IsTogether, StandRead, Finished, line_at}
 use Rattle.ffv1_codec.proofs.WrittenParts.{window_long}
 use Rattle.ffv1_codec.proofs.Sizes.{part_apart}
 use Rattle.ffv1_codec.proofs.FinishedLines.{window_front, colours_at, has_at}
+use Rattle.ffv1_codec.proofs.Words.{get_or_bytes, window_bytes, green_few, blue_few}
 
 pub planes_least : (chroma extra : Bool) → chroma ≡ true → 3 ≤ planes_in chroma extra
 planes_least chroma true e = omega arith
@@ -35,6 +39,13 @@ pub planes_most : (chroma extra : Bool) → planes_in chroma extra ≤ 4
 planes_most chroma true = omega arith
 planes_most true false = omega arith
 planes_most false false = omega arith
+
+-- how many samples the lines of all planes have
+pub lines_four : (c : Configuration) (n : ℕ) → n ≡ plane_count c * c.width → c.extra_plane ≡ true → n ≡ 4 * c.width
+lines_four c n is extra = is ∙ ap (λ k. k * c.width) (planes_four c.chroma_planes c.extra_plane extra)
+
+pub lines_three : (c : Configuration) (n : ℕ) → n ≡ plane_count c * c.width → c.chroma_planes ≡ true → c.extra_plane ≡ false → n ≡ 3 * c.width
+lines_three c n is chroma extra = is ∙ ap (λ k. k * c.width) (planes_three c.chroma_planes c.extra_plane chroma extra)
 
 pub factor_none : (p : ℕ) → factor_of 0 p ≡ 0
 factor_none zero = refl
@@ -75,27 +86,30 @@ module _ (c : Configuration) (first count y : ℕ) (read : List ℕ) (s : State)
         let none : 0 * c.width ≡ 0 = omega arith in
         ap (coded_line c s y) (sym at) ∙ stand.lines 0 few ∙ ap (λ n. window n (plane_width c (first + 0)) read) none ∙ ap (λ n. take (plane_width c n) read) at ∙ ap (λ n. take n read) (sym wide_is)
 
-    pub all_small : (x : ℕ) → x < length (take wide read) → slice_index (take wide read) x < 256
+    pub all_small : (x : ℕ) → x < length (take wide read) → slice_index (take wide read) x < 2 ^ c.depth
     all_small x h =
         let few : 0 < count = omega (arith, one) in
         let at : first + 0 ≡ first = omega arith in
-        let bits : bits_of c ≡ 8 = ap (λ (b : Bool). if b then 9 else 8) no in
-        let small : slice_index (coded_line c s y first) x < 2 ^ 8 = subst (λ n. slice_index (coded_line c s y first) x < 2 ^ n) bits (subst (λ n. slice_index (coded_line c s y n) x < 2 ^ bits_of c) at (stand.small 0 x few)) in
-        subst (λ z. slice_index z x < 256) first_is small
+        let bits : bits_of c ≡ c.depth = ap (λ (b : Bool). if b then c.depth + 1 else c.depth) no in
+        let small : slice_index (coded_line c s y first) x < 2 ^ c.depth = subst (λ n. slice_index (coded_line c s y first) x < 2 ^ n) bits (subst (λ n. slice_index (coded_line c s y n) x < 2 ^ bits_of c) at (stand.small 0 x few)) in
+        subst (λ z. slice_index z x < 2 ^ c.depth) first_is small
 
-    pub samples_finished : (copied rest : List ℕ) → copied ≡ take wide read → Finished c first count y (copied ++ rest) s
+    pub samples_finished : (copied rest : List ℕ) → copied ≡ bytes_of c.depth (take wide read) → Finished c first count y (copied ++ rest) s
     samples_finished copied rest is = record {
-      lines = lines;
-      finishes = subst (λ b. FinishesBy b c lines lines) (sym no) refl;
+      lines = map (bytes_of c.depth) lines;
+      finishes = record { made = lines; by = subst (λ b. FinishesBy b c lines lines) (sym no) refl; bytes = refl };
       stands = λ i h.
           let zero_is : i ≡ 0 = omega (arith, h, one) in
-          let none : i * c.width ≡ 0 = ap (λ n. n * c.width) zero_is ∙ (let m : 0 * c.width ≡ 0 = omega arith in m) in
+          let none : i * width_bytes c ≡ 0 = ap (λ n. n * width_bytes c) zero_is ∙ (let m : 0 * width_bytes c ≡ 0 = omega arith in m) in
           let at : first + i ≡ first = omega (arith, zero_is) in
           let w : plane_width c (first + i) ≡ wide = ap (plane_width c) at ∙ sym wide_is in
-          let long : length copied ≡ wide = ap (λ (z : List ℕ). length z) is ∙ length-take-le wide read fits in
-          let whole : window 0 wide (copied ++ rest) ≡ take wide read = window_front 0 wide copied rest (omega (arith, long)) ∙ ap (take wide) is ∙ (let same : take wide (take wide read) ≡ take wide read = grind (arith, common_steps) in same) in
-          get_or-map-range_with_len (coded_line c s y) first count i (first + i) [] h refl ∙ ap (coded_line c s y) at ∙ first_is ∙ sym whole
-          ∙ ap (λ n. window 0 n (copied ++ rest)) (sym w) ∙ ap (λ n. window n (plane_width c (first + i)) (copied ++ rest)) (sym none);
+          let n : ℕ = sample_bytes c.depth * wide in
+          let taken : length (take wide read) ≡ wide = length-take-le wide read fits in
+          let long : length copied ≡ n = ap (λ (z : List ℕ). length z) is ∙ length_bytes c.depth (take wide read) ∙ ap (λ k. sample_bytes c.depth * k) taken in
+          let whole : window 0 n (copied ++ rest) ≡ copied = window_front 0 n copied rest (omega (arith, long)) ∙ ap (λ k. take k copied) (sym long) ∙ take-length copied in
+          let line : get_or lines i [] ≡ take wide read = get_or-map-range_with_len (coded_line c s y) first count i (first + i) [] h refl ∙ ap (coded_line c s y) at ∙ first_is in
+          get_or_bytes c.depth i lines ∙ ap (bytes_of c.depth) line ∙ sym is ∙ sym whole
+          ∙ ap (λ k. window 0 (sample_bytes c.depth * k) (copied ++ rest)) (sym w) ∙ ap (λ k. window k (line_bytes c (first + i)) (copied ++ rest)) (sym none);
     }
 
   -- colours
@@ -109,21 +123,21 @@ module _ (c : Configuration) (first count y : ℕ) (read : List ℕ) (s : State)
     fourth_in : c.extra_plane ≡ true → 3 < count
     fourth_in e = let h = planes_four c.chroma_planes c.extra_plane e in omega (arith, h, all)
 
-    has_place : (x : ℕ) → HasBoth c.extra_plane c.width read x → HasPlace c lines x
+    has_place : (x : ℕ) → HasBoth (colouring_of c) read x → HasPlace c lines x
     has_place x both = (
-      has_at (line_at c.width 0 read) (line_at c.width 1 read) (line_at c.width 2 read) (get_or lines 0 []) (get_or lines 1 []) (get_or lines 2 []) x
+      has_at c.depth (line_at c.width 0 read) (line_at c.width 1 read) (line_at c.width 2 read) (get_or lines 0 []) (get_or lines 1 []) (get_or lines 2 []) x
           (sym (read_is 0 (omega (arith, three)))) (sym (read_is 1 (omega (arith, three)))) (sym (read_is 2 (omega (arith, three)))) both.0,
-      λ e. subst (λ z. slice_index z x < 256) (sym (read_is 3 (fourth_in e))) (both.1 e),
+      λ e. subst (λ z. slice_index z x < 2 ^ c.depth) (sym (read_is 3 (fourth_in e))) (both.1 e),
     )
 
-    has_both : (x : ℕ) → HasPlace c lines x → HasBoth c.extra_plane c.width read x
+    has_both : (x : ℕ) → HasPlace c lines x → HasBoth (colouring_of c) read x
     has_both x both = (
-      has_at (get_or lines 0 []) (get_or lines 1 []) (get_or lines 2 []) (line_at c.width 0 read) (line_at c.width 1 read) (line_at c.width 2 read) x
+      has_at c.depth (get_or lines 0 []) (get_or lines 1 []) (get_or lines 2 []) (line_at c.width 0 read) (line_at c.width 1 read) (line_at c.width 2 read) x
           (read_is 0 (omega (arith, three))) (read_is 1 (omega (arith, three))) (read_is 2 (omega (arith, three))) both.0,
-      λ e. subst (λ z. slice_index z x < 256) (read_is 3 (fourth_in e)) (both.1 e),
+      λ e. subst (λ z. slice_index z x < 2 ^ c.depth) (read_is 3 (fourth_in e)) (both.1 e),
     )
 
-    pub colours_missing : (x : ℕ) → IsFirstWithout c.extra_plane c.width read x → IsColourless c lines x
+    pub colours_missing : (x : ℕ) → IsFirstWithout (colouring_of c) read x → IsColourless c lines x
     colours_missing x without = record {
       rct = yes;
       inside = without.inside;
@@ -131,30 +145,58 @@ module _ (c : Configuration) (first count y : ℕ) (read : List ℕ) (s : State)
       none = λ has. without.none (has_both x has);
     }
 
-    pub colours_finished : (out : List ℕ) → length out ≡ count * c.width → AreMade c.extra_plane c.width read out → Finished c first count y out s
-    colours_finished out long made =
-        let f : ℕ → List ℕ = λ i. line_at c.width i out in
-        let outs : List (List ℕ) = map f (range_with_len 0 count) in
-        let out_is : (i : ℕ) → i < count → get_or outs i [] ≡ line_at c.width i out = λ i h. get_or-map-range_with_len f 0 count i i [] h (let same : 0 + i ≡ i = omega arith in same) in
-        let lines_long : length lines ≡ count = length-map-range_with_len (coded_line c s y) first count in
-        let outs_long : length outs ≡ count = length-map-range_with_len f 0 count in
-        let finishes : FinishesBy true c lines outs = (
-          outs_long ∙ sym lines_long,
-          λ i h.
-              let few : i < count = omega (arith, h, lines_long) in
-              let fits = part_apart i count c.width few in
-              ap (λ (z : List ℕ). length z) (out_is i few) ∙ window_long (i * c.width) c.width out (omega (arith, fits, long)),
-          colours_at c.width (line_at c.width 0 read) (line_at c.width 1 read) (line_at c.width 2 read) (line_at c.width 0 out) (line_at c.width 1 out) (line_at c.width 2 out)
-              (get_or lines 0 []) (get_or lines 1 []) (get_or lines 2 []) (get_or outs 0 []) (get_or outs 1 []) (get_or outs 2 [])
-              (sym (read_is 0 (omega (arith, three)))) (sym (read_is 1 (omega (arith, three)))) (sym (read_is 2 (omega (arith, three))))
-              (sym (out_is 0 (omega (arith, three)))) (sym (out_is 1 (omega (arith, three)))) (sym (out_is 2 (omega (arith, three)))) made.colours,
-          λ e.
-              let alpha = made.transparency e in
-              let few = fourth_in e in
-              (out_is 3 few ∙ alpha.0 ∙ sym (read_is 3 few), λ x h. subst (λ z. slice_index z x < 256) (sym (read_is 3 few)) (alpha.1 x h)),
-        ) in
-        record {
-          lines = outs;
-          finishes = subst (λ b. FinishesBy b c lines outs) (sym yes) finishes;
-          stands = λ i h. out_is i h ∙ ap (λ n. window (i * c.width) n out) (sym (wide_none c (first + i) narrow));
-        }
+    -- the lines that were made, of the bytes of all
+    module _ (out : List ℕ) (long : length out ≡ count * width_bytes c) (bytes : AreBelow 256 out) where
+      whole : length out ≡ sample_bytes c.depth * (count * c.width)
+      whole = long ∙ (let turned : count * width_bytes c ≡ sample_bytes c.depth * (count * c.width) = omega arith in turned)
+
+      samples_long : length (samples_of c.depth out) ≡ count * c.width
+      samples_long = length_samples c.depth (count * c.width) out whole
+
+      out_is : (i : ℕ) → i < count → get_or (map (λ i. line_at c.width i (samples_of c.depth out)) (range_with_len 0 count)) i [] ≡ line_at c.width i (samples_of c.depth out)
+      out_is i h = get_or-map-range_with_len (λ i. line_at c.width i (samples_of c.depth out)) 0 count i i [] h (let same : 0 + i ≡ i = omega arith in same)
+
+      outs_stand : (i : ℕ) → i < count → get_or (map (bytes_of c.depth) (map (λ i. line_at c.width i (samples_of c.depth out)) (range_with_len 0 count))) i [] ≡ window (i * width_bytes c) (line_bytes c (first + i)) out
+      outs_stand i h =
+          let fits = part_apart i count c.width h in
+          let room = mul-le-mul_left {m = i * c.width + c.width} {n = count * c.width} (sample_bytes c.depth) fits in
+          let turned : sample_bytes c.depth * (i * c.width) ≡ i * width_bytes c = omega arith in
+          get_or_bytes c.depth i (map (λ i. line_at c.width i (samples_of c.depth out)) (range_with_len 0 count))
+          ∙ ap (bytes_of c.depth) (out_is i h)
+          ∙ window_bytes c.depth (i * c.width) c.width out bytes (omega (arith, whole, room))
+          ∙ ap (λ n. window n (width_bytes c) out) turned
+          ∙ ap (λ n. window (i * width_bytes c) (sample_bytes c.depth * n) out) (sym (wide_none c (first + i) narrow))
+
+      made_by : AreMade (colouring_of c) read (samples_of c.depth out) → FinishesBy true c lines (map (λ i. line_at c.width i (samples_of c.depth out)) (range_with_len 0 count))
+      made_by made =
+          let lines_long : length lines ≡ count = length-map-range_with_len (coded_line c s y) first count in
+          let outs_long : length (map (λ i. line_at c.width i (samples_of c.depth out)) (range_with_len 0 count)) ≡ count = length-map-range_with_len (λ i. line_at c.width i (samples_of c.depth out)) 0 count in
+          let many = three in
+          let green : green_of c < count = omega (arith, many, green_few c) in
+          let blue : blue_of c < count = omega (arith, many, blue_few c) in (
+            outs_long ∙ sym lines_long,
+            λ i h.
+                let few : i < count = omega (arith, h, lines_long) in
+                let fits = part_apart i count c.width few in
+                ap (λ (z : List ℕ). length z) (out_is i few) ∙ window_long (i * c.width) c.width (samples_of c.depth out) (omega (arith, fits, samples_long)),
+            colours_at c.depth c.width (line_at c.width 0 read) (line_at c.width 1 read) (line_at c.width 2 read)
+                (line_at c.width 0 (samples_of c.depth out)) (line_at c.width (green_of c) (samples_of c.depth out)) (line_at c.width (blue_of c) (samples_of c.depth out))
+                (get_or lines 0 []) (get_or lines 1 []) (get_or lines 2 []) _ _ _
+                (sym (read_is 0 (omega (arith, many)))) (sym (read_is 1 (omega (arith, many)))) (sym (read_is 2 (omega (arith, many))))
+                (sym (out_is 0 (omega (arith, many)))) (sym (out_is (green_of c) green)) (sym (out_is (blue_of c) blue)) made.colours,
+            λ e.
+                let alpha = made.transparency e in
+                let few = fourth_in e in
+                (out_is 3 few ∙ alpha.0 ∙ sym (read_is 3 few), λ x h. subst (λ z. slice_index z x < 2 ^ c.depth) (sym (read_is 3 few)) (alpha.1 x h)),
+          )
+
+      pub colours_finished : AreMade (colouring_of c) read (samples_of c.depth out) → Finished c first count y out s
+      colours_finished made = record {
+        lines = map (bytes_of c.depth) (map (λ i. line_at c.width i (samples_of c.depth out)) (range_with_len 0 count));
+        finishes = record {
+          made = map (λ i. line_at c.width i (samples_of c.depth out)) (range_with_len 0 count);
+          by = subst (λ b. FinishesBy b c lines (map (λ i. line_at c.width i (samples_of c.depth out)) (range_with_len 0 count))) (sym yes) (made_by made);
+          bytes = refl;
+        };
+        stands = outs_stand;
+      }

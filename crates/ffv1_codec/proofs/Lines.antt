@@ -1,13 +1,18 @@
 -- Lines of cells in their planes.
-use Rattle.std.proofs.Common.{◌≡◌, ℕ, zero, suc, ◌+◌, ◌-◌, ◌*◌, ◌/◌, ◌%◌, ◌<◌, ◌≤◌, List, [], ◌∷◌, length, get_or, take, drop, sym, ◌∙◌, ap, arith, subst, length-drop, inl, inr}
+use Rattle.std.proofs.Common.{◌≡◌, refl, ℕ, zero, suc, ◌+◌, ◌-◌, ◌*◌, ◌/◌, ◌%◌, ◌^◌, ◌<◌, ◌≤◌, List, [], ◌∷◌, length, get_or, take, drop, sym, ◌∙◌, ap, arith, subst, inl, inr}
 use Rattle.std.proofs.lemmas.Bool.{cases_lt}
 use Rattle.std.proofs.Math.Nat.{mul-le-mul_left, mod-lt, div-lt_iff_lt-mul}
-use Rattle.std.proofs.lemmas.List.{length-take-le, get_or-take, get_or-drop, length-map}
+use Rattle.std.proofs.lemmas.List.{get_or-take, get_or-drop, length-map}
 use Rattle.std.specs.declared.vec.Vec.{Vec}
+use Rattle.std.proofs.lemmas.Nat.{pow_pos}
+use Rattle.ffv1_samples.specs.Samples.{AreBelow, sample_bytes, samples_of}
 use Rattle.ffv1_record.specs.Configuration.{Configuration}
 use Rattle.ffv1_slice.specs.Grid.{Side, IsDivided, Division, IsDivision, slices_in, begin_of, length_of, whole_of, Lies, division_of, across, down}
-use Rattle.ffv1_codec.specs.Picture.{Planes, planes_of, plane, AreOf, AreSamples}
+use Rattle.ffv1_codec.specs.Picture.{Planes, planes_of, plane, AreOf, AreInDepth, AreSamples, IsPicture}
 use Rattle.ffv1_codec.specs.CellRows.{IsLine}
+use Rattle.ffv1_codec.specs.Stands.{window}
+use Rattle.ffv1_codec.proofs.WrittenParts.{window_long}
+use Rattle.ffv1_codec.proofs.Words.{none_samples, window_samples, window_small, picture_small}
 
 -- a part ends inside its side
 pub ends : (s : Side) (k : ℕ) → k < s.count → 0 < length_of s k → ((x k : ℕ) → Lies s x k → x < whole_of s) → begin_of s k + length_of s k ≤ whole_of s
@@ -26,22 +31,27 @@ plane_of [] p v inside is = absurd (omega (arith, inside))
 plane_of (w ∷ ws) zero v inside is = ap (λ (u : Vec ℕ _). u.items) (sym is)
 plane_of (w ∷ ws) (suc p) v inside is = plane_of ws p v (omega (arith, inside)) is
 
+-- so many samples of bytes from a place on
+part_long : (b start wide long : ℕ) → b * (start + wide) ≤ long → b * start + b * wide ≤ long
+part_long b start wide long fits = omega (arith, fits)
+
 pub is_line : (c : Configuration) (planes : Planes) (n p y : ℕ) (samples line : List ℕ) → samples ≡ plane planes p →
     (let d = division_of c in let s = across d p in let k = n % c.columns in let begin = (begin_of (down d p) (n / c.columns) + y) * whole_of s + begin_of s k in
-    (begin + length_of s k ≤ length samples) → line ≡ take (length_of s k) (drop begin samples) → IsLine c planes n p y line)
+    (sample_bytes c.depth * (begin + length_of s k) ≤ length samples) → line ≡ take (sample_bytes c.depth * length_of s k) (drop (sample_bytes c.depth * begin) samples) → IsLine c planes n p y line)
 is_line c planes n p y samples line is inside same =
     let s = across (division_of c) p in
     let k = n % c.columns in
     let wide : ℕ = length_of s k in
     let start : ℕ = (begin_of (down (division_of c) p) (n / c.columns) + y) * whole_of s + begin_of s k in
-    let long : length (take wide (drop start samples)) ≡ wide = length-take-le wide (drop start samples) (let all = length-drop start samples in omega (arith, all, inside)) in
+    let room = part_long (sample_bytes c.depth) start wide (length samples) inside in
     record {
-      wide = ap length same ∙ long;
+      wide = ap length same ∙ window_long (sample_bytes c.depth * start) (sample_bytes c.depth * wide) samples room;
       each = λ x here.
-          let here : x < wide = omega (arith, here, long, ap length same) in
           let place : start + x ≡ (begin_of (down (division_of c) p) (n / c.columns) + y) * whole_of s + (begin_of s k + x) = omega arith in
-          ap (λ (l : List ℕ). get_or l x 0) same ∙ get_or-take wide (drop start samples) x 0 here ∙ get_or-drop start samples x 0
-          ∙ ap (λ (l : List ℕ). get_or l (start + x) 0) is ∙ ap (λ m. get_or (plane planes p) m 0) place;
+          ap (λ (l : List ℕ). get_or (samples_of c.depth l) x 0) same
+          ∙ ap (λ (l : List ℕ). get_or l x 0) (window_samples c.depth start wide samples)
+          ∙ get_or-take wide (drop start (samples_of c.depth samples)) x 0 here ∙ get_or-drop start (samples_of c.depth samples) x 0
+          ∙ ap (λ (l : List ℕ). get_or (samples_of c.depth l) (start + x) 0) is ∙ ap (λ m. get_or (samples_of c.depth (plane planes p)) m 0) place;
     }
 
 -- the column and the row of a slice
@@ -82,17 +92,18 @@ pub record Lay (e : Division) (n p left top wide whole : ℕ) : Type 0 where
 
 -- its line ends inside its plane
 pub lay_inside : (c : Configuration) (planes : Planes) (e : Division) (n p y left top wide whole : ℕ) (samples : List ℕ) → Sides → IsDivision e → e ≡ division_of c → Lay e n p left top wide whole →
-    n < c.columns * c.rows → y < length_of (down (division_of c) p) (n / c.columns) → length (plane planes p) ≡ whole_of (across (division_of c) p) * whole_of (down (division_of c) p) → samples ≡ plane planes p →
-    (top + y) * whole + left + wide ≤ length samples
+    n < c.columns * c.rows → y < length_of (down (division_of c) p) (n / c.columns) → length (plane planes p) ≡ sample_bytes c.depth * (whole_of (across (division_of c) p) * whole_of (down (division_of c) p)) → samples ≡ plane planes p →
+    sample_bytes c.depth * ((top + y) * whole + left + wide) ≤ length samples
 lay_inside c planes e n p y left top wide whole samples laws is same lay inside high size samples_are =
     let d : Division = division_of c in
     let lay : Lay d n p left top wide whole = subst (λ f. Lay f n p left top wide whole) same lay in
     let fits = cell_inside d n p y laws (subst IsDivision same is) inside high in
-    rw (lay.left_is, lay.top_is, lay.wide_is, lay.whole_is, samples_are, size) fits
+    let all = mul-le-mul_left (sample_bytes c.depth) fits in
+    rw (lay.left_is, lay.top_is, lay.wide_is, lay.whole_is, samples_are, size) all
 
 -- and is its line
 pub lay_line : (c : Configuration) (planes : Planes) (e : Division) (n p y left top wide whole : ℕ) (samples line : List ℕ) → e ≡ division_of c → Lay e n p left top wide whole → samples ≡ plane planes p →
-    (top + y) * whole + left + wide ≤ length samples → line ≡ take wide (drop ((top + y) * whole + left) samples) → IsLine c planes n p y line
+    sample_bytes c.depth * ((top + y) * whole + left + wide) ≤ length samples → line ≡ take (sample_bytes c.depth * wide) (drop (sample_bytes c.depth * ((top + y) * whole + left)) samples) → IsLine c planes n p y line
 lay_line c planes e n p y left top wide whole samples line same lay samples_are inside line_is =
     let d : Division = division_of c in
     let lay : Lay d n p left top wide whole = subst (λ f. Lay f n p left top wide whole) same lay in
@@ -118,3 +129,27 @@ all_planes vs count long below = λ p i. elim (cases_lt p count) [
   | inl inside ↦ below p i inside
   | inr past ↦ no_plane vs p i (omega (arith, past, long))
 ]
+
+-- past the planes there are no samples
+past_planes : {A : Type 0} (vs : List (Vec ℕ A)) (p : ℕ) → length vs ≤ p → plane (planes_of vs) p ≡ []
+past_planes [] p past = refl
+past_planes (v ∷ vs) zero past = absurd (omega (arith, past))
+past_planes (v ∷ vs) (suc p) past = past_planes vs p (omega (arith, past))
+
+pub all_in_depth : {A : Type 0} (vs : List (Vec ℕ A)) (count depth : ℕ) → length vs ≡ count → ((p : ℕ) → p < count → AreBelow (2 ^ depth) (samples_of depth (plane (planes_of vs) p))) → AreInDepth depth (planes_of vs)
+all_in_depth vs count depth long below = λ p. elim (cases_lt p count) [
+  | inl inside ↦ below p inside
+  | inr past ↦
+      let none = past_planes vs p (omega (arith, past, long)) in
+      subst (λ (xs : List ℕ). AreBelow (2 ^ depth) (samples_of depth xs)) (sym none) (λ i. subst (λ (xs : List ℕ). get_or xs i 0 < 2 ^ depth) (sym (none_samples depth)) (pow_pos depth))
+]
+
+-- the samples of a line of a picture have no more bits than its depth
+pub line_small : (c : Configuration) (planes : Planes) (p b start wide : ℕ) (samples line : List ℕ) → IsPicture c planes → b ≡ sample_bytes c.depth → samples ≡ plane planes p →
+    line ≡ take (b * wide) (drop (b * start) samples) → AreBelow (2 ^ c.depth) (samples_of c.depth line)
+line_small c planes p b start wide samples line picture b_is is same =
+    let size = sample_bytes c.depth in
+    let whole = plane planes p in
+    let part : line ≡ window (size * start) (size * wide) whole = same ∙ ap (λ k. take (k * wide) (drop (k * start) samples)) b_is ∙ ap (λ xs. take (size * wide) (drop (size * start) xs)) is in
+    subst (λ xs. AreBelow (2 ^ c.depth) (samples_of c.depth xs)) (sym part)
+    (subst (AreBelow (2 ^ c.depth)) (sym (window_samples c.depth start wide whole)) (window_small (2 ^ c.depth) start wide (samples_of c.depth whole) (picture_small c planes picture p)))

@@ -4,6 +4,7 @@ use Rattle.std.specs.List.{range_with_len}
 use Rattle.std.proofs.lemmas.Bool.{cases_eq, cases_lt}
 use Rattle.std.proofs.lemmas.List.{map-append, map-set}
 use Rattle.std.specs.declared.vec.Vec.{Vec}
+use Rattle.ffv1_samples.specs.Samples.{sample_bytes}
 use Rattle.ffv1_slice.specs.Grid.{Division, across, down, whole_of}
 use Rattle.ffv1_codec.specs.Picture.{Planes, AreOf, planes_of, plane}
 use Rattle.ffv1_codec.specs.Decoding.{row_in}
@@ -34,13 +35,20 @@ module _ {A : Type 0} where
   pub planes_more : (xs : List (Vec ℕ A)) (v : Vec ℕ A) → planes_of (xs ++ (v ∷ [])) ≡ planes_of xs ++ (v.items ∷ [])
   planes_more xs v = map-append (λ (z : Vec ℕ A). z.items) xs (v ∷ [])
 
+-- how many bytes a line of a plane has
+abbrev pub row_bytes : Division → ℕ → ℕ
+row_bytes d p = sample_bytes d.depth * whole_of (across d p)
+
+turned : (b w h : ℕ) → b * (w * h) ≡ h * (b * w)
+turned b w h = omega arith
+
 -- a line fits in its plane
 pub line_fits : (d : Division) (planes : Planes) (p y : ℕ) (samples : List ℕ) → AreOf d planes → IsLine d p y samples → y * length samples + length samples ≤ length (plane planes p)
 line_fits d planes p y samples are line =
     let size = are.sizes p line.in_plane in
-    let w = whole_of (across d p) in
+    let w = row_bytes d p in
     let place = part_apart y (whole_of (down d p)) w line.in_height in
-    let turn : w * whole_of (down d p) ≡ whole_of (down d p) * w = omega arith in
+    let turn = turned (sample_bytes d.depth) (whole_of (across d p)) (whole_of (down d p)) in
     let all : y * w + w ≤ length (plane planes p) = omega (arith, size, place, turn) in
     subst (λ n. y * n + n ≤ length (plane planes p)) (sym line.long) all
 
@@ -55,16 +63,16 @@ sizes_kept d planes p y samples are line =
       count = length-set planes p new ∙ are.count;
       sizes = λ q h. elim (cases_eq q p) [
         | inl here ↦
-            let now : length (plane (slice_set planes p new) p) ≡ whole_of (across d p) * whole_of (down d p) = ap (λ (z : List ℕ). length z) (plane_now planes p new inside) ∙ long ∙ are.sizes p line.in_plane in
-            subst (λ z. length (plane (slice_set planes p new) z) ≡ whole_of (across d z) * whole_of (down d z)) (sym here) now
+            let now : length (plane (slice_set planes p new) p) ≡ sample_bytes d.depth * (whole_of (across d p) * whole_of (down d p)) = ap (λ (z : List ℕ). length z) (plane_now planes p new inside) ∙ long ∙ are.sizes p line.in_plane in
+            subst (λ z. length (plane (slice_set planes p new) z) ≡ sample_bytes d.depth * (whole_of (across d z) * whole_of (down d z))) (sym here) now
         | inr other ↦ ap (λ (z : List ℕ). length z) (plane_other planes p q new other) ∙ are.sizes q h
       ];
     }
 
-pub zeros_more : (d : Division) (n : ℕ) → map (λ p. replicate {A = ℕ} (whole_of (across d p) * whole_of (down d p)) 0) (range_with_len 0 (n + 1)) ≡
-    map (λ p. replicate (whole_of (across d p) * whole_of (down d p)) 0) (range_with_len 0 n) ++ (replicate (whole_of (across d n) * whole_of (down d n)) 0 ∷ [])
+pub zeros_more : (d : Division) (n : ℕ) → map (λ p. replicate {A = ℕ} (sample_bytes d.depth * (whole_of (across d p) * whole_of (down d p))) 0) (range_with_len 0 (n + 1)) ≡
+    map (λ p. replicate (sample_bytes d.depth * (whole_of (across d p) * whole_of (down d p))) 0) (range_with_len 0 n) ++ (replicate (sample_bytes d.depth * (whole_of (across d n) * whole_of (down d n))) 0 ∷ [])
 zeros_more d n =
-    let f : ℕ → List ℕ = λ p. replicate (whole_of (across d p) * whole_of (down d p)) 0 in
+    let f : ℕ → List ℕ = λ p. replicate (sample_bytes d.depth * (whole_of (across d p) * whole_of (down d p))) 0 in
     let more : suc n ≡ n + 1 = omega arith in
     let zero_is : 0 + n ≡ n = omega arith in
     ap (λ k. map f (range_with_len 0 k)) (sym more) ∙ mapped_more f 0 n ∙ ap (λ k. map f (range_with_len 0 n) ++ (f k ∷ [])) zero_is
@@ -77,16 +85,16 @@ module _ (d : Division) (planes : Planes) (p y : ℕ) (samples : List ℕ) (are 
   inside : p < length planes
   inside = omega (arith, line.in_plane, are.count)
 
-  pub line_here : row_in (whole_of (across d p)) y (plane (with_line planes p y samples) p) ≡ samples
+  pub line_here : row_in (row_bytes d p) y (plane (with_line planes p y samples) p) ≡ samples
   line_here =
       let fits = line_fits d planes p y samples are line in
-      ap (row_in (whole_of (across d p)) y) (plane_now planes p new inside) ∙ ap (λ w. window (y * w) w new) (sym line.long)
+      ap (row_in (row_bytes d p) y) (plane_now planes p new inside) ∙ ap (λ w. window (y * w) w new) (sym line.long)
       ∙ put_window (plane planes p) samples (y * length samples) (length samples) fits refl
 
   pub line_others : (q z : ℕ) → q < d.planes → z < whole_of (down d q) → (q ≢ p) ⊎ (z ≢ y) →
-      row_in (whole_of (across d q)) z (plane (with_line planes p y samples) q) ≡ row_in (whole_of (across d q)) z (plane planes q)
+      row_in (row_bytes d q) z (plane (with_line planes p y samples) q) ≡ row_in (row_bytes d q) z (plane planes q)
   line_others q z few low apart = elim (cases_eq q p) [
-    | inr other ↦ ap (row_in (whole_of (across d q)) z) (plane_other planes p q new other)
+    | inr other ↦ ap (row_in (row_bytes d q) z) (plane_other planes p q new other)
     | inl same ↦
         let w = length samples in
         let other : z ≢ y = elim apart [ inl no_plane ↦ absurd (no_plane same) | inr no_line ↦ no_line ] in
@@ -94,14 +102,15 @@ module _ (d : Division) (planes : Planes) (p y : ℕ) (samples : List ℕ) (are 
         let low : z < whole_of (down d p) = subst (λ k. z < whole_of (down d k)) same low in
         let size = are.sizes p line.in_plane in
         let place = part_apart z (whole_of (down d p)) w low in
-        let turn : whole_of (across d p) * whole_of (down d p) ≡ whole_of (down d p) * w = ap (λ k. k * whole_of (down d p)) (sym line.long) ∙ omega arith in
+        let turn : sample_bytes d.depth * (whole_of (across d p) * whole_of (down d p)) ≡ whole_of (down d p) * w =
+        turned (sample_bytes d.depth) (whole_of (across d p)) (whole_of (down d p)) ∙ ap (λ k. whole_of (down d p) * k) (sym line.long) in
         let within : z * w + w ≤ length (plane planes p) = omega (arith, size, place, turn) in
         let sides : (z * w + w ≤ y * w) ⊎ (y * w + w ≤ z * w) = elim (cases_lt z y) [
           | inl less ↦ inl (part_apart z y w less)
           | inr over ↦ let more : y < z = omega (arith, over, other) in inr (part_apart y z w more)
         ] in
         let here : row_in w z new ≡ row_in w z (plane planes p) = put_other (plane planes p) samples (y * w) w fits refl (z * w) w within sides in
-        let all : row_in (whole_of (across d p)) z (plane (with_line planes p y samples) p) ≡ row_in (whole_of (across d p)) z (plane planes p) =
-        ap (row_in (whole_of (across d p)) z) (plane_now planes p new inside) ∙ ap (λ k. row_in k z new) (sym line.long) ∙ here ∙ ap (λ k. row_in k z (plane planes p)) line.long in
-        subst (λ k. row_in (whole_of (across d k)) z (plane (with_line planes p y samples) k) ≡ row_in (whole_of (across d k)) z (plane planes k)) (sym same) all
+        let all : row_in (row_bytes d p) z (plane (with_line planes p y samples) p) ≡ row_in (row_bytes d p) z (plane planes p) =
+        ap (row_in (row_bytes d p) z) (plane_now planes p new inside) ∙ ap (λ k. row_in k z new) (sym line.long) ∙ here ∙ ap (λ k. row_in k z (plane planes p)) line.long in
+        subst (λ k. row_in (row_bytes d k) z (plane (with_line planes p y samples) k) ≡ row_in (row_bytes d k) z (plane planes k)) (sym same) all
   ]

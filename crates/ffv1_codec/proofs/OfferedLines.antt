@@ -1,11 +1,13 @@
 -- Each line that is handed over is a line of the configuration, so a sink of those refuses none.
-use Rattle.std.proofs.Common.{◌≡◌, ◌≢◌, refl, ℕ, zero, suc, ◌+◌, ◌<◌, ◌≤◌, Bool, true, false, Result, Ok, Err, List, [], ◌∷◌, ◌++◌, map, length, get_or, replicate, inl, inr, ap, sym, subst, ◌∙◌, arith}
+use Rattle.std.proofs.Common.{◌≡◌, ◌≢◌, refl, ℕ, zero, suc, ◌+◌, ◌*◌, ◌<◌, ◌≤◌, Bool, true, false, Result, Ok, Err, List, [], ◌∷◌, ◌++◌, map, length, get_or, replicate, inl, inr, ap, sym, subst, ◌∙◌, arith}
 use Rattle.std.specs.Prelude.{slice_index}
 use Rattle.std.specs.List.{flat_map, range_with_len}
 use Rattle.std.proofs.lemmas.List.{length-map, length-replicate}
 use Rattle.std.proofs.lemmas.List.FromFn.{length-range_with_len}
 use Rattle.ffv1_wire.specs.Runs.{LineStep, Line, Grows}
 use Rattle.ffv1_range.specs.declared.tally.Tally.{Tally}
+use Rattle.ffv1_samples.specs.Samples.{bytes_of, sample_bytes}
+use Rattle.ffv1_samples.proofs.Depths.{length_bytes}
 use Rattle.ffv1_record.specs.Configuration.{is_rct}
 use Rattle.ffv1_record.specs.Accepted.{Accepted}
 use Rattle.ffv1_slice.specs.Grid.{Division, division_of, down}
@@ -17,14 +19,14 @@ use Rattle.ffv1_slice.specs.declared.fault.SliceFault.TheVariants as slice
 use Rattle.ffv1_codec.specs.declared.fault.CodecFault.{CodecFault}
 use Rattle.ffv1_codec.specs.declared.fault.CodecFault.TheVariants as fault
 use Rattle.ffv1_codec.specs.declared.fault.FrameFault.{FrameFault}
-use Rattle.ffv1_codec.specs.Picture.{plane_count, plane_width}
+use Rattle.ffv1_codec.specs.Picture.{plane_count, plane_width, line_bytes}
 use Rattle.ffv1_codec.specs.SliceList as list
 use Rattle.ffv1_codec.specs.Order.{Event, events_of, row_events, series_events, series_of, column_events, hand_events, numbered, lines_down}
 use Rattle.ffv1_codec.specs.Order.Event.{Open, Read, Finish, Hand, Close}
 use Rattle.ffv1_codec.specs.Runs.{Steps, Runs}
 use Rattle.ffv1_codec.specs.Answer.{AnswersCut, cut_fault}
 use Rattle.ffv1_codec.specs.Decoding as decoding
-use Rattle.ffv1_codec.specs.Decoding.{State, StepsBy, FaultsWith, FinishesBy, Offers, at_first, slice_at, top_of, width_in, unread, of_slice}
+use Rattle.ffv1_codec.specs.Decoding.{State, StepsBy, FaultsWith, Finishes, FinishesBy, Offers, at_first, slice_at, top_of, width_in, unread, of_slice}
 use Rattle.ffv1_codec.specs.Kept.{IsLine}
 use Rattle.ffv1_codec.proofs.Machines.{Each, each_both, each_left, each_right, each_range, each_map, runs_split, stops_at}
 use Rattle.ffv1_codec.proofs.LinesRead.{lines_at, columns_read, line_reads}
@@ -35,6 +37,7 @@ use Rattle.ffv1_codec.proofs.LinesMade.{AllHave, have_more, reads_of_row, groups
 use Rattle.ffv1_codec.proofs.LineSizes.{IsThere, by_number, joined_long, numbered_range}
 use Rattle.ffv1_codec.proofs.CellsShown.{inside_side}
 use Rattle.ffv1_codec.proofs.RowsDone.{opens}
+use Rattle.ffv1_codec.proofs.Words.{get_or_bytes}
 use Rattle.ffv1_codec.proofs.PictureMade.{PictureLaws, alike_lines, some_wide, each_all}
 
 module _ {S E : Type 0} (step : Steps S E) (Fine : S → E → Type 0) where
@@ -83,7 +86,10 @@ module _ (a : Accepted) (coded : ℕ → List ℕ) (laws : PictureLaws a) where
   quiet s Close own = tt
 
   abbrev IsLong : List (List ℕ) → ℕ × ℕ → Type 0
-  IsLong out ip = length (get_or out ip.0 []) ≡ plane_width a.configuration ip.1
+  IsLong out ip = length (get_or out ip.0 []) ≡ line_bytes a.configuration ip.1
+
+  abbrev IsWide : List (List ℕ) → ℕ × ℕ → Type 0
+  IsWide made ip = length (get_or made ip.0 []) ≡ plane_width a.configuration ip.1
 
   abbrev IsOwn : ℕ → ℕ → List (List ℕ) → ℕ × ℕ → Type 0
   IsOwn r y out ip = IsLine (division_of a.configuration) ip.1 (top_of a.configuration ip.1 r + y) (get_or out ip.0 [])
@@ -111,27 +117,39 @@ module _ (a : Accepted) (coded : ℕ → List ℕ) (laws : PictureLaws a) where
     abbrev There : State → list.Line → Type 0
     There s l = IsThere a.configuration (slice_at s) laws.tiles_h laws.in_rct.wide laws.in_rct.few r l
 
-    long_plain : (s : State) (y : ℕ) (out : List (List ℕ)) (planes : List ℕ) (i : ℕ) → Each (There s) (lines_at planes y) →
-        Each (λ (ip : ℕ × ℕ). get_or out ip.0 [] ≡ joined_line a.configuration (slice_at s) y ip.1) (numbered i planes) → Each (IsLong out) (numbered i planes)
-    long_plain s y out [] i there same = tt
-    long_plain s y out (p ∷ planes) i there same = (
+    wide_plain : (s : State) (y : ℕ) (out : List (List ℕ)) (planes : List ℕ) (i : ℕ) → Each (There s) (lines_at planes y) →
+        Each (λ (ip : ℕ × ℕ). get_or out ip.0 [] ≡ joined_line a.configuration (slice_at s) y ip.1) (numbered i planes) → Each (IsWide out) (numbered i planes)
+    wide_plain s y out [] i there same = tt
+    wide_plain s y out (p ∷ planes) i there same = (
       ap (λ (xs : List ℕ). length xs) same.0 ∙ joined_long a.configuration (slice_at s) laws.tiles_h laws.in_rct.wide laws.in_rct.few r y p there.0,
-      long_plain s y out planes (suc i) there.1 same.1,
+      wide_plain s y out planes (suc i) there.1 same.1,
     )
 
-    long_by : (rct : Bool) → is_rct a.configuration.colour ≡ rct → (s : State) (g : Group) (out : List (List ℕ)) → IsGroup a.configuration r g → Each (There s) (group_lines g) →
-        FinishesBy rct a.configuration (map (joined_line a.configuration (slice_at s) g.y) g.planes) out → Each (IsLong out) (numbered 0 g.planes)
-    long_by true e s g out is there f =
+    wide_by : (rct : Bool) → is_rct a.configuration.colour ≡ rct → (s : State) (g : Group) (out : List (List ℕ)) → IsGroup a.configuration r g → Each (There s) (group_lines g) →
+        FinishesBy rct a.configuration (map (joined_line a.configuration (slice_at s) g.y) g.planes) out → Each (IsWide out) (numbered 0 g.planes)
+    wide_by true e s g out is there f =
         let c = a.configuration in
         let many : length (map (joined_line c (slice_at s) g.y) g.planes) ≡ plane_count c =
         length-map g.planes (joined_line c (slice_at s) g.y) ∙ ap (λ (ps : List ℕ). length ps) (is.rct e) ∙ length-range_with_len 0 (plane_count c) in
-        each_both (λ (ip : ℕ × ℕ). (ip.0 ≡ ip.1) × (ip.1 < plane_count c)) (IsLong out) (numbered 0 g.planes)
+        each_both (λ (ip : ℕ × ℕ). (ip.0 ≡ ip.1) × (ip.1 < plane_count c)) (IsWide out) (numbered 0 g.planes)
         (subst (λ ps. Each (λ (ip : ℕ × ℕ). (ip.0 ≡ ip.1) × (ip.1 < plane_count c)) (numbered 0 ps)) (sym (is.rct e)) (numbered_range 0 (plane_count c) (plane_count c) (omega arith)))
         (λ ip own. f.1 ip.0 (rw (many, own.0) own.1) ∙ sym (laws.in_rct.wide e ip.1))
-    long_by false e s g out is there f =
-        long_plain s g.y out g.planes 0 there
+    wide_by false e s g out is there f =
+        wide_plain s g.y out g.planes 0 there
         (subst (λ xs. Each (λ (ip : ℕ × ℕ). get_or xs ip.0 [] ≡ joined_line a.configuration (slice_at s) g.y ip.1) (numbered 0 g.planes)) (sym f)
         (by_number (joined_line a.configuration (slice_at s) g.y) [] g.planes))
+
+    long_bytes : (made : List (List ℕ)) (ips : List (ℕ × ℕ)) → Each (IsWide made) ips → Each (IsLong (map (bytes_of a.configuration.depth) made)) ips
+    long_bytes made ips all =
+        let depth = a.configuration.depth in
+        each_both (IsWide made) (IsLong (map (bytes_of depth) made)) ips all
+        (λ ip is. ap (λ (xs : List ℕ). length xs) (get_or_bytes depth ip.0 made) ∙ length_bytes depth (get_or made ip.0 []) ∙ ap (λ n. sample_bytes depth * n) is)
+
+    long_by : (s : State) (g : Group) (out : List (List ℕ)) → IsGroup a.configuration r g → Each (There s) (group_lines g) →
+        Finishes a.configuration (map (joined_line a.configuration (slice_at s) g.y) g.planes) out → Each (IsLong out) (numbered 0 g.planes)
+    long_by s g out is there f =
+        subst (λ o. Each (IsLong o) (numbered 0 g.planes)) (sym f.bytes)
+        (long_bytes f.made (numbered 0 g.planes) (wide_by (is_rct a.configuration.colour) refl s g f.made is there f.by))
 
     reads_quiet : (g : Group) → Each IsQuiet (flat_map (column_events r g.planes g.y) (range_with_len 0 a.configuration.columns))
     reads_quiet g = each_range IsQuiet (column_events r g.planes g.y) 0 a.configuration.columns (λ k least most. each_map IsQuiet (λ p. Read r k p g.y) g.planes (λ p. tt))
@@ -154,7 +172,7 @@ module _ (a : Accepted) (coded : ℕ → List ℕ) (laws : PictureLaws a) where
         (λ k inside. each_right (IsRead a coded r k (slice_at m k)) pre (group_lines g) (have_m k inside).are) in (
           tt,
           λ t finish. hands r g.y finish.0 (numbered 0 g.planes) t (ap (λ (z : State). z.out) finish.2)
-              (own_lines g.y finish.0 g.planes 0 is.inside is.down (long_by (is_rct c.colour) refl m g finish.0 is there finish.1)),
+              (own_lines g.y finish.0 g.planes 0 is.inside is.down (long_by m g finish.0 is there finish.1)),
         ))
 
     groups_good : (gs : List Group) (pre : List list.Line) (s : State) → Each (IsGroup a.configuration r) gs → length s.columns ≡ a.configuration.columns → Have pre s →

@@ -5,9 +5,10 @@ use Rattle.std.proofs.lemmas.Bool.{cases_eq, eq-eqb, ne_eqb}
 use Rattle.std.proofs.lemmas.List.{ext_get_or, take_all, drop-drop}
 use Rattle.std.proofs.Math.Seq.{take-add}
 use Rattle.ffv1_wire.specs.Runs as wire
+use Rattle.ffv1_samples.specs.Samples.{sample_bytes}
 use Rattle.ffv1_record.specs.Configuration.{Configuration, is_rct}
 use Rattle.ffv1_slice.specs.Grid.{down, division_of}
-use Rattle.ffv1_codec.specs.Picture.{Planes, Fits, plane, plane_count, plane_width, plane_height}
+use Rattle.ffv1_codec.specs.Picture.{Planes, AreOf, Fits, plane, plane_count, plane_width, plane_height, line_bytes}
 use Rattle.ffv1_codec.specs.SliceList.{Line}
 use Rattle.ffv1_codec.specs.Decoding.{row_in}
 use Rattle.ffv1_codec.specs.Order.{lines_down}
@@ -19,7 +20,7 @@ use Rattle.ffv1_codec.specs.Sides.{Tiles}
 
 module _ (c : Configuration) (planes : Planes) (p : ℕ) where
   abbrev pub row : ℕ → List ℕ
-  row y = row_in (plane_width c p) y (plane planes p)
+  row y = row_in (line_bytes c p) y (plane planes p)
 
   -- the samples of a plane are its rows
   rows_are : (ks : List Line) → samples_in p (map (line_of c planes) ks) ≡ flat_map row (rows_in p ks)
@@ -27,13 +28,13 @@ module _ (c : Configuration) (planes : Planes) (p : ℕ) where
   rows_are (k ∷ ks) = elim (cases_eq k.plane p) [
     | inl same ↦
         let yes = eq-eqb k.plane p same in
-        ap (λ b. (if b then row_in (plane_width c k.plane) k.y (plane planes k.plane) else []) ++ samples_in p (map (line_of c planes) ks)) yes
-        ∙ ap (λ j. row_in (plane_width c j) k.y (plane planes j) ++ samples_in p (map (line_of c planes) ks)) same
+        ap (λ b. (if b then row_in (line_bytes c k.plane) k.y (plane planes k.plane) else []) ++ samples_in p (map (line_of c planes) ks)) yes
+        ∙ ap (λ j. row_in (line_bytes c j) k.y (plane planes j) ++ samples_in p (map (line_of c planes) ks)) same
         ∙ ap (λ z. row k.y ++ z) (rows_are ks)
         ∙ sym (ap (λ b. flat_map row ((if b then k.y ∷ [] else []) ++ rows_in p ks)) yes)
     | inr other ↦
         let no = ne_eqb k.plane p other in
-        ap (λ b. (if b then row_in (plane_width c k.plane) k.y (plane planes k.plane) else []) ++ samples_in p (map (line_of c planes) ks)) no
+        ap (λ b. (if b then row_in (line_bytes c k.plane) k.y (plane planes k.plane) else []) ++ samples_in p (map (line_of c planes) ks)) no
         ∙ rows_are ks
         ∙ sym (ap (λ b. flat_map row ((if b then k.y ∷ [] else []) ++ rows_in p ks)) no)
   ]
@@ -52,19 +53,22 @@ rows_joined width xs from (suc count) =
     ∙ ap (λ n. take n ys) more
 
 -- a plane is its rows
-pub plane_by_rows : (c : Configuration) (planes : Planes) → Fits c planes → (p : ℕ) → p < plane_count c → flat_map (row c planes p) (range_with_len 0 (plane_height c p)) ≡ plane planes p
+turned : (b w h : ℕ) → b * (w * h) ≡ h * (b * w)
+turned b w h = omega arith
+
+pub plane_by_rows : (c : Configuration) (planes : Planes) → AreOf (division_of c) planes → (p : ℕ) → p < plane_count c → flat_map (row c planes p) (range_with_len 0 (plane_height c p)) ≡ plane planes p
 plane_by_rows c planes fits p inside =
-    let width = plane_width c p in
+    let width = line_bytes c p in
     let height = plane_height c p in
     let xs = plane planes p in
-    let long : length xs ≡ height * width = fits.sizes p inside ∙ (let turned : width * height ≡ height * width = omega arith in turned) in
+    let long : length xs ≡ height * width = fits.sizes p inside ∙ turned (sample_bytes c.depth) (plane_width c p) height in
     rows_joined width xs 0 height
     ∙ ap (λ n. take (height * width) (drop n xs)) (let none : 0 * width ≡ 0 = omega arith in none)
     ∙ take_all (height * width) xs (omega (arith, long))
 
 module _ (c : Configuration) (tiles : (p : ℕ) → Tiles (down (division_of c) p)) (same_lines : is_rct c.colour ≡ true → (p r : ℕ) → lines_down c p r ≡ lines_down c 0 r) where
   -- a plane is the samples of its lines
-  plane_of_lines : (planes : Planes) → Fits c planes → (p : ℕ) → p < plane_count c → samples_in p (lines_of c planes) ≡ plane planes p
+  plane_of_lines : (planes : Planes) → AreOf (division_of c) planes → (p : ℕ) → p < plane_count c → samples_in p (lines_of c planes) ≡ plane planes p
   plane_of_lines planes fits p inside =
       ap (samples_in p) (lines_by_keys c planes)
       ∙ rows_are c planes p (keys_of c)
@@ -74,9 +78,9 @@ module _ (c : Configuration) (tiles : (p : ℕ) → Tiles (down (division_of c) 
   -- planes with the same lines are the same
   pub one_of_lines : (planes others : Planes) → Fits c planes → Fits c others → lines_of c planes ≡ lines_of c others → planes ≡ others
   one_of_lines planes others fits other same =
-      ext_get_or {A = List ℕ} [] planes others (fits.count ∙ sym other.count) (λ p h.
-      let inside : p < plane_count c = subst (λ n. p < n) fits.count h in
-      sym (plane_is planes p) ∙ sym (plane_of_lines planes fits p inside) ∙ ap (samples_in p) same ∙ plane_of_lines others other p inside ∙ plane_is others p)
+      ext_get_or {A = List ℕ} [] planes others (fits.are.count ∙ sym other.are.count) (λ p h.
+      let inside : p < plane_count c = subst (λ n. p < n) fits.are.count h in
+      sym (plane_is planes p) ∙ sym (plane_of_lines planes fits.are p inside) ∙ ap (samples_in p) same ∙ plane_of_lines others other.are p inside ∙ plane_is others p)
 
   own_keys : (planes : Planes) (ks : List Line) → map key_of (map (line_of c planes) ks) ≡ ks
   own_keys planes [] = refl

@@ -1,14 +1,16 @@
 -- Of slices that have read a line of a picture the picture's line is made.
-use Rattle.std.proofs.Common.{◌≡◌, refl, ℕ, suc, ◌+◌, ◌-◌, ◌*◌, ◌<◌, Bool, true, false, if◌then◌else◌, List, [], ◌∷◌, map, length, get_or, inl, inr, ap, sym, subst, ◌∙◌, arith, unsigned_abs}
+use Rattle.std.proofs.Common.{◌≡◌, refl, ℕ, suc, ◌+◌, ◌-◌, ◌*◌, ◌^◌, ◌<◌, Bool, true, false, if◌then◌else◌, List, [], ◌∷◌, map, length, get_or, inl, inr, ap, sym, subst, ◌∙◌, arith, unsigned_abs}
 use Rattle.std.specs.List.{range_with_len}
 use Rattle.std.proofs.Math.Nat.{mul-le-mul_left}
 use Rattle.std.proofs.lemmas.List.{ext_get_or}
 use Rattle.std.proofs.lemmas.List.FromFn.{length-map-range_with_len, get_or-map-range_with_len}
-use Rattle.ffv1_rct.specs.Transform.{IsCoded, IsColour, IsOnlyColour, luma_of, chroma_of}
+use Rattle.ffv1_samples.specs.Samples.{bytes_of}
+use Rattle.ffv1_samples.proofs.Depths.{length_samples}
+use Rattle.ffv1_rct.specs.Transform.{IsCodedIn, IsColourIn, IsOnlyColourIn, luma_of, chroma_in}
 use Rattle.ffv1_record.specs.Configuration.{Configuration, is_rct}
 use Rattle.ffv1_slice.specs.Grid.{begin_of, whole_of, across, down, division_of, planes_in}
 use Rattle.ffv1_codec.specs.Sides.{HasPart, Tiles}
-use Rattle.ffv1_codec.specs.Picture.{Planes, IsPicture, plane, plane_count, plane_width, plane_height, sample_at, transformed_at, coded_at}
+use Rattle.ffv1_codec.specs.Picture.{Planes, IsPicture, plane, plane_count, plane_width, plane_height, plane_samples, green_of, blue_of, sample_at, transformed_at, coded_at}
 use Rattle.ffv1_codec.specs.SliceList.{Line}
 use Rattle.ffv1_codec.specs.Order.{lines_down}
 use Rattle.ffv1_codec.specs.Decoding.{Slice, Finishes, FinishesBy, width_in, left_of, row_in, top_of}
@@ -19,12 +21,13 @@ use Rattle.ffv1_codec.proofs.LinesRead.{lines_at}
 use Rattle.ffv1_codec.proofs.LinesMade.{joined_line, map_each}
 use Rattle.ffv1_codec.proofs.SlicesMade.{at_number, at_range}
 use Rattle.ffv1_codec.proofs.JoinedLines.{row_long, row_at, tiled_long}
+use Rattle.ffv1_codec.proofs.Words.{picture_small, row_bytes, sample_row, green_few, blue_few}
 use Rattle.ffv1_codec.proofs.CellsShown.{InRct, down_alike, inside_side, Shown, IsThere, joined_at, picture_row}
 
 -- the laws of colours
 pub record ColourLaws : Type 0 where
   pub small : Small
-  pub only : (r g b s h d y cb cr : ℕ) → IsCoded r g b y cb cr → IsCoded s h d y cb cr → (s ≡ r) × (h ≡ g) × (d ≡ b)
+  pub only : (depth r g b s h d y cb cr : ℕ) → IsCodedIn depth r g b y cb cr → IsCodedIn depth s h d y cb cr → (s ≡ r) × (h ≡ g) × (d ≡ b)
 
 module _ (c : Configuration) (planes : Planes) (picture : IsPicture c planes) (tiles : (p : ℕ) → Tiles (across (division_of c) p)) (tiles_v : (p : ℕ) → Tiles (down (division_of c) p))
     (part : (p x : ℕ) → x < whole_of (across (division_of c) p) → HasPart (across (division_of c) p) x) (colours : ColourLaws) (in_rct : InRct c) (slice : ℕ → Slice) (r : ℕ) (r_inside : r < c.rows) where
@@ -49,17 +52,18 @@ module _ (c : Configuration) (planes : Planes) (picture : IsPicture c planes) (t
       (λ k inside. row_long (width_in c p k) y (plane (slice k).cells p) (there k inside))
 
   -- the picture's line is as long as the plane is wide
-  picture_wide : (y p : ℕ) → p < plane_count c → y < lines_down c p r → length (picture_row c planes (top_of c p r + y) p) ≡ plane_width c p
+  picture_wide : (y p : ℕ) → p < plane_count c → y < lines_down c p r → length (sample_row c planes (top_of c p r + y) p) ≡ plane_width c p
   picture_wide y p inside below =
       let width = plane_width c p in
       let height = plane_height c p in
       let place : top_of c p r + y < height = inside_side (down (division_of c) p) (tiles_v p) r y r_inside below in
-      let many : length (plane planes p) ≡ height * width = picture.fits.sizes p inside ∙ (let turned : width * height ≡ height * width = omega arith in turned) in
+      let all : length (plane_samples c planes p) ≡ width * height = length_samples c.depth (width * height) (plane planes p) (picture.fits.are.sizes p inside) in
+      let many : length (plane_samples c planes p) ≡ height * width = all ∙ (let turned : width * height ≡ height * width = omega arith in turned) in
       let fits = mul-le-mul_left {m = suc (top_of c p r + y)} {n = height} width place in
-      row_long width (top_of c p r + y) (plane planes p) (omega (arith, fits, many))
+      row_long width (top_of c p r + y) (plane_samples c planes p) (omega (arith, fits, many))
 
-  picture_at_place : (y p x : ℕ) → x < plane_width c p → get_or (picture_row c planes y p) x 0 ≡ sample_at c planes p x y
-  picture_at_place y p x inside = row_at (plane_width c p) y x (plane planes p) inside
+  picture_at_place : (y p x : ℕ) → x < plane_width c p → get_or (sample_row c planes y p) x 0 ≡ sample_at c planes p x y
+  picture_at_place y p x inside = row_at (plane_width c p) y x (plane_samples c planes p) inside
 
   coded_plain : (p x y : ℕ) → is_rct c.colour ≡ false → coded_at c planes p x y ≡ sample_at c planes p x y
   coded_plain p x y rct = ap (λ b. if b then transformed_at c planes p x y else sample_at c planes p x y) rct
@@ -69,15 +73,15 @@ module _ (c : Configuration) (planes : Planes) (picture : IsPicture c planes) (t
 
   -- without RCT the two lines are one
   plain_same : (y p : ℕ) → is_rct c.colour ≡ false → p < plane_count c → y < lines_down c p r → IsThere c planes slice tiles r (record { plane = p; y = y }) →
-      Shown c planes slice tiles r (record { plane = p; y = y }) → picture_row c planes (top_of c p r + y) p ≡ joined_line c slice y p
+      Shown c planes slice tiles r (record { plane = p; y = y }) → sample_row c planes (top_of c p r + y) p ≡ joined_line c slice y p
   plain_same y p rct inside below there shown =
       let wide = picture_wide y p inside below in
-      ext_get_or 0 (picture_row c planes (top_of c p r + y) p) (joined_line c slice y p) (wide ∙ sym (joined_wide y p there)) (λ x h.
+      ext_get_or 0 (sample_row c planes (top_of c p r + y) p) (joined_line c slice y p) (wide ∙ sym (joined_wide y p there)) (λ x h.
       let place : x < plane_width c p = subst (λ n. x < n) wide h in
       picture_at_place (top_of c p r + y) p x place ∙ sym (coded_plain p x (top_of c p r + y) rct) ∙ sym (joined_coded y p x there shown place))
 
   all_same : (y : ℕ) (ps : List ℕ) → is_rct c.colour ≡ false → Each (λ p. p < plane_count c) ps → Each (λ p. y < lines_down c p r) ps → Each (IsThere c planes slice tiles r) (lines_at ps y) →
-      Each (Shown c planes slice tiles r) (lines_at ps y) → Each (λ p. picture_row c planes (top_of c p r + y) p ≡ joined_line c slice y p) ps
+      Each (Shown c planes slice tiles r) (lines_at ps y) → Each (λ p. sample_row c planes (top_of c p r + y) p ≡ joined_line c slice y p) ps
   all_same y [] rct inside below there shown = tt
   all_same y (p ∷ ps) rct inside below there shown =
       (plain_same y p rct inside.0 below.0 there.0 shown.0, all_same y ps rct inside.1 below.1 there.1 shown.1)
@@ -93,7 +97,7 @@ module _ (c : Configuration) (planes : Planes) (picture : IsPicture c planes) (t
     read = map (joined_line c slice y) (range_with_len 0 (plane_count c))
 
     abbrev pub out : List (List ℕ)
-    out = map (λ p. picture_row c planes (top_of c p r + y) p) (range_with_len 0 (plane_count c))
+    out = map (λ p. sample_row c planes (top_of c p r + y) p) (range_with_len 0 (plane_count c))
 
     many : 2 < plane_count c
     many = elim (in_rct.few rct) [ inl is ↦ omega (arith, is) | inr is ↦ omega (arith, is.0) ]
@@ -101,8 +105,8 @@ module _ (c : Configuration) (planes : Planes) (picture : IsPicture c planes) (t
     read_is : (p : ℕ) → p < plane_count c → get_or (map (joined_line c slice y) (range_with_len 0 (plane_count c))) p [] ≡ joined_line c slice y p
     read_is p inside = get_or-map-range_with_len (joined_line c slice y) 0 (plane_count c) p p [] inside (omega arith)
 
-    out_is : (p : ℕ) → p < plane_count c → get_or (map (λ p. picture_row c planes (top_of c p r + y) p) (range_with_len 0 (plane_count c))) p [] ≡ picture_row c planes (top_of c p r + y) p
-    out_is p inside = get_or-map-range_with_len (λ p. picture_row c planes (top_of c p r + y) p) 0 (plane_count c) p p [] inside (omega arith)
+    out_is : (p : ℕ) → p < plane_count c → get_or (map (λ p. sample_row c planes (top_of c p r + y) p) (range_with_len 0 (plane_count c))) p [] ≡ sample_row c planes (top_of c p r + y) p
+    out_is p inside = get_or-map-range_with_len (λ p. sample_row c planes (top_of c p r + y) p) 0 (plane_count c) p p [] inside (omega arith)
 
     -- by the row of plane 0, since all planes are divided alike
     sample : ℕ → ℕ → ℕ
@@ -125,28 +129,31 @@ module _ (c : Configuration) (planes : Planes) (picture : IsPicture c planes) (t
         ∙ ap (λ n. transformed_at c planes p x (n + y)) (top_alike p)
 
     only_colours : (x : ℕ) → x < c.width →
-        IsOnlyColour (get_or (get_or read 0 []) x 0) (get_or (get_or read 1 []) x 0) (get_or (get_or read 2 []) x 0) (get_or (get_or out 0 []) x 0) (get_or (get_or out 1 []) x 0) (get_or (get_or out 2 []) x 0)
+        IsOnlyColourIn c.depth (get_or (get_or read 0 []) x 0) (get_or (get_or read 1 []) x 0) (get_or (get_or read 2 []) x 0) (get_or (get_or out 0 []) x 0) (get_or (get_or out (green_of c) []) x 0)
+        (get_or (get_or out (blue_of c) []) x 0)
     only_colours x small =
         let two = many in
+        let at_green : green_of c < plane_count c = omega (arith, two, green_few c) in
+        let at_blue : blue_of c < plane_count c = omega (arith, two, blue_few c) in
         let red = sample_at c planes 0 x (top_of c 0 r + y) in
-        let green = sample_at c planes 1 x (top_of c 0 r + y) in
-        let blue = sample_at c planes 2 x (top_of c 0 r + y) in
-        let colour : IsColour (unsigned_abs (luma_of red green blue)) (unsigned_abs (chroma_of blue green)) (unsigned_abs (chroma_of red green)) red green blue =
-        is_colour colours.small red green blue (picture.bytes 0 _) (picture.bytes 1 _) (picture.bytes 2 _) in
-        let base : IsOnlyColour (unsigned_abs (luma_of red green blue)) (unsigned_abs (chroma_of blue green)) (unsigned_abs (chroma_of red green)) red green blue =
-        record { colour = colour; only = λ s h d is. colours.only red green blue s h d _ _ _ colour.coded is } in
+        let green = sample_at c planes (green_of c) x (top_of c 0 r + y) in
+        let blue = sample_at c planes (blue_of c) x (top_of c 0 r + y) in
+        let colour : IsColourIn c.depth (unsigned_abs (luma_of red green blue)) (unsigned_abs (chroma_in c.depth blue green)) (unsigned_abs (chroma_in c.depth red green)) red green blue =
+        is_colour colours.small c.depth red green blue (picture_small c planes picture 0 _) (picture_small c planes picture (green_of c) _) (picture_small c planes picture (blue_of c) _) in
+        let base : IsOnlyColourIn c.depth (unsigned_abs (luma_of red green blue)) (unsigned_abs (chroma_in c.depth blue green)) (unsigned_abs (chroma_in c.depth red green)) red green blue =
+        record { colour = colour; only = λ s h d is. colours.only c.depth red green blue s h d _ _ _ colour.coded is } in
         let r0 = read_sample 0 x (omega (arith, two)) small in
         let r1 = read_sample 1 x (omega (arith, two)) small in
         let r2 = read_sample 2 x two small in
         let o0 = out_sample 0 x (omega (arith, two)) small in
-        let o1 = out_sample 1 x (omega (arith, two)) small in
-        let o2 = out_sample 2 x two small in
-        subst (λ n. IsOnlyColour n (get_or (get_or read 1 []) x 0) (get_or (get_or read 2 []) x 0) (get_or (get_or out 0 []) x 0) (get_or (get_or out 1 []) x 0) (get_or (get_or out 2 []) x 0)) (sym r0)
-        (subst (λ n. IsOnlyColour (unsigned_abs (luma_of red green blue)) n (get_or (get_or read 2 []) x 0) (get_or (get_or out 0 []) x 0) (get_or (get_or out 1 []) x 0) (get_or (get_or out 2 []) x 0)) (sym r1)
-        (subst (λ n. IsOnlyColour (unsigned_abs (luma_of red green blue)) (unsigned_abs (chroma_of blue green)) n (get_or (get_or out 0 []) x 0) (get_or (get_or out 1 []) x 0) (get_or (get_or out 2 []) x 0)) (sym r2)
-        (subst (λ n. IsOnlyColour (unsigned_abs (luma_of red green blue)) (unsigned_abs (chroma_of blue green)) (unsigned_abs (chroma_of red green)) n (get_or (get_or out 1 []) x 0) (get_or (get_or out 2 []) x 0)) (sym o0)
-        (subst (λ n. IsOnlyColour (unsigned_abs (luma_of red green blue)) (unsigned_abs (chroma_of blue green)) (unsigned_abs (chroma_of red green)) red n (get_or (get_or out 2 []) x 0)) (sym o1)
-        (subst (λ n. IsOnlyColour (unsigned_abs (luma_of red green blue)) (unsigned_abs (chroma_of blue green)) (unsigned_abs (chroma_of red green)) red green n) (sym o2) base)))))
+        let o1 = out_sample (green_of c) x at_green small in
+        let o2 = out_sample (blue_of c) x at_blue small in
+        subst (λ n. IsOnlyColourIn c.depth n (get_or (get_or read 1 []) x 0) (get_or (get_or read 2 []) x 0) (get_or (get_or out 0 []) x 0) (get_or (get_or out (green_of c) []) x 0) (get_or (get_or out (blue_of c) []) x 0)) (sym r0)
+        (subst (λ n. IsOnlyColourIn c.depth (unsigned_abs (luma_of red green blue)) n (get_or (get_or read 2 []) x 0) (get_or (get_or out 0 []) x 0) (get_or (get_or out (green_of c) []) x 0) (get_or (get_or out (blue_of c) []) x 0)) (sym r1)
+        (subst (λ n. IsOnlyColourIn c.depth (unsigned_abs (luma_of red green blue)) (unsigned_abs (chroma_in c.depth blue green)) n (get_or (get_or out 0 []) x 0) (get_or (get_or out (green_of c) []) x 0) (get_or (get_or out (blue_of c) []) x 0)) (sym r2)
+        (subst (λ n. IsOnlyColourIn c.depth (unsigned_abs (luma_of red green blue)) (unsigned_abs (chroma_in c.depth blue green)) (unsigned_abs (chroma_in c.depth red green)) n (get_or (get_or out (green_of c) []) x 0) (get_or (get_or out (blue_of c) []) x 0)) (sym o0)
+        (subst (λ n. IsOnlyColourIn c.depth (unsigned_abs (luma_of red green blue)) (unsigned_abs (chroma_in c.depth blue green)) (unsigned_abs (chroma_in c.depth red green)) red n (get_or (get_or out (blue_of c) []) x 0)) (sym o1)
+        (subst (λ n. IsOnlyColourIn c.depth (unsigned_abs (luma_of red green blue)) (unsigned_abs (chroma_in c.depth blue green)) (unsigned_abs (chroma_in c.depth red green)) red green n) (sym o2) base)))))
 
     four : c.extra_plane ≡ true → 3 < plane_count c
     four extra = subst (λ b. 3 < planes_in c.chroma_planes b) (sym extra) (omega arith)
@@ -154,19 +161,19 @@ module _ (c : Configuration) (planes : Planes) (picture : IsPicture c planes) (t
     out_long : (p : ℕ) → p < plane_count c → length (get_or out p []) ≡ c.width
     out_long p inside = ap (λ (xs : List ℕ). length xs) (out_is p inside) ∙ picture_wide y p inside (below p inside) ∙ in_rct.wide rct p
 
-    fourth : c.extra_plane ≡ true → (get_or out 3 [] ≡ get_or read 3 []) × ((x : ℕ) → x < c.width → get_or (get_or read 3 []) x 0 < 256)
+    fourth : c.extra_plane ≡ true → (get_or out 3 [] ≡ get_or read 3 []) × ((x : ℕ) → x < c.width → get_or (get_or read 3 []) x 0 < 2 ^ c.depth)
     fourth extra =
         let inside = four extra in
         let read_long : length (get_or read 3 []) ≡ c.width = ap (λ (xs : List ℕ). length xs) (read_is 3 inside) ∙ joined_wide y 3 (there 3 inside) ∙ in_rct.wide rct 3 in (
           ext_get_or 0 (get_or out 3 []) (get_or read 3 []) (out_long 3 inside ∙ sym read_long) (λ x h.
               let small : x < c.width = subst (λ n. x < n) (out_long 3 inside) h in
               out_sample 3 x inside small ∙ sym (read_sample 3 x inside small)),
-          λ x small. subst (λ n. n < 256) (sym (read_sample 3 x inside small)) (picture.bytes 3 _),
+          λ x small. subst (λ n. n < 2 ^ c.depth) (sym (read_sample 3 x inside small)) (picture_small c planes picture 3 _),
         )
 
     pub colours_finish : FinishesBy true c read out
     colours_finish = (
-      length-map-range_with_len (λ p. picture_row c planes (top_of c p r + y) p) 0 (plane_count c) ∙ sym (length-map-range_with_len (joined_line c slice y) 0 (plane_count c)),
+      length-map-range_with_len (λ p. sample_row c planes (top_of c p r + y) p) 0 (plane_count c) ∙ sym (length-map-range_with_len (joined_line c slice y) 0 (plane_count c)),
       λ i h. out_long i (subst (λ n. i < n) (length-map-range_with_len (joined_line c slice y) 0 (plane_count c)) h),
       only_colours,
       fourth,
@@ -177,17 +184,30 @@ module _ (c : Configuration) (planes : Planes) (picture : IsPicture c planes) (t
       at_number P (λ p. record { plane = p; y = y }) 0 (plane_count c) p (omega arith) (omega (arith, inside)) (subst (λ qs. Each P (lines_at qs y)) is all)
 
   finish_by : (rct : Bool) → is_rct c.colour ≡ rct → (g : Group) → IsGroup c r g → Each (IsThere c planes slice tiles r) (group_lines g) → Each (Shown c planes slice tiles r) (group_lines g) →
-      FinishesBy rct c (map (joined_line c slice g.y) g.planes) (map (λ p. picture_row c planes (top_of c p r + g.y) p) g.planes)
+      FinishesBy rct c (map (joined_line c slice g.y) g.planes) (map (λ p. sample_row c planes (top_of c p r + g.y) p) g.planes)
   finish_by true e g is there shown =
       let all = is.rct e in
       let below : (p : ℕ) → p < plane_count c → g.y < lines_down c p r = λ p inside.
       at_range (λ p. g.y < lines_down c p r) 0 (plane_count c) p (omega arith) (omega (arith, inside)) (subst (Each (λ p. g.y < lines_down c p r)) all is.down) in
-      subst (λ ps. FinishesBy true c (map (joined_line c slice g.y) ps) (map (λ p. picture_row c planes (top_of c p r + g.y) p) ps)) (sym all)
+      subst (λ ps. FinishesBy true c (map (joined_line c slice g.y) ps) (map (λ p. sample_row c planes (top_of c p r + g.y) p) ps)) (sym all)
       (colours_finish e g.y below (shown_by g.planes g.y (IsThere c planes slice tiles r) there all) (shown_by g.planes g.y (Shown c planes slice tiles r) shown all))
   finish_by false e g is there shown =
-      map_each (λ p. picture_row c planes (top_of c p r + g.y) p) (joined_line c slice g.y) g.planes (all_same g.y g.planes e is.inside is.down there shown)
+      map_each (λ p. sample_row c planes (top_of c p r + g.y) p) (joined_line c slice g.y) g.planes (all_same g.y g.planes e is.inside is.down there shown)
+
+  -- the bytes of the picture's lines
+  rows_bytes : (y : ℕ) (ps : List ℕ) → Each (λ p. p < plane_count c) ps → Each (λ p. y < lines_down c p r) ps →
+      map (λ p. picture_row c planes (top_of c p r + y) p) ps ≡ map (bytes_of c.depth) (map (λ p. sample_row c planes (top_of c p r + y) p) ps)
+  rows_bytes y [] inside below = refl
+  rows_bytes y (p ∷ ps) inside below =
+      let place : top_of c p r + y < plane_height c p = inside_side (down (division_of c) p) (tiles_v p) r y r_inside below.0 in
+      ap (λ z. z ∷ map (λ q. picture_row c planes (top_of c q r + y) q) ps) (sym (row_bytes c planes (top_of c p r + y) p picture inside.0 place))
+      ∙ ap (λ zs. bytes_of c.depth (sample_row c planes (top_of c p r + y) p) ∷ zs) (rows_bytes y ps inside.1 below.1)
 
   -- the picture's lines are made of the slices'
   pub picture_finishes : (g : Group) → IsGroup c r g → Each (IsThere c planes slice tiles r) (group_lines g) → Each (Shown c planes slice tiles r) (group_lines g) →
       Finishes c (map (joined_line c slice g.y) g.planes) (map (λ p. picture_row c planes (top_of c p r + g.y) p) g.planes)
-  picture_finishes g is there shown = finish_by (is_rct c.colour) refl g is there shown
+  picture_finishes g is there shown = record {
+    made = map (λ p. sample_row c planes (top_of c p r + g.y) p) g.planes;
+    by = finish_by (is_rct c.colour) refl g is there shown;
+    bytes = rows_bytes g.y g.planes is.inside is.down;
+  }

@@ -1,15 +1,18 @@
 -- The picture that decoding to the end makes.
-use Rattle.std.proofs.Common.{◌≡◌, refl, ℕ, ◌-◌, ◌*◌, ◌<◌, ◌≤◌, true, if◌then◌else◌, Option, List, [], ◌∷◌, ◌++◌, map, length, get_or, inl, inr, ap, sym, subst, ◌∙◌, arith}
+use Rattle.std.proofs.Common.{◌≡◌, refl, ℕ, ◌-◌, ◌*◌, ◌^◌, ◌<◌, ◌≤◌, true, if◌then◌else◌, Option, List, [], ◌∷◌, ◌++◌, map, length, get_or, inl, inr, ap, sym, subst, ◌∙◌, arith}
 use Rattle.std.specs.List.{flat_map, range_with_len}
 use Rattle.std.proofs.lemmas.Bool.{cases_lt, cases_eq, eq-eqb, ne_eqb}
 use Rattle.std.proofs.lemmas.List.{map-append, get_or_past}
+use Rattle.std.proofs.lemmas.Nat.{pow_pos}
 use Rattle.std.proofs.lemmas.List.FromFn.{length-map-range_with_len, get_or-map-range_with_len}
 use Rattle.ffv1_wire.specs.Runs as wire
+use Rattle.ffv1_samples.specs.Samples.{AreBelow, sample_bytes, samples_of}
+use Rattle.ffv1_samples.proofs.Depths.{samples_append}
 use Rattle.ffv1_record.specs.Configuration.{is_rct}
 use Rattle.ffv1_record.specs.Accepted.{Accepted}
 use Rattle.ffv1_slice.specs.Grid.{length_of, across, down, division_of}
 use Rattle.ffv1_codec.specs.Sides.{Tiles}
-use Rattle.ffv1_codec.specs.Picture.{Planes, IsPicture, plane, plane_count, plane_width, plane_height}
+use Rattle.ffv1_codec.specs.Picture.{Planes, AreOf, IsPicture, plane, plane_count, plane_width, plane_height, line_bytes}
 use Rattle.ffv1_codec.specs.SliceList.{Line, Said}
 use Rattle.ffv1_codec.specs.Order.{lines_down}
 use Rattle.ffv1_codec.specs.Decoding.{row_in, width_in}
@@ -22,14 +25,19 @@ use Rattle.ffv1_codec.proofs.RowsDone.{SuitsFew, RowPart, AllRows}
 use Rattle.ffv1_codec.proofs.PlanesMade.{key_of, samples_in, samples_if, rows_in, IsRowOf, Stand, stand}
 use Rattle.ffv1_codec.proofs.Keys.{keys_of, row_keys, line_of, lines_by_keys, made_keys, rows_of_plane, keys_are}
 use Rattle.ffv1_codec.proofs.JoinedLines.{joined_small}
+use Rattle.ffv1_codec.proofs.Words.{none_samples}
 use Rattle.ffv1_codec.proofs.LineSizes.{IsSized, IsThere, sized_groups, each_back}
 use Rattle.ffv1_codec.proofs.CellsShown.{InRct, down_alike, IsLine}
+
+turned : (b w h : ℕ) → h * (b * w) ≡ b * (w * h)
+turned b w h = omega arith
 
 -- what is known of a configuration, its division and its cells
 pub record PictureLaws (a : Accepted) : Type 0 where
   pub tiles_h : (p : ℕ) → Tiles (across (division_of a.configuration) p)
   pub tiles_v : (p : ℕ) → Tiles (down (division_of a.configuration) p)
   pub in_rct : InRct a.configuration
+  pub deep : a.configuration.depth ≤ 16
   pub columns : 0 < a.configuration.columns
   pub rows : 0 < a.configuration.rows
   pub cells : CellLaws
@@ -61,7 +69,7 @@ module _ (a : Accepted) (laws : PictureLaws a) where
 
     part_sized : (r : ℕ) (ls : List wire.Line) → Part r ls → Each (IsSized a.configuration) ls
     part_sized r ls part =
-        sized_groups a.configuration part.slice laws.tiles_h laws.in_rct.wide laws.in_rct.few r (λ k p i inside. part.small k p i inside)
+        sized_groups a.configuration part.slice laws.tiles_h laws.in_rct.wide laws.in_rct.few r (λ k p i inside. part.small k p i inside) laws.deep
         (groups_of a.configuration r) ls (groups_are a.configuration r (λ rct p. alike_lines rct p r)) (all_there r ls part) part.made
 
     pub all_sized : (rs : List ℕ) (ls : List wire.Line) → Rows rs ls → Each (IsSized a.configuration) ls
@@ -94,18 +102,18 @@ module _ (a : Accepted) (laws : PictureLaws a) where
       plane_is all p ∙ get_or_past {X = List ℕ} all p [] (rw (length-map-range_with_len (λ p. samples_in p ls) 0 (plane_count a.configuration)) past)
 
   module _ (ls : List wire.Line) (sized : Each (IsSized a.configuration) ls) (keys : map key_of ls ≡ keys_of a.configuration) where
-    stands : (p : ℕ) → p < plane_count a.configuration → Stand (plane_width a.configuration p) p 0 (plane_height a.configuration p) ls
+    stands : (p : ℕ) → p < plane_count a.configuration → Stand (line_bytes a.configuration p) p 0 (plane_height a.configuration p) ls
     stands p inside =
-        stand (plane_width a.configuration p) p 0 (plane_height a.configuration p) ls
-        (each_both (IsSized a.configuration) (λ (l : wire.Line). l.plane ≡ p → length l.samples ≡ plane_width a.configuration p) ls sized
-        (λ l is same. is.long ∙ ap (plane_width a.configuration) same))
+        stand (line_bytes a.configuration p) p 0 (plane_height a.configuration p) ls
+        (each_both (IsSized a.configuration) (λ (l : wire.Line). l.plane ≡ p → length l.samples ≡ line_bytes a.configuration p) ls sized
+        (λ l is same. is.long ∙ ap (line_bytes a.configuration) same))
         (ap (rows_in p) keys ∙ rows_of_plane a.configuration p inside (laws.tiles_v p) (λ rct r. alike_lines rct p r))
 
     lines_stand : (some : List wire.Line) → Each (λ (l : wire.Line). l.plane < plane_count a.configuration) some →
-        ((p : ℕ) → p < plane_count a.configuration → Each (IsRowOf (plane_width a.configuration p) p 0 (samples_in p ls)) some) → Each (IsLine a.configuration (planes_made ls)) some
+        ((p : ℕ) → p < plane_count a.configuration → Each (IsRowOf (line_bytes a.configuration p) p 0 (samples_in p ls)) some) → Each (IsLine a.configuration (planes_made ls)) some
     lines_stand [] inside all = tt
     lines_stand (l ∷ some) inside all =
-        let width = plane_width a.configuration l.plane in
+        let width = line_bytes a.configuration l.plane in
         let here = ((all l.plane inside.0).0.row refl).1 in
         let none : l.row - 0 ≡ l.row = omega arith in (
           here ∙ ap (λ y. row_in width y (samples_in l.plane ls)) none ∙ ap (row_in width l.row) (sym (plane_made ls l.plane inside.0)),
@@ -131,7 +139,7 @@ module _ (a : Accepted) (laws : PictureLaws a) where
     pub all_lines : ls ≡ lines_of a.configuration (planes_made ls)
     all_lines = by_keys (planes_made ls) ls lines_are ∙ ap (map (line_of a.configuration (planes_made ls))) keys ∙ sym (lines_by_keys a.configuration (planes_made ls))
 
-    if_small : (p : ℕ) (l : wire.Line) → IsSized a.configuration l → (i : ℕ) → get_or (samples_if p l) i 0 < 256
+    if_small : (p : ℕ) (l : wire.Line) → IsSized a.configuration l → AreBelow 256 (samples_if p l)
     if_small p l is i = elim (cases_eq l.plane p) [
       | inl same ↦ subst (λ b. get_or (if b then l.samples else []) i 0 < 256) (sym (eq-eqb l.plane p same)) (is.bytes i)
       | inr other ↦ subst (λ b. get_or (if b then l.samples else []) i 0 < 256) (sym (ne_eqb l.plane p other)) (omega arith)
@@ -141,23 +149,44 @@ module _ (a : Accepted) (laws : PictureLaws a) where
     unfolding planes_made
     planes_long = length-map-range_with_len (λ p. samples_in p ls) 0 (plane_count a.configuration)
 
-    samples_small : (p : ℕ) (some : List wire.Line) → Each (IsSized a.configuration) some → (i : ℕ) → get_or (samples_in p some) i 0 < 256
-    samples_small p [] all i = omega arith
-    samples_small p (l ∷ some) all i = joined_small 256 i (samples_if p l) (samples_in p some) (if_small p l all.0) (samples_small p some all.1)
+    bytes_small : (p : ℕ) (some : List wire.Line) → Each (IsSized a.configuration) some → (i : ℕ) → get_or (samples_in p some) i 0 < 256
+    bytes_small p [] all i = omega arith
+    bytes_small p (l ∷ some) all i = joined_small 256 i (samples_if p l) (samples_in p some) (if_small p l all.0) (bytes_small p some all.1)
+
+    -- the samples of the lines one after the other
+    samples_small : (p : ℕ) (some : List wire.Line) → Each (IsSized a.configuration) some → AreBelow (2 ^ a.configuration.depth) (samples_of a.configuration.depth (samples_in p some))
+    samples_small p [] all i = subst (λ (xs : List ℕ). get_or xs i 0 < 2 ^ a.configuration.depth) (sym (none_samples a.configuration.depth)) (pow_pos a.configuration.depth)
+    samples_small p (l ∷ some) all i =
+        let d = a.configuration.depth in
+        let rest = samples_small p some all.1 in
+        elim (cases_eq l.plane p) [
+          | inl same ↦
+              let parts = samples_append d (plane_width a.configuration l.plane) l.samples (samples_in p some) all.0.long in
+              subst (λ b. get_or (samples_of d ((if b then l.samples else []) ++ samples_in p some)) i 0 < 2 ^ d) (sym (eq-eqb l.plane p same))
+              (subst (λ (xs : List ℕ). get_or xs i 0 < 2 ^ d) (sym parts) (joined_small (2 ^ d) i (samples_of d l.samples) (samples_of d (samples_in p some)) all.0.small rest))
+          | inr other ↦ subst (λ b. get_or (samples_of d ((if b then l.samples else []) ++ samples_in p some)) i 0 < 2 ^ d) (sym (ne_eqb l.plane p other)) (rest i)
+        ]
+
+    planes_small : (p : ℕ) → AreBelow (2 ^ a.configuration.depth) (samples_of a.configuration.depth (plane (planes_made ls) p))
+    planes_small p = elim (cases_lt p (plane_count a.configuration)) [
+      | inl inside ↦ subst (λ xs. AreBelow (2 ^ a.configuration.depth) (samples_of a.configuration.depth xs)) (sym (plane_made ls p inside)) (samples_small p ls sized)
+      | inr past ↦ subst (λ xs. AreBelow (2 ^ a.configuration.depth) (samples_of a.configuration.depth xs)) (sym (no_plane ls p (omega (arith, past)))) (samples_small p [] tt)
+    ]
+
+    planes_are : AreOf (division_of a.configuration) (planes_made ls)
+    planes_are = record {
+      count = planes_long;
+      sizes = λ p inside.
+          let long = (stands p inside).long in
+          ap (λ (xs : List ℕ). length xs) (plane_made ls p inside) ∙ long ∙ turned (sample_bytes a.configuration.depth) (plane_width a.configuration p) (plane_height a.configuration p);
+    }
 
     -- the planes are a picture
     pub picture_made : IsPicture a.configuration (planes_made ls)
     picture_made = record {
-      fits = record {
-        count = planes_long;
-        sizes = λ p inside.
-            let long = (stands p inside).long in
-            let width = plane_width a.configuration p in
-            let height = plane_height a.configuration p in
-            ap (λ (xs : List ℕ). length xs) (plane_made ls p inside) ∙ long ∙ (let turned : height * width ≡ width * height = omega arith in turned);
-      };
+      fits = record { are = planes_are; small = λ deep. planes_small };
       bytes = λ p i. elim (cases_lt p (plane_count a.configuration)) [
-        | inl inside ↦ subst (λ xs. get_or xs i 0 < 256) (sym (plane_made ls p inside)) (samples_small p ls sized i)
+        | inl inside ↦ subst (λ xs. get_or xs i 0 < 256) (sym (plane_made ls p inside)) (bytes_small p ls sized i)
         | inr past ↦ subst (λ xs. get_or xs i 0 < 256) (sym (no_plane ls p (omega (arith, past)))) (omega arith)
       ];
     }

@@ -1,5 +1,5 @@
 -- A row of slices is opened, and its lines are decoded: its run.
-use Rattle.std.proofs.Common.{◌≡◌, refl, ℕ, zero, suc, ◌+◌, ◌-◌, ◌*◌, ◌^◌, ◌<◌, ◌≤◌, inl, Bool, true, false, if◌then◌else◌, Option, List, [], map, length, get_or, slice_index, replicate, take, ap, sym, subst, ◌∙◌, arith}
+use Rattle.std.proofs.Common.{◌≡◌, refl, ℕ, zero, suc, ◌+◌, ◌-◌, ◌*◌, ◌^◌, ◌<◌, ◌≤◌, inl, Option, List, [], map, length, get_or, slice_index, replicate, take, ap, sym, subst, ◌∙◌, arith}
 use Rattle.std.specs.List.{flat_map, range_with_len}
 use Rattle.std.proofs.lemmas.List.{take-replicate, drop-replicate, length-replicate}
 use Rattle.ffv1_wire.specs.Runs.{LineStep, Grows}
@@ -22,10 +22,6 @@ use Rattle.ffv1_codec.proofs.RunsInRow.{runs_append, stops_sooner}
 use Rattle.ffv1_codec.proofs.SegmentReads.{Telling}
 use Rattle.ffv1_codec.proofs.SegmentTied.{tied_told}
 use Rattle.ffv1_codec.proofs.SeriesDecodes.{fails_later}
-
-pub bits_some : (b : Bool) → 0 < 2 ^ (if b then 9 else 8)
-bits_some true = omega arith
-bits_some false = omega arith
 
 empty_at : (n p : ℕ) → get_or (replicate {A = List ℕ} n []) p [] ≡ []
 empty_at zero p = refl

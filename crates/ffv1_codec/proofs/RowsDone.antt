@@ -1,7 +1,8 @@
 -- What is known of each row of slices at the end of decoding.
-use Rattle.std.proofs.Common.{◌≡◌, ◌≢◌, refl, ℕ, ℤ, zero, suc, ◌+◌, ◌*◌, ◌^◌, ◌<◌, ◌≤◌, Bool, true, false, if◌then◌else◌, Option, Some, List, [], ◌∷◌, ◌++◌, map, length, get_or, replicate, inl, inr, ap, sym, subst, ◌∙◌, arith, append-nil, append_assoc, length-set, get_or-set_same, get_or-set_other}
+use Rattle.std.proofs.Common.{◌≡◌, ◌≢◌, refl, ℕ, ℤ, zero, suc, ◌+◌, ◌*◌, ◌^◌, ◌<◌, ◌≤◌, true, Option, Some, List, [], ◌∷◌, ◌++◌, map, length, get_or, replicate, inl, inr, ap, sym, subst, ◌∙◌, arith, append-nil, append_assoc, length-set, get_or-set_same, get_or-set_other}
 use Rattle.std.specs.List.{flat_map, range_with_len}
 use Rattle.std.proofs.lemmas.Bool.{cases_lt, cases_eq}
+use Rattle.std.proofs.lemmas.Nat.{pow_pos}
 use Rattle.std.proofs.lemmas.List.{length-replicate, get_or-replicate, get_or-append-add, get_or_past}
 use Rattle.ffv1_wire.specs.Runs as wire
 use Rattle.ffv1_plane.specs.Quantisation.{Set}
@@ -131,10 +132,6 @@ module _ (a : Accepted) (coded : ℕ → List ℕ) (r k : ℕ) (few : SuitsFew) 
     pub many : length q.cells ≡ plane_count a.configuration
     pub each : (p i : ℕ) → get_or (plane q.cells p) i 0 < 2 ^ bits_of a.configuration
 
-  some_bits : (rct : Bool) → 0 < 2 ^ (if rct then 9 else 8)
-  some_bits true = omega arith
-  some_bits false = omega arith
-
   small_row : (e : Event) (q t : Slice) (next : ReadsNext a coded r k e q t) (i : ℕ) → get_or next.row i 0 < 2 ^ bits_of a.configuration
   small_row e q t next i =
       let width = width_in a.configuration next.p k in
@@ -147,7 +144,7 @@ module _ (a : Accepted) (coded : ℕ → List ℕ) (r k : ℕ) (few : SuitsFew) 
             (few _ (bits_of a.configuration) (cell_of width (samples ++ next.row)) next.y i next.qs next.reads.codes.suits (rw next.reads.long inside) inside)
         | inr past ↦
             let none : get_or next.row i 0 ≡ 0 = get_or_past {X = ℕ} next.row i 0 (rw next.reads.row_long (omega (arith, past))) in
-            rw none (some_bits (is_rct a.configuration.colour))
+            rw none (pow_pos (bits_of a.configuration))
       ]
 
   small_joined : (bound i : ℕ) (xs ys : List ℕ) → ((j : ℕ) → get_or xs j 0 < bound) → ((j : ℕ) → get_or ys j 0 < bound) → get_or (xs ++ ys) i 0 < bound
@@ -179,7 +176,7 @@ module _ (a : Accepted) (coded : ℕ → List ℕ) (r k : ℕ) (few : SuitsFew) 
       ((p : ℕ) → plane (slice_at s k).cells p ≡ []) → Runs (StepsBy a coded) s es t → (p i : ℕ) → get_or (plane (slice_at t k).cells p) i 0 < 2 ^ bits_of a.configuration
   small_along es s t all inside many empty f =
       let none : (p i : ℕ) → get_or (plane (slice_at s k).cells p) i 0 < 2 ^ bits_of a.configuration =
-      λ p i. subst (λ xs. get_or xs i 0 < 2 ^ bits_of a.configuration) (sym (empty p)) (some_bits (is_rct a.configuration.colour)) in
+      λ p i. subst (λ xs. get_or xs i 0 < 2 ^ bits_of a.configuration) (sym (empty p)) (pow_pos (bits_of a.configuration)) in
       (column_runs a coded r k AreSmall small_more es [] s t all inside f (record { many = many; each = none })).each
 
 module _ (a : Accepted) (coded : ℕ → List ℕ) (laws : CellLaws) (few : SuitsFew) (some : (p k : ℕ) → k < a.configuration.columns → 0 < width_in a.configuration p k)

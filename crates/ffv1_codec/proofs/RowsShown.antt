@@ -1,13 +1,14 @@
 -- Rows that were filled show the rows of their cells.
-use Rattle.std.proofs.Common.{◌≡◌, refl, ℕ, zero, suc, ◌+◌, ◌-◌, ◌/◌, ◌%◌, ◌<◌, min, true, if◌then◌else◌, List, length, get_or, unsigned_abs, sym, ◌∙◌, ap, arith}
+use Rattle.std.proofs.Common.{◌≡◌, refl, ℕ, zero, suc, ◌+◌, ◌-◌, ◌/◌, ◌%◌, ◌<◌, min, true, if◌then◌else◌, List, get_or, unsigned_abs, sym, subst, ◌∙◌, ap, arith}
 use Rattle.ffv1_line.specs.Cell.{Cell, Shows, seen}
-use Rattle.ffv1_rct.specs.Transform.{luma_of, chroma_of}
-use Rattle.ffv1_rct.specs.Lines.{AreCoded}
+use Rattle.ffv1_samples.specs.Samples.{samples_of}
+use Rattle.ffv1_rct.specs.Transform.{luma_of, chroma_in}
+use Rattle.ffv1_rct.specs.Lines.{AreCodedIn}
 use Rattle.ffv1_record.specs.Configuration.{Configuration, is_rct}
 use Rattle.ffv1_record.specs.declared.config.Colour.{Colour}
 use Rattle.ffv1_record.specs.declared.config.Colour.TheVariants as colour
 use Rattle.ffv1_slice.specs.Grid.{begin_of, length_of, division_of, across, down}
-use Rattle.ffv1_codec.specs.Picture.{Planes, sample_at, coded_at, transformed_at, cell_in}
+use Rattle.ffv1_codec.specs.Picture.{Planes, green_of, blue_of, sample_at, coded_at, transformed_at, cell_in}
 use Rattle.ffv1_codec.specs.CellRows.{IsLine}
 
 -- inside a cell the sample that is seen is the cell's
@@ -28,9 +29,9 @@ top_of c n p = begin_of (down (division_of c) p) (n / c.columns)
 
 -- a line that is coded as it is
 pub plain_shows : (c : Configuration) (planes : Planes) (n p y : ℕ) (row : List ℕ) → IsLine c planes n p y row → ((u v : ℕ) → coded_at c planes p u v ≡ sample_at c planes p u v) →
-    Shows (cell_in c planes n p) (suc (suc y)) row (cell_in c planes n p).width
+    Shows (cell_in c planes n p) (suc (suc y)) (samples_of c.depth row) (cell_in c planes n p).width
 plain_shows c planes n p y row is plain =
-    shows_cell (cell_in c planes n p) y row (λ x inside. is.each x (omega (arith, inside, is.wide)) ∙ sym (plain (left_of c n p + x) (top_of c n p + y)))
+    shows_cell (cell_in c planes n p) y (samples_of c.depth row) (λ x inside. is.each x inside ∙ sym (plain (left_of c n p + x) (top_of c n p + y)))
 
 pub is_colour : (k : Colour) → is_rct k ≡ true → k ≡ colour.Rct
 is_colour colour.YCbCr e = cc
@@ -56,20 +57,20 @@ same_width c planes n (suc (suc zero)) flat = ap (λ k. length_of (record { size
 same_width c planes n (suc (suc (suc p))) flat = refl
 
 -- a line's sample, by the first plane's cell
-sample_here : (c : Configuration) (planes : Planes) (n p y x : ℕ) (row : List ℕ) → c.log2_h ≡ 0 → c.log2_v ≡ 0 → IsLine c planes n p y row → x < length row →
-    get_or row x 0 ≡ sample_at c planes p (left_of c n 0 + x) (top_of c n 0 + y)
+sample_here : (c : Configuration) (planes : Planes) (n p y x : ℕ) (row : List ℕ) → c.log2_h ≡ 0 → c.log2_v ≡ 0 → IsLine c planes n p y row → x < (cell_in c planes n p).width →
+    get_or (samples_of c.depth row) x 0 ≡ sample_at c planes p (left_of c n 0 + x) (top_of c n 0 + y)
 sample_here c planes n p y x row flat_h flat_v is inside =
     is.each x inside ∙ ap (λ u. sample_at c planes p (u + x) (top_of c n p + y)) (same_left c n p flat_h) ∙ ap (λ v. sample_at c planes p (left_of c n 0 + x) (v + y)) (same_top c n p flat_v)
 
--- lines of red, green and blue, and their transform
+-- lines of red and of what is taken for green and blue, and their transform
 pub record Transformed (c : Configuration) (planes : Planes) (n y : ℕ) (r g b luma blue red : List ℕ) : Type 0 where
   pub rct : is_rct c.colour ≡ true
   pub flat_h : c.log2_h ≡ 0
   pub flat_v : c.log2_v ≡ 0
   pub first : IsLine c planes n 0 y r
-  pub second : IsLine c planes n 1 y g
-  pub third : IsLine c planes n 2 y b
-  pub coded : AreCoded (length r) r g b luma blue red
+  pub second : IsLine c planes n (green_of c) y g
+  pub third : IsLine c planes n (blue_of c) y b
+  pub coded : AreCodedIn c.depth (cell_in c planes n 0).width (samples_of c.depth r) (samples_of c.depth g) (samples_of c.depth b) luma blue red
 
 coded_here : (c : Configuration) (planes : Planes) (p u v : ℕ) → is_rct c.colour ≡ true → coded_at c planes p u v ≡ transformed_at c planes p u v
 coded_here c planes p u v rct = ap (λ k. if k then transformed_at c planes p u v else sample_at c planes p u v) rct
@@ -85,32 +86,30 @@ coded_cell c planes n p x y rct flat_h flat_v =
     ∙ ap (λ v. transformed_at c planes p (left_of c n p + x) (v + y)) (sym (same_top c n p flat_v))
     ∙ sym (coded_here c planes p (left_of c n p + x) (top_of c n p + y) rct)
 
-pub luma_shows : (c : Configuration) (planes : Planes) (n y : ℕ) (r g b luma blue red : List ℕ) → Transformed c planes n y r g b luma blue red → Shows (cell_in c planes n 0) (suc (suc y)) luma (cell_in c planes n 0).width
-luma_shows c planes n y r g b luma blue red t =
-    shows_cell (cell_in c planes n 0) y luma (λ x inside.
-    let in_r : x < length r = omega (arith, inside, t.first.wide) in
-    let in_g : x < length g = omega (arith, inside, t.second.wide, same_width c planes n 1 t.flat_h) in
-    let in_b : x < length b = omega (arith, inside, t.third.wide, same_width c planes n 2 t.flat_h) in
-    ap unsigned_abs (t.coded x in_r).luma
-    ∙ three (λ i j k. unsigned_abs (luma_of i j k)) _ _ _ _ _ _ (sample_here c planes n 0 y x r t.flat_h t.flat_v t.first in_r) (sample_here c planes n 1 y x g t.flat_h t.flat_v t.second in_g)
-    (sample_here c planes n 2 y x b t.flat_h t.flat_v t.third in_b)
-    ∙ coded_cell c planes n 0 x y t.rct t.flat_h t.flat_v)
+module _ (c : Configuration) (planes : Planes) (n y : ℕ) (r g b luma blue red : List ℕ) (t : Transformed c planes n y r g b luma blue red) where
+  -- a sample of a line of one of the planes
+  own : (p x : ℕ) (row : List ℕ) → IsLine c planes n p y row → x < (cell_in c planes n 0).width → get_or (samples_of c.depth row) x 0 ≡ sample_at c planes p (left_of c n 0 + x) (top_of c n 0 + y)
+  own p x row is inside = sample_here c planes n p y x row t.flat_h t.flat_v is (subst (λ w. x < w) (sym (same_width c planes n p t.flat_h)) inside)
 
-pub blue_shows : (c : Configuration) (planes : Planes) (n y : ℕ) (r g b luma blue red : List ℕ) → Transformed c planes n y r g b luma blue red → Shows (cell_in c planes n 1) (suc (suc y)) blue (cell_in c planes n 1).width
-blue_shows c planes n y r g b luma blue red t =
-    shows_cell (cell_in c planes n 1) y blue (λ x inside.
-    let in_r : x < length r = omega (arith, inside, t.first.wide, same_width c planes n 1 t.flat_h) in
-    let in_g : x < length g = omega (arith, inside, t.second.wide) in
-    let in_b : x < length b = omega (arith, inside, t.third.wide, same_width c planes n 1 t.flat_h, same_width c planes n 2 t.flat_h) in
-    ap unsigned_abs (t.coded x in_r).blue
-    ∙ three (λ i j k. unsigned_abs (chroma_of i j)) _ _ 0 _ _ 0 (sample_here c planes n 2 y x b t.flat_h t.flat_v t.third in_b) (sample_here c planes n 1 y x g t.flat_h t.flat_v t.second in_g) refl
-    ∙ coded_cell c planes n 1 x y t.rct t.flat_h t.flat_v)
+  pub luma_shows : Shows (cell_in c planes n 0) (suc (suc y)) luma (cell_in c planes n 0).width
+  luma_shows =
+      shows_cell (cell_in c planes n 0) y luma (λ x inside.
+      ap unsigned_abs (t.coded x inside).luma
+      ∙ three (λ i j k. unsigned_abs (luma_of i j k)) _ _ _ _ _ _ (own 0 x r t.first inside) (own (green_of c) x g t.second inside) (own (blue_of c) x b t.third inside)
+      ∙ coded_cell c planes n 0 x y t.rct t.flat_h t.flat_v)
 
-pub red_shows : (c : Configuration) (planes : Planes) (n y : ℕ) (r g b luma blue red : List ℕ) → Transformed c planes n y r g b luma blue red → Shows (cell_in c planes n 2) (suc (suc y)) red (cell_in c planes n 2).width
-red_shows c planes n y r g b luma blue red t =
-    shows_cell (cell_in c planes n 2) y red (λ x inside.
-    let in_r : x < length r = omega (arith, inside, t.first.wide, same_width c planes n 2 t.flat_h) in
-    let in_g : x < length g = omega (arith, inside, t.second.wide, same_width c planes n 1 t.flat_h, same_width c planes n 2 t.flat_h) in
-    ap unsigned_abs (t.coded x in_r).red
-    ∙ three (λ i j k. unsigned_abs (chroma_of i j)) _ _ 0 _ _ 0 (sample_here c planes n 0 y x r t.flat_h t.flat_v t.first in_r) (sample_here c planes n 1 y x g t.flat_h t.flat_v t.second in_g) refl
-    ∙ coded_cell c planes n 2 x y t.rct t.flat_h t.flat_v)
+  pub blue_shows : Shows (cell_in c planes n 1) (suc (suc y)) blue (cell_in c planes n 1).width
+  blue_shows =
+      shows_cell (cell_in c planes n 1) y blue (λ x here.
+      let inside : x < (cell_in c planes n 0).width = subst (λ w. x < w) (same_width c planes n 1 t.flat_h) here in
+      ap unsigned_abs (t.coded x inside).blue
+      ∙ three (λ i j k. unsigned_abs (chroma_in c.depth i j)) _ _ 0 _ _ 0 (own (blue_of c) x b t.third inside) (own (green_of c) x g t.second inside) refl
+      ∙ coded_cell c planes n 1 x y t.rct t.flat_h t.flat_v)
+
+  pub red_shows : Shows (cell_in c planes n 2) (suc (suc y)) red (cell_in c planes n 2).width
+  red_shows =
+      shows_cell (cell_in c planes n 2) y red (λ x here.
+      let inside : x < (cell_in c planes n 0).width = subst (λ w. x < w) (same_width c planes n 2 t.flat_h) here in
+      ap unsigned_abs (t.coded x inside).red
+      ∙ three (λ i j k. unsigned_abs (chroma_in c.depth i j)) _ _ 0 _ _ 0 (own 0 x r t.first inside) (own (green_of c) x g t.second inside) refl
+      ∙ coded_cell c planes n 2 x y t.rct t.flat_h t.flat_v)

@@ -1,10 +1,11 @@
 -- What the rows of a slice's cells hold, while they are coded.
-use Rattle.std.specs.Prelude.{◌≡◌, ℕ, ◌+◌, ◌/◌, ◌%◌, ◌<◌, Bool, true, false, List, [], ◌∷◌}
+use Rattle.std.specs.Prelude.{◌≡◌, ℕ, ◌+◌, ◌*◌, ◌/◌, ◌%◌, ◌<◌, Bool, true, false, List, [], ◌∷◌}
 use Rattle.std.specs.Prelude.{length, slice_index}
 use Rattle.std.proofs.Common.{suc}
 use Rattle.std.specs.declared.vec.Vec.{Vec}
 use Rattle.ffv1_line.specs.Cell.{Cell, Above, Shows}
 use Rattle.ffv1_line.specs.declared.rolling.RollingRows.{RollingRows}
+use Rattle.ffv1_samples.specs.Samples.{sample_bytes, samples_of}
 use Rattle.ffv1_record.specs.Configuration.{Configuration}
 use Rattle.ffv1_slice.specs.Grid.{division_of, across, down, begin_of}
 use Rattle.ffv1_codec.specs.declared.cell_rows.PlaneRows.{PlaneRows}
@@ -16,11 +17,11 @@ abbrev pub fourth_line : Bool → ℕ → List Line
 fourth_line false y = []
 fourth_line true y = record { plane = 3; y = y } ∷ []
 
--- the samples of line y of slice n's cell in a plane, as they are
+-- the bytes of line y of slice n's cell in a plane
 pub record IsLine (c : Configuration) (planes : Planes) (n p y : ℕ) (line : List ℕ)
     : Type 0 where
-  pub wide : length line ≡ (cell_in c planes n p).width
-  pub each : (x : ℕ) → x < length line → slice_index line x ≡
+  pub wide : length line ≡ sample_bytes c.depth * (cell_in c planes n p).width
+  pub each : (x : ℕ) → x < (cell_in c planes n p).width → slice_index (samples_of c.depth line) x ≡
       sample_at c planes p (begin_of (across (division_of c) p) (n % c.columns) + x)
       (begin_of (down (division_of c) p) (n / c.columns) + y)
 
@@ -51,3 +52,16 @@ pub record AllLoaded {A : Type 0} (c : Configuration) (planes : Planes) (n y : �
   pub second : Loaded (cell_in c planes n 1) y rows.second
   pub third : Loaded (cell_in c planes n 2) y rows.third
   pub fourth : c.extra_plane ≡ true → Loaded (cell_in c planes n 3) y rows.fourth
+
+-- the same of the planes of red, green and blue alone
+pub record ColoursRolled {A : Type 0} (c : Configuration) (planes : Planes) (n y : ℕ)
+    (first second third : RollingRows (Vec ℕ A)) : Type 0 where
+  pub luma : Rolled (cell_in c planes n 0) y first
+  pub blue : Rolled (cell_in c planes n 1) y second
+  pub red : Rolled (cell_in c planes n 2) y third
+
+pub record ColoursLoaded {A : Type 0} (c : Configuration) (planes : Planes) (n y : ℕ)
+    (first second third : RollingRows (Vec ℕ A)) : Type 0 where
+  pub luma : Loaded (cell_in c planes n 0) y first
+  pub blue : Loaded (cell_in c planes n 1) y second
+  pub red : Loaded (cell_in c planes n 2) y third

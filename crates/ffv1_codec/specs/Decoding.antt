@@ -1,6 +1,6 @@
 -- What the decoding of a frame knows, and what each event of its order does, or is refused by (RFC
 -- 9043, 3 and 4.4 to 4.8).
-use Rattle.std.specs.Prelude.{◌≡◌, ◌≢◌, ◌⊎◌, ℕ, ℤ, ◌+◌, ◌*◌, ◌<◌, Bool, true, false}
+use Rattle.std.specs.Prelude.{◌≡◌, ◌≢◌, ◌⊎◌, ℕ, ℤ, ◌+◌, ◌*◌, ◌^◌, ◌<◌, Bool, true, false}
 use Rattle.std.specs.Prelude.{Option, Some, None, List, [], ◌∷◌, ◌++◌, map, length, take, drop}
 use Rattle.std.specs.Prelude.{replicate, slice_index, slice_set}
 use Rattle.std.proofs.Common.{get_or}
@@ -8,7 +8,8 @@ use Rattle.std.specs.List.{flat_map, range_with_len}
 use Rattle.ffv1_wire.specs.Runs.{Line}
 use Rattle.ffv1_range.specs.Codes.{Codes}
 use Rattle.ffv1_range.specs.Symbols.{Step, shifted}
-use Rattle.ffv1_rct.specs.Lines.{AreOnlyColours, HasColourAt}
+use Rattle.ffv1_samples.specs.Samples.{bytes_of}
+use Rattle.ffv1_rct.specs.Lines.{AreOnlyColoursIn, HasColourAtIn}
 use Rattle.ffv1_record.specs.Configuration.{Configuration, is_rct}
 use Rattle.ffv1_record.specs.Accepted.{Accepted}
 use Rattle.ffv1_line.specs.Cell.{Cell, cell_of}
@@ -22,7 +23,7 @@ use Rattle.ffv1_slice.specs.Head.{CodesHead, RefusesHead, RefusesKey, key_steps,
 use Rattle.ffv1_codec.specs.declared.fault.CodecFault.{CodecFault}
 use Rattle.ffv1_codec.specs.declared.fault.CodecFault.TheVariants as fault
 use Rattle.ffv1_codec.specs.declared.fault.FrameFault.{FrameFault}
-use Rattle.ffv1_codec.specs.Picture.{plane, plane_count}
+use Rattle.ffv1_codec.specs.Picture.{plane, plane_count, green_of, blue_of}
 use Rattle.ffv1_codec.specs.SliceList.{Said, said_by, base_of, bits_of, set_in}
 use Rattle.ffv1_codec.specs.Order.{Event, events_of}
 use Rattle.ffv1_codec.specs.Order.Event.{Open, Read, Finish, Hand, Close}
@@ -53,7 +54,7 @@ pub record State : Type 0 where
   -- the slices of the rows above, and those of this row, from the left
   pub done : List Slice
   pub columns : List Slice
-  -- the lines that are handed over next
+  -- the lines that are handed over next, in bytes
   pub out : List (List ℕ)
   -- what was handed over
   pub lines : List Line
@@ -122,26 +123,29 @@ abbrev pub AgreesWith : Option Said → Said → Type 0
 AgreesWith None info = Unit {0}
 AgreesWith (Some first) info = info ≡ first
 
--- the lines that are handed over for some that were read: the same, and for RCT the only colours
--- that these are the transform of, with a transparency of 8 bits as it is
+-- the samples that are made of some lines that were read: the same, and for RCT the only colours
+-- that these are the transform of, with a transparency of so many bits as it is
 abbrev pub FinishesBy : Bool → Configuration → List (List ℕ) → List (List ℕ) → Type 0
-FinishesBy false c read out = out ≡ read
-FinishesBy true c read out =
-    (length out ≡ length read)
-    × ((i : ℕ) → i < length read → length (get_or out i []) ≡ c.width)
-    × AreOnlyColours c.width (get_or read 0 []) (get_or read 1 []) (get_or read 2 [])
-    (get_or out 0 []) (get_or out 1 []) (get_or out 2 [])
-    × (c.extra_plane ≡ true → (get_or out 3 [] ≡ get_or read 3 [])
-    × ((x : ℕ) → x < c.width → slice_index (get_or read 3 []) x < 256))
+FinishesBy false c read made = made ≡ read
+FinishesBy true c read made =
+    (length made ≡ length read)
+    × ((i : ℕ) → i < length read → length (get_or made i []) ≡ c.width)
+    × AreOnlyColoursIn c.depth c.width (get_or read 0 []) (get_or read 1 []) (get_or read 2 [])
+    (get_or made 0 []) (get_or made (green_of c) []) (get_or made (blue_of c) [])
+    × (c.extra_plane ≡ true → (get_or made 3 [] ≡ get_or read 3 [])
+    × ((x : ℕ) → x < c.width → slice_index (get_or read 3 []) x < 2 ^ c.depth))
 
-abbrev pub Finishes : Configuration → List (List ℕ) → List (List ℕ) → Type 0
-Finishes c read out = FinishesBy (is_rct c.colour) c read out
+-- the lines that are handed over for some that were read: what is made of them, in bytes
+pub record Finishes (c : Configuration) (read out : List (List ℕ)) : Type 0 where
+  pub made : List (List ℕ)
+  pub by : FinishesBy (is_rct c.colour) c read made
+  pub bytes : out ≡ map (bytes_of c.depth) made
 
--- place x of lines that were read has a colour, and a transparency of 8 bits
+-- place x of lines that were read has a colour, and a transparency, of so many bits
 abbrev pub HasPlace : Configuration → List (List ℕ) → ℕ → Type 0
 HasPlace c read x =
-    HasColourAt (get_or read 0 []) (get_or read 1 []) (get_or read 2 []) x
-    × (c.extra_plane ≡ true → slice_index (get_or read 3 []) x < 256)
+    HasColourAtIn c.depth (get_or read 0 []) (get_or read 1 []) (get_or read 2 []) x
+    × (c.extra_plane ≡ true → slice_index (get_or read 3 []) x < 2 ^ c.depth)
 
 -- place x is the first that has not
 pub record IsColourless (c : Configuration) (read : List (List ℕ)) (x : ℕ) : Type 0 where

@@ -1,10 +1,10 @@
 -- What is made of a line that was read: the lines of its planes stand one after the other.
-use Rattle.std.specs.Prelude.{◌≡◌, ℕ, ◌+◌, ◌*◌, ◌<◌, ◌^◌, Bool, true, false, List, map}
-use Rattle.std.specs.Prelude.{slice_index}
+use Rattle.std.specs.Prelude.{◌≡◌, ℕ, ◌+◌, ◌*◌, ◌<◌, ◌^◌, Bool, true, false, if◌then◌else◌}
+use Rattle.std.specs.Prelude.{List, map, slice_index}
 use Rattle.std.specs.List.{range_with_len}
-use Rattle.ffv1_rct.specs.Lines.{AreOnlyColours, HasColourAt}
+use Rattle.ffv1_rct.specs.Lines.{AreOnlyColoursIn, HasColourAtIn}
 use Rattle.ffv1_record.specs.Configuration.{Configuration, is_rct}
-use Rattle.ffv1_codec.specs.Picture.{plane_count, plane_width}
+use Rattle.ffv1_codec.specs.Picture.{plane_count, plane_width, green_of, blue_of}
 use Rattle.ffv1_codec.specs.SliceList.{bits_of}
 use Rattle.ffv1_slice.specs.Grid.{division_of, across, Lies}
 use Rattle.ffv1_codec.specs.declared.fault.CodecFault.TheVariants as fault
@@ -17,24 +17,59 @@ use Rattle.ffv1_codec.specs.Progress.{StandsIn}
 abbrev pub line_at : ℕ → ℕ → List ℕ → List ℕ
 line_at width i lines = window (i * width) width lines
 
--- red, green and blue of coded lines, and transparency, where there is one
-pub record AreMade (extra : Bool) (width : ℕ) (read out : List ℕ) : Type 0 where
-  pub colours : AreOnlyColours width (line_at width 0 read) (line_at width 1 read)
-      (line_at width 2 read) (line_at width 0 out) (line_at width 1 out) (line_at width 2 out)
-  pub transparency : extra ≡ true → (line_at width 3 out ≡ line_at width 3 read)
-      × ((x : ℕ) → x < width → slice_index (line_at width 3 read) x < 256)
+-- how the lines of RCT stand: the bits of a sample, how many places a line has, which lines are
+-- taken for green and blue, and whether there is one of transparency
+pub record Colouring : Type 0 where
+  pub depth : ℕ
+  pub width : ℕ
+  pub green : ℕ
+  pub blue : ℕ
+  pub extra : Bool
 
--- a place that has a colour, and transparency of 8 bits
-abbrev pub HasBoth : Bool → ℕ → List ℕ → ℕ → Type 0
-HasBoth extra width read x =
-    HasColourAt (line_at width 0 read) (line_at width 1 read) (line_at width 2 read) x
-    × (extra ≡ true → slice_index (line_at width 3 read) x < 256)
+-- of samples of 8 bits; of more, where green and blue may change places
+abbrev pub bytes_colouring : ℕ → Bool → Colouring
+bytes_colouring width extra =
+    record { depth = 8; width = width; green = 1; blue = 2; extra = extra }
+
+abbrev pub words_colouring : ℕ → ℕ → Bool → Bool → Colouring
+words_colouring depth width swapped extra = record {
+  depth = depth;
+  width = width;
+  green = if swapped then 2 else 1;
+  blue = if swapped then 1 else 2;
+  extra = extra;
+}
+
+-- of a configuration
+abbrev pub colouring_of : Configuration → Colouring
+colouring_of c = record {
+  depth = c.depth;
+  width = c.width;
+  green = green_of c;
+  blue = blue_of c;
+  extra = c.extra_plane;
+}
+
+-- red, green and blue of coded lines, and transparency, where there is one
+pub record AreMade (k : Colouring) (read made : List ℕ) : Type 0 where
+  pub colours : AreOnlyColoursIn k.depth k.width (line_at k.width 0 read) (line_at k.width 1 read)
+      (line_at k.width 2 read) (line_at k.width 0 made) (line_at k.width k.green made)
+      (line_at k.width k.blue made)
+  pub transparency : k.extra ≡ true → (line_at k.width 3 made ≡ line_at k.width 3 read)
+      × ((x : ℕ) → x < k.width → slice_index (line_at k.width 3 read) x < 2 ^ k.depth)
+
+-- a place that has a colour, and transparency of so many bits
+abbrev pub HasBoth : Colouring → List ℕ → ℕ → Type 0
+HasBoth k read x =
+    HasColourAtIn k.depth (line_at k.width 0 read) (line_at k.width 1 read)
+    (line_at k.width 2 read) x
+    × (k.extra ≡ true → slice_index (line_at k.width 3 read) x < 2 ^ k.depth)
 
 -- the first place that has not
-pub record IsFirstWithout (extra : Bool) (width : ℕ) (read : List ℕ) (x : ℕ) : Type 0 where
-  pub inside : x < width
-  pub before : (y : ℕ) → y < x → HasBoth extra width read y
-  pub none : HasBoth extra width read x → ⊥
+pub record IsFirstWithout (k : Colouring) (read : List ℕ) (x : ℕ) : Type 0 where
+  pub inside : x < k.width
+  pub before : (y : ℕ) → y < x → HasBoth k read y
+  pub none : HasBoth k read x → ⊥
 
 -- planes that are coded together: one alone, and for RCT all
 abbrev pub AreTogether : Bool → Configuration → ℕ → ℕ → Type 0

@@ -4,14 +4,15 @@ use Rattle.std.specs.Prelude.{◌≡◌, ℕ, ◌*◌, ◌<◌, List, ◌++◌, 
 use Rattle.std.specs.Prelude.{map, replicate}
 use Rattle.std.specs.List.{range_with_len}
 use Rattle.ffv1_wire.specs.Failures.{one_more}
+use Rattle.ffv1_samples.specs.Samples.{sample_bytes}
 use Rattle.ffv1_slice.specs.Grid.{Division, across, down, whole_of}
 use Rattle.ffv1_codec.specs.Picture.{Planes, plane}
 
--- a line of a plane
+-- a line of a plane, in bytes
 pub record IsLine (d : Division) (p y : ℕ) (samples : List ℕ) : Type 0 where
   pub in_plane : p < d.planes
   pub in_height : y < whole_of (down d p)
-  pub long : length samples ≡ whole_of (across d p)
+  pub long : length samples ≡ sample_bytes d.depth * whole_of (across d p)
 
 -- samples with those of a line in their place
 abbrev pub with_samples : List ℕ → ℕ → List ℕ → List ℕ
@@ -26,7 +27,7 @@ with_line planes p y samples = slice_set planes p (with_samples (plane planes p)
 -- planes of zeros
 abbrev pub zeros_of : Division → Planes
 zeros_of d =
-    map (λ p. replicate (whole_of (across d p) * whole_of (down d p)) 0)
+    map (λ p. replicate (sample_bytes d.depth * (whole_of (across d p) * whole_of (down d p))) 0)
     (range_with_len 0 d.planes)
 
 -- a sink that keeps lines: the grid of its pictures, their planes, and how many lines it refused

@@ -4,16 +4,16 @@ use Rattle.std.specs.Prelude.{ℕ, ◌+◌, List, map}
 use Rattle.std.specs.List.{flat_map, range_with_len}
 use Rattle.ffv1_wire.specs.Runs.{Line}
 use Rattle.ffv1_record.specs.Configuration.{Configuration}
-use Rattle.ffv1_codec.specs.Picture.{Planes, plane, plane_width}
+use Rattle.ffv1_codec.specs.Picture.{Planes, plane, line_bytes}
 use Rattle.ffv1_codec.specs.Order.{Series, series_of}
 use Rattle.ffv1_codec.specs.Decoding.{row_in, top_of}
 
--- line y of plane p
+-- line y of plane p, in bytes
 abbrev pub line_in : Configuration → Planes → ℕ → ℕ → Line
 line_in c planes y p = record {
   plane = p;
   row = y;
-  samples = row_in (plane_width c p) y (plane planes p);
+  samples = row_in (line_bytes c p) y (plane planes p);
 }
 
 -- those of a series in row r of the slices

@@ -11,7 +11,7 @@ use Rattle.ffv1_record.specs.Accepted.{Accepted}
 use Rattle.ffv1_codec.specs.declared.column.Column.{Column}
 use Rattle.ffv1_codec.specs.declared.fault.CodecFault.TheVariants as fault
 use Rattle.ffv1_codec.specs.declared.fault.FrameFault.{FrameFault}
-use Rattle.ffv1_codec.specs.Picture.{plane_width}
+use Rattle.ffv1_codec.specs.Picture.{line_bytes, width_bytes}
 use Rattle.ffv1_codec.specs.Runs.{Runs, Stops}
 use Rattle.ffv1_codec.specs.Order.{Event, Series, hand_events, line_events}
 use Rattle.ffv1_codec.specs.Order.{series_events, lines_down}
@@ -30,11 +30,11 @@ CountsSink old new result =
     MatchResult result (λ _. new ≡ old)
     (λ f. ((f.fault ≡ fault.Sink) × (new ≡ one_more old)) ⊎ (IsOwn f × (new ≡ old)))
 
--- the lines that are handed over next stand in a line of output
+-- the lines that are handed over next stand in a line of output, in bytes
 abbrev pub StandsIn : Configuration → ℕ → ℕ → List ℕ → State → Type 0
 StandsIn c first count out s =
     (i : ℕ) → i < count →
-    get_or s.out i [] ≡ window (i * c.width) (plane_width c (first + i)) out
+    get_or s.out i [] ≡ window (i * width_bytes c) (line_bytes c (first + i)) out
 
 -- what was said and what is done are as before
 pub record Kept (s t : State) : Type 0 where

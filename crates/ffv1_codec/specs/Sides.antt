@@ -1,5 +1,6 @@
--- How the planes of a checked configuration are divided: their sides, part by part.
-use Rattle.std.specs.Prelude.{◌≡◌, ℕ, ◌+◌, ◌<◌, true}
+-- How the planes of a checked configuration are divided: their sides, part by part; and the depth
+-- of their samples.
+use Rattle.std.specs.Prelude.{◌≡◌, ℕ, ◌+◌, ◌<◌, ◌≤◌, true}
 use Rattle.std.proofs.Common.{suc}
 use Rattle.ffv1_record.specs.Configuration.{Configuration, is_rct}
 use Rattle.ffv1_slice.specs.Grid.{Side, Lies, begin_of, length_of, whole_of, across, down}
@@ -23,12 +24,14 @@ pub record Alike (c : Configuration) : Type 0 where
   pub h : c.log2_h ≡ 0
   pub v : c.log2_v ≡ 0
 
--- the sides of all planes
+-- the sides of all planes, and their depth
 pub record Sides (c : Configuration) : Type 0 where
   pub columns_tile : (p : ℕ) → Tiles (across (division_of c) p)
   pub rows_tile : (p : ℕ) → Tiles (down (division_of c) p)
   pub part : (p x : ℕ) → x < whole_of (across (division_of c) p) →
       HasPart (across (division_of c) p) x
   pub rct : is_rct c.colour ≡ true → Alike c
+  pub shallow : 8 ≤ c.depth
+  pub deep : c.depth ≤ 16
   pub columns : 0 < c.columns
   pub rows : 0 < c.rows

@@ -36,9 +36,9 @@ class_of (suc (suc (suc p))) = 2
 abbrev pub base_of : Configuration → ℕ → ℕ
 base_of c p = 33 + 32 * (most_contexts c.sets * class_of p)
 
--- the bits of a coded sample: 9 for each plane of RCT (RFC 9043, 3.8)
+-- the bits of a coded sample: one more than the depth for each plane of RCT (RFC 9043, 3.8)
 abbrev pub bits_of : Configuration → ℕ
-bits_of c = if is_rct c.colour then 9 else 8
+bits_of c = if is_rct c.colour then c.depth + 1 else c.depth
 
 -- the set that a head names for a plane
 abbrev pub set_at : List Set → ℕ → Set

@@ -14,6 +14,7 @@ small_pictures colour chroma extra width height columns ec = record {
   configuration = record {
     width = width;
     height = height;
+    depth = 8;
     coder = coder.One;
     colour = colour;
     chroma_planes = chroma;

@@ -1,17 +1,20 @@
 //! The rows of a slice's cells, read from its picture.
 
-ghost use Rattle.std.specs.Prelude.{◌≡◌, ◌+◌, ◌<◌, ℕ, length, replicate, OnOk, true};
-ghost use Rattle.ffv1_rct.specs.Lines.{AreCoded};
+ghost use Rattle.std.specs.Prelude.{◌≡◌, ◌+◌, ◌*◌, ◌^◌, ◌<◌, ◌≤◌, ℕ, length, replicate, OnOk, true};
+ghost use Rattle.ffv1_samples.specs.Samples.{AreBelow, numbers_of_pairs, sample_bytes, samples_of};
+ghost use Rattle.ffv1_rct.specs.Lines.{AreCoded, AreCodedIn};
 ghost use Rattle.ffv1_record.specs.Configuration.{Configuration, is_rct};
 ghost use Rattle.ffv1_codec.specs.Picture.{Planes, plane_count, cell_in, cell_height, coded_at};
 ghost use Rattle.ffv1_codec.specs.Picture.{sample_at};
 ghost use Rattle.ffv1_codec.specs.CellRows.{Rolled, Loaded, AllRolled, AllLoaded};
+ghost use Rattle.ffv1_codec.specs.CellRows.{ColoursRolled, ColoursLoaded};
 
+use crate::places_of_colours::{blue_of, green_of};
 use crate::slice::Slice;
 use ffv1_line::RollingRows;
 use ffv1_line::laws::rolling;
-use ffv1_rct::forward_line;
-use ffv1_record::laws::accepted_parts;
+use ffv1_rct::{forward_line, forward_words};
+use ffv1_record::laws::{accepted, accepted_parts};
 use std::alloc::{AllocError, Allocator};
 
 /// The rolling rows of the planes that are coded line by line together: one plane after the other
@@ -125,12 +128,33 @@ fn widen(samples: &[u8], row: &mut [u16])
     }
 }
 
-/// The same into a row that is kept.
-fn fill<R: Allocator>(samples: &[u8], row: &mut Vec<u16, R>)
-    requires { length samples.now ≡ length row.old.items }
-    ensures { row.new.items ≡ samples.now }
+/// Samples of more than 8 bits, each of two bytes, the low byte first.
+fn widen_pairs(samples: &[u8], row: &mut [u16])
+    requires { length samples.now ≡ 2 * length row.old }
+    ensures { row.new ≡ numbers_of_pairs samples.now }
 {
-    widen(samples, row.as_mut_slice());
+    for x in 0..row.len() {
+        row[x] = u16::from(samples[2 * x]) + 256 * u16::from(samples[2 * x + 1]);
+    }
+}
+
+/// Samples of a depth as they are coded.
+fn widen_to(depth: u32, samples: &[u8], row: &mut [u16])
+    requires { length samples.now ≡ sample_bytes depth * length row.old }
+    ensures { row.new ≡ samples_of depth samples.now }
+{
+    if depth == 8 {
+        return widen(samples, row);
+    }
+    widen_pairs(samples, row)
+}
+
+/// The same into a row that is kept.
+fn fill<R: Allocator>(depth: u32, samples: &[u8], row: &mut Vec<u16, R>)
+    requires { length samples.now ≡ sample_bytes depth * length row.old.items }
+    ensures { row.new.items ≡ samples_of depth samples.now }
+{
+    widen_to(depth, samples, row.as_mut_slice());
 }
 
 /// The transform of lines of red, green and blue into rows that are kept.
@@ -163,6 +187,33 @@ fn transform<R: Allocator>(
     );
 }
 
+/// The transform of lines of red, green and blue of more than 8 bits, in rows that are kept.
+fn transform_words<R: Allocator>(
+    depth: u32,
+    first: &mut Vec<u16, R>,
+    second: &mut Vec<u16, R>,
+    third: &mut Vec<u16, R>,
+)
+    requires depth { depth ≤ 15 }
+    requires second { length second.old.items ≡ length first.old.items }
+    requires third { length third.old.items ≡ length first.old.items }
+    requires red { AreBelow (2 ^ depth) first.old.items }
+    requires green { AreBelow (2 ^ depth) second.old.items }
+    requires blue { AreBelow (2 ^ depth) third.old.items }
+    ensures coded { AreCodedIn depth (length first.old.items) first.old.items second.old.items
+        third.old.items first.new.items second.new.items third.new.items }
+    ensures y { length first.new.items ≡ length first.old.items }
+    ensures cb { length second.new.items ≡ length first.old.items }
+    ensures cr { length third.new.items ≡ length first.old.items }
+{
+    forward_words(
+        first.as_mut_slice(),
+        second.as_mut_slice(),
+        third.as_mut_slice(),
+        depth as u8,
+    );
+}
+
 /// Row y of a plane whose samples are coded as they are.
 pub(crate) fn load<R: Allocator, A: Allocator, B: Allocator>(
     rows: &mut RollingRows<Vec<u16, R>>,
@@ -182,7 +233,7 @@ pub(crate) fn load<R: Allocator, A: Allocator, B: Allocator>(
         (cell_in slice.now.checked.now.configuration slice.now.picture.now slice.now.number plane) y
         rows.new }
 {
-    fill(slice.line(plane, y), &mut rows.cur);
+    fill(slice.checked.depth(), slice.line(plane, y), &mut rows.cur);
 }
 
 /// Row y of transparency in RCT, where there is such a plane.
@@ -204,6 +255,81 @@ fn load_transparency<R: Allocator, A: Allocator, B: Allocator>(
     }
 }
 
+/// Row y of Y, Cb and Cr in RCT, of samples of 8 bits.
+fn load_bytes<R: Allocator, A: Allocator, B: Allocator>(
+    first: &mut RollingRows<Vec<u16, R>>,
+    second: &mut RollingRows<Vec<u16, R>>,
+    third: &mut RollingRows<Vec<u16, R>>,
+    slice: &Slice<'_, A, B>,
+    y: u32,
+)
+    requires depth { slice.now.checked.now.configuration.depth ≡ 8 }
+    requires rct { is_rct slice.now.checked.now.configuration.colour ≡ true }
+    requires inside { y < cell_height slice.now.checked.now.configuration slice.now.number 0 }
+    requires rolled { ColoursRolled slice.now.checked.now.configuration slice.now.picture.now
+        slice.now.number y first.old second.old third.old }
+    ensures { ColoursLoaded slice.now.checked.now.configuration slice.now.picture.now
+        slice.now.number y first.new second.new third.new }
+{
+    accepted_parts();
+    let _config = slice.checked.config();
+    transform(
+        slice.line(0, y),
+        slice.line(1, y),
+        slice.line(2, y),
+        &mut first.cur,
+        &mut second.cur,
+        &mut third.cur,
+    );
+}
+
+/// The same of samples of more than 8 bits.
+fn load_words<R: Allocator, A: Allocator, B: Allocator>(
+    first: &mut RollingRows<Vec<u16, R>>,
+    second: &mut RollingRows<Vec<u16, R>>,
+    third: &mut RollingRows<Vec<u16, R>>,
+    slice: &Slice<'_, A, B>,
+    y: u32,
+)
+    requires rct { is_rct slice.now.checked.now.configuration.colour ≡ true }
+    requires inside { y < cell_height slice.now.checked.now.configuration slice.now.number 0 }
+    requires rolled { ColoursRolled slice.now.checked.now.configuration slice.now.picture.now
+        slice.now.number y first.old second.old third.old }
+    ensures { ColoursLoaded slice.now.checked.now.configuration slice.now.picture.now
+        slice.now.number y first.new second.new third.new }
+{
+    accepted_parts();
+    let _config = slice.checked.config();
+    let depth = slice.checked.depth();
+    let green = green_of(slice.checked);
+    let blue = blue_of(slice.checked);
+    fill(depth, slice.line(0, y), &mut first.cur);
+    fill(depth, slice.line(green, y), &mut second.cur);
+    fill(depth, slice.line(blue, y), &mut third.cur);
+    transform_words(depth, &mut first.cur, &mut second.cur, &mut third.cur);
+}
+
+/// Row y of Y, Cb and Cr in RCT.
+fn load_colours<R: Allocator, A: Allocator, B: Allocator>(
+    first: &mut RollingRows<Vec<u16, R>>,
+    second: &mut RollingRows<Vec<u16, R>>,
+    third: &mut RollingRows<Vec<u16, R>>,
+    slice: &Slice<'_, A, B>,
+    y: u32,
+)
+    requires rct { is_rct slice.now.checked.now.configuration.colour ≡ true }
+    requires inside { y < cell_height slice.now.checked.now.configuration slice.now.number 0 }
+    requires rolled { ColoursRolled slice.now.checked.now.configuration slice.now.picture.now
+        slice.now.number y first.old second.old third.old }
+    ensures { ColoursLoaded slice.now.checked.now.configuration slice.now.picture.now
+        slice.now.number y first.new second.new third.new }
+{
+    if slice.checked.depth() == 8 {
+        return load_bytes(first, second, third, slice, y);
+    }
+    load_words(first, second, third, slice, y)
+}
+
 /// Row y of Y, Cb and Cr in RCT, and of transparency where there is such a plane.
 pub(crate) fn load_all<R: Allocator, A: Allocator, B: Allocator>(
     rows: &mut PlaneRows<R>,
@@ -217,15 +343,6 @@ pub(crate) fn load_all<R: Allocator, A: Allocator, B: Allocator>(
     ensures { AllLoaded slice.now.checked.now.configuration slice.now.picture.now
         slice.now.number y rows.new }
 {
-    accepted_parts();
-    let _config = slice.checked.config();
-    transform(
-        slice.line(0, y),
-        slice.line(1, y),
-        slice.line(2, y),
-        &mut rows.first.cur,
-        &mut rows.second.cur,
-        &mut rows.third.cur,
-    );
+    load_colours(&mut rows.first, &mut rows.second, &mut rows.third, slice, y);
     load_transparency(&mut rows.fourth, slice, y);
 }

@@ -241,9 +241,10 @@ impl<A: Allocator> FrameDecoder<A> {
     /// The payload is cut into slices first; then the rows of slices are decoded from the top: each
     /// slice of a row is opened, from the left, and then line after line is read, in each slice
     /// from the left, made what it codes, and handed to the sink as soon as it is whole: `plane`
-    /// from 0, `y` from the top of the plane, its samples as bytes. In RCT a line is handed over as
-    /// red, green, blue and transparency, else the planes come one after the other in each row of
-    /// slices. What earlier calls left plays no part. It takes no memory.
+    /// from 0, `y` from the top of the plane, its samples as bytes: one each at 8 bits, and two at
+    /// more, the low byte first. In RCT a line is handed over as red, green, blue and transparency,
+    /// else the planes come one after the other in each row of slices. What earlier calls left
+    /// plays no part. It takes no memory.
     ///
     /// It is Ok exactly where the payload codes a picture and the sink takes its lines. The fault
     /// is the first in that order, with its place: `Footer`, `Leftover`, `SliceParity` or

@@ -23,7 +23,7 @@ ghost use Rattle.ffv1_codec.specs.Runs.{Runs};
 use crate::laws::sides;
 use ffv1_line::laws::{agreeing_cells, cell_is_read, only_row, rolling, suiting_rows};
 use ffv1_range::laws::{beginnings, named_states, one_bit, two_parts};
-use ffv1_rct::laws::{lists, only, small};
+use ffv1_rct::laws::{lists_in, only_in, small_in};
 use ffv1_record::laws::{accepted, accepted_parts};
 use ffv1_slice::laws::{divided, one_head, parts, tiling};
 
@@ -88,9 +88,9 @@ pub fn is_decoded()
     beginnings();
     named_states();
     two_parts();
-    lists();
-    only();
-    small();
+    lists_in();
+    only_in();
+    small_in();
     sides();
 }
 

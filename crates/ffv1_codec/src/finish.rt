@@ -11,77 +11,18 @@ ghost use Rattle.ffv1_codec.specs.Decoding.{State, FaultsWith};
 ghost use Rattle.ffv1_codec.specs.Tied.{IsFrame};
 ghost use Rattle.ffv1_codec.specs.Progress.{IsOwn};
 ghost use Rattle.ffv1_codec.specs.Finished.{AreMade, IsFirstWithout, IsTogether, StandRead};
-ghost use Rattle.ffv1_codec.specs.Finished.{IsNoColour, Finished};
-ghost use Rattle.ffv1_codec.specs.Picture.{plane_count};
+ghost use Rattle.ffv1_codec.specs.Finished.{IsNoColour, Finished, colouring_of};
+ghost use Rattle.ffv1_codec.specs.Picture.{plane_count, width_bytes};
+ghost use Rattle.ffv1_samples.specs.Samples.{samples_of};
 
+use crate::colours::{Words, are_bytes, byte_colours, copy_to, word_colours};
 use crate::fault::{CodecFault, FrameFault};
 use crate::frame::{CodedLine, Frame};
 use crate::places::places;
-use ffv1_rct::{inverse_line, narrow_line};
+use crate::places_of_colours::swaps;
 use ffv1_record::Colour;
 use ffv1_record::laws::{accepted, accepted_parts};
 use std::alloc::Allocator;
-
-/// Samples of 8 bits as bytes.
-fn copy(samples: &[u16], out: &mut [u8])
-    requires { length out.old ≡ length samples.now }
-    ensures { ((x : ℕ) → x < length samples.now → slice_index samples.now x < 256) →
-        out.new ≡ samples.now }
-{
-    let _ = narrow_line(samples, out);
-}
-
-/// Red, green and blue of a line, or the first place that has none.
-fn colours(width: usize, samples: &[u16], out: &mut [u8]) -> Result<(), usize>
-    requires samples { length samples.now ≡ 3 * width }
-    requires out { length out.old ≡ 3 * width }
-    requires few { width ≤ 8192 }
-    ensures ok { OnOk result (AreMade false width samples.now out.new) }
-    ensures err { IfErr result (IsFirstWithout false width samples.now) }
-{
-    let (luma, chroma) = samples.split_at(width);
-    let (first, second) = chroma.split_at(width);
-    let (red, rest) = out.split_at_mut(width);
-    let (green, blue) = rest.split_at_mut(width);
-    match inverse_line(luma, first, second, red, green, blue) {
-        Ok(()) => Ok(()),
-        Err(none) => Err(none.x),
-    }
-}
-
-/// Transparency of a line, or the first place that has more than 8 bits.
-fn transparency(samples: &[u16], out: &mut [u8]) -> Result<(), usize>
-    requires { length out.old ≡ length samples.now }
-    ensures ok { OnOk result (out.new ≡ samples.now) }
-    ensures small { OnOk result ((x : ℕ) → slice_index samples.now x < 256) }
-    ensures inside { IfErr result (λ x. x < length samples.now) }
-    ensures above { IfErr result (λ x. 255 < slice_index samples.now x) }
-    ensures before { IfErr result (λ x. (y : ℕ) → y < x → slice_index samples.now y < 256) }
-{
-    match narrow_line(samples, out) {
-        Ok(()) => Ok(()),
-        Err(none) => Err(none.x),
-    }
-}
-
-/// Both, or the first place that has no colour or no transparency of 8 bits.
-fn transparent_colours(width: usize, samples: &[u16], out: &mut [u8]) -> Result<(), usize>
-    requires samples { length samples.now ≡ 4 * width }
-    requires out { length out.old ≡ 4 * width }
-    requires few { width ≤ 8192 }
-    ensures ok { OnOk result (AreMade true width samples.now out.new) }
-    ensures err { IfErr result (IsFirstWithout true width samples.now) }
-{
-    let (coded, alpha) = samples.split_at(3 * width);
-    let (three, fourth) = out.split_at_mut(3 * width);
-    match colours(width, coded, three) {
-        Ok(()) => transparency(alpha, fourth),
-        Err(x) => {
-            transparency(&alpha[..x], &mut fourth[..x])?;
-            Err(x)
-        }
-    }
-}
 
 /// The column of slices in which a place of plane 0 lies.
 fn column_of<A: Allocator>(frame: &Frame<'_, A>, x: usize) -> u32
@@ -135,21 +76,27 @@ fn finish_colours<A: Allocator>(
     requires samples { length samples.now ≡ plane_count frame.now.checked.now.configuration
         * frame.now.checked.now.configuration.width }
     requires out { length out.old ≡ plane_count frame.now.checked.now.configuration
-        * frame.now.checked.now.configuration.width }
-    ensures ok { OnOk result (AreMade frame.now.checked.now.configuration.extra_plane
-        frame.now.checked.now.configuration.width samples.now out.new) }
+        * width_bytes frame.now.checked.now.configuration }
+    ensures ok { OnOk result (AreMade (colouring_of frame.now.checked.now.configuration)
+        samples.now (samples_of frame.now.checked.now.configuration.depth out.new)) }
     ensures err { IfErr result (IsFirstWithout
-        frame.now.checked.now.configuration.extra_plane
-        frame.now.checked.now.configuration.width samples.now) }
+        (colouring_of frame.now.checked.now.configuration) samples.now) }
 {
     accepted();
     accepted_parts();
-    let config = frame.checked.config();
-    let width = config.width as usize;
-    if config.extra_plane {
-        return transparent_colours(width, samples, out);
+    let width = frame.checked.config().width as usize;
+    let extra = frame.checked.config().extra_plane;
+    let depth = frame.checked.depth();
+    if depth == 8 {
+        return byte_colours(extra, width, samples, out);
     }
-    colours(width, samples, out)
+    let words = Words {
+        depth: depth as u8,
+        width,
+        swaps: swaps(frame.checked),
+        extra,
+    };
+    word_colours(&words, samples, out)
 }
 
 /// Makes a line of what was read: the samples as they are, or for RCT the colours.
@@ -167,7 +114,8 @@ pub(crate) fn finish<A: Allocator>(
         line.now.row }
     requires samples { length samples.now ≡ line.now.count
         * frame.now.checked.now.configuration.width }
-    requires out { length out.old ≡ line.now.count * frame.now.checked.now.configuration.width }
+    requires out { length out.old ≡ line.now.count
+        * width_bytes frame.now.checked.now.configuration }
     ensures exact { (coded : ℕ → List ℕ) (s : State) →
         let a = frame.now.checked.now in
         StandRead a.configuration line.now.first line.now.count line.now.y samples.now s →
@@ -182,12 +130,16 @@ pub(crate) fn finish<A: Allocator>(
     match frame.checked.config().colour {
         Colour::YCbCr => {
             let wide = frame.grid.width(line.first as u32) as usize;
-            copy(&samples[..wide], &mut out[..wide]);
+            let end = frame.grid.sample_bytes() * wide;
+            copy_to(frame.checked.depth(), &samples[..wide], &mut out[..end]);
             Ok(())
         }
         Colour::Rct => {
             match finish_colours(frame, samples, out) {
-                Ok(()) => Ok(()),
+                Ok(()) => {
+                    are_bytes(out);
+                    Ok(())
+                }
                 Err(x) => Err(colourless(frame, line, x)),
             }
         }

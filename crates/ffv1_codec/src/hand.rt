@@ -4,7 +4,7 @@ ghost use Rattle.std.specs.Prelude.{◌≡◌, ℕ, ◌+◌, ◌*◌, ◌≤◌,
 ghost use Rattle.std.specs.Prelude.{length};
 ghost use Rattle.std.specs.List.{range_with_len};
 ghost use Rattle.ffv1_wire.specs.Runs.{Grows};
-ghost use Rattle.ffv1_codec.specs.Picture.{plane_count, plane_width};
+ghost use Rattle.ffv1_codec.specs.Picture.{width_bytes};
 ghost use Rattle.ffv1_codec.specs.Order.{lines_down, hand_events};
 ghost use Rattle.ffv1_codec.specs.Decoding.{State, top_of};
 ghost use Rattle.ffv1_codec.specs.Tied.{IsFrame, AreTold};
@@ -55,7 +55,7 @@ fn hand_line<A: Allocator, S: LineSink>(
     }
 }
 
-/// Hands over a line of each of its planes, of which the samples stand in `out`.
+/// Hands over a line of each of its planes, of which the bytes stand in `out`.
 pub(crate) fn hand_lines<A: Allocator, S: LineSink>(
     frame: &Frame<'_, A>,
     line: &CodedLine,
@@ -68,7 +68,8 @@ pub(crate) fn hand_lines<A: Allocator, S: LineSink>(
     requires y { (i : ℕ) → i < line.now.count →
         line.now.y < lines_down frame.now.checked.now.configuration (line.now.first + i)
         line.now.row }
-    requires out { line.now.count * frame.now.checked.now.configuration.width ≤ length out.now }
+    requires out { line.now.count * width_bytes frame.now.checked.now.configuration
+        ≤ length out.now }
     ensures exact { (coded : ℕ → List ℕ) (initial : S) (columns : List Column) (s : State) →
         let a = frame.now.checked.now in
         Grows S.takes initial s.lines sink.old → AreTold a.table columns s →
@@ -83,11 +84,12 @@ pub(crate) fn hand_lines<A: Allocator, S: LineSink>(
 {
     places();
     accepted();
-    let width = frame.checked.config().width as usize;
+    let bytes = frame.grid.sample_bytes();
+    let width = bytes * frame.checked.config().width as usize;
     for index in 0..line.count {
         let plane = line.first + index;
         let at = index as usize * width;
-        let end = at + frame.grid.width(plane as u32) as usize;
+        let end = at + bytes * frame.grid.width(plane as u32) as usize;
         hand_line(frame, line, plane, &out[at..end], sink)?;
     }
     Ok(())

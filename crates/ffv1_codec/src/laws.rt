@@ -21,20 +21,21 @@ ghost use Rattle.ffv1_codec.specs.Frame.{frame_of};
 
 use ffv1_line::laws::{chosen, lengths};
 use ffv1_range::laws::{lengths as step_lengths, named_states, sentinel_ending};
-use ffv1_rct::laws::{lists, small};
+use ffv1_rct::laws::{lists_in, small_in};
 use ffv1_record::laws::{accepted, accepted_parts};
 use ffv1_slice::laws::{divided, footing, joined, lengths as head_lengths, parts, tiling};
 
-/// The coded samples of a picture have 8 bits, and 9 in RCT.
+/// The coded samples of a picture have as many bits as its depth, and one more in RCT.
 pub fn coded_samples()
     ensures { (a : Accepted) (planes : Planes) (p x y : ℕ) → IsPicture a.configuration planes →
         coded_at a.configuration planes p x y < 2 ^ bits_of a.configuration }
 {
-    lists();
-    small();
+    lists_in();
+    small_in();
 }
 
-/// The planes of a checked configuration are divided part by part, in RCT all alike.
+/// The planes of a checked configuration are divided part by part, in RCT all alike, and their
+/// samples have 8 to 16 bits.
 pub fn sides()
     ensures { (c : Configuration) (t : Table) → IsAccepted c t → Sides c }
 {
@@ -111,6 +112,7 @@ pub fn worked_frames()
 /// decisions and 101 more, with 6 for a third set index and 2 for each place that may be above 15.
 pub fn slice_lengths()
     ensures body { (a : Accepted) (planes : Planes) (info : Said) (n : ℕ) →
+        0 < a.configuration.depth → a.configuration.depth ≤ 16 →
         length (chosen_body a.configuration (chosen_head a.configuration info)
         (cell_in a.configuration planes n) (lines_in a.configuration n)) ≡
         row_decisions (slice_residuals a.configuration planes info n) }
@@ -131,6 +133,7 @@ pub fn slice_lengths()
         row_decisions (slice_residuals a.configuration planes info n)
         + slice_most a.configuration }
 {
+    accepted();
     chosen();
     lengths();
     step_lengths();

@@ -10,6 +10,9 @@
 //! A [`FrameDecoder`] takes its memory once, and hands the lines of a payload to a sink as soon as
 //! each is whole: to [`KeepLines`], which has the planes then, to [`DropLines`], or to any other.
 //!
+//! Samples have the bits of the configuration, from 8 to 16. Planes and lines are bytes: one a
+//! sample at 8 bits, and two at more, the low byte first.
+//!
 //! ```text
 //! let mut encoder = FrameEncoder::new(alloc, checked);
 //! let picture = Picture::new(encoder.config(), planes)?;   // planes of the configuration's sizes
@@ -27,6 +30,7 @@
 pub mod answer_laws;
 mod buffers;
 mod cell_rows;
+mod colours;
 mod column;
 mod columns;
 pub mod counts;
@@ -42,6 +46,8 @@ pub mod laws;
 mod opening;
 pub mod picture;
 mod places;
+mod places_of_colours;
+mod plane_sizes;
 mod planes;
 mod rows;
 mod segment;

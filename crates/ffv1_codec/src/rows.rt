@@ -6,7 +6,7 @@ ghost use Rattle.std.specs.List.{flat_map, range_with_len};
 ghost use Rattle.ffv1_range.specs.Symbols.{AllHeld};
 ghost use Rattle.ffv1_wire.specs.Runs.{Grows};
 ghost use Rattle.ffv1_record.specs.Held.{planes_of};
-ghost use Rattle.ffv1_codec.specs.Picture.{plane_count};
+ghost use Rattle.ffv1_codec.specs.Picture.{plane_count, width_bytes};
 ghost use Rattle.ffv1_codec.specs.Order.{lines_down, line_events, series_of, series_events};
 ghost use Rattle.ffv1_codec.specs.Decoding.{State};
 ghost use Rattle.ffv1_codec.specs.Tied.{IsFrame, AreOpen, column_at, slots_in, TiedColumns};
@@ -67,7 +67,7 @@ fn decode_whole_line<A: Allocator, S: LineSink>(
     requires cur_long { length cur.old ≡ line.now.count
         * frame.now.checked.now.configuration.width }
     requires out_long { length out.old ≡ line.now.count
-        * frame.now.checked.now.configuration.width }
+        * width_bytes frame.now.checked.now.configuration }
     requires room { length slices.old.states.items ≡ frame.now.checked.now.configuration.columns
         * slots_in frame.now.checked.now.configuration }
     requires held { AllHeld frame.now.checked.now.table slices.old.states.items }
@@ -137,9 +137,10 @@ fn decode_series<A: Allocator, S: LineSink>(
     requires many { length slices.old.columns.items ≡ frame.now.checked.now.configuration.columns }
     requires open { AreOpen frame.now.payload.now frame.now.checked.now.configuration.sets
         slices.old.columns.items }
-    requires lines_long { length lines.old ≡ 3 * length out.old }
+    requires lines_long { length lines.old ≡ 3 * (planes.now.count *
+        frame.now.checked.now.configuration.width) }
     requires out_long { length out.old ≡ planes.now.count *
-        frame.now.checked.now.configuration.width }
+        width_bytes frame.now.checked.now.configuration }
     requires room { length slices.old.states.items ≡ frame.now.checked.now.configuration.columns
         * slots_in frame.now.checked.now.configuration }
     requires held { AllHeld frame.now.checked.now.table slices.old.states.items }
@@ -167,7 +168,7 @@ fn decode_series<A: Allocator, S: LineSink>(
     accepted_parts();
     cell_is_read();
     clear(lines);
-    let size = out.len();
+    let size = planes.count as usize * frame.checked.config().width as usize;
     let (mut two, rest) = lines.split_at_mut(size);
     let (mut one, mut cur) = rest.split_at_mut(size);
     let CodedPlanes { row, first, count } = *planes;
@@ -204,11 +205,14 @@ fn decode_planes<A: Allocator, S: LineSink>(
     requires many { length slices.old.columns.items ≡ frame.now.checked.now.configuration.columns }
     requires open { AreOpen frame.now.payload.now frame.now.checked.now.configuration.sets
         slices.old.columns.items }
-    requires lines_long { length lines.old ≡ 3 * length out.old }
+    requires lines_long { length lines.old
+        ≡ 3 * (planes_of frame.now.checked.now.configuration.colour
+        frame.now.checked.now.configuration.extra_plane
+        * frame.now.checked.now.configuration.width) }
     requires out_long { length out.old
         ≡ planes_of frame.now.checked.now.configuration.colour
         frame.now.checked.now.configuration.extra_plane
-        * frame.now.checked.now.configuration.width }
+        * width_bytes frame.now.checked.now.configuration }
     requires room { length slices.old.states.items ≡ frame.now.checked.now.configuration.columns
         * slots_in frame.now.checked.now.configuration }
     requires held { AllHeld frame.now.checked.now.table slices.old.states.items }
@@ -268,11 +272,14 @@ pub(crate) fn decode_row<A: Allocator, B: Allocator, S: LineSink>(
     requires cut { IsCutOf frame.now.checked.now frame.now.payload.now spans.now }
     requires closed { (k : ℕ) → k < length buffers.old.slices.columns.items → (column_at
         buffers.old.slices.columns.items k).parked ≡ None }
-    requires lines_long { length buffers.old.lines.items ≡ 3 * length buffers.old.out.items }
+    requires lines_long { length buffers.old.lines.items
+        ≡ 3 * (planes_of frame.now.checked.now.configuration.colour
+        frame.now.checked.now.configuration.extra_plane
+        * frame.now.checked.now.configuration.width) }
     requires out_long { length buffers.old.out.items
         ≡ planes_of frame.now.checked.now.configuration.colour
         frame.now.checked.now.configuration.extra_plane
-        * frame.now.checked.now.configuration.width }
+        * width_bytes frame.now.checked.now.configuration }
     requires room { length buffers.old.slices.states.items ≡
         frame.now.checked.now.configuration.columns
         * slots_in frame.now.checked.now.configuration }

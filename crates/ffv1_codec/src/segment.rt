@@ -2,11 +2,9 @@
 
 ghost use Rattle.std.specs.Prelude.{◌≡◌, ℕ, ◌+◌, ◌-◌, ◌*◌, ◌^◌, ◌≤◌, ◌<◌, ◌⊎◌, List, IsSome, OnOk};
 ghost use Rattle.std.specs.Prelude.{IfErr, MatchResult, length, slice_index, take, [], ◌∷◌};
-ghost use Rattle.std.specs.Prelude.{if◌then◌else◌};
 ghost use Rattle.ffv1_range.specs.Symbols.{AllHeld, Step};
 ghost use Rattle.ffv1_plane.specs.Quantisation.{contexts_of};
 ghost use Rattle.ffv1_line.specs.Cell.{Rolls};
-ghost use Rattle.ffv1_record.specs.Configuration.{is_rct};
 ghost use Rattle.ffv1_codec.specs.Picture.{plane_count};
 ghost use Rattle.ffv1_codec.specs.SliceList.{class_of, base_of, bits_of, set_at};
 ghost use Rattle.ffv1_codec.specs.Progress.{IsOwn};
@@ -27,8 +25,8 @@ use ffv1_range::laws::{
     counted_from_nothing, counted_in_parts, kept_states, read_is_coded, two_parts,
 };
 use ffv1_range::{Parked, laws as coding};
-use ffv1_record::Colour;
 use ffv1_record::laws::{accepted, accepted_parts};
+use ffv1_record::{Checked, Colour};
 use std::alloc::Allocator;
 
 /// Reads a segment: wakes a decoder on the bytes of its slice, decodes a row by the states of its
@@ -92,13 +90,17 @@ fn class_of(plane: u8) -> usize
 }
 
 /// The bits of a coded sample.
-fn bits_of(colour: &Colour) -> u8
-    ensures value { result ≡ (if is_rct colour.now then 9 else 8) }
-    ensures either { (result ≡ 8) ⊎ (result ≡ 9) }
+fn bits_of<A: Allocator>(checked: &Checked<A>) -> u8
+    ensures value { result ≡ bits_of checked.now.configuration }
+    ensures least { 8 ≤ result }
+    ensures most { result ≤ 16 }
 {
-    match colour {
-        Colour::YCbCr => 8,
-        Colour::Rct => 9,
+    accepted();
+    accepted_parts();
+    let depth = checked.depth() as u8;
+    match checked.config().colour {
+        Colour::YCbCr => depth,
+        Colour::Rct => depth + 1,
     }
 }
 
@@ -151,7 +153,7 @@ fn read_column<A: Allocator>(
     let coding = Coding {
         table: frame.checked.table(),
         set,
-        bits: bits_of(&config.colour),
+        bits: bits_of(frame.checked),
     };
     read_segment(
         &mut column.parked,

@@ -2,7 +2,8 @@
 
 ghost use Rattle.std.specs.Prelude.{◌≢◌, ◌⊎◌, ℕ, List};
 ghost use Rattle.std.specs.Prelude.{◌≡◌, ◌*◌, ◌+◌, ◌≤◌, ◌<◌, IfOk, IfErr, IsTrue, IsFalse, length};
-ghost use Rattle.ffv1_slice.specs.Grid.{division_of, across, down, whole_of};
+ghost use Rattle.ffv1_samples.specs.Samples.{sample_bytes};
+ghost use Rattle.ffv1_slice.specs.Grid.{IsDivision, division_of, across, down, whole_of};
 ghost use Rattle.ffv1_codec.specs.declared.fault.CodecFault.TheVariants as fault;
 ghost use Rattle.ffv1_codec.specs.Picture.{AreOf, plane, planes_of};
 ghost use Rattle.ffv1_codec.specs.Kept.{IsLine, with_samples, Keeps, KeepsNot, Drops, DropsNot};
@@ -10,6 +11,7 @@ ghost use Rattle.ffv1_codec.specs.Kept.{Kept, zeros_of};
 ghost use Rattle.ffv1_codec.specs.Decoding.{row_in};
 
 use crate::fault::CodecFault;
+use crate::plane_sizes::plane_bytes;
 use ffv1_record::Checked;
 use ffv1_slice::Grid;
 use ffv1_wire::{LineSink, SinkFault};
@@ -28,7 +30,7 @@ fn is_line(grid: &Grid, plane: u8, y: u16, samples: &[u8]) -> bool
     if u32::from(y) >= grid.height(of) {
         return false;
     }
-    samples.len() == grid.width(of) as usize
+    samples.len() == grid.sample_bytes() * grid.width(of) as usize
 }
 
 /// Puts a line in its place.
@@ -66,12 +68,12 @@ impl<A: Allocator> Model for KeepLines<A> {
 
 /// Planes of zeros.
 fn zeros<A: Allocator + Copy>(alloc: A, grid: &Grid) -> Result<Vec<Vec<u8, A>, A>, AllocError>
+    requires { IsDivision grid.now }
     ensures { IfOk result (λ v. planes_of v.items ≡ zeros_of grid.now) }
 {
     let mut planes = Vec::new(alloc);
     for plane in 0..grid.planes() {
-        let size = grid.width(plane) as usize * grid.height(plane) as usize;
-        planes.push(vec![in alloc; 0u8; size]?)?;
+        planes.push(vec![in alloc; 0u8; plane_bytes(grid, plane)]?)?;
     }
     Ok(planes)
 }
@@ -135,12 +137,13 @@ impl<A: Allocator> LineSink for KeepLines<A> {
 pub fn kept_lines()
     ensures here { (s t : Kept) (p y : ℕ) (samples : List ℕ) → AreOf s.grid s.planes →
         Keeps s p y samples t →
-        row_in (whole_of (across s.grid p)) y (plane t.planes p) ≡ samples }
+        row_in (sample_bytes s.grid.depth * whole_of (across s.grid p)) y (plane t.planes p)
+        ≡ samples }
     ensures others { (s t : Kept) (p y q z : ℕ) (samples : List ℕ) → AreOf s.grid s.planes →
         Keeps s p y samples t → q < s.grid.planes → z < whole_of (down s.grid q) →
         (q ≢ p) ⊎ (z ≢ y) →
-        row_in (whole_of (across s.grid q)) z (plane t.planes q)
-        ≡ row_in (whole_of (across s.grid q)) z (plane s.planes q) }
+        row_in (sample_bytes s.grid.depth * whole_of (across s.grid q)) z (plane t.planes q)
+        ≡ row_in (sample_bytes s.grid.depth * whole_of (across s.grid q)) z (plane s.planes q) }
     ensures sizes { (s t : Kept) (p y : ℕ) (samples : List ℕ) → AreOf s.grid s.planes →
         Keeps s p y samples t → AreOf t.grid t.planes }
 {}

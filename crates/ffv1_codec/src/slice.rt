@@ -1,6 +1,7 @@
 //! A slice of a picture.
 
-ghost use Rattle.std.specs.Prelude.{◌≡◌, ◌+◌, ◌-◌, ◌*◌, min, ◌<◌, ◌≤◌, length, take, drop};
+ghost use Rattle.std.specs.Prelude.{◌≡◌, ◌+◌, ◌-◌, ◌*◌, min, ◌<◌, ◌≤◌, ◌^◌, length, take, drop};
+ghost use Rattle.ffv1_samples.specs.Samples.{AreBelow, samples_of};
 ghost use Rattle.ffv1_slice.specs.Coding.{IsSlice};
 ghost use Rattle.ffv1_codec.specs.Picture.{Fits, plane_count, cell_in, cell_height};
 ghost use Rattle.ffv1_slice.specs.Head.{IsHead};
@@ -25,15 +26,16 @@ pub(crate) fn index_of<A: Allocator>(sets: &Sets<A>, class: usize) -> usize
     class.min(sets.len() - 1)
 }
 
-/// A line of a rectangle of a plane whose lines have so many samples.
-fn line_of(samples: &[u8], width: u32, cell: Cell, y: u32) -> &[u8]
-    requires { (cell.top + y) * width + cell.left + cell.width ≤ length samples.now }
-    ensures { result.now ≡
-        take cell.width (drop ((cell.top + y) * width + cell.left) samples.entry.now) }
+/// A line of a rectangle of a plane whose lines have so many samples, of so many bytes each.
+fn line_of(samples: &[u8], bytes: usize, width: u32, cell: Cell, y: u32) -> &[u8]
+    requires some { 1 ≤ bytes }
+    requires fits { bytes * ((cell.top + y) * width + cell.left + cell.width) ≤ length samples.now }
+    ensures { result.now ≡ take (bytes * cell.width)
+        (drop (bytes * ((cell.top + y) * width + cell.left)) samples.entry.now) }
 {
     let line = cell.top as usize + y as usize;
-    let start = line * width as usize + cell.left as usize;
-    &samples[start..start + cell.width as usize]
+    let start = bytes * (line * width as usize + cell.left as usize);
+    &samples[start..start + bytes * cell.width as usize]
 }
 
 /// A slice that is to be coded: its picture, which fits the configuration, what is said of it, and
@@ -90,13 +92,15 @@ impl<'a, A: Allocator, B: Allocator> Slice<'a, A, B> {
         }
     }
 
-    /// The samples of a line of its cell in a plane.
+    /// The bytes of a line of its cell in a plane.
     pub(crate) fn line(&self, plane: u32, y: u32) -> &'a [u8]
         requires plane { plane < plane_count self.now.checked.now.configuration }
         requires inside { y <
             cell_height self.now.checked.now.configuration self.now.number plane }
-        ensures { IsLine self.now.checked.now.configuration self.now.picture.now
+        ensures line { IsLine self.now.checked.now.configuration self.now.picture.now
             self.now.number plane y result.now }
+        ensures small { AreBelow (2 ^ self.now.checked.now.configuration.depth)
+            (samples_of self.now.checked.now.configuration.depth result.now) }
     {
         divided();
         tiling();
@@ -104,6 +108,6 @@ impl<'a, A: Allocator, B: Allocator> Slice<'a, A, B> {
         let grid = Grid::of(self.checked);
         let cell = grid.cell(plane, self.number);
         let samples = self.picture.planes()[plane as usize].as_slice();
-        line_of(samples, grid.width(plane), cell, y)
+        line_of(samples, grid.sample_bytes(), grid.width(plane), cell, y)
     }
 }

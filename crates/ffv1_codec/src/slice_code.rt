@@ -22,6 +22,7 @@ use ffv1_range::laws::{
     counted_from_nothing, counted_in_parts, kept_states, named_states, slots, two_parts,
 };
 use ffv1_record::Checked;
+use ffv1_record::laws::accepted;
 use ffv1_slice::{put_head, put_key};
 use std::alloc::{AllocError, Allocator};
 
@@ -130,6 +131,7 @@ fn put_slice<R: Allocator, A: Allocator, B: Allocator>(
 {
     named_states();
     counted_from_nothing();
+    accepted();
     slice_lengths();
     let _table = slice.checked.table();
     let _structure = slice.info.structure();

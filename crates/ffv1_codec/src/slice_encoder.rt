@@ -54,12 +54,17 @@ fn is_rct(colour: Colour) -> bool
 
 /// How many bits a coded sample has.
 fn bits_of<A: Allocator>(checked: &Checked<A>) -> u8
-    ensures { result ≡ bits_of checked.now.configuration }
+    ensures value { result ≡ bits_of checked.now.configuration }
+    ensures least { 8 ≤ result }
+    ensures most { result ≤ 16 }
 {
-    if is_rct(checked.config().colour) {
-        return 9;
+    accepted();
+    accepted_parts();
+    let depth = checked.depth() as u8;
+    match checked.config().colour {
+        Colour::YCbCr => depth,
+        Colour::Rct => depth + 1,
     }
-    8
 }
 
 /// A row of a cell is coded, by the states of its class, which begin at a place of all states.
@@ -72,7 +77,8 @@ fn put_row<R: Allocator, A: Allocator>(
     rows: &RollingRows<Vec<u16, R>>,
     bits: u8,
 ) -> Result<(), CodecFault>
-    requires bits { (bits ≡ 8) ⊎ (bits ≡ 9) }
+    requires least { 8 ≤ bits }
+    requires most { bits ≤ 16 }
     requires some { 0 < length rows.now.cur.items }
     requires two_long { length rows.now.two.items ≡ length rows.now.cur.items }
     requires one_long { length rows.now.one.items ≡ length rows.now.cur.items }

@@ -2,8 +2,10 @@
 
 ghost use Rattle.std.specs.Prelude.{◌≡◌, ℕ, List, IfOk, OnErr, OnOk, length, fold, true, IsTrue};
 ghost use Rattle.std.specs.Prelude.{◌↔◌};
+ghost use Rattle.std.specs.Vec.{vec_capacity};
 ghost use Rattle.ffv1_wire.specs.Passage.{passage};
 ghost use Rattle.ffv1_reads.specs.Reads.{Answers, Begins};
+ghost use Rattle.ffv1_reads.specs.Room.{HasRoom};
 ghost use Rattle.ffv1_sum.specs.Sum.{byte_step};
 ghost use Rattle.ffv1_ebml.specs.Sums.{is_met, kept_summed, passed_summed, passed_so_far, summed};
 ghost use Rattle.ffv1_ebml.specs.Sums.{taken_summed};
@@ -71,7 +73,8 @@ pub fn take_summed<R: ByteIn>(input: &mut R, buf: &mut [u8], sum: &mut Sum) -> R
 /// Reads `size` bytes in place of what the vector has, as `ffv1_reads::fill` does, and sums them.
 ///
 /// `Truncated` where the input ends before, `OutOfMemory` where memory was refused; after a fault
-/// the vector holds a beginning of the bytes, and the sum is as it was.
+/// the vector holds a beginning of the bytes, and the sum is as it was. The vector has room as
+/// `ffv1_reads::fill` says.
 pub fn fill_summed<R: ByteIn, A: Allocator>(
     input: &mut R,
     size: usize,
@@ -84,6 +87,8 @@ pub fn fill_summed<R: ByteIn, A: Allocator>(
     ensures kept { OnErr result (Begins (R.remaining input.old) size bytes.new.items) }
     ensures err { OnErr result (sum.new ≡ sum.old) }
     ensures long { OnOk result (length bytes.new.items ≡ size) }
+    ensures room { HasRoom (vec_capacity bytes.old) (vec_capacity bytes.new)
+        (length bytes.new.items) result }
 {
     fill(input, size, bytes)?;
     *sum = sum.after(bytes.as_slice());

@@ -184,26 +184,27 @@ encoded_none o n a r working begun = record {
   head = refl;
   failed = working;
   begun = λ is. begun;
+  most = refl;
 }
 
 ends_or : (old new : Option (List ℕ)) (a : Accepted) (r : VideoReading) (w : Writer) (ps : List Planes) (f : Fault) → EndsKnown old new a r ps f →
-    Known old new (λ text rest. (left : List ℕ) × ReadsPictures r.ppm r.head true text ps left × (EndsAt a r ps left rest f ⊎ EndsLong a r ps left rest f ⊎ EndsFar a r w ps left rest f))
+    Known old new (λ text rest. (left : List ℕ) × ReadsPictures r.ppm r.most r.head true text ps left × (EndsAt a r ps left rest f ⊎ EndsLong a r ps left rest f ⊎ EndsFar a r w ps left rest f))
 ends_or None new a r w ps f k = tt
 ends_or (Some text) None a r w ps f k = k
 ends_or (Some text) (Some rest) a r w ps f (left, reads, ends) = (left, reads, inl ends)
 
 or_far : (old new : Option (List ℕ)) (a : Accepted) (r : VideoReading) (w : Writer) (ps : List Planes) (p : Planes) → (HasLongSlice a p (said_for r.head) → ⊥) →
     length (frame_of a p (said_for r.head)) ≤ limit → last_place < end_place w.head w.shown (frames_for a r.head ps) + cluster_bytes + length (frame_of a p (said_for r.head)) →
-    Known old new (λ text rest. (left : List ℕ) × ReadsPictures r.ppm r.head true text ps left × (picture_next r.ppm r.head (at_first ps) left ≡ Ok (Some p, rest))) →
-    Known old new (λ text rest. (left : List ℕ) × ReadsPictures r.ppm r.head true text ps left × (EndsAt a r ps left rest fault.TooLarge ⊎ EndsLong a r ps left rest fault.TooLarge ⊎ EndsFar a r w ps left rest fault.TooLarge))
+    Known old new (λ text rest. (left : List ℕ) × ReadsPictures r.ppm r.most r.head true text ps left × (picture_next r.ppm r.most r.head (at_first ps) left ≡ Ok (Some p, rest))) →
+    Known old new (λ text rest. (left : List ℕ) × ReadsPictures r.ppm r.most r.head true text ps left × (EndsAt a r ps left rest fault.TooLarge ⊎ EndsLong a r ps left rest fault.TooLarge ⊎ EndsFar a r w ps left rest fault.TooLarge))
 or_far None new a r w ps p short few far k = tt
 or_far (Some text) None a r w ps p short few far k = k
 or_far (Some text) (Some rest) a r w ps p short few far (left, reads, next) = (left, reads, inr (inr (p, next, short, few, far, refl)))
 
 or_long : (old new : Option (List ℕ)) (a : Accepted) (r : VideoReading) (w : Writer) (ps : List Planes) (p : Planes) → (HasLongSlice a p (said_for r.head) → ⊥) →
     limit < length (frame_of a p (said_for r.head)) →
-    Known old new (λ text rest. (left : List ℕ) × ReadsPictures r.ppm r.head true text ps left × (picture_next r.ppm r.head (at_first ps) left ≡ Ok (Some p, rest))) →
-    Known old new (λ text rest. (left : List ℕ) × ReadsPictures r.ppm r.head true text ps left × (EndsAt a r ps left rest fault.ChunkTooLong ⊎ EndsLong a r ps left rest fault.ChunkTooLong ⊎ EndsFar a r w ps left rest fault.ChunkTooLong))
+    Known old new (λ text rest. (left : List ℕ) × ReadsPictures r.ppm r.most r.head true text ps left × (picture_next r.ppm r.most r.head (at_first ps) left ≡ Ok (Some p, rest))) →
+    Known old new (λ text rest. (left : List ℕ) × ReadsPictures r.ppm r.most r.head true text ps left × (EndsAt a r ps left rest fault.ChunkTooLong ⊎ EndsLong a r ps left rest fault.ChunkTooLong ⊎ EndsFar a r w ps left rest fault.ChunkTooLong))
 or_long None new a r w ps p short long k = tt
 or_long (Some text) None a r w ps p short long k = k
 or_long (Some text) (Some rest) a r w ps p short long (left, reads, next) = (left, reads, inr (inl (p, next, short, long, refl)))
@@ -227,7 +228,7 @@ module _ (i o : Passage) (a : Accepted) (r s : VideoReading) (w v : Writer) (fra
   begun_is = ap (λ fs. begun_of w.head w.shown fs) e.are
 
   puts_some : (Next : List Planes → List ℕ → List ℕ → Type 0) (new : Option (List ℕ)) (n : ℕ) →
-      Known i.old new (λ text rest. (left : List ℕ) × ReadsPictures r.ppm r.head true text e.pictures left × Next e.pictures left rest) →
+      Known i.old new (λ text rest. (left : List ℕ) × ReadsPictures r.ppm r.most r.head true text e.pictures left × Next e.pictures left rest) →
       PutsSome Next a r w (record { old = i.old; new = new; before = i.before; after = n }) o
   puts_some Next new n taken = record {
     pictures = e.pictures;
@@ -239,9 +240,9 @@ module _ (i o : Passage) (a : Accepted) (r s : VideoReading) (w v : Writer) (fra
   -- a call on the input follows
   module _ (q : Passage) (joins : q.old ≡ i.new) (counts : q.before ≡ i.after) where
     encode_stops_by : (c : Cause) (f : Fault) → StopsBy c q a s f → StopsPuttingBy c a r w (joined i q) o f
-    encode_stops_by Reading f n = (put.kept, n.0 ∙ ap one_more (counts ∙ e.kept), puts_some (PictureWants r.ppm r.head) q.new q.after (wants_after i q a r s frames e joins counts f n))
+    encode_stops_by Reading f n = (put.kept, n.0 ∙ ap one_more (counts ∙ e.kept), puts_some (PictureWants r.ppm r.most r.head) q.new q.after (wants_after i q a r s frames e joins counts f n))
     encode_stops_by Writing f n = absurd n
-    encode_stops_by Memory f n = (put.kept, memory_kept q s f n ∙ (counts ∙ e.kept), puts_some (PictureLacks r.ppm r.head) q.new q.after (lacks_after i q a r s frames e joins counts f n))
+    encode_stops_by Memory f n = (put.kept, memory_kept q s f n ∙ (counts ∙ e.kept), puts_some (PictureLacks r.ppm r.most r.head) q.new q.after (lacks_after i q a r s frames e joins counts f n))
     encode_stops_by Content f n =
         let ends = ends_after i q a r s frames e joins counts f n in (
           put.kept,

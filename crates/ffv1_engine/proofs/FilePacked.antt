@@ -19,10 +19,10 @@ use Rattle.ffv1_engine.specs.Pack.{EncodesVideo, EndsVideo, FaultsPacked, IsPack
 use Rattle.ffv1_engine.specs.Packing.{AllShort, IsFor, bytes_in, packed_file, packed_frames, packed_head, said_for}
 use Rattle.ffv1_engine.specs.Video.{Video}
 
-too_large : (old new : Option (List ℕ)) (choice : Choice) (v : Video) (a : Accepted) → IsFor choice v.ppm v.head a → AllShort a v.head v.pictures → 0 < length v.pictures → most < riff_size (packed_head choice v a) (packed_frames v a) → EndsVideo old new v → FaultsPacked choice old new fault.TooLarge
-too_large None new choice v a for short some large e = tt
-too_large (Some text) None choice v a for short some large e = e
-too_large (Some text) (Some rest) choice v a for short some large (left, begins, end) = inr (inr (record {
+too_large : (depth : ℕ) (old new : Option (List ℕ)) (choice : Choice) (v : Video) (a : Accepted) → IsFor choice v.ppm v.head a → AllShort a v.head v.pictures → 0 < length v.pictures → most < riff_size (packed_head choice v a) (packed_frames v a) → EndsVideo depth old new v → FaultsPacked depth choice old new fault.TooLarge
+too_large depth None new choice v a for short some large e = tt
+too_large depth (Some text) None choice v a for short some large e = e
+too_large depth (Some text) (Some rest) choice v a for short some large (left, begins, end) = inr (inr (record {
   video = v;
   accepted = a;
   left = left;
@@ -36,18 +36,18 @@ long : {X Y : Type 0} (f : X → Y) (xs : List X) → length (map f xs) ≡ leng
 long f [] = refl
 long f (x ∷ xs) = ap suc (long f xs)
 
-module _ (choice : Choice) (i o : Passage) (head : Head) (frames : List (List ℕ)) (e : EncodesVideo choice i head frames) where
+module _ (depth : ℕ) (choice : Choice) (i o : Passage) (head : Head) (frames : List (List ℕ)) (e : EncodesVideo depth choice i head frames) where
   riff : riff_size head frames ≡ riff_size (packed_head choice e.video e.accepted) (packed_frames e.video e.accepted)
   riff = ap (λ h. riff_size h frames) e.head_is ∙ ap (λ f. riff_size (packed_head choice e.video e.accepted) f) e.frames_are
 
   file : file_of head frames ≡ packed_file choice e.video e.accepted
   file = ap (λ h. file_of h frames) e.head_is ∙ ap (λ f. file_of (packed_head choice e.video e.accepted) f) e.frames_are
 
-  packable : riff_size head frames ≤ most → IsPackable choice e.video e.accepted
-  packable small = record { for = e.for; some = e.some; short = e.short; small = subst (λ n. n ≤ most) riff small }
+  packable : riff_size head frames ≤ most → IsPackable depth choice e.video e.accepted
+  packable small = record { deep = e.deep; for = e.for; some = e.some; short = e.short; small = subst (λ n. n ≤ most) riff small }
 
-  pub file_refused : (f : FileFault) → WritesFile o head frames (Err f) → RefusesPack choice i o (of_avi f)
-  file_refused avi.TooLarge w = (record { kept = w.2; same = w.1 }, e.kept, too_large i.old i.new choice e.video e.accepted e.for e.short e.some (subst (λ n. most < n) riff w.0) e.ends)
+  pub file_refused : (f : FileFault) → WritesFile o head frames (Err f) → RefusesPack depth choice i o (of_avi f)
+  file_refused avi.TooLarge w = (record { kept = w.2; same = w.1 }, e.kept, too_large depth i.old i.new choice e.video e.accepted e.for e.short e.some (subst (λ n. most < n) riff w.0) e.ends)
   file_refused avi.Write w = (
     record {
       video = e.video;
@@ -74,7 +74,7 @@ module _ (choice : Choice) (i o : Passage) (head : Head) (frames : List (List �
   file_refused avi.Checksum w = absurd w.1
   file_refused avi.Rate w = absurd w.1
 
-  pub file_written : (u : Unit {0}) (packed : Packed) → WritesFile o head frames (Ok u) → packed.frames ≡ length frames → packed.bytes ≡ bytes_in frames → Packs choice i o packed
+  pub file_written : (u : Unit {0}) (packed : Packed) → WritesFile o head frames (Ok u) → packed.frames ≡ length frames → packed.bytes ≡ bytes_in frames → Packs depth choice i o packed
   file_written u packed w many bytes = record {
     video = e.video;
     accepted = e.accepted;

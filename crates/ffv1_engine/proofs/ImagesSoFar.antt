@@ -26,10 +26,10 @@ use Rattle.ffv1_engine.proofs.FramesTold.{are_more, ends_file, ends_over, ends_p
 
 -- the text grows by the next image
 text_more : (s : Stream) (frames : List Frame) (f : Frame) →
-    ppm_text s (frames ++ (f ∷ [])) ≡ ppm_text s frames ++ image_text s.accepted.configuration.width s.accepted.configuration.height f.planes
-text_more s [] f = append-nil (image_text s.accepted.configuration.width s.accepted.configuration.height f.planes)
+    ppm_text s (frames ++ (f ∷ [])) ≡ ppm_text s frames ++ image_text s.accepted.configuration.depth s.accepted.configuration.width s.accepted.configuration.height f.planes
+text_more s [] f = append-nil (image_text s.accepted.configuration.depth s.accepted.configuration.width s.accepted.configuration.height f.planes)
 text_more s (g ∷ gs) f =
-    let image = image_text s.accepted.configuration.width s.accepted.configuration.height in
+    let image = image_text s.accepted.configuration.depth s.accepted.configuration.width s.accepted.configuration.height in
     ap (λ z. image g.planes ++ z) (text_more s gs f) ∙ sym (append_assoc (image g.planes) (ppm_text s gs) (image f.planes))
 
 module _ (s : Stream) (ppm : is_ppm_stream s ≡ true) (from : Place) where
@@ -43,10 +43,10 @@ module _ (s : Stream) (ppm : is_ppm_stream s ≡ true) (from : Place) where
   rows_text lines = sym (ap (λ b. rows_by b s lines) ppm)
 
   whole_text : (frames : List Frame) (f : Frame) →
-      text_by (is_ppm_stream s) s (frames ++ (f ∷ [])) ≡ text_by (is_ppm_stream s) s frames ++ image_text s.accepted.configuration.width s.accepted.configuration.height f.planes
+      text_by (is_ppm_stream s) s (frames ++ (f ∷ [])) ≡ text_by (is_ppm_stream s) s frames ++ image_text s.accepted.configuration.depth s.accepted.configuration.width s.accepted.configuration.height f.planes
   whole_text frames f =
       images_text (frames ++ (f ∷ [])) ∙ text_more s frames f
-      ∙ ap (λ z. z ++ image_text s.accepted.configuration.width s.accepted.configuration.height f.planes) (sym (images_text frames))
+      ∙ ap (λ z. z ++ image_text s.accepted.configuration.depth s.accepted.configuration.width s.accepted.configuration.height f.planes) (sym (images_text frames))
 
   pub images_none : (i o : Option (List ℕ)) (ib ob : ℕ) → Unpacked s from (between i i ib ib) (between o o ob ob) [] from
   images_none i o ib ob = record {
@@ -68,7 +68,7 @@ module _ (s : Stream) (ppm : is_ppm_stream s ≡ true) (from : Place) where
   module _ (to last : Place) (i0 i1 i2 o0 o1 o2 : Option (List ℕ)) (ib im ia ob om oa : ℕ) (frames : List Frame)
       (un : Unpacked s from (between i0 i1 ib im) (between o0 o1 ob om) frames to) where
     pub images_more : (f : Frame) → PlaysFrame s.accepted to last (between i1 i2 im ia) f → oa ≡ om →
-        Appends o1 o2 (image_text s.accepted.configuration.width s.accepted.configuration.height f.planes) →
+        Appends o1 o2 (image_text s.accepted.configuration.depth s.accepted.configuration.width s.accepted.configuration.height f.planes) →
         Unpacked s from (between i0 i2 ib ia) (between o0 o2 ob oa) (frames ++ (f ∷ [])) last
     images_more f plays same writes = record {
       are = are_more s.accepted frames f un.are plays.is;
@@ -78,7 +78,7 @@ module _ (s : Stream) (ppm : is_ppm_stream s ≡ true) (from : Place) where
       written = same ∙ un.written;
       writes =
           subst (Appends o0 o2) (sym (whole_text frames f))
-          (Appends-trans o0 o1 o2 (text_by (is_ppm_stream s) s frames) (image_text s.accepted.configuration.width s.accepted.configuration.height f.planes) un.writes writes);
+          (Appends-trans o0 o1 o2 (text_by (is_ppm_stream s) s frames) (image_text s.accepted.configuration.depth s.accepted.configuration.width s.accepted.configuration.height f.planes) un.writes writes);
     }
 
     pub images_over : ReadsEnd to (between i1 i2 im ia) → Silent (between o1 o2 om oa) → UnpackedAll s from (between i0 i2 ib ia) (between o0 o2 ob oa) frames

@@ -23,6 +23,9 @@ use Rattle.ffv1_codec.specs.declared.fault.CodecFault.{CodecFault}
 use Rattle.ffv1_codec.specs.declared.fault.CodecFault.TheVariants as codec_fault
 use Rattle.ffv1_codec.specs.declared.fault.FrameFault.{FrameFault}
 use Rattle.ffv1_y4m.specs.Images.{AtImage, image_lines, image_text, text_of_lines}
+use Rattle.ffv1_y4m.specs.Ppm.{bytes_for}
+use Rattle.ffv1_samples.specs.Samples.{sample_bytes}
+use Rattle.ffv1_engine.proofs.Depths.{bytes_are}
 use Rattle.ffv1_y4m.specs.Sink.{PpmSink, Takes, Refuses, kept_behind, line_text, row_with, text_with}
 use Rattle.ffv1_files.specs.Places.{Place}
 use Rattle.ffv1_engine.specs.Faults.{cause_of, of_codec}
@@ -73,36 +76,38 @@ module _ {W : Type 0} (contents : W → Option (List ℕ)) (failed : W → ℕ) 
   abbrev taking : LineStep (PpmSink W)
   taking = Takes contents failed
 
-  pub sizes_stay : (s t : PpmSink W) (ls : List Line) → Grows taking s ls t → (t.width ≡ s.width) × (t.height ≡ s.height)
-  sizes_stay s t [] h = (ap (λ z. z.width) h, ap (λ z. z.height) h)
+  pub sizes_stay : (s t : PpmSink W) (ls : List Line) → Grows taking s ls t → (t.width ≡ s.width) × (t.height ≡ s.height) × (t.depth ≡ s.depth)
+  sizes_stay s t [] h = (ap (λ z. z.width) h, ap (λ z. z.height) h, ap (λ z. z.depth) h)
   sizes_stay s t (l ∷ ls) (m, step, more) =
       let rest = sizes_stay m t ls more in
-      (rest.0 ∙ ap (λ z. z.width) step.sink, rest.1 ∙ ap (λ z. z.height) step.sink)
+      (rest.0 ∙ ap (λ z. z.width) step.sink, rest.1 ∙ ap (λ z. z.height) step.sink, rest.2 ∙ ap (λ z. z.depth) step.sink)
 
   abbrev sink_text : PpmSink W → List Line → List ℕ
-  sink_text s ls = text_of_lines s.width s.height s.kept s.row ls
+  sink_text s ls = text_of_lines s.depth s.width s.height s.kept s.row ls
 
   text_behind : (s m : PpmSink W) (l : Line) (ls : List Line) → taking s l.plane l.row l.samples m →
-      sink_text m ls ≡ text_of_lines s.width s.height (kept_behind s.kept l.samples) (row_with s.height s.row s.kept) ls
+      sink_text m ls ≡ text_of_lines s.depth s.width s.height (kept_behind s.kept l.samples) (row_with s.height s.row s.kept) ls
   text_behind s m l ls t = ap (λ z. sink_text z ls) t.sink
 
   -- the text of one line more
   line_more : (s t : PpmSink W) (ls : List Line) (next : Line) → Grows taking s ls t → sink_text s (ls ++ (next ∷ [])) ≡ sink_text s ls ++ line_text t next.samples
   line_more s t [] next h = append-nil (line_text s next.samples) ∙ ap (λ z. line_text z next.samples) (sym h)
   line_more s t (l ∷ ls) next (m, step, more) =
-      let first = text_with s.width s.height s.row s.kept l.samples in
+      let first = text_with s.depth s.width s.height s.row s.kept l.samples in
       let last = line_text t next.samples in
       ap (λ z. first ++ z) (sym (text_behind s m l (ls ++ (next ∷ [])) step) ∙ (line_more m t ls next more ∙ ap (λ z. z ++ last) (text_behind s m l ls step)))
-      ∙ sym (append_assoc first (text_of_lines s.width s.height (kept_behind s.kept l.samples) (row_with s.height s.row s.kept) ls) last)
+      ∙ sym (append_assoc first (text_of_lines s.depth s.width s.height (kept_behind s.kept l.samples) (row_with s.height s.row s.kept) ls) last)
 
   -- of a sink that has taken whole images
   rows_are : (c : Configuration) (s : PpmSink W) (ls : List Line) → IsSinkFor c s → sink_text s ls ≡ rows_so_far c ls
   rows_are c s ls is =
-      ap₂ (λ w h. text_of_lines w h s.kept s.row ls) is.width is.height ∙ ap₂ (λ k r. text_of_lines c.width c.height k r ls) is.at.kept is.at.row
+      ap (λ d. text_of_lines d s.width s.height s.kept s.row ls) is.depth ∙ ap₂ (λ w h. text_of_lines c.depth w h s.kept s.row ls) is.width is.height
+      ∙ ap₂ (λ k r. text_of_lines c.depth c.width c.height k r ls) is.at.kept is.at.row
 
   -- a line of the configuration is as long as the sink's rows
-  pub line_long : (c : Configuration) (s : PpmSink W) (p y : ℕ) (samples : List ℕ) → IsSinkFor c s → plane_width c p ≡ c.width → IsLine (division_of c) p y samples → length samples ≡ s.width
-  line_long c s p y samples is wide line = line.long ∙ wide ∙ sym is.width
+  pub line_long : (c : Configuration) (s : PpmSink W) (p y : ℕ) (samples : List ℕ) → IsSinkFor c s → plane_width c p ≡ c.width → IsLine (division_of c) p y samples → length samples ≡ bytes_for s.depth s.width
+  line_long c s p y samples is wide line =
+      line.long ∙ ap (λ n. sample_bytes c.depth * n) wide ∙ bytes_are c.depth c.width ∙ sym (ap₂ (λ d w. bytes_for d w) is.depth is.width)
 
   module _ (a : Accepted) (from to : Place) (input : Passage) (payload : List ℕ) (reads : ReadsPayload from to payload input) (s u : PpmSink W) (tally : Tally) (f : FrameFault) (is : IsSinkFor a.configuration s) where
     pub image_faults : (h : Faulty taking (Refuses contents failed) a payload s u tally f) → Appends (contents s.out) (contents u.out) (sink_text s (lines_before h.faulty)) → failed u.out ≡ failed s.out →
@@ -167,16 +172,18 @@ module _ {W : Type 0} (contents : W → Option (List ℕ)) (failed : W → ℕ) 
 
   -- a whole image
   pub image_written : (c : Configuration) (s t : PpmSink W) (planes : Planes) → IsSinkFor c s → IsImage c planes → 1 ≤ c.height →
-      ((red green blue : List ℕ) (x y : PpmSink W) → 1 ≤ x.height → AtImage x → length red ≡ x.height * x.width → Grows taking x (image_lines x.width 0 x.height red green blue) y →
-      Appends (contents x.out) (contents y.out) (image_text x.width x.height (red ∷ green ∷ blue ∷ [])) × AtImage y × (y.failures ≡ x.failures)) →
-      Grows taking s (lines_of c planes) t → Appends (contents s.out) (contents t.out) (image_text c.width c.height planes) × IsSinkFor c t
+      ((red green blue : List ℕ) (x y : PpmSink W) → 1 ≤ x.height → AtImage x → length red ≡ x.height * bytes_for x.depth x.width → Grows taking x (image_lines (bytes_for x.depth x.width) 0 x.height red green blue) y →
+      Appends (contents x.out) (contents y.out) (image_text x.depth x.width x.height (red ∷ green ∷ blue ∷ [])) × AtImage y × (y.failures ≡ x.failures)) →
+      Grows taking s (lines_of c planes) t → Appends (contents s.out) (contents t.out) (image_text c.depth c.width c.height planes) × IsSinkFor c t
   image_written c s t planes is image some law grows =
-      let lines = image.lines ∙ sym (ap₂ (λ w h. image_lines w 0 h image.red image.green image.blue) is.width is.height) in
-      let long = image.long ∙ sym (ap₂ (λ h w. h * w) is.height is.width) in
+      let bytes : bytes_for s.depth s.width ≡ bytes_for c.depth c.width = ap₂ (λ d w. bytes_for d w) is.depth is.width in
+      let lines = image.lines ∙ sym (ap₂ (λ w h. image_lines w 0 h image.red image.green image.blue) bytes is.height) in
+      let long = image.long ∙ sym (ap₂ (λ h w. h * w) is.height bytes) in
       let whole = law image.red image.green image.blue s t (subst (λ h. 1 ≤ h) (sym is.height) some) is.at long (subst (λ ls. Grows taking s ls t) lines grows) in
-      let text = ap₂ (λ w h. image_text w h (image.red ∷ image.green ∷ image.blue ∷ [])) is.width is.height ∙ ap (image_text c.width c.height) (sym image.are) in
+      let text = ap (λ d. image_text d s.width s.height (image.red ∷ image.green ∷ image.blue ∷ [])) is.depth ∙ ap₂ (λ w h. image_text c.depth w h (image.red ∷ image.green ∷ image.blue ∷ [])) is.width is.height
+      ∙ ap (image_text c.depth c.width c.height) (sym image.are) in
       let sizes = sizes_stay s t (lines_of c planes) grows in
-      (subst (Appends (contents s.out) (contents t.out)) text whole.0, record { at = whole.1; width = sizes.0 ∙ is.width; height = sizes.1 ∙ is.height })
+      (subst (Appends (contents s.out) (contents t.out)) text whole.0, record { at = whole.1; width = sizes.0 ∙ is.width; height = sizes.1 ∙ is.height; depth = sizes.2 ∙ is.depth })
 
 -- a payload's fault
 pub payload_stops : (a : Accepted) (from to : Place) (input output : Passage) (f : CodecFault) → ImageFaults a from to input output (of_codec f) → cause_of (of_codec f) ≡ Content →

@@ -1,3 +1,4 @@
+mod Depths
 mod Hexadecimal
 mod PlaneRows
 mod PlaneCount

@@ -5,7 +5,7 @@ use Rattle.std.specs.Io.KnownBytes.{Appends}
 use Rattle.std.proofs.KnownBytes.{Appends-kept, Keeps-refl}
 use Rattle.ffv1_wire.specs.Failures.{one_more}
 use Rattle.ffv1_wire.specs.Passage.{Passage}
-use Rattle.ffv1_record.specs.Accepted.{Accepted, IsFirst, checks}
+use Rattle.ffv1_record.specs.Accepted.{Accepted, IsFirstUpTo}
 use Rattle.ffv1_record.specs.declared.fault.RecordFault.{RecordFault}
 use Rattle.ffv1_codec.specs.Picture.{Planes}
 use Rattle.ffv1_reads.specs.Head.{Head}
@@ -33,67 +33,67 @@ use Rattle.ffv1_engine.specs.Faults.{Cause, cause_of, of_avi, of_record}
 use Rattle.ffv1_engine.specs.Faults.Cause.{Reading, Writing, Memory, Content}
 use Rattle.ffv1_engine.specs.PackMatroska.{EndsClusters, FaultsBefore, FinishFails, HasClusters, LacksMatroska, LacksMatroskaBy, OpensMatroska, PacksMatroska, PacksSome, RefusesMatroska, RefusesMatroskaBy, StandsAfterHead, begun_file, is_matroska_pack_fault, shown_for, whole_file}
 use Rattle.ffv1_engine.specs.Packing.{AreReadable, IsFor, bytes_in, configuration_for, frames_for, head_for}
-use Rattle.ffv1_engine.specs.Video.{Begins, ReadsPictures, ReadsVideo, Video, is_ppm, video_head}
+use Rattle.ffv1_engine.specs.Video.{Begins, ReadsPictures, ReadsVideo, SaidHead, Video, at_first, is_ppm, video_head}
 use Rattle.ffv1_engine.specs.VideoReads.{HeadKnown, HeadRead, HeadRefused, HeadRefusedBy, IsHeadOf, LacksKnown, PictureLacks, PictureWants, VideoReading}
 use Rattle.ffv1_engine.proofs.KnownTexts.{known_map, known_taken}
 use Rattle.ffv1_engine.proofs.MatroskaFinished.{EndLaws, cut_cues, finished, finished_some, with_cues}
 use Rattle.ffv1_engine.proofs.PicturesSoFar.{joined}
-use Rattle.ffv1_engine.proofs.VideoEncoded.{content_check, has_head, video_of}
+use Rattle.ffv1_engine.proofs.VideoEncoded.{content_check, has_head, next_up_to, reads_up_to, video_of}
 use Rattle.ffv1_engine.proofs.VideoEnds.{reads_video, some_pictures}
 
 -- that a text which is read to its end is a video
 abbrev pub TextsOnly : Type 0
-TextsOnly = (text : List ℕ) (h : VideoHead) (rest : List ℕ) (pictures : List (List (List ℕ))) → header_of text ≡ Ok (h, rest) → ReadsAll h rest pictures → IsText text h pictures
+TextsOnly = (text : List ℕ) (most depth : ℕ) (h : VideoHead) (rest : List ℕ) (pictures : List (List (List ℕ))) → header_of most text ≡ Ok (record { head = h; depth = depth }, rest) → ReadsAll depth h rest pictures → IsText text depth h pictures
 
 abbrev pub ImagesOnly : Type 0
-ImagesOnly = (text : List ℕ) (h : VideoHead) (rest : List ℕ) (image : List (List ℕ)) (images : List (List (List ℕ))) → image_header text ≡ Ok (h, rest) → ReadsFrom h rest image images →
-    IsImages text h.width h.height (image ∷ images)
+ImagesOnly = (text : List ℕ) (most depth : ℕ) (h : VideoHead) (rest : List ℕ) (image : List (List ℕ)) (images : List (List (List ℕ))) → image_header most text ≡ Ok (record { head = h; depth = depth }, rest) → ReadsFrom most (record { head = h; depth = depth }) rest image images →
+    IsImages text depth h.width h.height (image ∷ images)
 
 -- ---- what is opened, or why not
 
-lacks_before : (old new : Option (List ℕ)) (choice : Choice) (f : Fault) → LacksKnown old new f → FaultsBefore choice old new f
-lacks_before None new choice f k = tt
-lacks_before (Some text) None choice f k = k
-lacks_before (Some text) (Some rest) choice f k = inl k
+lacks_before : (most : ℕ) (old new : Option (List ℕ)) (choice : Choice) (f : Fault) → LacksKnown most old new f → FaultsBefore most choice old new f
+lacks_before most None new choice f k = tt
+lacks_before most (Some text) None choice f k = k
+lacks_before most (Some text) (Some rest) choice f k = inl k
 
-no_head_by : (c : Cause) (choice : Choice) (p : Passage) (f : Fault) → HeadRefusedBy c p f → LacksMatroskaBy c choice p f
-no_head_by Reading choice p f h = (h.0, known_taken p.old p.new (Wants video_head) (Wants video_head) (λ bytes is. is) h.1)
-no_head_by Writing choice p f h = h
-no_head_by Memory choice p f h = absurd h
-no_head_by Content choice p f h = (h.0, lacks_before p.old p.new choice f h.1)
+no_head_by : (most : ℕ) (c : Cause) (choice : Choice) (p : Passage) (f : Fault) → HeadRefusedBy most c p f → LacksMatroskaBy most c choice p f
+no_head_by most Reading choice p f h = (h.0, known_taken p.old p.new (Wants (video_head most)) (Wants (video_head most)) (λ bytes is. is) h.1)
+no_head_by most Writing choice p f h = h
+no_head_by most Memory choice p f h = absurd h
+no_head_by most Content choice p f h = (h.0, lacks_before most p.old p.new choice f h.1)
 
-pub no_head : (choice : Choice) (p : Passage) (f : Fault) → HeadRefused p f → LacksMatroska choice p f
-no_head choice p f h = no_head_by (cause_of f) choice p f h
+pub no_head : (most : ℕ) (choice : Choice) (p : Passage) (f : Fault) → HeadRefused most p f → LacksMatroska most choice p f
+no_head most choice p f h = no_head_by most (cause_of f) choice p f h
 
-rejected_before : (old new : Option (List ℕ)) (choice : Choice) (r : VideoReading) (g : RecordFault) → HeadKnown old new r.ppm r.head → IsFirst checks (configuration_for choice r.ppm r.head) g →
-    FaultsBefore choice old new (of_record g)
-rejected_before None new choice r g k i = tt
-rejected_before (Some text) None choice r g k i = k
-rejected_before (Some text) (Some rest) choice r g k i = inr (inl (record {
+rejected_before : (most : ℕ) (old new : Option (List ℕ)) (choice : Choice) (r : VideoReading) (g : RecordFault) → HeadKnown most old new r.ppm r.head → IsFirstUpTo most (configuration_for choice r.ppm r.head) g →
+    FaultsBefore most choice old new (of_record g)
+rejected_before most None new choice r g k i = tt
+rejected_before most (Some text) None choice r g k i = k
+rejected_before most (Some text) (Some rest) choice r g k i = inr (inl (record {
   head = r.head;
   read = k.1;
   refusal = g;
-  first = subst (λ b. IsFirst checks (configuration_for choice b r.head) g) k.0 i;
+  first = subst (λ b. IsFirstUpTo most (configuration_for choice b r.head) g) k.0 i;
   is = refl;
 }))
 
-after_head : (old new : Option (List ℕ)) (r : VideoReading) → HeadKnown old new r.ppm r.head → StandsAfterHead old new
-after_head old new r k = known_map old new (λ text rest. (r.ppm ≡ is_ppm text) × (video_head text ≡ Ok (r.head, rest))) (λ text rest. (h : VideoHead) × (video_head text ≡ Ok (h, rest))) (λ text rest is. (r.head, is.1)) k
+after_head : (most : ℕ) (old new : Option (List ℕ)) (r : VideoReading) → HeadKnown most old new r.ppm r.head → StandsAfterHead most old new
+after_head most old new r k = known_map old new (λ text rest. (r.ppm ≡ is_ppm text) × (video_head most text ≡ Ok (r.head, rest))) (λ text rest. (h : SaidHead) × (video_head most text ≡ Ok (h, rest))) (λ text rest is. (r.head, is.1)) k
 
-pub no_memory : (choice : Choice) (p : Passage) (r : VideoReading) (f : Fault) → HeadRead p r → f ≡ fault.OutOfMemory → LacksMatroska choice p f
-no_memory choice p r f h e = rw e (h.kept, has_head p.old p.new r h.known, after_head p.old p.new r h.known)
+pub no_memory : (most : ℕ) (choice : Choice) (p : Passage) (r : VideoReading) (f : Fault) → HeadRead most p r → f ≡ fault.OutOfMemory → LacksMatroska most choice p f
+no_memory most choice p r f h e = rw e (h.kept, has_head most p.old p.new r h.known, after_head most p.old p.new r h.known)
 
-pub not_accepted : (choice : Choice) (p : Passage) (r : VideoReading) (f : Fault) → HeadRead p r → (f ≡ fault.OutOfMemory) ⊎ ((g : RecordFault) × IsFirst checks (configuration_for choice r.ppm r.head) g × (f ≡ of_record g)) →
-    LacksMatroska choice p f
-not_accepted choice p r f h (inl e) = no_memory choice p r f h e
-not_accepted choice p r f h (inr (g, i, e)) =
-    subst (λ x. LacksMatroska choice p x) (sym e) (subst (λ c. LacksMatroskaBy c choice p (of_record g)) (sym (content_check (configuration_for choice r.ppm r.head) g i)) (h.kept, rejected_before p.old p.new choice r g h.known i))
+pub not_accepted : (most : ℕ) (choice : Choice) (p : Passage) (r : VideoReading) (f : Fault) → HeadRead most p r → (f ≡ fault.OutOfMemory) ⊎ ((g : RecordFault) × IsFirstUpTo most (configuration_for choice r.ppm r.head) g × (f ≡ of_record g)) →
+    LacksMatroska most choice p f
+not_accepted most choice p r f h (inl e) = no_memory most choice p r f h e
+not_accepted most choice p r f h (inr (g, i, e)) =
+    subst (λ x. LacksMatroska most choice p x) (sym e) (subst (λ c. LacksMatroskaBy most c choice p (of_record g)) (sym (content_check most (configuration_for choice r.ppm r.head) g i)) (h.kept, rejected_before most p.old p.new choice r g h.known i))
 
-untimed_before : (old new : Option (List ℕ)) (choice : Choice) (r : VideoReading) (a : Accepted) → HeadKnown old new r.ppm r.head → IsFor choice r.ppm r.head a →
-    (IsTimed (rate_in (head_for choice r.ppm r.head a.configuration)) → ⊥) → FaultsBefore choice old new fault.Rate
-untimed_before None new choice r a k for untimed = tt
-untimed_before (Some text) None choice r a k for untimed = k
-untimed_before (Some text) (Some rest) choice r a k for untimed = inr (inr (record {
+untimed_before : (most : ℕ) (old new : Option (List ℕ)) (choice : Choice) (r : VideoReading) (a : Accepted) → HeadKnown most old new r.ppm r.head → IsFor choice r.ppm r.head a →
+    (IsTimed (rate_in (head_for choice r.ppm r.head a.configuration)) → ⊥) → FaultsBefore most choice old new fault.Rate
+untimed_before most None new choice r a k for untimed = tt
+untimed_before most (Some text) None choice r a k for untimed = k
+untimed_before most (Some text) (Some rest) choice r a k for untimed = inr (inr (record {
   head = r.head;
   read = k.1;
   accepted = a;
@@ -103,30 +103,30 @@ untimed_before (Some text) (Some rest) choice r a k for untimed = inr (inr (reco
 }))
 
 -- a writer that is not made
-pub not_made : (choice : Choice) (p : Passage) (r : VideoReading) (a : Accepted) (head : Head) (shown : Shown) (f : FileFault) → HeadRead p r → IsFor choice r.ppm r.head a →
-    head ≡ head_for choice r.ppm r.head a.configuration → Makes head shown (Err f) → LacksMatroska choice p (of_avi f) × (is_matroska_pack_fault (of_avi f) ≡ true)
-not_made choice p r a head shown file_fault.Rate h for same makes =
-    ((h.kept, untimed_before p.old p.new choice r a h.known for (subst (λ k. IsTimed (rate_in k) → ⊥) same makes)), refl)
-not_made choice p r a head shown file_fault.OutOfMemory h for same makes = ((h.kept, has_head p.old p.new r h.known, after_head p.old p.new r h.known), refl)
-not_made choice p r a head shown file_fault.TooLarge h for same makes = absurd makes
-not_made choice p r a head shown file_fault.Write h for same makes = absurd makes
-not_made choice p r a head shown file_fault.NotAvi h for same makes = absurd makes
-not_made choice p r a head shown file_fault.NoFfv1 h for same makes = absurd makes
-not_made choice p r a head shown file_fault.Truncated h for same makes = absurd makes
-not_made choice p r a head shown file_fault.ChunkTooLong h for same makes = absurd makes
-not_made choice p r a head shown file_fault.EmptyFrame h for same makes = absurd makes
-not_made choice p r a head shown file_fault.Read h for same makes = absurd makes
-not_made choice p r a head shown file_fault.NotMatroska h for same makes = absurd makes
-not_made choice p r a head shown file_fault.BadElement h for same makes = absurd makes
-not_made choice p r a head shown file_fault.NoTracks h for same makes = absurd makes
-not_made choice p r a head shown file_fault.Encoded h for same makes = absurd makes
-not_made choice p r a head shown file_fault.Laced h for same makes = absurd makes
-not_made choice p r a head shown file_fault.Checksum h for same makes = absurd makes
+pub not_made : (most : ℕ) (choice : Choice) (p : Passage) (r : VideoReading) (a : Accepted) (head : Head) (shown : Shown) (f : FileFault) → HeadRead most p r → IsFor choice r.ppm r.head a →
+    head ≡ head_for choice r.ppm r.head a.configuration → Makes head shown (Err f) → LacksMatroska most choice p (of_avi f) × (is_matroska_pack_fault (of_avi f) ≡ true)
+not_made most choice p r a head shown file_fault.Rate h for same makes =
+    ((h.kept, untimed_before most p.old p.new choice r a h.known for (subst (λ k. IsTimed (rate_in k) → ⊥) same makes)), refl)
+not_made most choice p r a head shown file_fault.OutOfMemory h for same makes = ((h.kept, has_head most p.old p.new r h.known, after_head most p.old p.new r h.known), refl)
+not_made most choice p r a head shown file_fault.TooLarge h for same makes = absurd makes
+not_made most choice p r a head shown file_fault.Write h for same makes = absurd makes
+not_made most choice p r a head shown file_fault.NotAvi h for same makes = absurd makes
+not_made most choice p r a head shown file_fault.NoFfv1 h for same makes = absurd makes
+not_made most choice p r a head shown file_fault.Truncated h for same makes = absurd makes
+not_made most choice p r a head shown file_fault.ChunkTooLong h for same makes = absurd makes
+not_made most choice p r a head shown file_fault.EmptyFrame h for same makes = absurd makes
+not_made most choice p r a head shown file_fault.Read h for same makes = absurd makes
+not_made most choice p r a head shown file_fault.NotMatroska h for same makes = absurd makes
+not_made most choice p r a head shown file_fault.BadElement h for same makes = absurd makes
+not_made most choice p r a head shown file_fault.NoTracks h for same makes = absurd makes
+not_made most choice p r a head shown file_fault.Encoded h for same makes = absurd makes
+not_made most choice p r a head shown file_fault.Laced h for same makes = absurd makes
+not_made most choice p r a head shown file_fault.Checksum h for same makes = absurd makes
 
 -- a writer that is made
-pub made : (choice : Choice) (p : Passage) (r : VideoReading) (a : Accepted) (head : Head) (shown : Shown) (w : Writer) → HeadRead p r → IsHeadOf r → IsFor choice r.ppm r.head a →
-    head ≡ head_for choice r.ppm r.head a.configuration → shown ≡ shown_for r.head → Makes head shown (Ok w) → OpensMatroska choice p r a w
-made choice p r a head shown w read is for same how makes = record {
+pub made : (most : ℕ) (choice : Choice) (p : Passage) (r : VideoReading) (a : Accepted) (head : Head) (shown : Shown) (w : Writer) → HeadRead most p r → IsHeadOf r → IsFor choice r.ppm r.head a →
+    head ≡ head_for choice r.ppm r.head a.configuration → shown ≡ shown_for r.head → Makes head shown (Ok w) → OpensMatroska most choice p r a w
+made most choice p r a head shown w read is for same how makes = record {
   read = read;
   head = is;
   for = for;
@@ -136,31 +136,41 @@ made choice p r a head shown w read is for same how makes = record {
 
 -- ---- nothing was opened
 
-lacks_by : (c : Cause) (choice : Choice) (p : Passage) (o : Option (List ℕ)) (n : ℕ) (f : Fault) → LacksMatroskaBy c choice p f → RefusesMatroskaBy c choice p (record { old = o; new = o; before = n; after = n }) f
-lacks_by Reading choice p o n f h = (refl, h.0, inl (Keeps-refl o, h.1))
-lacks_by Writing choice p o n f h = absurd h
-lacks_by Memory choice p o n f h = (refl, h.0, h.1, inl (Keeps-refl o, h.2))
-lacks_by Content choice p o n f h = (refl, h.0, inl (Keeps-refl o, h.1))
+lacks_by : (most : ℕ) (c : Cause) (choice : Choice) (p : Passage) (o : Option (List ℕ)) (n : ℕ) (f : Fault) → LacksMatroskaBy most c choice p f → RefusesMatroskaBy most c choice p (record { old = o; new = o; before = n; after = n }) f
+lacks_by most Reading choice p o n f h = (refl, h.0, inl (Keeps-refl o, h.1))
+lacks_by most Writing choice p o n f h = absurd h
+lacks_by most Memory choice p o n f h = (refl, h.0, h.1, inl (Keeps-refl o, h.2))
+lacks_by most Content choice p o n f h = (refl, h.0, inl (Keeps-refl o, h.1))
 
-pub lacks : (choice : Choice) (p : Passage) (o : Option (List ℕ)) (n : ℕ) (f : Fault) → LacksMatroska choice p f → RefusesMatroska choice p (record { old = o; new = o; before = n; after = n }) f
-lacks choice p o n f h = lacks_by (cause_of f) choice p o n f h
+pub lacks : (most : ℕ) (choice : Choice) (p : Passage) (o : Option (List ℕ)) (n : ℕ) (f : Fault) → LacksMatroska most choice p f → RefusesMatroska most choice p (record { old = o; new = o; before = n; after = n }) f
+lacks most choice p o n f h = lacks_by most (cause_of f) choice p o n f h
 
 -- ---- Clusters were written
 
+-- YUV4MPEG2 does not ask which depths a header may say
+wants_up_to : (ppm : Bool) (n most : ℕ) (h : SaidHead) (ps : List Planes) (left rest : List ℕ) → (ppm ≡ true → n ≡ most) → PictureWants ppm n h ps left rest → PictureWants ppm most h ps left rest
+wants_up_to true n most h ps left rest e is = subst (λ k. PictureWants true k h ps left rest) (e refl) is
+wants_up_to false n most h ps left rest e is = is
+
+lacks_up_to : (ppm : Bool) (n most : ℕ) (h : SaidHead) (ps : List Planes) (left rest : List ℕ) → (ppm ≡ true → n ≡ most) → PictureLacks ppm n h ps left rest → PictureLacks ppm most h ps left rest
+lacks_up_to true n most h ps left rest e is = subst (λ k. PictureLacks true k h ps left rest) (e refl) is
+lacks_up_to false n most h ps left rest e is = is
+
 -- after its head these pictures of a text were read, and then so much
-video_then : (old mid new : Option (List ℕ)) (r : VideoReading) (ps : List Planes) (P Q : List ℕ → List ℕ → Type 0) → ((left rest : List ℕ) → P left rest → Q left rest) → HeadKnown old mid r.ppm r.head →
-    Known mid new (λ text rest. (left : List ℕ) × ReadsPictures r.ppm r.head true text ps left × P left rest) → Known old new (λ text rest. (left : List ℕ) × Begins text (video_of r ps) left × Q left rest)
-video_then None mid new r ps P Q f h k = tt
-video_then (Some text) None new r ps P Q f h k = absurd h
-video_then (Some text) (Some behind) None r ps P Q f h k = k
-video_then (Some text) (Some behind) (Some rest) r ps P Q f h (left, reads, is) = (left, record { kind = h.0; behind = behind; head = h.1; pictures = reads }, f left rest is)
+video_then : (most : ℕ) (old mid new : Option (List ℕ)) (r : VideoReading) (ps : List Planes) (P Q : List ℕ → List ℕ → Type 0) → ((left rest : List ℕ) → P left rest → Q left rest) → (r.ppm ≡ true → r.most ≡ most) → HeadKnown most old mid r.ppm r.head →
+    Known mid new (λ text rest. (left : List ℕ) × ReadsPictures r.ppm r.most r.head true text ps left × P left rest) → Known old new (λ text rest. (left : List ℕ) × Begins most text (video_of r ps) left × Q left rest)
+video_then most None mid new r ps P Q f later h k = tt
+video_then most (Some text) None new r ps P Q f later h k = absurd h
+video_then most (Some text) (Some behind) None r ps P Q f later h k = k
+video_then most (Some text) (Some behind) (Some rest) r ps P Q f later h (left, reads, is) =
+    (left, record { kind = h.0; behind = behind; head = h.1; pictures = reads_up_to r.ppm r.most most r.head true behind ps left later reads }, f left rest is)
 
 -- and nothing after them
-video_known : (old mid new : Option (List ℕ)) (r : VideoReading) (ps : List Planes) → HeadKnown old mid r.ppm r.head → PicturesKnown mid new r ps → Known old new (λ text rest. Begins text (video_of r ps) rest)
-video_known None mid new r ps h k = tt
-video_known (Some text) None new r ps h k = absurd h
-video_known (Some text) (Some behind) None r ps h k = k
-video_known (Some text) (Some behind) (Some rest) r ps h k = record { kind = h.0; behind = behind; head = h.1; pictures = k }
+video_known : (most : ℕ) (old mid new : Option (List ℕ)) (r : VideoReading) (ps : List Planes) → (r.ppm ≡ true → r.most ≡ most) → HeadKnown most old mid r.ppm r.head → PicturesKnown mid new r ps → Known old new (λ text rest. Begins most text (video_of r ps) rest)
+video_known most None mid new r ps later h k = tt
+video_known most (Some text) None new r ps later h k = absurd h
+video_known most (Some text) (Some behind) None r ps later h k = k
+video_known most (Some text) (Some behind) (Some rest) r ps later h k = record { kind = h.0; behind = behind; head = h.1; pictures = reads_up_to r.ppm r.most most r.head true behind ps rest later k }
 
 many_frames : (a : Accepted) (r : VideoReading) (ps : List Planes) → length (frames_for a r.head ps) ≡ length ps
 many_frames a r [] = refl
@@ -170,15 +180,18 @@ no_frame : (a : Accepted) (r : VideoReading) (ps : List Planes) → frames_for a
 no_frame a r [] e = refl
 no_frame a r (p ∷ ps) e = absurd (cc)
 
-none_left : (old mid new : Option (List ℕ)) (choice : Choice) (a : Accepted) (r : VideoReading) (ps : List Planes) → ps ≡ [] → HeadKnown old mid r.ppm r.head → AllKnown mid new r ps →
-    Known old new (λ text rest. (left : List ℕ) × Begins text (video_of r ps) left × EndsClusters choice (video_of r ps) a left rest fault.NoFrames)
-none_left None mid new choice a r ps e h k = tt
-none_left (Some text) None new choice a r ps e h k = absurd h
-none_left (Some text) (Some behind) None choice a r ps e h k = k
-none_left (Some text) (Some behind) (Some rest) choice a r ps e h (left, reads, end) =
-    (left, record { kind = h.0; behind = behind; head = h.1; pictures = reads }, inr (inr (end, e, refl)))
+none_left : (most : ℕ) (old mid new : Option (List ℕ)) (choice : Choice) (a : Accepted) (r : VideoReading) (ps : List Planes) → ps ≡ [] → (r.ppm ≡ true → r.most ≡ most) → HeadKnown most old mid r.ppm r.head → AllKnown mid new r ps →
+    Known old new (λ text rest. (left : List ℕ) × Begins most text (video_of r ps) left × EndsClusters most choice (video_of r ps) a left rest fault.NoFrames)
+none_left most None mid new choice a r ps e later h k = tt
+none_left most (Some text) None new choice a r ps e later h k = absurd h
+none_left most (Some text) (Some behind) None choice a r ps e later h k = k
+none_left most (Some text) (Some behind) (Some rest) choice a r ps e later h (left, reads, end) = (
+  left,
+  record { kind = h.0; behind = behind; head = h.1; pictures = reads_up_to r.ppm r.most most r.head true behind ps left later reads },
+  inr (inr (sym (next_up_to r.ppm r.most most r.head (at_first ps) left later) ∙ end, e, refl)),
+)
 
-module _ (choice : Choice) (p : Passage) (r : VideoReading) (a : Accepted) (w : Writer) (opens : OpensMatroska choice p r a w) where
+module _ (most : ℕ) (choice : Choice) (p : Passage) (r : VideoReading) (a : Accepted) (w : Writer) (opens : OpensMatroska most choice p r a w) where
   abbrev head : Head
   head = head_for choice r.ppm r.head a.configuration
 
@@ -188,41 +201,43 @@ module _ (choice : Choice) (p : Passage) (r : VideoReading) (a : Accepted) (w : 
   clusters : (ps : List Planes) → AreClusters a r fresh ps → HasClusters choice (video_of r ps) a
   clusters ps are = record { head = opens.head; for = opens.for; timed = opens.timed; short = are.short; readable = are.readable; near = are.near }
 
-  ends_clusters : (f : Fault) (ps : List Planes) (left rest : List ℕ) → EndsPutting a r fresh f ps left rest → EndsClusters choice (video_of r ps) a left rest f
-  ends_clusters f ps left rest ends = elim ends [
-    | inl at ↦ elim at [
-      | inl faulty ↦ inl faulty
-      | inr long ↦ inr (inl (long.0, long.1, inl (long.2, long.3)))
-    ]
-    | inr other ↦ elim other [
-      | inl long ↦ inr (inl (long.0, long.1, inr (inl (long.2, long.3, long.4))))
-      | inr far ↦ inr (inl (far.0, far.1, inr (inr (far.2, far.3, far.4, far.5))))
-    ]
-  ]
+  ends_clusters : (f : Fault) (ps : List Planes) (left rest : List ℕ) → EndsPutting a r fresh f ps left rest → EndsClusters most choice (video_of r ps) a left rest f
+  ends_clusters f ps left rest ends =
+      let same = sym (next_up_to r.ppm r.most most r.head (at_first ps) left opens.read.later) in
+      elim ends [
+        | inl at ↦ elim at [
+          | inl faulty ↦ inl (faulty.0, same ∙ faulty.1, faulty.2)
+          | inr long ↦ inr (inl (long.0, same ∙ long.1, inl (long.2, long.3)))
+        ]
+        | inr other ↦ elim other [
+          | inl long ↦ inr (inl (long.0, same ∙ long.1, inr (inl (long.2, long.3, long.4))))
+          | inr far ↦ inr (inl (far.0, same ∙ far.1, inr (inr (far.2, far.3, far.4, far.5))))
+        ]
+      ]
 
   module _ (q o : Passage) (joins : q.old ≡ p.new) (counts : q.before ≡ p.after) where
     some : (Next : List Planes → List ℕ → List ℕ → Type 0) (After : Video → Accepted → List ℕ → List ℕ → Type 0) →
-        ((ps : List Planes) (left rest : List ℕ) → Next ps left rest → After (video_of r ps) a left rest) → PutsSome Next a r fresh q o → PacksSome After choice (joined p q) o
+        ((ps : List Planes) (left rest : List ℕ) → Next ps left rest → After (video_of r ps) a left rest) → PutsSome Next a r fresh q o → PacksSome most After choice (joined p q) o
     some Next After f s = record {
       video = video_of r s.pictures;
       accepted = a;
       has = clusters s.pictures s.are;
-      taken = video_then p.old p.new q.new r s.pictures (Next s.pictures) (After (video_of r s.pictures) a) (f s.pictures) opens.read.known
-          (subst (λ t. Known t q.new (λ text rest. (left : List ℕ) × ReadsPictures r.ppm r.head true text s.pictures left × Next s.pictures left rest)) joins s.taken);
+      taken = video_then most p.old p.new q.new r s.pictures (Next s.pictures) (After (video_of r s.pictures) a) (f s.pictures) opens.read.later opens.read.known
+          (subst (λ t. Known t q.new (λ text rest. (left : List ℕ) × ReadsPictures r.ppm r.most r.head true text s.pictures left × Next s.pictures left rest)) joins s.taken);
       writes = s.writes;
     }
 
-    stops_by : (c : Cause) (f : Fault) → StopsPuttingBy c a r fresh q o f → RefusesMatroskaBy c choice (joined p q) o f
+    stops_by : (c : Cause) (f : Fault) → StopsPuttingBy c a r fresh q o f → RefusesMatroskaBy most c choice (joined p q) o f
     stops_by Reading f s = (
       s.0,
       s.1 ∙ ap one_more (counts ∙ opens.read.kept),
-      inr (some (PictureWants r.ppm r.head) (λ v b. PictureWants v.ppm v.head v.pictures) (λ ps left rest is. is) s.2),
+      inr (some (PictureWants r.ppm r.most r.head) (λ v b. PictureWants v.ppm most v.head v.pictures) (λ ps left rest is. wants_up_to r.ppm r.most most r.head ps left rest opens.read.later is) s.2),
     )
     stops_by Memory f s = (
       s.0,
       s.1 ∙ (counts ∙ opens.read.kept),
-      has_head p.old p.new r opens.read.known,
-      inr (some (PictureLacks r.ppm r.head) (λ v b. PictureLacks v.ppm v.head v.pictures) (λ ps left rest is. is) s.2),
+      has_head most p.old p.new r opens.read.known,
+      inr (some (PictureLacks r.ppm r.most r.head) (λ v b. PictureLacks v.ppm most v.head v.pictures) (λ ps left rest is. lacks_up_to r.ppm r.most most r.head ps left rest opens.read.later is) s.2),
     )
     stops_by Writing f (written, read, s) = (
       written,
@@ -232,7 +247,7 @@ module _ (choice : Choice) (p : Passage) (r : VideoReading) (a : Accepted) (w : 
         accepted = a;
         has = clusters s.pictures s.are;
         next = s.next;
-        reads = video_known p.old p.new q.new r (s.pictures ++ (s.next ∷ [])) opens.read.known (subst (λ t. PicturesKnown t q.new r (s.pictures ++ (s.next ∷ []))) joins s.reads);
+        reads = video_known most p.old p.new q.new r (s.pictures ++ (s.next ∷ [])) opens.read.later opens.read.known (subst (λ t. PicturesKnown t q.new r (s.pictures ++ (s.next ∷ []))) joins s.reads);
         short = s.short;
         readable = s.readable;
         near = s.near;
@@ -242,10 +257,10 @@ module _ (choice : Choice) (p : Passage) (r : VideoReading) (a : Accepted) (w : 
     stops_by Content f s = (
       s.0,
       s.1 ∙ (counts ∙ opens.read.kept),
-      inr (some (EndsPutting a r fresh f) (λ v b left rest. EndsClusters choice v b left rest f) (ends_clusters f) s.2),
+      inr (some (EndsPutting a r fresh f) (λ v b left rest. EndsClusters most choice v b left rest f) (ends_clusters f) s.2),
     )
 
-    pub putting_stops : (f : Fault) → StopsPutting a r w q o f → RefusesMatroska choice (joined p q) o f
+    pub putting_stops : (f : Fault) → StopsPutting a r w q o f → RefusesMatroska most choice (joined p q) o f
     putting_stops f s = stops_by (cause_of f) f (subst (λ x. StopsPutting a r x q o f) opens.fresh s)
 
     module _ (v : Writer) (packed : Packed) (h : PutsAll a r w v q o packed) where
@@ -265,7 +280,7 @@ module _ (choice : Choice) (p : Passage) (r : VideoReading) (a : Accepted) (w : 
       known = subst (λ t. AllKnown t q.new r pictures) joins h.all.known
 
       -- there was no picture
-      pub no_pictures : packed.frames ≡ 0 → RefusesMatroska choice (joined p q) o fault.NoFrames
+      pub no_pictures : packed.frames ≡ 0 → RefusesMatroska most choice (joined p q) o fault.NoFrames
       no_pictures none =
           let empty : h.frames ≡ [] = no_items h.frames (sym put.frames_are ∙ none) in
           let no : pictures ≡ [] = no_frame a r pictures (sym h.all.are ∙ empty) in (
@@ -275,7 +290,7 @@ module _ (choice : Choice) (p : Passage) (r : VideoReading) (a : Accepted) (w : 
               video = video_of r pictures;
               accepted = a;
               has = clusters pictures (record { short = h.all.short; readable = subst AreReadable h.all.are put.readable; near = λ some. absurd (let e = ap (λ ps. length ps) no in omega (arith, e, some)) });
-              taken = none_left p.old p.new q.new choice a r pictures no opens.read.known known;
+              taken = none_left most p.old p.new q.new choice a r pictures no opens.read.later opens.read.known known;
               writes = subst (Appends o.old o.new) begun_is put.writes;
             }),
           )
@@ -293,7 +308,7 @@ module _ (choice : Choice) (p : Passage) (r : VideoReading) (a : Accepted) (w : 
         some_read = some_pictures a r pictures h.frames h.all.are some_in
 
         read : ReadsVideo p.old q.new (video_of r pictures)
-        read = reads_video texts_only images_only p.old p.new q.new r pictures opens.read.known opens.head known some_read
+        read = reads_video texts_only images_only most p.old p.new q.new r pictures opens.read.later opens.read.known opens.head known some_read
 
         all_frames_are : 0 < length (frames_for a r.head pictures)
         all_frames_are = subst (λ fs. 0 < length fs) h.all.are some_in
@@ -307,13 +322,13 @@ module _ (choice : Choice) (p : Passage) (r : VideoReading) (a : Accepted) (w : 
         begun : Appends o.old z.old (begun_file choice (video_of r pictures) a)
         begun = subst (λ t. Appends o.old t (begun_file choice (video_of r pictures) a)) (sym follows) (subst (Appends o.old o.new) begun_is put.writes)
 
-        pub finish_stops : (f : FileFault) → Finishes z v (Err f) → RefusesMatroska choice (joined p q) (joined o z) (of_avi f)
+        pub finish_stops : (f : FileFault) → Finishes z v (Err f) → RefusesMatroska most choice (joined p q) (joined o z) (of_avi f)
         finish_stops f finishes = fails f (subst (λ x. Finishes z x (Err f)) writer_is finishes)
           where
-            fails_by : FinishFails choice (joined p q) (joined o z) → z.after ≡ one_more z.before → RefusesMatroska choice (joined p q) (joined o z) fault.Write
+            fails_by : FinishFails choice (joined p q) (joined o z) → z.after ≡ one_more z.before → RefusesMatroska most choice (joined p q) (joined o z) fault.Write
             fails_by fails after = (after ∙ ap one_more (number ∙ put.kept), kept, inr fails)
 
-            fails : (f : FileFault) → Finishes z (writing_of head (shown_for r.head) (frames_for a r.head pictures)) (Err f) → RefusesMatroska choice (joined p q) (joined o z) (of_avi f)
+            fails : (f : FileFault) → Finishes z (writing_of head (shown_for r.head) (frames_for a r.head pictures)) (Err f) → RefusesMatroska most choice (joined p q) (joined o z) (of_avi f)
             fails file_fault.Write (after, inl cut) = fails_by (record {
               video = video_of r pictures;
               accepted = a;
@@ -363,12 +378,13 @@ module _ (choice : Choice) (p : Passage) (r : VideoReading) (a : Accepted) (w : 
         )
 
         pub packs : (b : Bool) → Finishes z v (Ok b) →
-            PacksMatroska choice (joined p q) (joined o z) (record { frames = packed.frames; bytes = packed.bytes; finished = b })
+            PacksMatroska most choice (joined p q) (joined o z) (record { frames = packed.frames; bytes = packed.bytes; finished = b })
         packs b finishes =
             let all = whole_by b (subst (λ x. Finishes z x (Ok b)) writer_is finishes) in
             record {
               video = video_of r pictures;
               accepted = a;
+              deep = opens.read.deep;
               reads = read;
               some = some_read;
               has = has_all;

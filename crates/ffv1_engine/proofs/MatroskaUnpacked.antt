@@ -27,10 +27,13 @@ use Rattle.ffv1_words.specs.declared.order.Choice.{Choice}
 use Rattle.ffv1_engine.specs.MatroskaRoundTrip.{WasPackedMatroska, matroska_file, matroska_video}
 use Rattle.ffv1_engine.specs.PackMatroska.{HasClusters, begun_file, shown_for, whole_file}
 use Rattle.ffv1_engine.specs.Packing.{AreReadable, packed_frames, packed_head, said_for}
+use Rattle.ffv1_engine.specs.RoundTrip.{IsReadIn}
 use Rattle.ffv1_engine.specs.Video.{Video}
+use Rattle.ffv1_engine.specs.declared.profile.Profile.{Profile}
 use Rattle.ffv1_engine.specs.declared.profile.Profile.TheVariants.{Wide}
 use Rattle.ffv1_engine.specs.Profiles.{record_profile}
 use Rattle.ffv1_engine.proofs.PackedFrames.{FrameLaws, frame_bytes, frame_some}
+use Rattle.ffv1_engine.proofs.Depths.{all_within}
 use Rattle.ffv1_engine.proofs.PackedIsUnpacked.{Given, reads_is, short_in}
 use Rattle.ffv1_engine.proofs.PackedText.{RecordLaws, rated_by, sized}
 use Rattle.ffv1_engine.proofs.RecordShort.{record_are_bytes, record_most}
@@ -136,7 +139,7 @@ are_written laws a accepted said (p ∷ ps) readable =
 pub writable : (frame_laws : FrameLaws) (records : RecordLaws) (choice : Choice) (v : Video) (a : Accepted) → HasClusters choice v a → 0 < length v.pictures →
     (v.ppm ≡ true → IsRatio 4294967295 choice.rate choice.scale) → IsWritable (packed_head choice v a) (shown_for v.head) (packed_frames v a)
 writable frame_laws records choice v a has some rated =
-    let sizes = sized v.ppm v.head has.head in
+    let sizes = sized v.ppm v.head.head has.head in
     let ratio = (rated_by choice v.ppm v.head a.configuration has.head rated).is in
     record {
       width = let few = sizes.wide in omega (arith, few);
@@ -205,11 +208,11 @@ module _ (laws : MatroskaLaws) where
 -- ---- a text that was packed
 
 -- what was accepted, in the profile that the file is read in
-abbrev pub accepted_wide : {choice : Choice} → {text : List ℕ} → WasPackedMatroska choice text → Accepted
+abbrev pub accepted_wide : {packing : Profile} → {choice : Choice} → {text : List ℕ} → WasPackedMatroska packing choice text → Accepted
 accepted_wide w = record { configuration = w.packs.accepted.configuration; table = w.packs.accepted.table; profile = record_profile Wide }
 
-pub given : (choice : Choice) (text : List ℕ) (w : WasPackedMatroska choice text) → Given choice text (matroska_video w) (accepted_wide w)
-given choice text w = record {
+pub given : (packing : Profile) (choice : Choice) (text : List ℕ) (w : WasPackedMatroska packing choice text) → Given choice text (matroska_video w) (accepted_wide w)
+given packing choice text w = record {
   is = reads_is text w.input.old w.input.new w.packs.video w.known w.packs.reads;
   bytes = w.bytes;
   for = record { configuration = w.packs.has.for.configuration; accepted = w.packs.has.for.accepted };
@@ -219,7 +222,11 @@ given choice text w = record {
   rated = w.rated;
 }
 
-module _ (frame_laws : FrameLaws) (records : RecordLaws) (laws : MatroskaLaws) (choice : Choice) (text : List ℕ) (w : WasPackedMatroska choice text) where
+-- and it is read
+pub read_wide : (packing : Profile) (choice : Choice) (text : List ℕ) (w : WasPackedMatroska packing choice text) → IsReadIn Wide (matroska_video w)
+read_wide packing choice text w = all_within packing w.packs.video.head.depth w.packs.deep
+
+module _ (packing : Profile) (frame_laws : FrameLaws) (records : RecordLaws) (laws : MatroskaLaws) (choice : Choice) (text : List ℕ) (w : WasPackedMatroska packing choice text) where
   reads : MatroskaFile (matroska_file w) (packed_head choice (matroska_video w) (w.packs.accepted)) (packed_frames (matroska_video w) (w.packs.accepted))
       × (file_read Whole (matroska_file w) ≡ Ok ((packed_head choice (matroska_video w) (w.packs.accepted), packed_frames (matroska_video w) (w.packs.accepted)), []))
   reads = whole_read laws w.packed.finished choice w.packs.video w.packs.accepted (writable frame_laws records choice w.packs.video w.packs.accepted w.packs.has w.packs.some w.rated)

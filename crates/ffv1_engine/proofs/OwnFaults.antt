@@ -223,6 +223,7 @@ header_reads y4m_fault.Tag own = refl
 header_reads y4m_fault.Unsupported own = refl
 header_reads y4m_fault.FrameLine own = absurd own
 header_reads y4m_fault.FrameTruncated own = absurd own
+header_reads y4m_fault.SampleTooLarge own = absurd own
 header_reads y4m_fault.FormatChanged own = absurd own
 
 pub picture_reads : (f : Y4mFault) → IsPictureFault f → is_mono_fault (of_y4m f) ≡ true
@@ -234,4 +235,5 @@ picture_reads y4m_fault.Tag own = absurd own
 picture_reads y4m_fault.Unsupported own = absurd own
 picture_reads y4m_fault.FrameLine own = refl
 picture_reads y4m_fault.FrameTruncated own = refl
+picture_reads y4m_fault.SampleTooLarge own = refl
 picture_reads y4m_fault.FormatChanged own = absurd own

@@ -23,7 +23,7 @@ use Rattle.ffv1_codec.specs.Picture.{IsPicture, Planes}
 use Rattle.ffv1_codec.specs.SliceList.{Said, chosen_slice}
 use Rattle.ffv1_codec.specs.declared.fault.FrameFault.{FrameFault}
 use Rattle.ffv1_codec.proofs.FromCoded.{coded_bytes}
-use Rattle.ffv1_y4m.specs.declared.head.VideoHead.{VideoHead}
+use Rattle.ffv1_engine.specs.Video.{SaidHead}
 use Rattle.ffv1_words.specs.declared.order.Choice.{Choice}
 use Rattle.ffv1_engine.specs.Packing.{AllShort, configuration_for, said_for}
 use Rattle.ffv1_engine.specs.Stream.{AreFrames, Decided, FaultsFrame, Frame, payloads}
@@ -127,7 +127,7 @@ module _ (laws : FrameLaws) (a : Accepted) (accepted : IsAccepted a.configuratio
       let long = laws.long a planes said in
       omega (arith, all, long)
 
-  pub all_coded : (choice : Choice) (ppm : Bool) (h : VideoHead) → a.configuration ≡ configuration_for choice ppm h → IsHeadBy ppm h → IsSaid (said_for h) → (ps : List Planes) → AllFitting h ps →
+  pub all_coded : (choice : Choice) (ppm : Bool) (h : SaidHead) → a.configuration ≡ configuration_for choice ppm h → IsHeadBy ppm h.head → IsSaid (said_for h) → (ps : List Planes) → AllFitting h ps →
       AllShort a h ps → AllCoded a (said_for h) ps
   all_coded choice ppm h for is said [] fitting short = tt
   all_coded choice ppm h for is said (p ∷ ps) fitting short = (

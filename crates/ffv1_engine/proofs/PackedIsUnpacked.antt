@@ -20,11 +20,12 @@ use Rattle.ffv1_avi.specs.Written.{file_of}
 use Rattle.ffv1_y4m.specs.Canonical.{canonical_text}
 use Rattle.ffv1_y4m.specs.HeaderLine.{IsHeaderLine}
 use Rattle.ffv1_y4m.specs.Text.{AllFit, IsText}
-use Rattle.ffv1_y4m.specs.VideoHead.{IsHead, IsRatio}
+use Rattle.ffv1_y4m.specs.VideoHead.{IsHead, IsNamed, IsRatio}
+use Rattle.ffv1_engine.specs.Video.{SaidHead}
 use Rattle.ffv1_y4m.specs.declared.head.VideoHead.{VideoHead}
 use Rattle.ffv1_engine.specs.declared.profile.Profile.{Profile}
 use Rattle.ffv1_engine.specs.declared.profile.Profile.TheVariants.{Strict, Wide}
-use Rattle.ffv1_engine.specs.Profiles.{scope_in, record_profile}
+use Rattle.ffv1_engine.specs.Profiles.{greatest_depth, scope_in, record_profile}
 use Rattle.ffv1_engine.specs.declared.fault.Fault.{Fault}
 use Rattle.ffv1_engine.specs.declared.fault.Fault.TheVariants as fault
 use Rattle.ffv1_words.specs.declared.order.Choice.{Choice}
@@ -36,15 +37,16 @@ use Rattle.ffv1_avi.specs.Written.{most, riff_size}
 use Rattle.ffv1_engine.specs.Packing.{AllShort, AreReadable, IsFor, configuration_for, packed_file, packed_frames, packed_head, said_for}
 use Rattle.ffv1_engine.specs.Play.{End, EndsKnown, EndsWith, FaultsRead, IsOfFile, LacksStream, Played}
 use Rattle.ffv1_engine.specs.Play.End.{File, Payload, Over}
-use Rattle.ffv1_engine.specs.RoundTrip.{HoldsBy, IsFileIn, IsNoContent, IsUnpacked, WasPacked, canonical_by, canonical_of, video_in}
+use Rattle.ffv1_engine.specs.RoundTrip.{HoldsBy, IsFileIn, IsNoContent, IsReadIn, IsUnpacked, WasPacked, canonical_by, canonical_of, video_in}
 use Rattle.ffv1_engine.specs.Stream.{AreFrames, Begins, BeginsKnown, FaultsFrame, Frame, IsRead, IsStream, ReadsFile, ReadsFrames, Stream, payloads}
 use Rattle.ffv1_engine.specs.Unpack.{LacksTextIn, UnpackDone, UnpackStops, UnpackStopsBy}
 use Rattle.ffv1_engine.specs.Unpacked.{AllSay, AreAlike, HasTextBy, LacksText, LacksTextBy, is_ppm_stream, pictures, text_of}
 use Rattle.ffv1_engine.specs.Video.{IsVideo, IsVideoBy, ReadsVideo, Video}
 use Rattle.ffv1_engine.specs.VideoReads.{IsHeadBy}
+use Rattle.ffv1_engine.proofs.Depths.{all_within, eight_within}
 use Rattle.ffv1_engine.proofs.FileTurns.{Opened, Others, no_fault as no_read_fault, no_more, no_stop, one_more, opened, others}
 use Rattle.ffv1_engine.proofs.PackedFrames.{AllCoded, FrameLaws, Same, all_coded, made, no_fault, same}
-use Rattle.ffv1_engine.proofs.PackedPictures.{head_given, pictures_given, said_given}
+use Rattle.ffv1_engine.proofs.PackedPictures.{head_given, name_given, pictures_given, said_given}
 use Rattle.ffv1_engine.proofs.PackedText.{RecordLaws, alike_given, canonical_given, none_refused, one_stream, stream_for, stream_is, text_given, writable}
 use Rattle.ffv1_record.specs.Configuration.{Configuration}
 
@@ -55,8 +57,9 @@ pub record FileLaws (profile : Profile) : Type 0 where
   pub is_read : (file : List ℕ) (head : Head) (frames : List (List ℕ)) (is : AviFile file head frames) → file_read FirstMovi file ≡ Ok ((head, frames), is.rest)
   pub is_whole : (file : List ℕ) (head : Head) (frames : List (List ℕ)) (rest : List ℕ) → IsWhole file head frames rest → file_read Whole file ≡ Ok ((head, frames), rest)
   pub next : (place : Place) (text : List ℕ) → frames_read place text ≡ avi.read_on (frame_read place text) (more_frames frames_read)
-  pub said : (line : List ℕ) (h : VideoHead) → IsHeaderLine line h → IsHead h
-  pub canonical : (h : VideoHead) (ps : List Planes) → IsHead h → AllFit h ps → IsText (canonical_text h ps) h ps
+  pub said : (line : List ℕ) (depth : ℕ) (h : VideoHead) → IsHeaderLine line depth h → IsHead h
+  pub named : (line : List ℕ) (depth : ℕ) (h : VideoHead) → IsHeaderLine line depth h → IsNamed depth h
+  pub canonical : (depth : ℕ) (h : VideoHead) (ps : List Planes) → IsHead h → IsNamed depth h → AllFit depth h ps → IsText (canonical_text depth h ps) depth h ps
 
 same_ok : {X : Type 0} (r : Result X avi.Stop) (x y : X) → r ≡ Ok x → r ≡ Ok y → x ≡ y
 same_ok r x y e f = cc
@@ -75,11 +78,12 @@ text_or_none true c f has lacks = absurd (let wrong : true ≡ false = sym lacks
 text_or_none false c f has lacks = absurd (let wrong : true ≡ false = sym has ∙ lacks.0 in cc)
 
 -- the canonical text is one of the same video
-pub same_by : {profile : Profile} → FileLaws profile → (ppm : Bool) (text : List ℕ) (h : VideoHead) (ps : List Planes) → IsVideoBy ppm text h ps → IsVideoBy ppm (canonical_by ppm h ps) h ps
-same_by laws true text h ps v = (v.0, record { sized = v.1.sized; whole = refl; fit = v.1.fit })
-same_by laws false text h ps v = laws.canonical h ps (laws.said v.line h v.said) v.fit
+pub same_by : {profile : Profile} → FileLaws profile → (ppm : Bool) (text : List ℕ) (h : SaidHead) (ps : List Planes) → IsVideoBy ppm text h ps → IsVideoBy ppm (canonical_by ppm h ps) h ps
+same_by laws true text h ps v = (v.0, record { sized = v.1.sized; named = v.1.named; whole = refl; fit = v.1.fit })
+same_by laws false text h ps v =
+    laws.canonical h.depth h.head ps (laws.said v.line h.depth h.head v.said) (laws.named v.line h.depth h.head v.said) v.fit
 
-pub ppm_by : (ppm : Bool) (text : List ℕ) (h : VideoHead) (ps : List Planes) → IsVideoBy ppm text h ps → ppm ≡ true → canonical_by ppm h ps ≡ text
+pub ppm_by : (ppm : Bool) (text : List ℕ) (h : SaidHead) (ps : List Planes) → IsVideoBy ppm text h ps → ppm ≡ true → canonical_by ppm h ps ≡ text
 ppm_by true text h ps v is = sym v.1.whole
 ppm_by false text h ps v is = absurd (cc)
 
@@ -126,12 +130,15 @@ pub record Given (choice : Choice) (text : List ℕ) (v : Video) (a : Accepted) 
   pub rated : v.ppm ≡ true → IsRatio 4294967295 choice.rate choice.scale
 
 module _ (profile : Profile) (files : FileLaws profile) (frame_laws : FrameLaws) (records : RecordLaws) (choice : Choice) (text : List ℕ) (v : Video) (a : Accepted) (profiled : a.profile ≡ record_profile profile)
-    (g : Given choice text v a) where
+    (read : v.head.depth ≤ greatest_depth profile) (g : Given choice text v a) where
   for : a.configuration ≡ configuration_for choice v.ppm v.head
   for = g.for.configuration
 
-  pub head : IsHeadBy v.ppm v.head
+  pub head : IsHeadBy v.ppm v.head.head
   head = head_given files.said v.ppm text v.head v.pictures g.is
+
+  named : IsNamed v.head.depth v.head.head
+  named = name_given files.named v.ppm text v.head v.pictures g.is
 
   said : IsSaid (said_for v.head)
   said = said_given v.ppm v.head head
@@ -140,7 +147,7 @@ module _ (profile : Profile) (files : FileLaws profile) (frame_laws : FrameLaws)
   coded = all_coded frame_laws a g.for.accepted choice v.ppm v.head for head said v.pictures (pictures_given v.ppm text v.head v.pictures g.is g.bytes) g.short
 
   pub can_write : riff_size (packed_head choice v a) (packed_frames v a) ≤ most → IsWritable (packed_head choice v a) (packed_frames v a)
-  can_write small = writable profile records choice v.ppm v.head a for g.for.accepted profiled head g.rated v.pictures coded g.readable small
+  can_write small = writable profile records choice v.ppm v.head a for g.for.accepted profiled head read g.rated v.pictures coded g.readable small
 
   stream : Stream
   stream = stream_for choice v.ppm v.head a
@@ -158,10 +165,10 @@ module _ (profile : Profile) (files : FileLaws profile) (frame_laws : FrameLaws)
           stream = stream;
           frames = m.frames;
           is = subst (λ ps. Is file (packed_head choice v a) ps) (sym m.payloads_are) file_is;
-          played = record { stream = stream_is profile records choice v.ppm v.head a for g.for.accepted profiled head; decoded = m.are };
+          played = record { stream = stream_is profile records choice v.ppm v.head a for g.for.accepted profiled head read; decoded = m.are };
           pictures_are = m.pictures_are;
           say = m.say;
-          text = text_given choice v.ppm v.head a for head;
+          text = text_given choice v.ppm v.head a for head named;
           alike = alike_given choice v.ppm v.head a for m.frames m.say;
           writes = canonical_given choice v.ppm v.head a for m.frames v.pictures m.say m.pictures_are g.some;
         }
@@ -169,7 +176,7 @@ module _ (profile : Profile) (files : FileLaws profile) (frame_laws : FrameLaws)
     -- a stream with that head is the one
     the_stream : (s : Stream) → IsStream profile s → s.head ≡ packed_head choice v a → s ≡ stream
     unfolding stream
-    the_stream s is e = one_stream profile records choice v.ppm v.head a for g.for.accepted profiled head s is e
+    the_stream s is e = one_stream profile records choice v.ppm v.head a for g.for.accepted profiled head read s is e
 
     -- frames of it that the file begins with are those of the first pictures
     the_frames : (s : Stream) (frames : List Frame) (more : List (List ℕ)) → s ≡ stream → AreFrames s.accepted frames → packed_frames v a ≡ payloads frames ++ more → Same a (said_for v.head) frames more v.pictures
@@ -255,14 +262,14 @@ module _ (profile : Profile) (files : FileLaws profile) (frame_laws : FrameLaws)
     lacks_stream (Some rest) f (inl h) = no_read_fault (open_read (scope_in profile)) file rest f _ h whole.opened
     lacks_stream (Some rest) f (inr h) =
         let e : ((h.head, h.place), rest) ≡ ((packed_head choice v a, whole.from), whole.behind) = same_ok (open_read (scope_in profile) file) _ _ h.opened whole.opened in
-        none_refused profile records choice v.ppm v.head a for g.for.accepted profiled head h.head h.refusal (ap (λ (z : (Head × Place) × List ℕ). z.0.0) e) h.refused
+        none_refused profile records choice v.ppm v.head a for g.for.accepted profiled head read h.head h.refusal (ap (λ (z : (Head × Place) × List ℕ). z.0.0) e) h.refused
 
     -- which has a text
     lacks_text : (f : Fault) → LacksTextIn profile (Some file) f → ⊥
     unfolding stream
     lacks_text f h =
         let e = the_stream h.stream h.is (first h.stream [] (record { to = h.begins.0; at = h.begins.1; begins = h.begins.2 })).0 in
-        text_or_none (is_ppm_stream stream) a.configuration f (text_given choice v.ppm v.head a for head) (subst (λ s. LacksText s f) e h.lacks)
+        text_or_none (is_ppm_stream stream) a.configuration f (text_given choice v.ppm v.head a for head named) (subst (λ s. LacksText s f) e h.lacks)
 
     -- after its frames it ends without a fault, and not before the first
     file_ends : (new : Option (List ℕ)) (s : Stream) (frames : List Frame) (e : End) (f : Fault) → EndsKnown profile (Some file) new s frames e → IsOfFile e → EndsWith frames e f → ⊥
@@ -344,15 +351,15 @@ reads_is text old new v known h = is_video new (subst (λ o. ReadsVideo o new v)
     is_video (Some rest) k = k.0
 
 -- what was accepted, in the profile that the file is read in
-abbrev pub accepted_in : {choice : Choice} → {text : List ℕ} → Profile → WasPacked choice text → Accepted
+abbrev pub accepted_in : {packing : Profile} → {choice : Choice} → {text : List ℕ} → Profile → WasPacked packing choice text → Accepted
 accepted_in profile w = record { configuration = w.packs.accepted.configuration; table = w.packs.accepted.table; profile = record_profile profile }
 
-pub short_in : (profile : Profile) (a : Accepted) (h : VideoHead) (ps : List Planes) → AllShort a h ps → AllShort (record { configuration = a.configuration; table = a.table; profile = record_profile profile }) h ps
+pub short_in : (profile : Profile) (a : Accepted) (h : SaidHead) (ps : List Planes) → AllShort a h ps → AllShort (record { configuration = a.configuration; table = a.table; profile = record_profile profile }) h ps
 short_in profile a h [] short = tt
 short_in profile a h (p ∷ ps) short = (λ long. short.0 (record { slice = long.slice; inside = long.inside; long = long.long }), short_in profile a h ps short.1)
 
-pub given : (profile : Profile) (choice : Choice) (text : List ℕ) (w : WasPacked choice text) → Given choice text (video_in w) (accepted_in profile w)
-given profile choice text w = record {
+pub given : (packing profile : Profile) (choice : Choice) (text : List ℕ) (w : WasPacked packing choice text) → Given choice text (video_in w) (accepted_in profile w)
+given packing profile choice text w = record {
   is = reads_is text w.input.old w.input.new w.packs.video w.known w.packs.reads;
   bytes = w.bytes;
   for = record { configuration = w.packs.packable.for.configuration; accepted = w.packs.packable.for.accepted };
@@ -362,16 +369,24 @@ given profile choice text w = record {
   rated = w.rated;
 }
 
-pub same_video : {profile : Profile} → FileLaws profile → (choice : Choice) (text : List ℕ) (w : WasPacked choice text) → IsVideo (canonical_of (video_in w)) (video_in w)
-same_video files choice text w = same_by files w.packs.video.ppm text w.packs.video.head w.packs.video.pictures (given Strict choice text w).is
+pub same_video : {profile : Profile} → FileLaws profile → (packing : Profile) (choice : Choice) (text : List ℕ) (w : WasPacked packing choice text) → IsVideo (canonical_of (video_in w)) (video_in w)
+same_video files packing choice text w = same_by files w.packs.video.ppm text w.packs.video.head w.packs.video.pictures (given packing Strict choice text w).is
 
-pub same_ppm : (choice : Choice) (text : List ℕ) (w : WasPacked choice text) → (video_in w).ppm ≡ true → canonical_of (video_in w) ≡ text
-same_ppm choice text w = ppm_by w.packs.video.ppm text w.packs.video.head w.packs.video.pictures (given Strict choice text w).is
+pub same_ppm : (packing : Profile) (choice : Choice) (text : List ℕ) (w : WasPacked packing choice text) → (video_in w).ppm ≡ true → canonical_of (video_in w) ≡ text
+same_ppm packing choice text w = ppm_by w.packs.video.ppm text w.packs.video.head w.packs.video.pictures (given packing Strict choice text w).is
+
+-- it is read in each profile that reads its depth
+pub read_in : (packing profile : Profile) (choice : Choice) (text : List ℕ) (w : WasPacked packing choice text) → IsReadIn packing (video_in w) × IsReadIn Wide (video_in w) × ((video_in w).head.depth ≡ 8 → IsReadIn profile (video_in w))
+read_in packing profile choice text w = (
+  w.packs.packable.deep,
+  all_within packing w.packs.video.head.depth w.packs.packable.deep,
+  λ eight. eight_within profile w.packs.video.head.depth eight,
+)
 
 -- the AVI of such a text
-module _ (profile : Profile) (files : FileLaws profile) (frame_laws : FrameLaws) (records : RecordLaws) (choice : Choice) (text : List ℕ) (w : WasPacked choice text) where
+module _ (packing profile : Profile) (files : FileLaws profile) (frame_laws : FrameLaws) (records : RecordLaws) (choice : Choice) (text : List ℕ) (w : WasPacked packing choice text) (read : IsReadIn profile (video_in w)) where
   avi_writable : IsWritable (packed_head choice (video_in w) (accepted_in profile w)) (packed_frames (video_in w) (accepted_in profile w))
-  avi_writable = can_write profile files frame_laws records choice text (video_in w) (accepted_in profile w) refl (given profile choice text w) w.packs.packable.small
+  avi_writable = can_write profile files frame_laws records choice text (video_in w) (accepted_in profile w) refl read (given packing profile choice text w) w.packs.packable.small
 
   pub avi_reads : file_read (scope_in profile) (packed_file choice (video_in w) (accepted_in profile w)) ≡ Ok ((packed_head choice (video_in w) (accepted_in profile w), packed_frames (video_in w) (accepted_in profile w)), [])
   avi_reads = files.read (packed_head choice (video_in w) (accepted_in profile w)) (packed_frames (video_in w) (accepted_in profile w)) avi_writable

@@ -15,12 +15,13 @@ use Rattle.ffv1_avi.specs.Streams.{limit}
 use Rattle.ffv1_avi.specs.Written.{most, riff_size}
 use Rattle.ffv1_codec.specs.Frame.{frame_of}
 use Rattle.ffv1_y4m.specs.Canonical.{canonical_text}
-use Rattle.ffv1_y4m.specs.VideoHead.{IsRatio, IsSized}
+use Rattle.ffv1_y4m.specs.VideoHead.{IsNamed, IsRatio, IsSized}
+use Rattle.ffv1_engine.specs.Video.{SaidHead}
 use Rattle.ffv1_y4m.specs.declared.head.VideoHead.{VideoHead}
 use Rattle.ffv1_words.specs.declared.order.Choice.{Choice}
 use Rattle.ffv1_record.specs.declared.config.Profile.{Profile as RecordProfile}
 use Rattle.ffv1_engine.specs.declared.profile.Profile.{Profile}
-use Rattle.ffv1_engine.specs.Profiles.{record_profile}
+use Rattle.ffv1_engine.specs.Profiles.{greatest_depth, record_profile}
 use Rattle.ffv1_engine.specs.Packing.{AreReadable, configuration_for, head_for, said_for}
 use Rattle.ffv1_engine.specs.RoundTrip.{canonical_by}
 use Rattle.ffv1_engine.specs.Stream.{Frame, IsStream, Stream}
@@ -34,11 +35,11 @@ pub record RecordLaws : Type 0 where
   pub written : (c : Configuration) → IsRecord (record_of c) c
   pub one : (bytes : List ℕ) (c d : Configuration) (t u : Table) → AreBytes bytes → IsAccepted c t → IsAccepted d u → c.width ≡ d.width → c.height ≡ d.height → IsRecord bytes c → IsRecord bytes d → c ≡ d
   pub table : (c : Configuration) (t u : Table) → IsAccepted c t → IsAccepted c u → t ≡ u
-  pub none : (bytes : List ℕ) (c : Configuration) (t : Table) (f : RecordFault) → AreBytes bytes → IsAccepted c t → IsRecord bytes c → IsRefused bytes c.width c.height f → ⊥
+  pub none : (most : ℕ) (bytes : List ℕ) (c : Configuration) (t : Table) (f : RecordFault) → AreBytes bytes → IsAccepted c t → c.depth ≤ most → IsRecord bytes c → IsRefused most bytes c.width c.height f → ⊥
   pub symbols : SymbolLaws
 
 -- its head and its configuration
-abbrev pub stream_for : Choice → Bool → VideoHead → Accepted → Stream
+abbrev pub stream_for : Choice → Bool → SaidHead → Accepted → Stream
 stream_for choice ppm h a = record { head = head_for choice ppm h a.configuration; accepted = a }
 
 -- sizes of 1 to 8192
@@ -49,7 +50,7 @@ sized false h is = is.sized
 pub record Rated (head : Head) : Type 0 where
   pub is : IsRatio 4294967295 head.rate head.scale
 
-pub rated_by : (choice : Choice) (ppm : Bool) (h : VideoHead) (c : Configuration) → IsHeadBy ppm h → (ppm ≡ true → IsRatio 4294967295 choice.rate choice.scale) → Rated (head_for choice ppm h c)
+pub rated_by : (choice : Choice) (ppm : Bool) (h : SaidHead) (c : Configuration) → IsHeadBy ppm h.head → (ppm ≡ true → IsRatio 4294967295 choice.rate choice.scale) → Rated (head_for choice ppm h c)
 rated_by choice true h c is rated = record { is = rated refl }
 rated_by choice false h c is rated = record { is = is.rate }
 
@@ -58,13 +59,13 @@ sized_frames : (a : Accepted) (said : Said) (ps : List Planes) → AllCoded a sa
 sized_frames a said [] coded readable = tt
 sized_frames a said (p ∷ ps) coded readable = (coded.0.some, readable.0, sized_frames a said ps coded.1 readable.1)
 
-module _ (profile : Profile) (laws : RecordLaws) (choice : Choice) (ppm : Bool) (h : VideoHead) (a : Accepted) (for : a.configuration ≡ configuration_for choice ppm h) (accepted : IsAccepted a.configuration a.table)
-    (profiled : a.profile ≡ record_profile profile) (is : IsHeadBy ppm h) where
+module _ (profile : Profile) (laws : RecordLaws) (choice : Choice) (ppm : Bool) (h : SaidHead) (a : Accepted) (for : a.configuration ≡ configuration_for choice ppm h) (accepted : IsAccepted a.configuration a.table)
+    (profiled : a.profile ≡ record_profile profile) (is : IsHeadBy ppm h.head) (least : h.depth ≤ greatest_depth profile) where
   pub writable : (rated : ppm ≡ true → IsRatio 4294967295 choice.rate choice.scale) (ps : List Planes) → AllCoded a (said_for h) ps → AreReadable (map (λ planes. frame_of a planes (said_for h)) ps) →
       riff_size (head_for choice ppm h a.configuration) (map (λ planes. frame_of a planes (said_for h)) ps) ≤ most →
       IsWritable (head_for choice ppm h a.configuration) (map (λ planes. frame_of a planes (said_for h)) ps)
   writable rated ps coded readable small =
-      let sizes = sized ppm h is in
+      let sizes = sized ppm h.head is in
       let ratio = (rated_by choice ppm h a.configuration is rated).is in
       record {
         width = let few = sizes.wide in omega (arith, few);
@@ -77,14 +78,17 @@ module _ (profile : Profile) (laws : RecordLaws) (choice : Choice) (ppm : Bool) 
         small = small;
       }
 
-  wide : a.configuration.width ≡ h.width
+  wide : a.configuration.width ≡ h.head.width
   wide = ap (λ (c : Configuration). c.width) for
 
-  high : a.configuration.height ≡ h.height
+  high : a.configuration.height ≡ h.head.height
   high = ap (λ (c : Configuration). c.height) for
 
+  deep : a.configuration.depth ≤ greatest_depth profile
+  deep = subst (λ n. n ≤ greatest_depth profile) (sym (ap (λ (c : Configuration). c.depth) for)) least
+
   pub stream_is : IsStream profile (stream_for choice ppm h a)
-  stream_is = record { coded = laws.written a.configuration; width = wide; height = high; accepted = accepted; profiled = profiled }
+  stream_is = record { coded = laws.written a.configuration; width = wide; height = high; accepted = accepted; profiled = profiled; deep = deep }
 
   -- a file with that head has this stream and no other
   pub one_stream : (s : Stream) → IsStream profile s → s.head ≡ head_for choice ppm h a.configuration → s ≡ stream_for choice ppm h a
@@ -102,39 +106,39 @@ module _ (profile : Profile) (laws : RecordLaws) (choice : Choice) (ppm : Bool) 
       ap₂ whole same both
 
   -- its record has no fault
-  pub none_refused : (k : Head) (f : RecordFault) → k ≡ head_for choice ppm h a.configuration → IsRefused k.config_record k.width k.height f → ⊥
+  pub none_refused : (k : Head) (f : RecordFault) → k ≡ head_for choice ppm h a.configuration → IsRefused (greatest_depth profile) k.config_record k.width k.height f → ⊥
   none_refused k f same refused =
-      let here : IsRefused (record_of a.configuration) h.width h.height f = subst (λ (j : Head). IsRefused j.config_record j.width j.height f) same refused in
-      let sizes : IsRefused (record_of a.configuration) a.configuration.width a.configuration.height f =
-      subst (λ m. IsRefused (record_of a.configuration) m a.configuration.height f) (sym wide) (subst (λ n. IsRefused (record_of a.configuration) h.width n f) (sym high) here) in
-      laws.none (record_of a.configuration) a.configuration a.table f (record_are_bytes a.configuration) accepted (laws.written a.configuration) sizes
+      let here : IsRefused (greatest_depth profile) (record_of a.configuration) h.head.width h.head.height f = subst (λ (j : Head). IsRefused (greatest_depth profile) j.config_record j.width j.height f) same refused in
+      let sizes : IsRefused (greatest_depth profile) (record_of a.configuration) a.configuration.width a.configuration.height f =
+      subst (λ m. IsRefused (greatest_depth profile) (record_of a.configuration) m a.configuration.height f) (sym wide) (subst (λ n. IsRefused (greatest_depth profile) (record_of a.configuration) h.head.width n f) (sym high) here) in
+      laws.none (greatest_depth profile) (record_of a.configuration) a.configuration a.table f (record_are_bytes a.configuration) accepted deep (laws.written a.configuration) sizes
 
 abbrev with_table : Configuration → Table → RecordProfile → Accepted
 with_table c t p = record { configuration = c; table = t; profile = p }
 
-text_with : (choice : Choice) (ppm : Bool) (h : VideoHead) → IsHeadBy ppm h → (t : Table) (p : RecordProfile) → HasText (stream_for choice ppm h (with_table (configuration_for choice ppm h) t p))
-text_with choice true h is t p = ap (λ (k : VideoHead). k.extra_plane) is.1
-text_with choice false h is t p = is.chroma
+text_with : (choice : Choice) (ppm : Bool) (h : SaidHead) → IsHeadBy ppm h.head → IsNamed h.depth h.head → (t : Table) (p : RecordProfile) → HasText (stream_for choice ppm h (with_table (configuration_for choice ppm h) t p))
+text_with choice true h is named t p = ap (λ (k : VideoHead). k.extra_plane) is.1
+text_with choice false h is named t p = named.name
 
-pub text_given : (choice : Choice) (ppm : Bool) (h : VideoHead) (a : Accepted) → a.configuration ≡ configuration_for choice ppm h → IsHeadBy ppm h → HasText (stream_for choice ppm h a)
-text_given choice ppm h a for is = subst (λ c. HasText (stream_for choice ppm h (with_table c a.table a.profile))) (sym for) (text_with choice ppm h is a.table a.profile)
+pub text_given : (choice : Choice) (ppm : Bool) (h : SaidHead) (a : Accepted) → a.configuration ≡ configuration_for choice ppm h → IsHeadBy ppm h.head → IsNamed h.depth h.head → HasText (stream_for choice ppm h a)
+text_given choice ppm h a for is named = subst (λ c. HasText (stream_for choice ppm h (with_table c a.table a.profile))) (sym for) (text_with choice ppm h is named a.table a.profile)
 
-alike_with : (choice : Choice) (ppm : Bool) (h : VideoHead) (t : Table) (p : RecordProfile) (frames : List Frame) → AllSay (said_for h) frames → AreAlike (stream_for choice ppm h (with_table (configuration_for choice ppm h) t p)) frames
+alike_with : (choice : Choice) (ppm : Bool) (h : SaidHead) (t : Table) (p : RecordProfile) (frames : List Frame) → AllSay (said_for h) frames → AreAlike (stream_for choice ppm h (with_table (configuration_for choice ppm h) t p)) frames
 alike_with choice true h t p frames say = tt
 alike_with choice false h t p [] say = tt
 alike_with choice false h t p (f ∷ fs) say = subst (λ s. AllSay s fs) (sym say.0) say.1
 
-pub alike_given : (choice : Choice) (ppm : Bool) (h : VideoHead) (a : Accepted) → a.configuration ≡ configuration_for choice ppm h → (frames : List Frame) → AllSay (said_for h) frames → AreAlike (stream_for choice ppm h a) frames
+pub alike_given : (choice : Choice) (ppm : Bool) (h : SaidHead) (a : Accepted) → a.configuration ≡ configuration_for choice ppm h → (frames : List Frame) → AllSay (said_for h) frames → AreAlike (stream_for choice ppm h a) frames
 alike_given choice ppm h a for frames say = subst (λ c. AreAlike (stream_for choice ppm h (with_table c a.table a.profile)) frames) (sym for) (alike_with choice ppm h a.table a.profile frames say)
 
-canonical_with : (choice : Choice) (ppm : Bool) (h : VideoHead) (t : Table) (p : RecordProfile) (frames : List Frame) → AllSay (said_for h) frames → 0 < length (pictures frames) →
+canonical_with : (choice : Choice) (ppm : Bool) (h : SaidHead) (t : Table) (p : RecordProfile) (frames : List Frame) → AllSay (said_for h) frames → 0 < length (pictures frames) →
     text_of (stream_for choice ppm h (with_table (configuration_for choice ppm h) t p)) frames ≡ canonical_by ppm h (pictures frames)
 canonical_with choice true h t p frames say some = refl
 canonical_with choice false h t p [] say some = absurd (omega (arith, some))
 canonical_with choice false h t p (f ∷ fs) say some =
-    ap (λ s. canonical_text (video_of (stream_for choice false h (with_table (configuration_for choice false h) t p)) s) (pictures (f ∷ fs))) say.0
+    ap (λ s. canonical_text h.depth (video_of (stream_for choice false h (with_table (configuration_for choice false h) t p)) s) (pictures (f ∷ fs))) say.0
 
-pub canonical_given : (choice : Choice) (ppm : Bool) (h : VideoHead) (a : Accepted) → a.configuration ≡ configuration_for choice ppm h → (frames : List Frame) (ps : List Planes) → AllSay (said_for h) frames → pictures frames ≡ ps →
+pub canonical_given : (choice : Choice) (ppm : Bool) (h : SaidHead) (a : Accepted) → a.configuration ≡ configuration_for choice ppm h → (frames : List Frame) (ps : List Planes) → AllSay (said_for h) frames → pictures frames ≡ ps →
     0 < length ps → text_of (stream_for choice ppm h a) frames ≡ canonical_by ppm h ps
 canonical_given choice ppm h a for frames ps say are some =
     subst (λ c. text_of (stream_for choice ppm h (with_table c a.table a.profile)) frames ≡ canonical_by ppm h ps) (sym for)

@@ -1,4 +1,5 @@
 -- Pictures are written one after the other.
+use Rattle.ffv1_samples.specs.Samples.{sample_bytes}
 use Rattle.std.proofs.Common.{rules, ◌≡◌, ◌≢◌, refl, ℕ, ◌+◌, ◌*◌, ◌<◌, ◌≤◌, true, false, Option, Some, None, Err, List, get_or, replicate, [], ◌∷◌, ◌++◌, length, take, inl, inr, ap, sym, subst, ◌∙◌, arith, append-nil, append_assoc, length-append}
 use Rattle.std.specs.List.{flat_map}
 use Rattle.std.proofs.lemmas.List.{length-replicate}
@@ -41,34 +42,34 @@ pub silent : (o : Option (List ℕ)) (n : ℕ) → Silent (between o o n n)
 silent o n = record { kept = Keeps-refl o; same = refl }
 
 -- the writer after the pictures of frames
-abbrev pub begun_behind : VideoHead → List Frame → Begun
-begun_behind h [] = None
-begun_behind h (f ∷ fs) = Some (f.said, writer_behind h f.said)
+abbrev pub begun_behind : ℕ → VideoHead → List Frame → Begun
+begun_behind depth h [] = None
+begun_behind depth h (f ∷ fs) = Some (f.said, writer_behind depth h f.said)
 
-pub is_begun : (h : VideoHead) (frames : List Frame) → IsBegun h (begun_behind h frames)
-is_begun h [] = tt
-is_begun h (f ∷ fs) = refl
+pub is_begun : (depth : ℕ) (h : VideoHead) (frames : List Frame) → IsBegun depth h (begun_behind depth h frames)
+is_begun depth h [] = tt
+is_begun depth h (f ∷ fs) = refl
 
-pub begun_more : (h : VideoHead) (frames : List Frame) (f : Frame) → SaysAgain (said_in (begun_behind h frames)) f.said →
-    Some (f.said, writer_behind h f.said) ≡ begun_behind h (frames ++ (f ∷ []))
-begun_more h [] f again = refl
-begun_more h (g ∷ gs) f again = ap (λ said. Some (said, writer_behind h said)) again
+pub begun_more : (depth : ℕ) (h : VideoHead) (frames : List Frame) (f : Frame) → SaysAgain (said_in (begun_behind depth h frames)) f.said →
+    Some (f.said, writer_behind depth h f.said) ≡ begun_behind depth h (frames ++ (f ∷ []))
+begun_more depth h [] f again = refl
+begun_more depth h (g ∷ gs) f again = ap (λ said. Some (said, writer_behind depth h said)) again
 
 all_say_more : (said : Said) (frames : List Frame) (f : Frame) → AllSay said frames → f.said ≡ said → AllSay said (frames ++ (f ∷ []))
 all_say_more said [] f all same = (same, tt)
 all_say_more said (g ∷ gs) f all same = (all.0, all_say_more said gs f all.1 same)
 
-alike_more : (h : VideoHead) (frames : List Frame) (f : Frame) → AlikeBy false frames → SaysAgain (said_in (begun_behind h frames)) f.said → AlikeBy false (frames ++ (f ∷ []))
-alike_more h [] f alike again = tt
-alike_more h (g ∷ gs) f alike again = all_say_more g.said gs f alike again
+alike_more : (depth : ℕ) (h : VideoHead) (frames : List Frame) (f : Frame) → AlikeBy false frames → SaysAgain (said_in (begun_behind depth h frames)) f.said → AlikeBy false (frames ++ (f ∷ []))
+alike_more depth h [] f alike again = tt
+alike_more depth h (g ∷ gs) f alike again = all_say_more g.said gs f alike again
 
 last_says : (said : Said) (frames : List Frame) (f : Frame) → AllSay said (frames ++ (f ∷ [])) → f.said ≡ said
 last_says said [] f all = all.0
 last_says said (g ∷ gs) f all = last_says said gs f all.1
 
-last_alike : (h : VideoHead) (frames : List Frame) (f : Frame) → AlikeBy false (frames ++ (f ∷ [])) → SaysAgain (said_in (begun_behind h frames)) f.said
-last_alike h [] f alike = tt
-last_alike h (g ∷ gs) f alike = last_says g.said gs f alike
+last_alike : (depth : ℕ) (h : VideoHead) (frames : List Frame) (f : Frame) → AlikeBy false (frames ++ (f ∷ [])) → SaysAgain (said_in (begun_behind depth h frames)) f.said
+last_alike depth h [] f alike = tt
+last_alike depth h (g ∷ gs) f alike = last_says g.said gs f alike
 
 texts_more : (frames : List Frame) (f : Frame) → flat_map picture_text (pictures (frames ++ (f ∷ []))) ≡ flat_map picture_text (pictures frames) ++ picture_text f.planes
 texts_more [] f = append-nil (picture_text f.planes)
@@ -77,14 +78,17 @@ texts_more (g ∷ gs) f =
 
 -- the text grows by that of the next picture
 text_more : (s : Stream) (h : VideoHead) (frames : List Frame) (f : Frame) → ((said : Said) → head_saying h said ≡ video_of s said) →
-    y4m_text s (frames ++ (f ∷ [])) ≡ y4m_text s frames ++ text_behind h (said_in (begun_behind h frames)) f.said f.planes
+    let depth = s.accepted.configuration.depth in y4m_text s (frames ++ (f ∷ [])) ≡ y4m_text s frames ++ text_behind depth h (said_in (begun_behind depth h frames)) f.said f.planes
 text_more s h [] f heads =
-    ap (λ z. header_text (video_of s f.said) ++ z) (append-nil (picture_text f.planes)) ∙ ap (λ z. header_text z ++ picture_text f.planes) (sym (heads f.said))
+    ap (λ z. header_text s.accepted.configuration.depth (video_of s f.said) ++ z) (append-nil (picture_text f.planes)) ∙ ap (λ z. header_text s.accepted.configuration.depth z ++ picture_text f.planes) (sym (heads f.said))
 text_more s h (g ∷ gs) f heads =
-    ap (λ z. header_text (video_of s g.said) ++ z) (texts_more (g ∷ gs) f)
-    ∙ sym (append_assoc (header_text (video_of s g.said)) (flat_map picture_text (pictures (g ∷ gs))) (picture_text f.planes))
+    ap (λ z. header_text s.accepted.configuration.depth (video_of s g.said) ++ z) (texts_more (g ∷ gs) f)
+    ∙ sym (append_assoc (header_text s.accepted.configuration.depth (video_of s g.said)) (flat_map picture_text (pictures (g ∷ gs))) (picture_text f.planes))
 
 module _ (s : Stream) (h : VideoHead) (heads : (said : Said) → head_saying h said ≡ video_of s said) (plain : is_ppm_stream s ≡ false) (from : Place) where
+  abbrev depth : ℕ
+  depth = s.accepted.configuration.depth
+
   plain_alike : (frames : List Frame) → AlikeBy false frames → AlikeBy (is_ppm_stream s) frames
   plain_alike frames alike = subst (λ b. AlikeBy b frames) (sym plain) alike
 
@@ -96,9 +100,9 @@ module _ (s : Stream) (h : VideoHead) (heads : (said : Said) → head_saying h s
 
   -- the text of a frame more
   whole_text : (frames : List Frame) (f : Frame) →
-      text_by (is_ppm_stream s) s (frames ++ (f ∷ [])) ≡ text_by (is_ppm_stream s) s frames ++ text_behind h (said_in (begun_behind h frames)) f.said f.planes
+      text_by (is_ppm_stream s) s (frames ++ (f ∷ [])) ≡ text_by (is_ppm_stream s) s frames ++ text_behind depth h (said_in (begun_behind depth h frames)) f.said f.planes
   whole_text frames f =
-      let behind = text_behind h (said_in (begun_behind h frames)) f.said f.planes in
+      let behind = text_behind depth h (said_in (begun_behind depth h frames)) f.said f.planes in
       plain_text (frames ++ (f ∷ [])) ∙ text_more s h frames f heads ∙ ap (λ z. z ++ behind) (sym (plain_text frames))
 
   pub unpacked_none : (i o : Option (List ℕ)) (ib ob : ℕ) → Unpacked s from (between i i ib ib) (between o o ob ob) [] from
@@ -113,11 +117,11 @@ module _ (s : Stream) (h : VideoHead) (heads : (said : Said) → head_saying h s
 
   module _ (to last : Place) (i0 i1 i2 o0 o1 o2 : Option (List ℕ)) (ib im ia ob om oa : ℕ) (frames : List Frame)
       (un : Unpacked s from (between i0 i1 ib im) (between o0 o1 ob om) frames to) where
-    more_alike : (f : Frame) → SaysAgain (said_in (begun_behind h frames)) f.said → AlikeBy (is_ppm_stream s) (frames ++ (f ∷ []))
-    more_alike f again = plain_alike (frames ++ (f ∷ [])) (alike_more h frames f (alike_plain frames un.alike) again)
+    more_alike : (f : Frame) → SaysAgain (said_in (begun_behind depth h frames)) f.said → AlikeBy (is_ppm_stream s) (frames ++ (f ∷ []))
+    more_alike f again = plain_alike (frames ++ (f ∷ [])) (alike_more depth h frames f (alike_plain frames un.alike) again)
 
-    pub unpacked_more : (f : Frame) → PlaysFrame s.accepted to last (between i1 i2 im ia) f → SaysAgain (said_in (begun_behind h frames)) f.said → oa ≡ om →
-        Appends o1 o2 (text_behind h (said_in (begun_behind h frames)) f.said f.planes) → Unpacked s from (between i0 i2 ib ia) (between o0 o2 ob oa) (frames ++ (f ∷ [])) last
+    pub unpacked_more : (f : Frame) → PlaysFrame s.accepted to last (between i1 i2 im ia) f → SaysAgain (said_in (begun_behind depth h frames)) f.said → oa ≡ om →
+        Appends o1 o2 (text_behind depth h (said_in (begun_behind depth h frames)) f.said f.planes) → Unpacked s from (between i0 i2 ib ia) (between o0 o2 ob oa) (frames ++ (f ∷ [])) last
     unpacked_more f plays again same writes = record {
       are = are_more s.accepted frames f un.are plays.is;
       alike = more_alike f again;
@@ -126,7 +130,7 @@ module _ (s : Stream) (h : VideoHead) (heads : (said : Said) → head_saying h s
       written = same ∙ un.written;
       writes =
           subst (Appends o0 o2) (sym (whole_text frames f))
-          (Appends-trans o0 o1 o2 (text_by (is_ppm_stream s) s frames) (text_behind h (said_in (begun_behind h frames)) f.said f.planes) un.writes writes);
+          (Appends-trans o0 o1 o2 (text_by (is_ppm_stream s) s frames) (text_behind depth h (said_in (begun_behind depth h frames)) f.said f.planes) un.writes writes);
     }
 
     pub unpacked_over : ReadsEnd to (between i1 i2 im ia) → Silent (between o1 o2 om oa) → UnpackedAll s from (between i0 i2 ib ia) (between o0 o2 ob oa) frames
@@ -157,12 +161,12 @@ module _ (s : Stream) (h : VideoHead) (heads : (said : Said) → head_saying h s
       writes = Appends-kept o0 o1 o2 (text_by (is_ppm_stream s) s frames) un.writes silent.kept;
     }
 
-    picture_fails : (f : Frame) → PlaysFrame s.accepted to last (between i1 i2 im ia) f → SaysAgain (said_in (begun_behind h frames)) f.said → oa ≡ one_more om →
-        (k : ℕ) → k < length (text_behind h (said_in (begun_behind h frames)) f.said f.planes) → Appends o1 o2 (take k (text_behind h (said_in (begun_behind h frames)) f.said f.planes)) →
+    picture_fails : (f : Frame) → PlaysFrame s.accepted to last (between i1 i2 im ia) f → SaysAgain (said_in (begun_behind depth h frames)) f.said → oa ≡ one_more om →
+        (k : ℕ) → k < length (text_behind depth h (said_in (begun_behind depth h frames)) f.said f.planes) → Appends o1 o2 (take k (text_behind depth h (said_in (begun_behind depth h frames)) f.said f.planes)) →
         PictureFails s from (between i0 i2 ib ia) (between o0 o2 ob oa)
     picture_fails f plays again counted k short writes =
         let text = text_by (is_ppm_stream s) s frames in
-        let behind = text_behind h (said_in (begun_behind h frames)) f.said f.planes in
+        let behind = text_behind depth h (said_in (begun_behind depth h frames)) f.said f.planes in
         let long : length (text ++ behind) ≡ length text + length behind = length-append text behind in
         let enough : length text ≤ length text + k = omega arith in
         let few : length text + k < length (text ++ behind) = omega (arith, long, short) in
@@ -184,7 +188,7 @@ module _ (s : Stream) (h : VideoHead) (heads : (said : Said) → head_saying h s
           };
         }
 
-    payload_faults : (f : Fault) → Silent (between o1 o2 om oa) → PayloadRefused s.accepted h (said_in (begun_behind h frames)) to last (between i1 i2 im ia) (between o1 o2 om oa) f →
+    payload_faults : (f : Fault) → Silent (between o1 o2 om oa) → PayloadRefused s.accepted h (said_in (begun_behind depth h frames)) to last (between i1 i2 im ia) (between o1 o2 om oa) f →
         PayloadFaults s from (between i0 i2 ib ia) (between o0 o2 ob oa) f
     payload_faults f silent p =
         let text = text_by (is_ppm_stream s) s frames in
@@ -203,7 +207,7 @@ module _ (s : Stream) (h : VideoHead) (heads : (said : Said) → head_saying h s
           writes = subst (Appends o0 o2) (sym rows) (Appends-kept o0 o1 o2 text un.writes silent.kept);
         }
 
-    format_changes : (f : Fault) → Silent (between o1 o2 om oa) → FrameChanges s.accepted h (said_in (begun_behind h frames)) to last (between i1 i2 im ia) (between o1 o2 om oa) f →
+    format_changes : (f : Fault) → Silent (between o1 o2 om oa) → FrameChanges s.accepted h (said_in (begun_behind depth h frames)) to last (between i1 i2 im ia) (between o1 o2 om oa) f →
         FormatChanges s from (between i0 i2 ib ia) (between o0 o2 ob oa) f
     format_changes f silent p = record {
       frames = frames;
@@ -211,7 +215,7 @@ module _ (s : Stream) (h : VideoHead) (heads : (said : Said) → head_saying h s
       to = last;
       are = are_more s.accepted frames p.frame un.are p.plays.is;
       alike = un.alike;
-      changed = λ alike. p.changed (last_alike h frames p.frame (alike_plain (frames ++ (p.frame ∷ [])) alike));
+      changed = λ alike. p.changed (last_alike depth h frames p.frame (alike_plain (frames ++ (p.frame ∷ [])) alike));
       read = reads_more from to last i0 i1 i2 frames p.frame un.read p.plays.reads.next;
       is = p.is;
       written = silent.same ∙ un.written;
@@ -221,7 +225,7 @@ module _ (s : Stream) (h : VideoHead) (heads : (said : Said) → head_saying h s
     file_faults : (f : Fault) → Silent (between o1 o2 om oa) → FaultsKnown (frame_read to) i1 i2 f → FileFaults s from (between i0 i2 ib ia) (between o0 o2 ob oa) f
     file_faults f silent h = record { frames = frames; some = some silent; ends = ends_file from to i0 i1 i2 frames f un.read h }
 
-    pub unpacking_stops : (f : Fault) (why : Cause) → NextStopsBy s.accepted h (said_in (begun_behind h frames)) to last (between i1 i2 im ia) (between o1 o2 om oa) f why →
+    pub unpacking_stops : (f : Fault) (why : Cause) → NextStopsBy s.accepted h (said_in (begun_behind depth h frames)) to last (between i1 i2 im ia) (between o1 o2 om oa) f why →
         UnpackingStopsBy s from (between i0 i2 ib ia) (between o0 o2 ob oa) f why
     unpacking_stops f Writing p = inl (picture_fails p.0 p.1 p.2 p.3 p.4.0 p.4.1 p.4.2)
     unpacking_stops f Reading p = (frames, to, i1, up_to p.0, p.1 ∙ ap one_more un.kept, p.2)
@@ -259,7 +263,7 @@ decode_cause codec_fault.Sink is own = absurd (own refl)
 -- planes of zeros are planes
 pub zeros_are : (d : Division) → AreOf d (zeros_of d)
 zeros_are d =
-    let f : ℕ → List ℕ = λ p. replicate (whole_of (across d p) * whole_of (down d p)) 0 in
+    let f : ℕ → List ℕ = λ p. replicate (sample_bytes d.depth * (whole_of (across d p) * whole_of (down d p))) 0 in
     let many : length (zeros_of d) ≡ d.planes = length-map-range_with_len f 0 d.planes in
     record {
       count = many;
@@ -267,7 +271,7 @@ zeros_are d =
           let within : p < length (zeros_of d) = omega (arith, many, inside) in
           let none : 0 + p ≡ p = omega arith in
           let item : get_or (zeros_of d) p [] ≡ f p = get_or-map-range_with_len f 0 d.planes p p [] inside none in
-          ap (λ (o : Option (List ℕ)). length (samples_in o)) (slice_get-get_or (zeros_of d) p [] within ∙ ap Some item) ∙ length-replicate (whole_of (across d p) * whole_of (down d p)) 0;
+          ap (λ (o : Option (List ℕ)). length (samples_in o)) (slice_get-get_or (zeros_of d) p [] within ∙ ap Some item) ∙ length-replicate (sample_bytes d.depth * (whole_of (across d p) * whole_of (down d p))) 0;
     }
 
 -- a sink that is new keeps the lines of its pictures
@@ -304,7 +308,7 @@ wants_memory s from i o ib ob f plain is =
 
 module _ (a : Accepted) (h : VideoHead) (first : Option Said) (from to : Place) (input : Passage) where
   -- a frame was decoded, and its picture was not written
-  pub picture_stops : (output : Passage) (after : Begun) (frame : Frame) (f : Fault) → PlaysFrame a from to input frame → WritesPicture h first frame.said frame.planes output after (Err f) →
+  pub picture_stops : (output : Passage) (after : Begun) (frame : Frame) (f : Fault) → PlaysFrame a from to input frame → WritesPicture a.configuration.depth h first frame.said frame.planes output after (Err f) →
       NextStopsBy a h first from to input output f (cause_of f)
   picture_stops output after frame f plays answer = elim answer [
     | inl write ↦
@@ -333,4 +337,4 @@ pub record UnpackedSo (s : Stream) (h : VideoHead) (from : Place) (input output 
   pub frames : List Frame
   pub is : count ≡ saturated (length frames)
   pub un : Unpacked s from input output frames to
-  pub begun_is : begun ≡ begun_behind h frames
+  pub begun_is : begun ≡ begun_behind s.accepted.configuration.depth h frames

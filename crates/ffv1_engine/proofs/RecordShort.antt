@@ -14,7 +14,7 @@ use Rattle.ffv1_record.specs.Configuration.{Configuration, is_rct}
 use Rattle.ffv1_record.specs.Parity.{parity_of}
 use Rattle.ffv1_record.specs.Record.{number_steps, truth_steps, deltas_steps, coder_steps, runs_steps, set_steps, sets_steps, opening_steps, planes_steps, grid_steps, tables_steps, closing_steps, record_steps, record_decisions, coded_of, record_of}
 use Rattle.ffv1_avi.specs.Streams.{limit}
-use Rattle.ffv1_y4m.specs.declared.head.VideoHead.{VideoHead}
+use Rattle.ffv1_engine.specs.Video.{SaidHead}
 use Rattle.ffv1_words.specs.declared.order.Choice.{Choice}
 use Rattle.ffv1_words.specs.declared.order.CoderChoice.{CoderChoice}
 use Rattle.ffv1_words.specs.declared.order.CoderChoice.TheVariants as coder_choice
@@ -80,7 +80,7 @@ module _ (laws : SymbolLaws) where
   sets_few : (large : Bool) → Few (sets_steps 32 (set_for large ∷ [])) 1536
   sets_few large = joined (one_set large) none_few
 
-  module _ (choice : Choice) (ppm : Bool) (h : VideoHead) where
+  module _ (choice : Choice) (ppm : Bool) (h : SaidHead) where
     c : Configuration
     c = configuration_for choice ppm h
 
@@ -88,9 +88,9 @@ module _ (laws : SymbolLaws) where
     unfolding c
     opening_few = joined (joined (number_few 0 3) (number_few 0 4)) (coder_few choice.coder)
 
-    planes_few : Few (planes_steps 8 c) 258
+    planes_few : Few (planes_steps c.depth c) 258
     unfolding c
-    planes_few = joined (joined (joined (joined (joined (number_few 0 (one_if (is_rct c.colour))) (number_few 0 8)) (truth_few c.chroma_planes)) (number_few 0 c.log2_h)) (number_few 0 c.log2_v)) (truth_few c.extra_plane)
+    planes_few = joined (joined (joined (joined (joined (number_few 0 (one_if (is_rct c.colour))) (number_few 0 c.depth)) (truth_few c.chroma_planes)) (number_few 0 c.log2_h)) (number_few 0 c.log2_v)) (truth_few c.extra_plane)
 
     grid_few : Few (grid_steps c) 128
     grid_few = joined (number_few 0 (c.columns - 1)) (number_few 0 (c.rows - 1))
@@ -102,7 +102,7 @@ module _ (laws : SymbolLaws) where
     closing_few : Few (closing_steps c) 128
     closing_few = joined (number_few 0 (one_if c.ec)) (number_few 0 (one_if c.intra))
 
-    record_few : Few (record_steps 8 c) 2562
+    record_few : Few (record_steps c.depth c) 2562
     record_few = joined (joined (joined (joined opening_few planes_few) grid_few) tables_few) closing_few
 
 -- each decision makes one renormalisation at most
@@ -122,27 +122,27 @@ decisions_long : (t : Table) (past steps : List Step) → length (decisions_afte
 decisions_long t past [] = refl
 decisions_long t past (s ∷ ss) = ap suc (decisions_long t (past ++ (s ∷ [])) ss)
 
-stored_long : (c : Configuration) → length (record_of c) ≤ 6 + length (record_steps 8 c)
+stored_long : (c : Configuration) → length (record_of c) ≤ 6 + length (record_steps c.depth c)
 stored_long c =
-    let ds = record_decisions 8 c in
+    let ds = record_decisions c.depth c in
     let all = length-append (coded_of c) (digits 4 (parity_of (coded_of c))) in
     let front = length-digits (interval_of ds).count (interval_of ds).low in
     let tail = length-digits 4 (parity_of (coded_of c)) in
     let most = narrowed_most start ds in
-    let many = decisions_long standard [] (record_steps 8 c) in
+    let many = decisions_long standard [] (record_steps c.depth c) in
     omega (arith, all, front, tail, most, many)
 
-pub record_most : SymbolLaws → (choice : Choice) (ppm : Bool) (h : VideoHead) → length (record_of (configuration_for choice ppm h)) ≤ 2568
+pub record_most : SymbolLaws → (choice : Choice) (ppm : Bool) (h : SaidHead) → length (record_of (configuration_for choice ppm h)) ≤ 2568
 unfolding c
 record_most laws choice ppm h =
-    let long = stored_long (configuration_for choice ppm h) in
+    let long : length (record_of (configuration_for choice ppm h)) ≤ 6 + length (record_steps h.depth (configuration_for choice ppm h)) = stored_long (configuration_for choice ppm h) in
     let few = (record_few laws choice ppm h).few in
     omega (arith, long, few)
 
-pub record_short : SymbolLaws → (choice : Choice) (ppm : Bool) (h : VideoHead) → 40 + length (record_of (configuration_for choice ppm h)) ≤ limit
+pub record_short : SymbolLaws → (choice : Choice) (ppm : Bool) (h : SaidHead) → 40 + length (record_of (configuration_for choice ppm h)) ≤ limit
 record_short laws choice ppm h = let most = record_most laws choice ppm h in omega (arith, most)
 
 pub record_are_bytes : (c : Configuration) → AreBytes (record_of c)
 record_are_bytes c =
-    let i = interval_of (record_decisions 8 c) in
+    let i = interval_of (record_decisions c.depth c) in
     bytes_joined (coded_of c) (digits 4 (parity_of (coded_of c))) (bytes-digits i.count i.low) (bytes-digits 4 (parity_of (coded_of c)))

@@ -1,12 +1,16 @@
 -- Planes of a video are those of its configuration.
-use Rattle.std.specs.Prelude.{◌≡◌, ℕ, ◌<◌, ◌*◌, Bool, true, false, List, [], ◌∷◌, length, map, take, ◌≤◌}
+use Rattle.std.specs.Prelude.{◌≡◌, ℕ, ◌<◌, ◌*◌, ◌^◌, ◌==◌, ◌&&◌, nat_lt, if◌then◌else◌, Bool, true, false, List, [], ◌∷◌, length, map, take, ◌≤◌}
 use Rattle.ffv1_record.specs.Configuration.{Configuration}
 use Rattle.std.specs.Prelude.{Option, Some, None, IsSome, IsNone}
 use Rattle.std.proofs.Common.{subst, arith, refl, sym, ◌∙◌, ap, ap₂, zero, suc, get_or}
+use Rattle.std.proofs.lemmas.Nat.{pow_pos}
+use Rattle.std.proofs.lemmas.Bool.{ltb-true, ne_eqb}
 use Rattle.ffv1_slice.specs.Grid.{Division, division_of, across, down, whole_of, planes_in}
 use Rattle.ffv1_slice.specs.Grid as grid
 use Rattle.ffv1_codec.specs.Picture.{AreOf, Fits, Planes, plane}
-use Rattle.ffv1_y4m.specs.VideoHead.{Fits as VideoFits, plane_sizes, is_chroma, reduced}
+use Rattle.ffv1_samples.specs.Samples.{AreBelow, all_below, are_in_depth, numbers_of_pairs, sample_bytes, samples_of}
+use Rattle.ffv1_y4m.specs.VideoHead.{AreInDepth, Fits as VideoFits, plane_sizes, is_chroma, reduced}
+use Rattle.ffv1_engine.specs.Video.{SaidHead}
 use Rattle.ffv1_y4m.specs.declared.head.VideoHead.{VideoHead}
 use Rattle.ffv1_words.specs.declared.order.Choice.{Choice}
 use Rattle.ffv1_engine.specs.Packing.{configuration_for}
@@ -68,12 +72,58 @@ few xs zero h = refl
 few [] (suc n) h = absurd (omega (arith, h))
 few (x ∷ xs) (suc n) h = ap suc (few xs n (omega (arith, h)))
 
-divided : (d : Division) (planes : Planes) → d.planes ≤ 4 → map (λ p. length p) planes ≡ take d.planes (all_sizes d) → AreOf d planes
+-- sizes in bytes
+mapped_long : (k : ℕ) (xs : List ℕ) → length (map (λ n. k * n) xs) ≡ length xs
+mapped_long k [] = refl
+mapped_long k (x ∷ xs) = ap suc (mapped_long k xs)
+
+scaled : (k : ℕ) (xs : List ℕ) (p : ℕ) → get_or (map (λ n. k * n) xs) p 0 ≡ k * get_or xs p 0
+scaled k [] p = let none : 0 ≡ k * 0 = omega arith in none
+scaled k (x ∷ xs) zero = refl
+scaled k (x ∷ xs) (suc p) = scaled k xs p
+
+once : (xs : List ℕ) → xs ≡ map (λ n. 1 * n) xs
+once [] = refl
+once (x ∷ xs) = let one : x ≡ 1 * x = omega arith in ap₂ (λ y ys. y ∷ ys) one (once xs)
+
+bytes_by : (b : Bool) (xs : List ℕ) → (if b then xs else map (λ size. 2 * size) xs) ≡ map (λ n. (if b then 1 else 2) * n) xs
+bytes_by true xs = once xs
+bytes_by false xs = refl
+
+divided : (d : Division) (planes : Planes) → d.planes ≤ 4 → map (λ p. length p) planes ≡ map (λ n. sample_bytes d.depth * n) (take d.planes (all_sizes d)) → AreOf d planes
 divided d planes most e =
-    let count = few (all_sizes d) d.planes most in record {
-      count = long planes _ e ∙ count;
-      sizes = λ p inside. sized planes _ e p (omega (arith, inside, count)) ∙ first (all_sizes d) d.planes p inside ∙ each d p (omega (arith, inside, most));
+    let count = few (all_sizes d) d.planes most in
+    let many = mapped_long (sample_bytes d.depth) (take d.planes (all_sizes d)) in record {
+      count = long planes _ e ∙ many ∙ count;
+      sizes = λ p inside.
+          sized planes _ e p (omega (arith, inside, count, many)) ∙ scaled (sample_bytes d.depth) (take d.planes (all_sizes d)) p
+          ∙ ap (λ n. sample_bytes d.depth * n) (first (all_sizes d) d.planes p inside ∙ each d p (omega (arith, inside, most)));
     }
+
+-- samples of more than 8 bits that lie below 2 ^ depth
+both : (a b : Bool) → (a && b) ≡ true → (a ≡ true) × (b ≡ true)
+both true b h = (refl, h)
+both false b h = absurd (cc)
+
+below : (most : ℕ) (ns : List ℕ) → 0 < most → all_below most ns ≡ true → AreBelow most ns
+below most [] some h i = some
+below most (n ∷ ns) some h zero = ltb-true n most (both (nat_lt n most) (all_below most ns) h).0
+below most (n ∷ ns) some h (suc i) = below most ns some (both (nat_lt n most) (all_below most ns) h).1 i
+
+deep_plane : (depth : ℕ) (q : List ℕ) → (depth == 8) ≡ false → are_in_depth depth q ≡ true → AreBelow (2 ^ depth) (samples_of depth q)
+deep_plane depth q two are =
+    let tested : all_below (2 ^ depth) (numbers_of_pairs q) ≡ true = rw two at are in
+    let same : samples_of depth q ≡ numbers_of_pairs q = rw two refl in
+    subst (AreBelow (2 ^ depth)) (sym same) (below (2 ^ depth) (numbers_of_pairs q) (pow_pos depth) tested)
+
+none_by : (b : Bool) → (if b then [] else numbers_of_pairs []) ≡ []
+none_by true = refl
+none_by false = refl
+
+deep_planes : (depth : ℕ) (ps : Planes) → (depth == 8) ≡ false → AreInDepth depth ps → (p : ℕ) → AreBelow (2 ^ depth) (samples_of depth (plane ps p))
+deep_planes depth [] two are p = subst (AreBelow (2 ^ depth)) (sym (none_by (depth == 8))) (λ i. pow_pos depth)
+deep_planes depth (q ∷ qs) two are zero = deep_plane depth q two are.0
+deep_planes depth (q ∷ qs) two are (suc p) = deep_planes depth qs two are.1 p
 
 -- transparency comes with chroma alone
 alone : (planes : Bool) (log2_h log2_v : ℕ) (extra : Bool) → is_chroma planes log2_h log2_v extra ≡ true → planes ≡ false → extra ≡ false
@@ -98,12 +148,18 @@ sizes_by true false h d b e o x y z w = rw (b, e, x, y, z, w) refl
 sizes_by false true h d b e o x y z w = absurd (let wrong : true ≡ false = o refl in cc)
 sizes_by false false h d b e o x y z w = rw (b, x, y) refl
 
-pub fits : (choice : Choice) (ppm : Bool) (h : VideoHead) (planes : Planes) → IsHeadBy ppm h → VideoFits h planes → Fits (configuration_for choice ppm h) planes
-fits choice ppm h planes is f =
+pub fits : (choice : Choice) (ppm : Bool) (h : SaidHead) (planes : Planes) → IsHeadBy ppm h.head → VideoFits h.depth h.head planes → AreInDepth h.depth planes → Fits (configuration_for choice ppm h) planes
+fits choice ppm h planes is f small =
     let d = division_of (configuration_for choice ppm h) in
-    divided d planes (few_planes h.chroma_planes h.extra_plane) (f ∙ sizes_by h.chroma_planes h.extra_plane h d refl refl (head_alone ppm h is) refl refl refl refl)
+    let sizes : map (λ p. length p) planes ≡ map (λ n. sample_bytes h.depth * n) (plane_sizes h.head) = f ∙ bytes_by (h.depth == 8) (plane_sizes h.head) in record {
+      are = divided d planes (few_planes h.head.chroma_planes h.head.extra_plane)
+          (sizes ∙ ap (λ xs. map (λ n. sample_bytes h.depth * n) xs) (sizes_by h.head.chroma_planes h.head.extra_plane h.head d refl refl (head_alone ppm h.head is) refl refl refl refl));
+      small = λ deep. deep_planes h.depth planes (ne_eqb h.depth 8 deep) small;
+    }
 
 -- so a picture of them is made
-pub is_made : {X : Type 0} (choice : Choice) (ppm : Bool) (h : VideoHead) (c : Configuration) (planes lent : Planes) (made : Option X) → IsHeadBy ppm h → c ≡ configuration_for choice ppm h → lent ≡ planes → VideoFits h planes → (IsNone made → Fits c lent → ⊥) → IsSome made
-is_made choice ppm h c planes lent (Some x) is e same f none = refl
-is_made choice ppm h c planes lent None is e same f none = absurd (none refl (subst (λ k. Fits k lent) (sym e) (subst (λ l. Fits (configuration_for choice ppm h) l) (sym same) (fits choice ppm h planes is f))))
+pub is_made : {X : Type 0} (choice : Choice) (ppm : Bool) (h : SaidHead) (c : Configuration) (planes lent : Planes) (made : Option X) → IsHeadBy ppm h.head → c ≡ configuration_for choice ppm h → lent ≡ planes →
+    VideoFits h.depth h.head planes → AreInDepth h.depth planes → (IsNone made → Fits c lent → ⊥) → IsSome made
+is_made choice ppm h c planes lent (Some x) is e same f small none = refl
+is_made choice ppm h c planes lent None is e same f small none =
+    absurd (none refl (subst (λ k. Fits k lent) (sym e) (subst (λ l. Fits (configuration_for choice ppm h) l) (sym same) (fits choice ppm h planes is f small))))

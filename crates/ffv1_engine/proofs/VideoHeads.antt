@@ -1,6 +1,6 @@
 -- The head of a video, whose first byte was read before.
-use Rattle.std.specs.Prelude.{◌≡◌, ℕ, ◌+◌, ◌<◌, ◌≤◌, ◌==◌, ◌++◌, Bool, true, false, if◌then◌else◌, List, [], ◌∷◌, length, drop, Option, Some, None, Result, Ok, Err, nat_eq}
-use Rattle.std.proofs.Common.{◌∙◌, arith, sym, ap, subst, refl}
+use Rattle.std.specs.Prelude.{◌≡◌, ℕ, ◌+◌, ◌<◌, ◌≤◌, ◌==◌, ◌++◌, Bool, true, false, List, [], ◌∷◌, length, drop, Option, Some, None, Result, Ok, Err, nat_eq}
+use Rattle.std.proofs.Common.{◌∙◌, arith, sym, ap, subst, refl, cond}
 use Rattle.std.proofs.lemmas.List.{length-drop}
 use Rattle.std.specs.Io.KnownBytes.{Consumes, Keeps}
 use Rattle.std.specs.Option.{option_eq}
@@ -8,14 +8,14 @@ use Rattle.ffv1_wire.specs.Reads.{GivesByte}
 use Rattle.ffv1_y4m.specs.Passage.{known_text}
 use Rattle.ffv1_y4m.specs.Reads.{ReadsAs, Refused, Nowhere, Wants}
 use Rattle.ffv1_y4m.specs.Header.{head_of_line, header_of, line_end, line_read, line_to}
-use Rattle.ffv1_y4m.specs.Ppm.{image_head, image_header, some_head}
-use Rattle.ffv1_y4m.specs.Sequence.{◌>>=◌, ◌then◌, Outcome, Reading, judge, left}
+use Rattle.ffv1_y4m.specs.Ppm.{depth_of_line, image_head, image_header, maximum_read, maximum_room, some_head}
+use Rattle.ffv1_y4m.specs.Sequence.{◌>>=◌, ◌then◌, Outcome, Reading, give, judge, left}
 use Rattle.ffv1_y4m.specs.declared.fault.Fault.{Fault as Y4mFault}
 use Rattle.ffv1_y4m.specs.declared.fault.Fault.TheVariants as fault
 use Rattle.ffv1_y4m.specs.declared.head.VideoHead.{VideoHead}
 use Rattle.ffv1_engine.specs.Faults.{of_y4m}
-use Rattle.ffv1_engine.specs.Video.{is_ppm, video_head}
-use Rattle.ffv1_engine.specs.VideoReads.{HeadRefused, LacksKnown}
+use Rattle.ffv1_engine.specs.Video.{SaidHead, is_ppm, seen_as, video_head}
+use Rattle.ffv1_engine.specs.VideoReads.{HeadKnown, HeadRefused, LacksKnown}
 
 -- ---- a head takes its first byte, whichever it is
 
@@ -48,36 +48,56 @@ judge_keeps : {X : Type 0} (r : Result X Y4mFault) (text : List ℕ) → length 
 judge_keeps (Ok x) text = omega arith
 judge_keeps (Err f) text = omega arith
 
-head_keeps : (h : Option VideoHead) (text : List ℕ) → length (left (some_head h text)) ≤ length text
-head_keeps None text = omega arith
-head_keeps (Some h) text = omega arith
+option_keeps : {X Y : Type 0} (next : Option X → Reading Y) → ((text : List ℕ) → length (left (next None text)) ≤ length text) → ((x : X) (text : List ℕ) → length (left (next (Some x) text)) ≤ length text) →
+    (o : Option X) (text : List ℕ) → length (left (next o text)) ≤ length text
+option_keeps next none some None text = none text
+option_keeps next none some (Some x) text = some x text
 
-header_takes : (c : ℕ) (cs : List ℕ) → length (left (header_of (c ∷ cs))) ≤ length cs
-header_takes c cs =
-    then_keeps (line_read 1025 (c ∷ cs)) (λ line. judge (head_of_line line)) (length cs) (λ line text. judge_keeps (head_of_line line) text) (line_takes 1025 c cs (omega arith))
+header_takes : (most c : ℕ) (cs : List ℕ) → length (left (header_of most (c ∷ cs))) ≤ length cs
+header_takes most c cs =
+    then_keeps (line_read 1025 (c ∷ cs)) (λ line. judge (head_of_line most line)) (length cs) (λ line text. judge_keeps (head_of_line most line) text) (line_takes 1025 c cs (omega arith))
 
-most_keeps : (magic sizes text : List ℕ) → length (left ((line_read 4 then λ most. some_head (image_head magic sizes most)) text)) ≤ length text
-most_keeps magic sizes text =
-    then_keeps (line_read 4 text) (λ most. some_head (image_head magic sizes most)) (length text) (λ most rest. head_keeps (image_head magic sizes most) rest) (line_keeps 4 text)
+maximum_keeps : (most : ℕ) (text : List ℕ) → length (left (maximum_read most text)) ≤ length text
+maximum_keeps most text =
+    then_keeps (line_read (maximum_room most) text) (λ line. give (depth_of_line most line)) (length text) (λ line rest. omega arith) (line_keeps (maximum_room most) text)
 
-sizes_keep : (magic text : List ℕ) → length (left ((line_read 10 then λ sizes. line_read 4 then λ most. some_head (image_head magic sizes most)) text)) ≤ length text
-sizes_keep magic text =
-    then_keeps (line_read 10 text) (λ sizes. line_read 4 then λ most. some_head (image_head magic sizes most)) (length text) (λ sizes rest. most_keeps magic sizes rest) (line_keeps 10 text)
+last_keeps : (most : ℕ) (magic sizes text : List ℕ) → length (left ((maximum_read most then λ depth. some_head (image_head magic sizes depth)) text)) ≤ length text
+last_keeps most magic sizes text =
+    then_keeps (maximum_read most text) (λ depth. some_head (image_head magic sizes depth)) (length text)
+    (λ depth rest. option_keeps some_head (λ t. omega arith) (λ h t. omega arith) (image_head magic sizes depth) rest) (maximum_keeps most text)
 
-image_takes : (c : ℕ) (cs : List ℕ) → length (left (image_header (c ∷ cs))) ≤ length cs
-image_takes c cs =
-    then_keeps (line_read 3 (c ∷ cs)) (λ magic. line_read 10 then λ sizes. line_read 4 then λ most. some_head (image_head magic sizes most)) (length cs) (λ magic rest. sizes_keep magic rest) (line_takes 3 c cs (omega arith))
+sizes_keep : (most : ℕ) (magic text : List ℕ) → length (left ((line_read 10 then λ sizes. maximum_read most then λ depth. some_head (image_head magic sizes depth)) text)) ≤ length text
+sizes_keep most magic text =
+    then_keeps (line_read 10 text) (λ sizes. maximum_read most then λ depth. some_head (image_head magic sizes depth)) (length text) (λ sizes rest. last_keeps most magic sizes rest) (line_keeps 10 text)
 
--- the head of a text by whether it is PPM
-abbrev by_kind : Bool → Reading VideoHead
-by_kind ppm text = if ppm then image_header text else header_of text
+image_takes : (most c : ℕ) (cs : List ℕ) → length (left (image_header most (c ∷ cs))) ≤ length cs
+image_takes most c cs =
+    then_keeps (line_read 3 (c ∷ cs)) (λ magic. line_read 10 then λ sizes. maximum_read most then λ depth. some_head (image_head magic sizes depth)) (length cs) (λ magic rest. sizes_keep most magic rest)
+    (line_takes 3 c cs (omega arith))
 
-kind_takes : (ppm : Bool) (c : ℕ) (cs : List ℕ) → length (left (by_kind ppm (c ∷ cs))) ≤ length cs
-kind_takes true c cs = image_takes c cs
-kind_takes false c cs = header_takes c cs
+left_seen : {X : Type 0} (o : Outcome X) (view : X → SaidHead) → left (seen_as o view) ≡ left o
+left_seen (Ok p) view = refl
+left_seen (Err f) view = refl
 
-pub wants_head : Wants video_head []
-wants_head next behind = kind_takes (next == 80) next behind
+-- what a text of each kind reads as
+text_read : (most : ℕ) (text : List ℕ) → is_ppm text ≡ false → video_head most text ≡ seen_as (header_of most text) (λ h. record { head = h.head; depth = h.depth })
+text_read most text kind =
+    ap (λ b. cond b (seen_as (image_header most text) (λ h. record { head = h.head; depth = h.depth })) (seen_as (header_of most text) (λ h. record { head = h.head; depth = h.depth }))) kind
+
+images_read : (most : ℕ) (text : List ℕ) → is_ppm text ≡ true → video_head most text ≡ seen_as (image_header most text) (λ h. record { head = h.head; depth = h.depth })
+images_read most text kind =
+    ap (λ b. cond b (seen_as (image_header most text) (λ h. record { head = h.head; depth = h.depth })) (seen_as (header_of most text) (λ h. record { head = h.head; depth = h.depth }))) kind
+
+kind_takes : (most : ℕ) (ppm : Bool) (c : ℕ) (cs : List ℕ) → (c == 80) ≡ ppm → length (left (video_head most (c ∷ cs))) ≤ length cs
+kind_takes most true c cs kind =
+    let same = ap (λ o. left o) (images_read most (c ∷ cs) kind) ∙ left_seen (image_header most (c ∷ cs)) (λ h. record { head = h.head; depth = h.depth }) in
+    subst (λ t. length t ≤ length cs) (sym same) (image_takes most c cs)
+kind_takes most false c cs kind =
+    let same = ap (λ o. left o) (text_read most (c ∷ cs) kind) ∙ left_seen (header_of most (c ∷ cs)) (λ h. record { head = h.head; depth = h.depth }) in
+    subst (λ t. length t ≤ length cs) (sym same) (header_takes most c cs)
+
+pub wants_head : (most : ℕ) → Wants (video_head most) []
+wants_head most next behind = kind_takes most (next == 80) next behind refl
 
 -- ---- the first byte of a text
 
@@ -111,34 +131,43 @@ kind_of ppm (Some xs) (Some ys) text (Some b) e h says =
     let back : text ≡ b ∷ ys = let same : xs ≡ text = cc in sym same ∙ h in
     ap is_ppm back ∙ says
 
--- ---- why a head was not read
-
 -- bytes that are left as they were
 pub none_taken : (old new : Option (List ℕ)) → Keeps old new → Consumes old new []
 none_taken None new keeps = tt
 none_taken (Some xs) None keeps = absurd keeps
 none_taken (Some xs) (Some ys) keeps = sym keeps
 
--- by a reading of a text of this kind
-module _ (ppm : Bool) (reading : Reading VideoHead) (same : (text : List ℕ) → by_kind ppm text ≡ reading text) where
-  kind_wants : (c : ℕ) (cs : List ℕ) → (c == 80) ≡ ppm → Wants reading (c ∷ cs) → Wants video_head (c ∷ cs)
+-- ---- a head that was read, or why not
+
+-- by a reading of a text of this kind, of which this is seen
+module _ {X : Type 0} (most : ℕ) (ppm : Bool) (reading : Reading X) (view : X → SaidHead) (same : (text : List ℕ) → is_ppm text ≡ ppm → video_head most text ≡ seen_as (reading text) view) where
+  known_by : (text : List ℕ) (new : Option (List ℕ)) (x : X) → is_ppm text ≡ ppm → ReadsAs reading (Some text) new (Ok x) → HeadKnown most (Some text) new ppm (view x)
+  known_by text None x kind r = r
+  known_by text (Some rest) x kind r = (sym kind, same text kind ∙ ap (λ o. seen_as o view) r)
+
+  known : (old mid new : Option (List ℕ)) (first : Option ℕ) (x : X) → GivesByte old mid first → FirstSays ppm first → ReadsAs reading (known_text first mid) new (Ok x) → HeadKnown most old new ppm (view x)
+  known None mid new first x h says r = tt
+  known (Some text) mid new first x h says r =
+      known_by text new x (kind_of ppm (Some text) mid text first refl h says) (subst (λ z. ReadsAs reading z new (Ok x)) (whole_text (Some text) mid text first refl h) r)
+
+  kind_wants : (c : ℕ) (cs : List ℕ) → (c == 80) ≡ ppm → Wants reading (c ∷ cs) → Wants (video_head most) (c ∷ cs)
   kind_wants c cs is wants next behind =
       let text = c ∷ (cs ++ (next ∷ behind)) in
-      subst (λ b. length (left (by_kind b text)) ≤ length behind) (sym is) (subst (λ o. length (left o) ≤ length behind) (sym (same text)) (wants next behind))
+      subst (λ t. length t ≤ length behind) (sym (ap (λ o. left o) (same text is) ∙ left_seen (reading text) view)) (wants next behind)
 
-  wants_empty : (bytes ys : List ℕ) → [] ≡ bytes ++ ys → Wants video_head bytes
-  wants_empty [] ys e = wants_head
+  wants_empty : (bytes ys : List ℕ) → [] ≡ bytes ++ ys → Wants (video_head most) bytes
+  wants_empty [] ys e = wants_head most
   wants_empty (c ∷ cs) ys e = absurd (cc)
 
-  wants_after : (b : ℕ) (rest bytes ys : List ℕ) → (b == 80) ≡ ppm → b ∷ rest ≡ bytes ++ ys → Wants reading bytes → Wants video_head bytes
-  wants_after b rest [] ys says e wants = wants_head
+  wants_after : (b : ℕ) (rest bytes ys : List ℕ) → (b == 80) ≡ ppm → b ∷ rest ≡ bytes ++ ys → Wants reading bytes → Wants (video_head most) bytes
+  wants_after b rest [] ys says e wants = wants_head most
   wants_after b rest (c ∷ cs) ys says e wants =
       let first : b ≡ c = cc in
       kind_wants c cs (subst (λ x. (x == 80) ≡ ppm) first says) wants
 
   wants_whole : (old mid new : Option (List ℕ)) (first : Option ℕ) → GivesByte old mid first → FirstSays ppm first →
-      ((bytes : List ℕ) × Consumes (known_text first mid) new bytes × Wants reading bytes) → (bytes : List ℕ) × Consumes old new bytes × Wants video_head bytes
-  wants_whole None mid new first h says t = ([], tt, wants_head)
+      ((bytes : List ℕ) × Consumes (known_text first mid) new bytes × Wants reading bytes) → (bytes : List ℕ) × Consumes old new bytes × Wants (video_head most) bytes
+  wants_whole None mid new first h says t = ([], tt, wants_head most)
   wants_whole (Some text) None new None h says t = absurd h.0
   wants_whole (Some text) (Some rest) None None h says (bytes, taken, wants) = absurd taken
   wants_whole (Some text) (Some rest) (Some ys) None h says (bytes, taken, wants) = (bytes, sym h.0 ∙ taken, wants_empty bytes ys (sym h.1 ∙ taken))
@@ -146,33 +175,44 @@ module _ (ppm : Bool) (reading : Reading VideoHead) (same : (text : List ℕ) �
   wants_whole (Some text) (Some rest) None (Some b) h says (bytes, taken, wants) = absurd taken
   wants_whole (Some text) (Some rest) (Some ys) (Some b) h says (bytes, taken, wants) = (bytes, h ∙ taken, wants_after b rest bytes ys says taken wants)
 
-  lacks_known : (text : List ℕ) (new : Option (List ℕ)) (f : Y4mFault) → is_ppm text ≡ ppm → ReadsAs reading (Some text) new (Err f) → LacksKnown (Some text) new (of_y4m f)
-  lacks_known text None f is r = r
-  lacks_known text (Some rest) f is r = (f, subst (λ b. by_kind b text ≡ Err (f, rest)) (sym is) (same text ∙ r), refl)
+  lacks_by : (text : List ℕ) (new : Option (List ℕ)) (f : Y4mFault) → is_ppm text ≡ ppm → ReadsAs reading (Some text) new (Err f) → LacksKnown most (Some text) new (of_y4m f)
+  lacks_by text None f is r = r
+  lacks_by text (Some rest) f is r = (f, same text is ∙ ap (λ o. seen_as o view) r, refl)
 
-  lacks : (old mid new : Option (List ℕ)) (first : Option ℕ) (f : Y4mFault) → GivesByte old mid first → FirstSays ppm first → ReadsAs reading (known_text first mid) new (Err f) → LacksKnown old new (of_y4m f)
+  lacks : (old mid new : Option (List ℕ)) (first : Option ℕ) (f : Y4mFault) → GivesByte old mid first → FirstSays ppm first → ReadsAs reading (known_text first mid) new (Err f) → LacksKnown most old new (of_y4m f)
   lacks None mid new first f h says r = tt
-  lacks (Some text) mid new first f h says r = lacks_known text new f (kind_of ppm (Some text) mid text first refl h says) (subst (λ z. ReadsAs reading z new (Err f)) (whole_text (Some text) mid text first refl h) r)
+  lacks (Some text) mid new first f h says r = lacks_by text new f (kind_of ppm (Some text) mid text first refl h says) (subst (λ z. ReadsAs reading z new (Err f)) (whole_text (Some text) mid text first refl h) r)
 
-  head_refused : (old mid new : Option (List ℕ)) (before after : ℕ) (first : Option ℕ) (f : Y4mFault) → GivesByte old mid first → FirstSays ppm first
+  refused : (old mid new : Option (List ℕ)) (before after : ℕ) (first : Option ℕ) (f : Y4mFault) → GivesByte old mid first → FirstSays ppm first
       → Refused reading Nowhere (record { old = known_text first mid; new = new; before = before; after = after }) f
-      → HeadRefused (record { old = old; new = new; before = before; after = after }) (of_y4m f)
-  head_refused old mid new before after first fault.OutOfMemory h says r = absurd r.1.2
-  head_refused old mid new before after first fault.Read h says r = (r.0, wants_whole old mid new first h says r.1)
-  head_refused old mid new before after first fault.Write h says r = absurd r
-  head_refused old mid new before after first fault.Header h says r = (r.0, lacks old mid new first _ h says r.1)
-  head_refused old mid new before after first fault.Tag h says r = (r.0, lacks old mid new first _ h says r.1)
-  head_refused old mid new before after first fault.Unsupported h says r = (r.0, lacks old mid new first _ h says r.1)
-  head_refused old mid new before after first fault.FrameLine h says r = (r.0, lacks old mid new first _ h says r.1)
-  head_refused old mid new before after first fault.FrameTruncated h says r = (r.0, lacks old mid new first _ h says r.1)
-  head_refused old mid new before after first fault.FormatChanged h says r = (r.0, lacks old mid new first _ h says r.1)
+      → HeadRefused most (record { old = old; new = new; before = before; after = after }) (of_y4m f)
+  refused old mid new before after first fault.OutOfMemory h says r = absurd r.1.2
+  refused old mid new before after first fault.Read h says r = (r.0, wants_whole old mid new first h says r.1)
+  refused old mid new before after first fault.Write h says r = absurd r
+  refused old mid new before after first fault.Header h says r = (r.0, lacks old mid new first _ h says r.1)
+  refused old mid new before after first fault.Tag h says r = (r.0, lacks old mid new first _ h says r.1)
+  refused old mid new before after first fault.Unsupported h says r = (r.0, lacks old mid new first _ h says r.1)
+  refused old mid new before after first fault.FrameLine h says r = (r.0, lacks old mid new first _ h says r.1)
+  refused old mid new before after first fault.FrameTruncated h says r = (r.0, lacks old mid new first _ h says r.1)
+  refused old mid new before after first fault.SampleTooLarge h says r = (r.0, lacks old mid new first _ h says r.1)
+  refused old mid new before after first fault.FormatChanged h says r = (r.0, lacks old mid new first _ h says r.1)
 
-pub header_refused : (old mid new : Option (List ℕ)) (before after : ℕ) (first : Option ℕ) (f : Y4mFault) → GivesByte old mid first → FirstSays false first
-    → Refused header_of Nowhere (record { old = known_text first mid; new = new; before = before; after = after }) f
-    → HeadRefused (record { old = old; new = new; before = before; after = after }) (of_y4m f)
-header_refused = head_refused false header_of (λ text. refl)
+-- of YUV4MPEG2
+pub header_known : (most : ℕ) (old mid new : Option (List ℕ)) (first : Option ℕ) (h : VideoHead) (depth : ℕ) → GivesByte old mid first → FirstSays false first →
+    ReadsAs (header_of most) (known_text first mid) new (Ok (record { head = h; depth = depth })) → HeadKnown most old new false (record { head = h; depth = depth })
+header_known most old mid new first h depth gives says r = known most false (header_of most) (λ k. record { head = k.head; depth = k.depth }) (text_read most) old mid new first _ gives says r
 
-pub image_refused : (old mid new : Option (List ℕ)) (before after : ℕ) (first : Option ℕ) (f : Y4mFault) → GivesByte old mid first → FirstSays true first
-    → Refused image_header Nowhere (record { old = known_text first mid; new = new; before = before; after = after }) f
-    → HeadRefused (record { old = old; new = new; before = before; after = after }) (of_y4m f)
-image_refused = head_refused true image_header (λ text. refl)
+pub header_refused : (most : ℕ) (old mid new : Option (List ℕ)) (before after : ℕ) (first : Option ℕ) (f : Y4mFault) → GivesByte old mid first → FirstSays false first
+    → Refused (header_of most) Nowhere (record { old = known_text first mid; new = new; before = before; after = after }) f
+    → HeadRefused most (record { old = old; new = new; before = before; after = after }) (of_y4m f)
+header_refused most = refused most false (header_of most) (λ k. record { head = k.head; depth = k.depth }) (text_read most)
+
+-- of PPM
+pub image_known : (most : ℕ) (old mid new : Option (List ℕ)) (first : Option ℕ) (h : VideoHead) (depth : ℕ) → GivesByte old mid first → FirstSays true first →
+    ReadsAs (image_header most) (known_text first mid) new (Ok (record { head = h; depth = depth })) → HeadKnown most old new true (record { head = h; depth = depth })
+image_known most old mid new first h depth gives says r = known most true (image_header most) (λ k. record { head = k.head; depth = k.depth }) (images_read most) old mid new first _ gives says r
+
+pub image_refused : (most : ℕ) (old mid new : Option (List ℕ)) (before after : ℕ) (first : Option ℕ) (f : Y4mFault) → GivesByte old mid first → FirstSays true first
+    → Refused (image_header most) Nowhere (record { old = known_text first mid; new = new; before = before; after = after }) f
+    → HeadRefused most (record { old = old; new = new; before = before; after = after }) (of_y4m f)
+image_refused most = refused most true (image_header most) (λ k. record { head = k.head; depth = k.depth }) (images_read most)

@@ -60,14 +60,14 @@ pub record PutsSome (Next : List Planes → List ℕ → List ℕ → Type 0) (a
   pub pictures : List Planes
   pub are : AreClusters a r w pictures
   pub taken : Known input.old input.new (λ text rest.
-      (left : List ℕ) × ReadsPictures r.ppm r.head true text pictures left
+      (left : List ℕ) × ReadsPictures r.ppm r.most r.head true text pictures left
       × Next pictures left rest)
   pub writes : Appends output.old output.new (begun_for a r w pictures)
 
 -- the frame of the next picture is too long to be read
 abbrev pub EndsLong : Accepted → VideoReading → List Planes → List ℕ → List ℕ → Fault → Type 0
 EndsLong a r pictures left rest f =
-    (p : Planes) × (picture_next r.ppm r.head (at_first pictures) left ≡ Ok (Some p, rest))
+    (p : Planes) × (picture_next r.ppm r.most r.head (at_first pictures) left ≡ Ok (Some p, rest))
     × (HasLongSlice a p (said_for r.head) → ⊥)
     × (limit < length (frame_of a p (said_for r.head)))
     × (f ≡ fault.ChunkTooLong)
@@ -76,7 +76,7 @@ EndsLong a r pictures left rest f =
 abbrev pub EndsFar : Accepted → VideoReading → Writer → List Planes → List ℕ → List ℕ → Fault →
     Type 0
 EndsFar a r w pictures left rest f =
-    (p : Planes) × (picture_next r.ppm r.head (at_first pictures) left ≡ Ok (Some p, rest))
+    (p : Planes) × (picture_next r.ppm r.most r.head (at_first pictures) left ≡ Ok (Some p, rest))
     × (HasLongSlice a p (said_for r.head) → ⊥)
     × (length (frame_of a p (said_for r.head)) ≤ limit)
     × (last_place < end_place w.head w.shown (frames_for a r.head pictures)
@@ -111,13 +111,13 @@ abbrev pub StopsPuttingBy : Cause → Accepted → VideoReading → Writer → P
     Type 0
 StopsPuttingBy Reading a r w input output f =
     (output.after ≡ output.before) × (input.after ≡ one_more input.before)
-    × PutsSome (PictureWants r.ppm r.head) a r w input output
+    × PutsSome (PictureWants r.ppm r.most r.head) a r w input output
 StopsPuttingBy Writing a r w input output f =
     (output.after ≡ one_more output.before) × (input.after ≡ input.before)
     × PutsBeginning a r w input output
 StopsPuttingBy Memory a r w input output f =
     (output.after ≡ output.before) × (input.after ≡ input.before)
-    × PutsSome (PictureLacks r.ppm r.head) a r w input output
+    × PutsSome (PictureLacks r.ppm r.most r.head) a r w input output
 StopsPuttingBy Content a r w input output f =
     (output.after ≡ output.before) × (input.after ≡ input.before)
     × PutsSome (EndsPutting a r w f) a r w input output

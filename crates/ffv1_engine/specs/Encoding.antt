@@ -66,7 +66,7 @@ StopsNext p a r f = StopsBy (cause_of f) p a r f
 -- where the text is known, it begins with these pictures
 abbrev pub PicturesKnown : Option (List ℕ) → Option (List ℕ) → VideoReading → List Planes → Type 0
 PicturesKnown old new r pictures = Known old new (λ text rest.
-    ReadsPictures r.ppm r.head true text pictures rest)
+    ReadsPictures r.ppm r.most r.head true text pictures rest)
 
 -- so far some pictures were read and encoded, and these are their frames
 pub record Encoded (p : Passage) (a : Accepted) (r s : VideoReading) (frames : List (List ℕ))
@@ -80,12 +80,13 @@ pub record Encoded (p : Passage) (a : Accepted) (r s : VideoReading) (frames : L
   pub head : s.head ≡ r.head
   pub failed : s.failed ≡ None
   pub begun : s.ppm ≡ true → s.begun ≡ at_first pictures
+  pub most : s.most ≡ r.most
 
 -- where the text is known, it has these pictures and no more
 abbrev pub AllKnown : Option (List ℕ) → Option (List ℕ) → VideoReading → List Planes → Type 0
 AllKnown old new r pictures = Known old new (λ text rest.
-    (left : List ℕ) × ReadsPictures r.ppm r.head true text pictures left
-    × (picture_next r.ppm r.head (at_first pictures) left ≡ Ok (None, rest)))
+    (left : List ℕ) × ReadsPictures r.ppm r.most r.head true text pictures left
+    × (picture_next r.ppm r.most r.head (at_first pictures) left ≡ Ok (None, rest)))
 
 -- all pictures were read and encoded, and these are their frames
 pub record EncodesAll (p : Passage) (a : Accepted) (r : VideoReading) (frames : List (List ℕ))
@@ -99,16 +100,17 @@ pub record EncodesAll (p : Passage) (a : Accepted) (r : VideoReading) (frames : 
 -- the picture after some has a fault, or a slice that is too long
 abbrev pub EndsAt : Accepted → VideoReading → List Planes → List ℕ → List ℕ → Fault → Type 0
 EndsAt a r pictures left rest f =
-    ((g : Y4mFault) × (picture_next r.ppm r.head (at_first pictures) left ≡ Err (g, rest))
+    ((g : Y4mFault) × (picture_next r.ppm r.most r.head (at_first pictures) left ≡ Err (g, rest))
     × (f ≡ of_y4m g))
-    ⊎ ((q : Planes) × (picture_next r.ppm r.head (at_first pictures) left ≡ Ok (Some q, rest))
+    ⊎ ((q : Planes)
+    × (picture_next r.ppm r.most r.head (at_first pictures) left ≡ Ok (Some q, rest))
     × HasLongSlice a q (said_for r.head) × (f ≡ fault.SliceTooLong))
 
 -- where the text is known, so it ends
 abbrev pub EndsKnown : Option (List ℕ) → Option (List ℕ) → Accepted → VideoReading → List Planes →
     Fault → Type 0
 EndsKnown old new a r pictures f = Known old new (λ text rest.
-    (left : List ℕ) × ReadsPictures r.ppm r.head true text pictures left
+    (left : List ℕ) × ReadsPictures r.ppm r.most r.head true text pictures left
     × EndsAt a r pictures left rest f)
 
 pub record EndsEncoding (p : Passage) (a : Accepted) (r : VideoReading) (f : Fault) : Type 0 where

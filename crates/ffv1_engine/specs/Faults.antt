@@ -95,6 +95,7 @@ of_y4m y4m_fault.Tag = fault.Tag
 of_y4m y4m_fault.Unsupported = fault.Unsupported
 of_y4m y4m_fault.FrameLine = fault.FrameLine
 of_y4m y4m_fault.FrameTruncated = fault.FrameTruncated
+of_y4m y4m_fault.SampleTooLarge = fault.SampleTooLarge
 of_y4m y4m_fault.FormatChanged = fault.FormatChanged
 
 -- what a fault comes from: a read that failed, a write that failed, memory that was refused, or

@@ -26,15 +26,16 @@ use Rattle.ffv1_engine.specs.Trial.{Silent}
 use Rattle.ffv1_engine.specs.Unpacked.{lines_before}
 use Rattle.ffv1_engine.specs.Unpacking.{HandsOver}
 
--- a sink of images of a configuration's size that has taken whole images
+-- a sink of images of a configuration's size and depth that has taken whole images
 pub record IsSinkFor {W : Type 0} (c : Configuration) (s : PpmSink W) : Type 0 where
   pub at : AtImage s
   pub width : s.width ≡ c.width
   pub height : s.height ≡ c.height
+  pub depth : s.depth ≡ c.depth
 
 -- what the first lines of an image make a sink write: its header, and the rows that are whole
 abbrev pub rows_so_far : Configuration → List Line → List ℕ
-rows_so_far c lines = text_of_lines c.width c.height [] 0 lines
+rows_so_far c lines = text_of_lines c.depth c.width c.height [] 0 lines
 
 -- of the next frame, after whole images
 module _ (a : Accepted) (from to : Place) (input output : Passage) where
@@ -78,6 +79,7 @@ module _ (a : Accepted) (from to : Place) (input output : Passage) where
   WritesImage (Ok true) =
       (frame : Frame) × PlaysFrame a from to input frame × (output.after ≡ output.before)
       × Appends output.old output.new
-      (image_text a.configuration.width a.configuration.height frame.planes)
+      (image_text a.configuration.depth a.configuration.width a.configuration.height
+      frame.planes)
   WritesImage (Ok false) = ReadsEnd from input × Silent output
   WritesImage (Err f) = ImageStopsBy f (cause_of f)

@@ -6,28 +6,32 @@ use Rattle.ffv1_matroska.specs.MatroskaFiles.{MatroskaFile}
 use Rattle.ffv1_y4m.specs.VideoHead.{IsRatio}
 use Rattle.ffv1_words.specs.declared.order.Choice.{Choice}
 use Rattle.ffv1_engine.specs.declared.matroska_packing.PackedMatroska.{PackedMatroska}
+use Rattle.ffv1_engine.specs.declared.profile.Profile.{Profile}
 use Rattle.ffv1_engine.specs.declared.profile.Profile.TheVariants.{Wide}
 use Rattle.ffv1_engine.specs.PackMatroska.{PacksMatroska, whole_file}
+use Rattle.ffv1_engine.specs.Profiles.{greatest_depth}
 use Rattle.ffv1_engine.specs.RoundTrip.{HoldsBy}
 use Rattle.ffv1_engine.specs.Video.{Video}
 
--- a text of bytes that was packed into Matroska. PPM has the rate and the scale of the choice
-pub record WasPackedMatroska (choice : Choice) (text : List ℕ) : Type 0 where
+-- a text of bytes that was packed into Matroska in a profile. PPM has the rate and the scale of the
+-- choice
+pub record WasPackedMatroska (packing : Profile) (choice : Choice) (text : List ℕ)
+    : Type 0 where
   pub input : Passage
   pub output : Passage
   pub packed : PackedMatroska
-  pub packs : PacksMatroska choice input output packed
+  pub packs : PacksMatroska (greatest_depth packing) choice input output packed
   pub known : input.old ≡ Some text
   pub bytes : AreBytes text
   pub rated : packs.video.ppm ≡ true → IsRatio 4294967295 choice.rate choice.scale
 
 -- the video of the text, and the file that was written of it: finished, or open
-abbrev pub matroska_video : {choice : Choice} → {text : List ℕ} → WasPackedMatroska choice text →
-    Video
+abbrev pub matroska_video : {packing : Profile} → {choice : Choice} → {text : List ℕ} →
+    WasPackedMatroska packing choice text → Video
 matroska_video w = w.packs.video
 
-abbrev pub matroska_file : {choice : Choice} → {text : List ℕ} → WasPackedMatroska choice text →
-    List ℕ
+abbrev pub matroska_file : {packing : Profile} → {choice : Choice} → {text : List ℕ} →
+    WasPackedMatroska packing choice text → List ℕ
 matroska_file {choice = choice} w =
     whole_file w.packed.finished choice w.packs.video w.packs.accepted
 

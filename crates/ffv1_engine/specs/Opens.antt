@@ -14,7 +14,7 @@ use Rattle.ffv1_files.specs.Readers.{Standing}
 use Rattle.ffv1_reads.specs.Known.{Known}
 use Rattle.ffv1_engine.specs.declared.profile.Profile.{Profile}
 use Rattle.ffv1_engine.specs.Containers.{IsWithin}
-use Rattle.ffv1_engine.specs.Profiles.{scope_in}
+use Rattle.ffv1_engine.specs.Profiles.{greatest_depth, scope_in}
 use Rattle.ffv1_engine.specs.declared.fault.Fault.{Fault}
 use Rattle.ffv1_engine.specs.declared.fault.Fault.TheVariants as fault
 use Rattle.ffv1_engine.specs.Faults.{Cause, cause_of}
@@ -44,7 +44,7 @@ pub record OpensRecord (profile : Profile) (old new : Option (List ℕ)) : Type 
   pub head : Head
   pub place : Place
   pub known : OpensKnown profile old new head place
-  pub reaches : ReachesSets head.config_record
+  pub reaches : ReachesSets (greatest_depth profile) head.config_record
 
 -- or with one whose record is accepted: the decoder, and the lines of the stream, take memory
 pub record OpensAccepted (profile : Profile) (old new : Option (List ℕ)) : Type 0 where

@@ -5,15 +5,17 @@ use Rattle.std.specs.Io.KnownBytes.{Appends}
 use Rattle.ffv1_wire.specs.Failures.{one_more}
 use Rattle.ffv1_wire.specs.Passage.{Passage}
 use Rattle.ffv1_wire.specs.Writes.{AppendsBeginning}
-use Rattle.ffv1_record.specs.Accepted.{Accepted, IsFirst, checks}
+use Rattle.ffv1_record.specs.Accepted.{Accepted, IsFirstUpTo}
 use Rattle.ffv1_record.specs.declared.fault.RecordFault.{RecordFault}
 use Rattle.ffv1_codec.specs.Picture.{Planes}
 use Rattle.ffv1_codec.specs.Frame.{HasLongSlice}
 use Rattle.ffv1_reads.specs.Head.{Head}
-use Rattle.ffv1_avi.specs.Written.{most, riff_size}
+use Rattle.ffv1_avi.specs.Written.{most as most_bytes, riff_size}
 use Rattle.ffv1_y4m.specs.declared.fault.Fault.{Fault as Y4mFault}
-use Rattle.ffv1_y4m.specs.declared.head.VideoHead.{VideoHead}
+use Rattle.ffv1_engine.specs.Video.{SaidHead}
 use Rattle.ffv1_reads.specs.Known.{Known}
+use Rattle.ffv1_engine.specs.declared.profile.Profile.{Profile}
+use Rattle.ffv1_engine.specs.declared.profile.Profile.TheVariants.{Wide}
 use Rattle.ffv1_engine.specs.declared.fault.Fault.{Fault}
 use Rattle.ffv1_engine.specs.declared.fault.Fault.TheVariants as fault
 use Rattle.ffv1_words.specs.declared.order.Choice.{Choice}
@@ -26,20 +28,22 @@ use Rattle.ffv1_engine.specs.Video.{video_head}
 use Rattle.ffv1_engine.specs.Packing.{AllShort, IsFor, bytes_in, configuration_for, packed_file}
 use Rattle.ffv1_engine.specs.Packing.{packed_frames, packed_head, said_for}
 
--- a video of at least one picture whose file may be written: each frame, and the file, is short
--- enough
-pub record IsPackable (choice : Choice) (v : Video) (a : Accepted) : Type 0 where
+-- a video of at least one picture, of a depth up to `most`, whose file may be written: each frame,
+-- and the file, is short enough
+pub record IsPackable (most : ℕ) (choice : Choice) (v : Video) (a : Accepted) : Type 0 where
+  pub deep : v.head.depth ≤ most
   pub for : IsFor choice v.ppm v.head a
   pub some : 0 < length v.pictures
   pub short : AllShort a v.head v.pictures
-  pub small : riff_size (packed_head choice v a) (packed_frames v a) ≤ most
+  pub small : riff_size (packed_head choice v a) (packed_frames v a) ≤ most_bytes
 
 -- the video was read, its file was written, and what was counted
-pub record Packs (choice : Choice) (input output : Passage) (packed : Packed) : Type 0 where
+pub record Packs (most : ℕ) (choice : Choice) (input output : Passage) (packed : Packed)
+    : Type 0 where
   pub video : Video
   pub accepted : Accepted
   pub reads : ReadsVideo input.old input.new video
-  pub packable : IsPackable choice video accepted
+  pub packable : IsPackable most choice video accepted
   pub writes : Appends output.old output.new (packed_file choice video accepted)
   pub frames : packed.frames ≡ length video.pictures
   pub bytes : packed.bytes ≡ bytes_in (packed_frames video accepted)
@@ -47,75 +51,81 @@ pub record Packs (choice : Choice) (input output : Passage) (packed : Packed) : 
   pub written : output.after ≡ output.before
 
 -- the video was read, and a beginning of its file was written
-pub record PacksBeginning (choice : Choice) (input output : Passage) : Type 0 where
+pub record PacksBeginning (most : ℕ) (choice : Choice) (input output : Passage) : Type 0 where
   pub video : Video
   pub accepted : Accepted
   pub reads : ReadsVideo input.old input.new video
-  pub packable : IsPackable choice video accepted
+  pub packable : IsPackable most choice video accepted
   pub writes : AppendsBeginning output.old output.new (packed_file choice video accepted)
 
--- the text has no head: this is its fault, and this is left
-abbrev pub LacksHead : List ℕ → List ℕ → Fault → Type 0
-LacksHead text rest f =
-    (g : Y4mFault) × (video_head text ≡ Err (g, rest)) × (f ≡ of_y4m g)
+-- the text has no head of a depth up to `most`: this is its fault, and this is left
+abbrev pub LacksHead : ℕ → List ℕ → List ℕ → Fault → Type 0
+LacksHead most text rest f =
+    (g : Y4mFault) × (video_head most text ≡ Err (g, rest)) × (f ≡ of_y4m g)
 
 -- its head asks for a configuration that is not accepted
-pub record IsRejected (choice : Choice) (text rest : List ℕ) (f : Fault) : Type 0 where
-  pub head : VideoHead
-  pub read : video_head text ≡ Ok (head, rest)
+pub record IsRejected (most : ℕ) (choice : Choice) (text rest : List ℕ) (f : Fault)
+    : Type 0 where
+  pub head : SaidHead
+  pub read : video_head most text ≡ Ok (head, rest)
   pub refusal : RecordFault
-  pub first : IsFirst checks (configuration_for choice (is_ppm text) head) refusal
+  pub first : IsFirstUpTo most (configuration_for choice (is_ppm text) head) refusal
   pub is : f ≡ of_record refusal
 
 -- why packing ends after the pictures of a video: the next one has a fault, or a slice that is too
 -- long; or there is no more, and there was none, or their file would be too large
-abbrev pub EndsBehind : Choice → Video → Accepted → List ℕ → List ℕ → Fault → Type 0
-EndsBehind choice v a left rest f =
-    ((g : Y4mFault) × (picture_next v.ppm v.head (at_first v.pictures) left ≡ Err (g, rest))
+abbrev pub EndsBehind : ℕ → Choice → Video → Accepted → List ℕ → List ℕ → Fault → Type 0
+EndsBehind most choice v a left rest f =
+    ((g : Y4mFault) × (picture_next v.ppm most v.head (at_first v.pictures) left ≡ Err (g, rest))
     × (f ≡ of_y4m g))
-    ⊎ ((p : Planes) × (picture_next v.ppm v.head (at_first v.pictures) left ≡ Ok (Some p, rest))
+    ⊎ ((p : Planes)
+    × (picture_next v.ppm most v.head (at_first v.pictures) left ≡ Ok (Some p, rest))
     × HasLongSlice a p (said_for v.head) × (f ≡ fault.SliceTooLong))
-    ⊎ ((picture_next v.ppm v.head (at_first v.pictures) left ≡ Ok (None, rest))
+    ⊎ ((picture_next v.ppm most v.head (at_first v.pictures) left ≡ Ok (None, rest))
     × (((v.pictures ≡ []) × (f ≡ fault.NoFrames))
     ⊎ ((0 < length v.pictures)
-    × (most < riff_size (packed_head choice v a) (packed_frames v a)) × (f ≡ fault.TooLarge))))
+    × (most_bytes < riff_size (packed_head choice v a) (packed_frames v a))
+    × (f ≡ fault.TooLarge))))
 
 -- its first pictures are encoded, and then packing ends
-pub record Ends (choice : Choice) (text rest : List ℕ) (f : Fault) : Type 0 where
+pub record Ends (most : ℕ) (choice : Choice) (text rest : List ℕ) (f : Fault) : Type 0 where
   pub video : Video
   pub accepted : Accepted
   pub left : List ℕ
-  pub begins : Begins text video left
+  pub begins : Begins most text video left
   pub for : IsFor choice video.ppm video.head accepted
   pub short : AllShort accepted video.head video.pictures
-  pub ends : EndsBehind choice video accepted left rest f
+  pub ends : EndsBehind most choice video accepted left rest f
 
 -- the first fault of a text that is packed, where that is known, with this left
-abbrev pub FaultsPacked : Choice → Option (List ℕ) → Option (List ℕ) → Fault → Type 0
-FaultsPacked choice old new f = Known old new (λ text rest.
-    LacksHead text rest f ⊎ IsRejected choice text rest f ⊎ Ends choice text rest f)
+abbrev pub FaultsPacked : ℕ → Choice → Option (List ℕ) → Option (List ℕ) → Fault → Type 0
+FaultsPacked most choice old new f = Known old new (λ text rest.
+    LacksHead most text rest f ⊎ IsRejected most choice text rest f
+    ⊎ Ends most choice text rest f)
 
 -- a text, where it is known, has a head
-abbrev pub HasHead : Option (List ℕ) → Type 0
-HasHead None = ⊤
-HasHead (Some text) = (h : VideoHead) × (rest : List ℕ) × (video_head text ≡ Ok (h, rest))
+abbrev pub HasHead : ℕ → Option (List ℕ) → Type 0
+HasHead most None = ⊤
+HasHead most (Some text) =
+    (h : SaidHead) × (rest : List ℕ) × (video_head most text ≡ Ok (h, rest))
 
 -- why packing is refused, by what the fault comes from: a write that failed, which was counted,
 -- after a beginning of the file; and else with nothing written a read that failed, which was
 -- counted, memory after a head, or the first fault of the text
-abbrev pub RefusesBy : Cause → Choice → Passage → Passage → Fault → Type 0
-RefusesBy Writing choice input output f =
-    PacksBeginning choice input output × (output.after ≡ one_more output.before)
+abbrev pub RefusesBy : ℕ → Cause → Choice → Passage → Passage → Fault → Type 0
+RefusesBy most Writing choice input output f =
+    PacksBeginning most choice input output × (output.after ≡ one_more output.before)
     × (input.after ≡ input.before)
-RefusesBy Reading choice input output f =
+RefusesBy most Reading choice input output f =
     Silent output × (input.after ≡ one_more input.before)
-RefusesBy Memory choice input output f =
-    Silent output × (input.after ≡ input.before) × HasHead input.old
-RefusesBy Content choice input output f =
-    Silent output × (input.after ≡ input.before) × FaultsPacked choice input.old input.new f
+RefusesBy most Memory choice input output f =
+    Silent output × (input.after ≡ input.before) × HasHead most input.old
+RefusesBy most Content choice input output f =
+    Silent output × (input.after ≡ input.before)
+    × FaultsPacked most choice input.old input.new f
 
-abbrev pub RefusesPack : Choice → Passage → Passage → Fault → Type 0
-RefusesPack choice input output f = RefusesBy (cause_of f) choice input output f
+abbrev pub RefusesPack : ℕ → Choice → Passage → Passage → Fault → Type 0
+RefusesPack most choice input output f = RefusesBy most (cause_of f) choice input output f
 
 -- the faults that packing has
 abbrev pub is_pack_fault : Fault → Bool
@@ -131,23 +141,29 @@ is_pack_fault fault.Tag = true
 is_pack_fault fault.Unsupported = true
 is_pack_fault fault.FrameLine = true
 is_pack_fault fault.FrameTruncated = true
+is_pack_fault fault.SampleTooLarge = true
 is_pack_fault fault.NoFrames = true
 is_pack_fault fault.FormatChanged = true
 is_pack_fault f = false
 
+-- with the one of a depth that is read and not packed: RCT of 16 bits
+abbrev pub IsPackFault : Profile → Fault → Type 0
+IsPackFault profile f = (is_pack_fault f ≡ true) ⊎ ((profile ≡ Wide) × (f ≡ fault.Depth))
+
 -- where the text is known, it begins with the video, and no picture is after it
-abbrev pub EndsVideo : Option (List ℕ) → Option (List ℕ) → Video → Type 0
-EndsVideo old new v = Known old new (λ text rest.
-    (left : List ℕ) × Begins text v left
-    × (picture_next v.ppm v.head (at_first v.pictures) left ≡ Ok (None, rest)))
+abbrev pub EndsVideo : ℕ → Option (List ℕ) → Option (List ℕ) → Video → Type 0
+EndsVideo most old new v = Known old new (λ text rest.
+    (left : List ℕ) × Begins most text v left
+    × (picture_next v.ppm most v.head (at_first v.pictures) left ≡ Ok (None, rest)))
 
 -- a video was read, at least one picture of it, and its file has this head and these frames
-pub record EncodesVideo (choice : Choice) (p : Passage) (head : Head) (frames : List (List ℕ))
-    : Type 0 where
+pub record EncodesVideo (most : ℕ) (choice : Choice) (p : Passage) (head : Head)
+    (frames : List (List ℕ)) : Type 0 where
   pub video : Video
   pub accepted : Accepted
   pub reads : ReadsVideo p.old p.new video
-  pub ends : EndsVideo p.old p.new video
+  pub ends : EndsVideo most p.old p.new video
+  pub deep : video.head.depth ≤ most
   pub for : IsFor choice video.ppm video.head accepted
   pub some : 0 < length video.pictures
   pub short : AllShort accepted video.head video.pictures
@@ -156,11 +172,12 @@ pub record EncodesVideo (choice : Choice) (p : Passage) (head : Head) (frames : 
   pub kept : p.after ≡ p.before
 
 -- why none was encoded
-abbrev pub StopsVideoBy : Cause → Choice → Passage → Fault → Type 0
-StopsVideoBy Reading choice p f = p.after ≡ one_more p.before
-StopsVideoBy Writing choice p f = ⊥
-StopsVideoBy Memory choice p f = (p.after ≡ p.before) × HasHead p.old
-StopsVideoBy Content choice p f = (p.after ≡ p.before) × FaultsPacked choice p.old p.new f
+abbrev pub StopsVideoBy : ℕ → Cause → Choice → Passage → Fault → Type 0
+StopsVideoBy most Reading choice p f = p.after ≡ one_more p.before
+StopsVideoBy most Writing choice p f = ⊥
+StopsVideoBy most Memory choice p f = (p.after ≡ p.before) × HasHead most p.old
+StopsVideoBy most Content choice p f =
+    (p.after ≡ p.before) × FaultsPacked most choice p.old p.new f
 
-abbrev pub StopsVideo : Choice → Passage → Fault → Type 0
-StopsVideo choice p f = StopsVideoBy (cause_of f) choice p f
+abbrev pub StopsVideo : ℕ → Choice → Passage → Fault → Type 0
+StopsVideo most choice p f = StopsVideoBy most (cause_of f) choice p f

@@ -17,8 +17,10 @@ use Rattle.ffv1_matroska.specs.WrittenPlaces.{cluster_bytes, last_place}
 use Rattle.ffv1_matroska.specs.declared.shown.Shown.{Shown}
 use Rattle.ffv1_y4m.specs.Reads.{Wants}
 use Rattle.ffv1_y4m.specs.declared.fault.Fault.{Fault as Y4mFault}
-use Rattle.ffv1_y4m.specs.declared.head.VideoHead.{VideoHead}
+use Rattle.ffv1_engine.specs.Video.{SaidHead}
 use Rattle.ffv1_words.specs.declared.order.Choice.{Choice}
+use Rattle.ffv1_engine.specs.declared.profile.Profile.{Profile}
+use Rattle.ffv1_engine.specs.declared.profile.Profile.TheVariants.{Wide}
 use Rattle.ffv1_engine.specs.declared.fault.Fault.{Fault}
 use Rattle.ffv1_engine.specs.declared.fault.Fault.TheVariants as fault
 use Rattle.ffv1_engine.specs.declared.matroska_packing.PackedMatroska.{PackedMatroska}
@@ -34,8 +36,12 @@ use Rattle.ffv1_engine.specs.VideoReads.{HeadRead, IsHeadBy, IsHeadOf, PictureLa
 use Rattle.ffv1_engine.specs.VideoReads.{PictureWants, Taken, VideoReading}
 
 -- how the pictures of a video are shown
-abbrev pub shown_for : VideoHead → Shown
-shown_for h = record { structure = h.structure; sar_num = h.sar_num; sar_den = h.sar_den }
+abbrev pub shown_for : SaidHead → Shown
+shown_for h = record {
+  structure = h.head.structure;
+  sar_num = h.head.sar_num;
+  sar_den = h.head.sar_den;
+}
 
 -- the file of a video: while pictures may still come; with all of them, where it cannot be written
 -- over; and finished
@@ -67,7 +73,7 @@ clusters_end choice v a =
 -- a video whose pictures have Clusters: whole nanoseconds say its rate, no slice is too long, no
 -- frame is too long to be read, and the last Cluster does not end too far
 pub record HasClusters (choice : Choice) (v : Video) (a : Accepted) : Type 0 where
-  pub head : IsHeadBy v.ppm v.head
+  pub head : IsHeadBy v.ppm v.head.head
   pub for : IsFor choice v.ppm v.head a
   pub timed : IsTimed (rate_in (packed_head choice v a))
   pub short : AllShort a v.head v.pictures
@@ -75,10 +81,11 @@ pub record HasClusters (choice : Choice) (v : Video) (a : Accepted) : Type 0 whe
   pub near : 0 < length v.pictures → clusters_end choice v a ≤ last_place
 
 -- the video was read, its file was written, and what was counted
-pub record PacksMatroska (choice : Choice) (input output : Passage) (packed : PackedMatroska)
-    : Type 0 where
+pub record PacksMatroska (most : ℕ) (choice : Choice) (input output : Passage)
+    (packed : PackedMatroska) : Type 0 where
   pub video : Video
   pub accepted : Accepted
+  pub deep : video.head.depth ≤ most
   pub reads : ReadsVideo input.old input.new video
   pub some : 0 < length video.pictures
   pub has : HasClusters choice video accepted
@@ -89,18 +96,19 @@ pub record PacksMatroska (choice : Choice) (input output : Passage) (packed : Pa
   pub written : output.after ≡ output.before
 
 -- its head asks for a configuration that is accepted, and says a rate that no whole nanoseconds say
-pub record IsUntimed (choice : Choice) (text rest : List ℕ) (f : Fault) : Type 0 where
-  pub head : VideoHead
-  pub read : video_head text ≡ Ok (head, rest)
+pub record IsUntimed (most : ℕ) (choice : Choice) (text rest : List ℕ) (f : Fault) : Type 0 where
+  pub head : SaidHead
+  pub read : video_head most text ≡ Ok (head, rest)
   pub accepted : Accepted
   pub for : IsFor choice (is_ppm text) head accepted
   pub untimed : IsTimed (rate_in (head_for choice (is_ppm text) head accepted.configuration)) → ⊥
   pub is : f ≡ fault.Rate
 
 -- the first fault of a text before its pictures, where it is known
-abbrev pub FaultsBefore : Choice → Option (List ℕ) → Option (List ℕ) → Fault → Type 0
-FaultsBefore choice old new f = Known old new (λ text rest.
-    LacksHead text rest f ⊎ IsRejected choice text rest f ⊎ IsUntimed choice text rest f)
+abbrev pub FaultsBefore : ℕ → Choice → Option (List ℕ) → Option (List ℕ) → Fault → Type 0
+FaultsBefore most choice old new f = Known old new (λ text rest.
+    LacksHead most text rest f ⊎ IsRejected most choice text rest f
+    ⊎ IsUntimed most choice text rest f)
 
 -- the next picture has no Cluster: a slice of it is too long, or its frame is too long to be read,
 -- or its Cluster would end too far
@@ -118,40 +126,41 @@ LacksCluster choice v a p f =
 
 -- why packing ends after the pictures of a video: the next one has a fault, or no Cluster; or there
 -- is no more, and there was none
-abbrev pub EndsClusters : Choice → Video → Accepted → List ℕ → List ℕ → Fault → Type 0
-EndsClusters choice v a left rest f =
-    ((g : Y4mFault) × (picture_next v.ppm v.head (at_first v.pictures) left ≡ Err (g, rest))
+abbrev pub EndsClusters : ℕ → Choice → Video → Accepted → List ℕ → List ℕ → Fault → Type 0
+EndsClusters most choice v a left rest f =
+    ((g : Y4mFault) × (picture_next v.ppm most v.head (at_first v.pictures) left ≡ Err (g, rest))
     × (f ≡ of_y4m g))
-    ⊎ ((p : Planes) × (picture_next v.ppm v.head (at_first v.pictures) left ≡ Ok (Some p, rest))
+    ⊎ ((p : Planes)
+    × (picture_next v.ppm most v.head (at_first v.pictures) left ≡ Ok (Some p, rest))
     × LacksCluster choice v a p f)
-    ⊎ ((picture_next v.ppm v.head (at_first v.pictures) left ≡ Ok (None, rest))
+    ⊎ ((picture_next v.ppm most v.head (at_first v.pictures) left ≡ Ok (None, rest))
     × (v.pictures ≡ []) × (f ≡ fault.NoFrames))
 
 -- the Clusters of a video were written, and of the text, where it is known, this video was read, and
 -- then so much as this says
-pub record PacksSome (Next : Video → Accepted → List ℕ → List ℕ → Type 0) (choice : Choice)
-    (input output : Passage) : Type 0 where
+pub record PacksSome (most : ℕ) (Next : Video → Accepted → List ℕ → List ℕ → Type 0)
+    (choice : Choice) (input output : Passage) : Type 0 where
   pub video : Video
   pub accepted : Accepted
   pub has : HasClusters choice video accepted
   pub taken : Known input.old input.new (λ text rest.
-      (left : List ℕ) × Begins text video left × Next video accepted left rest)
+      (left : List ℕ) × Begins most text video left × Next video accepted left rest)
   pub writes : Appends output.old output.new (begun_file choice video accepted)
 
 -- and then packing ends
-abbrev pub EndsMatroska : Choice → Passage → Passage → Fault → Type 0
-EndsMatroska choice input output f =
-    PacksSome (λ v a left rest. EndsClusters choice v a left rest f) choice input output
+abbrev pub EndsMatroska : ℕ → Choice → Passage → Passage → Fault → Type 0
+EndsMatroska most choice input output f =
+    PacksSome most (λ v a left rest. EndsClusters most choice v a left rest f) choice input output
 
 -- and then a read failed, where the next picture wants one more byte
-abbrev pub PackReadFails : Choice → Passage → Passage → Type 0
-PackReadFails choice input output =
-    PacksSome (λ v a. PictureWants v.ppm v.head v.pictures) choice input output
+abbrev pub PackReadFails : ℕ → Choice → Passage → Passage → Type 0
+PackReadFails most choice input output =
+    PacksSome most (λ v a. PictureWants v.ppm most v.head v.pictures) choice input output
 
 -- and then memory was refused for the next picture, or for the frame of it
-abbrev pub PackLacks : Choice → Passage → Passage → Type 0
-PackLacks choice input output =
-    PacksSome (λ v a. PictureLacks v.ppm v.head v.pictures) choice input output
+abbrev pub PackLacks : ℕ → Choice → Passage → Passage → Type 0
+PackLacks most choice input output =
+    PacksSome most (λ v a. PictureLacks v.ppm most v.head v.pictures) choice input output
 
 -- the same video with a picture more
 abbrev pub with_picture : Video → Planes → Video
@@ -159,13 +168,13 @@ with_picture v p = record { ppm = v.ppm; head = v.head; pictures = v.pictures ++
 
 -- a write of the Cluster of the next picture failed: of that a beginning was written, and of the
 -- text, where it is known, nothing after that picture was read
-pub record ClusterFails (choice : Choice) (input output : Passage) : Type 0 where
+pub record ClusterFails (most : ℕ) (choice : Choice) (input output : Passage) : Type 0 where
   pub video : Video
   pub accepted : Accepted
   pub has : HasClusters choice video accepted
   pub next : Planes
   pub reads : Known input.old input.new (λ text rest.
-      Begins text (with_picture video next) rest)
+      Begins most text (with_picture video next) rest)
   pub short : HasLongSlice accepted next (said_for video.head) → ⊥
   pub readable : length (frame_of accepted next (said_for video.head)) ≤ limit
   pub near : clusters_end choice video accepted + cluster_bytes
@@ -189,34 +198,35 @@ pub record FinishFails (choice : Choice) (input output : Passage) : Type 0 where
       (finished_opening_of choice video accepted))
 
 -- where the text is known, its head was read, and nothing after it
-abbrev pub StandsAfterHead : Option (List ℕ) → Option (List ℕ) → Type 0
-StandsAfterHead old new = Known old new (λ text rest.
-    (h : VideoHead) × (video_head text ≡ Ok (h, rest)))
+abbrev pub StandsAfterHead : ℕ → Option (List ℕ) → Option (List ℕ) → Type 0
+StandsAfterHead most old new = Known old new (λ text rest.
+    (h : SaidHead) × (video_head most text ≡ Ok (h, rest)))
 
 -- why packing is refused, by what the fault comes from: a write that failed, which was counted; a
 -- read that failed, which was counted, where the head wants one more byte, with nothing written, or
 -- the picture after those whose Clusters are written; memory after a head, with nothing written, or
 -- for the picture after those whose Clusters are; and else the first fault of the text, before its
 -- pictures, where nothing is written, or after those that it begins with, whose Clusters are
-abbrev pub RefusesMatroskaBy : Cause → Choice → Passage → Passage → Fault → Type 0
-RefusesMatroskaBy Writing choice input output f =
+abbrev pub RefusesMatroskaBy : ℕ → Cause → Choice → Passage → Passage → Fault → Type 0
+RefusesMatroskaBy most Writing choice input output f =
     (output.after ≡ one_more output.before) × (input.after ≡ input.before)
-    × (ClusterFails choice input output ⊎ FinishFails choice input output)
-RefusesMatroskaBy Reading choice input output f =
+    × (ClusterFails most choice input output ⊎ FinishFails choice input output)
+RefusesMatroskaBy most Reading choice input output f =
     (output.after ≡ output.before) × (input.after ≡ one_more input.before)
-    × ((Keeps output.old output.new × Known input.old input.new (Taken (Wants video_head)))
-    ⊎ PackReadFails choice input output)
-RefusesMatroskaBy Memory choice input output f =
-    (output.after ≡ output.before) × (input.after ≡ input.before) × HasHead input.old
-    × ((Keeps output.old output.new × StandsAfterHead input.old input.new)
-    ⊎ PackLacks choice input output)
-RefusesMatroskaBy Content choice input output f =
+    × ((Keeps output.old output.new × Known input.old input.new (Taken (Wants (video_head most))))
+    ⊎ PackReadFails most choice input output)
+RefusesMatroskaBy most Memory choice input output f =
+    (output.after ≡ output.before) × (input.after ≡ input.before) × HasHead most input.old
+    × ((Keeps output.old output.new × StandsAfterHead most input.old input.new)
+    ⊎ PackLacks most choice input output)
+RefusesMatroskaBy most Content choice input output f =
     (output.after ≡ output.before) × (input.after ≡ input.before)
-    × ((Keeps output.old output.new × FaultsBefore choice input.old input.new f)
-    ⊎ EndsMatroska choice input output f)
+    × ((Keeps output.old output.new × FaultsBefore most choice input.old input.new f)
+    ⊎ EndsMatroska most choice input output f)
 
-abbrev pub RefusesMatroska : Choice → Passage → Passage → Fault → Type 0
-RefusesMatroska choice input output f = RefusesMatroskaBy (cause_of f) choice input output f
+abbrev pub RefusesMatroska : ℕ → Choice → Passage → Passage → Fault → Type 0
+RefusesMatroska most choice input output f =
+    RefusesMatroskaBy most (cause_of f) choice input output f
 
 -- the faults that it has
 abbrev pub is_matroska_pack_fault : Fault → Bool
@@ -224,11 +234,16 @@ is_matroska_pack_fault fault.Rate = true
 is_matroska_pack_fault fault.ChunkTooLong = true
 is_matroska_pack_fault f = is_pack_fault f
 
+-- with the one of a depth that is read and not packed: RCT of 16 bits
+abbrev pub IsMatroskaPackFault : Profile → Fault → Type 0
+IsMatroskaPackFault profile f =
+    (is_matroska_pack_fault f ≡ true) ⊎ ((profile ≡ Wide) × (f ≡ fault.Depth))
+
 -- a head was read, and its rate and a configuration for it are such as they have to be; the writer
 -- has written nothing
-pub record OpensMatroska (choice : Choice) (p : Passage) (r : VideoReading) (a : Accepted)
-    (w : Writer) : Type 0 where
-  pub read : HeadRead p r
+pub record OpensMatroska (most : ℕ) (choice : Choice) (p : Passage) (r : VideoReading)
+    (a : Accepted) (w : Writer) : Type 0 where
+  pub read : HeadRead most p r
   pub head : IsHeadOf r
   pub for : IsFor choice r.ppm r.head a
   pub timed : IsTimed (rate_in (head_for choice r.ppm r.head a.configuration))
@@ -236,13 +251,14 @@ pub record OpensMatroska (choice : Choice) (p : Passage) (r : VideoReading) (a :
       ≡ writing_of (head_for choice r.ppm r.head a.configuration) (shown_for r.head) []
 
 -- why not
-abbrev pub LacksMatroskaBy : Cause → Choice → Passage → Fault → Type 0
-LacksMatroskaBy Reading choice p f =
-    (p.after ≡ one_more p.before) × Known p.old p.new (Taken (Wants video_head))
-LacksMatroskaBy Writing choice p f = ⊥
-LacksMatroskaBy Memory choice p f =
-    (p.after ≡ p.before) × HasHead p.old × StandsAfterHead p.old p.new
-LacksMatroskaBy Content choice p f = (p.after ≡ p.before) × FaultsBefore choice p.old p.new f
+abbrev pub LacksMatroskaBy : ℕ → Cause → Choice → Passage → Fault → Type 0
+LacksMatroskaBy most Reading choice p f =
+    (p.after ≡ one_more p.before) × Known p.old p.new (Taken (Wants (video_head most)))
+LacksMatroskaBy most Writing choice p f = ⊥
+LacksMatroskaBy most Memory choice p f =
+    (p.after ≡ p.before) × HasHead most p.old × StandsAfterHead most p.old p.new
+LacksMatroskaBy most Content choice p f =
+    (p.after ≡ p.before) × FaultsBefore most choice p.old p.new f
 
-abbrev pub LacksMatroska : Choice → Passage → Fault → Type 0
-LacksMatroska choice p f = LacksMatroskaBy (cause_of f) choice p f
+abbrev pub LacksMatroska : ℕ → Choice → Passage → Fault → Type 0
+LacksMatroska most choice p f = LacksMatroskaBy most (cause_of f) choice p f

@@ -15,7 +15,7 @@ use Rattle.ffv1_codec.specs.Frame.{frame_of, HasLongSlice}
 use Rattle.ffv1_reads.specs.Head.{Head}
 use Rattle.ffv1_avi.specs.Streams.{limit}
 use Rattle.ffv1_avi.specs.Written.{file_of}
-use Rattle.ffv1_y4m.specs.declared.head.VideoHead.{VideoHead}
+use Rattle.ffv1_engine.specs.Video.{SaidHead}
 use Rattle.ffv1_words.specs.declared.order.Choice.{Choice}
 use Rattle.ffv1_words.specs.declared.order.CoderChoice.{CoderChoice}
 use Rattle.ffv1_words.specs.declared.order.CoderChoice.TheVariants as coder_choice
@@ -34,16 +34,17 @@ abbrev pub colour_for : Bool → Colour
 colour_for ppm = if ppm then colour.Rct else colour.YCbCr
 
 -- the configuration of the frames: one set, and all of them key frames
-abbrev pub configuration_for : Choice → Bool → VideoHead → Configuration
+abbrev pub configuration_for : Choice → Bool → SaidHead → Configuration
 configuration_for choice ppm h = record {
-  width = h.width;
-  height = h.height;
+  width = h.head.width;
+  height = h.head.height;
+  depth = h.depth;
   coder = coder_for choice.coder;
   colour = colour_for ppm;
-  chroma_planes = h.chroma_planes;
-  extra_plane = h.extra_plane;
-  log2_h = h.log2_h;
-  log2_v = h.log2_v;
+  chroma_planes = h.head.chroma_planes;
+  extra_plane = h.head.extra_plane;
+  log2_h = h.head.log2_h;
+  log2_v = h.head.log2_v;
   columns = choice.columns;
   rows = choice.rows;
   sets = set_for choice.large ∷ [];
@@ -52,30 +53,34 @@ configuration_for choice ppm h = record {
 }
 
 -- what each frame says of its picture
-abbrev pub said_for : VideoHead → Said
-said_for h = record { structure = h.structure; sar_num = h.sar_num; sar_den = h.sar_den }
+abbrev pub said_for : SaidHead → Said
+said_for h = record {
+  structure = h.head.structure;
+  sar_num = h.head.sar_num;
+  sar_den = h.head.sar_den;
+}
 
 -- the head of the file; PPM has no rate of its own
-abbrev pub head_for : Choice → Bool → VideoHead → Configuration → Head
+abbrev pub head_for : Choice → Bool → SaidHead → Configuration → Head
 head_for choice ppm h c = record {
-  width = h.width;
-  height = h.height;
-  rate = if ppm then choice.rate else h.rate;
-  scale = if ppm then choice.scale else h.scale;
+  width = h.head.width;
+  height = h.head.height;
+  rate = if ppm then choice.rate else h.head.rate;
+  scale = if ppm then choice.scale else h.head.scale;
   config_record = record_of c;
 }
 
 -- an accepted configuration is the one of this video
-pub record IsFor (choice : Choice) (ppm : Bool) (h : VideoHead) (a : Accepted) : Type 0 where
+pub record IsFor (choice : Choice) (ppm : Bool) (h : SaidHead) (a : Accepted) : Type 0 where
   pub configuration : a.configuration ≡ configuration_for choice ppm h
   pub accepted : IsAccepted a.configuration a.table
 
 -- the frames of pictures
-abbrev pub frames_for : Accepted → VideoHead → List Planes → List (List ℕ)
+abbrev pub frames_for : Accepted → SaidHead → List Planes → List (List ℕ)
 frames_for a h pictures = map (λ planes. frame_of a planes (said_for h)) pictures
 
 -- none of the pictures has a slice that is too long
-abbrev pub AllShort : Accepted → VideoHead → List Planes → Type 0
+abbrev pub AllShort : Accepted → SaidHead → List Planes → Type 0
 AllShort a h [] = Unit {0}
 AllShort a h (p ∷ ps) = (HasLongSlice a p (said_for h) → ⊥) × AllShort a h ps
 

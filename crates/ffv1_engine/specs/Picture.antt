@@ -42,14 +42,15 @@ mono_in head (Some (samples ∷ more)) rest =
     Ok (record { width = head.width; height = head.height; samples = samples }, rest)
 
 -- the first picture after a header, which is judged whole before it
-abbrev pub picture_behind : VideoHead × List ℕ → Result (Mono × List ℕ) (Fault × List ℕ)
-picture_behind header =
-    if header.0.chroma_planes then Err (fault.Unsupported, header.1)
-    else and_then (picture_read header.0 header.1) (λ read. mono_in header.0 read.0 read.1)
+abbrev pub picture_behind : ℕ → VideoHead → List ℕ → Result (Mono × List ℕ) (Fault × List ℕ)
+picture_behind depth head text =
+    if head.chroma_planes then Err (fault.Unsupported, text)
+    else and_then (picture_read depth head text) (λ read. mono_in head read.0 read.1)
 
 -- the first picture of a text
 unfoldable pub mono_of : List ℕ → Result (Mono × List ℕ) (Fault × List ℕ)
-mono_of text = and_then (header_of text) picture_behind
+mono_of text =
+    and_then (header_of 8 text) (λ said. picture_behind said.0.depth said.0.head said.1)
 
 -- where the text is known, it reads as this picture, with this left
 abbrev pub ReadsMono : Option (List ℕ) → Option (List ℕ) → Mono → Type 0
@@ -76,5 +77,6 @@ is_mono_fault fault.Tag = true
 is_mono_fault fault.Unsupported = true
 is_mono_fault fault.FrameLine = true
 is_mono_fault fault.FrameTruncated = true
+is_mono_fault fault.SampleTooLarge = true
 is_mono_fault fault.NoFrames = true
 is_mono_fault f = false

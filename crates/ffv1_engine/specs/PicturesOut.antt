@@ -39,14 +39,15 @@ head_saying h said = record h {
 abbrev pub Begun : Type 0
 Begun = Option (Said × Y4mWriting)
 
--- the writer of a text whose pictures say this, after a picture
-abbrev pub writer_behind : VideoHead → Said → Y4mWriting
-writer_behind h said = record { head = head_saying h said; begun = true; failed = false }
+-- the writer of a text of this depth whose pictures say this, after a picture
+abbrev pub writer_behind : ℕ → VideoHead → Said → Y4mWriting
+writer_behind depth h said =
+    record { head = head_saying h said; depth = depth; begun = true; failed = false }
 
 -- a text that is begun has that writer
-abbrev pub IsBegun : VideoHead → Begun → Type 0
-IsBegun h None = ⊤
-IsBegun h (Some t) = t.1 ≡ writer_behind h t.0
+abbrev pub IsBegun : ℕ → VideoHead → Begun → Type 0
+IsBegun depth h None = ⊤
+IsBegun depth h (Some t) = t.1 ≡ writer_behind depth h t.0
 
 -- what its pictures say
 abbrev pub said_in : Begun → Option Said
@@ -59,21 +60,21 @@ SaysAgain None said = ⊤
 SaysAgain (Some first) said = said ≡ first
 
 -- the text of a picture after those that say this: the header before the first one
-abbrev pub text_behind : VideoHead → Option Said → Said → Planes → List ℕ
-text_behind h None said planes = next_text (head_saying h said) false planes
-text_behind h (Some first) said planes = next_text (head_saying h said) true planes
+abbrev pub text_behind : ℕ → VideoHead → Option Said → Said → Planes → List ℕ
+text_behind depth h None said planes = next_text depth (head_saying h said) false planes
+text_behind depth h (Some first) said planes = next_text depth (head_saying h said) true planes
 
 -- what writing a picture answers, and the text after it: that is written, or a write failed, which
 -- was counted, after a beginning of it; or the picture says something else, and nothing is written
-abbrev pub WritesPicture : VideoHead → Option Said → Said → Planes → Passage → Begun →
+abbrev pub WritesPicture : ℕ → VideoHead → Option Said → Said → Planes → Passage → Begun →
     Result (Unit {0}) Fault → Type 0
-WritesPicture h first said planes p after (Ok done) =
+WritesPicture depth h first said planes p after (Ok done) =
     SaysAgain first said × (p.after ≡ p.before)
-    × Appends p.old p.new (text_behind h first said planes)
-    × (after ≡ Some (said, writer_behind h said))
-WritesPicture h first said planes p after (Err f) =
+    × Appends p.old p.new (text_behind depth h first said planes)
+    × (after ≡ Some (said, writer_behind depth h said))
+WritesPicture depth h first said planes p after (Err f) =
     ((f ≡ fault.Write) × SaysAgain first said × (p.after ≡ one_more p.before)
-    × AppendsBeginning p.old p.new (text_behind h first said planes))
+    × AppendsBeginning p.old p.new (text_behind depth h first said planes))
     ⊎ ((f ≡ fault.FormatChanged) × (SaysAgain first said → ⊥) × Silent p)
 
 -- a sink keeps the lines of pictures of this configuration
@@ -105,7 +106,8 @@ module _ (a : Accepted) (h : VideoHead) (first : Option Said) (from to : Place)
   NextStopsBy f Writing =
       (frame : Frame) × PlaysFrame a from to input frame × SaysAgain first frame.said
       × (output.after ≡ one_more output.before)
-      × AppendsBeginning output.old output.new (text_behind h first frame.said frame.planes)
+      × AppendsBeginning output.old output.new
+      (text_behind a.configuration.depth h first frame.said frame.planes)
   NextStopsBy f Reading =
       Silent output × (input.after ≡ one_more input.before) × NextFails from input.old input.new
   NextStopsBy f Memory =
@@ -120,7 +122,8 @@ module _ (a : Accepted) (h : VideoHead) (first : Option Said) (from to : Place)
   WritesNext after (Ok true) =
       (frame : Frame) × PlaysFrame a from to input frame × SaysAgain first frame.said
       × (output.after ≡ output.before)
-      × Appends output.old output.new (text_behind h first frame.said frame.planes)
-      × (after ≡ Some (frame.said, writer_behind h frame.said))
+      × Appends output.old output.new
+      (text_behind a.configuration.depth h first frame.said frame.planes)
+      × (after ≡ Some (frame.said, writer_behind a.configuration.depth h frame.said))
   WritesNext after (Ok false) = ReadsEnd from input × Silent output
   WritesNext after (Err f) = NextStopsBy f (cause_of f)

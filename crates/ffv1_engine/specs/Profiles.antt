@@ -1,6 +1,8 @@
--- How a file is read, by the profile.
+-- How a file is read, and up to which depth samples are, by the profile.
+use Rattle.std.specs.Prelude.{ℕ}
 use Rattle.ffv1_files.specs.declared.container.Scope.{Scope}
 use Rattle.ffv1_files.specs.declared.container.Scope.TheVariants.{FirstMovi, Whole}
+use Rattle.ffv1_record.specs.Accepted.{deepest}
 use Rattle.ffv1_record.specs.declared.config.Profile.{Profile as RecordProfile}
 use Rattle.ffv1_record.specs.declared.config.Profile.TheVariants as of_record
 use Rattle.ffv1_engine.specs.declared.profile.Profile.{Profile}
@@ -15,3 +17,7 @@ scope_in Wide = Whole
 abbrev pub record_profile : Profile → RecordProfile
 record_profile Strict = of_record.Strict
 record_profile Wide = of_record.Wide
+
+-- the greatest depth of samples that are read and packed, in bits: 8, or 16
+abbrev pub greatest_depth : Profile → ℕ
+greatest_depth profile = deepest (record_profile profile) 16

@@ -1,6 +1,6 @@
 -- What is packed is unpacked: of a text that was packed, what its file holds, and the text that is
 -- written of the file.
-use Rattle.std.specs.Prelude.{◌≡◌, ◌⊎◌, ℕ, Bool, true, false, List, [], length, flat_map}
+use Rattle.std.specs.Prelude.{◌≡◌, ◌⊎◌, ℕ, ◌≤◌, Bool, true, false, List, [], length, flat_map}
 use Rattle.std.specs.Prelude.{Some}
 use Rattle.std.specs.Io.KnownBytes.{Appends}
 use Rattle.ffv1_wire.specs.Passage.{Passage}
@@ -13,7 +13,7 @@ use Rattle.ffv1_avi.specs.Riffs.{RiffFile}
 use Rattle.ffv1_y4m.specs.Canonical.{canonical_text}
 use Rattle.ffv1_y4m.specs.Images.{image_text}
 use Rattle.ffv1_y4m.specs.VideoHead.{IsRatio}
-use Rattle.ffv1_y4m.specs.declared.head.VideoHead.{VideoHead}
+use Rattle.ffv1_engine.specs.Video.{SaidHead}
 use Rattle.ffv1_engine.specs.declared.profile.Profile.{Profile}
 use Rattle.ffv1_engine.specs.declared.profile.Profile.TheVariants.{Strict, Wide}
 use Rattle.ffv1_engine.specs.declared.fault.Fault.{Fault}
@@ -23,35 +23,43 @@ use Rattle.ffv1_engine.specs.declared.packing.Packed.{Packed}
 use Rattle.ffv1_engine.specs.Pack.{Packs}
 use Rattle.ffv1_engine.specs.Packing.{AreReadable, packed_file, packed_frames, said_for}
 use Rattle.ffv1_engine.specs.Play.{Played}
+use Rattle.ffv1_engine.specs.Profiles.{greatest_depth}
 use Rattle.ffv1_engine.specs.Stream.{Frame, Stream, payloads}
 use Rattle.ffv1_engine.specs.Unpacked.{AllSay, AreAlike, HasText, pictures, text_of}
 use Rattle.ffv1_engine.specs.Video.{Video}
 
--- a text of bytes that was packed, with no frame that is too long to be read. PPM has the rate and
--- the scale of the choice: numbers of 32 bits, both zero or neither, since the file has 32 bits for
--- each, and its reader refuses a rate without a scale and a scale without a rate
-pub record WasPacked (choice : Choice) (text : List ℕ) : Type 0 where
+-- a text of bytes that was packed in a profile, with no frame that is too long to be read. PPM has
+-- the rate and the scale of the choice: numbers of 32 bits, both zero or neither, since the file
+-- has 32 bits for each, and its reader refuses a rate without a scale and a scale without a rate
+pub record WasPacked (packing : Profile) (choice : Choice) (text : List ℕ) : Type 0 where
   pub input : Passage
   pub output : Passage
   pub packed : Packed
-  pub packs : Packs choice input output packed
+  pub packs : Packs (greatest_depth packing) choice input output packed
   pub known : input.old ≡ Some text
   pub bytes : AreBytes text
   pub readable : AreReadable (packed_frames packs.video packs.accepted)
   pub rated : packs.video.ppm ≡ true → IsRatio 4294967295 choice.rate choice.scale
 
 -- the video of the text, and the file that was written of it
-abbrev pub video_in : {choice : Choice} → {text : List ℕ} → WasPacked choice text → Video
+abbrev pub video_in : {packing : Profile} → {choice : Choice} → {text : List ℕ} →
+    WasPacked packing choice text → Video
 video_in w = w.packs.video
 
-abbrev pub file_in : {choice : Choice} → {text : List ℕ} → WasPacked choice text → List ℕ
+abbrev pub file_in : {packing : Profile} → {choice : Choice} → {text : List ℕ} →
+    WasPacked packing choice text → List ℕ
 file_in {choice = choice} w = packed_file choice w.packs.video w.packs.accepted
+
+-- a profile reads samples of the depth of a video
+abbrev pub IsReadIn : Profile → Video → Type 0
+IsReadIn profile v = v.head.depth ≤ greatest_depth profile
 
 -- the canonical text of a video: of YUV4MPEG2 the header with each tag but X, in one order, and
 -- each picture after `FRAME`; of PPM each image after its header
-abbrev pub canonical_by : Bool → VideoHead → List Planes → List ℕ
-canonical_by false h pictures = canonical_text h pictures
-canonical_by true h pictures = flat_map (image_text h.width h.height) pictures
+abbrev pub canonical_by : Bool → SaidHead → List Planes → List ℕ
+canonical_by false h pictures = canonical_text h.depth h.head pictures
+canonical_by true h pictures =
+    flat_map (image_text h.depth h.head.width h.head.height) pictures
 
 abbrev pub canonical_of : Video → List ℕ
 canonical_of v = canonical_by v.ppm v.head v.pictures

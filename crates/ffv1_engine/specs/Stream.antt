@@ -1,6 +1,6 @@
 -- The stream of a file: what its head says, its configuration, and its frames, decoded one after
 -- the other.
-use Rattle.std.specs.Prelude.{◌≡◌, ◌⊎◌, ℕ, List, [], ◌∷◌, map, slice_index, Option, Some}
+use Rattle.std.specs.Prelude.{◌≡◌, ◌⊎◌, ◌≤◌, ℕ, List, [], ◌∷◌, map, slice_index, Option, Some}
 use Rattle.std.specs.Prelude.{Ok, Err}
 use Rattle.ffv1_range.specs.declared.tally.Tally.{Tally}
 use Rattle.ffv1_record.specs.Accepted.{Accepted, IsAccepted}
@@ -22,20 +22,22 @@ use Rattle.ffv1_files.specs.Whole.{IsWhole}
 use Rattle.ffv1_reads.specs.Known.{Known}
 use Rattle.ffv1_engine.specs.declared.profile.Profile.{Profile}
 use Rattle.ffv1_engine.specs.declared.profile.Profile.TheVariants.{Strict, Wide}
-use Rattle.ffv1_engine.specs.Profiles.{scope_in, record_profile}
+use Rattle.ffv1_engine.specs.Profiles.{greatest_depth, scope_in, record_profile}
 
 -- the head of a file, and the configuration of its frames
 pub record Stream : Type 0 where
   pub head : Head
   pub accepted : Accepted
 
--- the head's record is of that configuration, for pictures of the head's size, in the profile
+-- the head's record is of that configuration, for pictures of the head's size, in the profile,
+-- which reads samples of that depth
 pub record IsStream (profile : Profile) (s : Stream) : Type 0 where
   pub coded : IsRecord s.head.config_record s.accepted.configuration
   pub width : s.accepted.configuration.width ≡ s.head.width
   pub height : s.accepted.configuration.height ≡ s.head.height
   pub accepted : IsAccepted s.accepted.configuration s.accepted.table
   pub profiled : s.accepted.profile ≡ record_profile profile
+  pub deep : s.accepted.configuration.depth ≤ greatest_depth profile
 
 -- a frame: its payload, the picture that it codes, what it says of it, and what was decided
 pub record Frame : Type 0 where

@@ -42,6 +42,10 @@ abbrev pub extra_line : Bool → List ℕ
 extra_line false = []
 extra_line true = codes "extra 1\n"
 
+-- RFC 9043, 4.2.7: a line where a sample has more than 8 bits
+abbrev pub depth_line : ℕ → List ℕ
+depth_line depth = if nat_lt 8 depth then number_line (codes "depth ") depth else []
+
 -- the contexts of each set
 unfoldable pub contexts_line : List Set → List ℕ
 contexts_line sets =
@@ -81,6 +85,7 @@ show_text container s =
     ++ colour_line c.colour
     ++ chroma_line c.chroma_planes c.log2_h c.log2_v
     ++ extra_line c.extra_plane
+    ++ depth_line c.depth
     ++ pair_line (codes "slices ") c.columns (codes "x") c.rows
     ++ contexts_line c.sets
     ++ note_line c.sets

@@ -11,7 +11,7 @@ use Rattle.ffv1_codec.specs.SliceList.{Said}
 use Rattle.ffv1_codec.specs.declared.fault.FrameFault.{FrameFault}
 use Rattle.ffv1_y4m.specs.Canonical.{canonical_text}
 use Rattle.ffv1_y4m.specs.Images.{image_text, text_of_lines}
-use Rattle.ffv1_y4m.specs.VideoHead.{is_chroma}
+use Rattle.ffv1_y4m.specs.VideoHead.{is_named}
 use Rattle.ffv1_y4m.specs.declared.head.VideoHead.{VideoHead}
 use Rattle.ffv1_engine.specs.declared.fault.Fault.{Fault}
 use Rattle.ffv1_engine.specs.declared.fault.Fault.TheVariants as fault
@@ -44,13 +44,14 @@ pictures frames = map (λ (f : Frame). f.planes) frames
 -- the canonical text of frames, of which the first says what the header says
 abbrev pub y4m_text : Stream → List Frame → List ℕ
 y4m_text s [] = []
-y4m_text s (f ∷ fs) = canonical_text (video_of s f.said) (pictures (f ∷ fs))
+y4m_text s (f ∷ fs) =
+    canonical_text s.accepted.configuration.depth (video_of s f.said) (pictures (f ∷ fs))
 
 -- an image for each frame
 abbrev pub ppm_text : Stream → List Frame → List ℕ
 ppm_text s frames =
-    flat_map (image_text s.accepted.configuration.width s.accepted.configuration.height)
-    (pictures frames)
+    let c = s.accepted.configuration in
+    flat_map (image_text c.depth c.width c.height) (pictures frames)
 
 abbrev pub text_by : Bool → Stream → List Frame → List ℕ
 text_by false s frames = y4m_text s frames
@@ -74,9 +75,9 @@ AlikeBy false (f ∷ fs) = AllSay f.said fs
 abbrev pub AreAlike : Stream → List Frame → Type 0
 AreAlike s frames = AlikeBy (is_ppm_stream s) frames
 
--- the stream has a text: its chroma has a name; PPM has no transparency
+-- the stream has a text: its chroma has a name at its depth; PPM has no transparency
 abbrev pub HasTextBy : Bool → Configuration → Type 0
-HasTextBy false c = is_chroma c.chroma_planes c.log2_h c.log2_v c.extra_plane ≡ true
+HasTextBy false c = is_named c.depth c.chroma_planes c.log2_h c.log2_v c.extra_plane ≡ true
 HasTextBy true c = c.extra_plane ≡ false
 
 abbrev pub HasText : Stream → Type 0
@@ -85,7 +86,8 @@ HasText s = HasTextBy (is_ppm_stream s) s.accepted.configuration
 -- or it has none, which has this fault
 abbrev pub LacksTextBy : Bool → Configuration → Fault → Type 0
 LacksTextBy false c f =
-    (is_chroma c.chroma_planes c.log2_h c.log2_v c.extra_plane ≡ false) × (f ≡ fault.NoY4mName)
+    (is_named c.depth c.chroma_planes c.log2_h c.log2_v c.extra_plane ≡ false)
+    × (f ≡ fault.NoY4mName)
 LacksTextBy true c f = (c.extra_plane ≡ true) × (f ≡ fault.NoPpm)
 
 abbrev pub LacksText : Stream → Fault → Type 0
@@ -101,7 +103,7 @@ lines_before (inr behind) = behind.state.lines
 abbrev pub rows_by : Bool → Stream → List Line → List ℕ
 rows_by false s lines = []
 rows_by true s lines =
-    text_of_lines s.accepted.configuration.width s.accepted.configuration.height [] 0 lines
+    let c = s.accepted.configuration in text_of_lines c.depth c.width c.height [] 0 lines
 
 abbrev pub rows_of : Stream → List Line → List ℕ
 rows_of s lines = rows_by (is_ppm_stream s) s lines

@@ -1,9 +1,9 @@
 //! The pictures of a video are encoded.
 
-ghost use Rattle.std.specs.Prelude.{◌≡◌, ◌⊎◌, Bool, IfOk, IfErr, OnOk, None, true, [], ◌∷◌};
+ghost use Rattle.std.specs.Prelude.{◌≡◌, ◌⊎◌, ◌≤◌, Bool, IfOk, IfErr, OnOk, None, true, [], ◌∷◌};
 ghost use Rattle.ffv1_wire.specs.Passage.{passage};
-ghost use Rattle.ffv1_record.specs.Accepted.{IsFirst, checks};
-ghost use Rattle.ffv1_record.specs.Configuration.{configuration_of};
+ghost use Rattle.ffv1_record.specs.Accepted.{IsFirstUpTo};
+ghost use Rattle.ffv1_record.specs.Configuration.{at_depth, configuration_of};
 ghost use Rattle.ffv1_record.specs.declared.fault.RecordFault.{RecordFault};
 ghost use Rattle.ffv1_reads.specs.Head.{head_of};
 ghost use Rattle.ffv1_avi.specs.Written.{frames_of};
@@ -11,10 +11,11 @@ ghost use Rattle.ffv1_engine.specs.declared.fault.Fault.TheVariants as fault;
 ghost use Rattle.ffv1_engine.specs.Faults.{of_record};
 ghost use Rattle.ffv1_engine.specs.Encoding.{EncodesAll, EncodesNext, EncodesOne, StopsEncoding};
 ghost use Rattle.ffv1_engine.specs.Encoding.{StopsNext, frame_in};
-ghost use Rattle.ffv1_engine.specs.Pack.{is_pack_fault};
+ghost use Rattle.ffv1_engine.specs.Pack.{IsPackFault, is_pack_fault};
 ghost use Rattle.ffv1_engine.specs.Packing.{IsFor, coder_for, colour_for, configuration_for};
 ghost use Rattle.ffv1_engine.specs.Packing.{head_for, said_for, set_for};
-ghost use Rattle.ffv1_engine.specs.VideoReads.{IsHeadBy, reading_of};
+ghost use Rattle.ffv1_engine.specs.Profiles.{greatest_depth};
+ghost use Rattle.ffv1_engine.specs.VideoReads.{IsHeadOf, reading_of};
 
 use crate::fault::Fault;
 use crate::profile::Profile;
@@ -26,7 +27,6 @@ use ffv1_reads::FileHead;
 use ffv1_record::{Checked, Coder, Colour, Config, Sets, write_record};
 use ffv1_wire::ByteIn;
 use ffv1_words::{Choice, CoderChoice};
-use ffv1_y4m::VideoHead;
 use std::alloc::Allocator;
 use std::mem;
 
@@ -62,23 +62,25 @@ fn colour_for(ppm: bool) -> Colour
     if ppm { Colour::Rct } else { Colour::YCbCr }
 }
 
-/// The configuration of a video.
+/// The configuration of a video, whose depth it leaves out.
 fn config_for<A: Allocator + Copy>(
     alloc: A,
     choice: &Choice,
-    ppm: bool,
-    head: &VideoHead,
+    reader: &VideoReader<A>,
 ) -> Result<Config<A>, Fault>
     ensures ok { IfOk result (λ c.
-        configuration_of c ≡ configuration_for choice.now ppm head.now) }
+        at_depth (configuration_of c) (reading_of reader.now).head.depth
+        ≡ configuration_for choice.now (reading_of reader.now).ppm (reading_of reader.now).head) }
+    ensures head { IfOk result (λ _. IsHeadOf (reading_of reader.now)) }
     ensures err { IfErr result (λ f. f ≡ fault.OutOfMemory) }
 {
     let sets = sets_for(alloc, choice.large)?;
+    let head = reader.head();
     Ok(Config {
         width: head.width,
         height: head.height,
         coder: coder_for(choice.coder),
-        colour: colour_for(ppm),
+        colour: colour_for(reader.is_ppm()),
         chroma_planes: head.chroma_planes,
         extra_plane: head.extra_plane,
         log2_h: u32::from(head.log2_h),
@@ -91,39 +93,41 @@ fn config_for<A: Allocator + Copy>(
     })
 }
 
-/// The same, checked in a profile.
+/// The same of the video's depth, checked in a profile, which reads that depth.
 pub(crate) fn checked_for<A: Allocator + Copy>(
     alloc: A,
     profile: Profile,
     choice: &Choice,
-    ppm: bool,
-    head: &VideoHead,
+    reader: &VideoReader<A>,
 ) -> Result<Checked<A>, Fault>
-    requires { IsHeadBy ppm head.now }
-    ensures ok { IfOk result (IsFor choice.now ppm head.now) }
+    requires { (reading_of reader.now).head.depth ≤ greatest_depth profile }
+    ensures ok { IfOk result
+        (IsFor choice.now (reading_of reader.now).ppm (reading_of reader.now).head) }
     ensures err { IfErr result (λ f. (f ≡ fault.OutOfMemory)
-        ⊎ ((g : RecordFault) × IsFirst checks (configuration_for choice.now ppm head.now) g
+        ⊎ ((g : RecordFault) × IsFirstUpTo (greatest_depth profile)
+        (configuration_for choice.now (reading_of reader.now).ppm (reading_of reader.now).head) g
         × (f ≡ of_record g))) }
-    ensures own { IfErr result (λ f. is_pack_fault f ≡ true) }
+    ensures own { IfErr result (IsPackFault profile) }
 {
     one_table();
-    let config = config_for(alloc, choice, ppm, head)?;
-    Ok(config.check_in(profile.of_record(), 8)?)
+    let config = config_for(alloc, choice, reader)?;
+    Ok(config.check_in(profile.of_record(), reader.depth(), 16)?)
 }
 
 /// The head of the file of a video.
 pub(crate) fn file_head<A: Allocator + Copy>(
     alloc: A,
     choice: &Choice,
-    ppm: bool,
-    head: &VideoHead,
+    reader: &VideoReader<A>,
     checked: &Checked<A>,
 ) -> Result<FileHead<A>, Fault>
-    ensures ok { IfOk result (λ h.
-        head_of h ≡ head_for choice.now ppm head.now checked.now.configuration) }
+    ensures ok { IfOk result (λ h. head_of h ≡ head_for choice.now (reading_of reader.now).ppm
+        (reading_of reader.now).head checked.now.configuration) }
     ensures err { IfErr result (λ f. f ≡ fault.OutOfMemory) }
 {
     let config_record = write_record(alloc, checked)?;
+    let head = reader.head();
+    let ppm = reader.is_ppm();
     Ok(FileHead {
         width: head.width,
         height: head.height,
@@ -134,10 +138,11 @@ pub(crate) fn file_head<A: Allocator + Copy>(
 }
 
 /// What each frame of a video says of its picture.
-fn info_for(head: &VideoHead, ppm: bool) -> Info
-    requires { IsHeadBy ppm head.now }
-    ensures { result ≡ said_for head.now }
+fn info_for<A: Allocator + Copy>(reader: &VideoReader<A>) -> Info
+    ensures value { result ≡ said_for (reading_of reader.now).head }
+    ensures head { IsHeadOf (reading_of reader.now) }
 {
+    let head = reader.head();
     Info::new(head.structure, head.sar_num, head.sar_den).unwrap()
 }
 
@@ -159,7 +164,7 @@ pub(crate) fn encode_picture<R: ByteIn, A: Allocator + Copy>(
         encoder.old.accepted (reading_of reader.old)) }
     ensures own { IfErr result (λ f. is_pack_fault f ≡ true) }
 {
-    let info = info_for(reader.head(), reader.is_ppm());
+    let info = info_for(reader);
     if !reader.next(input, planes)? {
         return Ok(None);
     }

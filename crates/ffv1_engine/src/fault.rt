@@ -30,7 +30,7 @@ pub enum Fault {
     /// A quantisation table set has more than 32768 contexts.
     #[error("6 Contexts")]
     Contexts,
-    /// A place has no red, green and blue from 0 to 255, or no transparency from 0 to 255.
+    /// A place has no red, green and blue below 2^depth, or no transparency below 2^depth.
     #[error("7 Colour")]
     Colour,
     /// The width or the height is not from 1 to 8192.
@@ -68,7 +68,8 @@ pub enum Fault {
     /// The colour space type is not 0 or 1.
     #[error("20 ColourSpace")]
     ColourSpace,
-    /// The bits of a sample are not 0 or 8.
+    /// The bits of a sample are none that the profile reads: 0, which means 8, and 8, and at `Wide`
+    /// also 9, 10, 12, 14 and, but for RCT, 16.
     #[error("21 Depth")]
     Depth,
     /// The initial states of a set are coded.
@@ -160,14 +161,17 @@ pub enum Fault {
     /// The input ends inside a picture.
     #[error("64 FrameTruncated")]
     FrameTruncated,
+    /// A sample of a text has more bits than the depth that its header says.
+    #[error("65 SampleTooLarge")]
+    SampleTooLarge,
     /// The input has no picture.
     #[error("70 NoFrames")]
     NoFrames,
-    /// A later image has another size than the first, or a later frame another structure or aspect
-    /// where YUV4MPEG2 is written.
+    /// A later image has another size or depth than the first, or a later frame another structure
+    /// or aspect where YUV4MPEG2 is written.
     #[error("71 FormatChanged")]
     FormatChanged,
-    /// YUV4MPEG2 has no name for the chroma.
+    /// YUV4MPEG2 has no name for the chroma at its depth.
     #[error("72 NoY4mName")]
     NoY4mName,
     /// PPM has no plane of transparency.
@@ -316,6 +320,7 @@ impl From<ffv1_y4m::Fault> for Fault {
             ffv1_y4m::Fault::Unsupported => Fault::Unsupported,
             ffv1_y4m::Fault::FrameLine => Fault::FrameLine,
             ffv1_y4m::Fault::FrameTruncated => Fault::FrameTruncated,
+            ffv1_y4m::Fault::SampleTooLarge => Fault::SampleTooLarge,
             ffv1_y4m::Fault::FormatChanged => Fault::FormatChanged,
         }
     }

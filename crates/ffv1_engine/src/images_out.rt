@@ -123,8 +123,9 @@ pub(crate) fn write_images<R: ByteIn, W: ByteOut, A: Allocator + Copy>(
         (passage W.contents W.failures output result.0)) }
     ensures own { IfErr result.1 (IsWritingFault (container_of player.old.reader.place)) }
 {
-    let config = player.decoder.config().config();
-    match PpmWriter::sized(alloc, output, config.width, config.height) {
+    let checked = player.decoder.config();
+    let config = checked.config();
+    match PpmWriter::sized_at(alloc, output, config.width, config.height, checked.depth()) {
         Err((output, fault)) => (output, Err(Fault::from(fault))),
         Ok(mut sink) => {
             let count = write_all_images(player, input, &mut sink);

@@ -6,8 +6,10 @@ ghost use Rattle.ffv1_matroska.specs.Writers.{writing_of};
 ghost use Rattle.ffv1_engine.specs.Clusters.{PutsAll, StopsPutting};
 ghost use Rattle.ffv1_engine.specs.PackMatroska.{LacksMatroska, OpensMatroska, PacksMatroska};
 ghost use Rattle.ffv1_engine.specs.PackMatroska.{RefusesMatroska};
-ghost use Rattle.ffv1_engine.specs.PackMatroska.{is_matroska_pack_fault, shown_for};
+ghost use Rattle.ffv1_engine.specs.PackMatroska.{IsMatroskaPackFault, is_matroska_pack_fault};
+ghost use Rattle.ffv1_engine.specs.PackMatroska.{shown_for};
 ghost use Rattle.ffv1_engine.specs.Packing.{IsFor};
+ghost use Rattle.ffv1_engine.specs.Profiles.{greatest_depth};
 ghost use Rattle.ffv1_engine.specs.VideoReads.{reading_of};
 
 use crate::encoding::{checked_for, encode_picture, file_head};
@@ -20,7 +22,6 @@ use ffv1_matroska::written_laws::pieces;
 use ffv1_matroska::{MatroskaWriter, Shown};
 use ffv1_wire::{ByteIn, ByteOut, PatchOut};
 use ffv1_words::Choice;
-use ffv1_y4m::VideoHead;
 use ffv1_y4m::laws::{images, texts};
 use std::alloc::{Allocator, Global};
 
@@ -48,9 +49,10 @@ struct Opened<A: Allocator = Global> {
 }
 
 /// How the pictures of a video are shown.
-fn shown_for(head: &VideoHead) -> Shown
-    ensures { result ≡ shown_for head.now }
+fn shown_for<A: Allocator + Copy>(reader: &VideoReader<A>) -> Shown
+    ensures { result ≡ shown_for (reading_of reader.now).head }
 {
+    let head = reader.head();
     Shown {
         structure: head.structure,
         sar_num: head.sar_num,
@@ -65,18 +67,17 @@ fn open_video<R: ByteIn, A: Allocator + Copy>(
     input: &mut R,
     choice: &Choice,
 ) -> Result<Opened<A>, Fault>
-    ensures ok { IfOk result (λ o. OpensMatroska choice.now
+    ensures ok { IfOk result (λ o. OpensMatroska (greatest_depth profile) choice.now
         (passage R.remaining R.failures input.old input.new) (reading_of o.reader)
         o.encoder.accepted o.writer) }
-    ensures err { IfErr result (LacksMatroska choice.now
+    ensures err { IfErr result (LacksMatroska (greatest_depth profile) choice.now
         (passage R.remaining R.failures input.old input.new)) }
-    ensures own { IfErr result (λ f. is_matroska_pack_fault f ≡ true) }
+    ensures own { IfErr result (IsMatroskaPackFault profile) }
 {
-    let reader = VideoReader::open(alloc, input)?;
-    let ppm = reader.is_ppm();
-    let checked = checked_for(alloc, profile, choice, ppm, reader.head())?;
-    let head = file_head(alloc, choice, ppm, reader.head(), &checked)?;
-    let writer = MatroskaWriter::new(alloc, &head, shown_for(reader.head()))?;
+    let reader = VideoReader::open(alloc, profile, input)?;
+    let checked = checked_for(alloc, profile, choice, &reader)?;
+    let head = file_head(alloc, choice, &reader, &checked)?;
+    let writer = MatroskaWriter::new(alloc, &head, shown_for(&reader))?;
     Ok(Opened {
         encoder: FrameEncoder::new(alloc, checked),
         reader,
@@ -125,26 +126,27 @@ fn put_pictures<R: ByteIn, W: ByteOut, A: Allocator + Copy>(
     Ok(packed)
 }
 
-/// Packs a video into Matroska, picture by picture: YUV4MPEG2 or, where the first byte is `P`, binary
-/// PPM is read, and the Cluster of a picture is written as soon as it is encoded (RFC 9559, 5.1.3,
-/// with FFV1 as RFC 9043, 4.3.3, has it).
+/// Packs a video into Matroska, picture by picture: YUV4MPEG2 or, where the first byte is `P`,
+/// binary PPM is read, and the Cluster of a picture is written as soon as it is encoded (RFC 9559,
+/// 5.1.3, with FFV1 as RFC 9043, 4.3.3, has it).
 ///
-/// The configuration and the frames are those of `pack`, and so are rate and scale. Before the first
-/// Cluster comes all that stands before the Clusters, of a Segment of unknown size; after the last
-/// one come Cues, and then what stands before Tracks is written over, so that the file is finished.
-/// Where the output cannot be written over, the Segment's size stays unknown, and all else is there.
-/// One picture, its frame and the places of at most 8192 Clusters are held, however many pictures
-/// there are.
+/// The configuration and the frames are those of `pack`, and so are the depths that are read, rate
+/// and scale. Before the first Cluster comes all that stands before the Clusters, of a Segment of
+/// unknown size; after the last one come Cues, and then what stands before Tracks is written over,
+/// so that the file is finished. Where the output cannot be written over, the Segment's size stays
+/// unknown, and all else is there. One picture, its frame and the places of at most 8192 Clusters
+/// are held, however many pictures there are.
 ///
 /// The first fault is answered in this order. `Header`, `Tag` and `Unsupported` where the text has
-/// no head; `Grid` and `ChromaEdge` where the choice does not suit its sizes; `Rate` where no whole
-/// nanoseconds a frame say its rate, as `ffv1_matroska::rate_of` reads them; nothing is written
-/// then. For each picture `FrameLine`, `FrameTruncated`, for a later image `Header` and
-/// `FormatChanged`, `SliceTooLong` where a slice takes more than 16777215 bytes, `ChunkTooLong`
-/// where its frame takes more than 67108864 bytes, which no reader here takes, and `TooLarge` where
-/// its Cluster would end more than 2^56 - 2^20 bytes after the first byte of the Segment's content;
-/// `NoFrames` where there is no picture. Then the Clusters of the pictures before are written,
-/// which can be read, and nothing where there is none.
+/// no head of a depth that is read; `Depth` where it is PPM of 16 bits; `Grid` and `ChromaEdge`
+/// where the choice does not suit its sizes; `Rate` where no whole nanoseconds a frame say its
+/// rate, as `ffv1_matroska::rate_of` reads them; nothing is written then. For each picture
+/// `FrameLine`, `FrameTruncated`, `SampleTooLarge`, for a later image `Header` and `FormatChanged`,
+/// `SliceTooLong` where a slice takes more than 16777215 bytes, `ChunkTooLong` where its frame
+/// takes more than 67108864 bytes, which no reader here takes, and `TooLarge` where its Cluster
+/// would end more than 2^56 - 2^20 bytes after the first byte of the Segment's content; `NoFrames`
+/// where there is no picture. Then the Clusters of the pictures before are written, which can be
+/// read, and nothing where there is none.
 ///
 /// No picture is read before the Clusters of those before it are written. `Read` where a read
 /// failed: nothing is written where the head wants one more byte; else the Clusters of exactly the
@@ -160,13 +162,13 @@ pub fn pack_matroska<R: ByteIn, W: PatchOut, A: Allocator + Copy>(
     output: &mut W,
     choice: &Choice,
 ) -> Result<PackedMatroska, Fault>
-    ensures ok { IfOk result (PacksMatroska choice.now
+    ensures ok { IfOk result (PacksMatroska (greatest_depth profile) choice.now
         (passage R.remaining R.failures input.old input.new)
         (passage W.contents W.failures output.old output.new)) }
-    ensures err { IfErr result (RefusesMatroska choice.now
+    ensures err { IfErr result (RefusesMatroska (greatest_depth profile) choice.now
         (passage R.remaining R.failures input.old input.new)
         (passage W.contents W.failures output.old output.new)) }
-    ensures own { IfErr result (λ f. is_matroska_pack_fault f ≡ true) }
+    ensures own { IfErr result (IsMatroskaPackFault profile) }
 {
     texts();
     images();

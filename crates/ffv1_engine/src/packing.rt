@@ -5,8 +5,9 @@ ghost use Rattle.ffv1_wire.specs.Passage.{passage};
 ghost use Rattle.ffv1_reads.specs.Head.{head_of};
 ghost use Rattle.ffv1_avi.specs.Written.{frames_of};
 ghost use Rattle.ffv1_engine.specs.Pack.{EncodesVideo, Packs, RefusesPack, StopsVideo};
-ghost use Rattle.ffv1_engine.specs.Pack.{is_pack_fault};
+ghost use Rattle.ffv1_engine.specs.Pack.{IsPackFault};
 ghost use Rattle.ffv1_engine.specs.Packing.{bytes_in};
+ghost use Rattle.ffv1_engine.specs.Profiles.{greatest_depth};
 
 use crate::encoding::{checked_for, encode_pictures, file_head};
 use crate::fault::Fault;
@@ -43,19 +44,18 @@ fn encode_video<R: ByteIn, A: Allocator + Copy>(
     input: &mut R,
     choice: &Choice,
 ) -> Result<Stream<A>, Fault>
-    ensures ok { IfOk result (λ s. EncodesVideo choice.now
+    ensures ok { IfOk result (λ s. EncodesVideo (greatest_depth profile) choice.now
         (passage R.remaining R.failures input.old input.new) (head_of s.head)
         (frames_of s.frames.items)) }
-    ensures err { IfErr result (StopsVideo choice.now
+    ensures err { IfErr result (StopsVideo (greatest_depth profile) choice.now
         (passage R.remaining R.failures input.old input.new)) }
-    ensures own { IfErr result (λ f. is_pack_fault f ≡ true) }
+    ensures own { IfErr result (IsPackFault profile) }
 {
     texts();
     images();
-    let mut reader = VideoReader::open(alloc, input)?;
-    let ppm = reader.is_ppm();
-    let checked = checked_for(alloc, profile, choice, ppm, reader.head())?;
-    let head = file_head(alloc, choice, ppm, reader.head(), &checked)?;
+    let mut reader = VideoReader::open(alloc, profile, input)?;
+    let checked = checked_for(alloc, profile, choice, &reader)?;
+    let head = file_head(alloc, choice, &reader, &checked)?;
     let mut encoder = FrameEncoder::new(alloc, checked);
     let mut frames = Vec::new(alloc);
     encode_pictures(alloc, &mut reader, input, &mut encoder, &mut frames)?;
@@ -84,15 +84,17 @@ fn bytes_in<A: Allocator>(frames: &[Vec<u8, A>]) -> u64
 /// frames. The frames of YUV4MPEG2 say its structure and aspect, and the file its rate and scale;
 /// PPM is coded by the colour transform, with structure and aspect unknown, and the rate and scale
 /// of the choice. All frames are encoded before the first byte is written. The profile says which
-/// configurations are taken; both take the same ones, and what is written is the same.
+/// depths are read: `Strict` those of 8 bits a sample, `Wide` also 9, 10, 12, 14 and 16, of one
+/// depth in a text; of what both read, the same is written.
 ///
 /// The first fault is answered in this order. `Header`, `Tag` and `Unsupported` where the text has
-/// no head; `Grid` and `ChromaEdge` where the choice does not suit its sizes; for each picture
-/// `FrameLine`, `FrameTruncated`, for a later image `Header` and `FormatChanged`, and
-/// `SliceTooLong` where a slice takes more than 16777215 bytes; `NoFrames` where there is no
-/// picture; `TooLarge` where the size of RIFF would pass 2147483647. `Read` where a read failed,
-/// and `OutOfMemory`, which comes after the head alone. Nothing is written then. `Write` where a
-/// write failed: a beginning of the file is then written, and not all of it.
+/// no head of a depth that is read; `Depth` where it is PPM of 16 bits; `Grid` and `ChromaEdge`
+/// where the choice does not suit its sizes; for each picture `FrameLine`, `FrameTruncated`,
+/// `SampleTooLarge` where a sample is 2^depth or more, for a later image `Header` and
+/// `FormatChanged`, and `SliceTooLong` where a slice takes more than 16777215 bytes; `NoFrames`
+/// where there is no picture; `TooLarge` where the size of RIFF would pass 2147483647. `Read` where
+/// a read failed, and `OutOfMemory`, which comes after the head alone. Nothing is written then.
+/// `Write` where a write failed: a beginning of the file is then written, and not all of it.
 pub fn pack<R: ByteIn, W: ByteOut, A: Allocator + Copy>(
     alloc: A,
     profile: Profile,
@@ -100,13 +102,13 @@ pub fn pack<R: ByteIn, W: ByteOut, A: Allocator + Copy>(
     output: &mut W,
     choice: &Choice,
 ) -> Result<Packed, Fault>
-    ensures ok { IfOk result (Packs choice.now
+    ensures ok { IfOk result (Packs (greatest_depth profile) choice.now
         (passage R.remaining R.failures input.old input.new)
         (passage W.contents W.failures output.old output.new)) }
-    ensures err { IfErr result (RefusesPack choice.now
+    ensures err { IfErr result (RefusesPack (greatest_depth profile) choice.now
         (passage R.remaining R.failures input.old input.new)
         (passage W.contents W.failures output.old output.new)) }
-    ensures own { IfErr result (λ f. is_pack_fault f ≡ true) }
+    ensures own { IfErr result (IsPackFault profile) }
 {
     let stream = encode_video(alloc, profile, input, choice)?;
     write_avi(output, &stream.head, &stream.frames)?;

@@ -38,7 +38,7 @@ struct Text {
 }
 
 /// The head of the text of a stream, its structure and aspect 0.
-fn text_head<A: Allocator>(head: &FileHead<A>, checked: &Checked<A>) -> VideoHead
+pub(crate) fn text_head<A: Allocator>(head: &FileHead<A>, checked: &Checked<A>) -> VideoHead
     ensures { (said : Said) → head_saying result said
         ≡ video_of (record { head = head_of head.now; accepted = checked.now }) said }
 {
@@ -59,16 +59,18 @@ fn text_head<A: Allocator>(head: &FileHead<A>, checked: &Checked<A>) -> VideoHea
     }
 }
 
-/// Writes the picture of these planes, which says this, and before the first one the header.
-/// Refuses with `FormatChanged`, and writes nothing, where it says something else than the first.
+/// Writes the picture of these planes, of samples of so many bits, which says this, and before the
+/// first one the header. Refuses with `FormatChanged`, and writes nothing, where it says something
+/// else than the first.
 fn write_picture<W: ByteOut, A: Allocator>(
+    depth: u32,
     text: &mut Text,
     output: &mut W,
     info: Info,
     planes: &[Vec<u8, A>],
 ) -> Result<(), Fault>
-    requires begun { IsBegun text.old.head text.old.begun }
-    ensures answer { WritesPicture text.old.head (said_in text.old.begun) info
+    requires begun { IsBegun depth text.old.head text.old.begun }
+    ensures answer { WritesPicture depth text.old.head (said_in text.old.begun) info
         (planes_of planes.now) (passage W.contents W.failures output.old output.new)
         text.new.begun result }
     ensures same { text.new.head ≡ text.old.head }
@@ -87,7 +89,7 @@ fn write_picture<W: ByteOut, A: Allocator>(
         sar_den: info.sar_den(),
         ..text.head
     };
-    let mut writer = Y4mWriter::new(head);
+    let mut writer = Y4mWriter::at_depth(head, depth);
     writer.picture(output, planes)?;
     text.begun = Some((info, writer));
     Ok(())
@@ -105,7 +107,8 @@ fn write_next<R: ByteIn, W: ByteOut, A: Allocator>(
     requires accepted { IsAccepted player.old.decoder.accepted.configuration
         player.old.decoder.accepted.table }
     requires kept { IsKeptFor player.old.decoder.accepted kept.old }
-    requires begun { IsBegun text.old.head text.old.begun }
+    requires begun { IsBegun player.old.decoder.accepted.configuration.depth text.old.head
+        text.old.begun }
     ensures answer { WritesNext player.old.decoder.accepted text.old.head
         (said_in text.old.begun) player.old.reader.place player.new.reader.place
         (passage R.remaining R.failures input.old input.new)
@@ -125,10 +128,11 @@ fn write_next<R: ByteIn, W: ByteOut, A: Allocator>(
     taken_lines();
     kept_picture();
     decode_faults::<KeepLines<A>>();
+    let depth = player.decoder.config().depth();
     match play(player, input, kept) {
         Ok(None) => Ok(false),
         Ok(Some(info)) => {
-            write_picture(text, output, info, kept.planes())?;
+            write_picture(depth, text, output, info, kept.planes())?;
             Ok(true)
         }
         Err(Stop::File(fault)) => Err(Fault::from(fault)),

@@ -8,6 +8,7 @@ ghost use Rattle.ffv1_record.specs.Reading.{IsRefused, ReachesSets};
 ghost use Rattle.ffv1_record.specs.declared.fault.RecordFault.TheVariants as record_fault;
 ghost use Rattle.ffv1_engine.specs.declared.fault.Fault.TheVariants as fault;
 ghost use Rattle.ffv1_engine.specs.Containers.{is_profile_fault};
+ghost use Rattle.ffv1_engine.specs.Profiles.{greatest_depth};
 ghost use Rattle.ffv1_engine.specs.Opens.{OpensStream, LacksOpening, is_opening_fault};
 ghost use Rattle.ffv1_engine.specs.Stream.{IsStream};
 ghost use Rattle.ffv1_engine.specs.Told.{IsOwnStop, StepAnswers};
@@ -39,9 +40,10 @@ fn read_head<A: Allocator + Copy>(
     ensures ok { IfOk result (λ c.
         IsStream profile (record { head = head_of head.now; accepted = c })) }
     ensures err { IfErr result (λ f. (f ≡ record_fault.OutOfMemory)
-        ⊎ IsRefused head.now.config_record.items head.now.width head.now.height f) }
+        ⊎ IsRefused (greatest_depth profile) head.now.config_record.items head.now.width
+        head.now.height f) }
     ensures memory { IfErr result (λ f. f ≡ record_fault.OutOfMemory →
-        ReachesSets head.now.config_record.items) }
+        ReachesSets (greatest_depth profile) head.now.config_record.items) }
 {
     // Both arms are written out, so that the clauses are proved by arm.
     match read_record_in(
@@ -50,6 +52,7 @@ fn read_head<A: Allocator + Copy>(
         head.width,
         head.height,
         profile.of_record(),
+        16,
     ) {
         Ok(checked) => Ok(checked),
         Err(fault) => Err(fault),

@@ -18,6 +18,7 @@ ghost use Rattle.ffv1_engine.specs.MatroskaRoundTrip.{HoldsMatroska, WasPackedMa
 ghost use Rattle.ffv1_engine.specs.MatroskaRoundTrip.{matroska_file, matroska_video};
 ghost use Rattle.ffv1_engine.specs.PackMatroska.{HasClusters, begun_file};
 ghost use Rattle.ffv1_engine.specs.Packing.{packed_frames, packed_head};
+ghost use Rattle.ffv1_engine.specs.RoundTrip.{IsReadIn};
 ghost use Rattle.ffv1_engine.specs.RoundTrip.{Holds, IsNoContent, IsUnpacked, WasPacked};
 ghost use Rattle.ffv1_engine.specs.RoundTrip.{canonical_of, file_in, video_in};
 ghost use Rattle.ffv1_engine.specs.Unpack.{UnpackDone, UnpackStops};
@@ -33,7 +34,7 @@ use ffv1_matroska::written_laws::written_is_read as matroska_is_written;
 use ffv1_range::laws::{counts, lengths, sentinel_ending};
 use ffv1_record::laws::{accepted, one_configuration, one_refusal, written_is_record};
 use ffv1_slice::laws::cutting;
-use ffv1_y4m::laws::{said_heads, texts};
+use ffv1_y4m::laws::{said_depths, said_heads, texts};
 
 /// The rate and the scale that a command line names are such as a file has: `words` makes no choice
 /// for which `packed_is_unpacked` would not speak of PPM.
@@ -44,56 +45,73 @@ pub fn named_rate()
 
 /// A text that `pack` has packed, no frame of it longer than 67108864 bytes, is unpacked again. Its
 /// file holds a stream of frames that code its pictures. Where `unpack` is Ok on that file, at
-/// either profile, it has read all of it and written the canonical text of the video: a text of the
-/// same video, and for PPM the very text that was packed. Where `unpack`, `check` or `show` is
-/// refused on it, at either profile, that is for `OutOfMemory` (2), `Read` (56) or `Write` (57), and
-/// for no fault of the file.
+/// either profile that reads samples of its depth, it has read all of it and written the canonical
+/// text of the video: a text of the same video, and for PPM the very text that was packed. Where
+/// `unpack`, `check` or `show` is refused on it, at such a profile, that is for `OutOfMemory` (2),
+/// `Read` (56) or `Write` (57), and for no fault of the file.
+///
+/// The profile that a text was packed in reads its depth, `Wide` reads that of each text that was
+/// packed, and `Strict` those of 8 bits.
 ///
 /// The same holds, at `Wide`, of any text that `pack_matroska` has packed, whether its file is
 /// finished or open: it writes no longer frame. A file that is begun, of some first pictures, is
 /// read as their frames, and to its last byte.
 pub fn packed_is_unpacked()
-    ensures holds { (profile : Profile) (choice : Choice) (text : List ℕ)
-        (w : WasPacked choice text) → Holds profile (file_in w) (video_in w) }
-    ensures written { (profile : Profile) (choice : Choice) (text : List ℕ)
-        (w : WasPacked choice text) (input output : Passage) (count : ℕ) →
+    ensures read { (packing profile : Profile) (choice : Choice) (text : List ℕ)
+        (w : WasPacked packing choice text) →
+        IsReadIn packing (video_in w) × IsReadIn Wide (video_in w)
+        × ((video_in w).head.depth ≡ 8 → IsReadIn profile (video_in w)) }
+    ensures holds { (packing profile : Profile) (choice : Choice) (text : List ℕ)
+        (w : WasPacked packing choice text) → IsReadIn profile (video_in w) →
+        Holds profile (file_in w) (video_in w) }
+    ensures written { (packing profile : Profile) (choice : Choice) (text : List ℕ)
+        (w : WasPacked packing choice text) (input output : Passage) (count : ℕ) →
+        IsReadIn profile (video_in w) →
         input.old ≡ Some (file_in w) → UnpackDone profile input output count →
         IsUnpacked (video_in w) input output count }
-    ensures refused { (profile : Profile) (choice : Choice) (text : List ℕ)
-        (w : WasPacked choice text) (input output : Passage) (f : Fault) →
+    ensures refused { (packing profile : Profile) (choice : Choice) (text : List ℕ)
+        (w : WasPacked packing choice text) (input output : Passage) (f : Fault) →
+        IsReadIn profile (video_in w) →
         input.old ≡ Some (file_in w) → UnpackStops profile input output f → IsNoContent f }
-    ensures checked { (profile : Profile) (choice : Choice) (text : List ℕ)
-        (w : WasPacked choice text) (place : Bool) (input output : Passage) (f : Fault) →
+    ensures checked { (packing profile : Profile) (choice : Choice) (text : List ℕ)
+        (w : WasPacked packing choice text) (place : Bool) (input output : Passage) (f : Fault) →
+        IsReadIn profile (video_in w) →
         input.old ≡ Some (file_in w) → CheckStops profile place input output f → IsNoContent f }
-    ensures shown { (profile : Profile) (choice : Choice) (text : List ℕ)
-        (w : WasPacked choice text) (cost : Bool) (input output : Passage) (f : Fault) →
+    ensures shown { (packing profile : Profile) (choice : Choice) (text : List ℕ)
+        (w : WasPacked packing choice text) (cost : Bool) (input output : Passage) (f : Fault) →
+        IsReadIn profile (video_in w) →
         input.old ≡ Some (file_in w) → ShowStops profile input output cost f → IsNoContent f }
-    ensures same { (choice : Choice) (text : List ℕ) (w : WasPacked choice text) →
+    ensures same { (packing : Profile) (choice : Choice) (text : List ℕ)
+        (w : WasPacked packing choice text) →
         IsVideo (canonical_of (video_in w)) (video_in w) }
-    ensures ppm { (choice : Choice) (text : List ℕ) (w : WasPacked choice text) →
+    ensures ppm { (packing : Profile) (choice : Choice) (text : List ℕ)
+        (w : WasPacked packing choice text) →
         (video_in w).ppm ≡ true → canonical_of (video_in w) ≡ text }
-    ensures matroska_holds { (choice : Choice) (text : List ℕ)
-        (w : WasPackedMatroska choice text) →
+    ensures matroska_holds { (packing : Profile) (choice : Choice) (text : List ℕ)
+        (w : WasPackedMatroska packing choice text) →
         HoldsMatroska (matroska_file w) (matroska_video w) }
-    ensures matroska_written { (choice : Choice) (text : List ℕ)
-        (w : WasPackedMatroska choice text) (input output : Passage) (count : ℕ) →
+    ensures matroska_written { (packing : Profile) (choice : Choice) (text : List ℕ)
+        (w : WasPackedMatroska packing choice text) (input output : Passage) (count : ℕ) →
         input.old ≡ Some (matroska_file w) → UnpackDone Wide input output count →
         IsUnpacked (matroska_video w) input output count }
-    ensures matroska_refused { (choice : Choice) (text : List ℕ)
-        (w : WasPackedMatroska choice text) (input output : Passage) (f : Fault) →
+    ensures matroska_refused { (packing : Profile) (choice : Choice) (text : List ℕ)
+        (w : WasPackedMatroska packing choice text) (input output : Passage) (f : Fault) →
         input.old ≡ Some (matroska_file w) → UnpackStops Wide input output f → IsNoContent f }
-    ensures matroska_checked { (choice : Choice) (text : List ℕ)
-        (w : WasPackedMatroska choice text) (place : Bool) (input output : Passage) (f : Fault) →
+    ensures matroska_checked { (packing : Profile) (choice : Choice) (text : List ℕ)
+        (w : WasPackedMatroska packing choice text) (place : Bool) (input output : Passage)
+        (f : Fault) →
         input.old ≡ Some (matroska_file w) → CheckStops Wide place input output f →
         IsNoContent f }
-    ensures matroska_shown { (choice : Choice) (text : List ℕ)
-        (w : WasPackedMatroska choice text) (cost : Bool) (input output : Passage) (f : Fault) →
+    ensures matroska_shown { (packing : Profile) (choice : Choice) (text : List ℕ)
+        (w : WasPackedMatroska packing choice text) (cost : Bool) (input output : Passage)
+        (f : Fault) →
         input.old ≡ Some (matroska_file w) → ShowStops Wide input output cost f →
         IsNoContent f }
-    ensures matroska_same { (choice : Choice) (text : List ℕ)
-        (w : WasPackedMatroska choice text) →
+    ensures matroska_same { (packing : Profile) (choice : Choice) (text : List ℕ)
+        (w : WasPackedMatroska packing choice text) →
         IsVideo (canonical_of (matroska_video w)) (matroska_video w) }
-    ensures matroska_ppm { (choice : Choice) (text : List ℕ) (w : WasPackedMatroska choice text) →
+    ensures matroska_ppm { (packing : Profile) (choice : Choice) (text : List ℕ)
+        (w : WasPackedMatroska packing choice text) →
         (matroska_video w).ppm ≡ true → canonical_of (matroska_video w) ≡ text }
     ensures begun { (choice : Choice) (v : Video) (a : Accepted) → HasClusters choice v a →
         0 < length v.pictures →
@@ -114,6 +132,7 @@ pub fn packed_is_unpacked()
     one_end();
     one_picture();
     one_refusal();
+    said_depths();
     said_heads();
     sentinel_ending();
     texts();

@@ -78,6 +78,7 @@ fn tell_costs<R: ByteIn, W: ByteOut, A: Allocator + Copy>(
 /// colour {YCbCr or RCT}
 /// chroma {mono, or the binary logarithms of its factors, joined by a comma}
 /// extra 1
+/// depth {bits of a sample}
 /// slices {columns}x{rows}
 /// contexts {of each set}
 /// ec {0 or 1}
@@ -87,12 +88,13 @@ fn tell_costs<R: ByteIn, W: ByteOut, A: Allocator + Copy>(
 /// held states {n} samples {n} output {n} columns {n} offsets {n}
 /// ```
 ///
-/// The line `extra 1` is there where there is a plane of transparency, and the line `segment` of
-/// Matroska: it has the bytes of the Segment, or says that their number is not known, so that the
-/// file may be cut where a Cluster ends. What is held is told as
-/// `Checked::held` says it. Which stream of the file is told, and where its record ends, is by the
-/// profile. A file without frames is none the worse. With `cost` all frames that the profile reads
-/// are then decoded, and a line of each is written as soon as it is decoded:
+/// The line `extra 1` is there where there is a plane of transparency, the line `depth` where a
+/// sample has more than 8 bits, and the line `segment` of Matroska: it has the bytes of the
+/// Segment, or says that their number is not known, so that the file may be cut where a Cluster
+/// ends. What is held is told as `Checked::held` says it. Which stream of the file is told, and
+/// where its record ends, is by the profile. A file without frames is none the worse. With `cost`
+/// all frames that the profile reads are then decoded, and a line of each is written as soon as it
+/// is decoded:
 ///
 /// ```text
 /// cost frame {i}: ones {n} zeros {n} renormalisations {n}

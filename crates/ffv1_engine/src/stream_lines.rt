@@ -5,7 +5,8 @@ ghost use Rattle.std.specs.List.{list_any};
 ghost use Rattle.ffv1_plane.specs.Quantisation.{contexts_of};
 ghost use Rattle.ffv1_reads.specs.Head.{head_of};
 ghost use Rattle.ffv1_engine.specs.StreamLines.{chroma_line, coder_type, colour_line};
-ghost use Rattle.ffv1_engine.specs.StreamLines.{contexts_line, extra_line, held_line, number_line};
+ghost use Rattle.ffv1_engine.specs.StreamLines.{contexts_line, depth_line, extra_line, held_line};
+ghost use Rattle.ffv1_engine.specs.StreamLines.{number_line};
 ghost use Rattle.ffv1_engine.specs.StreamLines.{is_wide, note_line, pair_line, segment_line};
 ghost use Rattle.ffv1_engine.specs.StreamLines.{show_text};
 
@@ -91,6 +92,16 @@ fn extra_line(extra_plane: bool) -> &'static [u8]
     ensures { result.now ≡ extra_line extra_plane }
 {
     if extra_plane { b"extra 1\n" } else { b"" }
+}
+
+/// Appends the line of the depth, where a sample has more than 8 bits.
+fn push_depth<A: Allocator>(text: &mut Vec<u8, A>, depth: u32) -> Result<(), AllocError>
+    ensures { OnOk result (text.new.items ≡ text.old.items ++ depth_line depth) }
+{
+    if depth > 8 {
+        return push_line(text, b"depth ", u64::from(depth));
+    }
+    Ok(())
 }
 
 /// Appends how many contexts each set has.
@@ -193,6 +204,7 @@ pub(crate) fn show_text<A: Allocator>(
         config.log2_v,
     )?;
     text.extend_from_slice(extra_line(config.extra_plane))?;
+    push_depth(&mut text, checked.depth())?;
     push_pair(&mut text, b"slices ", config.columns, b"x", config.rows)?;
     push_contexts(&mut text, &config.sets)?;
     text.extend_from_slice(note_line(config.sets.as_slice()))?;

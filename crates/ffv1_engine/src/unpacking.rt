@@ -15,17 +15,20 @@ ghost use Rattle.ffv1_engine.specs.Unpacking.{UnpackedAll, UnpackingStops};
 
 use crate::fault::Fault;
 use crate::images_out::write_images;
-use crate::pictures_out::write_pictures;
+use crate::pictures_out::{text_head, write_pictures};
 use crate::player::{Player, open_stream, player_of};
 use crate::profile::Profile;
 use ffv1_files::laws::{frames_in_turn, read_is_file};
+use ffv1_reads::FileHead;
 use ffv1_record::{Checked, Colour};
 use ffv1_wire::{ByteIn, ByteOut};
+use ffv1_y4m::has_chroma_name_at;
 use std::alloc::Allocator;
 
-/// Whether pictures of a configuration have a text: YUV4MPEG2 names six kinds of chroma, and PPM
-/// has no transparency. Refuses with `NoY4mName` or `NoPpm`.
-fn check_text<A: Allocator>(checked: &Checked<A>) -> Result<(), Fault>
+/// Whether pictures of a configuration have a text: YUV4MPEG2 names six kinds of chroma of 8 bits,
+/// and fewer of other depths, as `has_chroma_name_at` has them, and PPM has no transparency.
+/// Refuses with `NoY4mName` or `NoPpm`.
+fn check_text<A: Allocator>(head: &FileHead<A>, checked: &Checked<A>) -> Result<(), Fault>
     ensures ok { IfOk result (λ _. HasTextBy (is_rct checked.now.configuration.colour)
         checked.now.configuration) }
     ensures err { IfErr result (LacksTextBy (is_rct checked.now.configuration.colour)
@@ -38,12 +41,10 @@ fn check_text<A: Allocator>(checked: &Checked<A>) -> Result<(), Fault>
         }
         return Ok(());
     }
-    let named = match (config.chroma_planes, config.log2_h, config.log2_v) {
-        (true, 0, 0) => true,
-        (true, 1, 1) | (true, 1, 0) | (true, 2, 0) | (false, 0, 0) => !config.extra_plane,
-        _ => false,
-    };
-    if named { Ok(()) } else { Err(Fault::NoY4mName) }
+    if !has_chroma_name_at(&text_head(head, checked), checked.depth()) {
+        return Err(Fault::NoY4mName);
+    }
+    Ok(())
 }
 
 /// Opens a file whose pictures have a text, and makes the decoder of its frames.
@@ -60,7 +61,7 @@ fn open_unpacking<R: ByteIn, A: Allocator + Copy>(
     ensures own { IfErr result (IsUnpackFaultIn profile) }
 {
     let (reader, checked) = open_stream(alloc, profile, input)?;
-    check_text(&checked)?;
+    check_text(reader.head(), &checked)?;
     let player = player_of(alloc, reader, checked)?;
     Ok(player)
 }
@@ -96,8 +97,9 @@ fn write_frames<R: ByteIn, W: ByteOut, A: Allocator + Copy>(
 }
 
 /// Decodes all frames of a file that the profile reads, and writes their pictures: those of YCbCr
-/// as YUV4MPEG2 in its canonical form, and those of RCT as PPM, one image after the other. It
-/// answers how many frames there were, at most 2^64 - 1, and hands the writer back.
+/// as YUV4MPEG2 in its canonical form, and those of RCT as PPM, one image after the other, each of
+/// the depth that the record says. It answers how many frames there were, at most 2^64 - 1, and
+/// hands the writer back.
 ///
 /// A picture of YCbCr is written when it is decoded, the header before the first one; a row of an
 /// image as soon as it is decoded. Beside what the decoder holds, one payload and one picture are
@@ -105,15 +107,15 @@ fn write_frames<R: ByteIn, W: ByteOut, A: Allocator + Copy>(
 ///
 /// The first fault ends it. Nothing is written where it is one of the file up to its first frame
 /// (`NotAvi`, `NoFfv1`, `Truncated`, `ChunkTooLong`) or of its record, or `NoY4mName` where
-/// YUV4MPEG2 has no name for the chroma, or `NoPpm` for RCT with transparency. Then come those of
-/// the chunks of its frames (`EmptyFrame`, too), of a payload, `FormatChanged` where a later
-/// frame's structure or aspect are not those of the header, and `NoFrames` where there was none;
-/// `Read`, `OutOfMemory` and `Write` as they come. At `Wide`, `Truncated` is also a file that ends
-/// inside a `RIFF`, or that has fewer frames than its `dmlh` says, and `NotAvi` one where something
-/// that is no `RIFF` comes after the last one; and a file that begins with the byte 1A is Matroska,
-/// with the faults that `MatroskaReader::open` and `MatroskaReader::next_frame` name in place of
-/// those of AVI. What is written then is the text of the frames before, and of an image the rows
-/// before the fault; after `Write` a beginning of the next picture or row, too.
+/// YUV4MPEG2 has no name for the chroma at its depth, or `NoPpm` for RCT with transparency. Then
+/// come those of the chunks of its frames (`EmptyFrame`, too), of a payload, `FormatChanged` where
+/// a later frame's structure or aspect are not those of the header, and `NoFrames` where there was
+/// none; `Read`, `OutOfMemory` and `Write` as they come. At `Wide`, `Truncated` is also a file that
+/// ends inside a `RIFF`, or that has fewer frames than its `dmlh` says, and `NotAvi` one where
+/// something that is no `RIFF` comes after the last one; and a file that begins with the byte 1A is
+/// Matroska, with the faults that `MatroskaReader::open` and `MatroskaReader::next_frame` name in
+/// place of those of AVI. What is written then is the text of the frames before, and of an image
+/// the rows before the fault; after `Write` a beginning of the next picture or row, too.
 pub fn unpack<R: ByteIn, W: ByteOut, A: Allocator + Copy>(
     alloc: A,
     profile: Profile,

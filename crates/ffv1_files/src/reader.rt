@@ -2,8 +2,10 @@
 
 ghost use Rattle.std.specs.Prelude.{◌≡◌, ◌<◌, ◌≤◌, Bool, List, [], true, false, Option, None, Some};
 ghost use Rattle.std.specs.Prelude.{IfErr, IfOk, OnErr, Ok, Err, length};
+ghost use Rattle.std.specs.Vec.{vec_capacity};
 ghost use Rattle.ffv1_wire.specs.Passage.{passage};
 ghost use Rattle.ffv1_reads.specs.Head.{head_of};
+ghost use Rattle.ffv1_reads.specs.Room.{HasRoom};
 ghost use Rattle.ffv1_reads.specs.declared.fault.FileFault.{FileFault};
 ghost use Rattle.ffv1_files.specs.declared.container.Container.TheVariants as container;
 ghost use Rattle.ffv1_files.specs.declared.container.Scope.TheVariants.{FirstMovi, Whole};
@@ -131,7 +133,8 @@ impl<A: Allocator> FileReader<A> {
 
     /// Reads the next frame in place of what the vector has, and answers true; or false at the end,
     /// where the vector is then empty, as `AviReader::next_frame` and `MatroskaReader::next_frame`
-    /// do, with their faults. The input has to be the one that the reader was opened on.
+    /// do, with their faults and their room. The input has to be the one that the reader was opened
+    /// on.
     pub fn next_frame<R: ByteIn>(
         &mut self,
         input: &mut R,
@@ -150,6 +153,8 @@ impl<A: Allocator> FileReader<A> {
         ensures same { container_of self.new.place ≡ container_of self.old.place }
         ensures own { self.old.fault ≡ None →
             IfErr result (λ f. is_frame_fault self.old.place f ≡ true) }
+        ensures room { HasRoom (vec_capacity frame.old) (vec_capacity frame.new)
+            (length frame.new.items) result }
         ensures again { (f : FileFault) → self.old.fault ≡ Some f → (result ≡ Err f)
             × (self.new ≡ self.old) × (frame.new.items ≡ []) × (input.new ≡ input.old) }
     {

@@ -11,7 +11,7 @@ use Rattle.ffv1_range.proofs.Steps.{puts_append}
 use Rattle.ffv1_range.proofs.Growth.{refused_first, refused_second}
 use Rattle.ffv1_range.proofs.Windows.{signed_below}
 use Rattle.ffv1_plane.specs.declared.prediction.Around.{Around}
-use Rattle.ffv1_plane.specs.Prediction.{predicted}
+use Rattle.ffv1_plane.specs.Prediction.{predicted_in}
 use Rattle.ffv1_plane.specs.Quantisation.{Set, contexts_of}
 use Rattle.ffv1_plane.specs.Context.{size_of, flip_of}
 use Rattle.ffv1_plane.specs.Residual.{chosen_of, IsFolded}
@@ -73,8 +73,8 @@ row_joined set bits c y two one cur from (suc n) inside above shows =
     let is = beside_is c y x two one cur (omega arith) above fewer in
     let sample : get_or cur x 0 ≡ seen c (suc (suc x)) (suc (suc y)) = shows.each x (omega arith) in
     let here : place_steps set bits two one cur x ≡ sample_steps set (around c x y) (chosen_at set bits c y x) =
-    ap (λ (a : Around). sample_steps set a (chosen_of bits (predicted a) (flip_of set a) (get_or cur x 0))) is
-    ∙ ap (λ s. sample_steps set (around c x y) (chosen_of bits (predicted (around c x y)) (flip_of set (around c x y)) s)) sample in
+    ap (λ (a : Around). sample_steps set a (chosen_of bits (predicted_in bits a) (flip_of set a) (get_or cur x 0))) is
+    ∙ ap (λ s. sample_steps set (around c x y) (chosen_of bits (predicted_in bits (around c x y)) (flip_of set (around c x y)) s)) sample in
     let all = row_steps-append set c y 0 x (chosen_row set bits c y x) (chosen_at set bits c y x) (omega (arith, length-chosen set bits c y x)) in
     ap (λ k. row_steps set c y 0 (chosen_row set bits c y k)) up ∙ ap (row_steps set c y 0) (chosen-more set bits c y x) ∙ all
     ∙ ap (λ l. l ++ sample_steps set (around c x y) (chosen_at set bits c y x)) rest
@@ -209,3 +209,29 @@ pub place_is : (set : Set) (bits : ℕ) (two one cur : List ℕ) (from n k : ℕ
 place_is set bits two one cur from n k xs ys v is inside value =
     ap (λ j. shifted (j * 32) (signed_steps v)) (is.context k inside)
     ∙ ap (λ q. shifted (size_of set (beside two one cur (from + k)) * 32) (signed_steps q)) (value ∙ is.residual k inside)
+
+-- ---- rows of places
+
+one_place : (set : Set) (bits : ℕ) (two one cur : List ℕ) (x : ℕ) → places_steps set bits two one cur x 1 ≡ place_steps set bits two one cur x
+one_place set bits two one cur x =
+    let same : x + 0 ≡ x = omega arith in
+    places-more set bits two one cur x 0 ∙ ap (λ l. l ++ place_steps set bits two one cur (x + 0)) (places-none set bits two one cur x) ∙ ap (place_steps set bits two one cur) same
+
+-- the symbol of a place by its neighbours
+pub placed : (set : Set) (bits : ℕ) (two one cur : List ℕ) (x context : ℕ) (a : Around) (q : ℤ) → a ≡ beside two one cur x → context ≡ size_of set a →
+    q ≡ chosen_of bits (predicted_in bits a) (flip_of set a) (get_or cur x 0) → shifted (context * 32) (signed_steps q) ≡ place_steps set bits two one cur x
+placed set bits two one cur x context a q is size chosen =
+    rw (size, chosen) (ap (λ (a : Around). sample_steps set a (chosen_of bits (predicted_in bits a) (flip_of set a) (get_or cur x 0))) is)
+
+-- a place more of a row is written
+pub written_place : (t : Table) (set : Set) (bits : ℕ) (old : Writing) (states : List ℕ) (mid : Writing) (between : List ℕ) (new : Writing) (after two one cur : List ℕ) (x : ℕ) →
+    x < length one → Written t set bits old states mid between two one cur x → Puts t mid between new after (place_steps set bits two one cur x) → Written t set bits old states new after two one cur (x + 1)
+written_place t set bits old states mid between new after two one cur x inside written puts =
+    written_block t set bits old states mid between new after two one cur x 1 (omega arith) written (rw (one_place set bits two one cur x) puts)
+
+-- a place that may be refused, in a row
+pub refused_after : (t : Table) (set : Set) (bits : ℕ) (old : Writing) (states : List ℕ) (mid : Writing) (between two one cur : List ℕ) (x : ℕ) →
+    x < length cur → length one ≡ length cur → Written t set bits old states mid between two one cur x → MayBeRefused t mid between (place_steps set bits two one cur x) →
+    MayBeRefusedRow t set bits old states two one cur (length cur)
+refused_after t set bits old states mid between two one cur x inside same written refused =
+    refused_block t set bits old states mid between two one cur x 1 (omega arith) same written (rw (one_place set bits two one cur x) refused)

@@ -10,7 +10,7 @@ use Rattle.ffv1_plane.specs.declared.prediction.Around.{Around}
 use Rattle.ffv1_plane.specs.declared.lanes.AroundLanes.{AroundLanes}
 use Rattle.ffv1_plane.specs.Quantisation.{Set, contexts_of}
 use Rattle.ffv1_plane.specs.Context.{size_of, flip_of}
-use Rattle.ffv1_plane.specs.Prediction.{predicted}
+use Rattle.ffv1_plane.specs.Prediction.{predicted_in}
 use Rattle.ffv1_plane.specs.Residual.{IsFolded}
 use Rattle.ffv1_plane.specs.Lanes.{AreSamples, AreAround, modulo_512}
 use Rattle.ffv1_plane.proofs.Remainders.{rem_is, divided}
@@ -121,7 +121,7 @@ block_lanes set bits two one cur from at contexts residuals sizes chosen depth r
       ];
       residual = λ k less. elim (cases_lt k at) [
         | inl early ↦ rw (get_or-put_chunk_below at residuals chosen k 0 early) (is.residual k early)
-        | inr more ↦ rw (residual k more less) (folded_nine bits _ depth (chosen_folded bits (predicted (beside two one cur (from + k))) (flip_of set (beside two one cur (from + k))) (slice_index cur (from + k)) some))
+        | inr more ↦ rw (residual k more less) (folded_nine bits _ depth (chosen_folded bits (predicted_in bits (beside two one cur (from + k))) (flip_of set (beside two one cur (from + k))) (slice_index cur (from + k)) some))
       ];
       small = λ k less. elim (cases_lt k at) [
         | inl early ↦ rw (get_or-put_chunk_below at residuals chosen k 0 early) (is.small k early)

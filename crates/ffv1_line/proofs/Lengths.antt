@@ -13,7 +13,7 @@ use Rattle.ffv1_range.proofs.Windows.{AreBelow-append}
 use Rattle.ffv1_plane.specs.declared.prediction.Around.{Around}
 use Rattle.ffv1_plane.specs.Quantisation.{Set, contexts_of}
 use Rattle.ffv1_plane.specs.Context.{size_of, flip_of}
-use Rattle.ffv1_plane.specs.Prediction.{predicted}
+use Rattle.ffv1_plane.specs.Prediction.{predicted_in}
 use Rattle.ffv1_plane.proofs.Folding.{chosen_folded}
 use Rattle.ffv1_line.specs.Cell.{Cell, seen, around}
 use Rattle.ffv1_line.specs.Row.{sample_steps, row_steps, cell_steps, chosen_at, chosen_row, chosen_rows}
@@ -110,7 +110,7 @@ folded_small (negsuc n) half small least most = omega (arith, ints, small, least
 
 chosen_small : (set : Set) (bits : ℕ) (c : Cell) (y x : ℕ) → 0 < bits → 2 ^ (bits - 1) < 2 ^ 31 → unsigned_abs (chosen_at set bits c y x) < 2 ^ 31
 chosen_small set bits c y x some few =
-    let folded = chosen_folded bits (predicted (around c x y)) (flip_of set (around c x y)) (seen c (suc (suc x)) (suc (suc y))) some in
+    let folded = chosen_folded bits (predicted_in bits (around c x y)) (flip_of set (around c x y)) (seen c (suc (suc x)) (suc (suc y))) some in
     folded_small _ (2 ^ (bits - 1)) few folded.least folded.most
 
 pub chosen_row_small : (set : Set) (bits : ℕ) (c : Cell) (y n : ℕ) → 0 < bits → 2 ^ (bits - 1) < 2 ^ 31 → AreSmall (chosen_row set bits c y n)

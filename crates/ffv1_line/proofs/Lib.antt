@@ -1,5 +1,6 @@
 pub mod Cells
 pub mod Joined
+pub mod Narrow
 pub mod Prepared
 pub mod Rows
 pub mod Beside

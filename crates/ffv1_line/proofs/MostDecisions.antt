@@ -11,7 +11,7 @@ use Rattle.ffv1_range.specs.Reading.{Reading}
 use Rattle.ffv1_range.specs.Writing.{Writing}
 use Rattle.ffv1_range.specs.Symbols.{too_long, raising}
 use Rattle.ffv1_range.proofs.Counting.{length-shifted}
-use Rattle.ffv1_plane.specs.Prediction.{predicted}
+use Rattle.ffv1_plane.specs.Prediction.{predicted_in}
 use Rattle.ffv1_plane.specs.Quantisation.{Set}
 use Rattle.ffv1_plane.specs.Context.{size_of, flip_of}
 use Rattle.ffv1_plane.proofs.Folding.{chosen_folded}
@@ -68,7 +68,7 @@ within (negsuc n) half least most = omega (arith, ints, least)
 chosen_few : (set : Set) (bits m : ℕ) (c : Cell) (y x : ℕ) → bits ≡ suc m → m < 31 → decisions_of (chosen_at set bits c y x) ≤ 2 * bits + 1
 unfolding decisions_of
 chosen_few set bits m c y x is few =
-    let folded = chosen_folded bits (predicted (around c x y)) (flip_of set (around c x y)) (seen c (suc (suc x)) (suc (suc y))) (omega (arith, is)) in
+    let folded = chosen_folded bits (predicted_in bits (around c x y)) (flip_of set (around c x y)) (seen c (suc (suc x)) (suc (suc y))) (omega (arith, is)) in
     let less : bits - 1 ≡ m = omega (arith, is) in
     let size : unsigned_abs (chosen_at set bits c y x) ≤ 2 ^ (bits - 1) = within (chosen_at set bits c y x) (2 ^ (bits - 1)) folded.least folded.most in
     let digits = digits_few (unsigned_abs (chosen_at set bits c y x)) m (subst (λ k. unsigned_abs (chosen_at set bits c y x) ≤ 2 ^ k) less size) few in

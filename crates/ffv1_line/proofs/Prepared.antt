@@ -7,7 +7,7 @@ use Rattle.ffv1_range.specs.Follows.{Follows}
 use Rattle.ffv1_range.specs.Signed.{signed_by}
 use Rattle.ffv1_range.specs.Symbols.{shifted, signed_steps, too_long}
 use Rattle.ffv1_plane.specs.declared.prediction.Around.{Around}
-use Rattle.ffv1_plane.specs.Prediction.{predicted}
+use Rattle.ffv1_plane.specs.Prediction.{predicted_in}
 use Rattle.ffv1_plane.specs.Context.{size_of, flip_of}
 use Rattle.ffv1_plane.specs.Residual.{sample_of, turned}
 use Rattle.ffv1_line.specs.Row.{refused_steps}
@@ -62,7 +62,7 @@ prepared_at set two one from e n i filled inside = record {
 
 -- a sample by the number of its context, its flip and its prediction
 sampled_by : (t : Table) (set : Set) (bits : ℕ) (old : Reading) (states : List ℕ) (new : Reading) (after : List ℕ) (a : Around) (s size : ℕ) (flip : Bool) (prediction q : ℤ) →
-    size ≡ size_of set a → flip ≡ flip_of set a → prediction ≡ predicted a → unsigned_abs q < 2 ^ 31 → pos s ≡ sample_of bits prediction flip q →
+    size ≡ size_of set a → flip ≡ flip_of set a → prediction ≡ predicted_in bits a → unsigned_abs q < 2 ^ 31 → pos s ≡ sample_of bits prediction flip q →
     Follows t old states new after (shifted (size * 32) (signed_steps q)) → Sampled t set bits old states new after a s
 sampled_by t set bits old states new after a s size flip prediction q size_is flip_is prediction_is small makes follows = record {
   residual = q;
@@ -80,7 +80,7 @@ zero_makes bits s prediction false makes = makes
 zero_makes bits s prediction true makes = makes
 
 pub sampled_by_zero : (t : Table) (set : Set) (bits : ℕ) (old : Reading) (states : List ℕ) (new : Reading) (after : List ℕ) (a : Around) (s size : ℕ) (flip : Bool) (prediction : ℤ) → size ≡ size_of set a →
-    flip ≡ flip_of set a → prediction ≡ predicted a → pos s ≡ sample_of bits prediction false (pos 0) → Follows t old states new after (shifted (size * 32) (signed_steps (pos 0))) → Sampled t set bits old states new after a s
+    flip ≡ flip_of set a → prediction ≡ predicted_in bits a → pos s ≡ sample_of bits prediction false (pos 0) → Follows t old states new after (shifted (size * 32) (signed_steps (pos 0))) → Sampled t set bits old states new after a s
 sampled_by_zero t set bits old states new after a s size flip prediction size_is flip_is prediction_is makes follows =
     sampled_by t set bits old states new after a s size flip prediction (pos 0) size_is flip_is prediction_is (omega arith) (zero_makes bits s prediction flip makes) follows
 
@@ -94,7 +94,7 @@ signed_makes bits s n prediction flip false makes = makes
 signed_makes bits s n prediction flip true makes = makes
 
 pub sampled_by_sign : (t : Table) (set : Set) (bits : ℕ) (old : Reading) (states : List ℕ) (new : Reading) (after : List ℕ) (a : Around) (s size : ℕ) (flip : Bool) (prediction : ℤ) (n : ℕ) (negative : Bool) →
-    size ≡ size_of set a → flip ≡ flip_of set a → prediction ≡ predicted a → n < 2 ^ 31 → pos s ≡ sample_of bits prediction flip (turned negative (pos n)) →
+    size ≡ size_of set a → flip ≡ flip_of set a → prediction ≡ predicted_in bits a → n < 2 ^ 31 → pos s ≡ sample_of bits prediction flip (turned negative (pos n)) →
     Follows t old states new after (shifted (size * 32) (signed_steps (signed_by n negative))) → Sampled t set bits old states new after a s
 sampled_by_sign t set bits old states new after a s size flip prediction n negative size_is flip_is prediction_is small makes follows =
     sampled_by t set bits old states new after a s size flip prediction (signed_by n negative) size_is flip_is prediction_is (signed_small n negative small) (signed_makes bits s n prediction flip negative makes)

@@ -10,7 +10,7 @@ use Rattle.ffv1_range.proofs.Steps.{decided-append}
 use Rattle.ffv1_range.proofs.Prefix.{symbols_apart, refused_apart, same_head, same_tail}
 use Rattle.ffv1_range.proofs.OneValue.{SameSlots, Begins, same_step, one_begins, signed_slots, refused_slots}
 use Rattle.ffv1_plane.specs.declared.prediction.Around.{Around}
-use Rattle.ffv1_plane.specs.Prediction.{predicted}
+use Rattle.ffv1_plane.specs.Prediction.{predicted_in}
 use Rattle.ffv1_plane.specs.Quantisation.{Set}
 use Rattle.ffv1_plane.specs.Context.{size_of, flip_of}
 use Rattle.ffv1_plane.specs.Residual.{sample_of}
@@ -141,7 +141,7 @@ same_more : (c : Cell) (y : ℕ) (d : Cell) (z x : ℕ) (set : Set) (bits : ℕ)
     SuitsAt set bits (around c x y) (seen c (suc (suc x)) (suc (suc y))) q → SuitsAt set bits (around d x z) (seen d (suc (suc x)) (suc (suc z))) q → AreSame c y d z (suc x)
 same_more c y d z x set bits q twin same in_c in_d =
     let neighbours = same_around c y d z x twin same in
-    let made = in_c.makes ∙ ap (λ (a : Around). sample_of bits (predicted a) (flip_of set a) q) neighbours ∙ sym in_d.makes in
+    let made = in_c.makes ∙ ap (λ (a : Around). sample_of bits (predicted_in bits a) (flip_of set a) q) neighbours ∙ sym in_d.makes in
     let here = number _ _ made in
     record {
       each = λ k h. elim (cases_lt k x) [

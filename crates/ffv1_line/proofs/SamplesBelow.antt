@@ -2,7 +2,7 @@
 use Rattle.std.proofs.Common.{◌≡◌, ℕ, zero, suc, ◌+◌, ◌^◌, ◌<◌, ◌≤◌, List, [], ◌∷◌, length, get_or, arith, ap, sym, subst, ◌∙◌, ℤ}
 use Rattle.ffv1_range.specs.Table.{Table}
 use Rattle.ffv1_range.specs.Reading.{Reading}
-use Rattle.ffv1_plane.specs.Prediction.{predicted}
+use Rattle.ffv1_plane.specs.Prediction.{predicted_in}
 use Rattle.ffv1_plane.specs.Quantisation.{Set}
 use Rattle.ffv1_plane.specs.Context.{flip_of}
 use Rattle.ffv1_plane.proofs.Folding.{one_made}
@@ -15,7 +15,7 @@ use Rattle.ffv1_line.proofs.ThreeRows.{three, seen_three, lined_suits, refused_s
 pub suiting_below : (set : Set) (bits : ℕ) (c : Cell) (y x k : ℕ) (qs : List ℤ) → AreSuiting set bits c y x qs → k < length qs → seen c (suc (suc (x + k))) (suc (suc y)) < 2 ^ bits
 suiting_below set bits c y x k [] are h = absurd (omega (arith, h))
 suiting_below set bits c y x zero (q ∷ qs) are h =
-    let made = one_made bits (predicted (around c x y)) (flip_of set (around c x y)) q in
+    let made = one_made bits (predicted_in bits (around c x y)) (flip_of set (around c x y)) q in
     let same : made.0 ≡ seen c (suc (suc x)) (suc (suc y)) = number _ _ (made.2 ∙ sym are.0.makes) in
     let below : seen c (suc (suc x)) (suc (suc y)) < 2 ^ bits = subst (λ s. s < 2 ^ bits) same made.1 in
     subst (λ n. seen c (suc (suc n)) (suc (suc y)) < 2 ^ bits) (omega arith) below

@@ -1,6 +1,6 @@
 -- Chosen residuals suit.
 use Rattle.std.proofs.Common.{ℕ, ◌-◌, ◌<◌, ◌^◌, min, arith, zero, suc}
-use Rattle.ffv1_plane.specs.Prediction.{predicted}
+use Rattle.ffv1_plane.specs.Prediction.{predicted_in}
 use Rattle.ffv1_plane.specs.Quantisation.{Set}
 use Rattle.ffv1_plane.specs.Context.{flip_of}
 use Rattle.ffv1_plane.proofs.Folding.{chosen_suits}
@@ -21,7 +21,7 @@ chosen_row_suits set bits c y zero some few wide small = tt
 chosen_row_suits set bits c y (suc n) some few wide small =
     let long = length-chosen set bits c y n in
     suiting-append set bits c y 0 n (chosen_row set bits c y n) (chosen_at set bits c y n) (omega arith) (chosen_row_suits set bits c y n some few wide small)
-    (chosen_suits bits (predicted (around c n y)) (flip_of set (around c n y)) (seen c (suc (suc n)) (suc (suc y))) some few (seen_small c n y (2 ^ bits) wide small))
+    (chosen_suits bits (predicted_in bits (around c n y)) (flip_of set (around c n y)) (seen c (suc (suc n)) (suc (suc y))) some few (seen_small c n y (2 ^ bits) wide small))
 
 pub chosen_rows_suit : (set : Set) (bits : ℕ) (c : Cell) (n : ℕ) → 0 < bits → bits < 32 → 0 < c.width → ((x y : ℕ) → x < c.width → y < n → c.at x y < 2 ^ bits) → RowsSuit set bits c 0 (chosen_rows set bits c n)
 unfolding chosen_rows

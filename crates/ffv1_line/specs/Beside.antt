@@ -3,7 +3,7 @@ use Rattle.std.specs.Prelude.{ℕ, ◌+◌, ◌-◌, min, List, [], ◌++◌, le
 use Rattle.std.proofs.Common.{zero, suc}
 use Rattle.ffv1_range.specs.Symbols.{Step}
 use Rattle.ffv1_plane.specs.declared.prediction.Around.{Around}
-use Rattle.ffv1_plane.specs.Prediction.{predicted}
+use Rattle.ffv1_plane.specs.Prediction.{predicted_in}
 use Rattle.ffv1_plane.specs.Quantisation.{Set}
 use Rattle.ffv1_plane.specs.Context.{flip_of}
 use Rattle.ffv1_plane.specs.Residual.{chosen_of}
@@ -32,7 +32,7 @@ beside two one cur x = record {
 
 -- the residual that an encoder takes there
 abbrev pub chosen_beside : Set → ℕ → List ℕ → List ℕ → List ℕ → ℕ → ℤ
-chosen_beside set bits two one cur x = chosen_of bits (predicted (beside two one cur x))
+chosen_beside set bits two one cur x = chosen_of bits (predicted_in bits (beside two one cur x))
     (flip_of set (beside two one cur x)) (slice_index cur x)
 
 -- its decisions

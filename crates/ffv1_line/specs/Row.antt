@@ -3,7 +3,7 @@ use Rattle.std.specs.Prelude.{ℕ, ◌*◌, List, [], ◌∷◌, ◌++◌, ℤ}
 use Rattle.std.proofs.Common.{zero, suc}
 use Rattle.ffv1_range.specs.Symbols.{Step, shifted, signed_steps, too_long}
 use Rattle.ffv1_plane.specs.declared.prediction.Around.{Around}
-use Rattle.ffv1_plane.specs.Prediction.{predicted}
+use Rattle.ffv1_plane.specs.Prediction.{predicted_in}
 use Rattle.ffv1_plane.specs.Quantisation.{Set}
 use Rattle.ffv1_plane.specs.Context.{size_of, flip_of}
 use Rattle.ffv1_plane.specs.Residual.{IsSuiting, chosen_of}
@@ -20,7 +20,7 @@ refused_steps set a = shifted (size_of set a * 32) too_long
 -- a residual suits a sample at a place: with the place's prediction it makes the sample (RFC 9043,
 -- 3.8)
 abbrev pub SuitsAt : Set → ℕ → Around → ℕ → ℤ → Type 0
-SuitsAt set bits a s q = IsSuiting bits (predicted a) (flip_of set a) s q
+SuitsAt set bits a s q = IsSuiting bits (predicted_in bits a) (flip_of set a) s q
 
 -- the decisions of the residuals of row y, from column x on
 abbrev pub row_steps : Set → Cell → ℕ → ℕ → List ℤ → List Step
@@ -36,8 +36,8 @@ AreSuiting set bits c y x (q ∷ qs) =
 
 -- the residual that an encoder takes
 abbrev pub chosen_at : Set → ℕ → Cell → ℕ → ℕ → ℤ
-chosen_at set bits c y x = chosen_of bits (predicted (around c x y)) (flip_of set (around c x y))
-    (seen c (suc (suc x)) (suc (suc y)))
+chosen_at set bits c y x = chosen_of bits (predicted_in bits (around c x y))
+    (flip_of set (around c x y)) (seen c (suc (suc x)) (suc (suc y)))
 
 -- those of the first n places of row y
 unfoldable pub chosen_row : Set → ℕ → Cell → ℕ → ℕ → List ℤ

@@ -6,25 +6,26 @@ use std::alloc::Allocator;
 use std::marker::Model;
 
 /// How the rows of a cell of a plane are coded: by which table of states, by which quantisation
-/// table set, and how many bits a sample of a line has. Rows have 8 bits, or 9 where colours are
-/// coded as luma and differences (RFC 9043, 3.7.2).
+/// table set, and how many bits a sample of a line has, from 8 to 16: those of the pictures, and one
+/// more where colours are coded as luma and differences (RFC 9043, 3.7.2). Samples of 16 bits are
+/// predicted by signed numbers (RFC 9043, 3.3).
 #[derive(Drop)]
 pub struct Coding<'a, B: Allocator> {
     /// How states move.
     pub table: &'a StateTable,
     /// The quantisation table set of the plane.
     pub set: &'a QuantSet<B>,
-    /// The bits of a sample, 8 or 9.
+    /// The bits of a sample, from 8 to 16.
     pub bits: u8,
 }
 
 impl<'a, B: Allocator> Model for Coding<'a, B> {
-    ghost use Rattle.std.specs.Prelude.{◌≡◌, ◌⊎◌};
+    ghost use Rattle.std.specs.Prelude.{◌≤◌};
     ghost use Rattle.ffv1_line.specs.Coding.{RowCoding};
 
     ghost Value = { RowCoding };
 
     ghost view = { λ c. record { table = c.table.now; set = c.set.now; bits = c.bits } };
 
-    ghost invariant = { λ c. (c.bits ≡ 8) ⊎ (c.bits ≡ 9) };
+    ghost invariant = { λ c. (8 ≤ c.bits) × (c.bits ≤ 16) };
 }

@@ -6,6 +6,7 @@ ghost use Rattle.ffv1_plane.specs.Quantisation.{contexts_of};
 ghost use Rattle.ffv1_line.specs.Decoded.{Lined, Refused, SameFrom};
 
 mod block;
+mod deep;
 mod even;
 mod flat;
 pub(crate) mod places;
@@ -14,6 +15,7 @@ mod sample;
 
 use crate::above::Above;
 use crate::coding::Coding;
+use crate::decode::deep::decode_deep;
 use crate::decode::row::decode_row;
 use crate::fault::TooLong;
 use ffv1_range::RangeDecoder;
@@ -53,6 +55,12 @@ pub fn decode_line<'a, B: Allocator>(
 {
     let Coding { set, bits, .. } = coding;
     let near = set.is_near();
+    if *bits > 9 {
+        if near {
+            return decode_deep::<B, true>(decoder, coding, states, above, cur);
+        }
+        return decode_deep::<B, false>(decoder, coding, states, above, cur);
+    }
     if *bits == 8 {
         if near {
             return decode_row::<B, 8, true>(decoder, coding, states, above, cur);

@@ -1,6 +1,6 @@
 //! A row is encoded.
 
-ghost use Rattle.std.specs.Prelude.{◌≡◌, ◌+◌, ◌*◌, ◌≤◌, ◌<◌, OnOk, OnErr, IfErr, IsErr};
+ghost use Rattle.std.specs.Prelude.{◌≡◌, ◌+◌, ◌*◌, ◌≤◌, ◌<◌, ◌⊎◌, OnOk, OnErr, IfErr, IsErr};
 ghost use Rattle.std.specs.Prelude.{IsTrue, length, false, unsigned_abs, ◌^◌};
 ghost use Rattle.ffv1_range.specs.Symbols.{AllHeld, shifted, signed_steps};
 ghost use Rattle.ffv1_range.specs.Puts.{Puts, MayBeRefused};
@@ -10,9 +10,12 @@ ghost use Rattle.ffv1_range.specs.Listed.{of_nine_bits};
 ghost use Rattle.ffv1_line.specs.Internal.Parts.{IsPart, IsBlockOf, part_steps};
 ghost use Rattle.ffv1_line.specs.Encoded.{Written, MayBeRefusedRow};
 
+mod deep;
+
 use crate::above::Above;
 use crate::block::{Block, LIST, PLACES, list_places, prepare};
 use crate::coding::Coding;
+use crate::encode::deep::encode_deep;
 use crate::part::Part;
 use ffv1_range::{Fault, RangeEncoder, StateTable};
 use std::alloc::Allocator;
@@ -158,8 +161,8 @@ fn encode_block<A: Allocator, B: Allocator>(
     Ok(())
 }
 
-/// A row of a cell, by an encoder that has not failed, by a body of its own for each depth and each
-/// kind of set. `NEAR` may be said of a set whose fourth and fifth tables have one level.
+/// A row of a cell of 8 or 9 bits, by an encoder that has not failed, by a body of its own for each
+/// depth and each kind of set. `NEAR` may be said of a set whose fourth and fifth tables have one level.
 #[inline(never)]
 fn encode_row<A: Allocator, B: Allocator, const BITS: u8, const NEAR: bool>(
     encoder: &mut RangeEncoder<A>,
@@ -169,6 +172,7 @@ fn encode_row<A: Allocator, B: Allocator, const BITS: u8, const NEAR: bool>(
     cur: &[u16],
 ) -> Result<(), Fault>
     requires sound { encoder.old.failed ≡ false }
+    requires depth { (BITS ≡ 8) ⊎ (BITS ≡ 9) }
     requires bits { coding.now.bits ≡ BITS }
     requires near { IsTrue NEAR → IsNear coding.now.set }
     requires some { 0 < length cur.now }
@@ -248,6 +252,12 @@ pub fn encode_line<A: Allocator, B: Allocator>(
     }
     let Coding { set, bits, .. } = coding;
     let near = set.is_near();
+    if *bits > 9 {
+        if near {
+            return encode_deep::<A, B, true>(encoder, coding, states, above, cur);
+        }
+        return encode_deep::<A, B, false>(encoder, coding, states, above, cur);
+    }
     if *bits == 8 {
         if near {
             return encode_row::<A, B, 8, true>(encoder, coding, states, above, cur);

@@ -1,11 +1,12 @@
 //! A file up to where its frames begin.
 
-ghost use Rattle.std.specs.Prelude.{◌≡◌, ◌≤◌, ◌<◌, [], ℕ, List, Option, OnOk, length};
+ghost use Rattle.std.specs.Prelude.{◌≡◌, ◌≤◌, ◌<◌, ◌+◌, ◌++◌, [], ℕ, List, Option, OnOk, length};
 ghost use Rattle.std.specs.Vec.{vec_capacity};
 ghost use Rattle.ffv1_wire.specs.Passage.{passage};
 ghost use Rattle.ffv1_reads.specs.Ends.{AnswersOrFaults};
 ghost use Rattle.ffv1_reads.specs.First.{passage_with};
 ghost use Rattle.ffv1_reads.specs.Reads.{Answers, Kept, wanted};
+ghost use Rattle.ffv1_reads.specs.Room.{HasRoom};
 ghost use Rattle.ffv1_reads.specs.declared.fault.FileFault.TheVariants as fault;
 ghost use Rattle.ffv1_matroska.specs.Internal.{found_kept, opened_kept, track_kept};
 ghost use Rattle.ffv1_matroska.specs.Opened.{begin_read, element_passed, in_cluster, open_read};
@@ -30,7 +31,8 @@ use std::alloc::Allocator;
 const TRACKS: u32 = 0x1654_AE6B;
 
 /// Reads so many bytes, at least one, in place of what the vector has, and makes room for as many
-/// in another vector, which is emptied, before the last of them is read.
+/// in another vector, which is emptied, before the last of them is read. Both have room as
+/// `ffv1_reads::fill` says, for the bytes that were read.
 fn fill_with_room<R: ByteIn, A: Allocator>(
     input: &mut R,
     size: usize,
@@ -43,6 +45,10 @@ fn fill_with_room<R: ByteIn, A: Allocator>(
     ensures long { OnOk result (length content.new.items ≡ size) }
     ensures room { OnOk result (size ≤ vec_capacity room.new) }
     ensures empty { OnOk result (room.new.items ≡ []) }
+    ensures kept { HasRoom (vec_capacity content.old) (vec_capacity content.new)
+        (length content.new.items) result }
+    ensures grown { HasRoom (vec_capacity room.old) (vec_capacity room.new)
+        (length content.new.items) result }
 {
     fill(input, size - 1, content)?;
     room.clear();
@@ -52,7 +58,8 @@ fn fill_with_room<R: ByteIn, A: Allocator>(
 }
 
 /// Reads the content of Tracks in place of what the vector has, and makes room for a record as
-/// long as that in another vector, which is emptied.
+/// long as that in another vector, which is emptied. Both have room as `ffv1_reads::fill` says, for
+/// the bytes that were read.
 ///
 /// `BadElement` where the size is unknown, `ChunkTooLong` where it is above 67108864 bytes, of
 /// which no byte is read; `Truncated` where the input ends before, `Read`, `OutOfMemory`.
@@ -67,6 +74,10 @@ fn keep_tracks<R: ByteIn, A: Allocator>(
         (passage R.remaining R.failures input.old input.new) result }
     ensures room { OnOk result (length content.new.items ≤ vec_capacity room.new) }
     ensures empty { OnOk result (room.new.items ≡ []) }
+    ensures kept { HasRoom (vec_capacity content.old) (vec_capacity content.new)
+        (length content.new.items) result }
+    ensures grown { HasRoom (vec_capacity room.old) (vec_capacity room.new)
+        (length content.new.items) result }
 {
     let Some(size) = size else {
         return Err(FileFault::BadElement);
@@ -83,8 +94,20 @@ fn keep_tracks<R: ByteIn, A: Allocator>(
     Ok(())
 }
 
+/// Appends bytes, for which there is room.
+fn push_bytes<A: Allocator>(config: &mut Vec<u8, A>, bytes: &[u8])
+    requires { length config.old.items + length bytes.now ≤ vec_capacity config.old }
+    ensures items { config.new.items ≡ config.old.items ++ bytes.now }
+    ensures capacity { vec_capacity config.new ≡ vec_capacity config.old }
+{
+    for byte in bytes {
+        config.push_reserved(*byte);
+    }
+}
+
 /// Reads Tracks: what their first track of FFV1 video says, with its record in place of what the
-/// vector `config` has. Memory is taken before the last byte of Tracks is read.
+/// vector `config` has. Memory is taken before the last byte of Tracks is read: for the record room
+/// as `ffv1_reads::fill` says, for the bytes of Tracks that were read.
 ///
 /// Faults as of `keep_tracks` and `read_track`, of which the latter come after all of Tracks.
 #[tactic(auto, unfolding(crate::specs::Opened::tracks_read))]
@@ -94,12 +117,14 @@ fn read_tracks<R: ByteIn, A: Allocator>(
     content: &mut Vec<u8, A>,
     config: &mut Vec<u8, A>,
 ) -> Result<Numbers, FileFault>
-    ensures { Answers (λ (n : Numbers). track_kept n config.new.items) (tracks_read size)
+    ensures answer { Answers (λ (n : Numbers). track_kept n config.new.items) (tracks_read size)
         (passage R.remaining R.failures input.old input.new) result }
+    ensures room { HasRoom (vec_capacity config.old) (vec_capacity config.new)
+        (length content.new.items) result }
 {
     keep_tracks(input, size, content, config)?;
     let track = read_track(content.as_slice())?;
-    config.extend_from_slice(track.config_record)?;
+    push_bytes(config, track.config_record);
     Ok(Numbers {
         number: track.number,
         width: track.width,

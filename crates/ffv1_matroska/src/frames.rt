@@ -2,9 +2,11 @@
 
 ghost use Rattle.std.specs.Prelude.{◌≡◌, ◌<◌, ◌≤◌, ℕ, List, [], Option, None, IfOk, IfSome};
 ghost use Rattle.std.specs.Prelude.{OnErr, OnSome, length};
+ghost use Rattle.std.specs.Vec.{vec_capacity};
 ghost use Rattle.ffv1_wire.specs.Passage.{passage};
 ghost use Rattle.ffv1_matroska.specs.Files.{frame_found, frame_read};
 ghost use Rattle.ffv1_reads.specs.Ends.{AnswersOrNone};
+ghost use Rattle.ffv1_reads.specs.Room.{HasRoom};
 ghost use Rattle.ffv1_matroska.specs.Places.{amount};
 ghost use Rattle.ffv1_matroska.specs.Readers.{Leaves, next_with};
 ghost use Rattle.ffv1_matroska.specs.declared.place.Place.{Place};
@@ -51,6 +53,8 @@ pub(crate) fn read_frame<R: ByteIn, A: Allocator>(
     ensures none { IfOk result (λ after. after ≡ None → frame.new.items ≡ []) }
     ensures less { IfOk result (λ o. IfSome o (λ after. amount after < amount place)) }
     ensures err { OnErr result (Leaves track place (R.remaining input.old) frame.new.items) }
+    ensures room { HasRoom (vec_capacity frame.old) (vec_capacity frame.new)
+        (length frame.new.items) result }
 {
     frame.clear();
     let Some((size, after)) = find_frame(input, track, place)? else {

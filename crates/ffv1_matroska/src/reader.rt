@@ -2,10 +2,12 @@
 
 ghost use Rattle.std.specs.Prelude.{◌≡◌, ◌<◌, ◌≤◌, Bool, List, [], true, false, Option, None, Some};
 ghost use Rattle.std.specs.Prelude.{IfErr, IfOk, OnErr, Ok, Err, length};
+ghost use Rattle.std.specs.Vec.{vec_capacity};
 ghost use Rattle.ffv1_wire.specs.Passage.{passage};
 ghost use Rattle.ffv1_reads.specs.Ends.{AnswersOrEnds, AnswersOrFaults};
 ghost use Rattle.ffv1_reads.specs.First.{passage_with};
 ghost use Rattle.ffv1_reads.specs.Head.{head_of};
+ghost use Rattle.ffv1_reads.specs.Room.{HasRoom};
 ghost use Rattle.ffv1_reads.specs.declared.fault.FileFault.{FileFault};
 ghost use Rattle.ffv1_reads.specs.declared.fault.FileFault.TheVariants as fault;
 ghost use Rattle.ffv1_matroska.specs.Files.{frame_read};
@@ -136,6 +138,7 @@ impl<A: Allocator> MatroskaReader<A> {
     /// known at the end of the element: of a Cluster, before the frame is given that ends it;
     /// `Read` where a read failed, `OutOfMemory`. After a fault the vector holds a beginning of the
     /// frame, and each further call answers the fault again, empties the vector and reads nothing.
+    /// The vector has room as `ffv1_reads::fill` says.
     pub fn next_frame<R: ByteIn>(
         &mut self,
         input: &mut R,
@@ -155,6 +158,8 @@ impl<A: Allocator> MatroskaReader<A> {
         ensures own { self.old.fault ≡ None → IfErr result (λ f. is_frame_fault f ≡ true) }
         ensures err { OnErr result (Leaves self.old.track.number self.old.place
             (R.remaining input.old) frame.new.items) }
+        ensures room { HasRoom (vec_capacity frame.old) (vec_capacity frame.new)
+            (length frame.new.items) result }
         ensures over { self.old.fault ≡ None → self.old.place ≡ ended →
             (result ≡ Ok false) × (self.new ≡ self.old) × (frame.new.items ≡ [])
             × (input.new ≡ input.old) }

@@ -8,5 +8,7 @@ pub mod LastPlaces
 pub mod Levels
 pub mod Remainders
 pub mod Scales
+pub mod Signed
 pub mod Sums
+pub mod Words
 pub mod Flat

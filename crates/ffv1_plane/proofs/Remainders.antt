@@ -63,13 +63,13 @@ congruent_factor m n c x y whole is =
     let same = rw whole at is.same in
     record { down = is.down * c; up = is.up * c; same = omega (arith, ints) }
 
-signed_near : (m : ℕ) → m < 4294967296 → IsCongruent 4294967296 (to_z w32 m) (pos m)
+pub signed_near : (m : ℕ) → m < 4294967296 → IsCongruent 4294967296 (to_z w32 m) (pos m)
 signed_near m h = elim (cases_lt m 2147483648) [
   | inl low ↦ record { down = 0; up = 0; same = omega (arith, ints) }
   | inr high ↦ record { down = 1; up = 0; same = rw (le-ltb m 2147483648 high) (omega (arith, ints)) }
 ]
 
-unsigned_near : (p : ℤ) → SFits w32 p → IsCongruent 4294967296 p (pos (of_z w32 p))
+pub unsigned_near : (p : ℤ) → SFits w32 p → IsCongruent 4294967296 p (pos (of_z w32 p))
 unsigned_near (pos a) fits = record { down = 0; up = 0; same = omega (arith, ints) }
 unsigned_near (negsuc a) fits = record { down = 1; up = 0; same = omega (arith, ints) }
 

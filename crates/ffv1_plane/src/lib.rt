@@ -13,9 +13,13 @@
 //! let again = sample_from(predict(&around), flip, residual, 8);
 //! ```
 //!
+//! Samples of more than 9 bits have `predict_in`, since 16 bits are predicted by signed numbers,
+//! `deep_residual` and `deep_sample`.
+//!
 //! The test `plane::example` runs these lines. `laws` has what follows from the definitions.
 #![tactic(auto)]
 
+pub mod deep;
 pub mod early;
 pub mod fault;
 pub mod lanes;
@@ -25,9 +29,10 @@ pub mod quantisation;
 pub mod residual;
 mod table;
 
+pub use deep::{deep_residual, deep_sample};
 pub use early::{BLOCK, Early, sample_signed};
 pub use fault::Fault;
 pub use lanes::{AroundLanes, choose_lanes};
-pub use prediction::{Around, predict, predict_late};
+pub use prediction::{Around, predict, predict_in, predict_late, predict_signed};
 pub use quantisation::{QuantSet, SetLanes, context, context_near, early_sum, late_context};
 pub use residual::{fold, residual_of, sample_from, unfold};

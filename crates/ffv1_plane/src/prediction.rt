@@ -2,7 +2,7 @@
 
 ghost use Rattle.std.specs.Prelude.{◌≡◌, ◌≤◌, min, max};
 ghost use Rattle.ffv1_plane.specs.declared.prediction.Around.{Around};
-ghost use Rattle.ffv1_plane.specs.Prediction.{predicted};
+ghost use Rattle.ffv1_plane.specs.Prediction.{predicted, predicted_signed, predicted_in};
 
 /// The samples around a place, as RFC 9043, 3.1 and 3.2 names them: left, top, top left, top right,
 /// two to the left and two above.
@@ -42,4 +42,32 @@ pub fn predict_late(l: u16, t: u16, least: u16, most: u16) -> i32
         result ≡ predicted a }
 {
     (u32::from(l) + u32::from(t) - u32::from(l.max(least).min(most))) as i32
+}
+
+/// The prediction of a place among samples of 16 bits, which are read as signed numbers: the median
+/// of `l`, `t` and `l + t - tl` where a sample from 32768 on stands for itself less 65536 (RFC
+/// 9043, 3.3), from -32768 to 32767.
+#[inline(always)]
+pub fn predict_signed(around: &Around) -> i32
+    ensures { result ≡ predicted_signed around.now }
+{
+    let raised = Around {
+        l: around.l.wrapping_add(32768),
+        t: around.t.wrapping_add(32768),
+        tl: around.tl.wrapping_add(32768),
+        ..*around
+    };
+    predict(&raised) - 32768
+}
+
+/// The prediction of a place among samples of `bits` bits (RFC 9043, 3.3): at 16 bits that of
+/// `predict_signed`, else that of `predict`.
+#[inline(always)]
+pub fn predict_in(around: &Around, bits: u8) -> i32
+    ensures { result ≡ predicted_in bits around.now }
+{
+    if bits == 16 {
+        return predict_signed(around);
+    }
+    predict(around)
 }

@@ -113,7 +113,7 @@ kept floor i (d ∷ ds) fit held =
     )
 
 -- no width is above the first
-part_most : (i : Interval) (state : ℕ) (bit : Bool) → state < 256 → i.width ≤ 65280 → (part i state bit).width ≤ 65280
+pub part_most : (i : Interval) (state : ℕ) (bit : Bool) → state < 256 → i.width ≤ 65280 → (part i state bit).width ≤ 65280
 part_most i state true small most =
     let le = share_le i.width state small in omega arith
 part_most i state false small most = omega arith

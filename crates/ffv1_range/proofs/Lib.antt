@@ -24,10 +24,13 @@ pub mod OneTable
 pub mod Windows
 pub mod Growth
 pub mod Parts
+pub mod Enough
 pub mod Cost
+pub mod Renormalising
 pub mod CostLower
 pub mod HeldLists
 pub mod CostWritten
+pub mod FewDecisions
 pub mod SentinelByte
 pub mod OneValue
 pub mod OneAfter

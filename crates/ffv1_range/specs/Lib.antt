@@ -8,6 +8,7 @@ pub mod Symbols
 pub mod Signed
 pub mod History
 pub mod Weight
+pub mod Renormalising
 pub mod Counts
 pub mod Reading
 pub mod Among

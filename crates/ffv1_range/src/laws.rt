@@ -3,18 +3,21 @@
 ghost use Rattle.std.specs.Prelude.{◌≡◌, ◌≢◌, ℕ, ℤ, pos, unsigned_abs, ◌^◌, ◌*◌, ◌-◌, ◌+◌, ◌≤◌};
 ghost use Rattle.std.specs.Prelude.{◌<◌, List, [], ◌∷◌, ◌++◌, Bool, true, false, suc, length};
 ghost use Rattle.std.specs.Prelude.{replicate, take, drop};
-ghost use Rattle.ffv1_range.specs.Interval.{Interval, Decision, narrow, narrowed, interval_of};
+ghost use Rattle.ffv1_range.specs.Interval.{Interval, Decision, part, narrow, narrowed};
+ghost use Rattle.ffv1_range.specs.Interval.{interval_of};
 ghost use Rattle.ffv1_range.specs.Codes.{value, Codes, AreBytes, IsState, AreStates, ExactlyOne};
 ghost use Rattle.ffv1_range.specs.Codes.{IsOnlyList, sentinel_of, full_of};
 ghost use Rattle.ffv1_range.specs.Table.{Table, Holds, IsTable};
 ghost use Rattle.ffv1_range.specs.Symbols.{Step, exponent, sized_steps, decided, moved_by, shifted};
 ghost use Rattle.ffv1_range.specs.Symbols.{signed_steps, unsigned_steps, too_long, AreHeld};
 ghost use Rattle.ffv1_range.specs.Symbols.{AllHeld};
-ghost use Rattle.ffv1_range.specs.Weight.{weight, ones, zeros, AreHeldBy, sealed};
+ghost use Rattle.ffv1_range.specs.Weight.{weight, ones, zeros, IsHeld, AreHeldBy, sealed};
 ghost use Rattle.ffv1_range.specs.History.{state_of, decisions_after, AreBelow, AreOutside};
 ghost use Rattle.ffv1_range.specs.History.{HasStates};
 ghost use Rattle.ffv1_range.specs.Counts.{Counts, Counted, ones_in, zeros_in, saturated, total};
 ghost use Rattle.ffv1_range.specs.Counts.{uncounted};
+ghost use Rattle.ffv1_range.specs.Renormalising.{IsNormalised, parts_of, left_of, AreEnough};
+ghost use Rattle.ffv1_range.specs.Renormalising.{decisions_a_byte};
 ghost use Rattle.ffv1_range.specs.Standard.{default_state_transition, standard};
 ghost use Rattle.ffv1_range.specs.Generator.{generated};
 ghost use Rattle.ffv1_range.specs.Deltas.{IsTableOf};
@@ -346,4 +349,58 @@ pub fn counted_in_parts()
         Counted a (xs ++ ys) c }
     ensures shifted { (a b : Counts) (base : ℕ) (steps : List Step) → Counted a steps b →
         Counted a (shifted base steps) b }
+{}
+
+/// At states that a table of a floor m holds each decision leaves at most 1 - m² / (256 (m + 1)) of
+/// an interval's width, 35/36 by the standard's table. So `decisions_a_byte` of them in a row
+/// renormalise it at least once, 197 by the standard's table; and for each renormalisation, and
+/// once more, there are fewer than so many.
+pub fn decisions_renormalise()
+    ensures normalised { (ds : List Decision) → AreStates ds → IsNormalised (interval_of ds) }
+    ensures stays { (i : Interval) (state : ℕ) (bit : Bool) → IsState state → IsNormalised i →
+        IsNormalised (narrow i state bit) }
+    ensures each { (floor : ℕ) (i : Interval) (state : ℕ) (bit : Bool) → 0 < floor →
+        IsHeld floor state → 256 ≤ i.width →
+        parts_of floor * (part i state bit).width ≤ left_of floor * i.width }
+    ensures each_of_standard { (i : Interval) (state : ℕ) (bit : Bool) →
+        IsHeld standard.floor state → 256 ≤ i.width →
+        36 * (part i state bit).width ≤ 35 * i.width }
+    ensures enough { (floor : ℕ) → 0 < floor → floor ≤ 128 →
+        AreEnough floor (decisions_a_byte floor) }
+    ensures least { (floor n : ℕ) → AreEnough floor n → decisions_a_byte floor ≤ n }
+    ensures of_standard { decisions_a_byte standard.floor ≡ 197 }
+    ensures of_lowest { decisions_a_byte 1 ≡ 2835 }
+    ensures of_highest { decisions_a_byte 128 ≡ 9 }
+    ensures once { (floor : ℕ) (i : Interval) (ds : List Decision) → 0 < floor → floor ≤ 128 →
+        IsNormalised i → AreHeldBy floor ds → decisions_a_byte floor ≤ length ds →
+        i.count < (narrowed i ds).count }
+    ensures few { (floor : ℕ) (i : Interval) (ds : List Decision) → 0 < floor → floor ≤ 128 →
+        IsNormalised i → AreHeldBy floor ds →
+        length ds < decisions_a_byte floor * ((narrowed i ds).count - i.count + 1) }
+{}
+
+/// The same of the decisions of a history, of a decoder's and of an encoder's: fewer than
+/// `decisions_a_byte` for each renormalisation, and once more. Counters show no more decisions than
+/// there were.
+pub fn decisions_by_renormalisations()
+    ensures history { (t : Table) (past : List Step) → IsTable t.floor t.one →
+        length past <
+        decisions_a_byte t.floor * ((interval_of (decisions_after t [] past)).count - 2 + 1) }
+    ensures decoded { (t : Table) (r : Reading) (past : List Step) → IsTable t.floor t.one →
+        At r (interval_of (decisions_after t [] past)) → r.renormalisations < 2 ^ 64 - 1 →
+        length past < decisions_a_byte t.floor * (r.renormalisations + 1) }
+    ensures read { (t : Table) (i : Interval) (old : Reading) (states : List ℕ) (new : Reading)
+        (after : List ℕ) (steps : List Step) → IsTable t.floor t.one → AllHeld t states →
+        AreBelow steps (length states) → IsNormalised i → At old i →
+        Follows t old states new after steps → new.renormalisations < 2 ^ 64 - 1 →
+        length steps <
+        decisions_a_byte t.floor * (new.renormalisations - old.renormalisations + 1) }
+    ensures written { (t : Table) (old : Writing) (states : List ℕ) (new : Writing)
+        (after : List ℕ) (steps : List Step) → IsTable t.floor t.one → AllHeld t states →
+        AreBelow steps (length states) → IsNormalised old.interval →
+        Puts t old states new after steps →
+        length steps <
+        decisions_a_byte t.floor * (new.interval.count - old.interval.count + 1) }
+    ensures counted { (steps : List Step) (c : Counts) → Counted uncounted steps c →
+        total c ≤ length steps }
 {}

@@ -6,3 +6,4 @@ pub mod Masks
 pub mod Places
 pub mod Rounded
 pub mod Vectors
+pub mod WordLines

@@ -14,7 +14,7 @@ abbrev pub right : ℕ → ℕ → ℕ
 right x places = x / 2 ^ places
 
 pub coded_rounded : (r g b : ℕ) → r < 256 → g < 256 → b < 256 → IsCoded r g b (right (plus (plus r (plus g g)) b) 2) (plus b (minus 256 g)) (plus r (minus 256 g))
-coded_rounded r g b lr lg lb = coded_if_summed r g b _ _ _ record { luma = omega arith; blue = omega arith; red = omega arith }
+coded_rounded r g b lr lg lb = coded_if_summed 8 r g b _ _ _ record { luma = omega arith; blue = omega arith; red = omega arith }
 
 abbrev pub green_of : ℕ → ℕ → ℕ → ℕ
 green_of y cb cr = minus (plus y 128) (right (plus cb cr) 2)
@@ -45,8 +45,8 @@ colour_rounded y cb cr ly lb lr sr sg sb =
     let b = other_of cb y cb cr in
     let sums = summed_rounded y cb cr r g b ly lb lr refl refl refl sr sg sb in
     let luma = luma_rounded y cb cr r g b ly refl sums.0 sums.1 sr sg sb in
-    let coded = coded_if_summed r g b y cb cr record { luma = luma; blue = sums.0; red = sums.1 } in
+    let coded = coded_if_summed 8 r g b y cb cr record { luma = luma; blue = sums.0; red = sums.1 } in
     record {
       colour = record { red = sr; green = sg; blue = sb; coded = coded };
-      only = λ s h d is. only_colour r g b s h d y cb cr coded is;
+      only = λ s h d is. only_colour 8 r g b s h d y cb cr coded is;
     }

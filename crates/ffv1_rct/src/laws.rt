@@ -1,9 +1,10 @@
 //! Laws of the transform.
 
 ghost use Rattle.std.specs.Prelude.{ℕ, ℤ, pos, List, ◌≡◌, ◌<◌, slice_index, ◌≤ℤ◌, ◌<ℤ◌, ◌+ℤ◌, ◌*ℤ◌};
-ghost use Rattle.std.specs.Prelude.{length};
-ghost use Rattle.ffv1_rct.specs.Transform.{quarter_below, IsCoded, IsColour};
-ghost use Rattle.ffv1_rct.specs.Lines.{AreCoded, lumas, chromas};
+ghost use Rattle.std.specs.Prelude.{length, ◌^◌, ◌+◌};
+ghost use Rattle.ffv1_rct.specs.Transform.{quarter_below, IsCoded, IsColour, IsCodedIn};
+ghost use Rattle.ffv1_rct.specs.Transform.{IsColourIn};
+ghost use Rattle.ffv1_rct.specs.Lines.{AreCoded, AreCodedIn, lumas, chromas, chromas_in};
 
 /// The quarter of the definition is rounded down, for negative numbers too.
 pub fn rounds_down()
@@ -57,4 +58,52 @@ pub fn lists()
     ensures luma_long { (r g b : List ℕ) → length g ≡ length r → length b ≡ length r →
         length (lumas r g b) ≡ length r }
     ensures chroma_long { (v g : List ℕ) → length g ≡ length v → length (chromas v g) ≡ length v }
+{}
+
+/// At any depth the transform of a place determines its red, green and blue, and they determine the
+/// transform.
+pub fn only_in()
+    ensures colour { (depth r g b s h d y cb cr : ℕ) → IsCodedIn depth r g b y cb cr →
+        IsCodedIn depth s h d y cb cr → (s ≡ r) × (h ≡ g) × (d ≡ b) }
+    ensures coded { (depth r g b y cb cr z db dr : ℕ) → IsCodedIn depth r g b y cb cr →
+        IsCodedIn depth r g b z db dr → (z ≡ y) × (db ≡ cb) × (dr ≡ cr) }
+{}
+
+/// At any depth the inverse of a line's transform is the line itself, and so is the transform of its
+/// inverse.
+pub fn lines_in()
+    ensures inverse { (depth n : ℕ) (r g b s h d y cb cr : List ℕ) → length r ≡ n →
+        length g ≡ n → length b ≡ n → length s ≡ n → length h ≡ n → length d ≡ n
+        → AreCodedIn depth n r g b y cb cr → AreCodedIn depth n s h d y cb cr
+        → (s ≡ r) × (h ≡ g) × (d ≡ b) }
+    ensures forward { (depth n : ℕ) (r g b y cb cr z db dr : List ℕ) → length y ≡ n →
+        length cb ≡ n → length cr ≡ n → length z ≡ n → length db ≡ n → length dr ≡ n
+        → AreCodedIn depth n r g b y cb cr → AreCodedIn depth n r g b z db dr
+        → (z ≡ y) × (db ≡ cb) × (dr ≡ cr) }
+{}
+
+/// The transform of a place whose red, green and blue are below 2^depth: Y is below 2^depth, Cb and
+/// Cr lie from 1 to 2^(depth+1) - 1.
+pub fn small_in()
+    ensures luma { (depth r g b y cb cr : ℕ) → IsColourIn depth y cb cr r g b → y < 2 ^ depth }
+    ensures blue { (depth r g b y cb cr : ℕ) → IsColourIn depth y cb cr r g b →
+        (0 < cb) × (cb < 2 ^ (depth + 1)) }
+    ensures red { (depth r g b y cb cr : ℕ) → IsColourIn depth y cb cr r g b →
+        (0 < cr) × (cr < 2 ^ (depth + 1)) }
+{}
+
+/// The transform of a line as lists, at any depth: lines that are the transform at each place are
+/// these lists, and of lines below 2^depth these lists are the transform at each place, of the same
+/// length.
+pub fn lists_in()
+    ensures lists { (depth n : ℕ) (r g b y cb cr : List ℕ) → length r ≡ n → length g ≡ n →
+        length b ≡ n → length y ≡ n → length cb ≡ n → length cr ≡ n
+        → AreCodedIn depth n r g b y cb cr
+        → (y ≡ lumas r g b) × (cb ≡ chromas_in depth b g) × (cr ≡ chromas_in depth r g) }
+    ensures coded { (depth n : ℕ) (r g b : List ℕ) → length r ≡ n → length g ≡ n → length b ≡ n
+        → ((x : ℕ) → slice_index r x < 2 ^ depth) → ((x : ℕ) → slice_index g x < 2 ^ depth) →
+        ((x : ℕ) → slice_index b x < 2 ^ depth)
+        → AreCodedIn depth n r g b (lumas r g b) (chromas_in depth b g) (chromas_in depth r g) }
+    ensures chroma_long { (depth : ℕ) (v g : List ℕ) → length g ≡ length v →
+        length (chromas_in depth v g) ≡ length v }
 {}

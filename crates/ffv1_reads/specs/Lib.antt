@@ -1,5 +1,6 @@
 pub mod Head
 pub mod Reads
+pub mod Room
 pub mod Ends
 pub mod Known
 pub mod First

@@ -1,10 +1,13 @@
 //! Bytes are taken, passed and kept.
 
-ghost use Rattle.std.specs.Prelude.{◌≡◌, ◌+◌, ◌<◌, ◌≤◌, IfOk, OnErr, OnOk, drop, length, take};
+ghost use Rattle.std.specs.Prelude.{◌≡◌, ◌+◌, ◌<◌, ◌≤◌, ◌++◌, IfOk, OnErr, OnOk, drop, length};
+ghost use Rattle.std.specs.Prelude.{max, replicate, take};
+ghost use Rattle.std.specs.Vec.{vec_capacity};
 ghost use Rattle.ffv1_wire.specs.Failures.{Counted};
 ghost use Rattle.ffv1_wire.specs.Passage.{passage};
 ghost use Rattle.ffv1_wire.specs.Reads.{Fills, FillsBeginning};
 ghost use Rattle.ffv1_reads.specs.First.{passage_with};
+ghost use Rattle.ffv1_reads.specs.Room.{HasRoom};
 ghost use Rattle.ffv1_reads.specs.Reads.{Answers, AppendsSome, Begins, Kept, appended, passed};
 ghost use Rattle.ffv1_reads.specs.Reads.{taken, wanted};
 
@@ -84,7 +87,19 @@ fn fill_from<R: ByteIn>(input: &mut R, done: usize, bytes: &mut [u8]) -> Result<
     read_full(input, &mut bytes[done..])
 }
 
-/// Reads `more` bytes, at least one, after those that the vector has.
+/// Appends so many bytes 0, for which there is room.
+fn push_zeros<A: Allocator>(bytes: &mut Vec<u8, A>, count: usize)
+    requires { length bytes.old.items + count ≤ vec_capacity bytes.old }
+    ensures items { bytes.new.items ≡ bytes.old.items ++ replicate count 0 }
+    ensures capacity { vec_capacity bytes.new ≡ vec_capacity bytes.old }
+{
+    for _ in 0..count {
+        bytes.push_reserved(0);
+    }
+}
+
+/// Reads `more` bytes, at least one, after those that the vector has. It has room then for as many
+/// as it had, or for these and those before, if that is more.
 ///
 /// `Truncated` where the input ends before, `Read` where a read failed, `OutOfMemory` where memory
 /// was refused for them; after a fault the vector holds a beginning of them after the others.
@@ -99,10 +114,13 @@ pub fn append<R: ByteIn, A: Allocator>(
     ensures err { OnErr result (AppendsSome (R.remaining input.old) more bytes.old.items
         bytes.new.items) }
     ensures long { OnOk result (length bytes.new.items ≡ length bytes.old.items + more) }
+    ensures grown { length bytes.old.items ≤ length bytes.new.items }
+    ensures room { vec_capacity bytes.new
+        ≤ max (vec_capacity bytes.old) (length bytes.old.items + more) }
 {
     let done = bytes.len();
     bytes.reserve_exact(more)?;
-    bytes.resize(done + more, 0)?;
+    push_zeros(bytes, more);
     match fill_from(input, done, bytes.as_mut_slice()) {
         Ok(len) => {
             if len < more {
@@ -119,7 +137,9 @@ pub fn append<R: ByteIn, A: Allocator>(
 }
 
 /// Reads `size` bytes in place of what the vector has. Room is made bit by bit, each time for at
-/// most as many bytes as were read so far and 65536 more, and never beyond `size`.
+/// most as many bytes as were read so far and 65536 more, and never beyond `size`. The vector has
+/// room then for as many as it had, or as it holds, if that is more; after a fault at most for as
+/// many as it had, or for the lesser of `size` and of twice those that it holds and 65536.
 ///
 /// `Truncated` where the input ends before, `Read` where a read failed, `OutOfMemory` where memory
 /// was refused for the next of them; after a fault the vector holds a beginning of the bytes.
@@ -132,6 +152,9 @@ pub fn fill<R: ByteIn, A: Allocator>(
         (passage R.remaining R.failures input.old input.new) result }
     ensures err { OnErr result (Begins (R.remaining input.old) size bytes.new.items) }
     ensures long { OnOk result (length bytes.new.items ≡ size) }
+    ensures room { HasRoom (vec_capacity bytes.old) (vec_capacity bytes.new)
+        (length bytes.new.items) result }
+    ensures limit { vec_capacity bytes.new ≤ max (vec_capacity bytes.old) size }
 {
     bytes.clear();
     while bytes.len() < size {

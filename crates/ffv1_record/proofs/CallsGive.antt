@@ -1,5 +1,5 @@
 -- What calls give one after the other.
-use Rattle.std.proofs.Common.{◌≡◌, IfErr, refl, ℕ, ◌^◌, ◌<◌, ◌≤◌, inl, inr, Bool, true, false, IsTrue, IsFalse, List, [], ◌∷◌, length, arith, ℤ, Result, Ok, Err, rules, nat_le, ◌&&◌, ◌||◌, ◌==◌}
+use Rattle.std.proofs.Common.{◌≡◌, IfErr, refl, ℕ, ◌^◌, ◌<◌, ◌≤◌, inl, inr, Bool, true, false, IsTrue, IsFalse, List, [], ◌∷◌, length, arith, ℤ, Result, Ok, Err, rules, nat_le, ◌&&◌}
 use Rattle.std.specs.Result.{IsErrAnd}
 use Rattle.std.proofs.lemmas.Result.{err_from_is_err_and}
 use Rattle.std.proofs.lemmas.Bool.{le-leb}
@@ -14,6 +14,8 @@ use Rattle.ffv1_range.proofs.Unsigned.{unsigned_below}
 use Rattle.ffv1_record.specs.declared.fault.RecordFault.{RecordFault}
 use Rattle.ffv1_record.specs.declared.fault.RecordFault.TheVariants as fault
 use Rattle.ffv1_record.specs.Reader.{Reader, behind, ◌>>=◌, done, require, number, signed_number, truth, number_within, makes_table}
+use Rattle.ffv1_record.specs.Accepted.{is_depth}
+use Rattle.ffv1_record.specs.Record.{depth_of}
 use Rattle.ffv1_record.specs.Reading.{depth, coder_of, deltas_onto}
 use Rattle.ffv1_range.specs.Table.{Table}
 use Rattle.ffv1_range.specs.Deltas.{IsTableOf, HaveNoTable}
@@ -177,14 +179,11 @@ pub stop : {X Y V W : Type 0} {first : Reader X} {next : X → Reader Y} {view :
 stop {first = first} {next = next} {view = view} {seen = seen} {a = a} {b = b} {c = c} {f = f} one = gives_stop first next view seen a b c f one
 
 -- bits_per_raw_sample
-pub gives_depth : (a b : Source) (n : ℕ) → Gives (λ x. x) (number 0) a b (Ok n) → IsTrue ((n == 0) || (n == 8)) → Gives (λ x. x) depth a b (Ok n)
-gives_depth a b n one good = and_then one (gives_required ((n == 0) || (n == 8)) fault.Depth (λ _. done n) (λ x. x) b b (Ok n) good (gives_done (λ x. x) b n))
+pub gives_depth : (most : ℕ) (rct : Bool) (a b : Source) (n : ℕ) → Gives (λ x. x) (number 0) a b (Ok n) → IsTrue (is_depth most rct (depth_of n)) → Gives (λ x. x) (depth most rct) a b (Ok (depth_of n))
+gives_depth most rct a b n one good = and_then one (gives_required (is_depth most rct (depth_of n)) fault.Depth (λ _. done (depth_of n)) (λ x. x) b b (Ok (depth_of n)) good (gives_done (λ x. x) b (depth_of n)))
 
-pub refuses_depth : (a b : Source) (n : ℕ) → Gives (λ x. x) (number 0) a b (Ok n) → IsFalse ((n == 0) || (n == 8)) → Gives {Y = ℕ} (λ x. x) depth a b (Err fault.Depth)
-refuses_depth a b n one bad = and_then one (gives_refused ((n == 0) || (n == 8)) fault.Depth (λ _. done n) (λ x. x) b b bad)
-
-pub other_depth : (n : ℕ) → (n ≡ 0 → ⊥) → (n ≡ 8 → ⊥) → IsFalse ((n == 0) || (n == 8))
-other_depth n zero eight = grind (arith, nat_tests)
+pub refuses_depth : (most : ℕ) (rct : Bool) (a b : Source) (n : ℕ) → Gives (λ x. x) (number 0) a b (Ok n) → IsFalse (is_depth most rct (depth_of n)) → Gives {Y = ℕ} (λ x. x) (depth most rct) a b (Err fault.Depth)
+refuses_depth most rct a b n one bad = and_then one (gives_refused (is_depth most rct (depth_of n)) fault.Depth (λ _. done (depth_of n)) (λ x. x) b b bad)
 
 -- a run of a table
 pub gives_run : (a b : Source) (states after : List ℕ) (n most : ℕ) → GivesIn number a states b after (Ok n) → n ≤ most → GivesIn (λ base. number_within base 0 most fault.Runs) a states b after (Ok n)

@@ -1,15 +1,19 @@
 -- What the checks of a configuration say of its numbers.
-use Rattle.std.proofs.Common.{◌≡◌, refl, ℕ, suc, ◌∷◌, [], length, get_or, ◌<◌, ◌≤◌, inl, inr, Bool, true, false, ◌&&◌, ◌||◌, not, ◌==◌, nat_le, IsTrue, IsFalse, rules, arith, List, ap, ◌^◌, ℤ, pos, negsuc}
+use Rattle.std.proofs.Common.{◌≡◌, refl, sym, ◌⊎◌, ℕ, zero, suc, ◌∷◌, [], length, get_or, ◌<◌, ◌≤◌, inl, inr, Bool, true, false, ◌&&◌, ◌||◌, not, ◌==◌, nat_le, IsTrue, IsFalse, rules, arith, List, ap, ◌^◌, ℤ, pos, negsuc}
 use Rattle.std.specs.Int.{w32}
 use mir.Val.{SFits}
 use Rattle.std.proofs.Math.IntN.{nat_abs}
 use Rattle.std.proofs.lemmas.Int.{ints}
-use Rattle.std.proofs.lemmas.Bool.{leb-true, cases_eq}
+use Rattle.std.proofs.lemmas.Bool.{le-leb, leb-true, cases_eq}
+use Rattle.std.proofs.lemmas.Bool.Decides.{nat_tests}
 use Rattle.ffv1_range.specs.Table.{Table}
 use Rattle.ffv1_range.specs.Deltas.{IsTableOf, HaveNoTable}
 use Rattle.ffv1_record.specs.Configuration.{Configuration, is_rct}
 use Rattle.ffv1_record.specs.Writable.{AreDeltas}
-use Rattle.ffv1_record.specs.Accepted.{is_sized, is_subsampled, is_divided}
+use Rattle.ffv1_record.specs.Record.{depth_of}
+use Rattle.ffv1_record.specs.Accepted.{is_sized, is_depth, deepest, is_subsampled, is_divided}
+use Rattle.ffv1_record.specs.declared.config.Profile.{Profile}
+use Rattle.ffv1_record.specs.declared.config.Profile.TheVariants as profile
 
 pub both : (a b : Bool) → IsTrue (a && b) → IsTrue a × IsTrue b
 both true b h = (refl, h)
@@ -37,6 +41,47 @@ sized c h =
       some_high = leb-true 1 c.height high.0;
       high = leb-true c.height 8192 high.1;
     }
+
+-- a depth is from 8 to 16, and 16 is without RCT
+pub depth_bounds : (most : ℕ) (rct : Bool) (n : ℕ) → IsTrue (is_depth most rct n) → (8 ≤ n) × (n ≤ 16) × (n ≤ most)
+depth_bounds most rct n h =
+    let parts = both (nat_le n most) ((n == 8) || (n == 9) || (n == 10) || (n == 12) || (n == 14) || ((n == 16) && not rct)) h in
+    (least rct n parts.1, greatest rct n parts.1, leb-true n most parts.0)
+  where
+    least : (rct : Bool) (n : ℕ) → IsTrue ((n == 8) || (n == 9) || (n == 10) || (n == 12) || (n == 14) || ((n == 16) && not rct)) → 8 ≤ n
+    least rct n h = grind (arith, nat_tests)
+
+    greatest : (rct : Bool) (n : ℕ) → IsTrue ((n == 8) || (n == 9) || (n == 10) || (n == 12) || (n == 14) || ((n == 16) && not rct)) → n ≤ 16
+    greatest rct n h = grind (arith, nat_tests)
+
+-- a depth is one up to each greatest one that it does not pass
+pub depth_up_to : (most other : ℕ) (rct : Bool) (n : ℕ) → IsTrue (is_depth most rct n) → n ≤ other → IsTrue (is_depth other rct n)
+depth_up_to most other rct n h low = rw (le-leb n other low) (both (nat_le n most) ((n == 8) || (n == 9) || (n == 10) || (n == 12) || (n == 14) || ((n == 16) && not rct)) h).1
+
+-- a depth of a profile is at most the greatest one that the profile has
+pub deepest_few : (p : Profile) (most : ℕ) (rct : Bool) (n : ℕ) → IsTrue (is_depth (deepest p most) rct n) → n ≤ deepest p 16
+deepest_few profile.Strict most rct n h = (depth_bounds 8 rct n h).2
+deepest_few profile.Wide most rct n h = (depth_bounds most rct n h).1
+
+-- the bits of a depth, and the depth of bits
+pub depth_known : (bits depth : ℕ) → depth_of bits ≡ depth → (bits ≡ depth) ⊎ ((bits ≡ 0) × (depth ≡ 8))
+depth_known zero depth is = inr (refl, sym is)
+depth_known (suc n) depth is = inl is
+
+pub known_depth : (bits depth : ℕ) → (bits ≡ depth) ⊎ ((bits ≡ 0) × (depth ≡ 8)) → 8 ≤ depth → depth_of bits ≡ depth
+known_depth zero depth known deep = elim known [
+  | inl none ↦ absurd (omega arith)
+  | inr eight ↦ sym eight.1
+]
+known_depth (suc n) depth known deep = elim known [
+  | inl is ↦ is
+  | inr none ↦ absurd (omega (arith, none.0))
+]
+
+-- bits that stand for a depth are at most that depth
+pub bits_few : (bits : ℕ) → bits ≤ depth_of bits
+bits_few zero = omega arith
+bits_few (suc n) = omega arith
 
 -- columns and rows are from 1 to 32
 pub record Divided (c : Configuration) : Type 0 where

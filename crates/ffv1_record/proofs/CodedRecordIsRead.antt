@@ -1,5 +1,5 @@
 -- The same of all parameters.
-use Rattle.std.proofs.Common.{◌≡◌, refl, ℕ, zero, suc, ◌+◌, ◌-◌, ◌*◌, ◌^◌, ◌<◌, ◌≤◌, ◌⊎◌, inl, inr, Bool, true, false, not, IsTrue, nat_lt, nat_le, ◌&&◌, ◌||◌, ◌==◌, List, [], ◌∷◌, ◌++◌, length, sum, append_assoc, append-nil, ap, sym, ◌∙◌, arith, ℤ, rules}
+use Rattle.std.proofs.Common.{◌≡◌, refl, ℕ, zero, suc, ◌+◌, ◌-◌, ◌*◌, ◌^◌, ◌<◌, ◌≤◌, Bool, true, false, not, IsTrue, nat_lt, nat_le, ◌&&◌, ◌||◌, ◌==◌, List, [], ◌∷◌, ◌++◌, length, sum, append_assoc, append-nil, ap, sym, subst, ◌∙◌, arith, ℤ, rules}
 use Rattle.std.specs.List.{list_all, fold}
 use Rattle.std.proofs.lemmas.Bool.{le-leb, ltb-true, leb-true, eqb-true}
 use Rattle.ffv1_range.specs.Codes.{AreBytes}
@@ -16,12 +16,12 @@ use Rattle.ffv1_record.specs.declared.config.Colour.TheVariants as colour
 use Rattle.ffv1_record.specs.declared.planes.Planes.{Planes}
 use Rattle.ffv1_record.specs.Configuration.{Configuration, is_rct}
 use Rattle.ffv1_record.specs.Sets.{AreSets}
-use Rattle.ffv1_record.specs.Accepted.{IsTableFor, IsAccepted}
-use Rattle.ffv1_record.specs.Record.{number_steps, signed_number_steps, truth_steps, deltas_steps, coder_steps, runs_steps, set_steps, sets_steps, uncoded_steps, opening_steps, planes_steps, tables_steps, record_steps}
+use Rattle.ffv1_record.specs.Accepted.{IsTableFor, IsAccepted, is_depth, has_depth}
+use Rattle.ffv1_record.specs.Record.{number_steps, signed_number_steps, truth_steps, deltas_steps, coder_steps, runs_steps, set_steps, sets_steps, uncoded_steps, opening_steps, planes_steps, tables_steps, record_steps, depth_of}
 use Rattle.ffv1_record.specs.Writable.{AreDeltas, IsWritable}
 use Rattle.ffv1_record.specs.Reader.{Spot, behind, ◌>>=◌, done, require, next_table, number, signed_number, truth, number_within, makes_table}
 use Rattle.ffv1_record.specs.Reading.{deltas_onto, coder_of, opening, colour_of, depth, planes, count_of, runs_onto, table, set, sets_onto, uncoded, tables, flag, parameters, beginning}
-use Rattle.ffv1_record.proofs.Checks.{both, divided, subsampled}
+use Rattle.ffv1_record.proofs.Checks.{both, divided, subsampled, depth_bounds, depth_up_to, bits_few}
 use Rattle.ffv1_record.proofs.CodedIsRead.{Forces, forced_then, forced_as, forced_done, forced_require, forced_number, forced_signed, forced_truth, forced_next, forced_makes, forced_within, same_spot, spot_of}
 
 -- steps in two parts, and then more
@@ -66,17 +66,14 @@ module _ (b : List ℕ) (are : AreBytes b) where
       (forced_kind v c t is writable)))
       refl (ap (λ p. spot_of p s.fresh) (append_assoc (s.past ++ number_steps 0 3) (number_steps 0 4) (coder_steps c) ∙ append_assoc s.past (number_steps 0 3) (number_steps 0 4 ++ coder_steps c) ∙ ap (λ q. s.past ++ q) (sym (append_assoc (number_steps 0 3) (number_steps 0 4) (coder_steps c)))))
 
-  pub forced_depth : (s : Spot) (bits : ℕ) → (bits ≡ 8) ⊎ (bits ≡ 0) → Forces depth b s bits (behind s (number_steps 0 bits))
-  forced_depth s bits known =
+  pub forced_depth : (most : ℕ) (rct : Bool) (s : Spot) (bits : ℕ) → IsTrue (is_depth most rct (depth_of bits)) → Forces (depth most rct) b s (depth_of bits) (behind s (number_steps 0 bits))
+  forced_depth most rct s bits deep =
       let t = behind s (number_steps 0 bits) in
-      forced_then b are (number 0) (λ n. require ((n == 0) || (n == 8)) fault.Depth >>= λ _. done n) s t t bits bits [] (sym (append-nil t.past)) (forced_number b are 0 s bits (small bits known))
-      (forced_then b are (require ((bits == 0) || (bits == 8)) fault.Depth) (λ _. done bits) t t t true bits [] (sym (append-nil t.past)) (forced_require b t ((bits == 0) || (bits == 8)) fault.Depth (test bits known)) (forced_done b t bits))
-    where
-      small : (bits : ℕ) → (bits ≡ 8) ⊎ (bits ≡ 0) → bits < 2 ^ 31
-      small bits known = elim known [ inl e ↦ omega arith | inr e ↦ omega arith ]
-
-      test : (bits : ℕ) → (bits ≡ 8) ⊎ (bits ≡ 0) → IsTrue ((bits == 0) || (bits == 8))
-      test bits known = elim known [ inl e ↦ rw e refl | inr e ↦ rw e refl ]
+      let bounds = (depth_bounds most rct (depth_of bits) deep).1 in
+      let few = bits_few bits in
+      let small : bits < 2 ^ 31 = omega (arith, few, bounds) in
+      forced_then b are (number 0) (λ n. require (is_depth most rct (depth_of n)) fault.Depth >>= λ _. done (depth_of n)) s t t bits (depth_of bits) [] (sym (append-nil t.past)) (forced_number b are 0 s bits small)
+      (forced_then b are (require (is_depth most rct (depth_of bits)) fault.Depth) (λ _. done (depth_of bits)) t t t true (depth_of bits) [] (sym (append-nil t.past)) (forced_require b t (is_depth most rct (depth_of bits)) fault.Depth deep) (forced_done b t (depth_of bits)))
 
   forced_count : (s : Spot) (n : ℕ) → 1 ≤ n → n ≤ 32 → Forces count_of b s n (behind s (number_steps 0 (n - 1)))
   forced_count s n some few =
@@ -262,7 +259,7 @@ module _ (b : List ℕ) (are : AreBytes b) where
       (forced_then b are (uncoded (length ss)) (λ _. done ss) u v v true ss [] (sym (append-nil v.past)) (forced_uncoded b are (length ss) u) (forced_done b v ss))))
       refl (ap (λ p. spot_of p (s.fresh + 160 * length ss)) (three_tail s.past count (sets_steps s.fresh ss) free))
 
-colour_back : (c : Colour) → colour_of (one_if (is_rct c)) ≡ c
+pub colour_back : (c : Colour) → colour_of (one_if (is_rct c)) ≡ c
 colour_back colour.YCbCr = refl
 colour_back colour.Rct = refl
 
@@ -271,11 +268,11 @@ colour_few colour.YCbCr = omega arith
 colour_few colour.Rct = omega arith
 
 abbrev planes_in : Configuration → Planes
-planes_in c = record { colour = c.colour; chroma_planes = c.chroma_planes; extra_plane = c.extra_plane; log2_h = c.log2_h; log2_v = c.log2_v }
+planes_in c = record { colour = c.colour; depth = c.depth; chroma_planes = c.chroma_planes; extra_plane = c.extra_plane; log2_h = c.log2_h; log2_v = c.log2_v }
 
 module _ (b : List ℕ) (are : AreBytes b) where
-  forced_planes : (s : Spot) (bits : ℕ) (c : Configuration) → (bits ≡ 8) ⊎ (bits ≡ 0) → c.log2_h ≤ 2 → c.log2_v ≤ 2 → IsTrue (c.chroma_planes || not c.extra_plane) → Forces planes b s (planes_in c) (behind s (planes_steps bits c))
-  forced_planes s bits c known low_h low_v suits =
+  forced_planes : (most : ℕ) (s : Spot) (bits : ℕ) (c : Configuration) → depth_of bits ≡ c.depth → IsTrue (has_depth most c) → c.log2_h ≤ 2 → c.log2_v ≤ 2 → IsTrue (c.chroma_planes || not c.extra_plane) → Forces (planes most) b s (planes_in c) (behind s (planes_steps bits c))
+  forced_planes most s bits c known deep low_h low_v suits =
       let kind = one_if (is_rct c.colour) in
       let tiny = colour_few c.colour in
       let kind_small : kind < 2 ^ 31 = omega (arith, tiny) in
@@ -293,21 +290,22 @@ module _ (b : List ℕ) (are : AreBytes b) where
       let four = behind three h_steps in
       let five = behind four v_steps in
       let six = behind five e_steps in
-      let read : Planes = record { colour = colour_of kind; chroma_planes = c.chroma_planes; extra_plane = c.extra_plane; log2_h = c.log2_h; log2_v = c.log2_v } in
-      forced_as planes b s six (behind s (planes_steps bits c)) read (planes_in c)
+      let here : IsTrue (is_depth most (is_rct (colour_of kind)) (depth_of bits)) = subst (λ n. IsTrue (is_depth most (is_rct (colour_of kind)) n)) (sym known) (subst (λ (z : Colour). IsTrue (is_depth most (is_rct z) c.depth)) (sym (colour_back c.colour)) deep) in
+      let read : Planes = record { colour = colour_of kind; depth = depth_of bits; chroma_planes = c.chroma_planes; extra_plane = c.extra_plane; log2_h = c.log2_h; log2_v = c.log2_v } in
+      forced_as (planes most) b s six (behind s (planes_steps bits c)) read (planes_in c)
       (forced_then b are (number_within 0 0 1 fault.ColourSpace) _ s one six kind read (d_steps ++ c_steps ++ h_steps ++ v_steps ++ e_steps) (five_tail one.past d_steps c_steps h_steps v_steps e_steps)
       (forced_within b are 0 0 1 fault.ColourSpace s kind kind_small (omega arith) tiny)
-      (forced_then b are depth _ one two six bits read (c_steps ++ h_steps ++ v_steps ++ e_steps) (four_tail two.past c_steps h_steps v_steps e_steps) (forced_depth b are one bits known)
+      (forced_then b are (depth most (is_rct (colour_of kind))) _ one two six (depth_of bits) read (c_steps ++ h_steps ++ v_steps ++ e_steps) (four_tail two.past c_steps h_steps v_steps e_steps) (forced_depth b are most (is_rct (colour_of kind)) one bits here)
       (forced_then b are truth _ two three six c.chroma_planes read (h_steps ++ v_steps ++ e_steps) (three_tail three.past h_steps v_steps e_steps) (forced_truth b are two c.chroma_planes)
       (forced_then b are (number 0) _ three four six c.log2_h read (v_steps ++ e_steps) (append_assoc four.past v_steps e_steps) (forced_number b are 0 three c.log2_h h_small)
       (forced_then b are (number 0) _ four five six c.log2_v read e_steps refl (forced_number b are 0 four c.log2_v v_small)
       (forced_then b are truth _ five six six c.extra_plane read [] (sym (append-nil six.past)) (forced_truth b are five c.extra_plane)
       (forced_then b are (require (c.chroma_planes || not c.extra_plane) fault.ExtraPlane) (λ _. done read) six six six true read [] (sym (append-nil six.past))
       (forced_require b six (c.chroma_planes || not c.extra_plane) fault.ExtraPlane suits) (forced_done b six read))))))))
-      (ap (λ (z : Colour). read_with z) (colour_back c.colour)) (ap (λ p. spot_of p s.fresh) (six_tail s.past k_steps d_steps c_steps h_steps v_steps e_steps))
+      (ap (λ (z : Colour). read_with z (depth_of bits)) (colour_back c.colour) ∙ ap (read_with c.colour) known) (ap (λ p. spot_of p s.fresh) (six_tail s.past k_steps d_steps c_steps h_steps v_steps e_steps))
     where
-      read_with : Colour → Planes
-      read_with z = record { colour = z; chroma_planes = c.chroma_planes; extra_plane = c.extra_plane; log2_h = c.log2_h; log2_v = c.log2_v }
+      read_with : Colour → ℕ → Planes
+      read_with z n = record { colour = z; depth = n; chroma_planes = c.chroma_planes; extra_plane = c.extra_plane; log2_h = c.log2_h; log2_v = c.log2_v }
 
 whole_parts : (o q c r t e i : List Step) → o ++ q ++ c ++ r ++ t ++ e ++ i ≡ o ++ q ++ (c ++ r) ++ t ++ (e ++ i)
 whole_parts o q c r t e i = simp append_assoc refl
@@ -332,9 +330,9 @@ counted n h =
     (leb-true 1 n parts.0, leb-true n 8 parts.1)
 
 module _ (b : List ℕ) (are : AreBytes b) where
-  pub forced_parameters : (bits : ℕ) (c : Configuration) (t : Table) → (bits ≡ 8) ⊎ (bits ≡ 0) → IsAccepted c t → IsWritable c.coder → Forces (parameters c.width c.height) b beginning c (ending_of bits c)
+  pub forced_parameters : (most : ℕ) (bits : ℕ) (c : Configuration) (t : Table) → depth_of bits ≡ c.depth → c.depth ≤ most → IsAccepted c t → IsWritable c.coder → Forces (parameters most c.width c.height) b beginning c (ending_of bits c)
   unfolding ending_of
-  forced_parameters bits c t known is writable =
+  forced_parameters most bits c t known low is writable =
       let passes = is.passes in
       let factors = subsampled c passes.1.0 in
       let grid = divided c passes.1.1.1.1.1.0 in
@@ -354,7 +352,7 @@ module _ (b : List ℕ) (are : AreBytes b) where
       let six = behind five e in
       let seven = behind six i in
       forced_then b are opening _ beginning one seven c.coder c (q ++ l ++ r ++ x ++ e ++ i) (whole_tail o q l r x e i) (forced_opening b are beginning c.coder t is.table writable)
-      (forced_then b are planes _ one two seven (planes_in c) c (l ++ r ++ x ++ e ++ i) (five_tail two.past l r x e i) (forced_planes b are one bits c known factors.log2_h factors.log2_v passes.1.1.0)
+      (forced_then b are (planes most) _ one two seven (planes_in c) c (l ++ r ++ x ++ e ++ i) (five_tail two.past l r x e i) (forced_planes b are most one bits c known (depth_up_to 16 most (is_rct c.colour) c.depth is.depth low) factors.log2_h factors.log2_v passes.1.1.0)
       (forced_then b are count_of _ two three seven c.columns c (r ++ x ++ e ++ i) (four_tail three.past r x e i) (forced_count b are two c.columns grid.some_columns grid.columns)
       (forced_then b are count_of _ three four seven c.rows c (x ++ e ++ i) (three_tail four.past x e i) (forced_count b are three c.rows grid.some_rows grid.rows)
       (forced_then b are tables _ four five seven c.sets c (e ++ i) (append_assoc five.past e i) (forced_tables b are four c.sets is.sets some.0 some.1)

@@ -198,13 +198,13 @@ wrote_tables a b c d ss n one two three = record {
 }
 
 -- all parameters
-pub wrote_all : (a b c d e f : Target) (x : Configuration) → Holding a beginning → Wrote (λ _. opening_steps x) 0 a b → Wrote (λ _. planes_steps 8 x) 0 b c → Wrote (λ _. grid_steps x) 0 c d →
-    Wrote (λ k. number_steps 0 (length x.sets) ++ sets_steps k x.sets ++ uncoded_steps (length x.sets)) (160 * length x.sets) d e → Wrote (λ _. closing_steps x) 0 e f → (s : Spot) × (s.past ≡ record_steps 8 x) × Holding f s
+pub wrote_all : (a b c d e f : Target) (x : Configuration) → Holding a beginning → Wrote (λ _. opening_steps x) 0 a b → Wrote (λ _. planes_steps x.depth x) 0 b c → Wrote (λ _. grid_steps x) 0 c d →
+    Wrote (λ k. number_steps 0 (length x.sets) ++ sets_steps k x.sets ++ uncoded_steps (length x.sets)) (160 * length x.sets) d e → Wrote (λ _. closing_steps x) 0 e f → (s : Spot) × (s.past ≡ record_steps x.depth x) × Holding f s
 wrote_all a b c d e f x begun p q r u v =
-    let first = (wrote_on (opening_steps x ++ planes_steps 8 x) (grid_steps x) (wrote_on (opening_steps x) (planes_steps 8 x) p q) r).wrote beginning begun in
-    let second = u.wrote (record { past = [] ++ (opening_steps x ++ planes_steps 8 x ++ grid_steps x); fresh = 32 + 0 }) first in
-    let third = v.wrote (record { past = [] ++ (opening_steps x ++ planes_steps 8 x ++ grid_steps x) ++ tables_steps x; fresh = 32 + 0 + 160 * length x.sets }) second in
-    (record { past = [] ++ (opening_steps x ++ planes_steps 8 x ++ grid_steps x) ++ tables_steps x ++ closing_steps x; fresh = 32 + 0 + 160 * length x.sets + 0 }, refl, third)
+    let first = (wrote_on (opening_steps x ++ planes_steps x.depth x) (grid_steps x) (wrote_on (opening_steps x) (planes_steps x.depth x) p q) r).wrote beginning begun in
+    let second = u.wrote (record { past = [] ++ (opening_steps x ++ planes_steps x.depth x ++ grid_steps x); fresh = 32 + 0 }) first in
+    let third = v.wrote (record { past = [] ++ (opening_steps x ++ planes_steps x.depth x ++ grid_steps x) ++ tables_steps x; fresh = 32 + 0 + 160 * length x.sets }) second in
+    (record { past = [] ++ (opening_steps x ++ planes_steps x.depth x ++ grid_steps x) ++ tables_steps x ++ closing_steps x; fresh = 32 + 0 + 160 * length x.sets + 0 }, refl, third)
 
 -- an interval has at most a byte more for each decision
 narrow_count : (i : Interval) (state : ℕ) (bit : Bool) → (narrow i state bit).count ≤ i.count + 1
@@ -219,12 +219,12 @@ narrowed_count (d ∷ ds) i =
     omega arith
 
 -- what was written of all parameters is their bytes, and how many they are
-module _ (a f : Target) (x : Configuration) (bytes : List ℕ) (s : Spot) (past : s.past ≡ record_steps 8 x) (holding : Holding f s) where
+module _ (a f : Target) (x : Configuration) (bytes : List ℕ) (s : Spot) (past : s.past ≡ record_steps x.depth x) (holding : Holding f s) where
   pub bytes_are : ((s : Spot) → Holding f s → bytes ≡ full_of (interval_of (decisions_after standard [] s.past))) → bytes ≡ coded_of x
   bytes_are full = full s holding ∙ ap (λ steps. full_of (interval_of (decisions_after standard [] steps))) past
 
-  pub bytes_few : length bytes ≡ f.writing.interval.count → length bytes ≤ length (record_decisions 8 x) + 2
-  bytes_few long = few (record_decisions 8 x) (long ∙ ap (λ (i : Interval). i.count) (holding.interval ∙ ap (λ steps. interval_of (decisions_after standard [] steps)) past))
+  pub bytes_few : length bytes ≡ f.writing.interval.count → length bytes ≤ length (record_decisions x.depth x) + 2
+  bytes_few long = few (record_decisions x.depth x) (long ∙ ap (λ (i : Interval). i.count) (holding.interval ∙ ap (λ steps. interval_of (decisions_after standard [] steps)) past))
     where
       few : (ds : List Decision) → length bytes ≡ (interval_of ds).count → length bytes ≤ length ds + 2
       few ds is =

@@ -1,5 +1,5 @@
 -- The first parameter that is not good is the fault that a reading tells.
-use Rattle.std.proofs.Common.{◌≡◌, refl, ℕ, zero, suc, ◌+◌, ◌-◌, ◌*◌, ◌^◌, ◌<◌, ◌≤◌, ◌⊎◌, inl, inr, Bool, true, false, not, IsTrue, IsFalse, nat_lt, nat_le, ◌&&◌, ◌||◌, ◌==◌, List, [], ◌∷◌, ◌++◌, length, sum, append_assoc, append-nil, ap, sym, subst, ◌∙◌, arith, ℤ, Result, Ok, Err, rules}
+use Rattle.std.proofs.Common.{◌≡◌, refl, ℕ, zero, suc, ◌+◌, ◌-◌, ◌*◌, ◌^◌, ◌<◌, ◌≤◌, ◌⊎◌, inl, inr, Bool, true, false, not, IsTrue, IsFalse, nat_lt, nat_le, ◌&&◌, ◌||◌, List, [], ◌∷◌, ◌++◌, length, sum, append_assoc, append-nil, ap, sym, subst, ◌∙◌, arith, ℤ, Result, Ok, Err, rules}
 use Rattle.std.specs.List.{list_all}
 use Rattle.std.proofs.lemmas.Bool.{leb-true}
 use Rattle.std.proofs.lemmas.Bool.Decides.{nat_tests}
@@ -12,16 +12,17 @@ use Rattle.ffv1_plane.specs.Quantisation.{Set, are_filled, is_filled, contexts_o
 use Rattle.ffv1_record.specs.declared.fault.RecordFault.{RecordFault}
 use Rattle.ffv1_record.specs.declared.fault.RecordFault.TheVariants as fault
 use Rattle.ffv1_record.specs.Configuration.{Configuration, is_rct}
+use Rattle.ffv1_record.specs.Accepted.{is_depth}
 use Rattle.ffv1_record.specs.Sets.{AreSets}
 use Rattle.ffv1_record.specs.Writable.{AreDeltas}
-use Rattle.ffv1_record.specs.Record.{IsCoded, number_steps, signed_number_steps, truth_steps, deltas_steps, coder_steps, runs_steps, set_steps, sets_steps, uncoded_steps}
+use Rattle.ffv1_record.specs.Record.{IsCoded, number_steps, signed_number_steps, truth_steps, deltas_steps, coder_steps, runs_steps, set_steps, sets_steps, uncoded_steps, depth_of}
 use Rattle.ffv1_record.specs.Reader.{Reader, Spot, behind, Then, ◌>>=◌, done, require, next_table, number, signed_number, truth, number_within, makes_table}
 use Rattle.ffv1_record.specs.declared.planes.Planes.{Planes}
 use Rattle.ffv1_record.specs.Reading.{colour_of, deltas_onto, coder_of, opening, depth, planes, count_of, runs_onto, table, set, sets_onto, uncoded, tables, flag, parameters, beginning}
 use Rattle.ffv1_record.specs.Order.{Parameter, FirstBad, IsTooLong, IsBadNumber, AreBadDeltas, IsBadTable, IsBadSet, version, micro_version, coder_type, colorspace_type, bits_per_raw_sample, chroma_planes, log2_h_chroma_subsample, log2_v_chroma_subsample, extra_plane, num_h_slices, num_v_slices, quant_table_set_count, quant_table_sets, states_coded, ec, intra, in_order}
 use Rattle.ffv1_record.proofs.Checks.{both}
 use Rattle.ffv1_record.proofs.CodedIsRead.{coded_front, forced_number, forced_signed, forced_truth, forced_within, spot_of}
-use Rattle.ffv1_record.proofs.CodedRecordIsRead.{forced_kind, forced_depth, forced_deltas, forced_flag, forced_uncoded, forced_set, forced_sets, forced_table, behind_table, sum_cons, colour_few}
+use Rattle.ffv1_record.proofs.CodedRecordIsRead.{forced_kind, forced_depth, forced_deltas, forced_flag, forced_uncoded, forced_set, forced_sets, forced_table, behind_table, sum_cons, colour_few, colour_back}
 
 -- ---- readings joined
 
@@ -72,17 +73,18 @@ module _ (b : List ℕ) (are : AreBytes b) where
   good_within : (base least most : ℕ) (wrong : RecordFault) (s : Spot) (n : ℕ) → n < 2 ^ 31 → least ≤ n → n ≤ most → IsCoded b (s.past ++ number_steps base n) → number_within base least most wrong b s (Ok (n, behind s (number_steps base n)))
   good_within base least most wrong s n small low high coded = (forced_within b are base least most wrong s n small low high).reads coded
 
-  bad_depth : (s : Spot) (steps : List Step) (f : RecordFault) → IsBadNumber 0 (λ n. (n ≡ 8) ⊎ (n ≡ 0)) fault.Depth steps f → IsCoded b (s.past ++ steps) → depth b s (Err f)
-  bad_depth s steps f bad coded = elim bad [
+  bad_depth : (most : ℕ) (rct : Bool) (s : Spot) (steps : List Step) (f : RecordFault) → IsBadNumber 0 (λ n. IsTrue (is_depth most rct (depth_of n))) fault.Depth steps f → IsCoded b (s.past ++ steps) → depth most rct b s (Err f)
+  bad_depth most rct s steps f bad coded = elim bad [
     | inl e ↦
         let here = subst (λ x. IsCoded b (s.past ++ x)) e.3 coded in
-        subst (λ g. depth b s (Err g)) (sym e.4)
-        (then_ok (number 0) _ b s e.0 (behind s (number_steps 0 e.0)) (Err fault.Depth) (some_number 0 s e.0 e.1 here) (then_err (require ((e.0 == 0) || (e.0 == 8)) fault.Depth) _ b (behind s (number_steps 0 e.0)) fault.Depth (require_err ((e.0 == 0) || (e.0 == 8)) fault.Depth b (behind s (number_steps 0 e.0)) (other e.0 (λ n. e.2 (inr n)) (λ n. e.2 (inl n))))))
+        subst (λ g. depth most rct b s (Err g)) (sym e.4)
+        (then_ok (number 0) _ b s e.0 (behind s (number_steps 0 e.0)) (Err fault.Depth) (some_number 0 s e.0 e.1 here) (then_err (require (is_depth most rct (depth_of e.0)) fault.Depth) _ b (behind s (number_steps 0 e.0)) fault.Depth (require_err (is_depth most rct (depth_of e.0)) fault.Depth b (behind s (number_steps 0 e.0)) (untrue (is_depth most rct (depth_of e.0)) e.2))))
     | inr e ↦ then_err (number 0) _ b s f (long_number 0 s steps f e coded)
   ]
     where
-      other : (n : ℕ) → (n ≡ 0 → ⊥) → (n ≡ 8 → ⊥) → IsFalse ((n == 0) || (n == 8))
-      other n none eight = grind (arith, nat_tests)
+      untrue : (test : Bool) → (IsTrue test → ⊥) → IsFalse test
+      untrue true bad = absurd (bad refl)
+      untrue false bad = refl
 
   long_signed : (s : Spot) → IsCoded b (s.past ++ shifted 0 too_long) → signed_number b s (Err fault.SymbolTooLong)
   unfolding signed_number
@@ -290,13 +292,13 @@ module _ (b : List ℕ) (are : AreBytes b) where
 
     -- the planes that c tells
     planes_read : Planes
-    planes_read = record { colour = colour_of (one_if (is_rct c.colour)); chroma_planes = c.chroma_planes; extra_plane = c.extra_plane; log2_h = c.log2_h; log2_v = c.log2_v }
+    planes_read = record { colour = colour_of (one_if (is_rct c.colour)); depth = depth_of bits; chroma_planes = c.chroma_planes; extra_plane = c.extra_plane; log2_h = c.log2_h; log2_v = c.log2_v }
 
     extra_read : Reader Planes
     extra_read = do
       extra ← truth
       _ ← require (c.chroma_planes || not extra) fault.ExtraPlane
-      done (record { colour = colour_of (one_if (is_rct c.colour)); chroma_planes = c.chroma_planes; extra_plane = extra; log2_h = c.log2_h; log2_v = c.log2_v })
+      done (record { colour = colour_of (one_if (is_rct c.colour)); depth = depth_of bits; chroma_planes = c.chroma_planes; extra_plane = extra; log2_h = c.log2_h; log2_v = c.log2_v })
 
     in_extra : (ps : List Parameter) (s : Spot) → FirstBad (extra_plane ∷ ps) b s.past bits c f → Goes extra_read s planes_read (behind s (truth_steps c.extra_plane)) ps
     unfolding extra_read planes_read done
@@ -315,10 +317,12 @@ module _ (b : List ℕ) (are : AreBytes b) where
     planes_end : Spot → Spot
     planes_end s = behind (behind (behind (behind (behind (behind s (number_steps 0 (one_if (is_rct c.colour)))) (number_steps 0 bits)) (truth_steps c.chroma_planes)) (number_steps 0 c.log2_h)) (number_steps 0 c.log2_v)) (truth_steps c.extra_plane)
 
-    in_planes : (ps : List Parameter) (s : Spot) → FirstBad (colorspace_type ∷ bits_per_raw_sample ∷ chroma_planes ∷ log2_h_chroma_subsample ∷ log2_v_chroma_subsample ∷ extra_plane ∷ ps) b s.past bits c f → Goes planes s planes_read (planes_end s) ps
+    in_planes : (most : ℕ) (ps : List Parameter) (s : Spot) → FirstBad (colorspace_type ∷ bits_per_raw_sample most ∷ chroma_planes ∷ log2_h_chroma_subsample ∷ log2_v_chroma_subsample ∷ extra_plane ∷ ps) b s.past bits c f → Goes (planes most) s planes_read (planes_end s) ps
     unfolding planes_end extra_read
-    in_planes ps s h =
+    in_planes most ps s h =
         let kind = one_if (is_rct c.colour) in
+        let rct = is_rct (colour_of kind) in
+        let same : is_rct c.colour ≡ rct = ap is_rct (sym (colour_back c.colour)) in
         let tiny = colour_few c.colour in
         let one = behind s (number_steps 0 kind) in
         let two = behind one (number_steps 0 bits) in
@@ -326,11 +330,13 @@ module _ (b : List ℕ) (are : AreBytes b) where
         let four = behind three (number_steps 0 c.log2_h) in
         let five = behind four (number_steps 0 c.log2_v) in
         let end = behind five (truth_steps c.extra_plane) in
-        join (number_within 0 0 1 fault.ColourSpace) _ s kind one planes_read end (bits_per_raw_sample ∷ chroma_planes ∷ log2_h_chroma_subsample ∷ log2_v_chroma_subsample ∷ extra_plane ∷ ps) ps
-        (step colorspace_type (bits_per_raw_sample ∷ chroma_planes ∷ log2_h_chroma_subsample ∷ log2_v_chroma_subsample ∷ extra_plane ∷ ps) (number_within 0 0 1 fault.ColourSpace) s kind one refl
+        join (number_within 0 0 1 fault.ColourSpace) _ s kind one planes_read end (bits_per_raw_sample most ∷ chroma_planes ∷ log2_h_chroma_subsample ∷ log2_v_chroma_subsample ∷ extra_plane ∷ ps) ps
+        (step colorspace_type (bits_per_raw_sample most ∷ chroma_planes ∷ log2_h_chroma_subsample ∷ log2_v_chroma_subsample ∷ extra_plane ∷ ps) (number_within 0 0 1 fault.ColourSpace) s kind one refl
         (λ steps e coded. bad_within 0 0 1 fault.ColourSpace s steps f e coded) (λ e coded. good_within 0 0 1 fault.ColourSpace s kind (omega (arith, tiny)) (omega arith) tiny coded) h)
-        (λ h. join depth _ one bits two planes_read end (chroma_planes ∷ log2_h_chroma_subsample ∷ log2_v_chroma_subsample ∷ extra_plane ∷ ps) ps
-        (step bits_per_raw_sample (chroma_planes ∷ log2_h_chroma_subsample ∷ log2_v_chroma_subsample ∷ extra_plane ∷ ps) depth one bits two refl (λ steps e coded. bad_depth one steps f e coded) (λ e coded. (forced_depth b are one bits e).reads coded) h)
+        (λ h. join (depth most rct) _ one (depth_of bits) two planes_read end (chroma_planes ∷ log2_h_chroma_subsample ∷ log2_v_chroma_subsample ∷ extra_plane ∷ ps) ps
+        (step (bits_per_raw_sample most) (chroma_planes ∷ log2_h_chroma_subsample ∷ log2_v_chroma_subsample ∷ extra_plane ∷ ps) (depth most rct) one (depth_of bits) two refl
+        (λ steps e coded. subst (λ r. depth most r b one (Err f)) same (bad_depth most (is_rct c.colour) one steps f e coded))
+        (λ e coded. subst (λ r. depth most r b one (Ok (depth_of bits, two))) same ((forced_depth b are most (is_rct c.colour) one bits e).reads coded)) h)
         (λ h. join truth _ two c.chroma_planes three planes_read end (log2_h_chroma_subsample ∷ log2_v_chroma_subsample ∷ extra_plane ∷ ps) ps
         (step chroma_planes (log2_h_chroma_subsample ∷ log2_v_chroma_subsample ∷ extra_plane ∷ ps) truth two c.chroma_planes three refl (λ steps e coded. absurd e) (λ e coded. (forced_truth b are two c.chroma_planes).reads coded) h)
         (λ h. join (number 0) _ three c.log2_h four planes_read end (log2_v_chroma_subsample ∷ extra_plane ∷ ps) ps
@@ -376,9 +382,9 @@ module _ (b : List ℕ) (are : AreBytes b) where
         (λ e coded. (forced_flag b are wrong s x).reads (subst (λ z. IsCoded b (s.past ++ z)) is coded)) h
 
     -- all of them
-    pub ordered : (width height : ℕ) → FirstBad in_order b [] bits c f → parameters width height b beginning (Err f)
+    pub ordered : (most width height : ℕ) → FirstBad (in_order most) b [] bits c f → parameters most width height b beginning (Err f)
     unfolding Goes planes_end sets_end
-    ordered width height h = elim whole [ inl e ↦ e | inr e ↦ absurd e.1 ]
+    ordered most width height h = elim whole [ inl e ↦ e | inr e ↦ absurd e.1 ]
       where
         one : Spot
         one = behind (behind (behind beginning (number_steps 0 3)) (number_steps 0 4)) (coder_steps c.coder)
@@ -405,6 +411,7 @@ module _ (b : List ℕ) (are : AreBytes b) where
         read = record {
           width = width;
           height = height;
+          depth = planes_read.depth;
           coder = c.coder;
           colour = planes_read.colour;
           chroma_planes = planes_read.chroma_planes;
@@ -418,10 +425,10 @@ module _ (b : List ℕ) (are : AreBytes b) where
           intra = c.intra;
         }
 
-        whole : Goes (parameters width height) beginning read end []
+        whole : Goes (parameters most width height) beginning read end []
         whole =
-            join opening _ beginning c.coder one read end (colorspace_type ∷ bits_per_raw_sample ∷ chroma_planes ∷ log2_h_chroma_subsample ∷ log2_v_chroma_subsample ∷ extra_plane ∷ num_h_slices ∷ num_v_slices ∷ quant_table_set_count ∷ quant_table_sets ∷ states_coded ∷ ec ∷ intra ∷ []) [] (in_opening (colorspace_type ∷ bits_per_raw_sample ∷ chroma_planes ∷ log2_h_chroma_subsample ∷ log2_v_chroma_subsample ∷ extra_plane ∷ num_h_slices ∷ num_v_slices ∷ quant_table_set_count ∷ quant_table_sets ∷ states_coded ∷ ec ∷ intra ∷ []) beginning h) (λ h.
-            join planes _ one planes_read two read end (num_h_slices ∷ num_v_slices ∷ quant_table_set_count ∷ quant_table_sets ∷ states_coded ∷ ec ∷ intra ∷ []) [] (in_planes (num_h_slices ∷ num_v_slices ∷ quant_table_set_count ∷ quant_table_sets ∷ states_coded ∷ ec ∷ intra ∷ []) one h) (λ h.
+            join opening _ beginning c.coder one read end (colorspace_type ∷ bits_per_raw_sample most ∷ chroma_planes ∷ log2_h_chroma_subsample ∷ log2_v_chroma_subsample ∷ extra_plane ∷ num_h_slices ∷ num_v_slices ∷ quant_table_set_count ∷ quant_table_sets ∷ states_coded ∷ ec ∷ intra ∷ []) [] (in_opening (colorspace_type ∷ bits_per_raw_sample most ∷ chroma_planes ∷ log2_h_chroma_subsample ∷ log2_v_chroma_subsample ∷ extra_plane ∷ num_h_slices ∷ num_v_slices ∷ quant_table_set_count ∷ quant_table_sets ∷ states_coded ∷ ec ∷ intra ∷ []) beginning h) (λ h.
+            join (planes most) _ one planes_read two read end (num_h_slices ∷ num_v_slices ∷ quant_table_set_count ∷ quant_table_sets ∷ states_coded ∷ ec ∷ intra ∷ []) [] (in_planes most (num_h_slices ∷ num_v_slices ∷ quant_table_set_count ∷ quant_table_sets ∷ states_coded ∷ ec ∷ intra ∷ []) one h) (λ h.
             join count_of _ two (c.columns - 1 + 1) three read end (num_v_slices ∷ quant_table_set_count ∷ quant_table_sets ∷ states_coded ∷ ec ∷ intra ∷ []) [] (in_count num_h_slices (num_v_slices ∷ quant_table_set_count ∷ quant_table_sets ∷ states_coded ∷ ec ∷ intra ∷ []) two (c.columns - 1) refl (λ steps e. e) (λ e. e) h) (λ h.
             join count_of _ three (c.rows - 1 + 1) four read end (quant_table_set_count ∷ quant_table_sets ∷ states_coded ∷ ec ∷ intra ∷ []) [] (in_count num_v_slices (quant_table_set_count ∷ quant_table_sets ∷ states_coded ∷ ec ∷ intra ∷ []) three (c.rows - 1) refl (λ steps e. e) (λ e. e) h) (λ h.
             join tables _ four c.sets five read end (ec ∷ intra ∷ []) [] (in_tables (ec ∷ intra ∷ []) four.past h) (λ h.

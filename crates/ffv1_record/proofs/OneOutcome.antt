@@ -8,11 +8,11 @@ use Rattle.ffv1_record.specs.declared.fault.RecordFault.{RecordFault}
 use Rattle.ffv1_record.specs.declared.fault.RecordFault.TheVariants as fault
 use Rattle.ffv1_record.specs.declared.config.Coder.{Coder}
 use Rattle.ffv1_record.specs.declared.config.Coder.TheVariants as coder
-use Rattle.ffv1_record.specs.Configuration.{Configuration}
-use Rattle.ffv1_record.specs.Accepted.{IsFirst, IsAccepted, checks}
-use Rattle.ffv1_record.specs.Record.{IsCoded, IsRecord, body_of, number_steps}
+use Rattle.ffv1_record.specs.Configuration.{Configuration, is_rct}
+use Rattle.ffv1_record.specs.Accepted.{IsFirst, IsAccepted, is_depth, checks}
+use Rattle.ffv1_record.specs.Record.{IsCoded, IsRecord, body_of, depth_of, number_steps}
 use Rattle.ffv1_record.specs.Reader.{Reader, Spot, ◌>>=◌, done, require, next_table, number, signed_number, truth, number_within, makes_table}
-use Rattle.ffv1_record.specs.Reading.{deltas_onto, coder_of, opening, depth, planes, count_of, runs_onto, table, set, sets_onto, uncoded, tables, flag, before_sets, parameters, beginning, IsMet, IsRefused}
+use Rattle.ffv1_record.specs.Reading.{deltas_onto, coder_of, opening, colour_of, depth, planes, count_of, runs_onto, table, set, sets_onto, uncoded, tables, flag, before_sets, parameters, beginning, IsMet, IsRefused}
 use Rattle.ffv1_record.proofs.ReadIsCoded.{ok_same, not_both}
 use Rattle.ffv1_record.proofs.CodedIsRead.{coded_front, forced_number, forced_signed, forced_truth}
 use Rattle.ffv1_record.proofs.RecordIsRead.{none_stands, good_start, read_so}
@@ -114,13 +114,13 @@ module _ (b : List ℕ) (are : AreBytes b) where
       decides_then b (number_within 0 4 4 fault.MicroVersion) _ (decides_within 0 4 4 fault.MicroVersion) (λ _.
       decides_then b (number_within 0 1 2 fault.Coder) coder_of (decides_within 0 1 2 fault.Coder) decides_coder))
 
-  decides_depth : Decides b depth
-  decides_depth = decides_then b (number 0) _ (decides_number 0) (λ n. decides_then b (require ((n == 0) || (n == 8)) fault.Depth) _ (decides_require b ((n == 0) || (n == 8)) fault.Depth) (λ _. decides_done b n))
+  decides_depth : (most : ℕ) (rct : Bool) → Decides b (depth most rct)
+  decides_depth most rct = decides_then b (number 0) _ (decides_number 0) (λ n. decides_then b (require (is_depth most rct (depth_of n)) fault.Depth) _ (decides_require b (is_depth most rct (depth_of n)) fault.Depth) (λ _. decides_done b (depth_of n)))
 
-  decides_planes : Decides b planes
-  decides_planes =
+  decides_planes : (most : ℕ) → Decides b (planes most)
+  decides_planes most =
       decides_then b (number_within 0 0 1 fault.ColourSpace) _ (decides_within 0 0 1 fault.ColourSpace) (λ kind.
-      decides_then b depth _ decides_depth (λ _.
+      decides_then b (depth most (is_rct (colour_of kind))) _ (decides_depth most (is_rct (colour_of kind))) (λ _.
       decides_then b truth _ decides_truth (λ chroma.
       decides_then b (number 0) _ (decides_number 0) (λ log2_h.
       decides_then b (number 0) _ (decides_number 0) (λ log2_v.
@@ -159,15 +159,15 @@ module _ (b : List ℕ) (are : AreBytes b) where
   decides_count : Decides b count_of
   decides_count = decides_then b (number 0) _ (decides_number 0) (λ n. decides_done b (n + 1))
 
-  pub decides_before_sets : Decides b before_sets
-  decides_before_sets = decides_then b opening _ decides_opening (λ c. decides_then b planes _ decides_planes (λ p. decides_then b count_of _ decides_count (λ columns. decides_then b count_of _ decides_count (λ rows. decides_within 0 1 8 fault.Sets))))
+  pub decides_before_sets : (most : ℕ) → Decides b (before_sets most)
+  decides_before_sets most = decides_then b opening _ decides_opening (λ c. decides_then b (planes most) _ (decides_planes most) (λ p. decides_then b count_of _ decides_count (λ columns. decides_then b count_of _ decides_count (λ rows. decides_within 0 1 8 fault.Sets))))
 
   decides_flag : (f : RecordFault) → Decides b (flag f)
   decides_flag f = decides_then b (number_within 0 0 1 f) _ (decides_within 0 0 1 f) (λ n. decides_done b (n == 1))
 
-  pub decides_parameters : (width height : ℕ) → Decides b (parameters width height)
-  decides_parameters width height =
-      decides_then b opening _ decides_opening (λ c. decides_then b planes _ decides_planes (λ p. decides_then b count_of _ decides_count (λ columns. decides_then b count_of _ decides_count (λ rows.
+  pub decides_parameters : (most width height : ℕ) → Decides b (parameters most width height)
+  decides_parameters most width height =
+      decides_then b opening _ decides_opening (λ c. decides_then b (planes most) _ (decides_planes most) (λ p. decides_then b count_of _ decides_count (λ columns. decides_then b count_of _ decides_count (λ rows.
       decides_then b tables _ decides_tables (λ ss. decides_then b (flag fault.Ec) _ (decides_flag fault.Ec) (λ ec. decides_then b (flag fault.Intra) _ (decides_flag fault.Intra) (λ intra. decides_done b _)))))))
 
   -- a reading begins by a good start
@@ -195,8 +195,8 @@ module _ (b : List ℕ) (are : AreBytes b) where
     | inr e ↦ good_within s (Err e.0) past e.1
   ]
 
-  pub good_parameters : (width height : ℕ) (out : Result (Configuration × Spot) RecordFault) → parameters width height b beginning out → value b 2 < 65280
-  good_parameters width height out h = elim h.either [
+  pub good_parameters : (most width height : ℕ) (out : Result (Configuration × Spot) RecordFault) → parameters most width height b beginning out → value b 2 < 65280
+  good_parameters most width height out h = elim h.either [
     | inl e ↦ good_opening beginning (Ok (e.0, e.1)) refl e.2
     | inr e ↦ good_opening beginning (Err e.0) refl e.1
   ]
@@ -209,12 +209,12 @@ one_first (x ∷ fs) c f g p q = elim p [
   | inr e ↦ elim q [ inl d ↦ absurd (d.0 e.0) | inr d ↦ one_first fs c f g e.1 d.1 ]
 ]
 
-module _ (bytes : List ℕ) (are : AreBytes (body_of bytes)) (width height : ℕ) where
-  one_met : (f g : RecordFault) → IsMet bytes width height f → IsMet bytes width height g → f ≡ g
+module _ (most : ℕ) (bytes : List ℕ) (are : AreBytes (body_of bytes)) (width height : ℕ) where
+  one_met : (f g : RecordFault) → IsMet most bytes width height f → IsMet most bytes width height g → f ≡ g
   one_met f g p q =
       let b = body_of bytes in
-      let read = decides_parameters b are width height in
-      let good = good_parameters b are width height in
+      let read = decides_parameters b are most width height in
+      let good = good_parameters b are most width height in
       elim p [
         | inl e ↦ elim q [
           | inl d ↦ e.1 ∙ sym d.1
@@ -246,7 +246,7 @@ module _ (bytes : List ℕ) (are : AreBytes (body_of bytes)) (width height : ℕ
       not_low : {n : ℕ} → 65280 ≤ n → n < 65280 → ⊥
       not_low high low = omega arith
 
-  pub one_refusal : (f g : RecordFault) → IsRefused bytes width height f → IsRefused bytes width height g → f ≡ g
+  pub one_refusal : (f g : RecordFault) → IsRefused most bytes width height f → IsRefused most bytes width height g → f ≡ g
   one_refusal f g p q = elim p [
     | inl e ↦ elim q [
       | inl d ↦ e.1 ∙ sym d.1
@@ -268,17 +268,17 @@ module _ (bytes : List ℕ) (are : AreBytes (body_of bytes)) (width height : ℕ
       not_short short long = omega arith
 
 -- no record of a configuration is refused
-pub no_refusal : (bytes : List ℕ) → AreBytes (body_of bytes) → (c : Configuration) (t : Table) (f : RecordFault) → IsAccepted c t → IsRecord bytes c → IsRefused bytes c.width c.height f → ⊥
-no_refusal bytes are c t f is stored refused = elim refused [
+pub no_refusal : (most : ℕ) (bytes : List ℕ) → AreBytes (body_of bytes) → (c : Configuration) (t : Table) (f : RecordFault) → IsAccepted c t → c.depth ≤ most → IsRecord bytes c → IsRefused most bytes c.width c.height f → ⊥
+no_refusal most bytes are c t f is below stored refused = elim refused [
   | inl e ↦ short e.0 stored.long
   | inr e ↦ elim e [
     | inl y ↦ y.1 stored.whole
     | inr y ↦ elim y.2 [
-      | inl low ↦ good_start bytes are c t is stored low.0
+      | inl low ↦ good_start bytes are c t is stored most below low.0
       | inr met ↦ elim met [
-        | inl x ↦ not_both (c, ending_of stored.bits c) f (sym (read_so bytes are c t is stored (Err f) x))
+        | inl x ↦ not_both (c, ending_of stored.bits c) f (sym (read_so bytes are c t is stored most below (Err f) x))
         | inr x ↦
-            let same = ok_same (x.0, x.1) (c, ending_of stored.bits c) (read_so bytes are c t is stored (Ok (x.0, x.1)) x.2) in
+            let same = ok_same (x.0, x.1) (c, ending_of stored.bits c) (read_so bytes are c t is stored most below (Ok (x.0, x.1)) x.2) in
             none_stands checks c f is.passes (subst (λ (z : Configuration). IsFirst checks z f) (ap (λ (z : Configuration × Spot). z.0) same) x.3)
       ]
     ]

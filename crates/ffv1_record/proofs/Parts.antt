@@ -1,10 +1,12 @@
 -- What holds of the planes and sets of a configuration that was checked.
 use Rattle.std.proofs.Common.{◌≡◌, refl, ℕ, zero, suc, ◌<◌, ◌≤◌, Bool, true, false, not, nat_le, ◌&&◌, ◌||◌, ◌==◌, IsTrue, List, [], ◌∷◌, length, get_or, rules, arith}
 use Rattle.std.proofs.lemmas.Bool.{eqb-true}
+use Rattle.std.proofs.lemmas.Bool.Decides.{nat_tests}
 use Rattle.ffv1_plane.specs.Quantisation.{Set, IsSet}
 use Rattle.ffv1_record.specs.declared.config.Colour.{Colour}
 use Rattle.ffv1_record.specs.declared.config.Colour.TheVariants as colour
 use Rattle.ffv1_record.specs.Configuration.{is_rct}
+use Rattle.ffv1_record.specs.Accepted.{is_depth}
 use Rattle.ffv1_record.specs.Sets.{AreSets, most_contexts}
 use Rattle.ffv1_record.proofs.Checks.{both}
 
@@ -27,6 +29,11 @@ with_rct h v false test = absurd (search ((both (nat_le h 2 && nat_le v 2) (fals
 pub rct_parts : (h v : ℕ) (chroma : Bool) (c : Colour) → IsTrue (suits h v chroma (is_rct c)) → c ≡ colour.Rct → (chroma ≡ true) × (h ≡ 0) × (v ≡ 0)
 rct_parts h v chroma colour.Rct test is = with_rct h v chroma test
 rct_parts h v chroma colour.YCbCr test is = absurd (search rules)
+
+-- RCT has at most 14 bits a sample
+pub rct_depth : (most n : ℕ) (c : Colour) → IsTrue (is_depth most (is_rct c) n) → c ≡ colour.Rct → n ≤ 14
+rct_depth most n colour.Rct test is = grind (arith, nat_tests)
+rct_depth most n colour.YCbCr test is = absurd (search rules)
 
 with_luma : (h v : ℕ) (c : Colour) → IsTrue (suits h v false (is_rct c)) → (c ≡ colour.YCbCr) × (h ≡ 0) × (v ≡ 0)
 with_luma h v colour.YCbCr test =

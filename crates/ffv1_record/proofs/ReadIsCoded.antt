@@ -1,8 +1,7 @@
 -- What was read without a fault was coded so.
 use Rattle.std.proofs.Common.{◌≡◌, refl, ℕ, zero, suc, ◌+◌, ◌-◌, ◌^◌, ◌<◌, ◌≤◌, ◌⊎◌, inl, inr, Bool, true, false, not, IsTrue, nat_le, ◌&&◌, ◌||◌, ◌==◌, List, [], ◌∷◌, ◌++◌, length, append_assoc, append-nil, ap, sym, subst, ◌∙◌, arith, ℤ, Result, Ok, Err, rules}
 use Rattle.std.proofs.Math.IntN.{nat_abs}
-use Rattle.std.proofs.lemmas.Bool.{leb-true, cases_eq}
-use Rattle.std.proofs.lemmas.Bool.Decides.{nat_tests}
+use Rattle.std.proofs.lemmas.Bool.{leb-true}
 use Rattle.ffv1_range.specs.Symbols.{Step}
 use Rattle.ffv1_range.specs.Weight.{one_if}
 use Rattle.ffv1_plane.specs.Quantisation.{Set, contexts_of}
@@ -12,11 +11,12 @@ use Rattle.ffv1_record.specs.declared.config.Coder.{Coder}
 use Rattle.ffv1_record.specs.declared.config.Coder.TheVariants as coder
 use Rattle.ffv1_record.specs.declared.planes.Planes.{Planes}
 use Rattle.ffv1_record.specs.Configuration.{Configuration, is_rct}
-use Rattle.ffv1_record.specs.Record.{number_steps, signed_number_steps, truth_steps, deltas_steps, coder_steps, runs_steps, set_steps, sets_steps, uncoded_steps, opening_steps, planes_steps, grid_steps, tables_steps, closing_steps, record_steps}
+use Rattle.ffv1_record.specs.Record.{number_steps, signed_number_steps, truth_steps, deltas_steps, coder_steps, runs_steps, set_steps, sets_steps, uncoded_steps, opening_steps, planes_steps, grid_steps, tables_steps, closing_steps, record_steps, depth_of}
 use Rattle.ffv1_record.specs.Writable.{AreDeltas}
 use Rattle.ffv1_record.specs.Reader.{Reader, Spot, behind, Then, ◌>>=◌, done, require, next_table, number, signed_number, truth, number_within, makes_table}
 use Rattle.ffv1_record.specs.Reading.{deltas_onto, coder_of, opening, colour_of, depth, planes, count_of, runs_onto, table, set, sets_onto, uncoded, tables, flag, parameters}
-use Rattle.ffv1_record.proofs.Checks.{both}
+use Rattle.ffv1_record.specs.Accepted.{is_depth, has_depth}
+use Rattle.ffv1_record.proofs.Checks.{both, depth_known}
 
 unpack : {X : Type 0} → X → Result X RecordFault → X
 unpack d (Ok x) = x
@@ -177,29 +177,24 @@ one_of_colour zero few = refl
 one_of_colour (suc zero) few = refl
 one_of_colour (suc (suc kind)) few = absurd (omega arith)
 
-known_depth : (n : ℕ) → IsTrue ((n == 0) || (n == 8)) → (n ≡ 8) ⊎ (n ≡ 0)
-known_depth n h = elim (cases_eq n 0) [
-  | inl none ↦ inr none
-  | inr some ↦ inl (eight n some h)
-]
-  where
-    eight : (n : ℕ) → (n ≡ 0 → ⊥) → IsTrue ((n == 0) || (n == 8)) → n ≡ 8
-    eight n some h = grind (arith, nat_tests)
+-- bits_per_raw_sample is of a depth
+pub record Deep (most : ℕ) (rct : Bool) (s : Spot) (n : ℕ) (t : Spot) : Type 0 where
+  pub bits : ℕ
+  pub known : depth_of bits ≡ n
+  pub deep : IsTrue (is_depth most rct n)
+  pub after : After s (number_steps 0 bits) t 0
 
--- bits_per_raw_sample is 8 or 0
-pub record Deep (s : Spot) (n : ℕ) (t : Spot) : Type 0 where
-  pub after : After s (number_steps 0 n) t 0
-  pub known : (n ≡ 8) ⊎ (n ≡ 0)
-
-depth_ok : (b : List ℕ) (s : Spot) (n : ℕ) (t : Spot) → depth b s (Ok (n, t)) → Deep s n t
-depth_ok b s n t h =
-    let one = bind_ok (number 0) (λ n. require ((n == 0) || (n == 8)) fault.Depth >>= λ _. done n) b s n t h in
-    let two = bind_ok (require ((one.0 == 0) || (one.0 == 8)) fault.Depth) (λ _. done one.0) b one.1 n t one.3 in
-    let good = required_ok ((one.0 == 0) || (one.0 == 8)) fault.Depth b one.1 two.0 two.1 two.2 in
-    let end = done_ok one.0 b two.1 n t two.3 in
+depth_ok : (most : ℕ) (rct : Bool) (b : List ℕ) (s : Spot) (n : ℕ) (t : Spot) → depth most rct b s (Ok (n, t)) → Deep most rct s n t
+depth_ok most rct b s n t h =
+    let one = bind_ok (number 0) (λ n. require (is_depth most rct (depth_of n)) fault.Depth >>= λ _. done (depth_of n)) b s n t h in
+    let two = bind_ok (require (is_depth most rct (depth_of one.0)) fault.Depth) (λ _. done (depth_of one.0)) b one.1 n t one.3 in
+    let good = required_ok (is_depth most rct (depth_of one.0)) fault.Depth b one.1 two.0 two.1 two.2 in
+    let end = done_ok (depth_of one.0) b two.1 n t two.3 in
     record {
-      after = subst (λ k. After s (number_steps 0 k) t 0) (sym end.0) (after_same s one.1 t (number_steps 0 one.0) 0 (number_ok 0 b s one.0 one.1 one.2) (end.1 ∙ good.1));
-      known = subst (λ k. (k ≡ 8) ⊎ (k ≡ 0)) (sym end.0) (known_depth one.0 good.0);
+      bits = one.0;
+      known = sym end.0;
+      deep = subst (λ k. IsTrue (is_depth most rct k)) (sym end.0) good.0;
+      after = after_same s one.1 t (number_steps 0 one.0) 0 (number_ok 0 b s one.0 one.1 one.2) (end.1 ∙ good.1);
     }
 
 -- the steps of planes
@@ -207,36 +202,38 @@ abbrev pub planes_read : ℕ → Planes → List Step
 planes_read bits p =
     number_steps 0 (one_if (is_rct p.colour)) ++ number_steps 0 bits ++ truth_steps p.chroma_planes ++ number_steps 0 p.log2_h ++ number_steps 0 p.log2_v ++ truth_steps p.extra_plane
 
-pub record Seen (s : Spot) (p : Planes) (t : Spot) : Type 0 where
+pub record Seen (most : ℕ) (s : Spot) (p : Planes) (t : Spot) : Type 0 where
   pub bits : ℕ
-  pub known : (bits ≡ 8) ⊎ (bits ≡ 0)
+  pub known : depth_of bits ≡ p.depth
+  pub deep : IsTrue (is_depth most (is_rct p.colour) p.depth)
   pub after : After s (planes_read bits p) t 0
 
-planes_ok : (b : List ℕ) (s : Spot) (p : Planes) (t : Spot) → planes b s (Ok (p, t)) → Seen s p t
-planes_ok b s p t h =
+planes_ok : (most : ℕ) (b : List ℕ) (s : Spot) (p : Planes) (t : Spot) → planes most b s (Ok (p, t)) → Seen most s p t
+planes_ok most b s p t h =
     let one = bind_ok (number_within 0 0 1 fault.ColourSpace) _ b s p t h in
-    let two = bind_ok depth _ b one.1 p t one.3 in
+    let two = bind_ok (depth most (is_rct (colour_of one.0))) _ b one.1 p t one.3 in
     let three = bind_ok truth _ b two.1 p t two.3 in
     let four = bind_ok (number 0) _ b three.1 p t three.3 in
     let five = bind_ok (number 0) _ b four.1 p t four.3 in
     let six = bind_ok truth _ b five.1 p t five.3 in
     let seven = bind_ok (require (three.0 || not six.0) fault.ExtraPlane) _ b six.1 p t six.3 in
     let good = required_ok (three.0 || not six.0) fault.ExtraPlane b six.1 seven.0 seven.1 seven.2 in
-    let read : Planes = record { colour = colour_of one.0; chroma_planes = three.0; extra_plane = six.0; log2_h = four.0; log2_v = five.0 } in
+    let read : Planes = record { colour = colour_of one.0; depth = two.0; chroma_planes = three.0; extra_plane = six.0; log2_h = four.0; log2_v = five.0 } in
     let end = done_ok read b seven.1 p t seven.3 in
     let kind = within_ok 0 0 1 fault.ColourSpace b s one.0 one.1 one.2 in
-    let deep = depth_ok b one.1 two.0 two.1 two.2 in
+    let deep = depth_ok most (is_rct (colour_of one.0)) b one.1 two.0 two.1 two.2 in
     let colour = one_of_colour one.0 kind.most in
-    let a = after_then s one.1 two.1 (number_steps 0 one.0) (number_steps 0 two.0) 0 0 kind.after deep.after in
-    let c = after_then s two.1 three.1 (number_steps 0 one.0 ++ number_steps 0 two.0) (truth_steps three.0) 0 0 a (truth_ok b two.1 three.0 three.1 three.2) in
-    let d = after_then s three.1 four.1 (number_steps 0 one.0 ++ number_steps 0 two.0 ++ truth_steps three.0) (number_steps 0 four.0) 0 0 c (number_ok 0 b three.1 four.0 four.1 four.2) in
-    let e = after_then s four.1 five.1 (number_steps 0 one.0 ++ number_steps 0 two.0 ++ truth_steps three.0 ++ number_steps 0 four.0) (number_steps 0 five.0) 0 0 d (number_ok 0 b four.1 five.0 five.1 five.2) in
-    let f = after_then s five.1 six.1 (number_steps 0 one.0 ++ number_steps 0 two.0 ++ truth_steps three.0 ++ number_steps 0 four.0 ++ number_steps 0 five.0) (truth_steps six.0) 0 0 e (truth_ok b five.1 six.0 six.1 six.2) in
-    let whole = after_same s six.1 t (number_steps 0 one.0 ++ number_steps 0 two.0 ++ truth_steps three.0 ++ number_steps 0 four.0 ++ number_steps 0 five.0 ++ truth_steps six.0) 0 f (end.1 ∙ good.1) in
+    let a = after_then s one.1 two.1 (number_steps 0 one.0) (number_steps 0 deep.bits) 0 0 kind.after deep.after in
+    let c = after_then s two.1 three.1 (number_steps 0 one.0 ++ number_steps 0 deep.bits) (truth_steps three.0) 0 0 a (truth_ok b two.1 three.0 three.1 three.2) in
+    let d = after_then s three.1 four.1 (number_steps 0 one.0 ++ number_steps 0 deep.bits ++ truth_steps three.0) (number_steps 0 four.0) 0 0 c (number_ok 0 b three.1 four.0 four.1 four.2) in
+    let e = after_then s four.1 five.1 (number_steps 0 one.0 ++ number_steps 0 deep.bits ++ truth_steps three.0 ++ number_steps 0 four.0) (number_steps 0 five.0) 0 0 d (number_ok 0 b four.1 five.0 five.1 five.2) in
+    let f = after_then s five.1 six.1 (number_steps 0 one.0 ++ number_steps 0 deep.bits ++ truth_steps three.0 ++ number_steps 0 four.0 ++ number_steps 0 five.0) (truth_steps six.0) 0 0 e (truth_ok b five.1 six.0 six.1 six.2) in
+    let whole = after_same s six.1 t (number_steps 0 one.0 ++ number_steps 0 deep.bits ++ truth_steps three.0 ++ number_steps 0 four.0 ++ number_steps 0 five.0 ++ truth_steps six.0) 0 f (end.1 ∙ good.1) in
     record {
-      bits = two.0;
-      known = deep.known;
-      after = subst (λ (q : Planes). After s (planes_read two.0 q) t 0) (sym end.0) (subst (λ k. After s (number_steps 0 k ++ number_steps 0 two.0 ++ truth_steps three.0 ++ number_steps 0 four.0 ++ number_steps 0 five.0 ++ truth_steps six.0) t 0) (sym colour) whole);
+      bits = deep.bits;
+      known = deep.known ∙ ap (λ (q : Planes). q.depth) (sym end.0);
+      deep = subst (λ (q : Planes). IsTrue (is_depth most (is_rct q.colour) q.depth)) (sym end.0) deep.deep;
+      after = subst (λ (q : Planes). After s (planes_read deep.bits q) t 0) (sym end.0) (subst (λ k. After s (number_steps 0 k ++ number_steps 0 deep.bits ++ truth_steps three.0 ++ number_steps 0 four.0 ++ number_steps 0 five.0 ++ truth_steps six.0) t 0) (sym colour) whole);
     }
 
 count_ok : (b : List ℕ) (s : Spot) (n : ℕ) (t : Spot) → count_of b s (Ok (n, t)) → After s (number_steps 0 (n - 1)) t 0
@@ -367,17 +364,18 @@ flag_ok f b s x t h =
     few (suc (suc n)) h = absurd (omega arith)
 
 -- all parameters were coded so
-pub record Read (width height : ℕ) (s : Spot) (c : Configuration) (t : Spot) : Type 0 where
+pub record Read (most width height : ℕ) (s : Spot) (c : Configuration) (t : Spot) : Type 0 where
   pub wide : c.width ≡ width
   pub high : c.height ≡ height
   pub bits : ℕ
-  pub known : (bits ≡ 8) ⊎ (bits ≡ 0)
+  pub known : (bits ≡ c.depth) ⊎ ((bits ≡ 0) × (c.depth ≡ 8))
+  pub deep : IsTrue (has_depth most c)
   pub past : t.past ≡ s.past ++ record_steps bits c
 
-pub parameters_ok : (width height : ℕ) (b : List ℕ) (s : Spot) (c : Configuration) (t : Spot) → s.fresh ≡ 32 → parameters width height b s (Ok (c, t)) → Read width height s c t
-parameters_ok width height b s c t fresh h =
+pub parameters_ok : (most width height : ℕ) (b : List ℕ) (s : Spot) (c : Configuration) (t : Spot) → s.fresh ≡ 32 → parameters most width height b s (Ok (c, t)) → Read most width height s c t
+parameters_ok most width height b s c t fresh h =
     let one = bind_ok opening _ b s c t h in
-    let two = bind_ok planes _ b one.1 c t one.3 in
+    let two = bind_ok (planes most) _ b one.1 c t one.3 in
     let three = bind_ok count_of _ b two.1 c t two.3 in
     let four = bind_ok count_of _ b three.1 c t three.3 in
     let five = bind_ok tables _ b four.1 c t four.3 in
@@ -387,6 +385,7 @@ parameters_ok width height b s c t fresh h =
     let read : Configuration = record {
       width = width;
       height = height;
+      depth = p.depth;
       coder = one.0;
       colour = p.colour;
       chroma_planes = p.chroma_planes;
@@ -400,7 +399,7 @@ parameters_ok width height b s c t fresh h =
       intra = seven.0;
     } in
     let end = done_ok read b seven.1 c t seven.3 in
-    let seen = planes_ok b one.1 two.0 two.1 two.2 in
+    let seen = planes_ok most b one.1 two.0 two.1 two.2 in
     let opened = opening_ok b s one.0 one.1 one.2 in
     let columns = count_ok b two.1 three.0 three.1 three.2 in
     let rows = count_ok b three.1 four.0 four.1 four.2 in
@@ -419,6 +418,7 @@ parameters_ok width height b s c t fresh h =
       wide = ap (λ (z : Configuration). z.width) end.0;
       high = ap (λ (z : Configuration). z.height) end.0;
       bits = seen.bits;
-      known = seen.known;
+      known = depth_known seen.bits c.depth (seen.known ∙ ap (λ (z : Configuration). z.depth) (sym end.0));
+      deep = subst (λ (z : Configuration). IsTrue (has_depth most z)) (sym end.0) seen.deep;
       past = ap (λ (z : Spot). z.past) end.1 ∙ whole.past ∙ ap (λ (z : Configuration). s.past ++ record_steps seen.bits z) (sym end.0);
     }

@@ -53,21 +53,21 @@ pub stored_record : (c : Configuration) → (AreBytes (coded_of c) → parity_of
     (AreBytes (coded_of c) → parity_of (coded_of c) < 2 ^ 32 → remainder_of (coded_of c ++ digits 4 (parity_of (coded_of c))) ≡ 0) → IsRecord (record_of c) c
 unfolding whole
 stored_record c small guards =
-    let ds = record_decisions 8 c in
+    let ds = record_decisions c.depth c in
     let are : AreBytes (coded_of c) = bytes-digits (interval_of ds).count (interval_of ds).low in
-    let states = named standard standard_table [] (record_steps 8 c) in
+    let states = named standard standard_table [] (record_steps c.depth c) in
     let codes = full-inside (interval_of ds) [] (fit ds states) in
     record {
       long = at_least ds (parity_of (coded_of c));
       whole = guards are (small are);
-      bits = 8;
+      bits = c.depth;
       known = inl refl;
-      coded = subst (λ bytes. IsCoded bytes (record_steps 8 c)) (append-nil (full_of (interval_of ds)) ∙ sym (front ds (parity_of (coded_of c)))) codes;
+      coded = subst (λ bytes. IsCoded bytes (record_steps c.depth c)) (append-nil (full_of (interval_of ds)) ∙ sym (front ds (parity_of (coded_of c)))) codes;
     }
 
 -- and its parameters are bytes
 pub record_bytes : (c : Configuration) → AreBytes (body_of (record_of c))
 unfolding whole
 record_bytes c =
-    let ds = record_decisions 8 c in
+    let ds = record_decisions c.depth c in
     subst AreBytes (sym (front ds (parity_of (coded_of c)))) (bytes-digits (interval_of ds).count (interval_of ds).low)

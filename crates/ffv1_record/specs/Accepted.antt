@@ -10,6 +10,7 @@ use Rattle.ffv1_record.specs.Writable.{IsWritable}
 use Rattle.ffv1_record.specs.declared.config.Coder.{Coder}
 use Rattle.ffv1_record.specs.declared.config.Coder.TheVariants as coder
 use Rattle.ffv1_record.specs.declared.config.Profile.{Profile}
+use Rattle.ffv1_record.specs.declared.config.Profile.TheVariants as profile
 use Rattle.ffv1_record.specs.declared.fault.RecordFault.{RecordFault}
 use Rattle.ffv1_record.specs.declared.fault.RecordFault.TheVariants as fault
 use Rattle.ffv1_record.specs.Configuration.{Configuration, is_rct}
@@ -18,6 +19,22 @@ use Rattle.ffv1_record.specs.Configuration.{Configuration, is_rct}
 abbrev pub is_sized : Configuration → Bool
 is_sized c = (nat_le 1 c.width && nat_le c.width 8192)
     && (nat_le 1 c.height && nat_le c.height 8192)
+
+-- RFC 9043, 4.2.7: the depths up to `most`, in bits a sample; at 16 bits there is no RCT
+abbrev pub is_depth : ℕ → Bool → ℕ → Bool
+is_depth most rct depth =
+    nat_le depth most
+    && ((depth == 8) || (depth == 9) || (depth == 10) || (depth == 12) || (depth == 14)
+    || ((depth == 16) && not rct))
+
+-- a configuration has one of them
+abbrev pub has_depth : ℕ → Configuration → Bool
+has_depth most c = is_depth most (is_rct c.colour) c.depth
+
+-- the greatest depth of a profile, where `Wide` goes up to `most`
+abbrev pub deepest : Profile → ℕ → ℕ
+deepest profile.Strict most = 8
+deepest profile.Wide most = most
 
 -- RFC 9043, 4.2.5 to 4.2.9: RCT has chroma planes; chroma of another size than the picture's is of
 -- YCbCr alone, and at most a quarter as wide or high
@@ -80,17 +97,16 @@ abbrev pub IsFirst : List RecordFault → Configuration → RecordFault → Type
 IsFirst [] c found = ⊥
 IsFirst (f ∷ fs) c found = ((Passes f c → ⊥) × (found ≡ f)) ⊎ (Passes f c × IsFirst fs c found)
 
--- the same of a configuration whose depth, in bits a sample, is judged after its size: whether that
--- depth is accepted, and all else stands as it does at 8
+-- the same where a depth is judged after the size, and this says whether it is accepted
 abbrev pub IsFirstWhere : Bool → Configuration → RecordFault → Type 0
 IsFirstWhere true c found = IsFirst checks c found
 IsFirstWhere false c found =
     ((Passes fault.Size c → ⊥) × (found ≡ fault.Size))
     ⊎ (Passes fault.Size c × (found ≡ fault.Depth))
 
--- why a configuration is refused at a depth: 8 is accepted alone (RFC 9043, 4.2.7)
-abbrev pub IsFirstAt : ℕ → Configuration → RecordFault → Type 0
-IsFirstAt depth c found = IsFirstWhere (depth == 8) c found
+-- why a configuration is refused where depths up to this one are accepted
+abbrev pub IsFirstUpTo : ℕ → Configuration → RecordFault → Type 0
+IsFirstUpTo most c found = IsFirstWhere (has_depth most c) c found
 
 -- a configuration that was checked, its state transition table, and the profile that it was checked
 -- in
@@ -101,6 +117,7 @@ pub record Accepted : Type 0 where
 
 -- what holds of each configuration that was checked
 pub record IsAccepted (c : Configuration) (t : Table) : Type 0 where
+  pub depth : IsTrue (has_depth 16 c)
   pub passes : PassesAll checks c
   pub table : IsTableFor c.coder t
   pub closed : IsTable t.floor t.one

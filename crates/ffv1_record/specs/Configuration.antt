@@ -7,10 +7,11 @@ use Rattle.ffv1_record.specs.declared.config.Coder.{Coder}
 use Rattle.ffv1_record.specs.declared.config.Colour.{Colour}
 use Rattle.ffv1_record.specs.declared.config.Colour.TheVariants as colour
 
--- a configuration, without where it lies in memory
+-- a configuration, without where it lies in memory; its depth is the bits of a sample
 pub record Configuration : Type 0 where
   pub width : ℕ
   pub height : ℕ
+  pub depth : ℕ
   pub coder : Coder
   pub colour : Colour
   pub chroma_planes : Bool
@@ -23,10 +24,12 @@ pub record Configuration : Type 0 where
   pub ec : Bool
   pub intra : Bool
 
+-- what a configuration in memory says, of samples of 8 bits
 abbrev pub configuration_of : {A : Type 0} → Config A → Configuration
 configuration_of c = record {
   width = c.width;
   height = c.height;
+  depth = 8;
   coder = c.coder;
   colour = c.colour;
   chroma_planes = c.chroma_planes;
@@ -39,6 +42,10 @@ configuration_of c = record {
   ec = c.ec;
   intra = c.intra;
 }
+
+-- the same of samples of so many bits
+abbrev pub at_depth : Configuration → ℕ → Configuration
+at_depth c depth = record c { depth = depth }
 
 abbrev pub is_rct : Colour → Bool
 is_rct colour.YCbCr = false

@@ -65,7 +65,8 @@ is_same_coding c d =
     && (are_same_sets c.sets d.sets && (is_same_truth c.ec d.ec && is_same_truth c.intra d.intra))
 
 abbrev pub is_same : Configuration → Configuration → Bool
-is_same c d = is_same_grid c d && (are_same_planes c d && is_same_coding c d)
+is_same c d =
+    c.depth == d.depth && (is_same_grid c d && (are_same_planes c d && is_same_coding c d))
 
 -- a profile and a configuration, which determine what was checked
 abbrev pub profiled_of : Accepted → Profile × Configuration
@@ -124,9 +125,9 @@ pub same_sets : (ss zs : List Set) → Decides (are_same_sets ss zs) (ss ≡ zs)
 same_sets = pointwise_decides (pointwise_decides (pointwise_decides unsigned_Decides))
 
 -- a configuration of its values
-whole : ℕ → ℕ → Coder → Colour → Bool → Bool → ℕ → ℕ → ℕ → ℕ → List Set → Bool → Bool →
+whole : ℕ → ℕ → Coder → Colour → Bool → Bool → ℕ → ℕ → ℕ → ℕ → List Set → Bool → Bool → ℕ →
     Configuration
-whole x0 x1 x2 x3 x4 x5 x6 x7 x8 x9 x10 x11 x12 =
+whole x0 x1 x2 x3 x4 x5 x6 x7 x8 x9 x10 x11 x12 x13 =
     record {
       width = x0;
       height = x1;
@@ -142,40 +143,43 @@ whole x0 x1 x2 x3 x4 x5 x6 x7 x8 x9 x10 x11 x12 =
       sets = x10;
       ec = x11;
       intra = x12;
+      depth = x13;
     }
 
 all_same : (c d : Configuration) → c.width ≡ d.width → c.height ≡ d.height → c.coder ≡ d.coder →
     c.colour ≡ d.colour → c.chroma_planes ≡ d.chroma_planes → c.extra_plane ≡ d.extra_plane →
     c.log2_h ≡ d.log2_h → c.log2_v ≡ d.log2_v → c.columns ≡ d.columns → c.rows ≡ d.rows →
-    c.sets ≡ d.sets → c.ec ≡ d.ec → c.intra ≡ d.intra → c ≡ d
+    c.sets ≡ d.sets → c.ec ≡ d.ec → c.intra ≡ d.intra → c.depth ≡ d.depth → c ≡ d
 unfolding whole
-all_same c d e0 e1 e2 e3 e4 e5 e6 e7 e8 e9 e10 e11 e12 =
+all_same c d e0 e1 e2 e3 e4 e5 e6 e7 e8 e9 e10 e11 e12 e13 =
     ap (λ (z : ℕ). whole z c.height c.coder c.colour c.chroma_planes c.extra_plane c.log2_h
-    c.log2_v c.columns c.rows c.sets c.ec c.intra) e0
+    c.log2_v c.columns c.rows c.sets c.ec c.intra c.depth) e0
     ∙ ap (λ (z : ℕ). whole d.width z c.coder c.colour c.chroma_planes c.extra_plane c.log2_h
-    c.log2_v c.columns c.rows c.sets c.ec c.intra) e1
+    c.log2_v c.columns c.rows c.sets c.ec c.intra c.depth) e1
     ∙ ap (λ (z : Coder). whole d.width d.height z c.colour c.chroma_planes c.extra_plane c.log2_h
-    c.log2_v c.columns c.rows c.sets c.ec c.intra) e2
+    c.log2_v c.columns c.rows c.sets c.ec c.intra c.depth) e2
     ∙ ap (λ (z : Colour). whole d.width d.height d.coder z c.chroma_planes c.extra_plane c.log2_h
-    c.log2_v c.columns c.rows c.sets c.ec c.intra) e3
+    c.log2_v c.columns c.rows c.sets c.ec c.intra c.depth) e3
     ∙ ap (λ (z : Bool). whole d.width d.height d.coder d.colour z c.extra_plane c.log2_h c.log2_v
-    c.columns c.rows c.sets c.ec c.intra) e4
+    c.columns c.rows c.sets c.ec c.intra c.depth) e4
     ∙ ap (λ (z : Bool). whole d.width d.height d.coder d.colour d.chroma_planes z c.log2_h c.log2_v
-    c.columns c.rows c.sets c.ec c.intra) e5
+    c.columns c.rows c.sets c.ec c.intra c.depth) e5
     ∙ ap (λ (z : ℕ). whole d.width d.height d.coder d.colour d.chroma_planes d.extra_plane z
-    c.log2_v c.columns c.rows c.sets c.ec c.intra) e6
+    c.log2_v c.columns c.rows c.sets c.ec c.intra c.depth) e6
     ∙ ap (λ (z : ℕ). whole d.width d.height d.coder d.colour d.chroma_planes d.extra_plane d.log2_h
-    z c.columns c.rows c.sets c.ec c.intra) e7
+    z c.columns c.rows c.sets c.ec c.intra c.depth) e7
     ∙ ap (λ (z : ℕ). whole d.width d.height d.coder d.colour d.chroma_planes d.extra_plane d.log2_h
-    d.log2_v z c.rows c.sets c.ec c.intra) e8
+    d.log2_v z c.rows c.sets c.ec c.intra c.depth) e8
     ∙ ap (λ (z : ℕ). whole d.width d.height d.coder d.colour d.chroma_planes d.extra_plane d.log2_h
-    d.log2_v d.columns z c.sets c.ec c.intra) e9
+    d.log2_v d.columns z c.sets c.ec c.intra c.depth) e9
     ∙ ap (λ (z : List Set). whole d.width d.height d.coder d.colour d.chroma_planes d.extra_plane
-    d.log2_h d.log2_v d.columns d.rows z c.ec c.intra) e10
+    d.log2_h d.log2_v d.columns d.rows z c.ec c.intra c.depth) e10
     ∙ ap (λ (z : Bool). whole d.width d.height d.coder d.colour d.chroma_planes d.extra_plane
-    d.log2_h d.log2_v d.columns d.rows d.sets z c.intra) e11
+    d.log2_h d.log2_v d.columns d.rows d.sets z c.intra c.depth) e11
     ∙ ap (λ (z : Bool). whole d.width d.height d.coder d.colour d.chroma_planes d.extra_plane
-    d.log2_h d.log2_v d.columns d.rows d.sets d.ec z) e12
+    d.log2_h d.log2_v d.columns d.rows d.sets d.ec z c.depth) e12
+    ∙ ap (λ (z : ℕ). whole d.width d.height d.coder d.colour d.chroma_planes d.extra_plane d.log2_h
+    d.log2_v d.columns d.rows d.sets d.ec d.intra z) e13
 
 pub same_configuration : (c d : Configuration) → Decides (is_same c d) (c ≡ d)
 same_configuration c d =
@@ -204,36 +208,42 @@ same_configuration c d =
     let coding = Decides-and (is_same_coder c.coder d.coder) (are_same_sets c.sets d.sets
     && (is_same_truth c.ec d.ec
     && is_same_truth c.intra d.intra)) (same_coder c.coder d.coder) sets in
-    let all = Decides-and (is_same_grid c d) (are_same_planes c d
+    let all = Decides-and (c.depth == d.depth) (is_same_grid c d
+    && (are_same_planes c d && is_same_coding c d)) (unsigned_Decides c.depth d.depth) (Decides-and
+    (is_same_grid c d) (are_same_planes c d
     && is_same_coding c d) grid (Decides-and (are_same_planes c d) (is_same_coding c d) planes
-    coding) in
+    coding)) in
     Decides-like (is_same c d)
-    (λ h. all_same c d h.0.0 h.0.1.0 h.1.1.0 h.1.0.0 h.1.0.1.0 h.1.0.1.1.0 h.1.0.1.1.1.0
-    h.1.0.1.1.1.1 h.0.1.1.0 h.0.1.1.1 h.1.1.1.0 h.1.1.1.1.0 h.1.1.1.1.1)
+    (λ h. all_same c d h.1.0.0 h.1.0.1.0 h.1.1.1.0 h.1.1.0.0 h.1.1.0.1.0 h.1.1.0.1.1.0
+    h.1.1.0.1.1.1.0 h.1.1.0.1.1.1.1 h.1.0.1.1.0 h.1.0.1.1.1 h.1.1.1.1.0 h.1.1.1.1.1.0
+    h.1.1.1.1.1.1 h.0)
     (λ e. (
-      (
-        ap (λ (z : Configuration). z.width) e,
-        (
-          ap (λ (z : Configuration). z.height) e,
-          (ap (λ (z : Configuration). z.columns) e, ap (λ (z : Configuration). z.rows) e),
-        ),
-      ),
+      ap (λ (z : Configuration). z.depth) e,
       (
         (
-          ap (λ (z : Configuration). z.colour) e,
+          ap (λ (z : Configuration). z.width) e,
           (
-            ap (λ (z : Configuration). z.chroma_planes) e,
-            (
-              ap (λ (z : Configuration). z.extra_plane) e,
-              (ap (λ (z : Configuration). z.log2_h) e, ap (λ (z : Configuration). z.log2_v) e),
-            ),
+            ap (λ (z : Configuration). z.height) e,
+            (ap (λ (z : Configuration). z.columns) e, ap (λ (z : Configuration). z.rows) e),
           ),
         ),
         (
-          ap (λ (z : Configuration). z.coder) e,
           (
-            ap (λ (z : Configuration). z.sets) e,
-            (ap (λ (z : Configuration). z.ec) e, ap (λ (z : Configuration). z.intra) e),
+            ap (λ (z : Configuration). z.colour) e,
+            (
+              ap (λ (z : Configuration). z.chroma_planes) e,
+              (
+                ap (λ (z : Configuration). z.extra_plane) e,
+                (ap (λ (z : Configuration). z.log2_h) e, ap (λ (z : Configuration). z.log2_v) e),
+              ),
+            ),
+          ),
+          (
+            ap (λ (z : Configuration). z.coder) e,
+            (
+              ap (λ (z : Configuration). z.sets) e,
+              (ap (λ (z : Configuration). z.ec) e, ap (λ (z : Configuration). z.intra) e),
+            ),
           ),
         ),
       ),

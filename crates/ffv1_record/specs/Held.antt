@@ -1,5 +1,6 @@
 -- How much a decoder of pictures holds, which the height does not change.
 use Rattle.std.specs.Prelude.{ℕ, ◌*◌, Bool, true, false}
+use Rattle.ffv1_samples.specs.Samples.{sample_bytes}
 use Rattle.ffv1_record.specs.Sets.{most_contexts}
 use Rattle.ffv1_record.specs.declared.checked.Held.{Held}
 use Rattle.ffv1_record.specs.declared.config.Colour.{Colour}
@@ -22,7 +23,7 @@ abbrev pub held_of : Configuration → Held
 held_of c = record {
   states = 32 * c.columns * classes_of c.chroma_planes c.extra_plane * most_contexts c.sets;
   samples = 3 * planes_of c.colour c.extra_plane * c.width;
-  output = planes_of c.colour c.extra_plane * c.width;
+  output = sample_bytes c.depth * (planes_of c.colour c.extra_plane * c.width);
   columns = c.columns;
   offsets = 1025;
 }

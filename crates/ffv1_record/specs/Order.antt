@@ -15,9 +15,9 @@ use Rattle.ffv1_record.specs.declared.fault.RecordFault.TheVariants as fault
 use Rattle.ffv1_record.specs.Configuration.{Configuration, is_rct}
 use Rattle.ffv1_record.specs.Sets.{AreSets}
 use Rattle.ffv1_record.specs.Writable.{AreDeltas, IsWritable}
-use Rattle.ffv1_record.specs.Accepted.{IsTableFor}
+use Rattle.ffv1_record.specs.Accepted.{IsTableFor, is_depth}
 use Rattle.ffv1_record.specs.Record.{IsCoded, number_steps, truth_steps, deltas_steps, coder_steps}
-use Rattle.ffv1_record.specs.Record.{runs_steps, set_steps, sets_steps, uncoded_steps}
+use Rattle.ffv1_record.specs.Record.{runs_steps, set_steps, sets_steps, uncoded_steps, depth_of}
 
 -- a symbol without an end, by the states at these slots
 abbrev pub IsTooLong : ℕ → List Step → RecordFault → Type 0
@@ -79,12 +79,13 @@ colorspace_type = record {
   Fails = λ c. IsBadNumber 0 (λ n. (0 ≤ n) × (n ≤ 1)) fault.ColourSpace;
 }
 
--- bits_per_raw_sample 8, or 0 for the same
-abbrev pub bits_per_raw_sample : Parameter
-bits_per_raw_sample = record {
-  IsGood = λ bits c. (bits ≡ 8) ⊎ (bits ≡ 0);
+-- bits_per_raw_sample, which is a depth up to `most`, or 0 for 8
+abbrev pub bits_per_raw_sample : ℕ → Parameter
+bits_per_raw_sample most = record {
+  IsGood = λ bits c. IsTrue (is_depth most (is_rct c.colour) (depth_of bits));
   steps = λ bits c. number_steps 0 bits;
-  Fails = λ c. IsBadNumber 0 (λ n. (n ≡ 8) ⊎ (n ≡ 0)) fault.Depth;
+  Fails = λ c.
+      IsBadNumber 0 (λ n. IsTrue (is_depth most (is_rct c.colour) (depth_of n))) fault.Depth;
 }
 
 -- chroma_planes, any truth value
@@ -193,10 +194,10 @@ intra = record {
 }
 
 -- all of them, in the order of the record
-abbrev pub in_order : List Parameter
-in_order =
-    version ∷ micro_version ∷ coder_type ∷ colorspace_type ∷ bits_per_raw_sample ∷ chroma_planes
-    ∷ log2_h_chroma_subsample ∷ log2_v_chroma_subsample ∷ extra_plane ∷ num_h_slices
+abbrev pub in_order : ℕ → List Parameter
+in_order most =
+    version ∷ micro_version ∷ coder_type ∷ colorspace_type ∷ bits_per_raw_sample most
+    ∷ chroma_planes ∷ log2_h_chroma_subsample ∷ log2_v_chroma_subsample ∷ extra_plane ∷ num_h_slices
     ∷ num_v_slices ∷ quant_table_set_count ∷ quant_table_sets ∷ states_coded ∷ ec ∷ intra ∷ []
 
 -- of parameters after some symbols the bytes code good ones, and then this fault

@@ -13,9 +13,9 @@ use Rattle.ffv1_record.specs.declared.config.Colour.{Colour}
 use Rattle.ffv1_record.specs.declared.config.Colour.TheVariants as colour
 use Rattle.ffv1_record.specs.declared.planes.Planes.{Planes}
 use Rattle.ffv1_record.specs.Parity.{remainder_of}
-use Rattle.ffv1_record.specs.Configuration.{Configuration}
-use Rattle.ffv1_record.specs.Accepted.{IsFirst, checks}
-use Rattle.ffv1_record.specs.Record.{body_of}
+use Rattle.ffv1_record.specs.Configuration.{Configuration, is_rct}
+use Rattle.ffv1_record.specs.Accepted.{IsFirst, checks, is_depth}
+use Rattle.ffv1_record.specs.Record.{body_of, depth_of}
 use Rattle.ffv1_record.specs.Reader.{Reader, Spot, ◌>>=◌, done, require, next_table, number}
 use Rattle.ffv1_record.specs.Reader.{signed_number, truth, number_within, makes_table}
 
@@ -45,17 +45,17 @@ abbrev pub colour_of : ℕ → Colour
 colour_of zero = colour.YCbCr
 colour_of (suc n) = colour.Rct
 
--- bits_per_raw_sample
-abbrev pub depth : Reader ℕ
-depth = do
+-- bits_per_raw_sample: a depth, with or without RCT, up to a greatest one
+abbrev pub depth : ℕ → Bool → Reader ℕ
+depth most rct = do
   n ← number 0
-  _ ← require ((n == 0) || (n == 8)) fault.Depth
-  done n
+  _ ← require (is_depth most rct (depth_of n)) fault.Depth
+  done (depth_of n)
 
-abbrev pub planes : Reader Planes
-planes = do
+abbrev pub planes : ℕ → Reader Planes
+planes most = do
   kind ← number_within 0 0 1 fault.ColourSpace
-  _ ← depth
+  bits ← depth most (is_rct (colour_of kind))
   chroma ← truth
   log2_h ← number 0
   log2_v ← number 0
@@ -63,6 +63,7 @@ planes = do
   _ ← require (chroma || not extra) fault.ExtraPlane
   done (record {
     colour = colour_of kind;
+    depth = bits;
     chroma_planes = chroma;
     extra_plane = extra;
     log2_h =
@@ -126,10 +127,10 @@ tables = do
   done ss
 
 -- the parameters before the first set, of which the last says how many sets there are
-abbrev pub before_sets : Reader ℕ
-before_sets = do
+abbrev pub before_sets : ℕ → Reader ℕ
+before_sets most = do
   _ ← opening
-  _ ← planes
+  _ ← planes most
   _ ← count_of
   _ ← count_of
   number_within 0 1 8 fault.Sets
@@ -140,11 +141,11 @@ flag f = do
   n ← number_within 0 0 1 f
   done (n == 1)
 
--- all parameters, of pictures of a size
-abbrev pub parameters : ℕ → ℕ → Reader Configuration
-parameters width height = do
+-- all parameters, with a depth up to `most`, of pictures of a size
+abbrev pub parameters : ℕ → ℕ → ℕ → Reader Configuration
+parameters most width height = do
   coder ← opening
-  p ← planes
+  p ← planes most
   columns ← count_of
   rows ← count_of
   ss ← tables
@@ -153,6 +154,7 @@ parameters width height = do
   done (record {
     width = width;
     height = height;
+    depth = p.depth;
     coder = coder;
     colour = p.colour;
     chroma_planes = p.chroma_planes;
@@ -171,36 +173,37 @@ abbrev pub beginning : Spot
 beginning = record { past = []; fresh = 32 }
 
 -- what is read of a record of at least 5 bytes and remainder 0
-abbrev pub IsMet : List ℕ → ℕ → ℕ → RecordFault → Type 0
-IsMet bytes width height f =
+abbrev pub IsMet : ℕ → List ℕ → ℕ → ℕ → RecordFault → Type 0
+IsMet most bytes width height f =
     ((65280 ≤ value (body_of bytes) 2) × (f ≡ fault.BadStart))
-    ⊎ parameters width height (body_of bytes) beginning (Err f)
+    ⊎ parameters most width height (body_of bytes) beginning (Err f)
     ⊎ ((c : Configuration) × (t : Spot)
-    × parameters width height (body_of bytes) beginning (Ok (c, t)) × IsFirst checks c f)
+    × parameters most width height (body_of bytes) beginning (Ok (c, t)) × IsFirst checks c f)
 
--- the bytes are no record of a configuration of this size, and this is the first fault
-abbrev pub IsRefused : List ℕ → ℕ → ℕ → RecordFault → Type 0
-IsRefused bytes width height f =
+-- the bytes are no record of a configuration of this size with a depth up to `most`, and this is
+-- the first fault
+abbrev pub IsRefused : ℕ → List ℕ → ℕ → ℕ → RecordFault → Type 0
+IsRefused most bytes width height f =
     ((length bytes < 5) × (f ≡ fault.Short))
     ⊎ ((5 ≤ length bytes) × (remainder_of bytes ≢ 0) × (f ≡ fault.Parity))
-    ⊎ ((5 ≤ length bytes) × (remainder_of bytes ≡ 0) × IsMet bytes width height f)
+    ⊎ ((5 ≤ length bytes) × (remainder_of bytes ≡ 0) × IsMet most bytes width height f)
 
--- the bytes are no record, and this fault stands before the first set: it is told whatever memory
--- there is
-abbrev pub IsRefusedBeforeSets : List ℕ → RecordFault → Type 0
-IsRefusedBeforeSets bytes f =
+-- the bytes are no record with a depth up to `most`, and this fault stands before the first set: it
+-- is told whatever memory there is
+abbrev pub IsRefusedBeforeSets : ℕ → List ℕ → RecordFault → Type 0
+IsRefusedBeforeSets most bytes f =
     ((length bytes < 5) × (f ≡ fault.Short))
     ⊎ ((5 ≤ length bytes) × (remainder_of bytes ≢ 0) × (f ≡ fault.Parity))
     ⊎ ((5 ≤ length bytes) × (remainder_of bytes ≡ 0) × (65280 ≤ value (body_of bytes) 2)
     × (f ≡ fault.BadStart))
     ⊎ ((5 ≤ length bytes) × (remainder_of bytes ≡ 0)
-    × before_sets (body_of bytes) beginning (Err f))
+    × before_sets most (body_of bytes) beginning (Err f))
 
 -- no fault stands before the first set: from there on memory is taken
-pub record ReachesSets (bytes : List ℕ) : Type 0 where
+pub record ReachesSets (most : ℕ) (bytes : List ℕ) : Type 0 where
   pub long : 5 ≤ length bytes
   pub whole : remainder_of bytes ≡ 0
   pub start : value (body_of bytes) 2 < 65280
   pub count : ℕ
   pub behind : Spot
-  pub read : before_sets (body_of bytes) beginning (Ok (count, behind))
+  pub read : before_sets most (body_of bytes) beginning (Ok (count, behind))

@@ -90,7 +90,7 @@ record_decisions bits c = decisions_after standard [] (record_steps bits c)
 
 -- the parameters by the full ending
 abbrev pub coded_of : Configuration → List ℕ
-coded_of c = full_of (interval_of (record_decisions 8 c))
+coded_of c = full_of (interval_of (record_decisions c.depth c))
 
 -- RFC 9043, 4.3: and the parity of them
 abbrev pub record_of : Configuration → List ℕ
@@ -104,11 +104,16 @@ body_of bytes = take (length bytes - 4) bytes
 abbrev pub IsCoded : List ℕ → List Step → Type 0
 IsCoded bytes steps = Codes bytes (decisions_after standard [] steps)
 
+-- the depth of a bits_per_raw_sample: 0 means 8
+abbrev pub depth_of : ℕ → ℕ
+depth_of zero = 8
+depth_of (suc n) = suc n
+
 -- the bytes are a record of the configuration: a bits_per_raw_sample of 0 means 8, and bytes
 -- between the parameters and the parity count for nothing
 pub record IsRecord (bytes : List ℕ) (c : Configuration) : Type 0 where
   pub long : 5 ≤ length bytes
   pub whole : remainder_of bytes ≡ 0
   pub bits : ℕ
-  pub known : (bits ≡ 8) ⊎ (bits ≡ 0)
+  pub known : (bits ≡ c.depth) ⊎ ((bits ≡ 0) × (c.depth ≡ 8))
   pub coded : IsCoded (body_of bytes) (record_steps bits c)

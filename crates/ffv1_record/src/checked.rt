@@ -1,13 +1,14 @@
 //! Configurations that were checked.
 
 ghost use Rattle.std.specs.Prelude.{◌≡◌, ℕ, ◌+◌, ◌*◌, ◌<◌, ◌≤◌};
-ghost use Rattle.ffv1_record.specs.Configuration.{configuration_of};
-ghost use Rattle.ffv1_record.specs.Accepted.{IsAccepted};
+ghost use Rattle.ffv1_record.specs.Configuration.{configuration_of, at_depth};
+ghost use Rattle.ffv1_record.specs.Accepted.{IsAccepted, deepest};
 ghost use Rattle.ffv1_record.specs.Held.{held_of};
 ghost use Rattle.ffv1_range.specs.Table.{IsTable};
 
 use crate::config::{Colour, Config, Profile};
 use ffv1_range::StateTable;
+use ffv1_samples::sample_bytes;
 use std::alloc::{Allocator, Global};
 use std::marker::Model;
 
@@ -19,7 +20,7 @@ pub struct Held {
     pub states: usize,
     /// Samples: three lines of each plane that is held at once.
     pub samples: usize,
-    /// Bytes of output: one line of each such plane.
+    /// Bytes of output: one line of each such plane, of one byte a sample at 8 bits, else two.
     pub output: usize,
     /// Column records.
     pub columns: usize,
@@ -27,36 +28,45 @@ pub struct Held {
     pub offsets: usize,
 }
 
-/// A configuration that was checked, its state transition table, and the profile that it was
-/// checked in.
+/// A configuration that was checked, its depth, its state transition table, and the profile that it
+/// was checked in.
 #[derive(Drop)]
 pub struct Checked<A: Allocator = Global> {
     config: Config<A>,
+    depth: u32,
     table: StateTable,
     profile: Profile,
 }
 
 impl<A: Allocator> Model for Checked<A> {
-    ghost use Rattle.ffv1_record.specs.Configuration.{configuration_of};
-    ghost use Rattle.ffv1_record.specs.Accepted.{Accepted, IsAccepted};
+    ghost use Rattle.ffv1_record.specs.Configuration.{configuration_of, at_depth};
+    ghost use Rattle.std.specs.Prelude.{◌≤◌};
+    ghost use Rattle.ffv1_record.specs.Accepted.{Accepted, IsAccepted, deepest};
 
     ghost Value = { Accepted };
 
     ghost view = { λ c. record {
-      configuration = configuration_of c.config;
+      configuration = at_depth (configuration_of c.config) c.depth;
       table = c.table;
       profile = c.profile;
     } };
 
-    ghost invariant = { λ c. IsAccepted (configuration_of c.config) c.table };
+    ghost invariant = { λ c. IsAccepted (at_depth (configuration_of c.config) c.depth) c.table
+        × (c.depth ≤ deepest c.profile 16) };
 }
 
 impl<A: Allocator> Checked<A> {
-    /// A configuration, its table, and a profile.
-    pub(crate) fn new(config: Config<A>, table: StateTable, profile: Profile) -> Checked<A>
-        requires { IsAccepted (configuration_of config) table }
+    /// A configuration, its depth, its table, and a profile.
+    pub(crate) fn new(
+        config: Config<A>,
+        depth: u32,
+        table: StateTable,
+        profile: Profile,
+    ) -> Checked<A>
+        requires accepted { IsAccepted (at_depth (configuration_of config) depth) table }
+        requires depth { depth ≤ deepest profile 16 }
         ensures value { result ≡ record {
-          configuration = configuration_of config;
+          configuration = at_depth (configuration_of config) depth;
           table = table;
           profile = profile;
         } }
@@ -64,17 +74,29 @@ impl<A: Allocator> Checked<A> {
     {
         Checked {
             config,
+            depth,
             table,
             profile,
         }
     }
 
-    /// The configuration.
+    /// The configuration, which does not say the depth.
     pub fn config(&self) -> &Config<A>
-        ensures value { self.now.configuration ≡ configuration_of result.now }
+        ensures value { self.now.configuration
+            ≡ at_depth (configuration_of result.now) self.now.configuration.depth }
         ensures accepted { IsAccepted self.now.configuration self.now.table }
     {
         &self.config
+    }
+
+    /// The bits of a sample: 8, or in the profile `Wide` also 9, 10, 12, 14 or 16.
+    pub fn depth(&self) -> u32
+        ensures value { result ≡ self.now.configuration.depth }
+        ensures least { 8 ≤ result }
+        ensures most { result ≤ 16 }
+        ensures profile { result ≤ deepest self.now.profile 16 }
+    {
+        self.depth
     }
 
     /// Its state transition table.
@@ -113,7 +135,7 @@ impl<A: Allocator> Checked<A> {
         Held {
             states: 32 * columns * classes * config.sets.most_contexts() as usize,
             samples: 3 * planes * width,
-            output: planes * width,
+            output: sample_bytes(self.depth) * (planes * width),
             columns,
             offsets: 1025,
         }

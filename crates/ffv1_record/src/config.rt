@@ -4,12 +4,13 @@ ghost use Rattle.std.specs.Prelude.{◌≡◌, ◌≢◌, ℕ, ◌+◌, ◌*◌,
 ghost use Rattle.std.specs.Prelude.{IsFalse, IfOk, IfErr, length};
 ghost use Rattle.ffv1_range.specs.Table.{Table, IsTable};
 ghost use Rattle.ffv1_range.specs.Deltas.{IsTableOf, HaveNoTable};
-ghost use Rattle.ffv1_record.specs.Configuration.{configuration_of};
+ghost use Rattle.ffv1_record.specs.Configuration.{configuration_of, at_depth, is_rct};
 ghost use Rattle.ffv1_record.specs.Sets.{AreSets};
 ghost use Rattle.ffv1_record.specs.Writable.{AreDeltas, IsWritable};
 ghost use Rattle.ffv1_record.specs.Accepted.{is_sized, is_subsampled, is_transparent, are_counted};
 ghost use Rattle.ffv1_record.specs.Accepted.{is_divided, IsTableFor, AreMultiples, IsFirst, Passes};
-ghost use Rattle.ffv1_record.specs.Accepted.{checks, IsAccepted, IsFirstAt};
+ghost use Rattle.ffv1_record.specs.Accepted.{checks, IsAccepted, IsFirstUpTo, is_depth, has_depth};
+ghost use Rattle.ffv1_record.specs.Accepted.{deepest};
 
 use crate::checked::Checked;
 use crate::fault::RecordFault;
@@ -38,15 +39,16 @@ pub enum Colour {
 /// What a configuration and the heads of its slices may say.
 #[derive(Clone, Copy, Debug)]
 pub enum Profile {
-    /// What this crate accepts of a configuration, and a head whose sample aspect has two numbers
-    /// that are both 0, which is unknown, or neither (RFC 9043, 4.6.8 and 4.6.9).
+    /// A depth of 8, and a head whose sample aspect has two numbers that are both 0, which is
+    /// unknown, or neither (RFC 9043, 4.6.8 and 4.6.9).
     Strict,
-    /// The same, and a head of which just one of these numbers is 0: it is read as 0:0, unknown.
+    /// Each depth up to a greatest one, and also a head of which just one of these numbers is 0: it
+    /// is read as 0:0, unknown.
     Wide,
 }
 
-/// What a stream is coded by: the parameters of RFC 9043, 4.2, for pictures of 8 bits a sample,
-/// each a key frame, and the size of the pictures.
+/// What a stream is coded by: the parameters of RFC 9043, 4.2, but for the bits of a sample, for
+/// pictures that are each a key frame, and the size of the pictures.
 #[derive(Drop)]
 pub struct Config<A: Allocator = Global> {
     /// The width of the pictures in samples, 1 to 8192.
@@ -145,6 +147,40 @@ fn are_multiples(size: u32, count: u32, log2: u32) -> bool
     true
 }
 
+/// Whether a depth is accepted, in bits a sample, with or without RCT: 8, 9, 10, 12, 14 or 16 where
+/// it is not above `most`, but 16 without RCT alone.
+pub(crate) fn is_depth(most: u32, rct: bool, depth: u32) -> bool
+    ensures { result ≡ is_depth most rct depth }
+{
+    depth <= most
+        && (depth == 8
+            || depth == 9
+            || depth == 10
+            || depth == 12
+            || depth == 14
+            || (depth == 16 && !rct))
+}
+
+/// The greatest depth of a profile: 8 in `Strict`, and `most` in `Wide`.
+pub(crate) fn deepest(profile: Profile, most: u32) -> u32
+    ensures { result ≡ deepest profile most }
+{
+    match profile {
+        Profile::Strict => 8,
+        Profile::Wide => most,
+    }
+}
+
+/// Whether the colour is RCT.
+pub(crate) fn is_rct(colour: Colour) -> bool
+    ensures { result ≡ is_rct colour }
+{
+    match colour {
+        Colour::YCbCr => false,
+        Colour::Rct => true,
+    }
+}
+
 impl<A: Allocator> Config<A> {
     /// Whether width and height are from 1 to 8192.
     fn is_sized(&self) -> bool
@@ -200,18 +236,21 @@ impl<A: Allocator> Config<A> {
             && are_multiples(self.height, self.rows, self.log2_v)
     }
 
-    /// The state transition table of a configuration that is accepted at a depth. Refuses as
-    /// `check_in` does.
-    fn judged(&self, depth: u32) -> Result<StateTable, RecordFault>
-        ensures depth { IfOk result (λ _. depth ≡ 8) }
-        ensures accepted { IfOk result (λ t. IsAccepted (configuration_of self.now) t) }
-        ensures refused { IfErr result (λ f. IsFirstAt depth (configuration_of self.now) f) }
+    /// The state transition table of a configuration that is accepted with a depth of at most
+    /// `most`. Refuses as `check_in` does.
+    fn judged(&self, depth: u32, most: u32) -> Result<StateTable, RecordFault>
+        ensures depth { IfOk result
+            (λ _. IsTrue (has_depth most (at_depth (configuration_of self.now) depth))) }
+        ensures accepted { IfOk result
+            (λ t. IsAccepted (at_depth (configuration_of self.now) depth) t) }
+        ensures refused { IfErr result
+            (λ f. IsFirstUpTo most (at_depth (configuration_of self.now) depth) f) }
         ensures memory { IfErr result (λ f. f ≢ RecordFault.OutOfMemory) }
     {
         if !self.is_sized() {
             return Err(RecordFault::Size);
         }
-        if depth != 8 {
+        if !is_depth(most, is_rct(self.colour), depth) {
             return Err(RecordFault::Depth);
         }
         if !self.is_subsampled() {
@@ -245,26 +284,35 @@ impl<A: Allocator> Config<A> {
         ensures refused { IfErr result (λ f. IsFirst checks (configuration_of self) f) }
         ensures memory { IfErr result (λ f. f ≢ RecordFault.OutOfMemory) }
     {
-        match self.check_in(Profile::Strict, 8) {
+        match self.check_in(Profile::Strict, 8, 8) {
             Ok(checked) => Ok(checked),
             Err(fault) => Err(fault),
         }
     }
 
-    /// The configuration, checked in a profile, which it keeps, for samples of so many bits. Refuses
-    /// with the first of these that stands: `Size`, `Depth` where the bits are not 8,
-    /// `Subsampling`, `ExtraPlane`, `Sets`, `StateTable`, `Grid`, `ChromaEdge`; else accepts. Both
-    /// profiles accept the same configurations. It takes no memory.
-    pub fn check_in(self, profile: Profile, depth: u32) -> Result<Checked<A>, RecordFault>
-        ensures depth { IfOk result (λ _. depth ≡ 8) }
-        ensures ok { IfOk result (λ c. c.configuration ≡ configuration_of self) }
+    /// The configuration, checked in a profile, for samples of `depth` bits; it keeps both. `most`
+    /// is the greatest depth that the profile `Wide` accepts. Refuses with the first of these that
+    /// stands: `Size`, `Depth`, `Subsampling`, `ExtraPlane`, `Sets`, `StateTable`, `Grid`,
+    /// `ChromaEdge`; else accepts. `Depth` comes in `Strict` where the depth is not 8, and in `Wide`
+    /// where it is not 8, 9, 10, 12, 14 or 16, or is above `most`, or is 16 with RCT. It takes no
+    /// memory.
+    pub fn check_in(
+        self,
+        profile: Profile,
+        depth: u32,
+        most: u32,
+    ) -> Result<Checked<A>, RecordFault>
+        ensures depth { IfOk result
+            (λ c. IsTrue (has_depth (deepest profile most) c.configuration)) }
+        ensures ok { IfOk result (λ c. c.configuration ≡ at_depth (configuration_of self) depth) }
         ensures profile { IfOk result (λ c. c.profile ≡ profile) }
         ensures accepted { IfOk result (λ c. IsAccepted c.configuration c.table) }
-        ensures refused { IfErr result (λ f. IsFirstAt depth (configuration_of self) f) }
+        ensures refused { IfErr result (λ f. IsFirstUpTo (deepest profile most)
+            (at_depth (configuration_of self) depth) f) }
         ensures memory { IfErr result (λ f. f ≢ RecordFault.OutOfMemory) }
     {
-        match self.judged(depth) {
-            Ok(table) => Ok(Checked::new(self, table, profile)),
+        match self.judged(depth, deepest(profile, most)) {
+            Ok(table) => Ok(Checked::new(self, depth, table, profile)),
             Err(fault) => Err(fault),
         }
     }

@@ -174,8 +174,8 @@ impl<A: Allocator> Eq for Config<A> {
     ghost laws = { on_equiv configuration_of configuration_equivalence };
 }
 
-/// Checked configurations are equal where the configurations and the profiles are: then their
-/// tables are, too.
+/// Checked configurations are equal where the configurations, the depths and the profiles are: then
+/// their tables are, too.
 impl<A: Allocator> PartialEq for Checked<A> {
     ghost use Rattle.std.specs.Prelude.{◌≡◌, ◌↔◌, IsTrue};
     ghost use Rattle.std.specs.Cmp.{partial_equiv_from_equiv, on_equiv};
@@ -189,7 +189,8 @@ impl<A: Allocator> PartialEq for Checked<A> {
         ensures value { result ≡ is_same_checked self.now other.now }
         ensures same { IsTrue result ↔ (self.now ≡ other.now) }
     {
-        self.profile() == other.profile() && self.config() == other.config()
+        self.profile() == other.profile()
+            && (self.depth() == other.depth() && self.config() == other.config())
     }
 }
 

@@ -56,8 +56,8 @@ pub fn written_is_record()
 /// it.
 pub fn written_is_read()
     ensures stored { (c : Configuration) (t : Table) → IsAccepted c t → IsRecord (record_of c) c }
-    ensures none { (c : Configuration) (t : Table) (f : RecordFault) → IsAccepted c t →
-        IsRefused (record_of c) c.width c.height f → ⊥ }
+    ensures none { (c : Configuration) (t : Table) (most : ℕ) (f : RecordFault) → IsAccepted c t →
+        c.depth ≤ most → IsRefused most (record_of c) c.width c.height f → ⊥ }
 {
     written_is_record();
 }
@@ -74,20 +74,21 @@ pub fn one_configuration()
 /// A fault that stands before the first set is told whatever memory there is: the bytes are
 /// refused with it, and `read_record` answers `OutOfMemory` for no such bytes.
 pub fn before_sets()
-    ensures refused { (bytes : List ℕ) (width height : ℕ) (f : RecordFault) →
-        IsRefusedBeforeSets bytes f → IsRefused bytes width height f }
-    ensures apart { (bytes : List ℕ) (f : RecordFault) → AreBytes bytes →
-        ReachesSets bytes → IsRefusedBeforeSets bytes f → ⊥ }
+    ensures refused { (most : ℕ) (bytes : List ℕ) (width height : ℕ) (f : RecordFault) →
+        IsRefusedBeforeSets most bytes f → IsRefused most bytes width height f }
+    ensures apart { (most : ℕ) (bytes : List ℕ) (f : RecordFault) → AreBytes bytes →
+        ReachesSets most bytes → IsRefusedBeforeSets most bytes f → ⊥ }
 {}
 
 /// Bytes are refused for one reason at most, and none that are a record of an accepted
-/// configuration.
+/// configuration of a depth up to the greatest one.
 pub fn one_refusal()
-    ensures one { (bytes : List ℕ) (width height : ℕ) (f g : RecordFault) → AreBytes bytes →
-        IsRefused bytes width height f → IsRefused bytes width height g → f ≡ g }
-    ensures none { (bytes : List ℕ) (c : Configuration) (t : Table) (f : RecordFault) →
+    ensures one { (most : ℕ) (bytes : List ℕ) (width height : ℕ) (f g : RecordFault) →
         AreBytes bytes →
-        IsAccepted c t → IsRecord bytes c → IsRefused bytes c.width c.height f → ⊥ }
+        IsRefused most bytes width height f → IsRefused most bytes width height g → f ≡ g }
+    ensures none { (most : ℕ) (bytes : List ℕ) (c : Configuration) (t : Table) (f : RecordFault) →
+        AreBytes bytes → IsAccepted c t → c.depth ≤ most →
+        IsRecord bytes c → IsRefused most bytes c.width c.height f → ⊥ }
 {}
 
 /// Which fault `Config::check` tells: one of its own seven, the one of which the configuration does
@@ -103,6 +104,8 @@ pub fn first_fault()
 pub fn accepted()
     ensures sizes { (c : Configuration) (t : Table) → IsAccepted c t →
         (1 ≤ c.width) × (c.width ≤ 8192) × (1 ≤ c.height) × (c.height ≤ 8192) }
+    ensures depth { (c : Configuration) (t : Table) → IsAccepted c t →
+        (8 ≤ c.depth) × (c.depth ≤ 16) }
     ensures factors { (c : Configuration) (t : Table) → IsAccepted c t →
         (c.log2_h ≤ 2) × (c.log2_v ≤ 2) }
     ensures columns { (c : Configuration) (t : Table) → IsAccepted c t →
@@ -118,7 +121,7 @@ pub fn accepted()
 /// What holds of the planes, sets and table of a configuration that was checked.
 pub fn accepted_parts()
     ensures rct { (c : Configuration) (t : Table) → IsAccepted c t → c.colour ≡ colour.Rct →
-        (c.chroma_planes ≡ true) × (c.log2_h ≡ 0) × (c.log2_v ≡ 0) }
+        (c.chroma_planes ≡ true) × (c.log2_h ≡ 0) × (c.log2_v ≡ 0) × (c.depth ≤ 14) }
     ensures luma { (c : Configuration) (t : Table) → IsAccepted c t → c.chroma_planes ≡ false →
         (c.colour ≡ colour.YCbCr) × (c.log2_h ≡ 0) × (c.log2_v ≡ 0) × (c.extra_plane ≡ false) }
     ensures set { (c : Configuration) (t : Table) (k : ℕ) → IsAccepted c t → k < length c.sets →
@@ -133,11 +136,12 @@ pub fn accepted_parts()
 /// where the bytes code good symbols of all parameters before it, and then symbols that are a fault
 /// in its place.
 pub fn first_bad_parameter()
-    ensures read { (bytes : List ℕ) (width height bits : ℕ) (c : Configuration) (f : RecordFault) →
-        AreBytes bytes → FirstBad in_order bytes [] bits c f →
-        parameters width height bytes beginning (Err f) }
-    ensures refused { (bytes : List ℕ) (width height bits : ℕ)
+    ensures read { (most : ℕ) (bytes : List ℕ) (width height bits : ℕ)
+        (c : Configuration) (f : RecordFault) →
+        AreBytes bytes → FirstBad (in_order most) bytes [] bits c f →
+        parameters most width height bytes beginning (Err f) }
+    ensures refused { (most : ℕ) (bytes : List ℕ) (width height bits : ℕ)
         (c : Configuration) (f : RecordFault) →
         AreBytes bytes → 5 ≤ length bytes → remainder_of bytes ≡ 0 →
-        FirstBad in_order (body_of bytes) [] bits c f → IsRefused bytes width height f }
+        FirstBad (in_order most) (body_of bytes) [] bits c f → IsRefused most bytes width height f }
 {}

@@ -7,8 +7,8 @@
 //! comes first: it refuses what is not accepted, and makes a `Checked`, which has the state
 //! transition table, too, and says how much a decoder holds. `write_record` writes a `Checked`, and
 //! `read_record` gives it back; `parity` is a function of bytes alone. `laws` has what holds of the
-//! definitions. A `Checked` keeps its `Profile`, which is `Strict` where none is named:
-//! `Config::check_in` and `read_record_in` take one.
+//! definitions. A `Checked` keeps its `Profile` and its depth, the bits of a sample, which are
+//! `Strict` and 8 where none is named: `Config::check_in` and `read_record_in` take them.
 //!
 //! ```
 //! let mut sets = Sets::new(heap);

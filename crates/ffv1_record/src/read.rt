@@ -4,9 +4,9 @@ ghost use Rattle.std.specs.Prelude.{◌≡◌, ◌≢◌, ◌⊎◌, ℕ, ◌+�
 ghost use Rattle.std.specs.Prelude.{length, take, IsTrue, IfOk, IfErr, MatchResult, Result, Ok};
 ghost use Rattle.std.specs.Prelude.{Err, true};
 ghost use Rattle.ffv1_record.specs.declared.fault.RecordFault.TheVariants as fault;
-ghost use Rattle.ffv1_record.specs.Configuration.{Configuration, configuration_of};
-ghost use Rattle.ffv1_record.specs.Accepted.{IsAccepted};
-ghost use Rattle.ffv1_record.specs.Record.{IsRecord};
+ghost use Rattle.ffv1_record.specs.Configuration.{Configuration, configuration_of, at_depth};
+ghost use Rattle.ffv1_record.specs.Accepted.{IsAccepted, deepest, is_depth, has_depth};
+ghost use Rattle.ffv1_record.specs.Record.{IsRecord, depth_of};
 ghost use Rattle.ffv1_record.specs.Reader.{truth, number_within};
 ghost use Rattle.ffv1_record.specs.Reading.{deltas_onto, opening, depth, colour_of, planes};
 ghost use Rattle.ffv1_record.specs.Reading.{count_of, table, set, sets_onto, uncoded, tables, flag};
@@ -16,7 +16,7 @@ ghost use Rattle.ffv1_range.specs.Table.{Table};
 ghost use Rattle.ffv1_plane.specs.Quantisation.{is_filled, are_filled, contexts_of};
 
 use crate::checked::Checked;
-use crate::config::{Coder, Colour, Config, Profile};
+use crate::config::{Coder, Colour, Config, Profile, deepest, is_depth, is_rct};
 use crate::fault::RecordFault;
 use crate::laws::guarded;
 use crate::planes::Planes;
@@ -57,17 +57,24 @@ fn read_opening(reader: &mut RecordReader<'_>) -> Result<Coder, RecordFault>
     Ok(Coder::Two(deltas))
 }
 
-/// The bits of a sample: 8, or 0 for the same.
-fn read_depth(reader: &mut RecordReader<'_>) -> Result<u32, RecordFault>
-    ensures gives { Gives (λ n. n) depth reader.old reader.new result }
+/// The depth of a bits_per_raw_sample, of which 0 means 8.
+fn depth_of(bits: u32) -> u32
+    ensures { result ≡ depth_of bits }
+{
+    if bits == 0 {
+        return 8;
+    }
+    bits
+}
+
+/// The bits of a sample, up to `most`, with or without RCT.
+fn read_depth(reader: &mut RecordReader<'_>, most: u32, rct: bool) -> Result<u32, RecordFault>
+    ensures gives { Gives (λ n. n) (depth most rct) reader.old reader.new result }
     ensures told { IfErr result (λ f. f ≢ fault.OutOfMemory) }
 {
     let bits = reader.number()?;
-    if bits == 0 {
-        return Ok(bits);
-    }
-    if bits == 8 {
-        return Ok(bits);
+    if is_depth(most, rct, depth_of(bits)) {
+        return Ok(depth_of(bits));
     }
     Err(RecordFault::Depth)
 }
@@ -90,13 +97,13 @@ fn suits(chroma_planes: bool, extra_plane: bool) -> bool
 }
 
 /// Colour, bits and chroma.
-fn read_planes(reader: &mut RecordReader<'_>) -> Result<Planes, RecordFault>
-    ensures gives { Gives (λ p. p) planes reader.old reader.new result }
+fn read_planes(reader: &mut RecordReader<'_>, most: u32) -> Result<Planes, RecordFault>
+    ensures gives { Gives (λ p. p) (planes most) reader.old reader.new result }
     ensures told { IfErr result (λ f. f ≢ fault.OutOfMemory) }
 {
     let kind = reader.number_within(0, 1, RecordFault::ColourSpace)?;
     let colour = colour_of(kind);
-    read_depth(reader)?;
+    let depth = read_depth(reader, most, is_rct(colour))?;
     let chroma_planes = reader.truth();
     let log2_h = reader.number()?;
     let log2_v = reader.number()?;
@@ -106,6 +113,7 @@ fn read_planes(reader: &mut RecordReader<'_>) -> Result<Planes, RecordFault>
     }
     Ok(Planes {
         colour,
+        depth,
         chroma_planes,
         extra_plane,
         log2_h,
@@ -236,24 +244,27 @@ fn read_flag(reader: &mut RecordReader<'_>, fault: RecordFault) -> Result<bool, 
     Ok(number == 1)
 }
 
-/// All parameters.
+/// All parameters: a configuration and its depth, which is at most `most`.
 fn read_parameters<A: Allocator + Copy>(
     alloc: A,
     reader: &mut RecordReader<'_>,
     width: u32,
     height: u32,
-) -> Result<Config<A>, RecordFault>
-    ensures gives { Gives configuration_of (parameters width height) reader.old reader.new result }
-    ensures memory { IfErr result (λ f. f ≡ fault.OutOfMemory → IsRead before_sets reader.old) }
+    most: u32,
+) -> Result<(Config<A>, u32), RecordFault>
+    ensures gives { Gives (λ r. at_depth (configuration_of r.0) r.1)
+        (parameters most width height) reader.old reader.new result }
+    ensures memory { IfErr result
+        (λ f. f ≡ fault.OutOfMemory → IsRead (before_sets most) reader.old) }
 {
     let coder = read_opening(reader)?;
-    let planes = read_planes(reader)?;
+    let planes = read_planes(reader, most)?;
     let columns = read_count(reader)?;
     let rows = read_count(reader)?;
     let sets = read_tables(alloc, reader)?;
     let ec = read_flag(reader, RecordFault::Ec)?;
     let intra = read_flag(reader, RecordFault::Intra)?;
-    Ok(Config {
+    let config = Config {
         width,
         height,
         coder,
@@ -267,12 +278,13 @@ fn read_parameters<A: Allocator + Copy>(
         sets,
         ec,
         intra,
-    })
+    };
+    Ok((config, planes.depth))
 }
 
 /// The configuration of a record (RFC 9043, 4.3), for pictures of a size that the container tells,
-/// in the profile `Strict`. It is refused as `read_record_in` refuses it, which says when each fault
-/// comes and what it leaves.
+/// in the profile `Strict`, whose depth is 8. It is refused as `read_record_in` refuses it, which
+/// says when each fault comes and what it leaves.
 pub fn read_record<A: Allocator + Copy>(
     alloc: A,
     bytes: &[u8],
@@ -282,50 +294,57 @@ pub fn read_record<A: Allocator + Copy>(
     ensures found { IfOk result (λ c. IsRecord bytes.now c.configuration) }
     ensures width { IfOk result (λ c. c.configuration.width ≡ width) }
     ensures height { IfOk result (λ c. c.configuration.height ≡ height) }
+    ensures depth { IfOk result (λ c. c.configuration.depth ≡ 8) }
     ensures profile { IfOk result (λ c. c.profile ≡ Profile.Strict) }
     ensures accepted { IfOk result (λ c. IsAccepted c.configuration c.table) }
     ensures only { (c : Configuration) (t : Table) → c.width ≡ width → c.height ≡ height →
-        IsAccepted c t → IsRecord bytes.now c →
+        c.depth ≡ 8 → IsAccepted c t → IsRecord bytes.now c →
         MatchResult result (λ r. r.configuration ≡ c) (λ f. f ≡ fault.OutOfMemory) }
     ensures exact { IfErr result
-        (λ f. (f ≡ fault.OutOfMemory) ⊎ IsRefused bytes.now width height f) }
-    ensures memory { IfErr result (λ f. f ≡ fault.OutOfMemory → ReachesSets bytes.now) }
+        (λ f. (f ≡ fault.OutOfMemory) ⊎ IsRefused 8 bytes.now width height f) }
+    ensures memory { IfErr result (λ f. f ≡ fault.OutOfMemory → ReachesSets 8 bytes.now) }
 {
-    match read_record_in(alloc, bytes, width, height, Profile::Strict) {
+    match read_record_in(alloc, bytes, width, height, Profile::Strict, 8) {
         Ok(checked) => Ok(checked),
         Err(fault) => Err(fault),
     }
 }
 
 /// The configuration of a record (RFC 9043, 4.3), for pictures of a size that the container tells,
-/// checked in a profile, which it keeps.
+/// checked in a profile, which it keeps. `most` is the greatest depth that the profile `Wide`
+/// accepts, in bits a sample.
 ///
 /// Refuses with `Short` where there are fewer than 5 bytes; else with `Parity` where their
 /// remainder is not 0; else with `BadStart` where the first two are 65280 or more; else with the
 /// first in the order of the bytes of `SymbolTooLong`, `Version` to `ExtraPlane`, `StateTable`,
 /// `Runs`, `Contexts` and `Sets`, each judged where its symbol has been read, the deltas after
-/// their last; else with the first that `Config::check_in` finds. `OutOfMemory` where a growth was
-/// refused before another fault was met: no memory is taken before the first set, so a fault that
-/// stands before it is told first. Bytes between the parameters and the parity are ignored, and 0
-/// bits of a sample mean 8. After a refusal the bytes are as they were, and may be read again.
+/// their last; else with the first that `Config::check_in` finds. `Depth` comes in `Strict` where
+/// the bits of a sample are not 0 or 8, and in `Wide` where they are not 0, 8, 9, 10, 12, 14 or 16,
+/// or are above `most`, or are 16 with RCT. `OutOfMemory` where a growth was refused before another
+/// fault was met: no memory is taken before the first set, so a fault that stands before it is told
+/// first. Bytes between the parameters and the parity are ignored, and 0 bits of a sample mean 8.
+/// After a refusal the bytes are as they were, and may be read again.
 pub fn read_record_in<A: Allocator + Copy>(
     alloc: A,
     bytes: &[u8],
     width: u32,
     height: u32,
     profile: Profile,
+    most: u32,
 ) -> Result<Checked<A>, RecordFault>
     ensures found { IfOk result (λ c. IsRecord bytes.now c.configuration) }
     ensures width { IfOk result (λ c. c.configuration.width ≡ width) }
     ensures height { IfOk result (λ c. c.configuration.height ≡ height) }
+    ensures depth { IfOk result (λ c. IsTrue (has_depth (deepest profile most) c.configuration)) }
     ensures profile { IfOk result (λ c. c.profile ≡ profile) }
     ensures accepted { IfOk result (λ c. IsAccepted c.configuration c.table) }
     ensures only { (c : Configuration) (t : Table) → c.width ≡ width → c.height ≡ height →
-        IsAccepted c t → IsRecord bytes.now c →
+        c.depth ≤ deepest profile most → IsAccepted c t → IsRecord bytes.now c →
         MatchResult result (λ r. r.configuration ≡ c) (λ f. f ≡ fault.OutOfMemory) }
-    ensures exact { IfErr result
-        (λ f. (f ≡ fault.OutOfMemory) ⊎ IsRefused bytes.now width height f) }
-    ensures memory { IfErr result (λ f. f ≡ fault.OutOfMemory → ReachesSets bytes.now) }
+    ensures exact { IfErr result (λ f. (f ≡ fault.OutOfMemory)
+        ⊎ IsRefused (deepest profile most) bytes.now width height f) }
+    ensures memory { IfErr result
+        (λ f. f ≡ fault.OutOfMemory → ReachesSets (deepest profile most) bytes.now) }
 {
     if bytes.len() < 5 {
         return Err(RecordFault::Short);
@@ -335,9 +354,11 @@ pub fn read_record_in<A: Allocator + Copy>(
         return Err(RecordFault::Parity);
     }
     let mut reader = RecordReader::new(&bytes[..bytes.len() - 4])?;
-    let config = read_parameters(alloc, &mut reader, width, height)?;
+    let greatest = deepest(profile, most);
+    let read = read_parameters(alloc, &mut reader, width, height, greatest)?;
+    let (config, depth) = read;
     // Both arms are written out, so that the clauses are proved by arm.
-    match config.check_in(profile, 8) {
+    match config.check_in(profile, depth, most) {
         Ok(checked) => Ok(checked),
         Err(fault) => Err(fault),
     }

@@ -8,7 +8,7 @@ ghost use Rattle.ffv1_range.specs.Table.{Table};
 ghost use Rattle.ffv1_record.specs.Accepted.{IsTableFor};
 ghost use Rattle.ffv1_plane.specs.Quantisation.{is_filled};
 ghost use Rattle.ffv1_record.specs.declared.fault.RecordFault.TheVariants as fault;
-ghost use Rattle.ffv1_record.specs.Configuration.{configuration_of, is_rct};
+ghost use Rattle.ffv1_record.specs.Configuration.{configuration_of};
 ghost use Rattle.ffv1_record.specs.Writable.{AreDeltas, IsWritable};
 ghost use Rattle.ffv1_record.specs.Record.{number_steps, deltas_steps, coder_steps, runs_steps};
 ghost use Rattle.ffv1_record.specs.Record.{set_steps, sets_steps, uncoded_steps, planes_steps};
@@ -17,7 +17,7 @@ ghost use Rattle.ffv1_record.specs.Record.{record_decisions, IsRecord};
 ghost use Rattle.ffv1_record.specs.Internal.Written.{Wrote};
 
 use crate::checked::Checked;
-use crate::config::{Coder, Colour, Config};
+use crate::config::{Coder, Config, is_rct};
 use crate::fault::RecordFault;
 use crate::laws::written_is_record;
 use crate::remainder::parity;
@@ -90,29 +90,21 @@ fn one_if(truth: bool) -> u32
     u32::from(truth)
 }
 
-/// Whether the colour is RCT.
-fn is_rct(colour: Colour) -> bool
-    ensures { result ≡ is_rct colour }
-{
-    match colour {
-        Colour::YCbCr => false,
-        Colour::Rct => true,
-    }
-}
-
 /// Colour, bits and chroma.
 fn write_planes<A: Allocator, B: Allocator>(
     writer: &mut RecordWriter<A>,
     config: &Config<B>,
+    depth: u32,
 ) -> Result<(), RecordFault>
+    requires depth { depth ≤ 16 }
     requires log2_h { config.now.log2_h ≤ 2 }
     requires log2_v { config.now.log2_v ≤ 2 }
     ensures ok { OnOk result (Wrote
-        (λ _. planes_steps 8 (configuration_of config.now)) 0 writer.old writer.new) }
+        (λ _. planes_steps depth (configuration_of config.now)) 0 writer.old writer.new) }
     ensures err { IfErr result (λ f. f ≡ fault.OutOfMemory) }
 {
     writer.number(one_if(is_rct(config.colour)))?;
-    writer.number(8)?;
+    writer.number(depth)?;
     writer.truth(config.chroma_planes)?;
     writer.number(config.log2_h)?;
     writer.number(config.log2_v)?;
@@ -235,14 +227,15 @@ fn write_parameters<A: Allocator, B: Allocator>(
 ) -> Result<Vec<u8, A>, RecordFault>
     ensures ok { IfOk result (λ v. v.items ≡ coded_of checked.now.configuration) }
     ensures long { IfOk result
-        (λ v. length v.items ≤ length (record_decisions 8 checked.now.configuration) + 2) }
+        (λ v. length v.items ≤ length (record_decisions checked.now.configuration.depth
+        checked.now.configuration) + 2) }
     ensures writable { IfOk result (λ v. IsWritable checked.now.configuration.coder) }
     ensures err { IfErr result (λ f. f ≡ fault.OutOfMemory) }
 {
     let config = checked.config();
     let mut writer = RecordWriter::new(alloc);
     write_opening(&mut writer, &config.coder)?;
-    write_planes(&mut writer, config)?;
+    write_planes(&mut writer, config, checked.depth())?;
     write_grid(&mut writer, config)?;
     write_tables(&mut writer, &config.sets)?;
     write_closing(&mut writer, config)?;
@@ -257,7 +250,8 @@ fn write_sealed<A: Allocator, B: Allocator>(
 ) -> Result<Vec<u8, A>, RecordFault>
     ensures ok { IfOk result (λ v. v.items ≡ record_of checked.now.configuration) }
     ensures long { IfOk result
-        (λ v. length v.items ≤ length (record_decisions 8 checked.now.configuration) + 6) }
+        (λ v. length v.items ≤ length (record_decisions checked.now.configuration.depth
+        checked.now.configuration) + 6) }
     ensures writable { IfOk result (λ v. IsWritable checked.now.configuration.coder) }
     ensures err { IfErr result (λ f. f ≡ fault.OutOfMemory) }
 {
@@ -277,7 +271,8 @@ pub fn write_record<A: Allocator, B: Allocator>(
     ensures ok { IfOk result (λ v. v.items ≡ record_of checked.now.configuration) }
     ensures stored { IfOk result (λ v. IsRecord v.items checked.now.configuration) }
     ensures long { IfOk result
-        (λ v. length v.items ≤ length (record_decisions 8 checked.now.configuration) + 6) }
+        (λ v. length v.items ≤ length (record_decisions checked.now.configuration.depth
+        checked.now.configuration) + 6) }
     ensures writable { IfOk result (λ v. IsWritable checked.now.configuration.coder) }
     ensures err { IfErr result (λ f. f ≡ fault.OutOfMemory) }
 {

@@ -1,5 +1,5 @@
 -- Values that calls give one after the other.
-use Rattle.std.proofs.Common.{get_or, ◌≡◌, ◌≢◌, refl, ℕ, zero, suc, ◌+◌, ◌^◌, ◌<◌, ◌≤◌, Bool, true, false, List, [], ◌∷◌, ◌++◌, length, Result, Ok, Err, ap, sym, subst, ◌∙◌, inl, inr, arith, append_assoc, append-nil, lt-ltb, le-ltb}
+use Rattle.std.proofs.Common.{get_or, ◌≡◌, ◌≢◌, refl, ℕ, ◌^◌, ◌<◌, ◌≤◌, Bool, true, false, List, [], ◌∷◌, ◌++◌, Result, Ok, Err, ap, sym, subst, ◌∙◌, inl, inr, append_assoc, append-nil, lt-ltb, le-ltb}
 use Rattle.std.specs.Result.{IsErrAnd}
 use Rattle.std.proofs.lemmas.Result.{err_from_is_err_and}
 use Rattle.std.proofs.lemmas.Bool.{eq-eqb, ne_eqb}
@@ -18,7 +18,7 @@ use Rattle.ffv1_record.specs.declared.config.Profile.{Profile}
 use Rattle.ffv1_slice.specs.declared.fault.SliceFault.{SliceFault}
 use Rattle.ffv1_slice.specs.declared.fault.SliceFault.TheVariants as fault
 use Rattle.ffv1_slice.specs.Head.{Rule, Meets, Stops, values_steps, indexes_of, placed, indexed, structured, unjudged, proportioned, has_aspect, index_rules}
-use Rattle.ffv1_slice.specs.Internal.Values.{Given, Gives, seen}
+use Rattle.ffv1_slice.specs.Internal.Values.{Gives, seen}
 
 pub values_steps-append : (vs ws : List ℕ) → values_steps (vs ++ ws) ≡ values_steps vs ++ values_steps ws
 values_steps-append [] ws = refl

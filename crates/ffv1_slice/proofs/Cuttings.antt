@@ -1,10 +1,9 @@
 -- A payload has one cutting at most; what is found from its end is one, and one that there is, is found.
-use Rattle.std.proofs.Common.{◌≡◌, refl, ℕ, zero, suc, ◌+◌, ◌-◌, ◌*◌, ◌<◌, ◌≤◌, ◌==◌, Bool, true, false, if◌then◌else◌, nat_lt, Option, Some, None, Result, Ok, Err, List, [], ◌∷◌, length, take, drop, get_or, slice_index, ap, sym, subst, ◌∙◌, arith, inl, inr, lt-ltb, le-ltb, ltb-false}
-use Rattle.std.proofs.lemmas.Bool.{cases_eq, cond-true, cond-false, eq-eqb, eqb-true, ne_eqb}
+use Rattle.std.proofs.Common.{◌≡◌, refl, ℕ, zero, suc, ◌+◌, ◌-◌, ◌*◌, ◌<◌, ◌≤◌, ◌==◌, Bool, true, false, if◌then◌else◌, nat_lt, Option, Some, None, Result, Ok, Err, List, [], ◌∷◌, length, drop, get_or, slice_index, ap, sym, subst, ◌∙◌, arith, inl, inr, le-ltb, ltb-false}
+use Rattle.std.proofs.lemmas.Bool.{cases_eq, cond-true, cond-false, eq-eqb, eqb-true}
 use Rattle.ffv1_record.specs.Configuration.{Configuration}
 use Rattle.ffv1_record.specs.Parity.{remainder_of}
 use Rattle.ffv1_slice.specs.declared.cutting.CutFault.{CutFault}
-use Rattle.ffv1_slice.specs.declared.fault.SliceFault.{SliceFault}
 use Rattle.ffv1_slice.specs.declared.fault.SliceFault.TheVariants as fault
 use Rattle.ffv1_slice.specs.Footer.{foot_length}
 use Rattle.ffv1_slice.specs.Cutting.{IsCutting, IsWhole, IsSound, Cuts, size_before, slice_of, offsets_onto, first_damaged, judged_by, judged, cut_of}

@@ -1,12 +1,12 @@
 -- The values of a head and its rules.
-use Rattle.std.proofs.Common.{◌≡◌, refl, ℕ, zero, suc, ◌+◌, ◌*◌, ◌/◌, ◌%◌, ◌^◌, ◌<◌, ◌≤◌, Bool, true, false, nat_lt, ◌&&◌, List, [], ◌∷◌, ◌++◌, length, drop, replicate, get_or, slice_index, Result, Ok, Err, IfErr, ap, sym, subst, ◌∙◌, arith, lt-ltb, eq-eqb, inl, inr}
+use Rattle.std.proofs.Common.{◌≡◌, refl, ℕ, zero, suc, ◌*◌, ◌/◌, ◌%◌, ◌^◌, ◌<◌, ◌≤◌, Bool, true, false, nat_lt, ◌&&◌, List, [], ◌∷◌, ◌++◌, length, drop, replicate, get_or, Result, Ok, Err, IfErr, ap, sym, subst, ◌∙◌, arith, lt-ltb, eq-eqb, inl}
 use Rattle.std.specs.Result.{IsErrAnd}
 use Rattle.std.proofs.lemmas.Result.{err_from_is_err_and}
 use Rattle.std.proofs.lemmas.Bool.{ltb-true, and_parts}
 use Rattle.ffv1_range.specs.Table.{Table}
 use Rattle.ffv1_range.specs.Interval.{interval_of}
 use Rattle.ffv1_range.specs.Codes.{Codes, Inside}
-use Rattle.ffv1_range.specs.Reading.{Reading, At}
+use Rattle.ffv1_range.specs.Reading.{Reading}
 use Rattle.ffv1_range.specs.History.{decisions_after, AreOutside}
 use Rattle.std.proofs.lemmas.Nat.{mul-le}
 use Rattle.ffv1_range.specs.Symbols.{Step, shifted}
@@ -17,7 +17,7 @@ use mathlib.Core.Bool.{true≢false}
 use Rattle.ffv1_record.specs.Configuration.{Configuration}
 use Rattle.ffv1_slice.specs.declared.head.SliceHead.{SliceHead}
 use Rattle.ffv1_slice.specs.declared.fault.SliceFault.{SliceFault}
-use Rattle.ffv1_slice.specs.Head.{Rule, Meets, Stops, head_rules, head_values, head_steps, values_steps, index_rules, info_rules, indexes_of, is_aspect, half_aspect, has_aspect, IsHead, IsThird, key_steps}
+use Rattle.ffv1_slice.specs.Head.{Meets, Stops, head_rules, head_values, head_steps, values_steps, index_rules, info_rules, indexes_of, is_aspect, half_aspect, has_aspect, IsHead, IsThird, key_steps}
 use Rattle.ffv1_slice.specs.Coding.{ReadsAt, StandsBehind}
 use Rattle.ffv1_slice.specs.Internal.Values.{Gives}
 use Rattle.ffv1_slice.proofs.Symbols.{reads_at}

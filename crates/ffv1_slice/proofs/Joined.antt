@@ -1,13 +1,13 @@
 -- Coded bytes with their footers, one slice's after the other's, are cut where they were joined.
 use Rattle.std.proofs.Common.{◌≡◌, refl, ℕ, zero, suc, ◌+◌, ◌-◌, ◌*◌, ◌/◌, ◌%◌, ◌<◌, ◌≤◌, Bool, true, false, Some, List, [], ◌∷◌, ◌++◌}
-use Rattle.std.proofs.Common.{length, take, drop, get_or, slice_get, slice_index, ap, sym, subst, ◌∙◌, arith, append_assoc, length-append}
-use Rattle.std.proofs.lemmas.List.{get_or-append-add, get_or_append_left, take-append-le}
+use Rattle.std.proofs.Common.{length, take, drop, get_or, slice_get, slice_index, ap, sym, ◌∙◌, arith, append_assoc, length-append}
+use Rattle.std.proofs.lemmas.List.{get_or-append-add}
 use Rattle.std.proofs.Math.Seq.{drop-append_seam, take-append_seam}
-use Rattle.ffv1_range.specs.Codes.{AreBytes, digits}
+use Rattle.ffv1_range.specs.Codes.{AreBytes}
 use Rattle.ffv1_record.specs.Configuration.{Configuration}
-use Rattle.ffv1_record.specs.Parity.{remainder_of, parity_of}
-use Rattle.ffv1_slice.specs.Footer.{foot_length, footer_of, unsealed}
-use Rattle.ffv1_slice.specs.Cutting.{IsCutting, IsSized, IsWhole, IsSound, Cuts, size_before, slice_of, coded_of}
+use Rattle.ffv1_record.specs.Parity.{remainder_of}
+use Rattle.ffv1_slice.specs.Footer.{foot_length, footer_of}
+use Rattle.ffv1_slice.specs.Cutting.{IsSized, IsSound, Cuts, slice_of, coded_of}
 use Rattle.ffv1_slice.specs.Cutting.{joined_of, offset_in, AreCodedBytes, AreCodedIn}
 use Rattle.ffv1_slice.proofs.WholeSlices.{footer_long}
 

@@ -1,5 +1,5 @@
 -- The key of the first slice, and what its bytes code.
-use Rattle.std.proofs.Common.{◌≡◌, ℕ, ◌<◌, Bool, true, false, List, [], ◌∷◌, ap, sym, subst, arith}
+use Rattle.std.proofs.Common.{◌≡◌, ℕ, true, false, List, [], subst, arith}
 use Rattle.ffv1_range.specs.Interval.{interval_of}
 use Rattle.ffv1_range.specs.Codes.{AreBytes, Codes, Inside}
 use Rattle.ffv1_range.specs.Table.{Table}

@@ -2,16 +2,16 @@
 use Rattle.std.proofs.Common.{◌≡◌, ◌≢◌, ◌⊎◌, refl, ℕ, zero, suc, ◌+◌, ◌-◌, ◌*◌, ◌<◌, ◌≤◌, ◌==◌, Bool, true, false}
 use Rattle.std.proofs.Common.{if◌then◌else◌, nat_lt, Option, Some, None, Result, Ok, Err, List, [], ◌∷◌, length, slice_index}
 use Rattle.std.proofs.Common.{ap, sym, subst, ◌∙◌, arith, inl, inr, lt-ltb, le-ltb, ltb-true, ltb-false}
-use Rattle.std.proofs.lemmas.Bool.{cases_eq, cases_lt, cond-true, cond-false, eq-eqb, eqb-true, ne_eqb}
+use Rattle.std.proofs.lemmas.Bool.{cases_eq, cond-true, cond-false, eq-eqb, eqb-true, ne_eqb}
 use Rattle.ffv1_record.specs.Configuration.{Configuration}
 use Rattle.ffv1_record.specs.Parity.{remainder_of}
 use Rattle.ffv1_slice.specs.declared.cutting.CutFault.{CutFault}
 use Rattle.ffv1_slice.specs.declared.fault.SliceFault.{SliceFault}
 use Rattle.ffv1_slice.specs.declared.fault.SliceFault.TheVariants as fault
 use Rattle.ffv1_slice.specs.Footer.{foot_length}
-use Rattle.ffv1_slice.specs.Cutting.{IsCutting, AreBehind, IsSized, HasNoSlice, HasLeftover, IsDamage, IsDamaged, IsRefused}
+use Rattle.ffv1_slice.specs.Cutting.{AreBehind, IsSized, HasNoSlice, HasLeftover, IsDamage, IsDamaged, IsRefused}
 use Rattle.ffv1_slice.specs.Cutting.{IsWhole, size_before, slice_of, offsets_onto, first_damaged, judged_by, judged, cut_of}
-use Rattle.ffv1_slice.proofs.Cuttings.{found, found_to, some_found, one_cutting, sound_same}
+use Rattle.ffv1_slice.proofs.Cuttings.{found, some_found, one_cutting, sound_same}
 
 -- offsets that are known from number n on, and one more before them
 abbrev pub one_more : ℕ → ℕ → (ℕ → ℕ) → ℕ → ℕ

@@ -5,10 +5,11 @@ use Rattle.std.proofs.Common.{zero, suc}
 use Rattle.ffv1_record.specs.Configuration.{Configuration}
 use Rattle.ffv1_record.specs.Accepted.{edge, AreMultiples}
 
--- what the division of pictures depends on
+-- what the division of pictures depends on, and the bits of a sample
 pub record Division : Type 0 where
   pub width : ℕ
   pub height : ℕ
+  pub depth : ℕ
   pub columns : ℕ
   pub rows : ℕ
   pub log2_h : ℕ
@@ -25,6 +26,7 @@ abbrev pub division_of : Configuration → Division
 division_of c = record {
   width = c.width;
   height = c.height;
+  depth = c.depth;
   columns = c.columns;
   rows = c.rows;
   log2_h = c.log2_h;
@@ -78,6 +80,8 @@ down d p = record { size = d.height; count = d.rows; log2 = factor_of d.log2_v p
 pub record IsDivision (d : Division) : Type 0 where
   pub width : d.width ≤ 8192
   pub height : d.height ≤ 8192
+  pub shallow : 8 ≤ d.depth
+  pub deep : d.depth ≤ 16
   pub some_columns : 0 < d.columns
   pub columns : d.columns ≤ 32
   pub wide : d.columns ≤ d.width

@@ -1,5 +1,5 @@
 -- How many decisions heads take.
-use Rattle.std.specs.Prelude.{ℕ, ◌+◌, ◌*◌, nat_lt, Bool, true, false, if◌then◌else◌}
+use Rattle.std.specs.Prelude.{ℕ, ◌+◌, nat_lt, if◌then◌else◌}
 use Rattle.ffv1_record.specs.Configuration.{Configuration}
 
 -- at most so many for a head of the profile: 98, 6 more for a third index, and 2 more where a place

@@ -6,17 +6,21 @@ ghost use Rattle.ffv1_record.specs.Accepted.{edge};
 ghost use Rattle.ffv1_slice.specs.Grid.{Division, IsDivision, division_of, factor_of, reduced};
 ghost use Rattle.ffv1_slice.specs.Grid.{planes_in, slices_in, begin_of, length_of, whole_of};
 ghost use Rattle.ffv1_slice.specs.Grid.{across, down};
+ghost use Rattle.ffv1_samples.specs.Samples.{sample_bytes};
 
 use ffv1_record::Checked;
 use ffv1_record::laws::accepted;
+use ffv1_samples::sample_bytes;
 use std::alloc::Allocator;
 use std::marker::Model;
 
-/// How pictures of a configuration are divided. It is seen as a `Division`.
+/// How pictures of a configuration are divided, and the bits of a sample. It is seen as a
+/// `Division`.
 #[derive(Drop)]
 pub struct Grid {
     width: u32,
     height: u32,
+    depth: u32,
     columns: u32,
     rows: u32,
     log2_h: u32,
@@ -32,6 +36,7 @@ impl Model for Grid {
     ghost view = { λ g. record {
       width = g.width;
       height = g.height;
+      depth = g.depth;
       columns = g.columns;
       rows = g.rows;
       log2_h = g.log2_h;
@@ -43,6 +48,7 @@ impl Model for Grid {
         (record {
           width = g.width;
           height = g.height;
+          depth = g.depth;
           columns = g.columns;
           rows = g.rows;
           log2_h = g.log2_h;
@@ -158,6 +164,7 @@ impl Grid {
         Grid {
             width: config.width,
             height: config.height,
+            depth: checked.depth(),
             columns: config.columns,
             rows: config.rows,
             log2_h: config.log2_h,
@@ -171,6 +178,24 @@ impl Grid {
         ensures { result ≡ self.now.planes }
     {
         self.planes
+    }
+
+    /// The bits of a sample.
+    pub fn depth(&self) -> u32
+        ensures value { result ≡ self.now.depth }
+        ensures least { 8 ≤ result }
+        ensures most { result ≤ 16 }
+    {
+        self.depth
+    }
+
+    /// How many bytes a sample has where lines are handed over: 1 at a depth of 8, else 2.
+    pub fn sample_bytes(&self) -> usize
+        ensures value { result ≡ sample_bytes self.now.depth }
+        ensures least { 1 ≤ result }
+        ensures most { result ≤ 2 }
+    {
+        sample_bytes(self.depth)
     }
 
     /// How many columns of slices there are.

@@ -3,7 +3,7 @@
 use anyhow::{Context, Result, bail, ensure};
 use ffv1_codec::{CodecFault, DropLines, FrameDecoder, FrameEncoder, Info, KeepLines, Picture};
 use ffv1_plane::QuantSet;
-use ffv1_record::{Checked, Coder, Colour, Config, Sets};
+use ffv1_record::{Checked, Coder, Colour, Config, Profile, Sets};
 use ffv1_slice::Grid;
 use std::alloc::Global;
 use std::env::Args;
@@ -16,14 +16,18 @@ fn number(words: &mut Args, name: &'static str) -> Result<u32> {
     Ok(words.next().context(name)?.parse::<u32>()?)
 }
 
-/// The configuration of a format: `mono`, `420`, `444` or `rgb`.
+/// The configuration of a format: `mono`, `420`, `422`, `444` or `rgb`, of 8 bits, or `422p10` or
+/// `rgbp10`, of 10 bits.
 fn configuration(alloc: Global, format: &str, sizes: [u32; 4]) -> Result<Checked> {
     let [width, height, columns, rows] = sizes;
-    let (colour, chroma_planes, log2) = match format {
-        "mono" => (Colour::YCbCr, false, 0),
-        "420" => (Colour::YCbCr, true, 1),
-        "444" => (Colour::YCbCr, true, 0),
-        "rgb" => (Colour::Rct, true, 0),
+    let (colour, chroma_planes, log2_h, log2_v, depth) = match format {
+        "mono" => (Colour::YCbCr, false, 0, 0, 8),
+        "420" => (Colour::YCbCr, true, 1, 1, 8),
+        "422" => (Colour::YCbCr, true, 1, 0, 8),
+        "422p10" => (Colour::YCbCr, true, 1, 0, 10),
+        "444" => (Colour::YCbCr, true, 0, 0, 8),
+        "rgb" => (Colour::Rct, true, 0, 0, 8),
+        "rgbp10" => (Colour::Rct, true, 0, 0, 10),
         _ => bail!("no such format"),
     };
     let mut sets = Sets::new(alloc);
@@ -35,24 +39,29 @@ fn configuration(alloc: Global, format: &str, sizes: [u32; 4]) -> Result<Checked
         colour,
         chroma_planes,
         extra_plane: false,
-        log2_h: log2,
-        log2_v: log2,
+        log2_h,
+        log2_v,
         columns,
         rows,
         sets,
         ec: true,
         intra: true,
     };
-    Ok(config.check()?)
+    Ok(config.check_in(Profile::Wide, depth, 16)?)
 }
 
-/// The planes of a raw picture, one after the other.
+/// The planes of a raw picture, one after the other. A sample of more than 8 bits takes two bytes.
 fn planes(alloc: Global, checked: &Checked, samples: &[u8]) -> Result<Vec<Vec<u8>>> {
     let grid = Grid::of(checked);
     let mut planes = Vec::new(alloc);
     let mut rest = samples;
     for plane in 0..grid.planes() {
-        let size = grid.width(plane) as usize * grid.height(plane) as usize;
+        let places = grid.width(plane) as usize * grid.height(plane) as usize;
+        let size = if grid.depth() > 8 {
+            places.saturating_mul(2)
+        } else {
+            places
+        };
         ensure!(size <= rest.len(), "samples are missing");
         planes.push(rest[..size].to_vec(alloc)?)?;
         rest = &rest[size..];

@@ -3,6 +3,7 @@
 mod avi;
 mod checks;
 mod decoded;
+mod depths;
 mod ebml;
 mod encoded;
 mod faults;

@@ -19,7 +19,7 @@ pub(crate) fn configuration(
     let width = number(fields)?;
     let height = number(fields)?;
     let record = bytes(alloc, fields)?;
-    Ok(read_record_in(alloc, record.as_slice(), width, height, profile)?)
+    Ok(read_record_in(alloc, record.as_slice(), width, height, profile, 16)?)
 }
 
 /// What is said of a picture.
@@ -30,13 +30,14 @@ fn info(fields: &mut SplitWhitespace<'_>) -> Result<Info> {
     Info::new(structure, sar_num, sar_den).context("no such info")
 }
 
-/// The planes of a picture, of all its samples one plane after the other.
+/// The planes of a picture, of the bytes of all its samples one plane after the other.
 fn planes(alloc: Global, checked: &Checked, samples: &[u8]) -> Result<Vec<Vec<u8>>> {
     let grid = Grid::of(checked);
     let mut planes = Vec::new(alloc);
     let mut rest = samples;
     for plane in 0..grid.planes() {
-        let size = grid.width(plane) as usize * grid.height(plane) as usize;
+        let places = grid.width(plane) as usize * grid.height(plane) as usize;
+        let size = places.saturating_mul(grid.sample_bytes());
         ensure!(size <= rest.len(), "samples are missing");
         planes.push(rest[..size].to_vec(alloc)?)?;
         rest = &rest[size..];
@@ -83,21 +84,21 @@ fn is_encoded(
 }
 
 /// Whether one case agrees.
-fn case(alloc: Global, line: &str) -> Result<bool> {
+fn case(alloc: Global, line: &str, profile: Profile) -> Result<bool> {
     let mut fields = line.split_whitespace();
-    let checked = configuration(alloc, &mut fields, Profile::Strict)?;
+    let checked = configuration(alloc, &mut fields, profile)?;
     let info = info(&mut fields)?;
     let picture = picture(alloc, &checked, &mut fields)?;
     let mut encoder = FrameEncoder::new(alloc, checked);
     is_encoded(alloc, &mut encoder, &picture, info, &mut fields)
 }
 
-/// How many cases agree.
-pub(crate) fn count<R: AllocGlobal + Files>(rt: &R) -> Result<Count> {
-    let text = fs::read_to_string(rt, "frames.txt")?;
+/// How many cases of a file agree, in a profile.
+pub(crate) fn count<R: AllocGlobal + Files>(rt: &R, name: &str, profile: Profile) -> Result<Count> {
+    let text = fs::read_to_string(rt, name)?;
     let mut count = Count { agree: 0, cases: 0 };
     for line in text.lines() {
-        count = counted(count, case(rt.alloc(), line)?);
+        count = counted(count, case(rt.alloc(), line, profile)?);
     }
     Ok(count)
 }

@@ -14,7 +14,7 @@ mod matroska;
 mod payloads;
 mod written;
 
-use ffv1_record::Profile;
+use ffv1_record::Profile::{Strict, Wide};
 use std::rt::Files;
 
 /// Prints the count of one file.
@@ -27,10 +27,19 @@ fn print<R: Print>(rt: &R, name: &str, count: fields::Count) -> anyhow::Result<(
 fn run<R: AllocGlobal + Files + Print>(rt: &R) -> anyhow::Result<()> {
     print(rt, "heads", heads::count(rt)?)?;
     print(rt, "payloads", payloads::count(rt)?)?;
-    print(rt, "frames", frames::count(rt)?)?;
-    let strict = decoding::count(rt, "decoded.txt", Profile::Strict)?;
-    print(rt, "decoded", strict)?;
-    print(rt, "wide", decoding::count(rt, "wide.txt", Profile::Wide)?)?;
+    print(rt, "frames", frames::count(rt, "frames.txt", Strict)?)?;
+    print(
+        rt,
+        "deep frames",
+        frames::count(rt, "deep_frames.txt", Wide)?,
+    )?;
+    print(rt, "decoded", decoding::count(rt, "decoded.txt", Strict)?)?;
+    print(
+        rt,
+        "deep decoded",
+        decoding::count(rt, "deep_decoded.txt", Wide)?,
+    )?;
+    print(rt, "wide", decoding::count(rt, "wide.txt", Wide)?)?;
     print(rt, "files", files::count(rt)?)?;
     print(rt, "avi", avi::count(rt)?)?;
     print(rt, "matroska", matroska::count(rt)?)?;

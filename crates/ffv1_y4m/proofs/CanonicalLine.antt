@@ -1,5 +1,5 @@
 -- The canonical header is read as its head.
-use Rattle.std.proofs.Common.{◌≡◌, ℕ, ◌+◌, ◌^◌, ◌<◌, ◌≤◌, ◌==◌, zero, suc, Bool, true, false, cond, Some, None, List, [], ◌∷◌, ◌++◌, length, drop, get_or, codes, decimal, Ok, refl, ap, ◌∙◌, sym, append_assoc, arith, length-append}
+use Rattle.std.proofs.Common.{◌≡◌, ℕ, ◌-◌, subst, ◌+◌, ◌^◌, ◌<◌, ◌≤◌, ◌==◌, zero, suc, Bool, true, false, cond, Some, None, List, [], ◌∷◌, ◌++◌, length, drop, get_or, codes, decimal, Ok, refl, ap, ◌∙◌, sym, append_assoc, arith, length-append}
 use Rattle.std.proofs.lemmas.Bool.{le-leb, true≢false, false≢true, ne_eqb}
 use Rattle.std.proofs.lemmas.Fmt.{length-decimal-le, digits_decimal}
 use Rattle.std.proofs.lemmas.Str.Parse.{IsDigitsTest, numerals_by_value}
@@ -9,9 +9,9 @@ use Rattle.std.specs.List.{position}
 use Rattle.ffv1_y4m.specs.declared.head.VideoHead.{VideoHead}
 use Rattle.ffv1_y4m.specs.declared.tags.Chroma.{Chroma}
 use Rattle.ffv1_y4m.specs.declared.tags.Tags.{Tags}
-use Rattle.ffv1_y4m.specs.Header.{number_of, structure_of, tagged, judged, words_of, onto_first, all_judged, no_tags, head_of_tags, head_of_line, size_of, capped_of, pair_of, ratio_of, chroma_of}
-use Rattle.ffv1_y4m.specs.Canonical.{structure_name, name_of_chroma, chroma_name, number_text, ratio_text, name_text, sizes_text, times_text, header_text}
-use Rattle.ffv1_y4m.specs.VideoHead.{IsRatio, IsChroma, IsHead}
+use Rattle.ffv1_y4m.specs.Header.{number_of, structure_of, tagged, judged, words_of, onto_first, all_judged, no_tags, head_of_tags, head_of_line, size_of, capped_of, pair_of, ratio_of, chroma_named, chroma_of, deep_chroma_of}
+use Rattle.ffv1_y4m.specs.Canonical.{structure_name, name_of_chroma, deep_name, depth_name, chroma_name, number_text, ratio_text, name_text, sizes_text, times_text, header_text}
+use Rattle.ffv1_y4m.specs.VideoHead.{IsRatio, IsHead, IsNamed, is_named}
 use Rattle.ffv1_y4m.specs.HeaderLine.{Without}
 use Rattle.ffv1_y4m.proofs.Lines.{position_found}
 use Rattle.ffv1_y4m.proofs.Numbers.{number_is}
@@ -92,25 +92,57 @@ structure_back (suc (suc zero)) h = refl
 structure_back (suc (suc (suc zero))) h = refl
 structure_back (suc (suc (suc (suc s)))) h = absurd (omega (arith, h))
 
-chroma_back : (planes : Bool) (a b : ℕ) (extra : Bool) → IsChroma planes a b extra → chroma_of (name_of_chroma planes a b extra) ≡ Some (record { planes = planes; log2_h = a; log2_v = b; extra = extra })
-unfolding chroma_of
-chroma_back true zero zero true h = refl
-chroma_back true zero zero false h = refl
-chroma_back true zero (suc b) true h = absurd (false≢true h)
-chroma_back true zero (suc b) false h = absurd (false≢true h)
-chroma_back true (suc zero) zero true h = absurd (false≢true h)
-chroma_back true (suc zero) zero false h = refl
-chroma_back true (suc zero) (suc zero) true h = absurd (false≢true h)
-chroma_back true (suc zero) (suc zero) false h = refl
-chroma_back true (suc zero) (suc (suc b)) extra h = absurd (false≢true h)
-chroma_back true (suc (suc zero)) zero true h = absurd (false≢true h)
-chroma_back true (suc (suc zero)) zero false h = refl
-chroma_back true (suc (suc zero)) (suc b) extra h = absurd (false≢true h)
-chroma_back true (suc (suc (suc a))) b extra h = absurd (false≢true h)
-chroma_back false zero zero true h = absurd (false≢true h)
-chroma_back false zero zero false h = refl
-chroma_back false zero (suc b) extra h = absurd (false≢true h)
-chroma_back false (suc a) b extra h = absurd (false≢true h)
+-- the name of the chroma, whole
+abbrev whole_name : ℕ → Bool → ℕ → ℕ → Bool → List ℕ
+whole_name depth planes a b extra = cond (depth == 8) (name_of_chroma planes a b extra) (deep_name depth planes a b extra) ++ depth_name depth
+
+abbrev chroma_with : ℕ → Bool → ℕ → ℕ → Bool → Chroma
+chroma_with depth planes a b extra = record { planes = planes; log2_h = a; log2_v = b; extra = extra; depth = depth }
+
+-- a property of a depth that has a name
+by_more : (Q : ℕ → Type 0) (k : ℕ) → k ≤ 8 → Q 8 → Q 9 → Q 10 → Q 11 → Q 12 → Q 13 → Q 14 → Q 15 → Q 16 → Q (k + 8)
+by_more Q zero most a b c d e f g h i = a
+by_more Q (suc zero) most a b c d e f g h i = b
+by_more Q (suc (suc zero)) most a b c d e f g h i = c
+by_more Q (suc (suc (suc zero))) most a b c d e f g h i = d
+by_more Q (suc (suc (suc (suc zero)))) most a b c d e f g h i = e
+by_more Q (suc (suc (suc (suc (suc zero))))) most a b c d e f g h i = f
+by_more Q (suc (suc (suc (suc (suc (suc zero)))))) most a b c d e f g h i = g
+by_more Q (suc (suc (suc (suc (suc (suc (suc zero))))))) most a b c d e f g h i = h
+by_more Q (suc (suc (suc (suc (suc (suc (suc (suc zero)))))))) most a b c d e f g h i = i
+by_more Q (suc (suc (suc (suc (suc (suc (suc (suc (suc k))))))))) most a b c d e f g h i = absurd (omega (arith, most))
+
+by_depth : (Q : ℕ → Type 0) (depth : ℕ) → 8 ≤ depth → depth ≤ 16 → Q 8 → Q 9 → Q 10 → Q 11 → Q 12 → Q 13 → Q 14 → Q 15 → Q 16 → Q depth
+by_depth Q depth least most a b c d e f g h i =
+    let same : depth - 8 + 8 ≡ depth = omega (arith, least) in
+    subst Q same (by_more Q (depth - 8) (omega (arith, least, most)) a b c d e f g h i)
+
+abbrev Back : Bool → ℕ → ℕ → Bool → ℕ → Type 0
+Back planes a b extra depth = is_named depth planes a b extra ≡ true → chroma_named (whole_name depth planes a b extra) ≡ Some (chroma_with depth planes a b extra)
+
+chroma_back : (planes : Bool) (a b : ℕ) (extra : Bool) (depth : ℕ) → 8 ≤ depth → depth ≤ 16 → Back planes a b extra depth
+unfolding chroma_named deep_chroma_of
+chroma_back true zero zero true depth least most = by_depth (Back true 0 0 true) depth least most (λ h. refl) (λ h. absurd (false≢true h)) (λ h. absurd (false≢true h)) (λ h. absurd (false≢true h)) (λ h. absurd (false≢true h)) (λ h. absurd (false≢true h)) (λ h. absurd (false≢true h)) (λ h. absurd (false≢true h)) (λ h. absurd (false≢true h))
+chroma_back true zero zero false depth least most = by_depth (Back true 0 0 false) depth least most (λ h. refl) (λ h. refl) (λ h. refl) (λ h. absurd (false≢true h)) (λ h. refl) (λ h. absurd (false≢true h)) (λ h. refl) (λ h. absurd (false≢true h)) (λ h. refl)
+chroma_back true zero (suc b) true depth least most = λ h. absurd (false≢true h)
+chroma_back true zero (suc b) false depth least most = λ h. absurd (false≢true h)
+chroma_back true (suc zero) zero true depth least most = λ h. absurd (false≢true h)
+chroma_back true (suc zero) zero false depth least most = by_depth (Back true 1 0 false) depth least most (λ h. refl) (λ h. refl) (λ h. refl) (λ h. absurd (false≢true h)) (λ h. refl) (λ h. absurd (false≢true h)) (λ h. refl) (λ h. absurd (false≢true h)) (λ h. refl)
+chroma_back true (suc zero) (suc zero) true depth least most = λ h. absurd (false≢true h)
+chroma_back true (suc zero) (suc zero) false depth least most = by_depth (Back true 1 1 false) depth least most (λ h. refl) (λ h. refl) (λ h. refl) (λ h. absurd (false≢true h)) (λ h. refl) (λ h. absurd (false≢true h)) (λ h. refl) (λ h. absurd (false≢true h)) (λ h. refl)
+chroma_back true (suc zero) (suc (suc b)) extra depth least most = λ h. absurd (false≢true h)
+chroma_back true (suc (suc zero)) zero true depth least most = λ h. absurd (false≢true h)
+chroma_back true (suc (suc zero)) zero false depth least most = by_depth (Back true 2 0 false) depth least most (λ h. refl) (λ h. absurd (false≢true h)) (λ h. absurd (false≢true h)) (λ h. absurd (false≢true h)) (λ h. absurd (false≢true h)) (λ h. absurd (false≢true h)) (λ h. absurd (false≢true h)) (λ h. absurd (false≢true h)) (λ h. absurd (false≢true h))
+chroma_back true (suc (suc zero)) (suc b) extra depth least most = λ h. absurd (false≢true h)
+chroma_back true (suc (suc (suc a))) b extra depth least most = λ h. absurd (false≢true h)
+chroma_back false zero zero true depth least most = λ h. absurd (false≢true h)
+chroma_back false zero zero false depth least most = by_depth (Back false 0 0 false) depth least most (λ h. refl) (λ h. refl) (λ h. refl) (λ h. absurd (false≢true h)) (λ h. refl) (λ h. absurd (false≢true h)) (λ h. absurd (false≢true h)) (λ h. absurd (false≢true h)) (λ h. refl)
+chroma_back false zero (suc b) extra depth least most = λ h. absurd (false≢true h)
+chroma_back false (suc a) b extra depth least most = λ h. absurd (false≢true h)
+
+-- the name is read as its chroma, where its depth is read
+capped_back_by : (most : ℕ) (c : Chroma) (value : List ℕ) → chroma_named value ≡ Some c → c.depth ≤ most → chroma_of most value ≡ Some c
+capped_back_by most c value is small = rw (is, le-leb c.depth most small) refl
 
 -- the words of the line
 abbrev width_word : VideoHead → List ℕ
@@ -128,15 +160,15 @@ structure_word h = 73 ∷ structure_name h.structure
 abbrev aspect_word : VideoHead → List ℕ
 aspect_word h = 65 ∷ (decimal h.sar_num ++ 58 ∷ decimal h.sar_den)
 
-abbrev chroma_word : VideoHead → List ℕ
-chroma_word h = 67 ∷ chroma_name h
+abbrev chroma_word : ℕ → VideoHead → List ℕ
+chroma_word depth h = 67 ∷ (chroma_name depth h ++ depth_name depth)
 
 abbrev joined : List ℕ → List ℕ → List ℕ → List ℕ → List ℕ → List ℕ → List ℕ
 joined a b c d e f = a ++ 32 ∷ (b ++ 32 ∷ (c ++ 32 ∷ (d ++ 32 ∷ (e ++ 32 ∷ f))))
 
 -- the header without its line feed
-abbrev pub head_line : VideoHead → List ℕ
-head_line h = codes "YUV4MPEG2 " ++ joined (width_word h) (height_word h) (rate_word h) (structure_word h) (aspect_word h) (chroma_word h)
+abbrev pub head_line : ℕ → VideoHead → List ℕ
+head_line depth h = codes "YUV4MPEG2 " ++ joined (width_word h) (height_word h) (rate_word h) (structure_word h) (aspect_word h) (chroma_word depth h)
 
 -- three texts, the last two after two bytes
 two_behind : (x y : ℕ) (a b r s : List ℕ) → b ++ r ≡ s → (a ++ x ∷ y ∷ b) ++ r ≡ a ++ x ∷ y ∷ s
@@ -163,14 +195,16 @@ line_row a b c d e f g n =
     (ap (λ z. z ++ 10 ∷ []) (append_assoc c (58 ∷ d) (32 ∷ 73 ∷ (e ++ 32 ∷ 65 ∷ ((f ++ 58 ∷ g) ++ 32 ∷ 67 ∷ n)))) ∙ one_behind 58 c _ _ _ (two_behind 32 73 d _ _ _ (two_behind 32 65 e _ _ _
     (ap (λ z. z ++ 10 ∷ []) (append_assoc f (58 ∷ g) (32 ∷ 67 ∷ n)) ∙ one_behind 58 f _ _ _ (two_behind 32 67 g n _ _ refl))))))
 
-pub header_parts : (h : VideoHead) → header_text h ≡ head_line h ++ 10 ∷ []
+pub header_parts : (depth : ℕ) (h : VideoHead) → header_text depth h ≡ head_line depth h ++ 10 ∷ []
 unfolding header_text sizes_text times_text number_text ratio_text name_text
-header_parts h =
+header_parts depth h =
+    let name = chroma_name depth h ++ depth_name depth in
     let a = decimal h.width in
     let b = decimal h.height in
-    let row = parts_row a b (decimal h.rate) (decimal h.scale) (structure_name h.structure) (decimal h.sar_num) (decimal h.sar_den) (chroma_name h ++ 10 ∷ []) in
-    let line = line_row a b (decimal h.rate) (decimal h.scale) (structure_name h.structure) (decimal h.sar_num) (decimal h.sar_den) (chroma_name h) in
-    ap (λ z. codes "YUV4MPEG2 W" ++ z) (row ∙ sym line)
+    let row = parts_row a b (decimal h.rate) (decimal h.scale) (structure_name h.structure) (decimal h.sar_num) (decimal h.sar_den) (name ++ 10 ∷ []) in
+    let line = line_row a b (decimal h.rate) (decimal h.scale) (structure_name h.structure) (decimal h.sar_num) (decimal h.sar_den) name in
+    let apart : name ++ 10 ∷ [] ≡ chroma_name depth h ++ (depth_name depth ++ 10 ∷ []) = append_assoc (chroma_name depth h) (depth_name depth) (10 ∷ []) in
+    rw (← apart) (ap (λ z. codes "YUV4MPEG2 W" ++ z) (row ∙ sym line))
 
 words_six : (a b c d e f : List ℕ) → Without 32 a → Without 32 b → Without 32 c → Without 32 d → Without 32 e → Without 32 f →
     words_of (joined a b c d e f) ≡ a ∷ b ∷ c ∷ d ∷ e ∷ f ∷ []
@@ -178,29 +212,29 @@ words_six a b c d e f p q r s t u =
     rw (words_front a (b ++ 32 ∷ (c ++ 32 ∷ (d ++ 32 ∷ (e ++ 32 ∷ f)))) p, words_front b (c ++ 32 ∷ (d ++ 32 ∷ (e ++ 32 ∷ f))) q, words_front c (d ++ 32 ∷ (e ++ 32 ∷ f)) r, words_front d (e ++ 32 ∷ f) s, words_front e f t, words_whole f u) refl
 
 -- the tags, one by one
-pub judged_width : (t : Tags) (n : ℕ) (value : List ℕ) → t.width ≡ None → size_of value ≡ Some n → judged t (87 ∷ value) ≡ Ok (record t { width = Some n })
+pub judged_width : (most : ℕ) (t : Tags) (n : ℕ) (value : List ℕ) → t.width ≡ None → size_of value ≡ Some n → judged most t (87 ∷ value) ≡ Ok (record t { width = Some n })
 unfolding tagged
-judged_width t n value none is = rw (none, is) refl
+judged_width most t n value none is = rw (none, is) refl
 
-pub judged_height : (t : Tags) (n : ℕ) (value : List ℕ) → t.height ≡ None → size_of value ≡ Some n → judged t (72 ∷ value) ≡ Ok (record t { height = Some n })
+pub judged_height : (most : ℕ) (t : Tags) (n : ℕ) (value : List ℕ) → t.height ≡ None → size_of value ≡ Some n → judged most t (72 ∷ value) ≡ Ok (record t { height = Some n })
 unfolding tagged
-judged_height t n value none is = rw (none, is) refl
+judged_height most t n value none is = rw (none, is) refl
 
-pub judged_rate : (t : Tags) (r : ℕ × ℕ) (value : List ℕ) → t.rate ≡ None → ratio_of 4294967295 value ≡ Some r → judged t (70 ∷ value) ≡ Ok (record t { rate = Some r })
+pub judged_rate : (most : ℕ) (t : Tags) (r : ℕ × ℕ) (value : List ℕ) → t.rate ≡ None → ratio_of 4294967295 value ≡ Some r → judged most t (70 ∷ value) ≡ Ok (record t { rate = Some r })
 unfolding tagged
-judged_rate t r value none is = rw (none, is) refl
+judged_rate most t r value none is = rw (none, is) refl
 
-pub judged_structure : (t : Tags) (s : ℕ) (value : List ℕ) → t.structure ≡ None → structure_of value ≡ Ok s → judged t (73 ∷ value) ≡ Ok (record t { structure = Some s })
+pub judged_structure : (most : ℕ) (t : Tags) (s : ℕ) (value : List ℕ) → t.structure ≡ None → structure_of value ≡ Ok s → judged most t (73 ∷ value) ≡ Ok (record t { structure = Some s })
 unfolding tagged
-judged_structure t s value none is = rw (none, is) refl
+judged_structure most t s value none is = rw (none, is) refl
 
-pub judged_aspect : (t : Tags) (r : ℕ × ℕ) (value : List ℕ) → t.aspect ≡ None → ratio_of 65535 value ≡ Some r → judged t (65 ∷ value) ≡ Ok (record t { aspect = Some r })
+pub judged_aspect : (most : ℕ) (t : Tags) (r : ℕ × ℕ) (value : List ℕ) → t.aspect ≡ None → ratio_of 65535 value ≡ Some r → judged most t (65 ∷ value) ≡ Ok (record t { aspect = Some r })
 unfolding tagged
-judged_aspect t r value none is = rw (none, is) refl
+judged_aspect most t r value none is = rw (none, is) refl
 
-pub judged_chroma : (t : Tags) (c : Chroma) (value : List ℕ) → t.chroma ≡ None → chroma_of value ≡ Some c → judged t (67 ∷ value) ≡ Ok (record t { chroma = Some c })
+pub judged_chroma : (most : ℕ) (t : Tags) (c : Chroma) (value : List ℕ) → t.chroma ≡ None → chroma_of most value ≡ Some c → judged most t (67 ∷ value) ≡ Ok (record t { chroma = Some c })
 unfolding tagged
-judged_chroma t c value none is = rw (none, is) refl
+judged_chroma most t c value none is = rw (none, is) refl
 
 -- each word is without a space
 width_plain : (h : VideoHead) → IsHead h → Without 32 (width_word h)
@@ -241,63 +275,82 @@ chroma_plain : (b : ℕ) (planes : Bool) (log2_h log2_v : ℕ) (extra : Bool) �
 chroma_plain b planes log2_h log2_v extra p q r s t u =
     name_cond b planes _ (codes "mono") (name_cond b extra (codes "444alpha") _ (plain b (codes "444alpha") p) (name_cond b (log2_v == 1) (codes "420jpeg") _ (plain b (codes "420jpeg") q) (name_cond b (log2_h == 1) (codes "422") _ (plain b (codes "422") r) (name_cond b (log2_h == 2) (codes "411") (codes "444") (plain b (codes "411") s) (plain b (codes "444") u))))) (plain b (codes "mono") t)
 
+deep_plain : (b : ℕ) (named planes : Bool) (log2_h log2_v : ℕ) → all_other b (codes "420p") ≡ true → all_other b (codes "422p") ≡ true → all_other b (codes "444p") ≡ true → all_other b (codes "mono") ≡ true →
+    Without b (cond named (cond planes (cond (log2_v == 1) (codes "420p") (cond (log2_h == 1) (codes "422p") (codes "444p"))) (codes "mono")) [])
+deep_plain b named planes log2_h log2_v p q r s =
+    name_cond b named _ [] (name_cond b planes _ (codes "mono") (name_cond b (log2_v == 1) (codes "420p") _ (plain b (codes "420p") p) (name_cond b (log2_h == 1) (codes "422p") (codes "444p") (plain b (codes "422p") q) (plain b (codes "444p") r))) (plain b (codes "mono") s)) tt
+
+depth_plain : (b depth : ℕ) → all_other b (codes "9") ≡ true → all_other b (codes "10") ≡ true → all_other b (codes "12") ≡ true → all_other b (codes "14") ≡ true → all_other b (codes "16") ≡ true → Without b (depth_name depth)
+depth_plain b depth p q r s t =
+    name_cond b (depth == 9) (codes "9") _ (plain b (codes "9") p) (name_cond b (depth == 10) (codes "10") _ (plain b (codes "10") q) (name_cond b (depth == 12) (codes "12") _ (plain b (codes "12") r) (name_cond b (depth == 14) (codes "14") _ (plain b (codes "14") s) (name_cond b (depth == 16) (codes "16") [] (plain b (codes "16") t) tt))))
+
+chroma_name_plain : (b depth : ℕ) (h : VideoHead) → Without b (name_of_chroma h.chroma_planes h.log2_h h.log2_v h.extra_plane) → Without b (deep_name depth h.chroma_planes h.log2_h h.log2_v h.extra_plane) → Without b (depth_name depth) → Without b (chroma_name depth h ++ depth_name depth)
+chroma_name_plain b depth h p q r = without_both b (chroma_name depth h) (depth_name depth) (name_cond b (depth == 8) _ _ p q) r
+
+name_plain_32 : (depth : ℕ) (h : VideoHead) → Without 32 (chroma_name depth h ++ depth_name depth)
+name_plain_32 depth h = chroma_name_plain 32 depth h (chroma_plain 32 h.chroma_planes h.log2_h h.log2_v h.extra_plane refl refl refl refl refl refl) (deep_plain 32 (is_named depth h.chroma_planes h.log2_h h.log2_v h.extra_plane) h.chroma_planes h.log2_h h.log2_v refl refl refl refl) (depth_plain 32 depth refl refl refl refl refl)
+
+name_plain_10 : (depth : ℕ) (h : VideoHead) → Without 10 (chroma_name depth h ++ depth_name depth)
+name_plain_10 depth h = chroma_name_plain 10 depth h (chroma_plain 10 h.chroma_planes h.log2_h h.log2_v h.extra_plane refl refl refl refl refl refl) (deep_plain 10 (is_named depth h.chroma_planes h.log2_h h.log2_v h.extra_plane) h.chroma_planes h.log2_h h.log2_v refl refl refl refl) (depth_plain 10 depth refl refl refl refl refl)
+
 -- the words of the line
-line_words : (h : VideoHead) → IsHead h → words_of (joined (width_word h) (height_word h) (rate_word h) (structure_word h) (aspect_word h) (chroma_word h)) ≡
-    width_word h ∷ height_word h ∷ rate_word h ∷ structure_word h ∷ aspect_word h ∷ chroma_word h ∷ []
-line_words h k = words_six (width_word h) (height_word h) (rate_word h) (structure_word h) (aspect_word h) (chroma_word h)
+line_words : (depth : ℕ) (h : VideoHead) → IsHead h → words_of (joined (width_word h) (height_word h) (rate_word h) (structure_word h) (aspect_word h) (chroma_word depth h)) ≡
+    width_word h ∷ height_word h ∷ rate_word h ∷ structure_word h ∷ aspect_word h ∷ chroma_word depth h ∷ []
+line_words depth h k = words_six (width_word h) (height_word h) (rate_word h) (structure_word h) (aspect_word h) (chroma_word depth h)
     (width_plain h k) (height_plain h k)
     (refl, ratio_plain 32 4294967295 h.rate h.scale (omega arith) (omega arith) k.rate)
     (refl, structure_plain 32 h.structure refl)
     (refl, ratio_plain 32 65535 h.sar_num h.sar_den (omega arith) (omega arith) k.aspect)
-    (refl, chroma_plain 32 h.chroma_planes h.log2_h h.log2_v h.extra_plane refl refl refl refl refl refl)
+    (refl, name_plain_32 depth h)
 
-abbrev all_tags : VideoHead → Tags
-all_tags h = record {
+abbrev all_tags : ℕ → VideoHead → Tags
+all_tags depth h = record {
   width = Some h.width;
   height = Some h.height;
   rate = Some (h.rate, h.scale);
   structure = Some h.structure;
   aspect = Some (h.sar_num, h.sar_den);
-  chroma = Some (record { planes = h.chroma_planes; log2_h = h.log2_h; log2_v = h.log2_v; extra = h.extra_plane });
+  chroma = Some (chroma_with depth h.chroma_planes h.log2_h h.log2_v h.extra_plane);
 }
 
-line_tags : (h : VideoHead) → IsHead h →
-    all_judged no_tags (width_word h ∷ height_word h ∷ rate_word h ∷ structure_word h ∷ aspect_word h ∷ chroma_word h ∷ []) ≡ Ok (all_tags h)
-line_tags h k =
-    let one = judged_width no_tags h.width (decimal h.width) refl (size_back h.width k.sized.some_wide k.sized.wide) in
+line_tags : (most depth : ℕ) (h : VideoHead) → IsHead h → IsNamed depth h → depth ≤ most →
+    all_judged most no_tags (width_word h ∷ height_word h ∷ rate_word h ∷ structure_word h ∷ aspect_word h ∷ chroma_word depth h ∷ []) ≡ Ok (all_tags depth h)
+line_tags most depth h k named small =
+    let chroma : Chroma = chroma_with depth h.chroma_planes h.log2_h h.log2_v h.extra_plane in
+    let one = judged_width most no_tags h.width (decimal h.width) refl (size_back h.width k.sized.some_wide k.sized.wide) in
     let t1 : Tags = record no_tags { width = Some h.width } in
-    let two = judged_height t1 h.height (decimal h.height) refl (size_back h.height k.sized.some_high k.sized.high) in
+    let two = judged_height most t1 h.height (decimal h.height) refl (size_back h.height k.sized.some_high k.sized.high) in
     let t2 : Tags = record t1 { height = Some h.height } in
-    let three = judged_rate t2 (h.rate, h.scale) (decimal h.rate ++ 58 ∷ decimal h.scale) refl (ratio_back 4294967295 h.rate h.scale (omega arith) k.rate) in
+    let three = judged_rate most t2 (h.rate, h.scale) (decimal h.rate ++ 58 ∷ decimal h.scale) refl (ratio_back 4294967295 h.rate h.scale (omega arith) k.rate) in
     let t3 : Tags = record t2 { rate = Some (h.rate, h.scale) } in
-    let four = judged_structure t3 h.structure (structure_name h.structure) refl (structure_back h.structure k.structure) in
+    let four = judged_structure most t3 h.structure (structure_name h.structure) refl (structure_back h.structure k.structure) in
     let t4 : Tags = record t3 { structure = Some h.structure } in
-    let five = judged_aspect t4 (h.sar_num, h.sar_den) (decimal h.sar_num ++ 58 ∷ decimal h.sar_den) refl (ratio_back 65535 h.sar_num h.sar_den (omega arith) k.aspect) in
+    let five = judged_aspect most t4 (h.sar_num, h.sar_den) (decimal h.sar_num ++ 58 ∷ decimal h.sar_den) refl (ratio_back 65535 h.sar_num h.sar_den (omega arith) k.aspect) in
     let t5 : Tags = record t4 { aspect = Some (h.sar_num, h.sar_den) } in
-    let six = judged_chroma t5 (record { planes = h.chroma_planes; log2_h = h.log2_h; log2_v = h.log2_v; extra = h.extra_plane }) (chroma_name h) refl (chroma_back h.chroma_planes h.log2_h h.log2_v h.extra_plane k.chroma) in
+    let six = judged_chroma most t5 chroma (chroma_name depth h ++ depth_name depth) refl (capped_back_by most chroma (chroma_name depth h ++ depth_name depth) (chroma_back h.chroma_planes h.log2_h h.log2_v h.extra_plane depth named.least named.most named.name) small) in
     rw one (rw two (rw three (rw four (rw five (rw six refl)))))
 
-tags_head : (h : VideoHead) → head_of_tags (all_tags h) ≡ Ok h
+tags_head : (depth : ℕ) (h : VideoHead) → head_of_tags (all_tags depth h) ≡ Ok (record { head = h; depth = depth })
 unfolding head_of_tags
-tags_head h = refl
+tags_head depth h = refl
 
-pub line_back : (h : VideoHead) → IsHead h → head_of_line (head_line h) ≡ Ok h
+pub line_back : (most depth : ℕ) (h : VideoHead) → IsHead h → IsNamed depth h → depth ≤ most → head_of_line most (head_line depth h) ≡ Ok (record { head = h; depth = depth })
 unfolding head_of_line
-line_back h k = rw (line_words h k, line_tags h k) (tags_head h)
+line_back most depth h k named small = rw (line_words depth h k, line_tags most depth h k named small) (tags_head depth h)
 
 -- the line has no line feed
 spaced_without : (a b : List ℕ) → Without 10 a → Without 10 b → Without 10 (a ++ 32 ∷ b)
 spaced_without a b h k = without_both 10 a (32 ∷ b) h (refl, k)
 
-pub line_single : (h : VideoHead) → IsHead h → Without 10 (head_line h)
-line_single h k =
-    without_both 10 (codes "YUV4MPEG2 ") (joined (width_word h) (height_word h) (rate_word h) (structure_word h) (aspect_word h) (chroma_word h)) (plain 10 (codes "YUV4MPEG2 ") refl)
+pub line_single : (depth : ℕ) (h : VideoHead) → IsHead h → Without 10 (head_line depth h)
+line_single depth h k =
+    without_both 10 (codes "YUV4MPEG2 ") (joined (width_word h) (height_word h) (rate_word h) (structure_word h) (aspect_word h) (chroma_word depth h)) (plain 10 (codes "YUV4MPEG2 ") refl)
     (spaced_without (width_word h) _ (refl, digits_without 10 h.width (omega arith) (omega (arith, k.sized.wide)))
     (spaced_without (height_word h) _ (refl, digits_without 10 h.height (omega arith) (omega (arith, k.sized.high)))
     (spaced_without (rate_word h) _ (refl, ratio_plain 10 4294967295 h.rate h.scale (omega arith) (omega arith) k.rate)
     (spaced_without (structure_word h) _ (refl, structure_plain 10 h.structure refl)
-    (spaced_without (aspect_word h) (chroma_word h) (refl, ratio_plain 10 65535 h.sar_num h.sar_den (omega arith) (omega arith) k.aspect)
-    (refl, chroma_plain 10 h.chroma_planes h.log2_h h.log2_v h.extra_plane refl refl refl refl refl refl))))))
+    (spaced_without (aspect_word h) (chroma_word depth h) (refl, ratio_plain 10 65535 h.sar_num h.sar_den (omega arith) (omega arith) k.aspect)
+    (refl, name_plain_10 depth h))))))
 
 -- the line is short
 spaced_short : (a b : List ℕ) (m n : ℕ) → length a ≤ m → length b ≤ n → length (a ++ 32 ∷ b) ≤ m + n + 1
@@ -320,24 +373,37 @@ chroma_short : (planes : Bool) (log2_h log2_v : ℕ) (extra : Bool) → length (
 chroma_short planes log2_h log2_v extra =
     cond_short planes _ (codes "mono") 8 (cond_short extra (codes "444alpha") _ 8 (omega arith) (cond_short (log2_v == 1) (codes "420jpeg") _ 8 (omega arith) (cond_short (log2_h == 1) (codes "422") _ 8 (omega arith) (cond_short (log2_h == 2) (codes "411") (codes "444") 8 (omega arith) (omega arith))))) (omega arith)
 
-ten_more : (xs : List ℕ) → length xs ≤ 82 → length (codes "YUV4MPEG2 " ++ xs) ≤ 1024
+deep_short : (named planes : Bool) (log2_h log2_v : ℕ) → length (cond named (cond planes (cond (log2_v == 1) (codes "420p") (cond (log2_h == 1) (codes "422p") (codes "444p"))) (codes "mono")) []) ≤ 8
+deep_short named planes log2_h log2_v =
+    cond_short named _ [] 8 (cond_short planes _ (codes "mono") 8 (cond_short (log2_v == 1) (codes "420p") _ 8 (omega arith) (cond_short (log2_h == 1) (codes "422p") (codes "444p") 8 (omega arith) (omega arith))) (omega arith)) (omega arith)
+
+depth_short : (depth : ℕ) → length (depth_name depth) ≤ 2
+depth_short depth =
+    cond_short (depth == 9) (codes "9") _ 2 (omega arith) (cond_short (depth == 10) (codes "10") _ 2 (omega arith) (cond_short (depth == 12) (codes "12") _ 2 (omega arith) (cond_short (depth == 14) (codes "14") _ 2 (omega arith) (cond_short (depth == 16) (codes "16") [] 2 (omega arith) (omega arith)))))
+
+name_short : (depth : ℕ) (h : VideoHead) → length (chroma_name depth h ++ depth_name depth) ≤ 10
+name_short depth h =
+    let front : length (chroma_name depth h) ≤ 8 = cond_short (depth == 8) _ _ 8 (chroma_short h.chroma_planes h.log2_h h.log2_v h.extra_plane) (deep_short (is_named depth h.chroma_planes h.log2_h h.log2_v h.extra_plane) h.chroma_planes h.log2_h h.log2_v) in
+    omega (arith, length-append (chroma_name depth h) (depth_name depth), front, depth_short depth)
+
+ten_more : (xs : List ℕ) → length xs ≤ 84 → length (codes "YUV4MPEG2 " ++ xs) ≤ 1024
 ten_more xs h = omega (arith, length-append (codes "YUV4MPEG2 ") xs, h)
 
-pub line_short : (h : VideoHead) → IsHead h → length (head_line h) ≤ 1024
-line_short h k =
+pub line_short : (depth : ℕ) (h : VideoHead) → IsHead h → length (head_line depth h) ≤ 1024
+line_short depth h k =
     let wide = number_short h.width (omega (arith, k.sized.wide)) in
     let high = number_short h.height (omega (arith, k.sized.high)) in
     let rate = ratio_short h.rate h.scale (omega (arith, k.rate.first)) (omega (arith, k.rate.second)) in
     let aspect = ratio_short h.sar_num h.sar_den (omega (arith, k.aspect.first)) (omega (arith, k.aspect.second)) in
-    let chroma = chroma_short h.chroma_planes h.log2_h h.log2_v h.extra_plane in
+    let chroma = name_short depth h in
     let structure = structure_short h.structure in
-    let t5 = aspect_word h ++ 32 ∷ chroma_word h in
+    let t5 = aspect_word h ++ 32 ∷ chroma_word depth h in
     let t4 = structure_word h ++ 32 ∷ t5 in
     let t3 = rate_word h ++ 32 ∷ t4 in
     let t2 = height_word h ++ 32 ∷ t3 in
-    let five : length (aspect_word h ++ 32 ∷ chroma_word h) ≤ 32 = spaced_short (aspect_word h) (chroma_word h) 22 9 (omega (arith, aspect)) (omega (arith, chroma)) in
-    let four : length (structure_word h ++ 32 ∷ t5) ≤ 35 = spaced_short (structure_word h) t5 2 32 (omega (arith, structure)) five in
-    let three : length (rate_word h ++ 32 ∷ t4) ≤ 58 = spaced_short (rate_word h) t4 22 35 (omega (arith, rate)) four in
-    let two : length (height_word h ++ 32 ∷ t3) ≤ 70 = spaced_short (height_word h) t3 11 58 (omega (arith, high)) three in
-    let one : length (width_word h ++ 32 ∷ t2) ≤ 82 = spaced_short (width_word h) t2 11 70 (omega (arith, wide)) two in
+    let five : length (aspect_word h ++ 32 ∷ chroma_word depth h) ≤ 34 = spaced_short (aspect_word h) (chroma_word depth h) 22 11 (omega (arith, aspect)) (omega (arith, chroma)) in
+    let four : length (structure_word h ++ 32 ∷ t5) ≤ 37 = spaced_short (structure_word h) t5 2 34 (omega (arith, structure)) five in
+    let three : length (rate_word h ++ 32 ∷ t4) ≤ 60 = spaced_short (rate_word h) t4 22 37 (omega (arith, rate)) four in
+    let two : length (height_word h ++ 32 ∷ t3) ≤ 72 = spaced_short (height_word h) t3 11 60 (omega (arith, high)) three in
+    let one : length (width_word h ++ 32 ∷ t2) ≤ 84 = spaced_short (width_word h) t2 11 72 (omega (arith, wide)) two in
     ten_more (width_word h ++ 32 ∷ t2) one

@@ -1,18 +1,20 @@
 -- A header line and the tags that it says.
-use Rattle.std.proofs.Common.{◌≡◌, ℕ, ◌==◌, ◌||◌, Bool, true, false, cond, Option, Some, None, List, [], ◌∷◌, ◌++◌, take, drop, codes, Result, Ok, Err, refl, ap, ◌∙◌, sym, subst, append-nil, take-append-drop}
-use Rattle.std.proofs.lemmas.Bool.{eqb-true, true≢false, false≢true}
+use Rattle.std.proofs.Common.{◌≤◌, nat_le, ◌≡◌, ℕ, ◌==◌, ◌||◌, Bool, true, false, cond, Option, Some, None, List, [], ◌∷◌, ◌++◌, take, drop, codes, Result, Ok, Err, refl, ap, ◌∙◌, sym, subst, append-nil, take-append-drop}
+use Rattle.std.specs.Option.{option_and_then}
+use Rattle.std.proofs.lemmas.Bool.{le-leb, leb-true, eqb-true, true≢false, false≢true}
 use Rattle.std.specs.Cmp.Lexicographic.{same_text}
 use Rattle.ffv1_y4m.specs.declared.fault.Fault.{Fault}
 use Rattle.ffv1_y4m.specs.declared.fault.Fault.TheVariants as fault
+use Rattle.ffv1_y4m.specs.declared.head.DeepHead.{DeepHead}
 use Rattle.ffv1_y4m.specs.declared.head.VideoHead.{VideoHead}
 use Rattle.ffv1_y4m.specs.declared.tags.Chroma.{Chroma}
 use Rattle.ffv1_y4m.specs.declared.tags.Tags.{Tags}
 use Rattle.ffv1_y4m.specs.Sequence.{◌>>=◌}
-use Rattle.ffv1_y4m.specs.Header.{first_value, first_answer, structure_of, tagged, words_of, onto_first, all_judged, no_tags, present, head_of_tags, head_of_line, head_from, or_else, size_of, ratio_of, chroma_of, chroma_planes, is_text}
+use Rattle.ffv1_y4m.specs.Header.{first_value, first_answer, structure_of, tagged, words_of, onto_first, all_judged, no_tags, present, head_of_tags, head_of_line, head_from, or_else, size_of, ratio_of, chroma_named, chroma_of, chroma_planes, up_to, is_text}
 use Rattle.ffv1_y4m.specs.HeaderLine.{is_letter, AreTags, spaced, values_of, Once, AtMostOnce, SaysSize, SaysRatio, SaysStructure, SaysChroma, chroma_in, IsHeaderLine, Without}
 use Rattle.ffv1_y4m.proofs.AnswerParts.{is_some, some_in, is_fault}
 use Rattle.ffv1_y4m.proofs.CanonicalLine.{words_front, words_whole}
-use Rattle.ffv1_y4m.proofs.HeaderTags.{Moves, Moved, one_moves, by_letter, all_found}
+use Rattle.ffv1_y4m.proofs.HeaderTags.{SaysUpTo, Moves, Moved, one_moves, by_letter, all_found}
 
 -- tags without spaces
 abbrev Plain : List (List ℕ) → Type 0
@@ -56,68 +58,68 @@ answer_told None (Err f) set t h = absurd (true≢false (ap is_fault h))
 answer_told None (Ok x) set t h = record { x = x; none = refl; said = refl; is = ap (ok_in t) h }
 
 -- one tag, backwards
-abbrev Back : Tags → List ℕ → List (List ℕ) → Tags → Tags → ℕ → Type 0
-Back t value tags next u letter = tagged t letter value ≡ Ok next → Moved next tags u → Moved t ((letter ∷ value) ∷ tags) u
+abbrev Back : ℕ → Tags → List ℕ → List (List ℕ) → Tags → Tags → ℕ → Type 0
+Back most t value tags next u letter = tagged most t letter value ≡ Ok next → Moved most next tags u → Moved most t ((letter ∷ value) ∷ tags) u
 
-back_width : (t : Tags) (value : List ℕ) (tags : List (List ℕ)) (next u : Tags) → Back t value tags next u 87
+back_width : (most : ℕ) (t : Tags) (value : List ℕ) (tags : List (List ℕ)) (next u : Tags) → Back most t value tags next u 87
 unfolding tagged
-back_width t value tags next u h m =
+back_width most t value tags next u h m =
     let f = first_told t.width (size_of value) fault.Tag (λ n. record t { width = Some n }) next h in
-    let P : Tags → Type 0 = λ z. Moved z tags u in
+    let P : Tags → Type 0 = λ z. Moved most z tags u in
     let k = subst P (sym f.is) m in
     record { width = one_moves SaysSize t.width f.x value (values_of 87 tags) u.width f.none f.said k.width; height = k.height; rate = k.rate; structure = k.structure; aspect = k.aspect; chroma = k.chroma }
 
-back_height : (t : Tags) (value : List ℕ) (tags : List (List ℕ)) (next u : Tags) → Back t value tags next u 72
+back_height : (most : ℕ) (t : Tags) (value : List ℕ) (tags : List (List ℕ)) (next u : Tags) → Back most t value tags next u 72
 unfolding tagged
-back_height t value tags next u h m =
+back_height most t value tags next u h m =
     let f = first_told t.height (size_of value) fault.Tag (λ n. record t { height = Some n }) next h in
-    let P : Tags → Type 0 = λ z. Moved z tags u in
+    let P : Tags → Type 0 = λ z. Moved most z tags u in
     let k = subst P (sym f.is) m in
     record { width = k.width; height = one_moves SaysSize t.height f.x value (values_of 72 tags) u.height f.none f.said k.height; rate = k.rate; structure = k.structure; aspect = k.aspect; chroma = k.chroma }
 
-back_rate : (t : Tags) (value : List ℕ) (tags : List (List ℕ)) (next u : Tags) → Back t value tags next u 70
+back_rate : (most : ℕ) (t : Tags) (value : List ℕ) (tags : List (List ℕ)) (next u : Tags) → Back most t value tags next u 70
 unfolding tagged
-back_rate t value tags next u h m =
+back_rate most t value tags next u h m =
     let f = first_told t.rate (ratio_of 4294967295 value) fault.Tag (λ n. record t { rate = Some n }) next h in
-    let P : Tags → Type 0 = λ z. Moved z tags u in
+    let P : Tags → Type 0 = λ z. Moved most z tags u in
     let k = subst P (sym f.is) m in
     record { width = k.width; height = k.height; rate = one_moves (SaysRatio 4294967295) t.rate f.x value (values_of 70 tags) u.rate f.none f.said k.rate; structure = k.structure; aspect = k.aspect; chroma = k.chroma }
 
-back_structure : (t : Tags) (value : List ℕ) (tags : List (List ℕ)) (next u : Tags) → Back t value tags next u 73
+back_structure : (most : ℕ) (t : Tags) (value : List ℕ) (tags : List (List ℕ)) (next u : Tags) → Back most t value tags next u 73
 unfolding tagged
-back_structure t value tags next u h m =
+back_structure most t value tags next u h m =
     let f = answer_told t.structure (structure_of value) (λ n. record t { structure = Some n }) next h in
-    let P : Tags → Type 0 = λ z. Moved z tags u in
+    let P : Tags → Type 0 = λ z. Moved most z tags u in
     let k = subst P (sym f.is) m in
     record { width = k.width; height = k.height; rate = k.rate; structure = one_moves SaysStructure t.structure f.x value (values_of 73 tags) u.structure f.none f.said k.structure; aspect = k.aspect; chroma = k.chroma }
 
-back_aspect : (t : Tags) (value : List ℕ) (tags : List (List ℕ)) (next u : Tags) → Back t value tags next u 65
+back_aspect : (most : ℕ) (t : Tags) (value : List ℕ) (tags : List (List ℕ)) (next u : Tags) → Back most t value tags next u 65
 unfolding tagged
-back_aspect t value tags next u h m =
+back_aspect most t value tags next u h m =
     let f = first_told t.aspect (ratio_of 65535 value) fault.Tag (λ n. record t { aspect = Some n }) next h in
-    let P : Tags → Type 0 = λ z. Moved z tags u in
+    let P : Tags → Type 0 = λ z. Moved most z tags u in
     let k = subst P (sym f.is) m in
     record { width = k.width; height = k.height; rate = k.rate; structure = k.structure; aspect = one_moves (SaysRatio 65535) t.aspect f.x value (values_of 65 tags) u.aspect f.none f.said k.aspect; chroma = k.chroma }
 
-back_chroma : (t : Tags) (value : List ℕ) (tags : List (List ℕ)) (next u : Tags) → Back t value tags next u 67
+back_chroma : (most : ℕ) (t : Tags) (value : List ℕ) (tags : List (List ℕ)) (next u : Tags) → Back most t value tags next u 67
 unfolding tagged
-back_chroma t value tags next u h m =
-    let f = first_told t.chroma (chroma_of value) fault.Unsupported (λ n. record t { chroma = Some n }) next h in
-    let P : Tags → Type 0 = λ z. Moved z tags u in
+back_chroma most t value tags next u h m =
+    let f = first_told t.chroma (chroma_of most value) fault.Unsupported (λ n. record t { chroma = Some n }) next h in
+    let P : Tags → Type 0 = λ z. Moved most z tags u in
     let k = subst P (sym f.is) m in
-    record { width = k.width; height = k.height; rate = k.rate; structure = k.structure; aspect = k.aspect; chroma = one_moves SaysChroma t.chroma f.x value (values_of 67 tags) u.chroma f.none f.said k.chroma }
+    record { width = k.width; height = k.height; rate = k.rate; structure = k.structure; aspect = k.aspect; chroma = one_moves (SaysUpTo most) t.chroma f.x value (values_of 67 tags) u.chroma f.none f.said k.chroma }
 
-back_comment : (t : Tags) (value : List ℕ) (tags : List (List ℕ)) (next u : Tags) → Back t value tags next u 88
+back_comment : (most : ℕ) (t : Tags) (value : List ℕ) (tags : List (List ℕ)) (next u : Tags) → Back most t value tags next u 88
 unfolding tagged
-back_comment t value tags next u h m =
-    let P : Tags → Type 0 = λ z. Moved z tags u in
+back_comment most t value tags next u h m =
+    let P : Tags → Type 0 = λ z. Moved most z tags u in
     let k = subst P (sym (ap (ok_in t) h)) m in
     record { width = k.width; height = k.height; rate = k.rate; structure = k.structure; aspect = k.aspect; chroma = k.chroma }
 
-back : (t : Tags) (value : List ℕ) (tags : List (List ℕ)) (next u : Tags) (letter : ℕ) → is_letter letter ≡ true → Back t value tags next u letter
-back t value tags next u letter known =
-    by_letter (λ c. Back t value tags next u c) letter known
-    (back_width t value tags next u) (back_height t value tags next u) (back_rate t value tags next u) (back_structure t value tags next u) (back_aspect t value tags next u) (back_chroma t value tags next u) (back_comment t value tags next u)
+back : (most : ℕ) (t : Tags) (value : List ℕ) (tags : List (List ℕ)) (next u : Tags) (letter : ℕ) → is_letter letter ≡ true → Back most t value tags next u letter
+back most t value tags next u letter known =
+    by_letter (λ c. Back most t value tags next u c) letter known
+    (back_width most t value tags next u) (back_height most t value tags next u) (back_rate most t value tags next u) (back_structure most t value tags next u) (back_aspect most t value tags next u) (back_chroma most t value tags next u) (back_comment most t value tags next u)
 
 known_by : (a b c d e f g : Bool) (p q r s t u v : Result Tags Fault) (k : Fault) (next : Tags) → cond a p (cond b q (cond c r (cond d s (cond e t (cond f u (cond g v (Err k))))))) ≡ Ok next →
     a || (b || (c || (d || (e || (f || g))))) ≡ true
@@ -130,27 +132,51 @@ known_by false false false false false true g p q r s t u v k next h = refl
 known_by false false false false false false true p q r s t u v k next h = refl
 known_by false false false false false false false p q r s t u v k next h = absurd (true≢false (ap is_fault h))
 
-known : (t : Tags) (letter : ℕ) (value : List ℕ) (next : Tags) → tagged t letter value ≡ Ok next → is_letter letter ≡ true
+known : (most : ℕ) (t : Tags) (letter : ℕ) (value : List ℕ) (next : Tags) → tagged most t letter value ≡ Ok next → is_letter letter ≡ true
 unfolding tagged
-known t letter value next h =
+known most t letter value next h =
     known_by (letter == 87) (letter == 72) (letter == 70) (letter == 73) (letter == 65) (letter == 67) (letter == 88) _ _ _ _ _ _ _ fault.Tag next h
 
-record AllTold (t : Tags) (tags : List (List ℕ)) (u : Tags) : Type 0 where
+record AllTold (most : ℕ) (t : Tags) (tags : List (List ℕ)) (u : Tags) : Type 0 where
   are : AreTags tags
-  moved : Moved t tags u
+  moved : Moved most t tags u
 
-none_moved : (t u : Tags) → t ≡ u → Moved t [] u
-none_moved t u e =
+none_moved : (most : ℕ) (t u : Tags) → t ≡ u → Moved most t [] u
+none_moved most t u e =
     record { width = ap (λ z. z.width) (sym e); height = ap (λ z. z.height) (sym e); rate = ap (λ z. z.rate) (sym e); structure = ap (λ z. z.structure) (sym e); aspect = ap (λ z. z.aspect) (sym e); chroma = ap (λ z. z.chroma) (sym e) }
 
-all_only : (tags : List (List ℕ)) (t u : Tags) → Plain tags → all_judged t tags ≡ Ok u → AllTold t tags u
-all_only [] t u plain h = record { are = tt; moved = none_moved t u (ap (ok_in t) h) }
-all_only ([] ∷ tags) t u plain h = absurd (true≢false (ap is_fault h))
-all_only ((letter ∷ value) ∷ tags) t u plain h =
-    let b = bound (tagged t letter value) (λ z. all_judged z tags) u h in
-    let more = all_only tags b.x u plain.1 b.goes_on in
-    let letters = known t letter value b.x b.begins in
-    record { are = (letters, plain.0, more.are); moved = back t value tags b.x u letter letters b.begins more.moved }
+all_only : (most : ℕ) (tags : List (List ℕ)) (t u : Tags) → Plain tags → all_judged most t tags ≡ Ok u → AllTold most t tags u
+all_only most [] t u plain h = record { are = tt; moved = none_moved most t u (ap (ok_in t) h) }
+all_only most ([] ∷ tags) t u plain h = absurd (true≢false (ap is_fault h))
+all_only most ((letter ∷ value) ∷ tags) t u plain h =
+    let b = bound (tagged most t letter value) (λ z. all_judged most z tags) u h in
+    let more = all_only most tags b.x u plain.1 b.goes_on in
+    let letters = known most t letter value b.x b.begins in
+    record { are = (letters, plain.0, more.are); moved = back most t value tags b.x u letter letters b.begins more.moved }
+
+-- chroma of a name, where its depth is read, and the other way round
+up_by : (most : ℕ) (c d : Chroma) (b : Bool) → nat_le c.depth most ≡ b → cond b (Some c) None ≡ Some d → (c ≡ d) × (c.depth ≤ most)
+up_by most c d true test h = (ap (some_in d) h, leb-true c.depth most test)
+up_by most c d false test h = absurd (false≢true (ap is_some h))
+
+named_by : (most : ℕ) (named : Option Chroma) (d : Chroma) → option_and_then (up_to most) named ≡ Some d → (named ≡ Some d) × (d.depth ≤ most)
+named_by most None d h = absurd (false≢true (ap is_some h))
+named_by most (Some c) d h =
+    let both = up_by most c d (nat_le c.depth most) refl h in
+    (ap (λ z. Some z) both.0, subst (λ (z : Chroma). z.depth ≤ most) both.0 both.1)
+
+capped : (most : ℕ) (value : List ℕ) (c : Chroma) → SaysChroma value c → c.depth ≤ most → SaysUpTo most value c
+capped most value c said small = rw (said, le-leb c.depth most small) refl
+
+all_capped : (most : ℕ) (d c : Chroma) (values : List (List ℕ)) → AtMostOnce SaysChroma d values c → c.depth ≤ most → AtMostOnce (SaysUpTo most) d values c
+all_capped most d c [] h small = h
+all_capped most d c (value ∷ []) h small = capped most value c h small
+all_capped most d c (value ∷ second ∷ more) h small = absurd h
+
+all_named : (most : ℕ) (d c : Chroma) (values : List (List ℕ)) → AtMostOnce (SaysUpTo most) d values c → AtMostOnce SaysChroma d values c × (d.depth ≤ most → c.depth ≤ most)
+all_named most d c [] h = (h, λ small. subst (λ (z : Chroma). z.depth ≤ most) (sym h) small)
+all_named most d c (value ∷ []) h = let both = named_by most (chroma_named value) c h in (both.0, λ small. both.1)
+all_named most d c (value ∷ second ∷ more) h = absurd h
 
 -- what is said once
 once_of : {X : Type 0} (says : List ℕ → X → Type 0) (values : List (List ℕ)) (new : Option X) (x : X) → Moves says None values new → new ≡ Some x → Once says values x
@@ -214,93 +240,102 @@ are_plain ([] ∷ tags) are = absurd are
 are_plain ((letter ∷ value) ∷ tags) are = (are.1, are_plain tags are.2)
 
 -- the line
-line_by : (h : VideoHead) (tags : List (List ℕ)) (u : Tags) (line : List ℕ) → line ≡ codes "YUV4MPEG2" ++ spaced tags → AreTags tags → all_judged no_tags tags ≡ Ok u → head_of_tags u ≡ Ok h → head_of_line line ≡ Ok h
+line_by : (most : ℕ) (h : DeepHead) (tags : List (List ℕ)) (u : Tags) (line : List ℕ) → line ≡ codes "YUV4MPEG2" ++ spaced tags → AreTags tags → all_judged most no_tags tags ≡ Ok u → head_of_tags u ≡ Ok h → head_of_line most line ≡ Ok h
 unfolding head_of_line head_of_tags
-line_by h [] u line e are judging is =
+line_by most h [] u line e are judging is =
     let none : no_tags ≡ u = ap (ok_in u) judging in
     let P : Tags → Type 0 = λ z. head_of_tags z ≡ Ok h in
     absurd (true≢false (ap is_fault (subst P (sym none) is)))
-line_by h (w ∷ ws) u line e are judging is =
+line_by most h (w ∷ ws) u line e are judging is =
     rw e (rw (spaced_words w ws (are_plain (w ∷ ws) are)) (rw judging is))
 
-tags_by : (h : VideoHead) (rate : ℕ × ℕ) (structure : ℕ) (aspect : ℕ × ℕ) (chroma : Chroma) → rate ≡ (h.rate, h.scale) → structure ≡ h.structure → aspect ≡ (h.sar_num, h.sar_den) → chroma ≡ chroma_in h →
-    head_from h.width h.height rate structure aspect chroma ≡ h
-tags_by h rate structure aspect chroma a b c d = rw (a, b, c, d) refl
+tags_by : (depth : ℕ) (h : VideoHead) (rate : ℕ × ℕ) (structure : ℕ) (aspect : ℕ × ℕ) (chroma : Chroma) → rate ≡ (h.rate, h.scale) → structure ≡ h.structure → aspect ≡ (h.sar_num, h.sar_den) → chroma ≡ chroma_in depth h →
+    head_from h.width h.height rate structure aspect chroma ≡ record { head = h; depth = depth }
+tags_by depth h rate structure aspect chroma a b c d = rw (a, b, c, d) refl
 
-head_by : (h : VideoHead) (u : Tags) → u.width ≡ Some h.width → u.height ≡ Some h.height → or_else u.rate (0, 0) ≡ (h.rate, h.scale) → or_else u.structure 0 ≡ h.structure → or_else u.aspect (0, 0) ≡ (h.sar_num, h.sar_den) →
-    or_else u.chroma (chroma_planes 1 1) ≡ chroma_in h → head_of_tags u ≡ Ok h
+head_by : (depth : ℕ) (h : VideoHead) (u : Tags) → u.width ≡ Some h.width → u.height ≡ Some h.height → or_else u.rate (0, 0) ≡ (h.rate, h.scale) → or_else u.structure 0 ≡ h.structure → or_else u.aspect (0, 0) ≡ (h.sar_num, h.sar_den) →
+    or_else u.chroma (chroma_planes 1 1) ≡ chroma_in depth h → head_of_tags u ≡ Ok (record { head = h; depth = depth })
 unfolding head_of_tags
-head_by h u wide high rate structure aspect chroma =
-    rw (wide, high) (ap Ok (tags_by h (or_else u.rate (0, 0)) (or_else u.structure 0) (or_else u.aspect (0, 0)) (or_else u.chroma (chroma_planes 1 1)) rate structure aspect chroma))
+head_by depth h u wide high rate structure aspect chroma =
+    rw (wide, high) (ap Ok (tags_by depth h (or_else u.rate (0, 0)) (or_else u.structure 0) (or_else u.aspect (0, 0)) (or_else u.chroma (chroma_planes 1 1)) rate structure aspect chroma))
 
-pub line_found : (line : List ℕ) (h : VideoHead) → IsHeaderLine line h → head_of_line line ≡ Ok h
-line_found line h l =
+pub line_found : (line : List ℕ) (most depth : ℕ) (h : VideoHead) → IsHeaderLine line depth h → depth ≤ most → head_of_line most line ≡ Ok (record { head = h; depth = depth })
+line_found line most depth h l small =
+    let named : AtMostOnce (SaysUpTo most) (chroma_planes 1 1) (values_of 67 l.tags) (chroma_in depth h) = all_capped most (chroma_planes 1 1) (chroma_in depth h) (values_of 67 l.tags) l.chroma small in
     let u : Tags = record {
       width = Some h.width;
       height = Some h.height;
       rate = option_of (values_of 70 l.tags) (h.rate, h.scale);
       structure = option_of (values_of 73 l.tags) h.structure;
       aspect = option_of (values_of 65 l.tags) (h.sar_num, h.sar_den);
-      chroma = option_of (values_of 67 l.tags) (chroma_in h);
+      chroma = option_of (values_of 67 l.tags) (chroma_in depth h);
     } in
-    let moved : Moved no_tags l.tags u = record {
+    let moved : Moved most no_tags l.tags u = record {
       width = once_moves SaysSize (values_of 87 l.tags) h.width l.width;
       height = once_moves SaysSize (values_of 72 l.tags) h.height l.height;
       rate = most_moves (SaysRatio 4294967295) (0, 0) (values_of 70 l.tags) (h.rate, h.scale) l.rate;
       structure = most_moves SaysStructure 0 (values_of 73 l.tags) h.structure l.structure;
       aspect = most_moves (SaysRatio 65535) (0, 0) (values_of 65 l.tags) (h.sar_num, h.sar_den) l.aspect;
-      chroma = most_moves SaysChroma (chroma_planes 1 1) (values_of 67 l.tags) (chroma_in h) l.chroma;
+      chroma = most_moves (SaysUpTo most) (chroma_planes 1 1) (values_of 67 l.tags) (chroma_in depth h) named;
     } in
-    let head = head_by h u refl refl (most_else (SaysRatio 4294967295) (0, 0) (values_of 70 l.tags) (h.rate, h.scale) l.rate) (most_else SaysStructure 0 (values_of 73 l.tags) h.structure l.structure)
-    (most_else (SaysRatio 65535) (0, 0) (values_of 65 l.tags) (h.sar_num, h.sar_den) l.aspect) (most_else SaysChroma (chroma_planes 1 1) (values_of 67 l.tags) (chroma_in h) l.chroma) in
-    line_by h l.tags u line l.spelled l.are (all_found l.tags no_tags u l.are moved) head
+    let head = head_by depth h u refl refl (most_else (SaysRatio 4294967295) (0, 0) (values_of 70 l.tags) (h.rate, h.scale) l.rate) (most_else SaysStructure 0 (values_of 73 l.tags) h.structure l.structure)
+    (most_else (SaysRatio 65535) (0, 0) (values_of 65 l.tags) (h.sar_num, h.sar_den) l.aspect) (most_else (SaysUpTo most) (chroma_planes 1 1) (values_of 67 l.tags) (chroma_in depth h) named) in
+    line_by most (record { head = h; depth = depth }) l.tags u line l.spelled l.are (all_found l.tags most no_tags u l.are moved) head
 
 -- the other way round
-record HeadTold (u : Tags) (h : VideoHead) : Type 0 where
+record HeadTold (u : Tags) (h : DeepHead) : Type 0 where
   w : ℕ
   k : ℕ
   wide : u.width ≡ Some w
   high : u.height ≡ Some k
   is : head_from w k (or_else u.rate (0, 0)) (or_else u.structure 0) (or_else u.aspect (0, 0)) (or_else u.chroma (chroma_planes 1 1)) ≡ h
 
-sizes_told : (u : Tags) (wide high : Option ℕ) (h : VideoHead) → u.width ≡ wide → u.height ≡ high →
+sizes_told : (u : Tags) (wide high : Option ℕ) (h : DeepHead) → u.width ≡ wide → u.height ≡ high →
     (present wide >>= λ w. present high >>= λ k. Ok (head_from w k (or_else u.rate (0, 0)) (or_else u.structure 0) (or_else u.aspect (0, 0)) (or_else u.chroma (chroma_planes 1 1)))) ≡ Ok h → HeadTold u h
 sizes_told u None high h p q e = absurd (true≢false (ap is_fault e))
 sizes_told u (Some w) None h p q e = absurd (true≢false (ap is_fault e))
 sizes_told u (Some w) (Some k) h p q e = record { w = w; k = k; wide = p; high = q; is = ap (ok_in h) e }
 
-head_told : (u : Tags) (h : VideoHead) → head_of_tags u ≡ Ok h → HeadTold u h
+head_told : (u : Tags) (h : DeepHead) → head_of_tags u ≡ Ok h → HeadTold u h
 unfolding head_of_tags
 head_told u h e = sizes_told u u.width u.height h refl refl e
 
-words_line : (line : List ℕ) (h : VideoHead) (words : List (List ℕ)) (u : Tags) → line ≡ codes "YUV4MPEG2" ++ spaced words → AllTold no_tags words u → HeadTold u h → IsHeaderLine line h
-words_line line h words u spelled t k =
-    let m = t.moved in
-    let P : VideoHead → Type 0 = λ z. IsHeaderLine line z in
-    subst P k.is (record {
-      tags = words;
-      are = t.are;
-      spelled = spelled;
-      width = once_of SaysSize (values_of 87 words) u.width k.w m.width k.wide;
-      height = once_of SaysSize (values_of 72 words) u.height k.k m.height k.high;
-      rate = most_of (SaysRatio 4294967295) (0, 0) (values_of 70 words) u.rate m.rate;
-      structure = most_of SaysStructure 0 (values_of 73 words) u.structure m.structure;
-      aspect = most_of (SaysRatio 65535) (0, 0) (values_of 65 words) u.aspect m.aspect;
-      chroma = most_of SaysChroma (chroma_planes 1 1) (values_of 67 words) u.chroma m.chroma;
-    })
+-- a line says this depth, which is read, and this head
+abbrev pub Said : ℕ → List ℕ → DeepHead → Type 0
+Said most line h = IsHeaderLine line h.depth h.head × (8 ≤ most → h.depth ≤ most)
 
-only_by : (a b : Bool) (line : List ℕ) (h : VideoHead) → is_text (take 10 line) (codes "YUV4MPEG2 ") ≡ b →
-    cond a (Err fault.Tag) (cond b (all_judged no_tags (words_of (drop 10 line)) >>= head_of_tags) (Err fault.Header)) ≡ Ok h → IsHeaderLine line h
-only_by true b line h test e = absurd (true≢false (ap is_fault e))
-only_by false false line h test e = absurd (true≢false (ap is_fault e))
-only_by false true line h test e =
+words_line : (most : ℕ) (line : List ℕ) (h : DeepHead) (words : List (List ℕ)) (u : Tags) → line ≡ codes "YUV4MPEG2" ++ spaced words → AllTold most no_tags words u → HeadTold u h → Said most line h
+words_line most line h words u spelled t k =
+    let m = t.moved in
+    let named = all_named most (chroma_planes 1 1) (or_else u.chroma (chroma_planes 1 1)) (values_of 67 words) (most_of (SaysUpTo most) (chroma_planes 1 1) (values_of 67 words) u.chroma m.chroma) in
+    let P : DeepHead → Type 0 = λ z. Said most line z in
+    subst P k.is (
+      (record {
+        tags = words;
+        are = t.are;
+        spelled = spelled;
+        width = once_of SaysSize (values_of 87 words) u.width k.w m.width k.wide;
+        height = once_of SaysSize (values_of 72 words) u.height k.k m.height k.high;
+        rate = most_of (SaysRatio 4294967295) (0, 0) (values_of 70 words) u.rate m.rate;
+        structure = most_of SaysStructure 0 (values_of 73 words) u.structure m.structure;
+        aspect = most_of (SaysRatio 65535) (0, 0) (values_of 65 words) u.aspect m.aspect;
+        chroma = named.0;
+      }),
+      named.1,
+    )
+
+only_by : (most : ℕ) (a b : Bool) (line : List ℕ) (h : DeepHead) → is_text (take 10 line) (codes "YUV4MPEG2 ") ≡ b →
+    cond a (Err fault.Tag) (cond b (all_judged most no_tags (words_of (drop 10 line)) >>= head_of_tags) (Err fault.Header)) ≡ Ok h → Said most line h
+only_by most true b line h test e = absurd (true≢false (ap is_fault e))
+only_by most false false line h test e = absurd (true≢false (ap is_fault e))
+only_by most false true line h test e =
     let words = words_of (drop 10 line) in
     let t = words_told (drop 10 line) in
-    let b = bound (all_judged no_tags (words_of (drop 10 line))) head_of_tags h e in
+    let b = bound (all_judged most no_tags (words_of (drop 10 line))) head_of_tags h e in
     let front : take 10 line ≡ codes "YUV4MPEG2 " = same_text _ _ (sym test) in
     let spelled : line ≡ codes "YUV4MPEG2" ++ spaced (words_of (drop 10 line)) = sym (take-append-drop 10 line) ∙ (ap (λ z. z ++ drop 10 line) front ∙ ap (λ z. codes "YUV4MPEG2" ++ z) (sym t.spells)) in
-    words_line line h words b.x spelled (all_only words no_tags b.x t.plain b.begins) (head_told b.x h b.goes_on)
+    words_line most line h words b.x spelled (all_only most words no_tags b.x t.plain b.begins) (head_told b.x h b.goes_on)
 
-pub line_only : (line : List ℕ) (h : VideoHead) → head_of_line line ≡ Ok h → IsHeaderLine line h
+pub line_only : (line : List ℕ) (most : ℕ) (h : DeepHead) → head_of_line most line ≡ Ok h → Said most line h
 unfolding head_of_line
-line_only line h e = only_by (is_text line (codes "YUV4MPEG2")) (is_text (take 10 line) (codes "YUV4MPEG2 ")) line h refl e
+line_only line most h e = only_by most (is_text line (codes "YUV4MPEG2")) (is_text (take 10 line) (codes "YUV4MPEG2 ")) line h refl e

@@ -2,10 +2,15 @@
 use Rattle.std.proofs.Common.{◌≡◌, ℕ, ◌==◌, ◌||◌, Bool, true, false, Option, Some, None, List, [], ◌∷◌, Ok, refl, ap, ◌∙◌, sym, subst}
 use Rattle.std.proofs.lemmas.Bool.{eqb-true, false≢true}
 use Rattle.ffv1_y4m.specs.declared.tags.Tags.{Tags}
-use Rattle.ffv1_y4m.specs.Header.{tagged, judged, all_judged}
-use Rattle.ffv1_y4m.specs.HeaderLine.{is_letter, AreTags, values_of, SaysSize, SaysRatio, SaysStructure, SaysChroma}
+use Rattle.ffv1_y4m.specs.declared.tags.Chroma.{Chroma}
+use Rattle.ffv1_y4m.specs.Header.{tagged, judged, all_judged, chroma_of}
+use Rattle.ffv1_y4m.specs.HeaderLine.{is_letter, AreTags, values_of, SaysSize, SaysRatio, SaysStructure}
 use Rattle.ffv1_y4m.proofs.AnswerParts.{is_some}
 use Rattle.ffv1_y4m.proofs.CanonicalLine.{judged_width, judged_height, judged_rate, judged_structure, judged_aspect, judged_chroma}
+
+-- a name of chroma of at most this depth
+abbrev pub SaysUpTo : ℕ → List ℕ → Chroma → Type 0
+SaysUpTo most value c = chroma_of most value ≡ Some c
 
 -- what tags of one letter make of a value: at most one says it, where none did before
 abbrev pub Moves : {X : Type 0} → (List ℕ → X → Type 0) → Option X → List (List ℕ) → Option X → Type 0
@@ -14,13 +19,13 @@ Moves {X = X} says None (value ∷ []) new = (x : X) × says value x × (new ≡
 Moves says None (value ∷ second ∷ more) new = ⊥
 Moves says (Some y) (value ∷ more) new = ⊥
 
-pub record Moved (t : Tags) (tags : List (List ℕ)) (u : Tags) : Type 0 where
+pub record Moved (most : ℕ) (t : Tags) (tags : List (List ℕ)) (u : Tags) : Type 0 where
   pub width : Moves SaysSize t.width (values_of 87 tags) u.width
   pub height : Moves SaysSize t.height (values_of 72 tags) u.height
   pub rate : Moves (SaysRatio 4294967295) t.rate (values_of 70 tags) u.rate
   pub structure : Moves SaysStructure t.structure (values_of 73 tags) u.structure
   pub aspect : Moves (SaysRatio 65535) t.aspect (values_of 65 tags) u.aspect
-  pub chroma : Moves SaysChroma t.chroma (values_of 67 tags) u.chroma
+  pub chroma : Moves (SaysUpTo most) t.chroma (values_of 67 tags) u.chroma
 
 record One {X : Type 0} (says : List ℕ → X → Type 0) (old : Option X) (value : List ℕ) (more : List (List ℕ)) (new : Option X) : Type 0 where
   x : X
@@ -57,49 +62,49 @@ by_letter Q c known w h f i a k x =
     (λ e. subst Q (sym (eqb-true c 65 e)) a) (λ e. subst Q (sym (eqb-true c 67 e)) k) (λ e. subst Q (sym (eqb-true c 88 e)) x)
 
 -- one tag
-record Step (t : Tags) (letter : ℕ) (value : List ℕ) (tags : List (List ℕ)) (u : Tags) : Type 0 where
+record Step (most : ℕ) (t : Tags) (letter : ℕ) (value : List ℕ) (tags : List (List ℕ)) (u : Tags) : Type 0 where
   next : Tags
-  judging : judged t (letter ∷ value) ≡ Ok next
-  moved : Moved next tags u
+  judging : judged most t (letter ∷ value) ≡ Ok next
+  moved : Moved most next tags u
 
-step_width : (t : Tags) (value : List ℕ) (tags : List (List ℕ)) (u : Tags) → Moved t ((87 ∷ value) ∷ tags) u → Step t 87 value tags u
-step_width t value tags u m =
+step_width : (most : ℕ) (t : Tags) (value : List ℕ) (tags : List (List ℕ)) (u : Tags) → Moved most t ((87 ∷ value) ∷ tags) u → Step most t 87 value tags u
+step_width most t value tags u m =
     let o = moves_one SaysSize t.width value (values_of 87 tags) u.width m.width in
-    record { next = record t { width = Some o.x }; judging = judged_width t o.x value o.none o.said; moved = record { width = o.next; height = m.height; rate = m.rate; structure = m.structure; aspect = m.aspect; chroma = m.chroma } }
+    record { next = record t { width = Some o.x }; judging = judged_width most t o.x value o.none o.said; moved = record { width = o.next; height = m.height; rate = m.rate; structure = m.structure; aspect = m.aspect; chroma = m.chroma } }
 
-step_height : (t : Tags) (value : List ℕ) (tags : List (List ℕ)) (u : Tags) → Moved t ((72 ∷ value) ∷ tags) u → Step t 72 value tags u
-step_height t value tags u m =
+step_height : (most : ℕ) (t : Tags) (value : List ℕ) (tags : List (List ℕ)) (u : Tags) → Moved most t ((72 ∷ value) ∷ tags) u → Step most t 72 value tags u
+step_height most t value tags u m =
     let o = moves_one SaysSize t.height value (values_of 72 tags) u.height m.height in
-    record { next = record t { height = Some o.x }; judging = judged_height t o.x value o.none o.said; moved = record { width = m.width; height = o.next; rate = m.rate; structure = m.structure; aspect = m.aspect; chroma = m.chroma } }
+    record { next = record t { height = Some o.x }; judging = judged_height most t o.x value o.none o.said; moved = record { width = m.width; height = o.next; rate = m.rate; structure = m.structure; aspect = m.aspect; chroma = m.chroma } }
 
-step_rate : (t : Tags) (value : List ℕ) (tags : List (List ℕ)) (u : Tags) → Moved t ((70 ∷ value) ∷ tags) u → Step t 70 value tags u
-step_rate t value tags u m =
+step_rate : (most : ℕ) (t : Tags) (value : List ℕ) (tags : List (List ℕ)) (u : Tags) → Moved most t ((70 ∷ value) ∷ tags) u → Step most t 70 value tags u
+step_rate most t value tags u m =
     let o = moves_one (SaysRatio 4294967295) t.rate value (values_of 70 tags) u.rate m.rate in
-    record { next = record t { rate = Some o.x }; judging = judged_rate t o.x value o.none o.said; moved = record { width = m.width; height = m.height; rate = o.next; structure = m.structure; aspect = m.aspect; chroma = m.chroma } }
+    record { next = record t { rate = Some o.x }; judging = judged_rate most t o.x value o.none o.said; moved = record { width = m.width; height = m.height; rate = o.next; structure = m.structure; aspect = m.aspect; chroma = m.chroma } }
 
-step_structure : (t : Tags) (value : List ℕ) (tags : List (List ℕ)) (u : Tags) → Moved t ((73 ∷ value) ∷ tags) u → Step t 73 value tags u
-step_structure t value tags u m =
+step_structure : (most : ℕ) (t : Tags) (value : List ℕ) (tags : List (List ℕ)) (u : Tags) → Moved most t ((73 ∷ value) ∷ tags) u → Step most t 73 value tags u
+step_structure most t value tags u m =
     let o = moves_one SaysStructure t.structure value (values_of 73 tags) u.structure m.structure in
-    record { next = record t { structure = Some o.x }; judging = judged_structure t o.x value o.none o.said; moved = record { width = m.width; height = m.height; rate = m.rate; structure = o.next; aspect = m.aspect; chroma = m.chroma } }
+    record { next = record t { structure = Some o.x }; judging = judged_structure most t o.x value o.none o.said; moved = record { width = m.width; height = m.height; rate = m.rate; structure = o.next; aspect = m.aspect; chroma = m.chroma } }
 
-step_aspect : (t : Tags) (value : List ℕ) (tags : List (List ℕ)) (u : Tags) → Moved t ((65 ∷ value) ∷ tags) u → Step t 65 value tags u
-step_aspect t value tags u m =
+step_aspect : (most : ℕ) (t : Tags) (value : List ℕ) (tags : List (List ℕ)) (u : Tags) → Moved most t ((65 ∷ value) ∷ tags) u → Step most t 65 value tags u
+step_aspect most t value tags u m =
     let o = moves_one (SaysRatio 65535) t.aspect value (values_of 65 tags) u.aspect m.aspect in
-    record { next = record t { aspect = Some o.x }; judging = judged_aspect t o.x value o.none o.said; moved = record { width = m.width; height = m.height; rate = m.rate; structure = m.structure; aspect = o.next; chroma = m.chroma } }
+    record { next = record t { aspect = Some o.x }; judging = judged_aspect most t o.x value o.none o.said; moved = record { width = m.width; height = m.height; rate = m.rate; structure = m.structure; aspect = o.next; chroma = m.chroma } }
 
-step_chroma : (t : Tags) (value : List ℕ) (tags : List (List ℕ)) (u : Tags) → Moved t ((67 ∷ value) ∷ tags) u → Step t 67 value tags u
-step_chroma t value tags u m =
-    let o = moves_one SaysChroma t.chroma value (values_of 67 tags) u.chroma m.chroma in
-    record { next = record t { chroma = Some o.x }; judging = judged_chroma t o.x value o.none o.said; moved = record { width = m.width; height = m.height; rate = m.rate; structure = m.structure; aspect = m.aspect; chroma = o.next } }
+step_chroma : (most : ℕ) (t : Tags) (value : List ℕ) (tags : List (List ℕ)) (u : Tags) → Moved most t ((67 ∷ value) ∷ tags) u → Step most t 67 value tags u
+step_chroma most t value tags u m =
+    let o = moves_one (SaysUpTo most) t.chroma value (values_of 67 tags) u.chroma m.chroma in
+    record { next = record t { chroma = Some o.x }; judging = judged_chroma most t o.x value o.none o.said; moved = record { width = m.width; height = m.height; rate = m.rate; structure = m.structure; aspect = m.aspect; chroma = o.next } }
 
-step_comment : (t : Tags) (value : List ℕ) (tags : List (List ℕ)) (u : Tags) → Moved t ((88 ∷ value) ∷ tags) u → Step t 88 value tags u
+step_comment : (most : ℕ) (t : Tags) (value : List ℕ) (tags : List (List ℕ)) (u : Tags) → Moved most t ((88 ∷ value) ∷ tags) u → Step most t 88 value tags u
 unfolding tagged
-step_comment t value tags u m = record { next = t; judging = refl; moved = record { width = m.width; height = m.height; rate = m.rate; structure = m.structure; aspect = m.aspect; chroma = m.chroma } }
+step_comment most t value tags u m = record { next = t; judging = refl; moved = record { width = m.width; height = m.height; rate = m.rate; structure = m.structure; aspect = m.aspect; chroma = m.chroma } }
 
-step : (t : Tags) (letter : ℕ) (value : List ℕ) (tags : List (List ℕ)) (u : Tags) → is_letter letter ≡ true → Moved t ((letter ∷ value) ∷ tags) u → Step t letter value tags u
-step t letter value tags u known =
-    by_letter (λ c. Moved t ((c ∷ value) ∷ tags) u → Step t c value tags u) letter known
-    (step_width t value tags u) (step_height t value tags u) (step_rate t value tags u) (step_structure t value tags u) (step_aspect t value tags u) (step_chroma t value tags u) (step_comment t value tags u)
+step : (most : ℕ) (t : Tags) (letter : ℕ) (value : List ℕ) (tags : List (List ℕ)) (u : Tags) → is_letter letter ≡ true → Moved most t ((letter ∷ value) ∷ tags) u → Step most t letter value tags u
+step most t letter value tags u known =
+    by_letter (λ c. Moved most t ((c ∷ value) ∷ tags) u → Step most t c value tags u) letter known
+    (step_width most t value tags u) (step_height most t value tags u) (step_rate most t value tags u) (step_structure most t value tags u) (step_aspect most t value tags u) (step_chroma most t value tags u) (step_comment most t value tags u)
 
 same_tags : (t u : Tags) → u.width ≡ t.width → u.height ≡ t.height → u.rate ≡ t.rate → u.structure ≡ t.structure → u.aspect ≡ t.aspect → u.chroma ≡ t.chroma → t ≡ u
 same_tags t u a b c d e f =
@@ -111,9 +116,9 @@ same_tags t u a b c d e f =
     let six : record t { width = u.width; height = u.height; rate = u.rate; structure = u.structure; aspect = u.aspect } ≡ u = ap (λ z. record t { width = u.width; height = u.height; rate = u.rate; structure = u.structure; aspect = u.aspect; chroma = z }) (sym f) in
     one ∙ (two ∙ (three ∙ (four ∙ (five ∙ six))))
 
-pub all_found : (tags : List (List ℕ)) (t u : Tags) → AreTags tags → Moved t tags u → all_judged t tags ≡ Ok u
-all_found [] t u are m = ap Ok (same_tags t u m.width m.height m.rate m.structure m.aspect m.chroma)
-all_found ([] ∷ tags) t u are m = absurd are
-all_found ((letter ∷ value) ∷ tags) t u are m =
-    let s = step t letter value tags u are.0 m in
-    rw s.judging (all_found tags s.next u are.2 s.moved)
+pub all_found : (tags : List (List ℕ)) (most : ℕ) (t u : Tags) → AreTags tags → Moved most t tags u → all_judged most t tags ≡ Ok u
+all_found [] most t u are m = ap Ok (same_tags t u m.width m.height m.rate m.structure m.aspect m.chroma)
+all_found ([] ∷ tags) most t u are m = absurd are
+all_found ((letter ∷ value) ∷ tags) most t u are m =
+    let s = step most t letter value tags u are.0 m in
+    rw s.judging (all_found tags most s.next u are.2 s.moved)

@@ -1,43 +1,28 @@
 -- Images and what they read as.
-use Rattle.std.proofs.Common.{◌≡◌, ℕ, ◌+◌, ◌-◌, ◌*◌, ◌<◌, ◌≤◌, ◌==◌, suc, true, false, Some, List, [], ◌∷◌, ◌++◌, length, drop, get_or, flat_map, codes, decimal, Ok, refl, ap, ◌∙◌, sym, append_assoc, arith, length-append}
+use Rattle.std.proofs.Common.{◌≡◌, ℕ, ◌+◌, ◌-◌, ◌*◌, ◌^◌, ◌<◌, ◌≤◌, ◌==◌, ◌&&◌, ◌||◌, not, cond, nat_le, nat_lt, suc, Bool, true, false, Some, List, [], ◌∷◌, ◌++◌, length, drop, flat_map, codes, decimal, Ok, refl, ap, ◌∙◌, sym, subst, append_assoc, arith, length-append}
 use Rattle.std.proofs.lemmas.Fmt.{length-decimal-le}
 use Rattle.std.proofs.Math.Seq.{take-append_seam, drop-append-add}
+use Rattle.std.proofs.lemmas.Bool.{eqb-true, false≢true, le-leb, leb-true}
 use Rattle.std.specs.List.{position}
-use Rattle.ffv1_y4m.specs.declared.head.VideoHead.{VideoHead}
+use Rattle.ffv1_y4m.specs.declared.head.DeepHead.{DeepHead}
 use Rattle.ffv1_y4m.specs.Header.{line_end, line_read}
-use Rattle.ffv1_y4m.specs.Ppm.{sizes_of, image_head, image_header, parted, colours_read, same_sizes, image_begun, image_read, image_header_text, interleaved}
+use Rattle.ffv1_y4m.specs.Ppm.{all_in_depth, bytes_for, colours_read, depth_of_line, half_of, image_begun, image_head, image_header, image_header_text, image_read, interleaved, maximum_depth, maximum_read, maximum_room, parted, same_format, sizes_of}
 use Rattle.ffv1_y4m.specs.Images.{AreColours, AllColours, samples_text, image_text, IsImages, ReadsImages, ReadsFrom}
-use Rattle.ffv1_y4m.specs.VideoHead.{IsSized, colour_head}
+use Rattle.ffv1_y4m.specs.VideoHead.{AreInDepth, IsNamed, IsSized, colour_head, has_depth_name}
 use Rattle.ffv1_y4m.specs.HeaderLine.{Without}
 use Rattle.ffv1_y4m.proofs.Lines.{position_found, taken_to}
-use Rattle.ffv1_y4m.proofs.ColourThirds.{colours_of}
+use Rattle.ffv1_y4m.proofs.Colours.{depth_in}
+use Rattle.ffv1_y4m.proofs.DeepThirds.{colours_of, length-interleaved, parted-interleaved, whole_samples}
+use Rattle.ffv1_y4m.proofs.Maxima.{spelled_8, spelled_9, spelled_10, spelled_12, spelled_14, spelled_16}
 use Rattle.ffv1_y4m.proofs.CanonicalLine.{size_back, digits_without, without_both}
 
-length-interleaved : (rs gs bs : List ℕ) → length gs ≡ length rs → length bs ≡ length rs → length (interleaved rs gs bs) ≡ 3 * length rs
-length-interleaved [] gs bs p q = refl
-length-interleaved (r ∷ rs) [] bs p q = absurd (omega (arith, p))
-length-interleaved (r ∷ rs) (g ∷ gs) [] p q = absurd (omega (arith, q))
-length-interleaved (r ∷ rs) (g ∷ gs) (b ∷ bs) p q =
-    let more = length-interleaved rs gs bs (omega (arith, p)) (omega (arith, q)) in
-    omega (arith, more)
-
-parted-interleaved : (rs gs bs : List ℕ) → length gs ≡ length rs → length bs ≡ length rs → parted (interleaved rs gs bs) ≡ rs ∷ gs ∷ bs ∷ []
-parted-interleaved [] [] [] p q = refl
-parted-interleaved [] [] (b ∷ bs) p q = absurd (omega (arith, q))
-parted-interleaved [] (g ∷ gs) bs p q = absurd (omega (arith, p))
-parted-interleaved (r ∷ rs) [] bs p q = absurd (omega (arith, p))
-parted-interleaved (r ∷ rs) (g ∷ gs) [] p q = absurd (omega (arith, q))
-parted-interleaved (r ∷ rs) (g ∷ gs) (b ∷ bs) p q =
-    let more = parted-interleaved rs gs bs (omega (arith, p)) (omega (arith, q)) in
-    rw (ap (λ l. get_or l 0 []) more, ap (λ l. get_or l 1 []) more, ap (λ l. get_or l 2 []) more) refl
-
 -- the samples of an image
-samples_found : (n : ℕ) (p : List (List ℕ)) (rest : List ℕ) → AreColours n p → colours_read n (samples_text p ++ rest) ≡ Ok (p, rest)
-samples_found n p rest c =
-    let green : length c.green ≡ length c.red = c.green_long ∙ sym c.red_long in
-    let blue : length c.blue ≡ length c.red = c.blue_long ∙ sym c.red_long in
-    let long : length (interleaved c.red c.green c.blue) ≡ 3 * n = length-interleaved c.red c.green c.blue green blue ∙ ap (λ k. 3 * k) c.red_long in
-    rw c.planes_are (colours_of n (interleaved c.red c.green c.blue) rest long ∙ ap (λ z. Ok (z, rest)) (parted-interleaved c.red c.green c.blue green blue))
+samples_found : (depth n : ℕ) (p : List (List ℕ)) (rest : List ℕ) → half_of depth n ≡ 0 → AreColours n p → AreInDepth depth p → colours_read depth n (samples_text depth p ++ rest) ≡ Ok (p, rest)
+samples_found depth n p rest whole c small =
+    let long : length (interleaved depth c.red c.green c.blue) ≡ 3 * n = length-interleaved depth n c.red c.green c.blue c.red_long c.green_long c.blue_long whole in
+    let parts : parted depth (interleaved depth c.red c.green c.blue) ≡ c.red ∷ c.green ∷ c.blue ∷ [] = parted-interleaved depth n c.red c.green c.blue c.red_long c.green_long c.blue_long whole in
+    let fits : all_in_depth depth (parted depth (interleaved depth c.red c.green c.blue)) ≡ true = ap (all_in_depth depth) (parts ∙ sym c.planes_are) ∙ depth_in depth p small in
+    rw c.planes_are (colours_of depth n (interleaved depth c.red c.green c.blue) rest long fits ∙ ap (λ z. Ok (z, rest)) parts)
 
 -- a line of a header
 line_found : (most : ℕ) (line rest : List ℕ) → length line < most → line_end most (line ++ 10 ∷ rest) ≡ Some (length line) → line_read most (line ++ 10 ∷ rest) ≡ Ok (line, rest)
@@ -54,9 +39,9 @@ sizes_found w h s =
     let behind : drop (length (decimal w) + 1) (decimal w ++ 32 ∷ decimal h) ≡ decimal h = drop-append-add (decimal w) (32 ∷ decimal h) 1 in
     rw (space, take-append_seam (decimal w) (32 ∷ decimal h), behind, size_back w s.some_wide s.wide, size_back h s.some_high s.high) refl
 
-head_found : (w h : ℕ) → IsSized (colour_head w h) → image_head (codes "P6") (decimal w ++ 32 ∷ decimal h) (codes "255") ≡ Some (colour_head w h)
+head_found : (depth w h : ℕ) → IsSized (colour_head w h) → image_head (codes "P6") (decimal w ++ 32 ∷ decimal h) (Some depth) ≡ Some (record { head = colour_head w h; depth = depth })
 unfolding image_head
-head_found w h s = rw (sizes_found w h s) refl
+head_found depth w h s = rw (sizes_found w h s) refl
 
 sizes_short : (w h : ℕ) → IsSized (colour_head w h) → length (decimal w ++ 32 ∷ decimal h) ≤ 9
 sizes_short w h s =
@@ -74,52 +59,148 @@ second_found w h rest s =
     let far : 10 ≡ length (decimal w ++ 32 ∷ decimal h) + suc (9 - length (decimal w ++ 32 ∷ decimal h)) = omega (arith, short) in
     line_found 10 line rest (omega (arith, short)) (taken_to line rest 10 (9 - length line) far (sizes_single w h s))
 
-header_by : (w h : ℕ) (line rest : List ℕ) → line_read 10 (line ++ 10 ∷ (codes "255\n" ++ rest)) ≡ Ok (line, codes "255\n" ++ rest) → image_head (codes "P6") line (codes "255") ≡ Some (colour_head w h) →
-    image_header (codes "P6\n" ++ (line ++ 10 ∷ (codes "255\n" ++ rest))) ≡ Ok (colour_head w h, rest)
-header_by w h line rest second head = rw second (rw head refl)
+-- the line of the greatest sample
+pub record IsMaximum (most depth : ℕ) (text : List ℕ) : Type 0 where
+  pub single : Without 10 text
+  pub short : length text < maximum_room most
+  pub is : depth_of_line most text ≡ Some depth
 
-header_parts : (w h : ℕ) (rest : List ℕ) → image_header_text w h ++ rest ≡ codes "P6\n" ++ ((decimal w ++ 32 ∷ decimal h) ++ 10 ∷ (codes "255\n" ++ rest))
+room_by : (b : Bool) (n : ℕ) → n < 4 → n < cond b 4 6
+room_by true n h = h
+room_by false n h = omega (arith, h)
+
+deep_room : (b : Bool) (most n : ℕ) → nat_le most 8 ≡ b → n < 6 → 9 ≤ most → n < cond b 4 6
+deep_room true most n test h deep = absurd (let few = leb-true _ _ test in omega (arith, few, deep))
+deep_room false most n test h deep = h
+
+line_by : (a b : Bool) (most depth : ℕ) (text : List ℕ) → nat_le 8 depth ≡ a → nat_le depth most ≡ b → 8 ≤ depth → depth ≤ most → maximum_depth text ≡ Some depth → depth_of_line most text ≡ Some depth
+unfolding depth_of_line
+line_by a b most depth text p q least within is =
+    let one : nat_le 8 depth ≡ true = le-leb _ _ least in
+    let two : nat_le depth most ≡ true = le-leb _ _ within in
+    rw is (rw (one, two) refl)
+
+line_of : (most depth : ℕ) (text : List ℕ) → 8 ≤ depth → depth ≤ most → maximum_depth text ≡ Some depth → depth_of_line most text ≡ Some depth
+line_of most depth text least within is = line_by (nat_le 8 depth) (nat_le depth most) most depth text refl refl least within is
+
+-- the six depths, one by one
+abbrev pub Says : ℕ → ℕ → Type 0
+Says most depth = IsMaximum most depth (decimal (2 ^ depth - 1))
+
+said_so : (most depth : ℕ) (text : List ℕ) → decimal (2 ^ depth - 1) ≡ text → IsMaximum most depth text → Says most depth
+said_so most depth text spelled h = subst (IsMaximum most depth) (sym spelled) h
+
+at_eight : (most : ℕ) → 8 ≤ most → Says most 8
+at_eight most h = said_so most 8 (codes "255") spelled_8 (record { single = (refl, (refl, (refl, tt))); short = room_by (nat_le most 8) 3 (omega arith); is = line_of most 8 (codes "255") (omega arith) h refl })
+
+deep_says : (most depth : ℕ) (text : List ℕ) → decimal (2 ^ depth - 1) ≡ text → 9 ≤ depth → depth ≤ most → Without 10 text → length text < 6 → maximum_depth text ≡ Some depth → Says most depth
+deep_says most depth text spelled least within single short is =
+    said_so most depth text spelled (record { single = single; short = deep_room (nat_le most 8) most (length text) refl short (omega (arith, least, within)); is = line_of most depth text (omega (arith, least)) within is })
+
+says_at : (most : ℕ) (depth n : ℕ) → depth ≡ n → depth ≤ most → (n ≤ most → Says most n) → Says most depth
+says_at most depth n is within h = subst (Says most) (sym is) (h (subst (λ k. k ≤ most) is within))
+
+says_by : (a b c d e f : Bool) (most depth : ℕ) → (depth == 8) ≡ a → (depth == 9) ≡ b → (depth == 10) ≡ c → (depth == 12) ≡ d → (depth == 16) ≡ e → (depth == 14) ≡ f →
+    ((a || (b || (c || (d || (e || (true && f)))))) && true) ≡ true → depth ≤ most → Says most depth
+says_by true b c d e f most depth p q r s t u name within = says_at most depth 8 (eqb-true depth 8 p) within (at_eight most)
+says_by false true c d e f most depth p q r s t u name within = says_at most depth 9 (eqb-true depth 9 q) within (λ h. deep_says most 9 (codes "511") spelled_9 (omega arith) h (refl, (refl, (refl, tt))) (omega arith) refl)
+says_by false false true d e f most depth p q r s t u name within = says_at most depth 10 (eqb-true depth 10 r) within (λ h. deep_says most 10 (codes "1023") spelled_10 (omega arith) h (refl, (refl, (refl, (refl, tt)))) (omega arith) refl)
+says_by false false false true e f most depth p q r s t u name within = says_at most depth 12 (eqb-true depth 12 s) within (λ h. deep_says most 12 (codes "4095") spelled_12 (omega arith) h (refl, (refl, (refl, (refl, tt)))) (omega arith) refl)
+says_by false false false false true f most depth p q r s t u name within = says_at most depth 16 (eqb-true depth 16 t) within (λ h. deep_says most 16 (codes "65535") spelled_16 (omega arith) h (refl, (refl, (refl, (refl, (refl, tt))))) (omega arith) refl)
+says_by false false false false false true most depth p q r s t u name within = says_at most depth 14 (eqb-true depth 14 u) within (λ h. deep_says most 14 (codes "16383") spelled_14 (omega arith) h (refl, (refl, (refl, (refl, (refl, tt))))) (omega arith) refl)
+says_by false false false false false false most depth p q r s t u name within = absurd (false≢true name)
+
+-- the name of a head of colours
+named_by : (a b : Bool) → (true && (a || (b && (not false && nat_lt 0 2)))) ≡ true → ((a || b) && true) ≡ true
+named_by true b h = refl
+named_by false true h = refl
+named_by false false h = h
+
+depth_said : (most depth w h : ℕ) → IsNamed depth (colour_head w h) → depth ≤ most → Says most depth
+depth_said most depth w h n within = says_by (depth == 8) (depth == 9) (depth == 10) (depth == 12) (depth == 16) (depth == 14) most depth refl refl refl refl refl refl (named_by (depth == 8) (has_depth_name true depth) n.name) within
+
+third_found : (most depth : ℕ) (rest : List ℕ) → Says most depth → maximum_read most (decimal (2 ^ depth - 1) ++ 10 ∷ rest) ≡ Ok (Some depth, rest)
+third_found most depth rest s =
+    let line = decimal (2 ^ depth - 1) in
+    let far : maximum_room most ≡ length (decimal (2 ^ depth - 1)) + suc (maximum_room most - suc (length (decimal (2 ^ depth - 1)))) = omega (arith, s.short) in
+    let read : line_read (maximum_room most) (decimal (2 ^ depth - 1) ++ 10 ∷ rest) ≡ Ok (decimal (2 ^ depth - 1), rest) = line_found (maximum_room most) line rest s.short (taken_to line rest (maximum_room most) (maximum_room most - suc (length line)) far s.single) in
+    rw (read, s.is) refl
+
+header_by : (most depth w h : ℕ) (line rest : List ℕ) → line_read 10 (line ++ 10 ∷ (decimal (2 ^ depth - 1) ++ 10 ∷ rest)) ≡ Ok (line, decimal (2 ^ depth - 1) ++ 10 ∷ rest) → maximum_read most (decimal (2 ^ depth - 1) ++ 10 ∷ rest) ≡ Ok (Some depth, rest) →
+    image_head (codes "P6") line (Some depth) ≡ Some (record { head = colour_head w h; depth = depth }) → image_header most (codes "P6\n" ++ (line ++ 10 ∷ (decimal (2 ^ depth - 1) ++ 10 ∷ rest))) ≡ Ok (record { head = colour_head w h; depth = depth }, rest)
+header_by most depth w h line rest second third head = rw second (rw third (rw head refl))
+
+pub header_parts : (depth w h : ℕ) (rest : List ℕ) → image_header_text depth w h ++ rest ≡ codes "P6\n" ++ ((decimal w ++ 32 ∷ decimal h) ++ 10 ∷ (decimal (2 ^ depth - 1) ++ 10 ∷ rest))
 unfolding image_header_text
-header_parts w h rest =
+header_parts depth w h rest =
     let a = decimal w in
     let b = decimal h in
-    ap (λ z. 80 ∷ 54 ∷ 10 ∷ z) (append_assoc ((a ++ 32 ∷ []) ++ b) (codes "\n255\n") rest ∙ ap (λ z. z ++ (codes "\n255\n" ++ rest)) (append_assoc a (32 ∷ []) b))
+    let c = decimal (2 ^ depth - 1) in
+    ap (λ z. 80 ∷ 54 ∷ 10 ∷ z) (append_assoc ((((a ++ 32 ∷ []) ++ b) ++ 10 ∷ []) ++ c) (10 ∷ []) rest ∙ (append_assoc (((a ++ 32 ∷ []) ++ b) ++ 10 ∷ []) c (10 ∷ rest)
+    ∙ (append_assoc ((a ++ 32 ∷ []) ++ b) (10 ∷ []) (c ++ 10 ∷ rest) ∙ ap (λ z. z ++ 10 ∷ (c ++ 10 ∷ rest)) (append_assoc a (32 ∷ []) b))))
 
-header_line_found : (w h : ℕ) (rest : List ℕ) → IsSized (colour_head w h) → image_header (codes "P6\n" ++ ((decimal w ++ 32 ∷ decimal h) ++ 10 ∷ (codes "255\n" ++ rest))) ≡ Ok (colour_head w h, rest)
-header_line_found w h rest s = header_by w h (decimal w ++ 32 ∷ decimal h) rest (second_found w h (codes "255\n" ++ rest) s) (head_found w h s)
+-- at 8 bits
+pub header_of_bytes : (w h : ℕ) → image_header_text 8 w h ≡ codes "P6\n" ++ decimal w ++ codes " " ++ decimal h ++ codes "\n255\n"
+unfolding image_header_text
+header_of_bytes w h =
+    let front : List ℕ = codes "P6\n" ++ decimal w ++ codes " " ++ decimal h in
+    ap (λ z. ((front ++ 10 ∷ []) ++ z) ++ 10 ∷ []) spelled_8 ∙ (append_assoc (front ++ 10 ∷ []) (codes "255") (10 ∷ []) ∙ append_assoc front (10 ∷ []) (codes "255\n"))
 
-pub image_header_found : (w h : ℕ) (rest : List ℕ) → IsSized (colour_head w h) → image_header (image_header_text w h ++ rest) ≡ Ok (colour_head w h, rest)
-image_header_found w h rest s =
-    rw (header_parts w h rest) (header_line_found w h rest s)
+header_line_found : (most depth w h : ℕ) (rest : List ℕ) → IsSized (colour_head w h) → Says most depth → image_header most (codes "P6\n" ++ ((decimal w ++ 32 ∷ decimal h) ++ 10 ∷ (decimal (2 ^ depth - 1) ++ 10 ∷ rest))) ≡ Ok (record { head = colour_head w h; depth = depth }, rest)
+header_line_found most depth w h rest s m = header_by most depth w h (decimal w ++ 32 ∷ decimal h) rest (second_found w h (decimal (2 ^ depth - 1) ++ 10 ∷ rest) s) (third_found most depth rest m) (head_found depth w h s)
 
-same_found : (w h : ℕ) (rest : List ℕ) → same_sizes (colour_head w h) (colour_head w h) rest ≡ Ok (true, rest)
-same_found w h rest =
+pub image_header_found : (most depth w h : ℕ) (rest : List ℕ) → IsSized (colour_head w h) → Says most depth → image_header most (image_header_text depth w h ++ rest) ≡ Ok (record { head = colour_head w h; depth = depth }, rest)
+image_header_found most depth w h rest s m =
+    rw (header_parts depth w h rest) (header_line_found most depth w h rest s m)
+
+same_found : (depth w h : ℕ) (rest : List ℕ) → same_format (record { head = colour_head w h; depth = depth }) (record { head = colour_head w h; depth = depth }) rest ≡ Ok (true, rest)
+same_found depth w h rest =
     let wide : (w == w) ≡ true = grind arith in
     let high : (h == h) ≡ true = grind arith in
-    rw (wide, high) refl
+    let deep : (depth == depth) ≡ true = grind arith in
+    rw (wide, high, deep) refl
 
 -- a later image begins
-later_by : (head : VideoHead) (cs rest : List ℕ) → image_header (80 ∷ cs) ≡ Ok (head, rest) → same_sizes head head rest ≡ Ok (true, rest) → image_begun head (80 ∷ cs) ≡ Ok (true, rest)
-later_by head cs rest h same = rw h same
+later_by : (most : ℕ) (said : DeepHead) (cs rest : List ℕ) → image_header most (80 ∷ cs) ≡ Ok (said, rest) → same_format said said rest ≡ Ok (true, rest) → image_begun most said (80 ∷ cs) ≡ Ok (true, rest)
+later_by most said cs rest h same = rw h same
 
-pub begun_found : (w h : ℕ) (rest : List ℕ) → IsSized (colour_head w h) → image_begun (colour_head w h) (image_header_text w h ++ rest) ≡ Ok (true, rest)
-begun_found w h rest s =
-    rw (header_parts w h rest) (later_by (colour_head w h) (54 ∷ 10 ∷ ((decimal w ++ 32 ∷ decimal h) ++ 10 ∷ (codes "255\n" ++ rest))) rest (header_line_found w h rest s) (same_found w h rest))
+begun_found : (most depth w h : ℕ) (rest : List ℕ) → IsSized (colour_head w h) → Says most depth → image_begun most (record { head = colour_head w h; depth = depth }) (image_header_text depth w h ++ rest) ≡ Ok (true, rest)
+begun_found most depth w h rest s m =
+    rw (header_parts depth w h rest) (later_by most (record { head = colour_head w h; depth = depth }) (54 ∷ 10 ∷ ((decimal w ++ 32 ∷ decimal h) ++ 10 ∷ (decimal (2 ^ depth - 1) ++ 10 ∷ rest))) rest (header_line_found most depth w h rest s m) (same_found depth w h rest))
 
-first_found : (w h : ℕ) (p : List (List ℕ)) (rest : List ℕ) → AreColours (w * h) p → image_read (colour_head w h) true (samples_text p ++ rest) ≡ Ok (Some p, rest)
-first_found w h p rest c = rw (samples_found (w * h) p rest c) refl
+-- the head of an image's header
+pub record IsColourHead (said : DeepHead) : Type 0 where
+  pub sized : IsSized said.head
+  pub colour : said.head ≡ colour_head said.head.width said.head.height
+  pub named : IsNamed said.depth said.head
 
-later_found : (w h : ℕ) (p : List (List ℕ)) (rest : List ℕ) → IsSized (colour_head w h) → AreColours (w * h) p → image_read (colour_head w h) false (image_text w h p ++ rest) ≡ Ok (Some p, rest)
-later_found w h p rest s c =
-    rw (append_assoc (image_header_text w h) (samples_text p) rest) (rw (begun_found w h (samples_text p ++ rest) s) (rw (samples_found (w * h) p rest c) refl))
+same_begun : (most : ℕ) (said : DeepHead) (text : List ℕ) → image_begun most said text ≡ image_begun most (record { head = colour_head said.head.width said.head.height; depth = said.depth }) text
+same_begun most said [] = refl
+same_begun most said (c ∷ cs) = refl
 
-images_found : (w h : ℕ) (ps : List (List (List ℕ))) → IsSized (colour_head w h) → AllColours (w * h) ps → ReadsImages (colour_head w h) (flat_map (image_text w h) ps) ps
-images_found w h [] s fit = refl
-images_found w h (p ∷ ps) s fit = (flat_map (image_text w h) ps, later_found w h p (flat_map (image_text w h) ps) s fit.0, images_found w h ps s fit.1)
+pub begun_again : (most : ℕ) (said : DeepHead) (rest : List ℕ) → IsColourHead said → said.depth ≤ most → image_begun most said (image_header_text said.depth said.head.width said.head.height ++ rest) ≡ Ok (true, rest)
+begun_again most said rest is within =
+    let w = said.head.width in
+    let h = said.head.height in
+    let sized : IsSized (colour_head said.head.width said.head.height) = record { some_wide = is.sized.some_wide; wide = is.sized.wide; some_high = is.sized.some_high; high = is.sized.high } in
+    let named : IsNamed said.depth (colour_head said.head.width said.head.height) = subst (IsNamed said.depth) is.colour is.named in
+    same_begun most said (image_header_text said.depth w h ++ rest) ∙ begun_found most said.depth w h rest sized (depth_said most said.depth w h named within)
 
-pub all_images_found : (text : List ℕ) (w h : ℕ) (p : List (List ℕ)) (ps : List (List (List ℕ))) → IsImages text w h (p ∷ ps) →
-    (rest : List ℕ) × (image_header text ≡ Ok (colour_head w h, rest)) × ReadsFrom (colour_head w h) rest p ps
-all_images_found text w h p ps t =
-    let more = flat_map (image_text w h) ps in
-    let whole : text ≡ image_header_text w h ++ (samples_text p ++ more) = t.whole ∙ append_assoc (image_header_text w h) (samples_text p) more in
-    (samples_text p ++ more, rw whole (image_header_found w h (samples_text p ++ more) t.sized), (more, first_found w h p more t.fit.0, images_found w h ps t.sized t.fit.1))
+first_found : (most depth w h : ℕ) (p : List (List ℕ)) (rest : List ℕ) → AreColours (bytes_for depth (w * h)) p → AreInDepth depth p → image_read most (record { head = colour_head w h; depth = depth }) true (samples_text depth p ++ rest) ≡ Ok (Some p, rest)
+first_found most depth w h p rest c small = rw (samples_found depth (bytes_for depth (w * h)) p rest (whole_samples depth (w * h)) c small) refl
+
+later_found : (most depth w h : ℕ) (p : List (List ℕ)) (rest : List ℕ) → IsSized (colour_head w h) → Says most depth → AreColours (bytes_for depth (w * h)) p → AreInDepth depth p → image_read most (record { head = colour_head w h; depth = depth }) false (image_text depth w h p ++ rest) ≡ Ok (Some p, rest)
+later_found most depth w h p rest s m c small =
+    rw (append_assoc (image_header_text depth w h) (samples_text depth p) rest) (rw (begun_found most depth w h (samples_text depth p ++ rest) s m) (rw (samples_found depth (bytes_for depth (w * h)) p rest (whole_samples depth (w * h)) c small) refl))
+
+images_found : (most depth w h : ℕ) (ps : List (List (List ℕ))) → IsSized (colour_head w h) → Says most depth → AllColours depth (bytes_for depth (w * h)) ps → ReadsImages most (record { head = colour_head w h; depth = depth }) (flat_map (image_text depth w h) ps) ps
+images_found most depth w h [] s m fit = refl
+images_found most depth w h (p ∷ ps) s m fit = (flat_map (image_text depth w h) ps, later_found most depth w h p (flat_map (image_text depth w h) ps) s m fit.0.0 fit.0.1, images_found most depth w h ps s m fit.1)
+
+pub all_images_found : (text : List ℕ) (most depth w h : ℕ) (p : List (List ℕ)) (ps : List (List (List ℕ))) → IsImages text depth w h (p ∷ ps) → depth ≤ most →
+    (rest : List ℕ) × (image_header most text ≡ Ok (record { head = colour_head w h; depth = depth }, rest)) × ReadsFrom most (record { head = colour_head w h; depth = depth }) rest p ps
+all_images_found text most depth w h p ps t within =
+    let more = flat_map (image_text depth w h) ps in
+    let m = depth_said most depth w h t.named within in
+    let whole : text ≡ image_header_text depth w h ++ (samples_text depth p ++ more) = t.whole ∙ append_assoc (image_header_text depth w h) (samples_text depth p) more in
+    (samples_text depth p ++ more, rw whole (image_header_found most depth w h (samples_text depth p ++ more) t.sized m), (more, first_found most depth w h p more t.fit.0.0 t.fit.0.1, images_found most depth w h ps t.sized m t.fit.1))

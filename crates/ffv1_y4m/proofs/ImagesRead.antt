@@ -1,5 +1,5 @@
 -- Images that were read are there.
-use Rattle.std.proofs.Common.{◌≡◌, ℕ, ◌+◌, ◌*◌, ◌≤◌, ◌==◌, ◌&&◌, ◌^◌, nat_lt, nat_le, nat_eq, zero, suc, Bool, true, false, cond, Option, Some, None, List, [], ◌∷◌, ◌++◌, length, take, drop, flat_map, codes, decimal, Ok, Err, refl, ap, ◌∙◌, sym, subst, append_assoc, arith, length-take, take-append-drop}
+use Rattle.std.proofs.Common.{◌≡◌, ℕ, ◌+◌, ◌*◌, ◌-◌, ◌≤◌, ◌==◌, ◌&&◌, ◌^◌, nat_lt, nat_le, nat_eq, Bool, true, false, cond, Option, Some, None, List, [], ◌∷◌, ◌++◌, length, take, drop, flat_map, codes, decimal, Ok, Err, refl, ap, ◌∙◌, sym, subst, append_assoc, arith, length-take, take-append-drop}
 use Rattle.std.proofs.lemmas.Bool.{eqb-true, leb-true, true≢false, false≢true}
 use Rattle.std.proofs.lemmas.List.{take_all}
 use Rattle.std.specs.Cmp.Lexicographic.{same_text}
@@ -7,16 +7,20 @@ use Rattle.std.specs.List.{position}
 use Rattle.std.specs.Option.{option_and_then}
 use Rattle.std.specs.Str.Parse.{digits_value}
 use lib.Pointwise.{pointwise}
+use Rattle.ffv1_y4m.specs.declared.head.DeepHead.{DeepHead}
 use Rattle.ffv1_y4m.specs.declared.head.VideoHead.{VideoHead}
 use Rattle.ffv1_y4m.specs.declared.fault.Fault.TheVariants as fault
 use Rattle.ffv1_y4m.specs.Header.{is_text, within, number_of, size_of, line_read}
 use Rattle.ffv1_y4m.specs.Sequence.{Outcome, ◌then◌, give, refuse, where_begun}
-use Rattle.ffv1_y4m.specs.Ppm.{sizes_of, sizes_at, both_sizes, sized_head, image_head, some_head, image_header, each_third, colours_read, same_sizes, image_begun, image_read, image_header_text, interleaved}
+use Rattle.ffv1_y4m.specs.Ppm.{both_sizes, colours_read, depth_of_line, half_of, image_begun, image_bytes, image_head, image_header, image_header_text, image_read, image_rest, maximum_depth, maximum_read, maximum_room, parted, same_format, sized_head, sizes_at, sizes_of, some_head, third_of}
 use Rattle.ffv1_y4m.specs.Images.{AreColours, AllColours, samples_text, image_text, IsImages, ReadsImages, ReadsFrom}
-use Rattle.ffv1_y4m.specs.VideoHead.{IsSized, colour_head}
+use Rattle.ffv1_y4m.specs.VideoHead.{AreInDepth, IsNamed, IsSized, colour_head}
 use Rattle.ffv1_y4m.proofs.AnswerParts.{value_in, rest_in, is_fault, is_some, some_in, parted_by}
+use Rattle.ffv1_y4m.proofs.Maxima.{spelled_8, spelled_9, spelled_10, spelled_12, spelled_14, spelled_16}
 use Rattle.ffv1_y4m.proofs.Lines.{line_parts, line_was}
-use Rattle.ffv1_y4m.proofs.ColourThirds.{length-each_third}
+use Rattle.ffv1_y4m.proofs.DeepThirds.{interleaved-parted, length-third, whole_samples}
+use Rattle.ffv1_y4m.proofs.ImageTexts.{header_parts}
+use Rattle.ffv1_y4m.proofs.PpmHeads.{depth_is_named}
 use Rattle.ffv1_y4m.proofs.Colours.{told}
 
 -- a number that was read is spelled so
@@ -49,214 +53,269 @@ pub size_read : (text : List ℕ) (n : ℕ) → size_of text ≡ Some n → Size
 unfolding size_of
 size_read text n h = size_by (number_of text) text n refl h
 
-record SizesTold (line : List ℕ) (head : VideoHead) : Type 0 where
+record SizesTold (depth : Option ℕ) (line : List ℕ) (said : DeepHead) : Type 0 where
   wide : ℕ
   high : ℕ
   spelled : line ≡ decimal wide ++ 32 ∷ decimal high
   sized : IsSized (colour_head wide high)
-  is : head ≡ colour_head wide high
+  is : said ≡ record { head = colour_head wide high; depth = said.depth }
+  deep : depth ≡ Some said.depth
 
-both_by : (a b : Option ℕ) (x y line : List ℕ) (head : VideoHead) → line ≡ x ++ 32 ∷ y → size_of x ≡ a → size_of y ≡ b → sized_head (both_sizes a b) ≡ Some head → SizesTold line head
-both_by None b x y line head parts p q h = absurd (false≢true (ap is_some h))
-both_by (Some w) None x y line head parts p q h = absurd (false≢true (ap is_some h))
-both_by (Some w) (Some k) x y line head parts p q h =
+no_depth : (s : Option (ℕ × ℕ)) (said : DeepHead) → sized_head None s ≡ Some said → ⊥
+no_depth s said h = false≢true (ap is_some h)
+
+both_by : (depth a b : Option ℕ) (x y line : List ℕ) (said : DeepHead) → line ≡ x ++ 32 ∷ y → size_of x ≡ a → size_of y ≡ b → sized_head depth (both_sizes a b) ≡ Some said → SizesTold depth line said
+both_by None a b x y line said parts p q h = absurd (no_depth (both_sizes a b) said h)
+both_by (Some d) None b x y line said parts p q h = absurd (false≢true (ap is_some h))
+both_by (Some d) (Some w) None x y line said parts p q h = absurd (false≢true (ap is_some h))
+both_by (Some d) (Some w) (Some k) x y line said parts p q h =
     let one = size_read x w p in
     let two = size_read y k q in
+    let same : record { head = colour_head w k; depth = d } ≡ said = ap (some_in said) h in
+    let deep : d ≡ said.depth = ap (λ (z : DeepHead). z.depth) same in
     record {
       wide = w;
       high = k;
       spelled = parts ∙ (rw (one.spelled, two.spelled) refl);
       sized = record { some_wide = one.some; wide = one.most; some_high = two.some; high = two.most };
-      is = sym (ap (some_in head) h);
+      is = sym same ∙ ap (λ (z : ℕ). record { head = colour_head w k; depth = z }) deep;
+      deep = ap (λ z. Some z) deep;
     }
 
-sizes_by : (space : Option ℕ) (line : List ℕ) (head : VideoHead) → position (λ c. c == 32) line ≡ space → sized_head (sizes_at line space) ≡ Some head → SizesTold line head
-sizes_by None line head found h = absurd (false≢true (ap is_some h))
-sizes_by (Some space) line head found h =
+sizes_by : (depth : Option ℕ) (space : Option ℕ) (line : List ℕ) (said : DeepHead) → position (λ c. c == 32) line ≡ space → sized_head depth (sizes_at line space) ≡ Some said → SizesTold depth line said
+sizes_by None None line said found h = absurd (false≢true (ap is_some h))
+sizes_by (Some d) None line said found h = absurd (false≢true (ap is_some h))
+sizes_by depth (Some space) line said found h =
     let P : List ℕ → Type 0 = λ z. position (λ c. c == 32) z ≡ Some space in
     let all : take (length line) line ≡ line = take_all (length line) line (omega arith) in
-    both_by (size_of (take space line)) (size_of (drop (space + 1) line)) (take space line) (drop (space + 1) line) line head (line_parts 32 (length line) line space (subst P (sym all) found)) refl refl h
+    both_by depth (size_of (take space line)) (size_of (drop (space + 1) line)) (take space line) (drop (space + 1) line) line said (line_parts 32 (length line) line space (subst P (sym all) found)) refl refl h
 
-record LinesTold (magic line most : List ℕ) (head : VideoHead) : Type 0 where
+record LinesTold (magic line : List ℕ) (depth : Option ℕ) (said : DeepHead) : Type 0 where
   first : magic ≡ codes "P6"
-  sizes : SizesTold line head
-  last : most ≡ codes "255"
+  sizes : SizesTold depth line said
 
-lines_by : (a b : Bool) (magic line most : List ℕ) (head : VideoHead) → is_text magic (codes "P6") ≡ a → is_text most (codes "255") ≡ b → cond (a && b) (sized_head (sizes_of line)) None ≡ Some head → LinesTold magic line most head
-lines_by false b magic line most head p q h = absurd (false≢true (ap is_some h))
-lines_by true false magic line most head p q h = absurd (false≢true (ap is_some h))
-lines_by true true magic line most head p q h = record { first = same_text _ _ (sym p); sizes = sizes_by (position (λ c. c == 32) line) line head refl h; last = same_text _ _ (sym q) }
+lines_by : (a : Bool) (magic line : List ℕ) (depth : Option ℕ) (said : DeepHead) → is_text magic (codes "P6") ≡ a → cond a (sized_head depth (sizes_of line)) None ≡ Some said → LinesTold magic line depth said
+lines_by false magic line depth said p h = absurd (false≢true (ap is_some h))
+lines_by true magic line depth said p h = record { first = same_text _ _ (sym p); sizes = sizes_by depth (position (λ c. c == 32) line) line said refl h }
 
-lines_read : (magic line most : List ℕ) (head : VideoHead) → image_head magic line most ≡ Some head → LinesTold magic line most head
+lines_read : (magic line : List ℕ) (depth : Option ℕ) (said : DeepHead) → image_head magic line depth ≡ Some said → LinesTold magic line depth said
 unfolding image_head
-lines_read magic line most head h = lines_by (is_text magic (codes "P6")) (is_text most (codes "255")) magic line most head refl refl h
+lines_read magic line depth said h = lines_by (is_text magic (codes "P6")) magic line depth said refl h
 
-some_told : (o : Option VideoHead) (text : List ℕ) (head : VideoHead) (rest : List ℕ) → some_head o text ≡ Ok (head, rest) → (o ≡ Some head) × (text ≡ rest)
-some_told None text head rest h = absurd (true≢false (ap is_fault h))
-some_told (Some k) text head rest h = (ap (λ r. Some (value_in head r)) h, ap rest_in h)
+some_told : (o : Option DeepHead) (text : List ℕ) (said : DeepHead) (rest : List ℕ) → some_head o text ≡ Ok (said, rest) → (o ≡ Some said) × (text ≡ rest)
+some_told None text said rest h = absurd (true≢false (ap is_fault h))
+some_told (Some k) text said rest h = (ap (λ r. Some (value_in said r)) h, ap rest_in h)
 
-pub record HeaderTold (text : List ℕ) (head : VideoHead) (rest : List ℕ) : Type 0 where
-  pub sized : IsSized (colour_head head.width head.height)
-  pub is : head ≡ colour_head head.width head.height
-  pub whole : text ≡ image_header_text head.width head.height ++ rest
+-- the line of the greatest sample
+spelled_if : (b : Bool) (text name : List ℕ) (n depth : ℕ) (next : Option ℕ) → is_text text name ≡ b → name ≡ decimal (2 ^ n - 1) → (next ≡ Some depth → text ≡ decimal (2 ^ depth - 1)) → cond b (Some n) next ≡ Some depth → text ≡ decimal (2 ^ depth - 1)
+spelled_if true text name n depth next test is more h = same_text _ _ (sym test) ∙ (is ∙ ap (λ o. decimal (2 ^ some_in n o - 1)) h)
+spelled_if false text name n depth next test is more h = more h
 
-header_parts : (w h : ℕ) (rest : List ℕ) → codes "P6\n" ++ ((decimal w ++ 32 ∷ decimal h) ++ 10 ∷ (codes "255\n" ++ rest)) ≡ image_header_text w h ++ rest
-unfolding image_header_text
-header_parts w h rest =
-    let a = decimal w in
-    let b = decimal h in
-    sym (ap (λ z. 80 ∷ 54 ∷ 10 ∷ z) (append_assoc ((a ++ 32 ∷ []) ++ b) (codes "\n255\n") rest ∙ ap (λ z. z ++ (codes "\n255\n" ++ rest)) (append_assoc a (32 ∷ []) b)))
+maximum_spelled : (text : List ℕ) (depth : ℕ) → maximum_depth text ≡ Some depth → text ≡ decimal (2 ^ depth - 1)
+maximum_spelled text depth h =
+    spelled_if _ text (codes "255") 8 depth _ refl (sym spelled_8)
+    (spelled_if _ text (codes "511") 9 depth _ refl (sym spelled_9)
+    (spelled_if _ text (codes "1023") 10 depth _ refl (sym spelled_10)
+    (spelled_if _ text (codes "4095") 12 depth _ refl (sym spelled_12)
+    (spelled_if _ text (codes "16383") 14 depth _ refl (sym spelled_14)
+    (spelled_if _ text (codes "65535") 16 depth None refl (sym spelled_16) (λ none. absurd (false≢true (ap is_some none)))))))) h
 
-header_with : (text one two rest : List ℕ) (magic line most : List ℕ) (head : VideoHead) → text ≡ magic ++ 10 ∷ one → one ≡ line ++ 10 ∷ two → two ≡ most ++ 10 ∷ rest → LinesTold magic line most head → HeaderTold text head rest
-header_with text one two rest magic line most head p q r t =
+within_told : (a b : Bool) (n depth : ℕ) → cond (a && b) (Some n) None ≡ Some depth → Some n ≡ Some depth
+within_told false b n depth h = absurd (false≢true (ap is_some h))
+within_told true false n depth h = absurd (false≢true (ap is_some h))
+within_told true true n depth h = h
+
+depth_by : (most : ℕ) (o : Option ℕ) (depth : ℕ) → option_and_then (within 8 most) o ≡ Some depth → o ≡ Some depth
+depth_by most None depth h = absurd (false≢true (ap is_some h))
+depth_by most (Some n) depth h = within_told (nat_le 8 n) (nat_le n most) n depth h
+
+depth_read : (most : ℕ) (line : List ℕ) (depth : ℕ) → depth_of_line most line ≡ Some depth → line ≡ decimal (2 ^ depth - 1)
+unfolding depth_of_line
+depth_read most line depth h = maximum_spelled line depth (depth_by most (maximum_depth line) depth h)
+
+pub record HeaderTold (most : ℕ) (text : List ℕ) (said : DeepHead) (rest : List ℕ) : Type 0 where
+  pub sized : IsSized (colour_head said.head.width said.head.height)
+  pub named : IsNamed said.depth (colour_head said.head.width said.head.height)
+  pub most_is : said.depth ≤ most
+  pub whole : text ≡ image_header_text said.depth said.head.width said.head.height ++ rest
+
+header_with : (most : ℕ) (text one two rest magic line third : List ℕ) (depth : Option ℕ) (said : DeepHead) → text ≡ magic ++ 10 ∷ one → one ≡ line ++ 10 ∷ two → two ≡ third ++ 10 ∷ rest → depth_of_line most third ≡ depth → LinesTold magic line depth said → HeaderTold most text said rest
+header_with most text one two rest magic line third depth said p q r is t =
     let s = t.sizes in
-    let P : VideoHead → Type 0 = λ k. HeaderTold text k rest in
-    let whole : text ≡ codes "P6\n" ++ ((decimal s.wide ++ 32 ∷ decimal s.high) ++ 10 ∷ (codes "255\n" ++ rest)) = p ∙ (rw (t.first, q, s.spelled, r, t.last) refl) in
-    subst P (sym s.is) (record { sized = s.sized; is = refl; whole = whole ∙ header_parts s.wide s.high rest })
+    let d = said.depth in
+    let last : depth_of_line most third ≡ Some said.depth = is ∙ s.deep in
+    let spelled : third ≡ decimal (2 ^ said.depth - 1) = depth_read most third d last in
+    let named = depth_is_named most third d (sym last) in
+    let P : DeepHead → Type 0 = λ k. HeaderTold most text k rest in
+    let whole : text ≡ codes "P6\n" ++ ((decimal s.wide ++ 32 ∷ decimal s.high) ++ 10 ∷ (decimal (2 ^ said.depth - 1) ++ 10 ∷ rest)) = p ∙ (rw (t.first, q, s.spelled, r, spelled) refl) in
+    subst P (sym s.is) (record { sized = s.sized; named = named.1 s.wide s.high; most_is = named.0; whole = whole ∙ sym (header_parts d s.wide s.high rest) })
 
-pub header_read : (text : List ℕ) (head : VideoHead) (rest : List ℕ) → image_header text ≡ Ok (head, rest) → HeaderTold text head rest
-header_read text head rest h =
-    let one = parted_by (line_read 3 text) (λ magic. line_read 10 then λ sizes. line_read 4 then λ most. some_head (image_head magic sizes most)) head rest h in
-    let two = parted_by (line_read 10 one.mid) (λ sizes. line_read 4 then λ most. some_head (image_head one.value sizes most)) head rest one.goes_on in
-    let three = parted_by (line_read 4 two.mid) (λ most. some_head (image_head one.value two.value most)) head rest two.goes_on in
-    let last = some_told (image_head one.value two.value three.value) three.mid head rest three.goes_on in
-    let r : two.mid ≡ three.value ++ 10 ∷ rest = (line_was 4 two.mid three.value three.mid three.begins).whole ∙ ap (λ z. three.value ++ 10 ∷ z) last.1 in
-    header_with text one.mid two.mid rest one.value two.value three.value head (line_was 3 text one.value one.mid one.begins).whole (line_was 10 one.mid two.value two.mid two.begins).whole r (lines_read one.value two.value three.value head last.0)
+record MaximumTold (most : ℕ) (text : List ℕ) (depth : Option ℕ) (rest : List ℕ) : Type 0 where
+  line : List ℕ
+  read : line_read (maximum_room most) text ≡ Ok (line, rest)
+  is : depth_of_line most line ≡ depth
+
+maximum_told : (most : ℕ) (text : List ℕ) (depth : Option ℕ) (rest : List ℕ) → maximum_read most text ≡ Ok (depth, rest) → MaximumTold most text depth rest
+maximum_told most text depth rest h =
+    let t = parted_by (line_read (maximum_room most) text) (λ line. give (depth_of_line most line)) depth rest h in
+    let same : t.mid ≡ rest = ap rest_in t.goes_on in
+    record { line = t.value; read = t.begins ∙ ap (λ z. Ok (t.value, z)) same; is = ap (value_in depth) t.goes_on }
+
+pub header_read : (most : ℕ) (text : List ℕ) (said : DeepHead) (rest : List ℕ) → image_header most text ≡ Ok (said, rest) → HeaderTold most text said rest
+header_read most text said rest h =
+    let one = parted_by (line_read 3 text) (λ magic. line_read 10 then λ sizes. maximum_read most then λ depth. some_head (image_head magic sizes depth)) said rest h in
+    let two = parted_by (line_read 10 one.mid) (λ sizes. maximum_read most then λ depth. some_head (image_head one.value sizes depth)) said rest one.goes_on in
+    let three = parted_by (maximum_read most two.mid) (λ depth. some_head (image_head one.value two.value depth)) said rest two.goes_on in
+    let last = some_told (image_head one.value two.value three.value) three.mid said rest three.goes_on in
+    let third = maximum_told most two.mid three.value three.mid three.begins in
+    let r : two.mid ≡ third.line ++ 10 ∷ rest = (line_was (maximum_room most) two.mid third.line three.mid third.read).whole ∙ ap (λ z. third.line ++ 10 ∷ z) last.1 in
+    header_with most text one.mid two.mid rest one.value two.value third.line three.value said (line_was 3 text one.value one.mid one.begins).whole (line_was 10 one.mid two.value two.mid two.begins).whole r third.is (lines_read one.value two.value three.value said last.0)
 
 -- samples are their thirds
-interleaved-parted : (n : ℕ) (xs : List ℕ) → length xs ≡ 3 * n → interleaved (each_third 0 xs) (each_third 1 xs) (each_third 2 xs) ≡ xs
-interleaved-parted zero [] long = refl
-interleaved-parted zero (x ∷ xs) long = absurd (omega (arith, long))
-interleaved-parted (suc n) [] long = absurd (omega (arith, long))
-interleaved-parted (suc n) (x ∷ []) long = absurd (omega (arith, long))
-interleaved-parted (suc n) (x ∷ y ∷ []) long = absurd (omega (arith, long))
-interleaved-parted (suc n) (x ∷ y ∷ z ∷ xs) long = ap (λ l. x ∷ y ∷ z ∷ l) (interleaved-parted n xs (omega (arith, long)))
-
-third_long : (n k : ℕ) (xs : List ℕ) → k ≤ 2 → length xs ≡ 3 * n → length (each_third k xs) ≡ n
-third_long n k xs few long = omega (arith, length-each_third xs k few, long, few)
-
-record SamplesTold (n : ℕ) (text : List ℕ) (p : List (List ℕ)) (rest : List ℕ) : Type 0 where
+record SamplesTold (depth n : ℕ) (text : List ℕ) (p : List (List ℕ)) (rest : List ℕ) : Type 0 where
   fits : AreColours n p
-  whole : text ≡ samples_text p ++ rest
+  small : AreInDepth depth p
+  whole : text ≡ samples_text depth p ++ rest
 
 front_long : (n : ℕ) (text : List ℕ) → n ≤ length text → length (take n text) ≡ n
 front_long n text h = length-take n text ∙ (omega (arith, h))
 
-samples_read : (n : ℕ) (text : List ℕ) (p : List (List ℕ)) (rest : List ℕ) → colours_read n text ≡ Ok (p, rest) → SamplesTold n text p rest
-samples_read n text p rest h =
-    let t = told n text p rest h in
-    let xs = take (3 * n) text in
-    let long : length (take (3 * n) text) ≡ 3 * n = front_long (3 * n) text t.enough in
-    let P : List (List ℕ) → Type 0 = λ z. SamplesTold n text z rest in
-    let whole : text ≡ interleaved (each_third 0 xs) (each_third 1 xs) (each_third 2 xs) ++ rest = sym (take-append-drop (3 * n) text) ∙ (rw (interleaved-parted n xs long, t.left) refl) in
-    subst P t.parts (record {
+samples_with : (depth n : ℕ) (text xs : List ℕ) (p : List (List ℕ)) (rest : List ℕ) → half_of depth n ≡ 0 → length xs ≡ 3 * n → text ≡ xs ++ rest → parted depth xs ≡ p → AreInDepth depth p → SamplesTold depth n text p rest
+samples_with depth n text xs p rest half long whole parts small =
+    let P : List (List ℕ) → Type 0 = λ z. AreInDepth depth z → SamplesTold depth n text z rest in
+    subst P parts (λ few. record {
       fits = record {
-        red = each_third 0 xs;
-        green = each_third 1 xs;
-        blue = each_third 2 xs;
+        red = third_of depth 0 xs;
+        green = third_of depth 1 xs;
+        blue = third_of depth 2 xs;
         planes_are = refl;
-        red_long = third_long n 0 xs (omega arith) long;
-        green_long = third_long n 1 xs (omega arith) long;
-        blue_long = third_long n 2 xs (omega arith) long;
+        red_long = length-third depth n 0 xs long half (omega arith);
+        green_long = length-third depth n 1 xs long half (omega arith);
+        blue_long = length-third depth n 2 xs long half (omega arith);
       };
-      whole = whole;
-    })
+      small = few;
+      whole = whole ∙ ap (λ z. z ++ rest) (sym (interleaved-parted depth n xs long half));
+    }) small
+
+samples_read : (depth n : ℕ) (text : List ℕ) (p : List (List ℕ)) (rest : List ℕ) → half_of depth n ≡ 0 → colours_read depth n text ≡ Ok (p, rest) → SamplesTold depth n text p rest
+samples_read depth n text p rest half h =
+    let t = told depth n text p rest h in
+    let whole : text ≡ take (3 * n) text ++ rest = sym (take-append-drop (3 * n) text) ∙ ap (λ z. take (3 * n) text ++ z) t.left in
+    samples_with depth n text (take (3 * n) text) p rest half (front_long (3 * n) text t.enough) whole t.parts t.small
 
 -- the samples of the first image
-first_read : (n : ℕ) (text : List ℕ) (p : List (List ℕ)) (rest : List ℕ) → where_begun (colours_read n) true text ≡ Ok (Some p, rest) → SamplesTold n text p rest
-first_read n text p rest h =
-    let t = parted_by (colours_read n text) (λ x. give (Some x)) (Some p) rest h in
-    let a = samples_read n text t.value t.mid t.begins in
-    let P : List (List ℕ) → Type 0 = λ z. SamplesTold n text z t.mid in
-    let Q : List ℕ → Type 0 = λ z. SamplesTold n text p z in
+first_read : (depth n : ℕ) (text : List ℕ) (p : List (List ℕ)) (rest : List ℕ) → half_of depth n ≡ 0 → where_begun (colours_read depth n) true text ≡ Ok (Some p, rest) → SamplesTold depth n text p rest
+first_read depth n text p rest half h =
+    let t = parted_by (colours_read depth n text) (λ x. give (Some x)) (Some p) rest h in
+    let a = samples_read depth n text t.value t.mid half t.begins in
+    let P : List (List ℕ) → Type 0 = λ z. SamplesTold depth n text z t.mid in
+    let Q : List ℕ → Type 0 = λ z. SamplesTold depth n text p z in
     subst Q (ap rest_in t.goes_on) (subst P (ap (λ r. some_in [] (value_in None r)) t.goes_on) a)
 
 -- a later image
-same_by : (a b : Bool) (head next : VideoHead) (text rest : List ℕ) → (head.width == next.width) ≡ a → (head.height == next.height) ≡ b → cond (a && b) (give true) (refuse fault.FormatChanged) text ≡ Ok (true, rest) →
-    (head.width ≡ next.width) × (head.height ≡ next.height) × (text ≡ rest)
-same_by false b head next text rest p q h = absurd (true≢false (ap is_fault h))
-same_by true false head next text rest p q h = absurd (true≢false (ap is_fault h))
-same_by true true head next text rest p q h = (eqb-true _ _ p, eqb-true _ _ q, ap rest_in h)
+record SameFormat (said next : DeepHead) (text rest : List ℕ) : Type 0 where
+  wide : said.head.width ≡ next.head.width
+  high : said.head.height ≡ next.head.height
+  deep : said.depth ≡ next.depth
+  left : text ≡ rest
 
-pub record LaterTold (head : VideoHead) (text rest : List ℕ) : Type 0 where
-  pub whole : text ≡ image_header_text head.width head.height ++ rest
+same_by : (a b c : Bool) (said next : DeepHead) (text rest : List ℕ) → (said.head.width == next.head.width) ≡ a → (said.head.height == next.head.height) ≡ b → (said.depth == next.depth) ≡ c → cond (a && (b && c)) (give true) (refuse fault.FormatChanged) text ≡ Ok (true, rest) →
+    SameFormat said next text rest
+same_by false b c said next text rest p q r h = absurd (true≢false (ap is_fault h))
+same_by true false c said next text rest p q r h = absurd (true≢false (ap is_fault h))
+same_by true true false said next text rest p q r h = absurd (true≢false (ap is_fault h))
+same_by true true true said next text rest p q r h = record { wide = eqb-true _ _ p; high = eqb-true _ _ q; deep = eqb-true _ _ r; left = ap rest_in h }
 
-later_with : (head next : VideoHead) (text mid rest : List ℕ) → HeaderTold text next mid → (head.width ≡ next.width) × (head.height ≡ next.height) × (mid ≡ rest) → LaterTold head text rest
-later_with head next text mid rest t same = record { whole = t.whole ∙ (rw (same.0, same.1, same.2) refl) }
+pub record LaterTold (most : ℕ) (said : DeepHead) (text rest : List ℕ) : Type 0 where
+  pub whole : text ≡ image_header_text said.depth said.head.width said.head.height ++ rest
+  pub most_is : said.depth ≤ most
 
-later_by : (head : VideoHead) (text rest : List ℕ) → (image_header then same_sizes head) text ≡ Ok (true, rest) → LaterTold head text rest
-later_by head text rest h =
-    let t = parted_by (image_header text) (same_sizes head) true rest h in
-    let same = same_by (head.width == t.value.width) (head.height == t.value.height) head t.value t.mid rest refl refl t.goes_on in
-    later_with head t.value text t.mid rest (header_read text t.value t.mid t.begins) same
+later_with : (most : ℕ) (said next : DeepHead) (text mid rest : List ℕ) → HeaderTold most text next mid → SameFormat said next mid rest → LaterTold most said text rest
+later_with most said next text mid rest t same = record { whole = t.whole ∙ (rw (same.wide, same.high, same.deep, same.left) refl); most_is = rw same.deep t.most_is }
+
+later_by : (most : ℕ) (said : DeepHead) (text rest : List ℕ) → (image_header most then same_format said) text ≡ Ok (true, rest) → LaterTold most said text rest
+later_by most said text rest h =
+    let t = parted_by (image_header most text) (same_format said) true rest h in
+    let same = same_by (said.head.width == t.value.head.width) (said.head.height == t.value.head.height) (said.depth == t.value.depth) said t.value t.mid rest refl refl refl t.goes_on in
+    later_with most said t.value text t.mid rest (header_read most text t.value t.mid t.begins) same
 
 abbrev bool_in : Outcome Bool → Bool
 bool_in (Ok p) = p.0
 bool_in (Err f) = false
 
-pub begun_read : (head : VideoHead) (text rest : List ℕ) → image_begun head text ≡ Ok (true, rest) → LaterTold head text rest
-begun_read head [] rest h = absurd (false≢true (ap bool_in h))
-begun_read head (c ∷ cs) rest h = later_by head (c ∷ cs) rest h
+pub begun_read : (most : ℕ) (said : DeepHead) (text rest : List ℕ) → image_begun most said text ≡ Ok (true, rest) → LaterTold most said text rest
+begun_read most said [] rest h = absurd (false≢true (ap bool_in h))
+begun_read most said (c ∷ cs) rest h = later_by most said (c ∷ cs) rest h
 
-not_same : (a b : Bool) (text rest : List ℕ) → cond (a && b) (give true) (refuse fault.FormatChanged) text ≡ Ok (false, rest) → ⊥
-not_same false b text rest h = true≢false (ap is_fault h)
-not_same true false text rest h = true≢false (ap is_fault h)
-not_same true true text rest h = true≢false (ap bool_in h)
+not_same : (a : Bool) (text rest : List ℕ) → cond a (give true) (refuse fault.FormatChanged) text ≡ Ok (false, rest) → ⊥
+not_same false text rest h = true≢false (ap is_fault h)
+not_same true text rest h = true≢false (ap bool_in h)
 
-ended_read : (head : VideoHead) (text rest : List ℕ) → image_begun head text ≡ Ok (false, rest) → text ≡ []
-ended_read head [] rest h = refl
-ended_read head (c ∷ cs) rest h =
-    let t = parted_by (image_header (c ∷ cs)) (same_sizes head) false rest h in
-    absurd (not_same (head.width == t.value.width) (head.height == t.value.height) t.mid rest t.goes_on)
+ended_read : (most : ℕ) (said : DeepHead) (text rest : List ℕ) → image_begun most said text ≡ Ok (false, rest) → text ≡ []
+ended_read most said [] rest h = refl
+ended_read most said (c ∷ cs) rest h =
+    let t = parted_by (image_header most (c ∷ cs)) (same_format said) false rest h in
+    absurd (not_same (said.head.width == t.value.head.width && (said.head.height == t.value.head.height && said.depth == t.value.depth)) t.mid rest t.goes_on)
 
-record ImageTold (head : VideoHead) (text : List ℕ) (p : List (List ℕ)) (rest : List ℕ) : Type 0 where
-  fits : AreColours (head.width * head.height) p
-  whole : text ≡ image_text head.width head.height p ++ rest
+record ImageTold (said : DeepHead) (text : List ℕ) (p : List (List ℕ)) (rest : List ℕ) : Type 0 where
+  fits : AreColours (image_bytes said) p
+  small : AreInDepth said.depth p
+  whole : text ≡ image_text said.depth said.head.width said.head.height p ++ rest
 
-image_with : (head : VideoHead) (text mid : List ℕ) (p : List (List ℕ)) (rest : List ℕ) (b : Bool) → image_begun head text ≡ Ok (b, mid) → where_begun (colours_read (head.width * head.height)) b mid ≡ Ok (Some p, rest) → ImageTold head text p rest
-image_with head text mid p rest false begins h = absurd (false≢true (ap (λ r. is_some (value_in None r)) h))
-image_with head text mid p rest true begins h =
-    let a = begun_read head text mid begins in
-    let b = first_read (head.width * head.height) mid p rest h in
-    record { fits = b.fits; whole = a.whole ∙ (ap (λ z. image_header_text head.width head.height ++ z) b.whole ∙ sym (append_assoc (image_header_text head.width head.height) (samples_text p) rest)) }
+whole_image : (said : DeepHead) → half_of said.depth (image_bytes said) ≡ 0
+whole_image said = whole_samples said.depth (said.head.width * said.head.height)
 
-image_told : (head : VideoHead) (text : List ℕ) (p : List (List ℕ)) (rest : List ℕ) → image_read head false text ≡ Ok (Some p, rest) → ImageTold head text p rest
-image_told head text p rest h =
-    let t = parted_by (image_begun head text) (where_begun (colours_read (head.width * head.height))) (Some p) rest h in
-    image_with head text t.mid p rest t.value t.begins t.goes_on
+image_with : (most : ℕ) (said : DeepHead) (text mid : List ℕ) (p : List (List ℕ)) (rest : List ℕ) (b : Bool) → image_begun most said text ≡ Ok (b, mid) → image_rest said b mid ≡ Ok (Some p, rest) → ImageTold said text p rest
+image_with most said text mid p rest false begins h = absurd (false≢true (ap (λ r. is_some (value_in None r)) h))
+image_with most said text mid p rest true begins h =
+    let a = begun_read most said text mid begins in
+    let b = first_read said.depth (image_bytes said) mid p rest (whole_image said) h in
+    let front = image_header_text said.depth said.head.width said.head.height in
+    record { fits = b.fits; small = b.small; whole = a.whole ∙ (ap (λ z. front ++ z) b.whole ∙ sym (append_assoc front (samples_text said.depth p) rest)) }
 
-end_with : (head : VideoHead) (text mid rest : List ℕ) (b : Bool) → image_begun head text ≡ Ok (b, mid) → where_begun (colours_read (head.width * head.height)) b mid ≡ Ok (None, rest) → text ≡ []
-end_with head text mid rest false begins h = ended_read head text mid begins
-end_with head text mid rest true begins h =
-    let t = parted_by (colours_read (head.width * head.height) mid) (λ x. give (Some x)) None rest h in
+image_told : (most : ℕ) (said : DeepHead) (text : List ℕ) (p : List (List ℕ)) (rest : List ℕ) → image_read most said false text ≡ Ok (Some p, rest) → ImageTold said text p rest
+image_told most said text p rest h =
+    let t = parted_by (image_begun most said text) (image_rest said) (Some p) rest h in
+    image_with most said text t.mid p rest t.value t.begins t.goes_on
+
+end_with : (most : ℕ) (said : DeepHead) (text mid rest : List ℕ) (b : Bool) → image_begun most said text ≡ Ok (b, mid) → image_rest said b mid ≡ Ok (None, rest) → text ≡ []
+end_with most said text mid rest false begins h = ended_read most said text mid begins
+end_with most said text mid rest true begins h =
+    let t = parted_by (colours_read said.depth (image_bytes said) mid) (λ x. give (Some x)) None rest h in
     absurd (true≢false (ap (λ r. is_some (value_in None r)) t.goes_on))
 
-end_told : (head : VideoHead) (text rest : List ℕ) → image_read head false text ≡ Ok (None, rest) → text ≡ []
-end_told head text rest h =
-    let t = parted_by (image_begun head text) (where_begun (colours_read (head.width * head.height))) None rest h in
-    end_with head text t.mid rest t.value t.begins t.goes_on
+end_told : (most : ℕ) (said : DeepHead) (text rest : List ℕ) → image_read most said false text ≡ Ok (None, rest) → text ≡ []
+end_told most said text rest h =
+    let t = parted_by (image_begun most said text) (image_rest said) None rest h in
+    end_with most said text t.mid rest t.value t.begins t.goes_on
 
-record ImagesTold (head : VideoHead) (text : List ℕ) (ps : List (List (List ℕ))) : Type 0 where
-  fit : AllColours (head.width * head.height) ps
-  whole : text ≡ flat_map (image_text head.width head.height) ps
+record ImagesTold (said : DeepHead) (text : List ℕ) (ps : List (List (List ℕ))) : Type 0 where
+  fit : AllColours said.depth (image_bytes said) ps
+  whole : text ≡ flat_map (image_text said.depth said.head.width said.head.height) ps
 
-images_told : (head : VideoHead) (text : List ℕ) (ps : List (List (List ℕ))) → ReadsImages head text ps → ImagesTold head text ps
-images_told head text [] reads = record { fit = tt; whole = end_told head text [] reads }
-images_told head text (p ∷ ps) reads =
-    let a = image_told head text p reads.0 reads.1 in
-    let b = images_told head reads.0 ps reads.2 in
-    record { fit = (a.fits, b.fit); whole = a.whole ∙ ap (λ z. image_text head.width head.height p ++ z) b.whole }
+images_told : (most : ℕ) (said : DeepHead) (text : List ℕ) (ps : List (List (List ℕ))) → ReadsImages most said text ps → ImagesTold said text ps
+images_told most said text [] reads = record { fit = tt; whole = end_told most said text [] reads }
+images_told most said text (p ∷ ps) reads =
+    let a = image_told most said text p reads.0 reads.1 in
+    let b = images_told most said reads.0 ps reads.2 in
+    record { fit = ((a.fits, a.small), b.fit); whole = a.whole ∙ ap (λ z. image_text said.depth said.head.width said.head.height p ++ z) b.whole }
 
-pub all_images_read : (text : List ℕ) (head : VideoHead) (rest : List ℕ) (p : List (List ℕ)) (ps : List (List (List ℕ))) → image_header text ≡ Ok (head, rest) → ReadsFrom head rest p ps →
-    IsImages text head.width head.height (p ∷ ps)
-all_images_read text head rest p ps h reads =
-    let t = header_read text head rest h in
-    let a = first_read (head.width * head.height) rest p reads.0 reads.1 in
-    let b = images_told head reads.0 ps reads.2 in
-    let w = head.width in
-    let k = head.height in
+all_by : (most : ℕ) (text : List ℕ) (said : DeepHead) (rest : List ℕ) (p : List (List ℕ)) (ps : List (List (List ℕ))) → image_header most text ≡ Ok (said, rest) → ReadsFrom most said rest p ps →
+    IsImages text said.depth said.head.width said.head.height (p ∷ ps)
+all_by most text said rest p ps h reads =
+    let t = header_read most text said rest h in
+    let a = first_read said.depth (image_bytes said) rest p reads.0 (whole_image said) reads.1 in
+    let b = images_told most said reads.0 ps reads.2 in
+    let d = said.depth in
+    let front = image_header_text d said.head.width said.head.height in
+    let all = image_text d said.head.width said.head.height in
     record {
       sized = t.sized;
-      whole = t.whole ∙ (ap (λ z. image_header_text w k ++ z) (a.whole ∙ ap (λ z. samples_text p ++ z) b.whole) ∙ sym (append_assoc (image_header_text w k) (samples_text p) (flat_map (image_text w k) ps)));
-      fit = (a.fits, b.fit);
+      named = t.named;
+      whole = t.whole ∙ (ap (λ z. front ++ z) (a.whole ∙ ap (λ z. samples_text d p ++ z) b.whole) ∙ sym (append_assoc front (samples_text d p) (flat_map all ps)));
+      fit = ((a.fits, a.small), b.fit);
     }
+
+pub all_images_read : (text : List ℕ) (most depth : ℕ) (head : VideoHead) (rest : List ℕ) (p : List (List ℕ)) (ps : List (List (List ℕ))) → image_header most text ≡ Ok (record { head = head; depth = depth }, rest) → ReadsFrom most (record { head = head; depth = depth }) rest p ps →
+    IsImages text depth head.width head.height (p ∷ ps)
+all_images_read text most depth head rest p ps h reads = all_by most text (record { head = head; depth = depth }) rest p ps h reads

@@ -10,6 +10,10 @@ mod ImagesBegun
 mod Written
 mod PlaneByPlane
 mod ColourThirds
+mod TurnedPairs
+mod DeepThirds
+mod PairSteps
+mod Maxima
 mod PpmHeads
 mod Colours
 mod AnswerParts

@@ -12,15 +12,15 @@ use Rattle.ffv1_y4m.proofs.Written.{appends_then, appends_none}
 
 -- what a sink writes for lines
 abbrev sink_text : {W : Type 0} → PpmSink W → List Line → List ℕ
-sink_text s lines = text_of_lines s.width s.height s.kept s.row lines
+sink_text s lines = text_of_lines s.depth s.width s.height s.kept s.row lines
 
 -- after a line that it takes
 taken_text : {W : Type 0} (contents : W → Option (List ℕ)) (failed : W → ℕ) (s m : PpmSink W) (l : Line) (ls : List Line) → Takes contents failed s l.plane l.row l.samples m →
-    sink_text m ls ≡ text_of_lines s.width s.height (kept_behind s.kept l.samples) (row_with s.height s.row s.kept) ls
+    sink_text m ls ≡ text_of_lines s.depth s.width s.height (kept_behind s.kept l.samples) (row_with s.height s.row s.kept) ls
 taken_text contents failed s m l ls t = ap (λ z. sink_text z ls) t.sink
 
 pub lines_taken : {W : Type 0} (contents : W → Option (List ℕ)) (failed : W → ℕ) (s t : PpmSink W) (lines : List Line) → Grows (Takes contents failed) s lines t →
-    Appends (contents s.out) (contents t.out) (text_of_lines s.width s.height s.kept s.row lines)
+    Appends (contents s.out) (contents t.out) (text_of_lines s.depth s.width s.height s.kept s.row lines)
 lines_taken {W = W} contents failed s t [] h =
     let P : PpmSink W → Type 0 = λ z. Appends (contents s.out) (contents z.out) [] in
     subst P (sym h) (appends_none (contents s.out))
@@ -34,7 +34,7 @@ text_parts : {W : Type 0} (contents : W → Option (List ℕ)) (failed : W → �
     sink_text s (xs ++ ys) ≡ sink_text s xs ++ sink_text m ys
 text_parts contents failed s m [] ys h = ap (λ z. sink_text z ys) (sym h)
 text_parts contents failed s m (l ∷ xs) ys (n, step, more) =
-    let first = text_with s.width s.height s.row s.kept l.samples in
+    let first = text_with s.depth s.width s.height s.row s.kept l.samples in
     let all = taken_text contents failed s n l (xs ++ ys) step in
     let some = taken_text contents failed s n l xs step in
     ap (λ z. first ++ z) (sym all ∙ (text_parts contents failed n m xs ys more ∙ ap (λ z. z ++ sink_text m ys) some)) ∙ sym (append_assoc first _ (sink_text m ys))
@@ -68,7 +68,7 @@ refused_by {W = W} contents failed s m t xs l ys grows (inr cut) =
     (part_later (contents s.out) (contents m.out) (contents t.out) (sink_text s xs) (line_text m l.samples) _ (lines_taken contents failed s m xs grows) cut.1)
 
 pub lines_refused : {W : Type 0} (contents : W → Option (List ℕ)) (failed : W → ℕ) (s t : PpmSink W) (lines : List Line) → RunRefuses (Takes contents failed) (Refuses contents failed) s lines t →
-    WritesPart (contents s.out) (contents t.out) (text_of_lines s.width s.height s.kept s.row lines)
+    WritesPart (contents s.out) (contents t.out) (text_of_lines s.depth s.width s.height s.kept s.row lines)
 lines_refused {W = W} contents failed s t lines r =
     let P : List Line → Type 0 = λ z. WritesPart (contents s.out) (contents t.out) (sink_text s z) in
     subst P (sym r.parts) (refused_by contents failed s r.between t r.before r.line r.after r.grows r.last)

@@ -1,7 +1,9 @@
 -- Vectors with room for planes.
-use Rattle.std.proofs.Common.{◌≡◌, ℕ, ◌+◌, ◌<◌, ◌≤◌, List, [], ◌∷◌, length, take, drop, get_or, map, sym, subst, arith, add-one, drop-cons}
+use Rattle.std.proofs.Common.{refl, cond, Bool, true, false, ◌*◌, ◌==◌, ◌≡◌, ℕ, ◌+◌, ◌<◌, ◌≤◌, List, [], ◌∷◌, length, take, drop, get_or, map, sym, subst, arith, add-one, drop-cons}
 use Rattle.std.proofs.Math.ListN.{set}
-use Rattle.std.proofs.lemmas.List.{drop-set-lt}
+use Rattle.std.proofs.lemmas.List.{drop-set-lt, length-map}
+use Rattle.ffv1_y4m.specs.declared.head.VideoHead.{VideoHead}
+use Rattle.ffv1_y4m.specs.VideoHead.{plane_bytes, plane_sizes}
 use Rattle.std.specs.declared.vec.Vec.{Vec}
 use Rattle.std.specs.Vec.{vec_capacity}
 use Rattle.ffv1_y4m.specs.State.{HasRoom, samples_of}
@@ -43,3 +45,11 @@ room_own (plane ∷ planes) = (omega (arith, plane.ok.0, plane.ok.1), room_own p
 -- vectors that hold planes have room for them
 pub room_left : {A : Type 0} (sizes : List ℕ) (planes : List (Vec ℕ A)) → map (λ plane. length plane) (samples_of planes) ≡ sizes → HasRoom sizes planes
 room_left sizes planes e = subst (λ z. HasRoom z planes) e (room_own planes)
+
+long_by : (b : Bool) (h : VideoHead) → length (cond b (plane_sizes h) (map (λ size. 2 * size) (plane_sizes h))) ≡ length (plane_sizes h)
+long_by true h = refl
+long_by false h = length-map (plane_sizes h) (λ size. 2 * size)
+
+-- as many planes, in samples and in bytes
+pub bytes_long : (depth : ℕ) (h : VideoHead) → length (plane_bytes depth h) ≡ length (plane_sizes h)
+bytes_long depth h = long_by (depth == 8) h

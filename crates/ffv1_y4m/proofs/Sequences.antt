@@ -69,6 +69,7 @@ says_next r next g more old mid new n m k xs ys x (Err fault.Tag) same h to s = 
 says_next r next g more old mid new n m k xs ys x (Err fault.Unsupported) same h to s = (s.0 ∙ same, decides_next r next xs ys new x (Err fault.Unsupported) h s.1)
 says_next r next g more old mid new n m k xs ys x (Err fault.FrameLine) same h to s = (s.0 ∙ same, decides_next r next xs ys new x (Err fault.FrameLine) h s.1)
 says_next r next g more old mid new n m k xs ys x (Err fault.FrameTruncated) same h to s = (s.0 ∙ same, decides_next r next xs ys new x (Err fault.FrameTruncated) h s.1)
+says_next r next g more old mid new n m k xs ys x (Err fault.SampleTooLarge) same h to s = (s.0 ∙ same, decides_next r next xs ys new x (Err fault.SampleTooLarge) h s.1)
 says_next r next g more old mid new n m k xs ys x (Err fault.FormatChanged) same h to s = (s.0 ∙ same, decides_next r next xs ys new x (Err fault.FormatChanged) h s.1)
 
 says_first : {X Y : Type 0} (r : Reading X) (next : X → Reading Y) (g more : List ℕ → Type 0) (p : Passage) (bytes : List ℕ) (f : Fault) →
@@ -81,6 +82,7 @@ says_first r next g more p bytes fault.Tag short to s = (s.0, faults_first r nex
 says_first r next g more p bytes fault.Unsupported short to s = (s.0, faults_first r next bytes p.new fault.Unsupported s.1)
 says_first r next g more p bytes fault.FrameLine short to s = (s.0, faults_first r next bytes p.new fault.FrameLine s.1)
 says_first r next g more p bytes fault.FrameTruncated short to s = (s.0, faults_first r next bytes p.new fault.FrameTruncated s.1)
+says_first r next g more p bytes fault.SampleTooLarge short to s = (s.0, faults_first r next bytes p.new fault.SampleTooLarge s.1)
 says_first r next g more p bytes fault.FormatChanged short to s = (s.0, faults_first r next bytes p.new fault.FormatChanged s.1)
 
 -- a value that stays what it is after the end of the bytes that gave it
@@ -142,6 +144,7 @@ answers_err view r g p fault.Tag h = (h.said.0, known r p.old p.new h.bytes (Err
 answers_err view r g p fault.Unsupported h = (h.said.0, known r p.old p.new h.bytes (Err fault.Unsupported) h.taken h.said.1)
 answers_err view r g p fault.FrameLine h = (h.said.0, known r p.old p.new h.bytes (Err fault.FrameLine) h.taken h.said.1)
 answers_err view r g p fault.FrameTruncated h = (h.said.0, known r p.old p.new h.bytes (Err fault.FrameTruncated) h.taken h.said.1)
+answers_err view r g p fault.SampleTooLarge h = (h.said.0, known r p.old p.new h.bytes (Err fault.SampleTooLarge) h.taken h.said.1)
 answers_err view r g p fault.FormatChanged h = (h.said.0, known r p.old p.new h.bytes (Err fault.FormatChanged) h.taken h.said.1)
 
 pub answers_of : {X Y : Type 0} (view : Y → X) (r : Reading X) (g : List ℕ → Type 0) (p : Passage) (answer : Result Y Fault) → Stands r g p (seen view answer) → Answers view r g p answer

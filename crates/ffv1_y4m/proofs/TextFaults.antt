@@ -2,7 +2,7 @@
 use Rattle.std.proofs.Common.{ℕ, Bool, true, false, cond, Option, Some, None, List, [], ◌∷◌, ◌≤◌, drop, length, Result, Ok, Err, inl, refl, arith}
 use Rattle.ffv1_y4m.specs.declared.fault.Fault.{Fault}
 use Rattle.ffv1_y4m.specs.declared.fault.Fault.TheVariants as fault
-use Rattle.ffv1_y4m.specs.declared.head.VideoHead.{VideoHead}
+use Rattle.ffv1_y4m.specs.declared.head.DeepHead.{DeepHead}
 use Rattle.ffv1_y4m.specs.declared.tags.Tags.{Tags}
 use Rattle.ffv1_y4m.specs.Sequence.{◌>>=◌}
 use Rattle.ffv1_y4m.specs.Header.{first_value, first_answer, structure_of, tagged, judged, words_of, all_judged, no_tags, present, head_of_tags, head_of_line, size_of, ratio_of, chroma_of}
@@ -52,25 +52,25 @@ textual_structure value =
     let unsupported : Textual {X = ℕ} (Err fault.Unsupported) = record { fault = tt } in
     textual_cond _ _ _ (textual_ok 3) (textual_cond _ _ _ (textual_ok 1) (textual_cond _ _ _ (textual_ok 2) (textual_cond _ _ _ (textual_ok 0) (textual_cond _ _ _ unsupported tag))))
 
-textual_tagged : (t : Tags) (letter : ℕ) (value : List ℕ) → Textual (tagged t letter value)
+textual_tagged : (most : ℕ) (t : Tags) (letter : ℕ) (value : List ℕ) → Textual (tagged most t letter value)
 unfolding tagged
-textual_tagged t letter value =
+textual_tagged most t letter value =
     let tag : Textual {X = Tags} (Err fault.Tag) = record { fault = tt } in
     textual_cond _ _ _ (textual_next _ _ (textual_first t.width (size_of value) fault.Tag tt) (λ n. textual_ok _))
     (textual_cond _ _ _ (textual_next _ _ (textual_first t.height (size_of value) fault.Tag tt) (λ n. textual_ok _))
     (textual_cond _ _ _ (textual_next _ _ (textual_first t.rate (ratio_of 4294967295 value) fault.Tag tt) (λ n. textual_ok _))
     (textual_cond _ _ _ (textual_next _ _ (textual_answer t.structure (structure_of value) (textual_structure value)) (λ n. textual_ok _))
     (textual_cond _ _ _ (textual_next _ _ (textual_first t.aspect (ratio_of 65535 value) fault.Tag tt) (λ n. textual_ok _))
-    (textual_cond _ _ _ (textual_next _ _ (textual_first t.chroma (chroma_of value) fault.Unsupported tt) (λ n. textual_ok _))
+    (textual_cond _ _ _ (textual_next _ _ (textual_first t.chroma (chroma_of most value) fault.Unsupported tt) (λ n. textual_ok _))
     (textual_cond _ _ _ (textual_ok _) tag))))))
 
-textual_judged : (t : Tags) (word : List ℕ) → Textual (judged t word)
-textual_judged t [] = record { fault = tt }
-textual_judged t (letter ∷ value) = textual_tagged t letter value
+textual_judged : (most : ℕ) (t : Tags) (word : List ℕ) → Textual (judged most t word)
+textual_judged most t [] = record { fault = tt }
+textual_judged most t (letter ∷ value) = textual_tagged most t letter value
 
-textual_all : (t : Tags) (words : List (List ℕ)) → Textual (all_judged t words)
-textual_all t [] = record { fault = tt }
-textual_all t (word ∷ words) = textual_next (judged t word) (λ u. all_judged u words) (textual_judged t word) (λ u. textual_all u words)
+textual_all : (most : ℕ) (t : Tags) (words : List (List ℕ)) → Textual (all_judged most t words)
+textual_all most t [] = record { fault = tt }
+textual_all most t (word ∷ words) = textual_next (judged most t word) (λ u. all_judged most u words) (textual_judged most t word) (λ u. textual_all most u words)
 
 textual_present : (n : Option ℕ) → Textual (present n)
 textual_present None = record { fault = tt }
@@ -80,15 +80,15 @@ textual_head : (t : Tags) → Textual (head_of_tags t)
 unfolding head_of_tags
 textual_head t = textual_next _ _ (textual_present t.width) (λ w. textual_next _ _ (textual_present t.height) (λ h. textual_ok _))
 
-pub textual_line : (line : List ℕ) → Textual (head_of_line line)
+pub textual_line : (most : ℕ) (line : List ℕ) → Textual (head_of_line most line)
 unfolding head_of_line
-textual_line line =
-    let tag : Textual {X = VideoHead} (Err fault.Tag) = record { fault = tt } in
-    let header : Textual {X = VideoHead} (Err fault.Header) = record { fault = tt } in
-    textual_cond _ _ _ tag (textual_cond _ _ _ (textual_next (all_judged no_tags (words_of (drop 10 line))) head_of_tags (textual_all no_tags (words_of (drop 10 line))) textual_head) header)
+textual_line most line =
+    let tag : Textual {X = DeepHead} (Err fault.Tag) = record { fault = tt } in
+    let header : Textual {X = DeepHead} (Err fault.Header) = record { fault = tt } in
+    textual_cond _ _ _ tag (textual_cond _ _ _ (textual_next (all_judged most no_tags (words_of (drop 10 line))) head_of_tags (textual_all most no_tags (words_of (drop 10 line))) textual_head) header)
 
 -- the answer of a header's line, of no byte
-said_line : (r : Result VideoHead Fault) (old : Option (List ℕ)) (n : ℕ) → HasTextual r → Says (judge r) Nowhere [] (moved old old n n) r
+said_line : (r : Result DeepHead Fault) (old : Option (List ℕ)) (n : ℕ) → HasTextual r → Says (judge r) Nowhere [] (moved old old n n) r
 said_line (Ok h) old n t = (refl, inl (λ behind. refl))
 said_line (Err fault.Header) old n t = (refl, inl (λ behind. refl))
 said_line (Err fault.Tag) old n t = (refl, inl (λ behind. refl))
@@ -98,12 +98,13 @@ said_line (Err fault.Read) old n t = absurd t
 said_line (Err fault.Write) old n t = absurd t
 said_line (Err fault.FrameLine) old n t = absurd t
 said_line (Err fault.FrameTruncated) old n t = absurd t
+said_line (Err fault.SampleTooLarge) old n t = absurd t
 said_line (Err fault.FormatChanged) old n t = absurd t
 
-pub stands_line : (r : Result VideoHead Fault) (old : Option (List ℕ)) (n : ℕ) → Textual r → Stands (judge r) Nowhere (moved old old n n) r
+pub stands_line : (r : Result DeepHead Fault) (old : Option (List ℕ)) (n : ℕ) → Textual r → Stands (judge r) Nowhere (moved old old n n) r
 stands_line r old n t = record { bytes = []; taken = consumes_none old; said = said_line r old n t.fault }
 
-own_line : (r : Result VideoHead Fault) → HasTextual r → OnFault IsHeaderFault r
+own_line : (r : Result DeepHead Fault) → HasTextual r → OnFault IsHeaderFault r
 own_line (Ok h) t = tt
 own_line (Err fault.Header) t = tt
 own_line (Err fault.Tag) t = tt
@@ -113,15 +114,16 @@ own_line (Err fault.Read) t = absurd t
 own_line (Err fault.Write) t = absurd t
 own_line (Err fault.FrameLine) t = absurd t
 own_line (Err fault.FrameTruncated) t = absurd t
+own_line (Err fault.SampleTooLarge) t = absurd t
 own_line (Err fault.FormatChanged) t = absurd t
 
 -- a fault of the text is one of a header
-pub header_fault : (r : Result VideoHead Fault) → Textual r → OnFault IsHeaderFault r
+pub header_fault : (r : Result DeepHead Fault) → Textual r → OnFault IsHeaderFault r
 header_fault r t = own_line r t.fault
 
 left_judged : {X : Type 0} (r : Result X Fault) (text : List ℕ) → length (left (judge r text)) ≤ length text
 left_judged (Ok x) text = omega arith
 left_judged (Err f) text = omega arith
 
-pub shortens_line : Shortens (λ line. judge (head_of_line line))
-shortens_line = λ line text. left_judged (head_of_line line) text
+pub shortens_line : (most : ℕ) → Shortens (λ line. judge (head_of_line most line))
+shortens_line most = λ line text. left_judged (head_of_line most line) text

@@ -45,14 +45,14 @@ words-last xs none =
     no_space xs (λ k h. not_true _ (prefix_len_passes (λ c. not (c == 32)) xs k 0 (omega (arith, far, h))))
 
 -- a line is judged word by word
-pub judged-split : (t : Tags) (xs : List ℕ) (at : ℕ) (word words : List ℕ) (step : Result Tags Fault) → position (λ c. c == 32) xs ≡ Some at → word ≡ take at xs → words ≡ drop (at + 1) xs → step ≡ judged t word →
-    all_judged t (words_of xs) ≡ (step >>= λ u. all_judged u (words_of words))
-judged-split t xs at word words step found first more judging =
+pub judged-split : (most : ℕ) (t : Tags) (xs : List ℕ) (at : ℕ) (word words : List ℕ) (step : Result Tags Fault) → position (λ c. c == 32) xs ≡ Some at → word ≡ take at xs → words ≡ drop (at + 1) xs → step ≡ judged most t word →
+    all_judged most t (words_of xs) ≡ (step >>= λ u. all_judged most u (words_of words))
+judged-split most t xs at word words step found first more judging =
     rw (words-split xs at found, judging, first, more) refl
 
-pub judged-last : (t : Tags) (xs : List ℕ) → position (λ c. c == 32) xs ≡ None → all_judged t (words_of xs) ≡ judged t xs
-judged-last t xs none = rw (words-last xs none) (same (judged t xs))
+pub judged-last : (most : ℕ) (t : Tags) (xs : List ℕ) → position (λ c. c == 32) xs ≡ None → all_judged most t (words_of xs) ≡ judged most t xs
+judged-last most t xs none = rw (words-last xs none) (same (judged most t xs))
   where
-    same : (r : Result Tags Fault) → (r >>= λ u. all_judged u []) ≡ r
+    same : (r : Result Tags Fault) → (r >>= λ u. all_judged most u []) ≡ r
     same (Ok u) = refl
     same (Err f) = refl

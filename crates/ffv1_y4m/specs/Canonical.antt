@@ -1,7 +1,8 @@
 -- The canonical text of a stream of pictures: each tag but X is written, in one order.
-use Rattle.std.specs.Prelude.{ℕ, Bool, true, false, ◌==◌, if◌then◌else◌, List, ◌++◌, codes, decimal}
-use Rattle.std.specs.Prelude.{flat_map}
+use Rattle.std.specs.Prelude.{ℕ, Bool, true, false, ◌==◌, if◌then◌else◌, List, [], ◌++◌, codes}
+use Rattle.std.specs.Prelude.{decimal, flat_map}
 use Rattle.ffv1_y4m.specs.Pictures.{picture_text}
+use Rattle.ffv1_y4m.specs.VideoHead.{is_named}
 use Rattle.ffv1_y4m.specs.declared.head.VideoHead.{VideoHead}
 
 -- the letter of a structure: progressive, top first, bottom first, unknown
@@ -12,7 +13,7 @@ structure_name structure =
     else if structure == 2 then codes "b"
     else codes "?"
 
--- the name of chroma planes
+-- the name of chroma planes of 8 bits
 abbrev pub name_of_chroma : Bool → ℕ → ℕ → Bool → List ℕ
 name_of_chroma planes log2_h log2_v extra =
     if planes
@@ -23,8 +24,31 @@ name_of_chroma planes log2_h log2_v extra =
     else codes "444")
     else codes "mono"
 
-abbrev pub chroma_name : VideoHead → List ℕ
-chroma_name h = name_of_chroma h.chroma_planes h.log2_h h.log2_v h.extra_plane
+-- what stands before the depth in the name of chroma planes of more than 8 bits; nothing where
+-- there is no name
+abbrev pub deep_name : ℕ → Bool → ℕ → ℕ → Bool → List ℕ
+deep_name depth planes log2_h log2_v extra =
+    if is_named depth planes log2_h log2_v extra
+    then (if planes
+    then (if log2_v == 1 then codes "420p" else if log2_h == 1 then codes "422p" else codes "444p")
+    else codes "mono")
+    else []
+
+-- the depth in a name, none at 8 bits
+abbrev pub depth_name : ℕ → List ℕ
+depth_name depth =
+    if depth == 9 then codes "9"
+    else if depth == 10 then codes "10"
+    else if depth == 12 then codes "12"
+    else if depth == 14 then codes "14"
+    else if depth == 16 then codes "16"
+    else []
+
+-- the name of the chroma of a head, up to the depth in it
+abbrev pub chroma_name : ℕ → VideoHead → List ℕ
+chroma_name depth h =
+    if depth == 8 then name_of_chroma h.chroma_planes h.log2_h h.log2_v h.extra_plane
+    else deep_name depth h.chroma_planes h.log2_h h.log2_v h.extra_plane
 
 -- a number after a tag's letter
 unfoldable pub number_text : List ℕ → ℕ → List ℕ
@@ -51,15 +75,17 @@ times_text h =
     ++ ratio_text (codes " A") h.sar_num h.sar_den)
 
 -- the header: W H F I A C, one space before each, and a line feed
-unfoldable pub header_text : VideoHead → List ℕ
-header_text h =
-    sizes_text h ++ (times_text h ++ (name_text (codes " C") (chroma_name h) ++ codes "\n"))
+unfoldable pub header_text : ℕ → VideoHead → List ℕ
+header_text depth h =
+    sizes_text h
+    ++ (times_text h
+    ++ (name_text (codes " C") (chroma_name depth h) ++ name_text (depth_name depth) (codes "\n")))
 
 -- the canonical text of these pictures
-abbrev pub canonical_text : VideoHead → List (List (List ℕ)) → List ℕ
-canonical_text h pictures = header_text h ++ flat_map picture_text pictures
+abbrev pub canonical_text : ℕ → VideoHead → List (List (List ℕ)) → List ℕ
+canonical_text depth h pictures = header_text depth h ++ flat_map picture_text pictures
 
 -- what a writer writes for its next picture: the header before the first one
-abbrev pub next_text : VideoHead → Bool → List (List ℕ) → List ℕ
-next_text h true planes = picture_text planes
-next_text h false planes = header_text h ++ picture_text planes
+abbrev pub next_text : ℕ → VideoHead → Bool → List (List ℕ) → List ℕ
+next_text depth h true planes = picture_text planes
+next_text depth h false planes = header_text depth h ++ picture_text planes

@@ -8,8 +8,9 @@ use Rattle.std.specs.List.{position}
 use lib.Pointwise.{pointwise}
 use Rattle.std.specs.Option.{option_and_then}
 use Rattle.std.specs.Str.Parse.{digits_value}
+use Rattle.ffv1_y4m.specs.VideoHead.{has_depth_name}
 use Rattle.ffv1_y4m.specs.Sequence.{◌>>=◌, Reading, ◌then◌, judge}
-use Rattle.ffv1_y4m.specs.declared.head.VideoHead.{VideoHead}
+use Rattle.ffv1_y4m.specs.declared.head.DeepHead.{DeepHead}
 use Rattle.ffv1_y4m.specs.declared.tags.Chroma.{Chroma}
 use Rattle.ffv1_y4m.specs.declared.tags.Tags.{Tags}
 use Rattle.ffv1_y4m.specs.declared.fault.Fault.{Fault}
@@ -67,23 +68,55 @@ parted_of most value (Some colon) =
 abbrev pub ratio_of : ℕ → List ℕ → Option (ℕ × ℕ)
 ratio_of most value = parted_of most value (position (λ c. c == 58) value)
 
--- chroma planes of these sizes
+-- chroma planes of these sizes, of 8 bits
 abbrev pub chroma_planes : ℕ → ℕ → Chroma
 chroma_planes log2_h log2_v =
-    record { planes = true; log2_h = log2_h; log2_v = log2_v; extra = false }
+    record { planes = true; log2_h = log2_h; log2_v = log2_v; extra = false; depth = 8 }
 
--- the chroma of the names for no chroma, and for a plane of transparency
+-- no chroma planes, of 8 bits
+abbrev pub no_chroma : Chroma
+no_chroma = record { planes = false; log2_h = 0; log2_v = 0; extra = false; depth = 8 }
+
+-- the depth above 8 of a text
+abbrev pub depth_of : List ℕ → Option ℕ
+depth_of text =
+    if is_text text (codes "9") then Some 9
+    else if is_text text (codes "10") then Some 10
+    else if is_text text (codes "12") then Some 12
+    else if is_text text (codes "14") then Some 14
+    else if is_text text (codes "16") then Some 16
+    else None
+
+-- chroma of a depth that has a name beside it
+abbrev pub at_depth : Chroma → Option ℕ → Option Chroma
+at_depth c None = None
+at_depth c (Some depth) =
+    if has_depth_name c.planes depth then Some (record c { depth = depth }) else None
+
+-- the chroma of a name of more than 8 bits, by what stands before the depth in it
+abbrev pub deep_named : List ℕ → Option ℕ → Option Chroma
+deep_named name depth =
+    if is_text name (codes "420p") then at_depth (chroma_planes 1 1) depth
+    else if is_text name (codes "422p") then at_depth (chroma_planes 1 0) depth
+    else if is_text name (codes "444p") then at_depth (chroma_planes 0 0) depth
+    else if is_text name (codes "mono") then at_depth no_chroma depth
+    else None
+
+-- the chroma of a name of more than 8 bits: four bytes and the depth
+unfoldable pub deep_chroma_of : List ℕ → Option Chroma
+deep_chroma_of value = deep_named (take 4 value) (depth_of (drop 4 value))
+
+-- the chroma of the names for no chroma, for a plane of transparency, and for more than 8 bits
 abbrev pub other_chroma_of : List ℕ → Option Chroma
 other_chroma_of value =
     if is_text value (codes "444alpha") then Some
-    (record { planes = true; log2_h = 0; log2_v = 0; extra = true })
-    else if is_text value (codes "mono") then Some
-    (record { planes = false; log2_h = 0; log2_v = 0; extra = false })
-    else None
+    (record { planes = true; log2_h = 0; log2_v = 0; extra = true; depth = 8 })
+    else if is_text value (codes "mono") then Some no_chroma
+    else deep_chroma_of value
 
 -- the chroma of a name
-unfoldable pub chroma_of : List ℕ → Option Chroma
-chroma_of value =
+unfoldable pub chroma_named : List ℕ → Option Chroma
+chroma_named value =
     if is_text value (codes "420jpeg") ||
     (is_text value (codes "420mpeg2") || is_text value (codes "420paldv")) then Some
     (chroma_planes 1 1)
@@ -91,6 +124,14 @@ chroma_of value =
     else if is_text value (codes "444") then Some (chroma_planes 0 0)
     else if is_text value (codes "411") then Some (chroma_planes 2 0)
     else other_chroma_of value
+
+-- chroma of at most this depth
+abbrev pub up_to : ℕ → Chroma → Option Chroma
+up_to most c = if nat_le c.depth most then Some c else None
+
+-- the chroma of a name, where depths up to this one are read
+abbrev pub chroma_of : ℕ → List ℕ → Option Chroma
+chroma_of most value = option_and_then (up_to most) (chroma_named value)
 
 -- the structure of a picture: progressive, top first, bottom first, unknown; mixed is not supported
 unfoldable pub structure_of : List ℕ → Result ℕ Fault
@@ -125,8 +166,8 @@ first_answer (Some old) new = Err fault.Tag
 first_answer None new = new
 
 -- the tags with one more, by its letter: W H F I A C X
-unfoldable pub tagged : Tags → ℕ → List ℕ → Result Tags Fault
-tagged t letter value =
+unfoldable pub tagged : ℕ → Tags → ℕ → List ℕ → Result Tags Fault
+tagged most t letter value =
     if letter == 87 then
     (first_value t.width (size_of value) fault.Tag >>= λ n. Ok (record t { width = Some n }))
     else if letter == 72 then
@@ -141,15 +182,15 @@ tagged t letter value =
     (first_value t.aspect (ratio_of 65535 value) fault.Tag >>= λ r. Ok
     (record t { aspect = Some r }))
     else if letter == 67 then
-    (first_value t.chroma (chroma_of value) fault.Unsupported >>= λ c. Ok
+    (first_value t.chroma (chroma_of most value) fault.Unsupported >>= λ c. Ok
     (record t { chroma = Some c }))
     else if letter == 88 then Ok t
     else Err fault.Tag
 
 -- one word of the line: a letter and its value
-abbrev pub judged : Tags → List ℕ → Result Tags Fault
-judged t [] = Err fault.Tag
-judged t (letter ∷ value) = tagged t letter value
+abbrev pub judged : ℕ → Tags → List ℕ → Result Tags Fault
+judged most t [] = Err fault.Tag
+judged most t (letter ∷ value) = tagged most t letter value
 
 -- the words of a line, between single spaces
 abbrev pub onto_first : ℕ → List (List ℕ) → List (List ℕ)
@@ -161,9 +202,9 @@ words_of [] = [] ∷ []
 words_of (c ∷ cs) = if c == 32 then [] ∷ words_of cs else onto_first c (words_of cs)
 
 -- all words, from left to right
-abbrev pub all_judged : Tags → List (List ℕ) → Result Tags Fault
-all_judged t [] = Ok t
-all_judged t (word ∷ words) = judged t word >>= λ u. all_judged u words
+abbrev pub all_judged : ℕ → Tags → List (List ℕ) → Result Tags Fault
+all_judged most t [] = Ok t
+all_judged most t (word ∷ words) = judged most t word >>= λ u. all_judged most u words
 
 -- a value, or what stands in its place
 abbrev pub or_else : {X : Type 0} → Option X → X → X
@@ -171,20 +212,23 @@ or_else (Some x) d = x
 or_else None d = d
 
 -- the head that the tags give, once there are both sizes; without them no rate, an unknown
--- structure and aspect, and 4:2:0
-abbrev pub head_from : ℕ → ℕ → ℕ × ℕ → ℕ → ℕ × ℕ → Chroma → VideoHead
+-- structure and aspect, and 4:2:0 of 8 bits
+abbrev pub head_from : ℕ → ℕ → ℕ × ℕ → ℕ → ℕ × ℕ → Chroma → DeepHead
 head_from width height rate structure aspect chroma = record {
-  width = width;
-  height = height;
-  rate = rate.0;
-  scale = rate.1;
-  structure = structure;
-  sar_num = aspect.0;
-  sar_den = aspect.1;
-  chroma_planes = chroma.planes;
-  log2_h = chroma.log2_h;
-  log2_v = chroma.log2_v;
-  extra_plane = chroma.extra;
+  head = record {
+    width = width;
+    height = height;
+    rate = rate.0;
+    scale = rate.1;
+    structure = structure;
+    sar_num = aspect.0;
+    sar_den = aspect.1;
+    chroma_planes = chroma.planes;
+    log2_h = chroma.log2_h;
+    log2_v = chroma.log2_v;
+    extra_plane = chroma.extra;
+  };
+  depth = chroma.depth;
 }
 
 -- a size that has to be there
@@ -192,19 +236,20 @@ abbrev pub present : Option ℕ → Result ℕ Fault
 present None = Err fault.Tag
 present (Some n) = Ok n
 
-unfoldable pub head_of_tags : Tags → Result VideoHead Fault
+unfoldable pub head_of_tags : Tags → Result DeepHead Fault
 head_of_tags t = do
   width ← present t.width
   height ← present t.height
   Ok (head_from width height (or_else t.rate (0, 0)) (or_else t.structure 0)
       (or_else t.aspect (0, 0)) (or_else t.chroma (chroma_planes 1 1)))
 
--- the head of a header line, given without its line feed
-unfoldable pub head_of_line : List ℕ → Result VideoHead Fault
-head_of_line line =
+-- the head and the depth of a header line, given without its line feed, where depths up to `most`
+-- are read
+unfoldable pub head_of_line : ℕ → List ℕ → Result DeepHead Fault
+head_of_line most line =
     if is_text line (codes "YUV4MPEG2") then Err fault.Tag
     else if is_text (take 10 line) (codes "YUV4MPEG2 ") then
-    (all_judged no_tags (words_of (drop 10 line)) >>= head_of_tags)
+    (all_judged most no_tags (words_of (drop 10 line)) >>= head_of_tags)
     else Err fault.Header
 
 -- where the line feed of a line stands, if it is among the first so many bytes
@@ -223,5 +268,5 @@ line_read most text = line_to most text (line_end most text)
 
 -- a text's header: its line of at most 1024 bytes and the line feed, which is judged when it is
 -- read
-abbrev pub header_of : Reading VideoHead
-header_of = line_read 1025 then λ line. judge (head_of_line line)
+abbrev pub header_of : ℕ → Reading DeepHead
+header_of most = line_read 1025 then λ line. judge (head_of_line most line)

@@ -2,7 +2,7 @@
 -- any order.
 use Rattle.std.specs.Prelude.{◌≡◌, ℕ, ◌==◌, ◌||◌, Bool, true, false, if◌then◌else◌, List, [], ◌∷◌}
 use Rattle.std.specs.Prelude.{◌++◌, codes, flat_map, Some, Ok}
-use Rattle.ffv1_y4m.specs.Header.{size_of, ratio_of, structure_of, chroma_of, chroma_planes}
+use Rattle.ffv1_y4m.specs.Header.{size_of, ratio_of, structure_of, chroma_named, chroma_planes}
 use Rattle.ffv1_y4m.specs.declared.head.VideoHead.{VideoHead}
 use Rattle.ffv1_y4m.specs.declared.tags.Chroma.{Chroma}
 
@@ -55,15 +55,21 @@ abbrev pub SaysStructure : List ℕ → ℕ → Type 0
 SaysStructure value s = structure_of value ≡ Ok s
 
 abbrev pub SaysChroma : List ℕ → Chroma → Type 0
-SaysChroma value c = chroma_of value ≡ Some c
+SaysChroma value c = chroma_named value ≡ Some c
 
--- the chroma of a head
-abbrev pub chroma_in : VideoHead → Chroma
-chroma_in h =
-    record { planes = h.chroma_planes; log2_h = h.log2_h; log2_v = h.log2_v; extra = h.extra_plane }
+-- the chroma of a head and its depth
+abbrev pub chroma_in : ℕ → VideoHead → Chroma
+chroma_in depth h = record {
+  planes = h.chroma_planes;
+  log2_h = h.log2_h;
+  log2_v = h.log2_v;
+  extra = h.extra_plane;
+  depth = depth;
+}
 
--- a line says this head: W and H once, F, I, A and C at most once, X any number of times
-pub record IsHeaderLine (line : List ℕ) (h : VideoHead) : Type 0 where
+-- a line says this depth and this head: W and H once, F, I, A and C at most once, X any number of
+-- times
+pub record IsHeaderLine (line : List ℕ) (depth : ℕ) (h : VideoHead) : Type 0 where
   pub tags : List (List ℕ)
   pub are : AreTags tags
   pub spelled : line ≡ codes "YUV4MPEG2" ++ spaced tags
@@ -72,4 +78,4 @@ pub record IsHeaderLine (line : List ℕ) (h : VideoHead) : Type 0 where
   pub rate : AtMostOnce (SaysRatio 4294967295) (0, 0) (values_of 70 tags) (h.rate, h.scale)
   pub structure : AtMostOnce SaysStructure 0 (values_of 73 tags) h.structure
   pub aspect : AtMostOnce (SaysRatio 65535) (0, 0) (values_of 65 tags) (h.sar_num, h.sar_den)
-  pub chroma : AtMostOnce SaysChroma (chroma_planes 1 1) (values_of 67 tags) (chroma_in h)
+  pub chroma : AtMostOnce SaysChroma (chroma_planes 1 1) (values_of 67 tags) (chroma_in depth h)

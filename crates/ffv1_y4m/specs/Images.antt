@@ -1,14 +1,14 @@
--- The text of a stream of PPM: images of one size, one after the other.
+-- The text of a stream of PPM: images of one size and one depth, one after the other.
 use Rattle.std.specs.Prelude.{◌≡◌, ℕ, zero, suc, take, drop, ◌*◌, true, false, List, [], ◌∷◌, ◌++◌}
 use Rattle.std.specs.Prelude.{length, flat_map, Some, None, Ok}
 use Rattle.std.specs.List.{range_with_len}
-use Rattle.ffv1_y4m.specs.Ppm.{image_header_text, image_read, interleaved}
+use Rattle.ffv1_y4m.specs.Ppm.{bytes_for, image_header_text, image_read, interleaved}
 use Rattle.ffv1_wire.specs.Runs.{Line}
 use Rattle.ffv1_y4m.specs.Sink.{PpmSink, text_with, kept_behind, row_with}
-use Rattle.ffv1_y4m.specs.VideoHead.{IsSized, colour_head}
-use Rattle.ffv1_y4m.specs.declared.head.VideoHead.{VideoHead}
+use Rattle.ffv1_y4m.specs.VideoHead.{AreInDepth, IsNamed, IsSized, colour_head}
+use Rattle.ffv1_y4m.specs.declared.head.DeepHead.{DeepHead}
 
--- planes of red, green and blue, of so many places each
+-- planes of red, green and blue, of so many bytes each
 pub record AreColours (size : ℕ) (planes : List (List ℕ)) : Type 0 where
   pub red : List ℕ
   pub green : List ℕ
@@ -18,47 +18,54 @@ pub record AreColours (size : ℕ) (planes : List (List ℕ)) : Type 0 where
   pub green_long : length green ≡ size
   pub blue_long : length blue ≡ size
 
-abbrev pub AllColours : ℕ → List (List (List ℕ)) → Type 0
-AllColours size [] = Unit {0}
-AllColours size (p ∷ ps) = AreColours size p × AllColours size ps
+-- images of so many bytes a plane, with samples below 2 ^ depth
+abbrev pub AllColours : ℕ → ℕ → List (List (List ℕ)) → Type 0
+AllColours depth size [] = Unit {0}
+AllColours depth size (p ∷ ps) =
+    (AreColours size p × AreInDepth depth p) × AllColours depth size ps
 
 -- the samples of an image
-abbrev pub samples_text : List (List ℕ) → List ℕ
-samples_text [] = []
-samples_text (red ∷ []) = []
-samples_text (red ∷ green ∷ []) = []
-samples_text (red ∷ green ∷ blue ∷ more) = interleaved red green blue
+abbrev pub samples_text : ℕ → List (List ℕ) → List ℕ
+samples_text depth [] = []
+samples_text depth (red ∷ []) = []
+samples_text depth (red ∷ green ∷ []) = []
+samples_text depth (red ∷ green ∷ blue ∷ more) = interleaved depth red green blue
 
 -- the text of an image: its header and its samples
-abbrev pub image_text : ℕ → ℕ → List (List ℕ) → List ℕ
-image_text width height planes = image_header_text width height ++ samples_text planes
+abbrev pub image_text : ℕ → ℕ → ℕ → List (List ℕ) → List ℕ
+image_text depth width height planes =
+    image_header_text depth width height ++ samples_text depth planes
 
--- a text is these images of these sizes
-pub record IsImages (text : List ℕ) (width height : ℕ)
+-- a text is these images of this depth and these sizes
+pub record IsImages (text : List ℕ) (depth width height : ℕ)
     (images : List (List (List ℕ))) : Type 0 where
   pub sized : IsSized (colour_head width height)
-  pub whole : text ≡ flat_map (image_text width height) images
-  pub fit : AllColours (width * height) images
+  pub named : IsNamed depth (colour_head width height)
+  pub whole : text ≡ flat_map (image_text depth width height) images
+  pub fit : AllColours depth (bytes_for depth (width * height)) images
 
--- reading image after image gives these and then the end
-abbrev pub ReadsImages : VideoHead → List ℕ → List (List (List ℕ)) → Type 0
-ReadsImages h text [] = image_read h false text ≡ Ok (None, [])
-ReadsImages h text (p ∷ ps) =
-    (rest : List ℕ) × (image_read h false text ≡ Ok (Some p, rest)) × ReadsImages h rest ps
+-- reading image after image gives these and then the end; depths up to `most` are read
+abbrev pub ReadsImages : ℕ → DeepHead → List ℕ → List (List (List ℕ)) → Type 0
+ReadsImages most h text [] = image_read most h false text ≡ Ok (None, [])
+ReadsImages most h text (p ∷ ps) =
+    (rest : List ℕ) × (image_read most h false text ≡ Ok (Some p, rest))
+    × ReadsImages most h rest ps
 
 -- the same where the header of the first image was read before
-abbrev pub ReadsFrom : VideoHead → List ℕ → List (List ℕ) → List (List (List ℕ)) → Type 0
-ReadsFrom h text p ps =
-    (rest : List ℕ) × (image_read h true text ≡ Ok (Some p, rest)) × ReadsImages h rest ps
+abbrev pub ReadsFrom : ℕ → DeepHead → List ℕ → List (List ℕ) → List (List (List ℕ)) → Type 0
+ReadsFrom most h text p ps =
+    (rest : List ℕ) × (image_read most h true text ≡ Ok (Some p, rest))
+    × ReadsImages most h rest ps
 
--- the lines of rows of an image, from this row on: red, green and blue of each
+-- the lines of rows of an image, of so many bytes each, from this row on: red, green and blue of
+-- each
 abbrev pub image_lines : ℕ → ℕ → ℕ → List ℕ → List ℕ → List ℕ → List Line
-image_lines width row zero red green blue = []
-image_lines width row (suc more) red green blue =
-    (record { plane = 0; row = row; samples = take width red })
-    ∷ (record { plane = 1; row = row; samples = take width green })
-    ∷ (record { plane = 2; row = row; samples = take width blue })
-    ∷ image_lines width (suc row) more (drop width red) (drop width green) (drop width blue)
+image_lines size row zero red green blue = []
+image_lines size row (suc more) red green blue =
+    (record { plane = 0; row = row; samples = take size red })
+    ∷ (record { plane = 1; row = row; samples = take size green })
+    ∷ (record { plane = 2; row = row; samples = take size blue })
+    ∷ image_lines size (suc row) more (drop size red) (drop size green) (drop size blue)
 
 -- a sink that has taken whole images
 pub record AtImage {W : Type 0} (s : PpmSink W) : Type 0 where
@@ -68,11 +75,11 @@ pub record AtImage {W : Type 0} (s : PpmSink W) : Type 0 where
 
 -- what lines make a sink write, one after the other, by the lines that wait and the row that comes
 -- next
-abbrev pub text_of_lines : ℕ → ℕ → List (List ℕ) → ℕ → List Line → List ℕ
-text_of_lines width height kept row [] = []
-text_of_lines width height kept row (l ∷ ls) =
-    text_with width height row kept l.samples
-    ++ text_of_lines width height (kept_behind kept l.samples) (row_with height row kept) ls
+abbrev pub text_of_lines : ℕ → ℕ → ℕ → List (List ℕ) → ℕ → List Line → List ℕ
+text_of_lines depth width height kept row [] = []
+text_of_lines depth width height kept row (l ∷ ls) =
+    text_with depth width height row kept l.samples
+    ++ text_of_lines depth width height (kept_behind kept l.samples) (row_with height row kept) ls
 
 -- where the lines of an image stand: red, green and blue of each row
 abbrev pub image_places : ℕ → List (ℕ × ℕ)

@@ -4,14 +4,15 @@ use Rattle.std.specs.Prelude.{List, [], ◌∷◌, ◌++◌, length, take, Optio
 use Rattle.std.specs.Io.KnownBytes.{Appends}
 use Rattle.ffv1_wire.specs.Failures.{one_more}
 use Rattle.ffv1_wire.specs.Writes.{AppendsBeginning}
-use Rattle.ffv1_y4m.specs.Ppm.{image_header_text, interleaved}
+use Rattle.ffv1_y4m.specs.Ppm.{bytes_for, image_header_text, interleaved}
 
--- a sink: its writer, the sizes of its images, the lines of its row that wait for those after
--- them, the row, whether a write has failed, and how many lines were refused
+-- a sink: its writer, the sizes of its images, the depth, the lines of its row that wait for those
+-- after them, the row, whether a write has failed, and how many lines were refused
 pub record PpmSink (W : Type 0) : Type 0 where
   pub out : W
   pub width : ℕ
   pub height : ℕ
+  pub depth : ℕ
   pub kept : List (List ℕ)
   pub row : ℕ
   pub failed : Bool
@@ -23,29 +24,31 @@ kept_of plane red green =
     if plane == 0 then [] else if plane == 1 then red ∷ [] else red ∷ green ∷ []
 
 -- the line is the one that comes next: red, green, blue of each row, the rows from the top, one
--- image after the other
+-- image after the other; it has the bytes of a row of samples
 abbrev pub IsNext : {W : Type 0} → PpmSink W → ℕ → ℕ → List ℕ → Type 0
 IsNext s plane row samples =
-    (s.failed ≡ false) × (plane ≡ length s.kept) × (row ≡ s.row) × (length samples ≡ s.width)
+    (s.failed ≡ false) × (plane ≡ length s.kept) × (row ≡ s.row)
+    × (length samples ≡ bytes_for s.depth s.width)
 
 -- the row after a row of an image
 abbrev pub row_behind : ℕ → ℕ → ℕ
 row_behind height row = if nat_lt (row + 1) height then row + 1 else 0
 
 -- the text of a row, and before the first row of an image its header
-abbrev pub row_text : ℕ → ℕ → ℕ → List ℕ → List ℕ → List ℕ → List ℕ
-row_text width height row red green blue =
-    (if row == 0 then image_header_text width height else []) ++ interleaved red green blue
+abbrev pub row_text : ℕ → ℕ → ℕ → ℕ → List ℕ → List ℕ → List ℕ → List ℕ
+row_text depth width height row red green blue =
+    (if row == 0 then image_header_text depth width height else [])
+    ++ interleaved depth red green blue
 
 -- what a line makes the sink write: a blue one the whole row
-abbrev pub text_with : ℕ → ℕ → ℕ → List (List ℕ) → List ℕ → List ℕ
-text_with width height row [] samples = []
-text_with width height row (red ∷ []) samples = []
-text_with width height row (red ∷ green ∷ more) samples =
-    row_text width height row red green samples
+abbrev pub text_with : ℕ → ℕ → ℕ → ℕ → List (List ℕ) → List ℕ → List ℕ
+text_with depth width height row [] samples = []
+text_with depth width height row (red ∷ []) samples = []
+text_with depth width height row (red ∷ green ∷ more) samples =
+    row_text depth width height row red green samples
 
 abbrev pub line_text : {W : Type 0} → PpmSink W → List ℕ → List ℕ
-line_text s samples = text_with s.width s.height s.row s.kept samples
+line_text s samples = text_with s.depth s.width s.height s.row s.kept samples
 
 -- the lines that are kept after a line, and the row that comes next
 abbrev pub kept_behind : List (List ℕ) → List ℕ → List (List ℕ)

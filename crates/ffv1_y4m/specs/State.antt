@@ -3,6 +3,7 @@ use Rattle.std.specs.Prelude.{◌≡◌, ℕ, Bool, true, false, List, map, Opti
 use Rattle.std.specs.Prelude.{Err, [], ◌∷◌, ◌≤◌}
 use Rattle.std.specs.declared.vec.Vec.{Vec}
 use Rattle.std.specs.Vec.{vec_capacity}
+use Rattle.ffv1_y4m.specs.declared.head.DeepHead.{DeepHead}
 use Rattle.ffv1_y4m.specs.declared.head.VideoHead.{VideoHead}
 use Rattle.ffv1_y4m.specs.declared.fault.Fault.{Fault}
 use Rattle.ffv1_y4m.specs.declared.fault.Fault.TheVariants as fault
@@ -11,17 +12,28 @@ use Rattle.ffv1_y4m.specs.Reads.{Answers}
 use Rattle.ffv1_y4m.specs.Sequence.{Reading}
 use Rattle.ffv1_y4m.specs.VideoHead.{IsSized, colour_head}
 
--- a reader of YUV4MPEG2: the head that it read, and the fault that it met
+-- a reader of YUV4MPEG2: the head that it read, the depth, and the fault that it met
 pub record Y4mReading : Type 0 where
   pub head : VideoHead
+  pub depth : ℕ
   pub failed : Option Fault
 
--- a reader of PPM: the head that it read, whether the samples of an image come next, and the fault
--- that it met
+-- a reader of PPM: the greatest depth that it reads, the head that it read, the depth, whether the
+-- samples of an image come next, and the fault that it met
 pub record PpmReading : Type 0 where
+  pub most : ℕ
   pub head : VideoHead
+  pub depth : ℕ
   pub begun : Bool
   pub failed : Option Fault
+
+-- what a reader's header says
+abbrev pub said_by : Y4mReading → DeepHead
+said_by r = record { head = r.head; depth = r.depth }
+
+-- what an image's header says
+abbrev pub image_said : PpmReading → DeepHead
+image_said r = record { head = r.head; depth = r.depth }
 
 -- the samples of planes
 abbrev pub samples_of : {A : Type 0} → List (Vec ℕ A) → List (List ℕ)
@@ -98,6 +110,7 @@ IsPictureFault fault.OutOfMemory = Unit {0}
 IsPictureFault fault.Read = Unit {0}
 IsPictureFault fault.FrameLine = Unit {0}
 IsPictureFault fault.FrameTruncated = Unit {0}
+IsPictureFault fault.SampleTooLarge = Unit {0}
 IsPictureFault f = ⊥
 
 -- the faults of an image of PPM
@@ -106,5 +119,6 @@ IsImageFault fault.OutOfMemory = Unit {0}
 IsImageFault fault.Read = Unit {0}
 IsImageFault fault.Header = Unit {0}
 IsImageFault fault.FrameTruncated = Unit {0}
+IsImageFault fault.SampleTooLarge = Unit {0}
 IsImageFault fault.FormatChanged = Unit {0}
 IsImageFault f = ⊥

@@ -1,6 +1,8 @@
 -- The head of a stream of pictures, and the planes of its pictures.
 use Rattle.std.specs.Prelude.{◌≡◌, ℕ, zero, suc, ◌+◌, ◌-◌, ◌*◌, ◌/◌, ◌^◌, ◌≤◌, ◌==◌, if◌then◌else◌}
-use Rattle.std.specs.Prelude.{List, [], ◌∷◌, length, map, Bool, true, false}
+use Rattle.std.specs.Prelude.{List, [], ◌∷◌, length, map, Bool, true, false, not, nat_lt}
+use Rattle.std.specs.Prelude.{◌&&◌, ◌||◌}
+use Rattle.ffv1_samples.specs.Samples.{are_in_depth}
 use Rattle.ffv1_y4m.specs.declared.head.VideoHead.{VideoHead}
 
 -- a size of a chroma plane: rounded up
@@ -17,9 +19,18 @@ plane_sizes h =
     ∷ (if h.extra_plane then (h.width * h.height) ∷ [] else [])
     else [])
 
+-- how many bytes each plane of a picture has: at a depth of 8 one a sample, else two
+abbrev pub plane_bytes : ℕ → VideoHead → List ℕ
+plane_bytes depth h = if depth == 8 then plane_sizes h else map (λ size. 2 * size) (plane_sizes h)
+
 -- planes have the sizes that the head says
-abbrev pub Fits : VideoHead → List (List ℕ) → Type 0
-Fits h planes = map (λ p. length p) planes ≡ plane_sizes h
+abbrev pub Fits : ℕ → VideoHead → List (List ℕ) → Type 0
+Fits depth h planes = map (λ p. length p) planes ≡ plane_bytes depth h
+
+-- each sample of these planes is below 2 ^ depth
+abbrev pub AreInDepth : ℕ → List (List ℕ) → Type 0
+AreInDepth depth [] = Unit {0}
+AreInDepth depth (p ∷ ps) = (are_in_depth depth p ≡ true) × AreInDepth depth ps
 
 -- the sizes of a head: 1 to 8192
 pub record IsSized (h : VideoHead) : Type 0 where
@@ -50,6 +61,24 @@ is_chroma planes log2_h log2_v extra = false
 
 abbrev pub IsChroma : Bool → ℕ → ℕ → Bool → Type 0
 IsChroma planes log2_h log2_v extra = is_chroma planes log2_h log2_v extra ≡ true
+
+-- the depths above 8 that have a name, of chroma planes or of none
+abbrev pub has_depth_name : Bool → ℕ → Bool
+has_depth_name planes depth =
+    depth == 9 || (depth == 10 || (depth == 12 || (depth == 16 || (planes && depth == 14))))
+
+-- the chroma and depths that have a name: at 8 bits each chroma, above it 4:2:0, 4:2:2, 4:4:4 and
+-- none, without transparency
+abbrev pub is_named : ℕ → Bool → ℕ → ℕ → Bool → Bool
+is_named depth planes log2_h log2_v extra =
+    is_chroma planes log2_h log2_v extra
+    && (depth == 8 || (has_depth_name planes depth && (not extra && nat_lt log2_h 2)))
+
+-- the chroma of a head has a name at this depth
+pub record IsNamed (depth : ℕ) (h : VideoHead) : Type 0 where
+  pub least : 8 ≤ depth
+  pub most : depth ≤ 16
+  pub name : is_named depth h.chroma_planes h.log2_h h.log2_v h.extra_plane ≡ true
 
 -- a head as it is read: sizes, numbers, chroma that has a name
 pub record IsHead (h : VideoHead) : Type 0 where

@@ -8,9 +8,11 @@ use Rattle.ffv1_y4m.specs.declared.head.VideoHead.{VideoHead}
 use Rattle.ffv1_y4m.specs.declared.fault.Fault.{Fault}
 use Rattle.ffv1_y4m.specs.declared.fault.Fault.TheVariants as fault
 
--- a writer of YUV4MPEG2: its head, whether the header is written, and whether a write has failed
+-- a writer of YUV4MPEG2: its head, the depth, whether the header is written, and whether a write
+-- has failed
 pub record Y4mWriting : Type 0 where
   pub head : VideoHead
+  pub depth : ℕ
   pub begun : Bool
   pub failed : Bool
 

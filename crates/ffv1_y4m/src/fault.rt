@@ -36,7 +36,10 @@ pub enum Fault {
     /// The input ends inside the line that begins a picture, or inside samples.
     #[error("64 FrameTruncated")]
     FrameTruncated,
-    /// A later image has another size than the first.
+    /// A sample is 2 ^ depth or more.
+    #[error("65 SampleTooLarge")]
+    SampleTooLarge,
+    /// A later image has another size or another depth than the first.
     #[error("71 FormatChanged")]
     FormatChanged,
 }

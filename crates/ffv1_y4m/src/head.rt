@@ -26,3 +26,11 @@ pub struct VideoHead {
     /// Whether there is a plane of transparency.
     pub extra_plane: bool,
 }
+
+/// A head, and the depth of its samples.
+#[derive(Clone, Copy)]
+pub(crate) struct DeepHead {
+    pub(crate) head: VideoHead,
+    /// In bits a sample: 8, 9, 10, 12, 14 or 16.
+    pub(crate) depth: u32,
+}

@@ -1,13 +1,13 @@
 //! Laws of texts.
 
 ghost use Rattle.std.specs.Prelude.{◌≡◌, ℕ, ◌≤◌, ◌*◌, List, [], ◌∷◌, ◌++◌, length, flat_map, true};
-ghost use Rattle.std.specs.Prelude.{false, Ok};
+ghost use Rattle.std.specs.Prelude.{codes, decimal, false, Ok};
 ghost use Rattle.ffv1_y4m.specs.declared.head.VideoHead.{VideoHead};
 ghost use Rattle.ffv1_y4m.specs.Header.{head_of_line, header_of};
 ghost use Rattle.ffv1_y4m.specs.HeaderLine.{IsHeaderLine};
 ghost use Rattle.ffv1_y4m.specs.Text.{AllFit, IsText, ReadsAll};
 ghost use Rattle.ffv1_y4m.specs.Canonical.{canonical_text, next_text};
-ghost use Rattle.ffv1_y4m.specs.VideoHead.{Fits, IsHead, colour_head, plane_sizes};
+ghost use Rattle.ffv1_y4m.specs.VideoHead.{Fits, IsHead, IsNamed, colour_head, plane_bytes};
 ghost use Rattle.ffv1_y4m.specs.State.{HasRoom, samples_of};
 ghost use Rattle.std.specs.declared.vec.Vec.{Vec};
 ghost use Rattle.ffv1_y4m.specs.Images.{AtImage, image_lines, image_text, IsImages, ReadsFrom};
@@ -17,65 +17,91 @@ ghost use Rattle.ffv1_wire.specs.Failures.{one_more};
 ghost use Rattle.ffv1_wire.specs.Runs.{Grows, Line, Refuses as RunRefuses, places_in};
 ghost use Rattle.ffv1_wire.specs.Writes.{AppendsBeginning};
 ghost use Rattle.std.specs.Io.KnownBytes.{Appends};
-ghost use Rattle.ffv1_y4m.specs.Ppm.{image_header};
+ghost use Rattle.ffv1_y4m.specs.Ppm.{bytes_for, image_header, image_header_text};
 
 use ffv1_wire::ByteOut;
 use std::alloc::Allocator;
 
-/// A line is read as the head that it says, and what is read so says that head.
+/// A line is read as the depth and the head that it says, where depths up to that one are read, and
+/// what is read so says that depth and that head.
 pub fn header_lines()
-    ensures found { (line : List ℕ) (h : VideoHead) → IsHeaderLine line h →
-        head_of_line line ≡ Ok h }
-    ensures only { (line : List ℕ) (h : VideoHead) → head_of_line line ≡ Ok h →
-        IsHeaderLine line h }
+    ensures found { (line : List ℕ) (most depth : ℕ) (h : VideoHead) → IsHeaderLine line depth h →
+        depth ≤ most → head_of_line most line ≡ Ok (record { head = h; depth = depth }) }
+    ensures only { (line : List ℕ) (most depth : ℕ) (h : VideoHead) →
+        head_of_line most line ≡ Ok (record { head = h; depth = depth }) →
+        IsHeaderLine line depth h × (8 ≤ most → depth ≤ most) }
 {}
 
 /// A head that a line says has sizes, numbers and chroma that are read here.
 pub fn said_heads()
-    ensures { (line : List ℕ) (h : VideoHead) → IsHeaderLine line h → IsHead h }
+    ensures { (line : List ℕ) (depth : ℕ) (h : VideoHead) → IsHeaderLine line depth h → IsHead h }
 {}
 
-/// A text is read as its head and its pictures, and what is read so is such a text; the canonical
-/// text of a head and of pictures that fit it is one, so it reads back as them, and it is what a
-/// writer writes of them, picture by picture.
+/// A head that a line says has chroma that has a name at the depth that it says.
+pub fn said_depths()
+    ensures { (line : List ℕ) (depth : ℕ) (h : VideoHead) → IsHeaderLine line depth h →
+        IsNamed depth h }
+{}
+
+/// A text is read as its depth, its head and its pictures, where depths up to that one are read,
+/// and what is read so is such a text; the canonical text of a head and of pictures that fit it is
+/// one, so it reads back as them, and it is what a writer writes of them, picture by picture.
 pub fn texts()
-    ensures found { (text : List ℕ) (h : VideoHead) (pictures : List (List (List ℕ))) →
-        IsText text h pictures →
-        (rest : List ℕ) × (header_of text ≡ Ok (h, rest)) × ReadsAll h rest pictures }
-    ensures only { (text : List ℕ) (h : VideoHead) (rest : List ℕ)
-        (pictures : List (List (List ℕ))) → header_of text ≡ Ok (h, rest) →
-        ReadsAll h rest pictures → IsText text h pictures }
-    ensures canonical { (h : VideoHead) (pictures : List (List (List ℕ))) → IsHead h →
-        AllFit h pictures → IsText (canonical_text h pictures) h pictures }
-    ensures back { (h : VideoHead) (pictures : List (List (List ℕ))) → IsHead h →
-        AllFit h pictures →
-        (rest : List ℕ) × (header_of (canonical_text h pictures) ≡ Ok (h, rest))
-        × ReadsAll h rest pictures }
-    ensures written { (h : VideoHead) (picture : List (List ℕ)) (pictures : List (List (List ℕ))) →
-        next_text h false picture ++ flat_map (next_text h true) pictures
-        ≡ canonical_text h (picture ∷ pictures) }
+    ensures found { (text : List ℕ) (most depth : ℕ) (h : VideoHead)
+        (pictures : List (List (List ℕ))) → IsText text depth h pictures → depth ≤ most →
+        (rest : List ℕ) × (header_of most text ≡ Ok (record { head = h; depth = depth }, rest))
+        × ReadsAll depth h rest pictures }
+    ensures only { (text : List ℕ) (most depth : ℕ) (h : VideoHead) (rest : List ℕ)
+        (pictures : List (List (List ℕ))) →
+        header_of most text ≡ Ok (record { head = h; depth = depth }, rest) →
+        ReadsAll depth h rest pictures → IsText text depth h pictures }
+    ensures canonical { (depth : ℕ) (h : VideoHead) (pictures : List (List (List ℕ))) → IsHead h →
+        IsNamed depth h → AllFit depth h pictures →
+        IsText (canonical_text depth h pictures) depth h pictures }
+    ensures back { (most depth : ℕ) (h : VideoHead) (pictures : List (List (List ℕ))) → IsHead h →
+        IsNamed depth h → AllFit depth h pictures → depth ≤ most →
+        (rest : List ℕ)
+        × (header_of most (canonical_text depth h pictures)
+        ≡ Ok (record { head = h; depth = depth }, rest)) × ReadsAll depth h rest pictures }
+    ensures written { (depth : ℕ) (h : VideoHead) (picture : List (List ℕ))
+        (pictures : List (List (List ℕ))) →
+        next_text depth h false picture ++ flat_map (next_text depth h true) pictures
+        ≡ canonical_text depth h (picture ∷ pictures) }
 {}
 
-/// A text of images is read as the head of its sizes and its images, and what is read so is such a
-/// text.
+/// A text of images is read as the head of its sizes, its depth and its images, where depths up to
+/// that one are read, and what is read so is such a text.
 pub fn images()
-    ensures found { (text : List ℕ) (width height : ℕ) (image : List (List ℕ))
-        (images : List (List (List ℕ))) → IsImages text width height (image ∷ images) →
-        (rest : List ℕ) × (image_header text ≡ Ok (colour_head width height, rest))
-        × ReadsFrom (colour_head width height) rest image images }
-    ensures only { (text : List ℕ) (head : VideoHead) (rest : List ℕ) (image : List (List ℕ))
-        (images : List (List (List ℕ))) → image_header text ≡ Ok (head, rest) →
-        ReadsFrom head rest image images → IsImages text head.width head.height (image ∷ images) }
+    ensures found { (text : List ℕ) (most depth width height : ℕ) (image : List (List ℕ))
+        (images : List (List (List ℕ))) → IsImages text depth width height (image ∷ images) →
+        depth ≤ most →
+        (rest : List ℕ)
+        × (image_header most text
+        ≡ Ok (record { head = colour_head width height; depth = depth }, rest))
+        × ReadsFrom most (record { head = colour_head width height; depth = depth }) rest image
+        images }
+    ensures only { (text : List ℕ) (most depth : ℕ) (head : VideoHead) (rest : List ℕ)
+        (image : List (List ℕ)) (images : List (List (List ℕ))) →
+        image_header most text ≡ Ok (record { head = head; depth = depth }, rest) →
+        ReadsFrom most (record { head = head; depth = depth }) rest image images →
+        IsImages text depth head.width head.height (image ∷ images) }
+{}
+
+/// At 8 bits the third line of an image's header is 255.
+pub fn image_headers()
+    ensures eight { (width height : ℕ) → image_header_text 8 width height
+        ≡ codes "P6\n" ++ decimal width ++ codes " " ++ decimal height ++ codes "\n255\n" }
 {}
 
 /// A sink that has taken whole images and takes the lines of one more has written its text after
 /// the others, and again has taken whole images.
 pub fn image_runs<W: ByteOut>()
     ensures image { (red green blue : List ℕ) (s t : PpmSink W) → 1 ≤ s.height → AtImage s →
-        length red ≡ s.height * s.width →
-        Grows (Takes W.contents W.failures) s (image_lines s.width 0 s.height red green blue) t →
+        length red ≡ s.height * bytes_for s.depth s.width →
+        Grows (Takes W.contents W.failures) s
+        (image_lines (bytes_for s.depth s.width) 0 s.height red green blue) t →
         Appends (W.contents s.out) (W.contents t.out)
-        (image_text s.width s.height (red ∷ green ∷ blue ∷ [])) × AtImage t
+        (image_text s.depth s.width s.height (red ∷ green ∷ blue ∷ [])) × AtImage t
         × (t.failures ≡ s.failures) }
 {}
 
@@ -85,11 +111,11 @@ pub fn line_runs<W: ByteOut>()
     ensures taken { (s t : PpmSink W) (lines : List Line) →
         Grows (Takes W.contents W.failures) s lines t →
         Appends (W.contents s.out) (W.contents t.out)
-        (text_of_lines s.width s.height s.kept s.row lines) }
+        (text_of_lines s.depth s.width s.height s.kept s.row lines) }
     ensures refused { (s t : PpmSink W) (lines : List Line) →
         RunRefuses (Takes W.contents W.failures) (Refuses W.contents W.failures) s lines t →
         WritesPart (W.contents s.out) (W.contents t.out)
-        (text_of_lines s.width s.height s.kept s.row lines) }
+        (text_of_lines s.depth s.width s.height s.kept s.row lines) }
 {}
 
 /// A sink that has taken whole images and then a beginning of the lines of one more, each in its
@@ -98,11 +124,14 @@ pub fn line_runs<W: ByteOut>()
 pub fn next_lines<W: ByteOut>()
     ensures next { (s t : PpmSink W) (lines : List Line) (p y : ℕ) (samples : List ℕ)
         (rest : List (ℕ × ℕ)) → AtImage s → Grows (Takes W.contents W.failures) s lines t →
-        places_in lines ++ ((p, y) ∷ rest) ≡ image_places s.height → length samples ≡ s.width →
-        IsNext t p y samples × (t.width ≡ s.width) × (t.height ≡ s.height) }
+        places_in lines ++ ((p, y) ∷ rest) ≡ image_places s.height →
+        length samples ≡ bytes_for s.depth s.width →
+        IsNext t p y samples × (t.width ≡ s.width) × (t.height ≡ s.height)
+        × (t.depth ≡ s.depth) }
     ensures refused { (s t u : PpmSink W) (lines : List Line) (p y : ℕ) (samples : List ℕ)
         (rest : List (ℕ × ℕ)) → AtImage s → Grows (Takes W.contents W.failures) s lines t →
-        places_in lines ++ ((p, y) ∷ rest) ≡ image_places s.height → length samples ≡ s.width →
+        places_in lines ++ ((p, y) ∷ rest) ≡ image_places s.height →
+        length samples ≡ bytes_for s.depth s.width →
         Refuses W.contents W.failures t p y samples u →
         AppendsBeginning (W.contents t.out) (W.contents u.out) (line_text t samples)
         × (W.failures u.out ≡ one_more (W.failures t.out)) }
@@ -112,16 +141,17 @@ pub fn next_lines<W: ByteOut>()
 
 /// The lines of an image stand in its order, and what they make a sink write is its text.
 pub fn lines_of_images()
-    ensures places { (width height : ℕ) (red green blue : List ℕ) →
-        places_in (image_lines width 0 height red green blue) ≡ image_places height }
-    ensures text { (width height : ℕ) (red green blue : List ℕ) → 1 ≤ height →
-        length red ≡ height * width →
-        text_of_lines width height [] 0 (image_lines width 0 height red green blue)
-        ≡ image_text width height (red ∷ green ∷ blue ∷ []) }
+    ensures places { (size height : ℕ) (red green blue : List ℕ) →
+        places_in (image_lines size 0 height red green blue) ≡ image_places height }
+    ensures text { (depth width height : ℕ) (red green blue : List ℕ) → 1 ≤ height →
+        length red ≡ height * bytes_for depth width →
+        text_of_lines depth width height [] 0
+        (image_lines (bytes_for depth width) 0 height red green blue)
+        ≡ image_text depth width height (red ∷ green ∷ blue ∷ []) }
 {}
 
 /// Planes that were read have room for planes of the same sizes.
 pub fn rooms<A: Allocator>()
-    ensures left { (h : VideoHead) (planes : List (Vec ℕ A)) → Fits h (samples_of planes) →
-        HasRoom (plane_sizes h) planes }
+    ensures left { (depth : ℕ) (h : VideoHead) (planes : List (Vec ℕ A)) →
+        Fits depth h (samples_of planes) → HasRoom (plane_bytes depth h) planes }
 {}

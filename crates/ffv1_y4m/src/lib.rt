@@ -4,9 +4,11 @@
 //! `Y4mReader::open` and `PpmReader::open` read a header, which `head` then tells as a `VideoHead`;
 //! each `next` reads one picture into planes, whose memory is taken once, and answers false at the
 //! end of the text. A reader holds no input, each call is lent the same one. `Y4mWriter` writes
-//! pictures as the canonical text; `PpmWriter` is a sink of lines, and owns its writer. `Fault`
-//! says why a text could not be read or written. The test `example` of `ffv1_tests` runs these
-//! lines:
+//! pictures as the canonical text; `PpmWriter` is a sink of lines, and owns its writer.
+//! `Y4mReader::open_deep`, `PpmReader::open_deep`, `Y4mWriter::at_depth` and `PpmWriter::sized_at`
+//! take samples of up to 16 bits, which are two bytes each above 8 bits, the low byte first in
+//! planes, lines and YUV4MPEG2, the high byte first in PPM. `Fault` says why a text could not be
+//! read or written. The test `example` of `ffv1_tests` runs these lines:
 //!
 //! ```text
 //! let mut reader = Y4mReader::open(rt.alloc(), None, &mut input)?;
@@ -21,6 +23,7 @@
 mod fault;
 mod head;
 pub mod laws;
+mod pairs;
 mod planes;
 mod ppm_reader;
 mod ppm_reading;
@@ -34,7 +37,7 @@ mod y4m_writer;
 
 pub use fault::Fault;
 pub use head::VideoHead;
-pub use planes::{has_chroma_name, plane_count, plane_size};
+pub use planes::{has_chroma_name, has_chroma_name_at, plane_bytes, plane_count, plane_size};
 pub use ppm_reader::PpmReader;
 pub use ppm_writer::PpmWriter;
 pub use y4m_reader::Y4mReader;

@@ -7,12 +7,13 @@ ghost use Rattle.ffv1_y4m.specs.Pictures.{GrowsBeforePlane, GrowsInPicture, plan
 ghost use Rattle.ffv1_y4m.specs.Pictures.{picture_read};
 ghost use Rattle.ffv1_y4m.specs.Reads.{Stands, seen};
 ghost use Rattle.ffv1_y4m.specs.State.{HasRoom, IsPictureFault, NoWant, OnFault, samples_of, shown};
-ghost use Rattle.ffv1_y4m.specs.VideoHead.{Fits, is_chroma, IsSized, IsReduced, plane_sizes};
-ghost use Rattle.ffv1_y4m.specs.VideoHead.{reduced};
+ghost use Rattle.ffv1_y4m.specs.VideoHead.{AreInDepth, Fits, IsReduced, IsSized, has_depth_name};
+ghost use Rattle.ffv1_y4m.specs.VideoHead.{is_chroma, is_named, plane_bytes, plane_sizes, reduced};
 
 use crate::fault::Fault;
 use crate::head::VideoHead;
 use crate::reading::{read_frame_line, read_plane};
+use ffv1_samples::sample_bytes;
 use ffv1_wire::ByteIn;
 use std::alloc::{AllocError, Allocator};
 
@@ -46,7 +47,8 @@ pub fn plane_size(head: &VideoHead, plane: usize) -> usize
     requires plane { plane < length (plane_sizes head.now) }
     requires sized { IsSized head.now }
     requires factors { IsReduced head.now }
-    ensures { result ≡ get_or (plane_sizes head.now) plane 0 }
+    ensures value { result ≡ get_or (plane_sizes head.now) plane 0 }
+    ensures most { result ≤ 67108864 }
 {
     match plane {
         1 | 2 => {
@@ -56,6 +58,44 @@ pub fn plane_size(head: &VideoHead, plane: usize) -> usize
         }
         _ => head.width as usize * head.height as usize,
     }
+}
+
+/// How many bytes a plane of a picture has at this depth: Y, Cb, Cr, transparency.
+pub fn plane_bytes(head: &VideoHead, depth: u32, plane: usize) -> usize
+    requires plane { plane < length (plane_sizes head.now) }
+    requires sized { IsSized head.now }
+    requires factors { IsReduced head.now }
+    ensures { result ≡ get_or (plane_bytes depth head.now) plane 0 }
+{
+    sample_bytes(depth) * plane_size(head, plane)
+}
+
+/// Whether the depth has a name above 8 bits, of chroma planes or of none.
+pub(crate) fn has_depth_name(planes: bool, depth: u32) -> bool
+    ensures { result ≡ has_depth_name planes depth }
+{
+    match depth {
+        9 | 10 | 12 | 16 => true,
+        14 => planes,
+        _ => false,
+    }
+}
+
+/// Whether YUV4MPEG2 has a name for the chroma at this depth: at 8 bits as `has_chroma_name`; at
+/// 9, 10, 12, 14 and 16 bits for 4:2:0, 4:2:2 and 4:4:4 without transparency, and for none but at
+/// 14; at no other depth.
+pub fn has_chroma_name_at(head: &VideoHead, depth: u32) -> bool
+    ensures named { result ≡ is_named depth head.now.chroma_planes head.now.log2_h head.now.log2_v
+        head.now.extra_plane }
+    ensures depth { result ≡ true → (8 ≤ depth) × (depth ≤ 16) }
+{
+    if !has_chroma_name(head) {
+        return false;
+    }
+    if depth == 8 {
+        return true;
+    }
+    has_depth_name(head.chroma_planes, depth) && !head.extra_plane && head.log2_h < 2
 }
 
 /// Whether YUV4MPEG2 has a name for the chroma: 4:2:0, 4:2:2, 4:4:4 with transparency or without,
@@ -93,22 +133,27 @@ pub(crate) fn lend_planes<A: Allocator + Copy>(
 /// Reads the planes of a picture in place of what the vectors had.
 fn read_planes<R: ByteIn, A: Allocator>(
     head: &VideoHead,
+    depth: u32,
     input: &mut R,
     planes: &mut Vec<Vec<u8, A>, A>,
 ) -> Result<(), Fault>
     requires many { length planes.old.items ≡ length (plane_sizes head.now) }
     requires sized { IsSized head.now }
     requires factors { IsReduced head.now }
-    ensures answer { Stands (planes_read (plane_sizes head.now))
-        (GrowsBeforePlane (plane_sizes head.now))
+    requires least { 8 ≤ depth }
+    requires most { depth ≤ 16 }
+    ensures answer { Stands (planes_read depth (plane_bytes depth head.now))
+        (GrowsBeforePlane depth (plane_bytes depth head.now))
         (passage R.remaining R.failures input.old input.new)
         (seen (λ (_ : Unit {0}). samples_of planes.new.items) result) }
     ensures own { OnFault IsPictureFault result }
-    ensures fits { OnOk result (Fits head.now (samples_of planes.new.items)) }
-    ensures room { HasRoom (plane_sizes head.now) planes.old.items → NoWant result }
+    ensures fits { OnOk result (Fits depth head.now (samples_of planes.new.items)) }
+    ensures depth { OnOk result (AreInDepth depth (samples_of planes.new.items)) }
+    ensures room { HasRoom (plane_bytes depth head.now) planes.old.items → NoWant result }
 {
     for plane in 0..planes.len() {
-        read_plane(input, &mut planes[plane], plane_size(head, plane))?;
+        let size = plane_bytes(head, depth, plane);
+        read_plane(depth, input, &mut planes[plane], size)?;
     }
     Ok(())
 }
@@ -117,23 +162,29 @@ fn read_planes<R: ByteIn, A: Allocator>(
 pub(crate) fn read_picture<R: ByteIn, A: Allocator + Copy>(
     alloc: A,
     head: &VideoHead,
+    depth: u32,
     input: &mut R,
     planes: &mut Vec<Vec<u8, A>, A>,
 ) -> Result<bool, Fault>
     requires sized { IsSized head.now }
     requires factors { IsReduced head.now }
-    ensures answer { Stands (picture_read head.now) (GrowsInPicture head.now)
+    requires least { 8 ≤ depth }
+    requires most { depth ≤ 16 }
+    ensures answer { Stands (picture_read depth head.now) (GrowsInPicture depth head.now)
         (passage R.remaining R.failures input.old input.new)
         (seen (shown planes.new.items) result) }
     ensures own { OnFault IsPictureFault result }
     ensures lent { IfOk result (λ more. more ≡ false → planes.new ≡ planes.old) }
-    ensures fits { IfOk result (λ more. more ≡ true → Fits head.now (samples_of planes.new.items)) }
-    ensures room { HasRoom (plane_sizes head.now) planes.old.items → NoWant result }
+    ensures fits { IfOk result (λ more. more ≡ true →
+        Fits depth head.now (samples_of planes.new.items)) }
+    ensures depth { IfOk result (λ more. more ≡ true →
+        AreInDepth depth (samples_of planes.new.items)) }
+    ensures room { HasRoom (plane_bytes depth head.now) planes.old.items → NoWant result }
 {
     if !read_frame_line(input)? {
         return Ok(false);
     }
     lend_planes(alloc, planes, plane_count(head))?;
-    read_planes(head, input, planes)?;
+    read_planes(head, depth, input, planes)?;
     Ok(true)
 }

@@ -1,40 +1,52 @@
 //! The reader of PPM.
 
-ghost use Rattle.std.specs.Prelude.{◌≡◌, ℕ, Bool, IfOk, true, false, None};
+ghost use Rattle.std.specs.Prelude.{◌≡◌, ◌≤◌, ℕ, Bool, IfOk, true, false, None};
 ghost use Rattle.ffv1_y4m.specs.Passage.{passage, passage_from};
 ghost use Rattle.ffv1_y4m.specs.Ppm.{GrowsInImage, image_header, image_read};
 ghost use Rattle.ffv1_y4m.specs.Reads.{Answers, Nowhere};
 ghost use Rattle.ffv1_y4m.specs.State.{HasRoom, IsImageFault, IsLineFault, Lent, NextAnswers};
-ghost use Rattle.ffv1_y4m.specs.State.{NoWant, OnFault, PpmReading, failing, samples_of, shown};
-ghost use Rattle.ffv1_y4m.specs.VideoHead.{Fits, IsSized, colour_head, plane_sizes};
+ghost use Rattle.ffv1_y4m.specs.State.{NoWant, OnFault, PpmReading, failing, image_said, samples_of};
+ghost use Rattle.ffv1_y4m.specs.State.{shown};
+ghost use Rattle.ffv1_y4m.specs.VideoHead.{AreInDepth, Fits, IsNamed, IsSized, colour_head};
+ghost use Rattle.ffv1_y4m.specs.VideoHead.{plane_bytes};
 
 use crate::fault::Fault;
-use crate::head::VideoHead;
+use crate::head::{DeepHead, VideoHead};
 use crate::ppm_reading::{read_image, read_image_header};
 use ffv1_wire::ByteIn;
 use std::alloc::{Allocator, Global};
 use std::marker::Model;
 
-/// A reader of binary PPM, one image after the other. It is seen as the head that it read, whether
-/// the samples of the first image come next, and the fault that it met, if it met one.
+/// A reader of binary PPM, one image after the other. It is seen as the greatest depth that it
+/// reads, the head that it read, the depth of its samples, whether the samples of the first image
+/// come next, and the fault that it met, if it met one.
 ///
 /// It holds no input, and is handed the same one each time.
 #[derive(Drop)]
 pub struct PpmReader<A: Allocator = Global> {
     alloc: A,
+    most: u32,
     head: VideoHead,
+    depth: u32,
     begun: bool,
     failed: Option<Fault>,
 }
 
 impl<A: Allocator> Model for PpmReader<A> {
     ghost use Rattle.ffv1_y4m.specs.State.{PpmReading, IsColour};
+    ghost use Rattle.ffv1_y4m.specs.VideoHead.{IsNamed};
 
     ghost Value = { PpmReading };
 
-    ghost view = { λ r. record { head = r.head; begun = r.begun; failed = r.failed } };
+    ghost view = { λ r. record {
+      most = r.most;
+      head = r.head;
+      depth = r.depth;
+      begun = r.begun;
+      failed = r.failed;
+    } };
 
-    ghost invariant = { λ r. IsColour r.head };
+    ghost invariant = { λ r. IsColour r.head × IsNamed r.depth r.head };
 }
 
 impl<A: Allocator + Copy> PpmReader<A> {
@@ -48,20 +60,34 @@ impl<A: Allocator + Copy> PpmReader<A> {
         first: Option<u8>,
         input: &mut R,
     ) -> Result<PpmReader<A>, Fault>
-        ensures answer { Answers (λ (r : PpmReading). r.head) image_header Nowhere
+        ensures answer { Answers image_said (image_header 8) Nowhere
             (passage_from first R.remaining R.failures input.old input.new) result }
         ensures fresh { IfOk result (λ r. (r.begun ≡ true) × (r.failed ≡ None)) }
         ensures own { OnFault IsLineFault result }
         ensures head { IfOk result (λ r. IsSized r.head
             × (r.head ≡ colour_head r.head.width r.head.height)) }
+        ensures depth { IfOk result (λ r. (r.depth ≡ 8) × (r.most ≡ 8)) }
     {
-        let head = read_image_header(first, input)?;
-        Ok(PpmReader {
-            alloc,
-            head,
-            begun: true,
-            failed: None,
-        })
+        open_at(alloc, 8, first, input)
+    }
+
+    /// Reads the header as `open` does, and reads depths of up to 16 bits too: the third line may
+    /// also be `511`, `1023`, `4095`, `16383` or `65535`, which is 2 ^ depth - 1.
+    pub fn open_deep<R: ByteIn>(
+        alloc: A,
+        first: Option<u8>,
+        input: &mut R,
+    ) -> Result<PpmReader<A>, Fault>
+        ensures answer { Answers image_said (image_header 16) Nowhere
+            (passage_from first R.remaining R.failures input.old input.new) result }
+        ensures fresh { IfOk result (λ r. (r.begun ≡ true) × (r.failed ≡ None)) }
+        ensures own { OnFault IsLineFault result }
+        ensures head { IfOk result (λ r. IsSized r.head
+            × (r.head ≡ colour_head r.head.width r.head.height)) }
+        ensures named { IfOk result (λ r. IsNamed r.depth r.head) }
+        ensures most { IfOk result (λ r. r.most ≡ 16) }
+    {
+        open_at(alloc, 16, first, input)
     }
 
     /// The sizes, and that there are three planes of that size; rate, structure and aspect are
@@ -74,28 +100,42 @@ impl<A: Allocator + Copy> PpmReader<A> {
         &self.head
     }
 
+    /// The bits of a sample: 8, 9, 10, 12, 14 or 16, and 8 where `open` made the reader. Samples of
+    /// 8 bits are one byte each, others two: in the text the high byte first, in planes the low
+    /// one.
+    pub fn depth(&self) -> u32
+        ensures value { result ≡ self.now.depth }
+        ensures named { IsNamed result self.now.head }
+    {
+        self.depth
+    }
+
     /// Reads the next image in place of what the planes were: red, green, blue, each row by row.
     /// False where the input has ended: the planes are then as they were. After a fault nothing is
     /// said of them, unless it came before.
     ///
     /// Memory is taken only where a vector has room for fewer samples. The first fault is answered:
-    /// of a later image `Header`, then `FormatChanged` where its sizes are not the first one's;
-    /// then `FrameTruncated` where the input ends inside samples; `Read` where a read failed;
-    /// `OutOfMemory`. After a fault each call answers that fault again and reads nothing.
+    /// of a later image `Header`, then `FormatChanged` where its sizes or its depth are not the
+    /// first one's; then `FrameTruncated` where the input ends inside samples, `SampleTooLarge`
+    /// after the bytes of an image of which a sample is 2 ^ depth or more; `Read` where a read
+    /// failed; `OutOfMemory`. After a fault each call answers that fault again and reads nothing.
     pub fn next<R: ByteIn>(
         &mut self,
         input: &mut R,
         planes: &mut Vec<Vec<u8, A>, A>,
     ) -> Result<bool, Fault>
         ensures answer { NextAnswers self.old.failed (shown planes.new.items)
-            (image_read self.old.head self.old.begun) (GrowsInImage self.old.head self.old.begun)
+            (image_read self.old.most (image_said self.old) self.old.begun)
+            (GrowsInImage self.old.most (image_said self.old) self.old.begun)
             (passage R.remaining R.failures input.old input.new) result }
         ensures own { self.old.failed ≡ None → OnFault IsImageFault result }
         ensures lent { Lent self.old.failed planes.old planes.new result }
         ensures fits { IfOk result (λ more. more ≡ true →
-            Fits self.old.head (samples_of planes.new.items)) }
+            Fits self.old.depth self.old.head (samples_of planes.new.items)) }
+        ensures depth { IfOk result (λ more. more ≡ true →
+            AreInDepth self.old.depth (samples_of planes.new.items)) }
         ensures room { self.old.failed ≡ None →
-            HasRoom (plane_sizes self.old.head) planes.old.items → NoWant result }
+            HasRoom (plane_bytes self.old.depth self.old.head) planes.old.items → NoWant result }
         ensures after { self.new ≡ record self.old {
           begun = false;
           failed = failing self.old.failed result;
@@ -106,10 +146,41 @@ impl<A: Allocator + Copy> PpmReader<A> {
         if let Some(fault) = self.failed {
             return Err(fault);
         }
-        let answer = read_image(self.alloc, &self.head, begun, input, planes);
+        let said = DeepHead {
+            head: self.head,
+            depth: self.depth,
+        };
+        let answer = read_image(self.alloc, self.most, &said, begun, input, planes);
         if let Err(fault) = answer {
             self.failed = Some(fault);
         }
         answer
     }
+}
+
+/// Reads the header of the first image, of a depth of at most `most`.
+fn open_at<R: ByteIn, A: Allocator + Copy>(
+    alloc: A,
+    most: u32,
+    first: Option<u8>,
+    input: &mut R,
+) -> Result<PpmReader<A>, Fault>
+    ensures answer { Answers image_said (image_header most) Nowhere
+        (passage_from first R.remaining R.failures input.old input.new) result }
+    ensures fresh { IfOk result (λ r. (r.begun ≡ true) × (r.failed ≡ None)) }
+    ensures own { OnFault IsLineFault result }
+    ensures head { IfOk result (λ r. IsSized r.head
+        × (r.head ≡ colour_head r.head.width r.head.height)) }
+    ensures named { IfOk result (λ r. IsNamed r.depth r.head × (r.depth ≤ most)) }
+    ensures most { IfOk result (λ r. r.most ≡ most) }
+{
+    let said = read_image_header(most, first, input)?;
+    Ok(PpmReader {
+        alloc,
+        most,
+        head: said.head,
+        depth: said.depth,
+        begun: true,
+        failed: None,
+    })
 }

@@ -6,29 +6,32 @@ ghost use Rattle.std.specs.Io.KnownBytes.{Keeps};
 ghost use Rattle.ffv1_wire.specs.Failures.{Counted};
 ghost use Rattle.ffv1_wire.specs.Reads.{GivesByte};
 ghost use Rattle.ffv1_y4m.specs.Header.{head_of_line, header_of, line_read};
-ghost use Rattle.ffv1_y4m.specs.declared.head.VideoHead.{VideoHead};
+ghost use Rattle.ffv1_y4m.specs.declared.head.DeepHead.{DeepHead};
 ghost use Rattle.ffv1_y4m.specs.State.{IsHeaderFault, IsLineFault, IsPictureFault, NoWant, OnFault};
 ghost use Rattle.std.specs.Vec.{vec_capacity};
-ghost use Rattle.ffv1_y4m.specs.VideoHead.{IsHead};
+ghost use Rattle.ffv1_y4m.specs.VideoHead.{IsHead, IsNamed};
 ghost use Rattle.ffv1_y4m.specs.Passage.{known_text, passage, passage_from};
 ghost use Rattle.ffv1_y4m.specs.Pictures.{frame_begun, plane_read};
 ghost use Rattle.ffv1_y4m.specs.Reads.{IsNone, Nowhere, Stands, seen};
 
 use crate::fault::Fault;
-use crate::head::VideoHead;
+use crate::head::DeepHead;
 use crate::tags::{all_tags, head_of_tags};
 use crate::values::is_text;
+use ffv1_samples::are_in_depth;
 use ffv1_wire::{ByteIn, Failed, read_byte, read_full};
 use std::alloc::Allocator;
 
 /// The most bytes of a header line, its line feed included.
 const LINE: usize = 1025;
 
-/// The head of a header line, which is given without its line feed.
+/// The head and the depth of a header line, which is given without its line feed.
 #[tactic(auto, unfolding(crate::specs::Header::head_of_line))]
-fn head_of_line(line: &[u8]) -> Result<VideoHead, Fault>
-    ensures value { result ≡ head_of_line line.now }
-    ensures head { IfOk result (λ h. IsHead h) }
+fn head_of_line(most: u32, line: &[u8]) -> Result<DeepHead, Fault>
+    ensures value { result ≡ head_of_line most line.now }
+    ensures head { IfOk result (λ h. IsHead h.head) }
+    ensures named { IfOk result (λ h. IsNamed h.depth h.head) }
+    ensures most { IfOk result (λ h. 8 ≤ most → h.depth ≤ most) }
 {
     if is_text(line, b"YUV4MPEG2") {
         return Err(Fault::Tag);
@@ -36,7 +39,7 @@ fn head_of_line(line: &[u8]) -> Result<VideoHead, Fault>
     if line.len() < 10 || !is_text(&line[..10], b"YUV4MPEG2 ") {
         return Err(Fault::Header);
     }
-    let tags = all_tags(&line[10..])?;
+    let tags = all_tags(most, &line[10..])?;
     head_of_tags(tags)
 }
 
@@ -82,16 +85,22 @@ pub(crate) fn read_line<R: ByteIn>(
 }
 
 /// Reads the header of YUV4MPEG2 from an input of which the caller has read the first byte, if it
-/// has one.
-pub(crate) fn read_header<R: ByteIn>(first: Option<u8>, input: &mut R) -> Result<VideoHead, Fault>
-    ensures answer { Stands header_of Nowhere
+/// has one; depths up to `most` are read.
+pub(crate) fn read_header<R: ByteIn>(
+    most: u32,
+    first: Option<u8>,
+    input: &mut R,
+) -> Result<DeepHead, Fault>
+    ensures answer { Stands (header_of most) Nowhere
         (passage_from first R.remaining R.failures input.old input.new) result }
-    ensures head { IfOk result (λ h. IsHead h) }
+    ensures head { IfOk result (λ h. IsHead h.head) }
+    ensures named { IfOk result (λ h. IsNamed h.depth h.head) }
+    ensures most { IfOk result (λ h. 8 ≤ most → h.depth ≤ most) }
     ensures own { OnFault IsHeaderFault result }
 {
     let mut line = [0u8; LINE];
     let end = read_line(first, input, &mut line)?;
-    head_of_line(&line[..end])
+    head_of_line(most, &line[..end])
 }
 
 /// The line that begins a picture.
@@ -118,17 +127,21 @@ pub(crate) fn read_frame_line<R: ByteIn>(input: &mut R) -> Result<bool, Fault>
     Ok(true)
 }
 
-/// Reads the samples of a plane, `size` of them, in place of what the vector had. It takes memory
-/// only where the vector has room for fewer, before it reads.
+/// Reads the samples of a plane, `size` bytes of them, in place of what the vector had. It takes
+/// memory only where the vector has room for fewer, before it reads.
 ///
-/// `FrameTruncated` where the input ends before, `Read` where a read failed, `OutOfMemory`; after a
-/// fault nothing is said of the vector.
+/// `FrameTruncated` where the input ends before, else `SampleTooLarge` where a sample is
+/// 2 ^ depth or more; `Read` where a read failed, `OutOfMemory`. After a fault nothing is said of
+/// the vector.
 pub(crate) fn read_plane<R: ByteIn, A: Allocator>(
+    depth: u32,
     input: &mut R,
     plane: &mut Vec<u8, A>,
     size: usize,
 ) -> Result<(), Fault>
-    ensures answer { Stands (plane_read size) IsNone
+    requires least { 8 ≤ depth }
+    requires most { depth ≤ 16 }
+    ensures answer { Stands (plane_read depth size) IsNone
         (passage R.remaining R.failures input.old input.new)
         (seen (λ (_ : Unit {0}). plane.new.items) result) }
     ensures long { OnOk result (length plane.new.items ≡ size) }
@@ -139,6 +152,9 @@ pub(crate) fn read_plane<R: ByteIn, A: Allocator>(
     let len = read_full(input, plane.as_mut_slice())?;
     if len < size {
         return Err(Fault::FrameTruncated);
+    }
+    if !are_in_depth(depth, plane) {
+        return Err(Fault::SampleTooLarge);
     }
     Ok(())
 }

@@ -3,10 +3,12 @@
 ghost use Rattle.std.specs.Prelude.{◌≡◌, Some};
 ghost use Rattle.ffv1_y4m.specs.Header.{no_tags, judged, tagged, all_judged, words_of, chroma_of};
 ghost use Rattle.ffv1_y4m.specs.Header.{other_chroma_of, head_of_tags, first_value, first_answer};
-ghost use Rattle.ffv1_y4m.specs.Header.{chroma_planes, structure_of};
+ghost use Rattle.ffv1_y4m.specs.Header.{at_depth, chroma_named, chroma_planes, deep_chroma_of};
+ghost use Rattle.ffv1_y4m.specs.Header.{deep_named, depth_of, no_chroma, structure_of};
 
 use crate::fault::Fault;
-use crate::head::VideoHead;
+use crate::head::{DeepHead, VideoHead};
+use crate::planes::has_depth_name;
 use crate::values::{aspect, is_text, rate, size, split_once, structure};
 
 /// Which chroma planes there are, of a tag C.
@@ -16,6 +18,7 @@ pub(crate) struct Chroma {
     pub(crate) log2_h: u8,
     pub(crate) log2_v: u8,
     pub(crate) extra: bool,
+    pub(crate) depth: u32,
 }
 
 /// What the tags so far have said.
@@ -29,51 +32,138 @@ pub(crate) struct Tags {
     pub(crate) chroma: Option<Chroma>,
 }
 
-/// Chroma planes of these sizes.
-fn planes(log2_h: u8, log2_v: u8) -> Option<Chroma>
-    ensures { result ≡ Some (chroma_planes log2_h log2_v) }
+/// Chroma planes of these sizes, of 8 bits.
+fn planes(log2_h: u8, log2_v: u8) -> Chroma
+    ensures { result ≡ chroma_planes log2_h log2_v }
 {
-    Some(Chroma {
+    Chroma {
         planes: true,
         log2_h,
         log2_v,
         extra: false,
-    })
+        depth: 8,
+    }
+}
+
+/// The depth above 8 of a text.
+fn depth_of(text: &[u8]) -> Option<u32>
+    ensures { result ≡ depth_of text.now }
+{
+    match text {
+        b"9" => Some(9),
+        b"10" => Some(10),
+        b"12" => Some(12),
+        b"14" => Some(14),
+        b"16" => Some(16),
+        _ => None,
+    }
+}
+
+/// Chroma of a depth that has a name beside it.
+fn at_depth(chroma: Chroma, depth: Option<u32>) -> Option<Chroma>
+    ensures { result ≡ at_depth chroma depth }
+{
+    let Some(depth) = depth else {
+        return None;
+    };
+    if !has_depth_name(chroma.planes, depth) {
+        return None;
+    }
+    Some(Chroma { depth, ..chroma })
+}
+
+/// The chroma of a name of more than 8 bits, by what stands before the depth in it.
+fn deep_named(name: &[u8], depth: Option<u32>) -> Option<Chroma>
+    ensures { result ≡ deep_named name.now depth }
+{
+    if is_text(name, b"420p") {
+        return at_depth(planes(1, 1), depth);
+    }
+    if is_text(name, b"422p") {
+        return at_depth(planes(1, 0), depth);
+    }
+    if is_text(name, b"444p") {
+        return at_depth(planes(0, 0), depth);
+    }
+    if is_text(name, b"mono") {
+        return at_depth(no_chroma(), depth);
+    }
+    None
+}
+
+/// The chroma of a name of more than 8 bits.
+#[tactic(auto, unfolding(crate::specs::Header::deep_chroma_of))]
+fn deep_chroma(value: &[u8]) -> Option<Chroma>
+    ensures { result ≡ deep_chroma_of value.now }
+{
+    if value.len() < 4 {
+        return None;
+    }
+    deep_named(&value[..4], depth_of(&value[4..]))
+}
+
+/// No chroma planes, of 8 bits.
+fn no_chroma() -> Chroma
+    ensures { result ≡ no_chroma }
+{
+    Chroma {
+        planes: false,
+        log2_h: 0,
+        log2_v: 0,
+        extra: false,
+        depth: 8,
+    }
 }
 
 /// The chroma of a name.
-#[tactic(auto, unfolding(crate::specs::Header::chroma_of))]
+#[tactic(auto, unfolding(crate::specs::Header::chroma_named))]
 fn chroma_named(value: &[u8]) -> Option<Chroma>
-    ensures { result ≡ chroma_of value.now }
+    ensures { result ≡ chroma_named value.now }
 {
     if is_text(value, b"420jpeg") || is_text(value, b"420mpeg2") || is_text(value, b"420paldv") {
-        return planes(1, 1);
+        return Some(planes(1, 1));
     }
     if is_text(value, b"422") {
-        return planes(1, 0);
+        return Some(planes(1, 0));
     }
     if is_text(value, b"444") {
-        return planes(0, 0);
+        return Some(planes(0, 0));
     }
     if is_text(value, b"411") {
-        return planes(2, 0);
+        return Some(planes(2, 0));
     }
     other_chroma(value)
 }
 
-/// The chroma of the names that are left: with a plane of transparency, or with no chroma planes at
-/// all.
+/// The chroma of the names that are left: with a plane of transparency, with no chroma planes at
+/// all, or of more than 8 bits.
 fn other_chroma(value: &[u8]) -> Option<Chroma>
     ensures { result ≡ other_chroma_of value.now }
 {
-    let extra = is_text(value, b"444alpha");
-    if extra || is_text(value, b"mono") {
+    if is_text(value, b"444alpha") {
         return Some(Chroma {
-            planes: extra,
+            planes: true,
             log2_h: 0,
             log2_v: 0,
-            extra,
+            extra: true,
+            depth: 8,
         });
+    }
+    if is_text(value, b"mono") {
+        return Some(no_chroma());
+    }
+    deep_chroma(value)
+}
+
+/// The chroma of a name, where depths up to this one are read.
+fn chroma_up_to(most: u32, value: &[u8]) -> Option<Chroma>
+    ensures { result ≡ chroma_of most value.now }
+{
+    let Some(chroma) = chroma_named(value) else {
+        return None;
+    };
+    if chroma.depth <= most {
+        return Some(chroma);
     }
     None
 }
@@ -91,8 +181,8 @@ fn first<T: Drop>(old: Option<T>, new: Option<T>, refusal: Fault) -> Result<T, F
 
 /// The tags with one more.
 #[tactic(auto, unfolding(crate::specs::Header::tagged))]
-fn tagged(tags: Tags, letter: u8, value: &[u8]) -> Result<Tags, Fault>
-    ensures { result ≡ tagged tags letter value.now }
+fn tagged(most: u32, tags: Tags, letter: u8, value: &[u8]) -> Result<Tags, Fault>
+    ensures { result ≡ tagged most tags letter value.now }
 {
     let mut tags = tags;
     match letter {
@@ -101,7 +191,11 @@ fn tagged(tags: Tags, letter: u8, value: &[u8]) -> Result<Tags, Fault>
         b'F' => tags.rate = Some(first(tags.rate, rate(value), Fault::Tag)?),
         b'I' => tags.structure = Some(first_structure(tags.structure, value)?),
         b'A' => tags.aspect = Some(first(tags.aspect, aspect(value), Fault::Tag)?),
-        b'C' => tags.chroma = Some(first(tags.chroma, chroma_named(value), Fault::Unsupported)?),
+        b'C' => tags.chroma = Some(first(
+            tags.chroma,
+            chroma_up_to(most, value),
+            Fault::Unsupported,
+        )?),
         b'X' => (),
         _ => return Err(Fault::Tag),
     }
@@ -119,18 +213,18 @@ fn first_structure(old: Option<u8>, value: &[u8]) -> Result<u8, Fault>
 }
 
 /// The tags with one word of the line more.
-fn judged(tags: Tags, word: &[u8]) -> Result<Tags, Fault>
-    ensures { result ≡ judged tags word.now }
+fn judged(most: u32, tags: Tags, word: &[u8]) -> Result<Tags, Fault>
+    ensures { result ≡ judged most tags word.now }
 {
     match word {
         [] => Err(Fault::Tag),
-        [letter, value @ ..] => tagged(tags, *letter, value),
+        [letter, value @ ..] => tagged(most, tags, *letter, value),
     }
 }
 
 /// The tags of all words of a line, from the left.
-pub(crate) fn all_tags(line: &[u8]) -> Result<Tags, Fault>
-    ensures { result ≡ all_judged no_tags (words_of line.now) }
+pub(crate) fn all_tags(most: u32, line: &[u8]) -> Result<Tags, Fault>
+    ensures { result ≡ all_judged most no_tags (words_of line.now) }
 {
     let mut tags = Tags {
         width: None,
@@ -142,28 +236,23 @@ pub(crate) fn all_tags(line: &[u8]) -> Result<Tags, Fault>
     };
     let mut rest = line;
     while let Some((word, words)) = split_once(rest, b' ') {
-        tags = judged(tags, word)?;
+        tags = judged(most, tags, word)?;
         rest = words;
     }
-    judged(tags, rest)
+    judged(most, tags, rest)
 }
 
-/// The head that tags give.
+/// The head and the depth that tags give.
 #[tactic(auto, unfolding(crate::specs::Header::head_of_tags))]
-pub(crate) fn head_of_tags(tags: Tags) -> Result<VideoHead, Fault>
+pub(crate) fn head_of_tags(tags: Tags) -> Result<DeepHead, Fault>
     ensures { result ≡ head_of_tags tags }
 {
     let width = tags.width.ok_or(Fault::Tag)?;
     let height = tags.height.ok_or(Fault::Tag)?;
     let (rate, scale) = tags.rate.unwrap_or((0, 0));
     let (sar_num, sar_den) = tags.aspect.unwrap_or((0, 0));
-    let chroma = tags.chroma.unwrap_or(Chroma {
-        planes: true,
-        log2_h: 1,
-        log2_v: 1,
-        extra: false,
-    });
-    Ok(VideoHead {
+    let chroma = tags.chroma.unwrap_or(planes(1, 1));
+    let head = VideoHead {
         width,
         height,
         rate,
@@ -175,5 +264,9 @@ pub(crate) fn head_of_tags(tags: Tags) -> Result<VideoHead, Fault>
         log2_h: chroma.log2_h,
         log2_v: chroma.log2_v,
         extra_plane: chroma.extra,
+    };
+    Ok(DeepHead {
+        head,
+        depth: chroma.depth,
     })
 }

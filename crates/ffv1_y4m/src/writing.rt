@@ -1,8 +1,9 @@
 //! Texts of several parts are written.
 
-ghost use Rattle.std.specs.Prelude.{◌≡◌, ℕ, List, ◌++◌, map, flat_map};
+ghost use Rattle.std.specs.Prelude.{◌≡◌, ◌≤◌, ℕ, List, ◌++◌, map, flat_map};
 ghost use Rattle.ffv1_wire.specs.Passage.{passage};
-ghost use Rattle.ffv1_y4m.specs.Canonical.{chroma_name, header_text, name_text, number_text};
+ghost use Rattle.ffv1_y4m.specs.Canonical.{chroma_name, deep_name, depth_name, header_text};
+ghost use Rattle.ffv1_y4m.specs.Canonical.{name_text, number_text};
 ghost use Rattle.ffv1_y4m.specs.Canonical.{ratio_text, sizes_text, structure_name, times_text};
 ghost use Rattle.ffv1_y4m.specs.Ppm.{image_header_text};
 ghost use Rattle.ffv1_y4m.specs.Pictures.{frame_line, picture_text};
@@ -11,6 +12,7 @@ ghost use Rattle.ffv1_y4m.specs.Writes.{Writes};
 
 use crate::fault::Fault;
 use crate::head::VideoHead;
+use crate::planes::has_chroma_name_at;
 use ffv1_wire::{ByteOut, write_all};
 use itoa::Buffer;
 use std::alloc::Allocator;
@@ -48,10 +50,45 @@ fn structure_name(structure: u8) -> &'static [u8]
     }
 }
 
-/// The name of the chroma.
-fn chroma_name(head: &VideoHead) -> &'static [u8]
-    ensures { result.now ≡ chroma_name head.now }
+/// What stands before the depth in the name of the chroma, at more than 8 bits.
+fn deep_name(head: &VideoHead, depth: u32) -> &'static [u8]
+    ensures { result.now ≡ deep_name depth head.now.chroma_planes head.now.log2_h head.now.log2_v
+        head.now.extra_plane }
 {
+    if !has_chroma_name_at(head, depth) {
+        return b"";
+    }
+    if !head.chroma_planes {
+        return b"mono";
+    }
+    match (head.log2_h, head.log2_v) {
+        (_, 1) => b"420p",
+        (1, _) => b"422p",
+        _ => b"444p",
+    }
+}
+
+/// The depth in the name of the chroma, none at 8 bits.
+fn depth_name(depth: u32) -> &'static [u8]
+    ensures { result.now ≡ depth_name depth }
+{
+    match depth {
+        9 => b"9",
+        10 => b"10",
+        12 => b"12",
+        14 => b"14",
+        16 => b"16",
+        _ => b"",
+    }
+}
+
+/// The name of the chroma, up to the depth in it.
+fn chroma_name(head: &VideoHead, depth: u32) -> &'static [u8]
+    ensures { result.now ≡ chroma_name depth head.now }
+{
+    if depth != 8 {
+        return deep_name(head, depth);
+    }
     if !head.chroma_planes {
         return b"mono";
     }
@@ -138,35 +175,44 @@ fn write_times<W: ByteOut>(output: &mut W, head: &VideoHead) -> Result<(), Fault
 
 /// Writes the header.
 #[tactic(auto, unfolding(crate::specs::Canonical::header_text))]
-pub(crate) fn write_header<W: ByteOut>(output: &mut W, head: &VideoHead) -> Result<(), Fault>
-    ensures { Writes (header_text head.now)
+pub(crate) fn write_header<W: ByteOut>(
+    output: &mut W,
+    head: &VideoHead,
+    depth: u32,
+) -> Result<(), Fault>
+    ensures { Writes (header_text depth head.now)
         (passage W.contents W.failures output.old output.new) result }
 {
     write_sizes(output, head)?;
     write_times(output, head)?;
-    write_name(output, b" C", chroma_name(head))?;
-    write_part(output, b"\n")?;
+    write_name(output, b" C", chroma_name(head, depth))?;
+    write_name(output, depth_name(depth), b"\n")?;
     Ok(())
 }
 
-/// Writes the header of an image of PPM.
+/// Writes the header of an image of PPM of this depth.
 #[tactic(auto, unfolding(crate::specs::Ppm::image_header_text))]
 pub(crate) fn write_image_header<W: ByteOut>(
     output: &mut W,
+    depth: u32,
     width: u32,
     height: u32,
 ) -> Result<(), Fault>
-    ensures { Writes (image_header_text width height)
+    requires { depth ≤ 16 }
+    ensures { Writes (image_header_text depth width height)
         (passage W.contents W.failures output.old output.new) result }
 {
     let mut wide = Buffer::new();
     let mut high = Buffer::new();
-    let parts: [&[u8]; 5] = [
+    let mut most = Buffer::new();
+    let parts: [&[u8]; 7] = [
         b"P6\n",
         wide.format(width).as_bytes(),
         b" ",
         high.format(height).as_bytes(),
-        b"\n255\n",
+        b"\n",
+        most.format((1u32 << depth) - 1).as_bytes(),
+        b"\n",
     ];
     write_parts(output, &parts)?;
     Ok(())

@@ -13,13 +13,14 @@ use ffv1_wire::ByteOut;
 use std::alloc::Allocator;
 use std::marker::Model;
 
-/// A writer of YUV4MPEG2. It is seen as its head, whether the header is written, and whether a
-/// write has failed.
+/// A writer of YUV4MPEG2. It is seen as its head, the depth of its samples, whether the header is
+/// written, and whether a write has failed.
 ///
 /// It holds no output, and is handed the same one each time. It takes no memory.
 #[derive(Drop)]
 pub struct Y4mWriter {
     head: VideoHead,
+    depth: u32,
     begun: bool,
     failed: bool,
 }
@@ -29,7 +30,12 @@ impl Model for Y4mWriter {
 
     ghost Value = { Y4mWriting };
 
-    ghost view = { λ w. record { head = w.head; begun = w.begun; failed = w.failed } };
+    ghost view = { λ w. record {
+      head = w.head;
+      depth = w.depth;
+      begun = w.begun;
+      failed = w.failed;
+    } };
 }
 
 impl Y4mWriter {
@@ -39,10 +45,23 @@ impl Y4mWriter {
     /// rate and an aspect of which both numbers are 0 or neither, a structure of at most 3, and
     /// chroma planes that have a name.
     pub fn new(head: VideoHead) -> Y4mWriter
-        ensures { result ≡ record { head = head; begun = false; failed = false } }
+        ensures { result ≡ record { head = head; depth = 8; begun = false; failed = false } }
+    {
+        Y4mWriter::at_depth(head, 8)
+    }
+
+    /// A writer of pictures with this head and samples of so many bits, of which nothing is written
+    /// yet. Samples of 8 bits are one byte each, others two, the low byte first.
+    ///
+    /// What it writes is read back where the head is as a reader gives it, `has_chroma_name_at` has
+    /// a name for its chroma at this depth, and each sample is below 2 ^ depth. Where there is no
+    /// such name above 8 bits, C names no chroma, and each reader refuses the header.
+    pub fn at_depth(head: VideoHead, depth: u32) -> Y4mWriter
+        ensures { result ≡ record { head = head; depth = depth; begun = false; failed = false } }
     {
         Y4mWriter {
             head,
+            depth,
             begun: false,
             failed: false,
         }
@@ -63,14 +82,14 @@ impl Y4mWriter {
         planes: &[Vec<u8, A>],
     ) -> Result<(), Fault>
         ensures answer { NextWrites self.old.failed
-            (next_text self.old.head self.old.begun (samples_of planes.now))
+            (next_text self.old.depth self.old.head self.old.begun (samples_of planes.now))
             (passage W.contents W.failures output.old output.new) result }
         ensures after { self.new ≡ written_by self.old result }
     {
         if self.failed {
             return Err(Fault::Write);
         }
-        let answer = write_next(&self.head, self.begun, output, planes);
+        let answer = write_next(&self.head, self.depth, self.begun, output, planes);
         match answer {
             Ok(()) => self.begun = true,
             Err(_) => self.failed = true,
@@ -82,18 +101,19 @@ impl Y4mWriter {
 /// Writes a picture, and before the first one the header.
 fn write_next<W: ByteOut, A: Allocator>(
     head: &VideoHead,
+    depth: u32,
     begun: bool,
     output: &mut W,
     planes: &[Vec<u8, A>],
 ) -> Result<(), Fault>
-    ensures { Writes (next_text head.now begun (samples_of planes.now))
+    ensures { Writes (next_text depth head.now begun (samples_of planes.now))
         (passage W.contents W.failures output.old output.new) result }
 {
     if begun {
         write_picture(output, planes)?;
         return Ok(());
     }
-    write_header(output, head)?;
+    write_header(output, head, depth)?;
     write_picture(output, planes)?;
     Ok(())
 }

@@ -1,6 +1,6 @@
 //! A row is decoded.
 
-ghost use Rattle.std.specs.Prelude.{◌≡◌, ◌*◌, ◌<◌, IfErr, IsTrue, OnOk, length};
+ghost use Rattle.std.specs.Prelude.{◌≡◌, ◌*◌, ◌<◌, ◌⊎◌, IfErr, IsTrue, OnOk, length};
 ghost use Rattle.ffv1_range.specs.Symbols.{AllHeld};
 ghost use Rattle.ffv1_plane.specs.Quantisation.{contexts_of, IsNear};
 ghost use Rattle.ffv1_line.specs.Decoded.{Lined, Refused, SameFrom};
@@ -17,8 +17,8 @@ use std::alloc::Allocator;
 /// The least state of the first context's zeros with which a row begins as after a calm block.
 const MOSTLY_ZEROS: u8 = 224;
 
-/// A row of a cell, by a body of its own for each depth and each kind of set. `NEAR` may be said of
-/// a set whose fourth and fifth tables have one level.
+/// A row of a cell of 8 or 9 bits, by a body of its own for each depth and each kind of set. `NEAR`
+/// may be said of a set whose fourth and fifth tables have one level.
 #[inline(never)]
 pub(crate) fn decode_row<B: Allocator, const BITS: u8, const NEAR: bool>(
     decoder: &mut RangeDecoder<'_>,
@@ -27,6 +27,7 @@ pub(crate) fn decode_row<B: Allocator, const BITS: u8, const NEAR: bool>(
     above: &Above<'_>,
     cur: &mut [u16],
 ) -> Result<(), TooLong>
+    requires depth { (BITS ≡ 8) ⊎ (BITS ≡ 9) }
     requires bits { coding.now.bits ≡ BITS }
     requires near { IsTrue NEAR → IsNear coding.now.set }
     requires some { 0 < length cur.old }

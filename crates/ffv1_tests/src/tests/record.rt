@@ -2,6 +2,7 @@
 //! FFmpeg, and records made by hand.
 
 mod checks;
+mod depths;
 mod held;
 mod made;
 mod read;

@@ -1,4 +1,5 @@
 use Rattle.std.proofs.Common.{◌≡◌, ◌%◌, ◌∙◌, ◌++◌, [], take, ℕ, List, Option, Some, None, inr, arith, ap, sym, refl}
+use Rattle.std.proofs.lemmas.Grind.{common_steps}
 use Rattle.std.proofs.lemmas.Result.{err_from_is_err_and}
 use Rattle.ffv1_avi.specs.Files.{found_read, frame_found, frame_read}
 use Rattle.ffv1_avi.specs.Readers.{Leaves}
@@ -114,3 +115,24 @@ returns-clause-same g c =
     let frame : ℕ × Place = (c.in-Some.size, c.in-Some.after) in
     let read = some_read (extent_of c.args.place) (frame_found c.args.place) _ _ frame (rw c.in-Some.is at c.in_ok-size.ensures.answer).1 in
     (frame_less_at c.args.place c.in-Some.after c.in-Some.size (read.bytes ++ []) [] (read.is [])).1
+
+pub returns-in_err-size-clause-room : goal.returns-in_err-size-clause-room
+returns-in_err-size-clause-room g c =
+    let p = err_from_is_err_and c.from_residual.result c.from_residual.ensures.1 in
+    rw p.1 (grind (arith, common_steps))
+
+pub returns-in_default-clause-room : goal.returns-in_default-clause-room
+returns-in_default-clause-room g c = grind (arith, common_steps)
+
+pub returns-in_err-fill-clause-room : goal.returns-in_err-fill-clause-room
+returns-in_err-fill-clause-room g c =
+    let p = err_from_is_err_and c.from_residual-in_err-fill.result c.from_residual-in_err-fill.ensures.1 in
+    rw p.1 (grind (arith, common_steps))
+
+pub returns-in_err-pass-clause-room : goal.returns-in_err-pass-clause-room
+returns-in_err-pass-clause-room g c =
+    let p = err_from_is_err_and c.from_residual-in_err-pass.result c.from_residual-in_err-pass.ensures.1 in
+    rw p.1 (grind (arith, common_steps))
+
+pub returns-clause-room : goal.returns-clause-room
+returns-clause-room g c = grind (arith, common_steps)

@@ -17,8 +17,8 @@ laws c a is =
 
 colours : (c : goal.After-sides) → ColourLaws
 colours c = record {
-  small = record { coded = c.lists.ensures.coded; luma = c.small.ensures.luma; blue = c.small.ensures.blue; red = c.small.ensures.red };
-  only = c.only.ensures.colour;
+  small = record { coded = c.lists_in.ensures.coded; luma = c.small_in.ensures.luma; blue = c.small_in.ensures.blue; red = c.small_in.ensures.red };
+  only = c.only_in.ensures.colour;
 }
 
 front : (c : goal.After-sides) (a : Accepted) (bytes : List ℕ) → IsAccepted a.configuration a.table → AreBytes bytes → FrontLaws a bytes

@@ -1,12 +1,22 @@
-use Rattle.std.proofs.Common.{◌≡◌, ◌*◌, ◌≤◌, ◌∙◌, ap, sym, length, drop, true, false, arith, refl}
+use Rattle.std.proofs.Common.{◌≡◌, ℕ, ◌*◌, ◌^◌, ◌<◌, ◌≤◌, ◌∙◌, ap, sym, subst, length, slice_index, take, drop, true, false, arith, refl}
+use Rattle.std.proofs.Math.Nat.{mul-le-mul_left}
 use Rattle.std.proofs.lemmas.List.{length-take-le}
+use Rattle.ffv1_samples.specs.Samples.{bytes_of, sample_bytes}
+use Rattle.ffv1_slice.specs.Grid.{Division}
 use Rattle.ffv1_record.specs.Configuration.{Configuration, is_rct}
-use Rattle.ffv1_codec.specs.Picture.{plane_width}
+use Rattle.ffv1_codec.specs.Picture.{plane_width, width_bytes}
 use Rattle.ffv1_codec.proofs.LineFinished.{together_one, together_all, rct_is, wide_none, all_small, samples_finished, colours_missing, colours_finished}
 use Rattle.ffv1_codec.proofs.finish.finish.Goals as goal
 
-pub slice_bounds-copy-end : goal.slice_bounds-copy-end
-slice_bounds-copy-end g c =
+room : (b s w width long count : ℕ) → b ≡ s → w ≤ width → count ≡ 1 → long ≡ count * (s * width) → b * w ≤ long
+room b s w width long count same narrow one is =
+    let more : b * w ≤ b * width = mul-le-mul_left b narrow in
+    let all : b * width ≡ s * width = ap (λ k. k * width) same in
+    let whole : count * (s * width) ≡ 1 * (s * width) = ap (λ k. k * (s * width)) one in
+    omega (arith, more, all, whole, is)
+
+pub slice_bounds-copy_to-end : goal.slice_bounds-copy_to-end
+slice_bounds-copy_to-end g c =
     let a = c.args.frame.now.checked.now in
     let conf = a.configuration in
     let line = c.args.line.now in
@@ -20,8 +30,8 @@ slice_bounds-copy-end g c =
     let fits : wide ≤ length c.args.samples.now = omega (arith, narrow, count, c.requires.samples) in
     sym (length-take-le wide c.args.samples.now fits)
 
-pub slice_bounds-copy-end-in-YCbCr : goal.slice_bounds-copy-end-in-YCbCr
-slice_bounds-copy-end-in-YCbCr g c =
+pub slice_bounds-copy_to-end-in-YCbCr : goal.slice_bounds-copy_to-end-in-YCbCr
+slice_bounds-copy_to-end-in-YCbCr g c =
     let a = c.args.frame.now.checked.now in
     let conf = a.configuration in
     let line = c.args.line.now in
@@ -33,11 +43,13 @@ slice_bounds-copy-end-in-YCbCr g c =
     let count : line.count * conf.width ≡ conf.width = ap (λ n. n * conf.width) one.0 ∙ (let m : 1 * conf.width ≡ conf.width = omega arith in m) in
     let narrow : wide ≤ conf.width = omega (arith, wide_is, are.fits) in
     let fits : wide ≤ length c.args.samples.now = omega (arith, narrow, count, c.requires.samples) in
-    let out : wide ≤ length c.args.out.now = omega (arith, narrow, count, c.requires.out) in
+    let b = c.sample_bytes.result in
+    let b_is : b ≡ sample_bytes conf.depth = c.sample_bytes.ensures.value ∙ ap (λ (d : Division). sample_bytes d.depth) c.requires.frame.grid in
+    let out : b * wide ≤ length c.args.out.now = room b (sample_bytes conf.depth) wide conf.width (length c.args.out.now) line.count b_is narrow one.0 c.requires.out in
     out
 
-pub slice_bounds-copy-end-in-YCbCr-2 : goal.slice_bounds-copy-end-in-YCbCr-2
-slice_bounds-copy-end-in-YCbCr-2 g c =
+pub slice_bounds-copy_to-end-in-YCbCr-2 : goal.slice_bounds-copy_to-end-in-YCbCr-2
+slice_bounds-copy_to-end-in-YCbCr-2 g c =
     let a = c.args.frame.now.checked.now in
     let conf = a.configuration in
     let line = c.args.line.now in
@@ -49,8 +61,10 @@ slice_bounds-copy-end-in-YCbCr-2 g c =
     let count : line.count * conf.width ≡ conf.width = ap (λ n. n * conf.width) one.0 ∙ (let m : 1 * conf.width ≡ conf.width = omega arith in m) in
     let narrow : wide ≤ conf.width = omega (arith, wide_is, are.fits) in
     let fits : wide ≤ length c.args.samples.now = omega (arith, narrow, count, c.requires.samples) in
-    let out : wide ≤ length c.args.out.now = omega (arith, narrow, count, c.requires.out) in
-    sym (length-take-le wide c.args.out.now out)
+    let b = c.sample_bytes.result in
+    let b_is : b ≡ sample_bytes conf.depth = c.sample_bytes.ensures.value ∙ ap (λ (d : Division). sample_bytes d.depth) c.requires.frame.grid in
+    let out : b * wide ≤ length c.args.out.now = room b (sample_bytes conf.depth) wide conf.width (length c.args.out.now) line.count b_is narrow one.0 c.requires.out in
+    sym (length-take-le (b * wide) c.args.out.now out)
 
 pub returns-in-YCbCr-clause-exact : goal.returns-in-YCbCr-clause-exact
 returns-in-YCbCr-clause-exact g c = λ coded s stand.
@@ -65,8 +79,10 @@ returns-in-YCbCr-clause-exact g c = λ coded s stand.
     let count : line.count * conf.width ≡ conf.width = ap (λ n. n * conf.width) one.0 ∙ (let m : 1 * conf.width ≡ conf.width = omega arith in m) in
     let narrow : wide ≤ conf.width = omega (arith, wide_is, are.fits) in
     let fits : wide ≤ length c.args.samples.now = omega (arith, narrow, count, c.requires.samples) in
-    let copied = c.copy.ensures (all_small conf line.first line.count line.y c.args.samples.now s stand no one.0 wide wide_is fits) in
-    samples_finished conf line.first line.count line.y c.args.samples.now s stand no one.0 wide wide_is fits c.copy.new.out (drop wide c.args.out.now) copied
+    let d_is = c.depth.ensures.value in
+    let small = all_small conf line.first line.count line.y c.args.samples.now s stand no one.0 wide wide_is fits in
+    let copied = c.copy_to.ensures (λ x h. subst (λ d. slice_index (take wide c.args.samples.now) x < 2 ^ d) (sym d_is) (small x h)) ∙ ap (λ d. bytes_of d (take wide c.args.samples.now)) d_is in
+    samples_finished conf line.first line.count line.y c.args.samples.now s stand no one.0 wide wide_is fits c.copy_to.new.out (drop (c.sample_bytes.result * wide) c.args.out.now) copied
 
 pub colourless-requires-clause-x : goal.colourless-requires-clause-x
 colourless-requires-clause-x g c =
@@ -88,8 +104,8 @@ returns-in-Ok-clause-exact g c = λ coded s stand.
     let yes : is_rct conf.colour ≡ true = ap (λ (z : Configuration). is_rct z.colour) c.config.ensures.value ∙ ap is_rct c.in-Rct.is in
     let all = together_all conf line.first line.count yes c.requires.together in
     let parts = c.accepted_parts.ensures.rct conf a.table c.requires.frame.accepted (rct_is conf.colour yes) in
-    let long : length c.finish_colours.new.out ≡ line.count * conf.width = c.finish_colours.auto.out ∙ c.requires.out in
-    colours_finished conf line.first line.count line.y c.args.samples.now s stand yes parts.1 all.0 all.1 parts.0 c.finish_colours.new.out long c.in-Ok.ensures.ok
+    let long : length c.finish_colours.new.out ≡ line.count * width_bytes conf = c.finish_colours.auto.out ∙ c.requires.out in
+    colours_finished conf line.first line.count line.y c.args.samples.now s stand yes parts.1 all.0 all.1 parts.0 c.finish_colours.new.out long c.are_bytes.ensures c.in-Ok.ensures.ok
 
 pub returns-in-Err-clause-exact : goal.returns-in-Err-clause-exact
 returns-in-Err-clause-exact g c = λ coded s stand.

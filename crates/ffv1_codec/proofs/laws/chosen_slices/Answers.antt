@@ -1,4 +1,4 @@
-use Rattle.std.proofs.Common.{◌≡◌, refl, ℕ, ◌%◌, ◌<◌, ◌≤◌, Bool, true, false, if◌then◌else◌, List, [], ◌∷◌, length, arith}
+use Rattle.std.proofs.Common.{◌≡◌, refl, ℕ, ◌+◌, ◌%◌, ◌<◌, ◌≤◌, Bool, true, false, if◌then◌else◌, List, [], ◌∷◌, length, arith}
 use Rattle.ffv1_plane.specs.Quantisation.{Set}
 use Rattle.ffv1_line.specs.Cell.{Cell}
 use Rattle.ffv1_line.specs.Row.{AreSuiting, chosen_row}
@@ -18,9 +18,9 @@ third_index : (c : Configuration) (extra : Bool) → 1 ≤ length c.sets → IsT
 third_index c true some = index_below c 2 some
 third_index c false some = refl
 
-few_bits : (rct : Bool) → (0 < (if rct then 9 else 8)) × ((if rct then 9 else 8) < 32)
-few_bits true = (omega arith, omega arith)
-few_bits false = (omega arith, omega arith)
+few_bits : (rct : Bool) (depth : ℕ) → 8 ≤ depth → depth ≤ 16 → (0 < (if rct then depth + 1 else depth)) × ((if rct then depth + 1 else depth) < 32)
+few_bits true depth least most = (omega (arith, least), omega (arith, most))
+few_bits false depth least most = (omega (arith, least), omega (arith, most))
 
 body_of_lines : (c : Configuration) (h : SliceHead) (cell : ℕ → Cell) (ls : List Line) →
     ((set : Set) (p y : ℕ) → AreSuiting set (bits_of c) (cell p) y 0 (chosen_row set (bits_of c) (cell p) y (cell p).width)) →
@@ -58,7 +58,8 @@ returns-clause-body c = λ a planes info n is picture.
     let conf = a.configuration in
     let cell : ℕ → Cell = cell_in conf planes n in
     let division = c.divided.ensures conf a.table is in
-    let bits = few_bits (is_rct conf.colour) in
+    let depth = c.accepted.ensures.depth conf a.table is in
+    let bits = few_bits (is_rct conf.colour) conf.depth depth.0 depth.1 in
     let columns = (c.accepted.ensures.columns conf a.table is).0 in
     let wide : (p : ℕ) → 0 < (cell p).width = λ p. c.parts.ensures.some (across (division_of conf) p) (n % conf.columns) (c.tiling.ensures.across (division_of conf) p division) (column_inside n conf.columns columns) in
     body_of_lines conf (chosen_head conf info) cell (lines_in conf n)

@@ -19,6 +19,8 @@ returns c = λ conf t is.
           let one = c.parts.ensures.one (across (division_of conf) p) x (c.tiling.ensures.across (division_of conf) p division) inside in
           record { part = one.0; lies = one.1 };
       rct = λ e. let facts = c.accepted_parts.ensures.rct conf t is (is_rct_is conf.colour e) in record { chroma = facts.0; h = facts.1; v = facts.2 };
+      shallow = (c.accepted.ensures.depth conf t is).0;
+      deep = (c.accepted.ensures.depth conf t is).1;
       columns = (c.accepted.ensures.columns conf t is).0;
       rows = (c.accepted.ensures.rows conf t is).0;
     }

@@ -9,10 +9,10 @@ use Rattle.ffv1_range.specs.History.{decisions_after}
 use Rattle.ffv1_codec.proofs.laws.slice_lengths.Goals as goal
 
 pub returns-clause-body : goal.returns-clause-body
-returns-clause-body c = λ a planes info n.
+returns-clause-body c = λ a planes info n some most.
     let conf = a.configuration in
     let rows : Rows = record { row = c.lengths.ensures.row; most = c.lengths.ensures.most; small = c.lengths.ensures.chosen_small; long = c.chosen.ensures.long; shifted_long = c.lengths-2.ensures.shifted } in
-    body_long rows conf (chosen_head conf info) (cell_in conf planes n) (lines_in conf n)
+    body_long rows conf some most (chosen_head conf info) (cell_in conf planes n) (lines_in conf n)
 
 pub returns-clause-few : goal.returns-clause-few
 returns-clause-few c = λ a planes info n is inside.
@@ -33,7 +33,8 @@ pub returns-clause-bytes : goal.returns-clause-bytes
 returns-clause-bytes c = λ a planes info n is said inside.
     let conf = a.configuration in
     let rows : Rows = record { row = c.lengths.ensures.row; most = c.lengths.ensures.most; small = c.lengths.ensures.chosen_small; long = c.chosen.ensures.long; shifted_long = c.lengths-2.ensures.shifted } in
-    let body = body_long rows conf (chosen_head conf info) (cell_in conf planes n) (lines_in conf n) in
+    let depth = c.accepted.ensures.depth conf a.table is in
+    let body = body_long rows conf (omega (arith, depth.0)) depth.1 (chosen_head conf info) (cell_in conf planes n) (lines_in conf n) in
     let head = c.lengths-3.ensures.head a.profile conf a.table n (chosen_head conf info) is (c.chosen_slices.ensures.head a info is said) inside in
     let rest = length-append (head_steps conf n (chosen_head conf info)) (chosen_body conf (chosen_head conf info) (cell_in conf planes n) (lines_in conf n)) in
     let all = length-append (key_steps n) (head_steps conf n (chosen_head conf info) ++ chosen_body conf (chosen_head conf info) (cell_in conf planes n) (lines_in conf n)) in

@@ -1,12 +1,13 @@
 use Rattle.std.proofs.Common.{◌≡◌, ℕ, ◌∙◌, ◌++◌, ap, sym, subst, List, length, take, drop}
 use Rattle.std.proofs.lemmas.List.{with_items_is}
 use Rattle.std.proofs.lemmas.Result.{err_from_is_err_and, MatchResult-weaker}
-use Rattle.ffv1_record.specs.Configuration.{is_rct}
 use Rattle.ffv1_codec.specs.Opened.{coded_by}
 use Rattle.ffv1_codec.specs.Tied.{TiedColumns}
 use Rattle.ffv1_codec.specs.Progress.{FailsIn}
 use Rattle.ffv1_codec.specs.Rows.{open_events}
-use Rattle.ffv1_codec.proofs.RowDecodes.{opened_tied, open_fails, opened_grows, lines_fail, row_decoded, bits_some}
+use Rattle.std.proofs.lemmas.Nat.{pow_pos}
+use Rattle.ffv1_codec.specs.SliceList.{bits_of}
+use Rattle.ffv1_codec.proofs.RowDecodes.{opened_tied, open_fails, opened_grows, lines_fail, row_decoded}
 use Rattle.ffv1_codec.proofs.rows.decode_row.Goals as goal
 
 pub returns-in_err-open_row-clause-exact : goal.returns-in_err-open_row-clause-exact
@@ -34,7 +35,7 @@ returns-clause-exact g c = λ initial s between grows.
     with_items_is c.args.buffers.now.slices.states c.reset.new.states (c.reset.auto.states ∙ c.deref_mut.ensures.len) in
     let opened = c.in_ok-open_row.ensures.exact s between.known between.fresh between.says in
     let long = c.open_row.auto.columns ∙ ap length c.deref_mut-2.ensures.value ∙ c.requires.many in
-    let tied = opened_tied a coded payload c.args.row c.open_row.new.columns c.open_row.new.first s opened long c.reset.new.states (length c.deref_mut.result.now) c.reset.ensures (ap length c.deref_mut.ensures.value ∙ c.requires.room) (bits_some (is_rct a.configuration.colour)) in
+    let tied = opened_tied a coded payload c.args.row c.open_row.new.columns c.open_row.new.first s opened long c.reset.new.states (length c.deref_mut.result.now) c.reset.ensures (ap length c.deref_mut.ensures.value ∙ c.requires.room) (pow_pos (bits_of a.configuration)) in
     let tied = subst (λ z. TiedColumns a coded c.args.row 0 payload (take c.args.buffers.now.slices.columns.len (c.open_row.new.columns ++ drop (length c.open_row.new.columns) c.args.buffers.now.slices.columns.items)) z opened.state) (sym states_back)
     (subst (λ z. TiedColumns a coded c.args.row 0 payload z c.reset.new.states opened.state) (sym columns_back) tied) in
     let grown = opened_grows takes refuses a coded initial c.args.row payload s c.open_row.new.first c.open_row.new.columns opened c.args.sink.now grows in

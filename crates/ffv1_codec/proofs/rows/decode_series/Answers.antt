@@ -1,6 +1,7 @@
-use Rattle.std.proofs.Common.{rules, ◌≡◌, suc, ◌+◌, ◌-◌, ◌*◌, ◌<◌, ◌∙◌, ap, subst, refl, length, take, drop, replicate, arith}
+use Rattle.std.proofs.Common.{rules, ◌≡◌, suc, ◌+◌, ◌-◌, ◌*◌, ◌<◌, ◌∙◌, ap, sym, subst, refl, length, take, drop, replicate, arith}
 use Rattle.std.proofs.lemmas.Result.{err_from_is_err_and}
 use Rattle.std.proofs.lemmas.List.{take-replicate, drop-replicate}
+use Rattle.ffv1_record.specs.Configuration.{Configuration}
 use Rattle.ffv1_codec.specs.Order.{lines_down}
 use Rattle.ffv1_codec.specs.Decoding.{top_of}
 use Rattle.ffv1_codec.specs.Progress.{LinesDecoded}
@@ -27,23 +28,24 @@ loop-y-init g c =
     let payload = c.args.frame.now.payload.now in
     let takes = g.S.LineSink.takes in
     let refuses = g.S.LineSink.refuses in
-    let size = length c.args.out.now in
+    let size = c.args.planes.now.count * c.config.result.now.width in
+    let size_is : size ≡ c.args.planes.now.count * conf.width = ap (λ (z : Configuration). c.args.planes.now.count * z.width) (sym c.config.ensures.value) in
     let all = length c.args.lines.now in
-    let long : all ≡ 3 * size = c.requires.lines_long in
+    let long : all ≡ 3 * size = c.requires.lines_long ∙ ap (λ n. 3 * n) (sym size_is) in
     let two_is : c.split_at_mut-two.result.0.now ≡ replicate size 0 = c.split_at_mut-two.ensures.front ∙ ap (take size) c.clear.ensures ∙ take-replicate size all 0 (omega (arith, long)) in
     let rest_is : c.split_at_mut-two.result.1.now ≡ replicate (all - size) 0 = c.split_at_mut-two.ensures.back ∙ ap (drop size) c.clear.ensures ∙ drop-replicate size all 0 in
     let one_is : c.split_at_mut-one.result.0.now ≡ replicate size 0 = c.split_at_mut-one.ensures.front ∙ ap (take size) rest_is ∙ take-replicate size (all - size) 0 (omega (arith, long)) in
     record {
-      two_long = search rules;
-      one_long = search rules;
-      cur_long = search rules;
+      two_long = c.split_at_mut-two.ensures.front_len ∙ size_is;
+      one_long = c.split_at_mut-one.ensures.front_len ∙ size_is;
+      cur_long = omega (arith, c.split_at_mut-one.ensures.back_len, c.split_at_mut-two.ensures.back_len, c.clear.auto.lines, long, size_is);
       same = record { columns = refl; states = refl };
       opened = c.requires.open;
       held = c.requires.held;
       counted = refl;
       lines = λ coded initial s tied grows.
-          none_decoded takes refuses a coded initial c.args.planes.now.row payload p c.args.planes.now.count s c.args.slices.now.columns.items c.args.slices.now.states.items (length c.args.out.now) c.split_at_mut-two.result.0.now c.split_at_mut-one.result.0.now c.args.sink.now
-          c.cell_is_read.ensures.top (λ q. c.places.ensures.across conf a.table q c.requires.frame.accepted) two_is one_is c.requires.out_long tied grows;
+          none_decoded takes refuses a coded initial c.args.planes.now.row payload p c.args.planes.now.count s c.args.slices.now.columns.items c.args.slices.now.states.items size c.split_at_mut-two.result.0.now c.split_at_mut-one.result.0.now c.args.sink.now
+          c.cell_is_read.ensures.top (λ q. c.places.ensures.across conf a.table q c.requires.frame.accepted) two_is one_is size_is tied grows;
     }
 
 pub decode_whole_line-requires-clause-y : goal.decode_whole_line-requires-clause-y

@@ -1,4 +1,4 @@
-use Rattle.std.proofs.Common.{◌≡◌, ℕ, ◌+◌, List, length}
+use Rattle.std.proofs.Common.{◌≡◌, ℕ, ◌+◌, ◌*◌, List, length}
 use Rattle.ffv1_range.specs.Symbols.{AllHeld}
 use Rattle.ffv1_wire.specs.Runs.{Grows}
 use Rattle.ffv1_codec.specs.Buffers.{KeepsSlices}
@@ -9,9 +9,9 @@ use Rattle.ffv1_codec.proofs.rows.decode_series.Given as goal
 
 abbrev pub invariant-loop-y : goal.invariant-loop-y
 invariant-loop-y g l = record {
-  two_long : length l.two ≡ length l.out;
-  one_long : length l.one ≡ length l.out;
-  cur_long : length l.cur ≡ length l.out;
+  two_long : length l.two ≡ l.planes.count * l.frame.checked.now.configuration.width;
+  one_long : length l.one ≡ l.planes.count * l.frame.checked.now.configuration.width;
+  cur_long : length l.cur ≡ l.planes.count * l.frame.checked.now.configuration.width;
   same : KeepsSlices l.fn.slices l.slices;
   opened : AreOpen l.frame.payload.now l.frame.checked.now.configuration.sets l.slices.columns.items;
   held : AllHeld l.frame.checked.now.table l.slices.states.items;

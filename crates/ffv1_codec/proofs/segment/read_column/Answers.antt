@@ -48,7 +48,7 @@ returns-clause-exact g c = λ past samples y stands rolls.
     (c.requires.open.index class c.class_of-class.ensures.few) sets_are got c.contexts.ensures.value in
     let set : c.get-set.result.now ≡ set_at conf.sets (slice_index c.args.column.now.indexes (class_of c.args.plane)) =
     got ∙ ap (λ z. get_or z index []) (sym sets_are) ∙ sym (set_is conf.sets index) ∙ ap (λ z. set_at conf.sets (slice_index c.args.column.now.indexes z)) c.class_of-class.ensures.value in
-    let bits : c.bits_of.result ≡ bits_of conf = c.bits_of.ensures.value ∙ ap (λ (z : Configuration). bits_of z) (sym c.config-config.ensures.value) in
+    let bits : c.bits_of.result ≡ bits_of conf = c.bits_of.ensures.value in
     let counts : count ≡ contexts_of c.get-set.result.now * 32 = ap (λ z. z * 32) c.contexts.ensures.value in
     let stands_here = class_stands bytes t (base_of conf c.args.plane) c.get-set.result.now c.bits_of.result past samples (length c.read_segment.new.cur) y c.args.states.now at count c.args.column.now.parked
     base counts fits stands c.kept_states.ensures.part in

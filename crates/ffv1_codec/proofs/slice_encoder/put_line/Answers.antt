@@ -31,6 +31,6 @@ returns-clause-ok g c = λ cell y loaded.
       index_inside = c.index_of.ensures.inside;
       set_got = c.get-set.ensures;
     } in
-    let same = looked_line conf slice.info p y cell _ _ _ _ set c.bits_of-bits.result looked c.requires.plane c.bits_of-bits.ensures in
+    let same = looked_line conf slice.info p y cell _ _ _ _ set c.bits_of-bits.result looked c.requires.plane c.bits_of-bits.ensures.value in
     let puts = rw c.table-table.ensures.value at (c.in_ok-put_row.ensures.ok (cell p) y loaded) in
     subst (PutsBehind slice.checked.now.table c.args.encoder.now c.args.states.now c.put_row.new.encoder c.put_row.new.states) same puts

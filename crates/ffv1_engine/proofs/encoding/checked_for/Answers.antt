@@ -1,18 +1,33 @@
-use Rattle.std.proofs.Common.{refl, ◌∙◌, inr, subst}
-use Rattle.ffv1_record.specs.Accepted.{IsFirst, checks}
+use Rattle.std.proofs.Common.{refl, ◌∙◌, ◌≡◌, ap, inr, subst}
+use Rattle.ffv1_record.specs.Accepted.{IsFirstUpTo}
+use Rattle.ffv1_record.specs.Configuration.{at_depth, configuration_of}
 use Rattle.std.proofs.lemmas.Result.{err_from_is_err_and}
-use Rattle.ffv1_engine.proofs.VideoChecks.{own_check}
+use Rattle.ffv1_engine.specs.Packing.{configuration_for}
+use Rattle.ffv1_engine.specs.Profiles.{greatest_depth}
+use Rattle.ffv1_engine.specs.VideoReads.{reading_of}
+use Rattle.ffv1_engine.proofs.VideoChecks.{own_in}
 use Rattle.ffv1_engine.proofs.encoding.checked_for.Goals as goal
 
 pub returns-in_err-check_in-clause-err : goal.returns-in_err-check_in-clause-err
 returns-in_err-check_in-clause-err g c =
     let p = err_from_is_err_and c.from_residual-in_err-check_in.result c.from_residual-in_err-check_in.ensures.1 in
-    rw (p.1, p.2) (inr (c.in_err-check_in.field-0.0, (subst (λ k. IsFirst checks k c.in_err-check_in.field-0.0) c.in_ok-config.ensures.ok c.in_err-check_in.ensures.refused), refl))
+    let f = c.in_err-check_in.field-0.0 in
+    let k : at_depth (configuration_of c.in_ok-config.config) c.depth.result ≡ configuration_for c.args.choice.now (reading_of c.args.reader.now).ppm (reading_of c.args.reader.now).head =
+    ap (at_depth (configuration_of c.in_ok-config.config)) c.depth.ensures.value ∙ c.in_ok-config.ensures.ok in
+    let first = subst (λ z. IsFirstUpTo (greatest_depth c.args.profile) z f) k (rw c.of_record.ensures at c.in_err-check_in.ensures.refused) in
+    rw (p.1, p.2) (inr (f, first, refl))
 
 pub returns-clause-ok : goal.returns-clause-ok
-returns-clause-ok g c = record { configuration = c.in_ok-check_in.ensures.ok ∙ c.in_ok-config.ensures.ok; accepted = c.in_ok-check_in.ensures.accepted }
+returns-clause-ok g c = record {
+  configuration = c.in_ok-check_in.ensures.ok ∙ ap (at_depth (configuration_of c.in_ok-config.config)) c.depth.ensures.value ∙ c.in_ok-config.ensures.ok;
+  accepted = c.in_ok-check_in.ensures.accepted;
+}
 
 pub returns-in_err-check_in-clause-own : goal.returns-in_err-check_in-clause-own
 returns-in_err-check_in-clause-own g c =
     let p = err_from_is_err_and c.from_residual-in_err-check_in.result c.from_residual-in_err-check_in.ensures.1 in
-    rw (p.1, p.2) (own_check c.args.choice.now c.args.ppm c.args.head.now c.in_err-check_in.field-0.0 c.one_table.ensures.standard c.requires (subst (λ k. IsFirst checks k c.in_err-check_in.field-0.0) c.in_ok-config.ensures.ok c.in_err-check_in.ensures.refused))
+    let f = c.in_err-check_in.field-0.0 in
+    let k : at_depth (configuration_of c.in_ok-config.config) c.depth.result ≡ configuration_for c.args.choice.now (reading_of c.args.reader.now).ppm (reading_of c.args.reader.now).head =
+    ap (at_depth (configuration_of c.in_ok-config.config)) c.depth.ensures.value ∙ c.in_ok-config.ensures.ok in
+    let first = subst (λ z. IsFirstUpTo (greatest_depth c.args.profile) z f) k (rw c.of_record.ensures at c.in_err-check_in.ensures.refused) in
+    rw (p.1, p.2) (own_in c.args.profile c.args.choice.now (reading_of c.args.reader.now).ppm (reading_of c.args.reader.now).head f c.one_table.ensures.standard c.in_ok-config.ensures.head c.depth.ensures.least c.requires first)

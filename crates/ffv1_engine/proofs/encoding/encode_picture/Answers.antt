@@ -3,7 +3,6 @@ use Rattle.std.proofs.lemmas.Result.{err_from_is_err_and}
 use Rattle.ffv1_codec.specs.Picture.{planes_of}
 use Rattle.ffv1_wire.specs.Passage.{passage}
 use Rattle.ffv1_y4m.specs.State.{shown}
-use Rattle.ffv1_engine.specs.Packing.{said_for}
 use Rattle.ffv1_engine.specs.VideoReads.{NextRead, reading_of}
 use Rattle.ffv1_engine.proofs.PicturesEncoded.{encoded_one, frame_stops, made_of, next_stops}
 use Rattle.ffv1_engine.proofs.VideoFits.{is_made}
@@ -12,7 +11,7 @@ use Rattle.ffv1_engine.proofs.encoding.encode_picture.Goals as goal
 pub unwrap-picture-requires : goal.unwrap-picture-requires
 unwrap-picture-requires g c =
     let more : c.in_ok-next.field-0 ≡ true = search in
-    is_made c.requires.suits.0 _ _ c.config.result.now.configuration _ _ c.new-2.result c.head.ensures.head (ap (λ a. a.configuration) c.config.ensures ∙ c.requires.suits.1.configuration) (ap (λ v. planes_of v.items) c.replace-lent.ensures.value) (c.in_ok-next.ensures.fits more) c.new-2.ensures.none
+    is_made c.requires.suits.0 _ _ c.config.result.now.configuration _ _ c.new-2.result c.info_for-info.ensures.head (ap (λ a. a.configuration) c.config.ensures ∙ c.requires.suits.1.configuration) (ap (λ v. planes_of v.items) c.replace-lent.ensures.value) (c.in_ok-next.ensures.fits more) (c.in_ok-next.ensures.depth more) c.new-2.ensures.none
 
 pub returns-clause-ok : goal.returns-clause-ok
 returns-clause-ok g c =
@@ -20,7 +19,7 @@ returns-clause-ok g c =
     let read = subst (λ m. NextRead (passage g.R.ByteIn.remaining g.R.ByteIn.failures c.args.input.now c.next.new.input) (reading_of c.args.reader.now) (shown c.next.new.planes.items m) (reading_of c.next.new.self)) more c.in_ok-next.ensures.ok in
     let lent = ap (λ v. planes_of v.items) c.replace-lent.ensures.value in
     let picture = made_of c.new-2.result c.unwrap-picture.result (planes_of c.replace-lent.result.items) c.unwrap-picture.ensures c.new-2.ensures.some in
-    encoded_one _ _ _ _ _ c.unwrap-picture.result _ c.in_ok-frame.frame read (picture ∙ lent) (c.info_for-info.ensures ∙ ap said_for c.head.ensures.value) c.in_ok-frame.ensures.few c.in_ok-frame.ensures.ok
+    encoded_one _ _ _ _ _ c.unwrap-picture.result _ c.in_ok-frame.frame read (picture ∙ lent) c.info_for-info.ensures.value c.in_ok-frame.ensures.few c.in_ok-frame.ensures.ok
 
 pub returns-in_err-next-clause-err : goal.returns-in_err-next-clause-err
 returns-in_err-next-clause-err g c =
@@ -34,4 +33,4 @@ returns-in_err-frame-clause-err g c =
     let read = subst (λ m. NextRead (passage g.R.ByteIn.remaining g.R.ByteIn.failures c.args.input.now c.next.new.input) (reading_of c.args.reader.now) (shown c.next.new.planes.items m) (reading_of c.next.new.self)) more c.in_ok-next.ensures.ok in
     let lent = ap (λ v. planes_of v.items) c.replace-lent.ensures.value in
     let picture = made_of c.new-2.result c.unwrap-picture.result (planes_of c.replace-lent.result.items) c.unwrap-picture.ensures c.new-2.ensures.some in
-    rw (p.1, p.2) (frame_stops _ c.args.encoder.now.accepted _ _ _ c.unwrap-picture.result _ c.in_err-frame.field-0.0 read (picture ∙ lent) (c.info_for-info.ensures ∙ ap said_for c.head.ensures.value) c.in_err-frame.ensures.refused)
+    rw (p.1, p.2) (frame_stops _ c.args.encoder.now.accepted _ _ _ c.unwrap-picture.result _ c.in_err-frame.field-0.0 read (picture ∙ lent) c.info_for-info.ensures.value c.in_err-frame.ensures.refused)

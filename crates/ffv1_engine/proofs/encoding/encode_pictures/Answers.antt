@@ -4,8 +4,12 @@ use Rattle.ffv1_wire.specs.Passage.{passage}
 use Rattle.ffv1_avi.specs.Written.{frames_of}
 use Rattle.ffv1_engine.specs.Encoding.{EncodesNext}
 use Rattle.ffv1_engine.specs.VideoReads.{reading_of}
+use Rattle.ffv1_engine.proofs.ClustersPut.{encoded_none}
 use Rattle.ffv1_engine.proofs.PicturesSoFar.{encoded_all, encoded_more, encoding_stops}
 use Rattle.ffv1_engine.proofs.encoding.encode_pictures.Goals as goal
+
+pub loop-planes-init : goal.loop-planes-init
+loop-planes-init g c = (rw c.requires.none (encoded_none _ _ _ _ c.requires.working c.requires.begun), refl)
 
 pub returns-in_err-encode_next-clause-err : goal.returns-in_err-encode_next-clause-err
 returns-in_err-encode_next-clause-err g c =

@@ -1,5 +1,3 @@
-use Rattle.std.proofs.Common.{◌∙◌, ap}
-use Rattle.ffv1_engine.specs.PackMatroska.{shown_for}
 use Rattle.std.proofs.lemmas.Result.{err_from_is_err_and}
 use Rattle.ffv1_engine.proofs.MatroskaPacked.{made, no_head, no_memory, not_accepted, not_made}
 use Rattle.ffv1_engine.proofs.matroska_packing.open_video.Goals as goal
@@ -7,27 +5,23 @@ use Rattle.ffv1_engine.proofs.matroska_packing.open_video.Goals as goal
 pub returns-in_err-reader-clause-err : goal.returns-in_err-reader-clause-err
 returns-in_err-reader-clause-err g c =
     let p = err_from_is_err_and c.from_residual.result c.from_residual.ensures.1 in
-    rw (p.1, p.2) (no_head c.args.choice.now _ c.in_err-reader.field-0.0 c.in_err-reader.ensures.err)
+    rw (p.1, p.2) (no_head _ c.args.choice.now _ c.in_err-reader.field-0.0 c.in_err-reader.ensures.err)
 
 pub returns-in_err-checked-clause-err : goal.returns-in_err-checked-clause-err
 returns-in_err-checked-clause-err g c =
     let p = err_from_is_err_and c.from_residual-in_err-checked.result c.from_residual-in_err-checked.ensures.1 in
-    rw (p.1, p.2) (not_accepted c.args.choice.now _ _ c.in_err-checked.field-0.0 c.in_ok-reader.ensures.ok (rw (c.is_ppm-ppm.ensures, c.head.ensures.value) at c.in_err-checked.ensures.err))
+    rw (p.1, p.2) (not_accepted _ c.args.choice.now _ _ c.in_err-checked.field-0.0 c.in_ok-reader.ensures.ok c.in_err-checked.ensures.err)
 
 pub returns-in_err-head-clause-err : goal.returns-in_err-head-clause-err
 returns-in_err-head-clause-err g c =
     let p = err_from_is_err_and c.from_residual-in_err-head.result c.from_residual-in_err-head.ensures.1 in
-    rw (p.1, p.2) (no_memory _ _ _ _ c.in_ok-reader.ensures.ok c.in_err-head.ensures.err)
+    rw (p.1, p.2) (no_memory _ _ _ _ _ c.in_ok-reader.ensures.ok c.in_err-head.ensures.err)
 
 pub returns-in_err-writer-clause-err : goal.returns-in_err-writer-clause-err
 returns-in_err-writer-clause-err g c =
     let p = err_from_is_err_and c.from_residual-in_err-writer.result c.from_residual-in_err-writer.ensures.1 in
-    let for = rw (c.is_ppm-ppm.ensures, c.head.ensures.value) at c.in_ok-checked.ensures.ok in
-    let head = rw (c.is_ppm-ppm.ensures, c.head-2.ensures.value) at c.in_ok-head.ensures.ok in
-    rw (p.1, p.2) (not_made c.args.choice.now _ _ _ _ c.shown_for.result c.in_err-writer.field-0.0 c.in_ok-reader.ensures.ok for head c.in_err-writer.ensures).0
+    rw (p.1, p.2) (not_made _ c.args.choice.now _ _ _ _ c.shown_for.result c.in_err-writer.field-0.0 c.in_ok-reader.ensures.ok c.in_ok-checked.ensures.ok c.in_ok-head.ensures.ok c.in_err-writer.ensures).0
 
 pub returns-clause-ok : goal.returns-clause-ok
 returns-clause-ok g c =
-    let for = rw (c.is_ppm-ppm.ensures, c.head.ensures.value) at c.in_ok-checked.ensures.ok in
-    let head = rw (c.is_ppm-ppm.ensures, c.head-2.ensures.value) at c.in_ok-head.ensures.ok in
-    rw c.new-2.ensures (made c.args.choice.now _ _ _ _ _ _ c.in_ok-reader.ensures.ok c.in_ok-reader.ensures.head for head (c.shown_for.ensures ∙ ap shown_for c.head-3.ensures.value) c.in_ok-writer.ensures)
+    rw c.new-2.ensures (made _ c.args.choice.now _ _ _ _ _ _ c.in_ok-reader.ensures.ok c.in_ok-reader.ensures.head c.in_ok-checked.ensures.ok c.in_ok-head.ensures.ok c.shown_for.ensures c.in_ok-writer.ensures)

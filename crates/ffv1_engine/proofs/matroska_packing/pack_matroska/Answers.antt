@@ -1,5 +1,5 @@
 use Rattle.std.proofs.lemmas.Result.{err_from_is_err_and}
-use Rattle.std.proofs.Common.{refl, ◌∙◌, ◌<◌, ap, arith, subst, sym}
+use Rattle.std.proofs.Common.{refl, ◌∙◌, ◌<◌, ap, arith, inl, subst, sym}
 use Rattle.std.proofs.lemmas.Grind.{common_steps}
 use Rattle.ffv1_wire.specs.Passage.{passage}
 use Rattle.ffv1_matroska.specs.Writers.{Writing}
@@ -11,16 +11,16 @@ use Rattle.ffv1_engine.proofs.matroska_packing.pack_matroska.Goals as goal
 pub returns-in_err-reader-clause-err : goal.returns-in_err-reader-clause-err
 returns-in_err-reader-clause-err g c =
     let p = err_from_is_err_and c.from_residual.result c.from_residual.ensures.1 in
-    rw (p.1, p.2) (lacks c.args.choice.now _ (g.W.ByteOut.contents c.args.output.now) (g.W.ByteOut.failures c.args.output.now) c.in_err-reader.field-0.0 c.in_err-reader.ensures.err)
+    rw (p.1, p.2) (lacks _ c.args.choice.now _ (g.W.ByteOut.contents c.args.output.now) (g.W.ByteOut.failures c.args.output.now) c.in_err-reader.field-0.0 c.in_err-reader.ensures.err)
 
 pub returns-in_err-packed-clause-err : goal.returns-in_err-packed-clause-err
 returns-in_err-packed-clause-err g c =
     let p = err_from_is_err_and c.from_residual-in_err-packed.result c.from_residual-in_err-packed.ensures.1 in
-    rw (p.1, p.2) (putting_stops c.args.choice.now _ _ _ _ c.in_ok-reader.ensures.ok _ _ refl refl c.in_err-packed.field-0.0 c.in_err-packed.ensures.err)
+    rw (p.1, p.2) (putting_stops _ c.args.choice.now _ _ _ _ c.in_ok-reader.ensures.ok _ _ refl refl c.in_err-packed.field-0.0 c.in_err-packed.ensures.err)
 
 pub returns-then-packed-eq0-clause-err : goal.returns-then-packed-eq0-clause-err
 returns-then-packed-eq0-clause-err g c =
-    no_pictures c.args.choice.now _ _ _ _ c.in_ok-reader.ensures.ok _ _ refl refl _ _ c.in_ok-packed.ensures.ok c.if-packed-eq0.true
+    no_pictures _ c.args.choice.now _ _ _ _ c.in_ok-reader.ensures.ok _ _ refl refl _ _ c.in_ok-packed.ensures.ok c.if-packed-eq0.true
 
 pub returns-in_err-finished-clause-err : goal.returns-in_err-finished-clause-err
 returns-in_err-finished-clause-err g c =
@@ -30,7 +30,7 @@ returns-in_err-finished-clause-err g c =
     let put = c.in_ok-packed.ensures.ok.put in
     let out = passage g.W.ByteOut.contents g.W.ByteOut.failures c.put_pictures.new.output c.finish.new.out in
     let finishes = c.in_err-finished.ensures.answer (ap (λ (x : Writing). x.failed) put.is) (subst (λ n. 0 < n) (put.frames_are ∙ sym (ap (λ (x : Writing). x.count) put.is)) many) in
-    rw (p.1, p.2) (finish_stops c.args.choice.now _ _ _ _ c.in_ok-reader.ensures.ok _ _ refl refl _ _ c.in_ok-packed.ensures.ok laws c.texts.ensures.only c.images.ensures.only out refl refl many c.in_err-finished.field-0.0 finishes)
+    rw (p.1, p.2) (finish_stops _ c.args.choice.now _ _ _ _ c.in_ok-reader.ensures.ok _ _ refl refl _ _ c.in_ok-packed.ensures.ok laws c.texts.ensures.only c.images.ensures.only out refl refl many c.in_err-finished.field-0.0 finishes)
 
 pub returns-in_err-finished-clause-own : goal.returns-in_err-finished-clause-own
 returns-in_err-finished-clause-own g c =
@@ -39,7 +39,7 @@ returns-in_err-finished-clause-own g c =
     let put = c.in_ok-packed.ensures.ok.put in
     let finishes = c.in_err-finished.ensures.answer (ap (λ (x : Writing). x.failed) put.is) (subst (λ n. 0 < n) (put.frames_are ∙ sym (ap (λ (x : Writing). x.count) put.is)) many) in
     let out = passage g.W.ByteOut.contents g.W.ByteOut.failures c.put_pictures.new.output c.finish.new.out in
-    rw (p.1, p.2) (own_finish out c.put_pictures.new.writer c.in_err-finished.field-0.0 finishes)
+    rw (p.1, p.2) (inl (own_finish out c.put_pictures.new.writer c.in_err-finished.field-0.0 finishes))
 
 pub returns-clause-ok : goal.returns-clause-ok
 returns-clause-ok g c =
@@ -48,4 +48,4 @@ returns-clause-ok g c =
     let put = c.in_ok-packed.ensures.ok.put in
     let out = passage g.W.ByteOut.contents g.W.ByteOut.failures c.put_pictures.new.output c.finish.new.out in
     let finishes = c.in_ok-finished.ensures.answer (ap (λ (x : Writing). x.failed) put.is) (subst (λ n. 0 < n) (put.frames_are ∙ sym (ap (λ (x : Writing). x.count) put.is)) many) in
-    packs c.args.choice.now _ _ _ _ c.in_ok-reader.ensures.ok _ _ refl refl _ _ c.in_ok-packed.ensures.ok laws c.texts.ensures.only c.images.ensures.only out refl refl many c.in_ok-finished.finished finishes
+    packs _ c.args.choice.now _ _ _ _ c.in_ok-reader.ensures.ok _ _ refl refl _ _ c.in_ok-packed.ensures.ok laws c.texts.ensures.only c.images.ensures.only out refl refl many c.in_ok-finished.finished finishes

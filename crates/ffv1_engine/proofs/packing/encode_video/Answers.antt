@@ -9,36 +9,36 @@ use Rattle.ffv1_engine.proofs.packing.encode_video.Goals as goal
 pub returns-in_err-reader-clause-err : goal.returns-in_err-reader-clause-err
 returns-in_err-reader-clause-err g c =
     let p = err_from_is_err_and c.from_residual.result c.from_residual.ensures.1 in
-    rw (p.1, p.2) (no_head c.args.choice.now _ c.in_err-reader.field-0.0 c.in_err-reader.ensures.err)
+    rw (p.1, p.2) (no_head _ c.args.choice.now _ c.in_err-reader.field-0.0 c.in_err-reader.ensures.err)
 
 pub returns-in_err-head-clause-err : goal.returns-in_err-head-clause-err
 returns-in_err-head-clause-err g c =
     let p = err_from_is_err_and c.from_residual-in_err-head.result c.from_residual-in_err-head.ensures.1 in
-    rw (p.1, p.2) (wants_memory _ _ _ _ c.in_ok-reader.ensures.ok c.in_err-head.ensures.err)
+    rw (p.1, p.2) (wants_memory _ _ _ _ _ c.in_ok-reader.ensures.ok c.in_err-head.ensures.err)
 
 pub returns-in_err-checked-clause-err : goal.returns-in_err-checked-clause-err
 returns-in_err-checked-clause-err g c =
     let p = err_from_is_err_and c.from_residual-in_err-checked.result c.from_residual-in_err-checked.ensures.1 in
-    rw (p.1, p.2) (rejected c.args.choice.now _ _ c.in_err-checked.field-0.0 c.in_ok-reader.ensures.ok (rw (c.is_ppm-ppm.ensures, c.head.ensures.value) at c.in_err-checked.ensures.err))
+    rw (p.1, p.2) (rejected _ c.args.choice.now _ _ c.in_err-checked.field-0.0 c.in_ok-reader.ensures.ok c.in_err-checked.ensures.err)
 
 pub returns-in_err-encode_pictures-clause-err : goal.returns-in_err-encode_pictures-clause-err
 returns-in_err-encode_pictures-clause-err g c =
     let p = err_from_is_err_and c.from_residual-in_err-encode_pictures.result c.from_residual-in_err-encode_pictures.ensures.1 in
-    let for = rw (c.is_ppm-ppm.ensures, c.head.ensures.value) at c.in_ok-checked.ensures.ok in
+    let for = c.in_ok-checked.ensures.ok in
     let accepted = ap (λ e. e.accepted) c.new-encoder.ensures in
-    rw (p.1, p.2) (stops c.args.choice.now _ _ _ _ c.in_err-encode_pictures.field-0.0 refl refl c.in_ok-reader.ensures.ok for (rw accepted at c.in_err-encode_pictures.ensures.err))
+    rw (p.1, p.2) (stops _ c.args.choice.now _ _ _ _ c.in_err-encode_pictures.field-0.0 refl refl c.in_ok-reader.ensures.ok for (rw accepted at c.in_err-encode_pictures.ensures.err))
 
 pub returns-then-is_empty-clause-err : goal.returns-then-is_empty-clause-err
 returns-then-is_empty-clause-err g c =
-    let for = rw (c.is_ppm-ppm.ensures, c.head.ensures.value) at c.in_ok-checked.ensures.ok in
+    let for = c.in_ok-checked.ensures.ok in
     let accepted = ap (λ e. e.accepted) c.new-encoder.ensures in
     let empty : length c.encode_pictures.new.frames.items ≡ 0 = empty_of c.encode_pictures.new.frames _ c.is_empty.ensures c.if-is_empty.true in
-    none c.args.choice.now _ _ _ _ _ refl refl c.in_ok-reader.ensures.ok for (rw accepted at c.in_ok-encode_pictures.ensures.ok) (no_frames _ empty)
+    none _ c.args.choice.now _ _ _ _ _ refl refl c.in_ok-reader.ensures.ok for (rw accepted at c.in_ok-encode_pictures.ensures.ok) (no_frames _ empty)
 
 pub returns-clause-ok : goal.returns-clause-ok
 returns-clause-ok g c =
-    let for = rw (c.is_ppm-ppm.ensures, c.head.ensures.value) at c.in_ok-checked.ensures.ok in
+    let for = c.in_ok-checked.ensures.ok in
     let accepted = ap (λ e. e.accepted) c.new-encoder.ensures in
     let some : 0 < length c.encode_pictures.new.frames.items = grind (arith, common_steps, c.is_empty.ensures, c.if-is_empty.false) in
-    let head = rw (c.is_ppm-ppm.ensures, c.head-2.ensures.value) at c.in_ok-head.ensures.ok in
-    encodes_video c.texts.ensures.only c.images.ensures.only c.args.choice.now _ _ _ _ _ _ refl refl c.in_ok-reader.ensures.ok c.in_ok-reader.ensures.head for (rw accepted at c.in_ok-encode_pictures.ensures.ok) (some_frames _ some) head
+    let head = c.in_ok-head.ensures.ok in
+    encodes_video c.texts.ensures.only c.images.ensures.only _ c.args.choice.now _ _ _ _ _ _ refl refl c.in_ok-reader.ensures.ok c.in_ok-reader.ensures.head for (rw accepted at c.in_ok-encode_pictures.ensures.ok) (some_frames _ some) head

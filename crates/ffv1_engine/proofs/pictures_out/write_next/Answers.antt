@@ -1,6 +1,7 @@
 use Rattle.std.proofs.Common.{◌≡◌, Ok, Err, inl, inr, ap, sym, subst, ◌∙◌}
 use Rattle.std.proofs.lemmas.Result.{err_from_is_err_and}
 use Rattle.ffv1_wire.specs.Passage.{passage}
+use Rattle.ffv1_record.specs.Accepted.{Accepted}
 use Rattle.ffv1_codec.specs.Kept.{Keeps, KeepsNot}
 use Rattle.ffv1_codec.specs.Picture.{Planes, planes_of}
 use Rattle.ffv1_engine.specs.PicturesOut.{NextStopsBy, WritesPicture, said_in}
@@ -33,7 +34,9 @@ returns-in_err-write_picture-in-Ok-Some-clause-answer g c =
     let frame : Frame = record { payload = payload; planes = found.0; said = info; tally = tally } in
     let plays : PlaysFrame a c.args.player.now.reader.place c.play.new.player.reader.place input frame =
     record { is = record { codes = found.1; decided = is_decided Keeps KeepsNot a payload c.args.kept.now c.play.new.sink tally info answer.1 }; reads = answer.0 } in
-    let writes = subst (λ (z : Planes). WritesPicture h first info z output c.write_picture.new.text.begun (Err f)) planes c.in_err-write_picture-in-Ok-Some.ensures.answer in
+    let depth = c.depth-depth.ensures.value ∙ ap (λ (x : Accepted). x.configuration.depth) c.config.ensures in
+    let writes = subst (λ (z : Planes). WritesPicture a.configuration.depth h first info z output c.write_picture.new.text.begun (Err f)) planes
+    (subst (λ n. WritesPicture n h first info (planes_of c.planes.result.now) output c.write_picture.new.text.begun (Err f)) depth c.in_err-write_picture-in-Ok-Some.ensures.answer) in
     rw (p.1, p.2) (picture_stops a h first c.args.player.now.reader.place c.play.new.player.reader.place input output c.write_picture.new.text.begun frame f plays writes)
 
 pub returns-in_ok-write_picture-in-Ok-Some-clause-answer :
@@ -54,7 +57,9 @@ returns-in_ok-write_picture-in-Ok-Some-clause-answer g c =
     let frame : Frame = record { payload = payload; planes = found.0; said = info; tally = tally } in
     let plays : PlaysFrame a c.args.player.now.reader.place c.play.new.player.reader.place input frame =
     record { is = record { codes = found.1; decided = is_decided Keeps KeepsNot a payload c.args.kept.now c.play.new.sink tally info answer.1 }; reads = answer.0 } in
-    let writes = subst (λ (z : Planes). WritesPicture h first info z output c.write_picture.new.text.begun (Ok tt)) planes c.in_ok-write_picture-in-Ok-Some.ensures.answer in
+    let depth = c.depth-depth.ensures.value ∙ ap (λ (x : Accepted). x.configuration.depth) c.config.ensures in
+    let writes = subst (λ (z : Planes). WritesPicture a.configuration.depth h first info z output c.write_picture.new.text.begun (Ok tt)) planes
+    (subst (λ n. WritesPicture n h first info (planes_of c.planes.result.now) output c.write_picture.new.text.begun (Ok tt)) depth c.in_ok-write_picture-in-Ok-Some.ensures.answer) in
     (frame, plays, writes.0, writes.1, writes.2, writes.3)
 
 pub returns-in_ok-write_picture-in-Ok-Some-clause-kept :

@@ -76,7 +76,7 @@ loop-kept-preserved g c =
     let input = passage g.R.ByteIn.remaining g.R.ByteIn.failures c.loop-kept.input c.write_next.new.input in
     let output = passage g.W.ByteOut.contents g.W.ByteOut.failures c.loop-kept.output c.write_next.new.output in
     let answer =
-    subst (λ b. WritesNext a h (said_in (begun_behind h so.frames)) to last input output c.write_next.new.text.begun (Ok b)) c.if-branch.true
+    subst (λ b. WritesNext a h (said_in (begun_behind a.configuration.depth h so.frames)) to last input output c.write_next.new.text.begun (Ok b)) c.if-branch.true
     (subst (λ z. WritesNext a h (said_in z) to last input output c.write_next.new.text.begun (Ok c.in_ok-write_next.field-0)) so.begun_is
     (subst (λ z. WritesNext z h (said_in c.loop-kept.text.begun) to last input output c.write_next.new.text.begun (Ok c.in_ok-write_next.field-0)) i.1
     c.in_ok-write_next.ensures.answer)) in
@@ -95,7 +95,7 @@ loop-kept-preserved g c =
           (g.R.ByteIn.failures c.args.input.now) (g.R.ByteIn.failures c.loop-kept.input) (g.R.ByteIn.failures c.write_next.new.input)
           (g.W.ByteOut.failures c.args.output.now) (g.W.ByteOut.failures c.loop-kept.output) (g.W.ByteOut.failures c.write_next.new.output)
           so.frames so.un f answer.1 answer.2 answer.3 answer.4;
-      begun_is = answer.5 ∙ begun_more h so.frames f answer.2;
+      begun_is = answer.5 ∙ begun_more a.configuration.depth h so.frames f answer.2;
     } in
     let head = sym c.in_ok-write_next.ensures.head in (
       c.in_ok-write_next.ensures.sound,

@@ -4,6 +4,7 @@ use Rattle.ffv1_wire.specs.Passage.{passage}
 use Rattle.ffv1_record.specs.Reading.{IsRefused, ReachesSets}
 use Rattle.ffv1_record.specs.declared.fault.RecordFault.TheVariants as record_fault
 use Rattle.ffv1_reads.specs.Head.{Head}
+use Rattle.ffv1_engine.specs.Profiles.{greatest_depth}
 use Rattle.ffv1_engine.specs.Stream.{IsStream}
 use Rattle.ffv1_engine.proofs.Openings.{lacks_file, lacks_record}
 use Rattle.ffv1_engine.proofs.OwnFaults.{file_opens, record_opens, within_of}
@@ -16,8 +17,8 @@ returns-in_err-checked-clause-err g c =
     rw (p.1, p.2)
     (lacks_record c.args.profile (passage g.R.ByteIn.remaining g.R.ByteIn.failures c.args.input.now c.open.new.input) c.in_ok-reader.reader.head c.in_ok-reader.reader.place f
     c.in_ok-reader.ensures.answer.0 (rw c.scope.ensures at c.in_ok-reader.ensures.answer.1)
-    (subst (λ (z : Head). (f ≡ record_fault.OutOfMemory) ⊎ IsRefused z.config_record z.width z.height f) c.head.ensures c.in_err-checked.ensures.err)
-    (λ memory. subst (λ (z : Head). ReachesSets z.config_record) c.head.ensures (c.in_err-checked.ensures.memory memory)))
+    (subst (λ (z : Head). (f ≡ record_fault.OutOfMemory) ⊎ IsRefused (greatest_depth c.args.profile) z.config_record z.width z.height f) c.head.ensures c.in_err-checked.ensures.err)
+    (λ memory. subst (λ (z : Head). ReachesSets (greatest_depth c.args.profile) z.config_record) c.head.ensures (c.in_err-checked.ensures.memory memory)))
 
 pub returns-in_err-reader-clause-err : goal.returns-in_err-reader-clause-err
 returns-in_err-reader-clause-err g c =

@@ -7,8 +7,8 @@ use Rattle.ffv1_matroska.specs.MatroskaFiles.{MatroskaFile}
 use Rattle.ffv1_engine.specs.MatroskaRoundTrip.{matroska_file}
 use Rattle.ffv1_engine.specs.Packing.{packed_file}
 use Rattle.ffv1_engine.specs.RoundTrip.{IsFileIn}
-use Rattle.ffv1_engine.proofs.MatroskaUnpacked.{MatroskaLaws, accepted_wide, begun_read, file_is, file_reads, given as of_matroska, writable}
-use Rattle.ffv1_engine.proofs.PackedIsUnpacked.{FileLaws, accepted_in, avi_is, avi_reads, check_refused, given, holds, ppm_by, same_by, same_ppm, same_video, show_refused, unpack_refused, written}
+use Rattle.ffv1_engine.proofs.MatroskaUnpacked.{MatroskaLaws, accepted_wide, begun_read, file_is, file_reads, given as of_matroska, read_wide, writable}
+use Rattle.ffv1_engine.proofs.PackedIsUnpacked.{FileLaws, accepted_in, avi_is, avi_reads, check_refused, given, holds, ppm_by, read_in, same_by, same_ppm, same_video, show_refused, unpack_refused, written}
 use Rattle.ffv1_engine.proofs.PackedText.{RecordLaws}
 use Rattle.ffv1_engine.proofs.round_trip.packed_is_unpacked.Goals as goal
 
@@ -20,6 +20,7 @@ file_laws Strict c = record {
   is_whole = c.file_is_read.ensures.whole;
   next = c.frames_in_turn.ensures;
   said = c.said_heads.ensures;
+  named = c.said_depths.ensures;
   canonical = c.texts.ensures.canonical;
 }
 file_laws Wide c = record {
@@ -29,6 +30,7 @@ file_laws Wide c = record {
   is_whole = c.file_is_read.ensures.whole;
   next = c.frames_in_turn.ensures;
   said = c.said_heads.ensures;
+  named = c.said_depths.ensures;
   canonical = c.texts.ensures.canonical;
 }
 
@@ -64,26 +66,33 @@ matroska_laws c = record {
   is_whole = c.file_is_read.ensures.whole;
 }
 
+pub returns-clause-read : goal.returns-clause-read
+returns-clause-read c = read_in
+
 pub returns-clause-holds : goal.returns-clause-holds
-returns-clause-holds c = λ profile choice text w.
-    holds profile (file_laws profile c) (frame_laws c) (record_laws c) choice text w.packs.video (accepted_in profile w) refl (given profile choice text w) (packed_file choice w.packs.video (accepted_in profile w)) (avi_reads profile (file_laws profile c) (frame_laws c) (record_laws c) choice text w) (IsFileIn profile)
-    (avi_is profile (file_laws profile c) (frame_laws c) (record_laws c) choice text w)
+returns-clause-holds c = λ packing profile choice text w read.
+    holds profile (file_laws profile c) (frame_laws c) (record_laws c) choice text w.packs.video (accepted_in profile w) refl read (given packing profile choice text w) (packed_file choice w.packs.video (accepted_in profile w))
+    (avi_reads packing profile (file_laws profile c) (frame_laws c) (record_laws c) choice text w read) (IsFileIn profile) (avi_is packing profile (file_laws profile c) (frame_laws c) (record_laws c) choice text w read)
 
 pub returns-clause-written : goal.returns-clause-written
-returns-clause-written c = λ profile choice text w.
-    written profile (file_laws profile c) (frame_laws c) (record_laws c) choice text w.packs.video (accepted_in profile w) refl (given profile choice text w) (packed_file choice w.packs.video (accepted_in profile w)) (avi_reads profile (file_laws profile c) (frame_laws c) (record_laws c) choice text w)
+returns-clause-written c = λ packing profile choice text w input output count read.
+    written profile (file_laws profile c) (frame_laws c) (record_laws c) choice text w.packs.video (accepted_in profile w) refl read (given packing profile choice text w) (packed_file choice w.packs.video (accepted_in profile w))
+    (avi_reads packing profile (file_laws profile c) (frame_laws c) (record_laws c) choice text w read) input output count
 
 pub returns-clause-refused : goal.returns-clause-refused
-returns-clause-refused c = λ profile choice text w input output f known stops.
-    unpack_refused profile (file_laws profile c) (frame_laws c) (record_laws c) choice text w.packs.video (accepted_in profile w) refl (given profile choice text w) (packed_file choice w.packs.video (accepted_in profile w)) (avi_reads profile (file_laws profile c) (frame_laws c) (record_laws c) choice text w) input output known f stops
+returns-clause-refused c = λ packing profile choice text w input output f read known stops.
+    unpack_refused profile (file_laws profile c) (frame_laws c) (record_laws c) choice text w.packs.video (accepted_in profile w) refl read (given packing profile choice text w) (packed_file choice w.packs.video (accepted_in profile w))
+    (avi_reads packing profile (file_laws profile c) (frame_laws c) (record_laws c) choice text w read) input output known f stops
 
 pub returns-clause-checked : goal.returns-clause-checked
-returns-clause-checked c = λ profile choice text w place input output f known stops.
-    check_refused profile (file_laws profile c) (frame_laws c) (record_laws c) choice text w.packs.video (accepted_in profile w) refl (given profile choice text w) (packed_file choice w.packs.video (accepted_in profile w)) (avi_reads profile (file_laws profile c) (frame_laws c) (record_laws c) choice text w) input output known place f stops
+returns-clause-checked c = λ packing profile choice text w place input output f read known stops.
+    check_refused profile (file_laws profile c) (frame_laws c) (record_laws c) choice text w.packs.video (accepted_in profile w) refl read (given packing profile choice text w) (packed_file choice w.packs.video (accepted_in profile w))
+    (avi_reads packing profile (file_laws profile c) (frame_laws c) (record_laws c) choice text w read) input output known place f stops
 
 pub returns-clause-shown : goal.returns-clause-shown
-returns-clause-shown c = λ profile choice text w cost input output f known stops.
-    show_refused profile (file_laws profile c) (frame_laws c) (record_laws c) choice text w.packs.video (accepted_in profile w) refl (given profile choice text w) (packed_file choice w.packs.video (accepted_in profile w)) (avi_reads profile (file_laws profile c) (frame_laws c) (record_laws c) choice text w) input output known cost f stops
+returns-clause-shown c = λ packing profile choice text w cost input output f read known stops.
+    show_refused profile (file_laws profile c) (frame_laws c) (record_laws c) choice text w.packs.video (accepted_in profile w) refl read (given packing profile choice text w) (packed_file choice w.packs.video (accepted_in profile w))
+    (avi_reads packing profile (file_laws profile c) (frame_laws c) (record_laws c) choice text w read) input output known cost f stops
 
 pub returns-clause-same : goal.returns-clause-same
 returns-clause-same c = same_video (file_laws Strict c)
@@ -92,31 +101,35 @@ pub returns-clause-ppm : goal.returns-clause-ppm
 returns-clause-ppm c = same_ppm
 
 pub returns-clause-matroska_holds : goal.returns-clause-matroska_holds
-returns-clause-matroska_holds c = λ choice text w.
-    holds Wide (file_laws Wide c) (frame_laws c) (record_laws c) choice text w.packs.video (accepted_wide w) refl (of_matroska choice text w) (matroska_file w) (file_reads (frame_laws c) (record_laws c) (matroska_laws c) choice text w) MatroskaFile
-    (file_is (frame_laws c) (record_laws c) (matroska_laws c) choice text w)
+returns-clause-matroska_holds c = λ packing choice text w.
+    holds Wide (file_laws Wide c) (frame_laws c) (record_laws c) choice text w.packs.video (accepted_wide w) refl (read_wide packing choice text w) (of_matroska packing choice text w) (matroska_file w)
+    (file_reads packing (frame_laws c) (record_laws c) (matroska_laws c) choice text w) MatroskaFile (file_is packing (frame_laws c) (record_laws c) (matroska_laws c) choice text w)
 
 pub returns-clause-matroska_written : goal.returns-clause-matroska_written
-returns-clause-matroska_written c = λ choice text w.
-    written Wide (file_laws Wide c) (frame_laws c) (record_laws c) choice text w.packs.video (accepted_wide w) refl (of_matroska choice text w) (matroska_file w) (file_reads (frame_laws c) (record_laws c) (matroska_laws c) choice text w)
+returns-clause-matroska_written c = λ packing choice text w.
+    written Wide (file_laws Wide c) (frame_laws c) (record_laws c) choice text w.packs.video (accepted_wide w) refl (read_wide packing choice text w) (of_matroska packing choice text w) (matroska_file w)
+    (file_reads packing (frame_laws c) (record_laws c) (matroska_laws c) choice text w)
 
 pub returns-clause-matroska_refused : goal.returns-clause-matroska_refused
-returns-clause-matroska_refused c = λ choice text w input output f known stops.
-    unpack_refused Wide (file_laws Wide c) (frame_laws c) (record_laws c) choice text w.packs.video (accepted_wide w) refl (of_matroska choice text w) (matroska_file w) (file_reads (frame_laws c) (record_laws c) (matroska_laws c) choice text w) input output known f stops
+returns-clause-matroska_refused c = λ packing choice text w input output f known stops.
+    unpack_refused Wide (file_laws Wide c) (frame_laws c) (record_laws c) choice text w.packs.video (accepted_wide w) refl (read_wide packing choice text w) (of_matroska packing choice text w) (matroska_file w)
+    (file_reads packing (frame_laws c) (record_laws c) (matroska_laws c) choice text w) input output known f stops
 
 pub returns-clause-matroska_checked : goal.returns-clause-matroska_checked
-returns-clause-matroska_checked c = λ choice text w place input output f known stops.
-    check_refused Wide (file_laws Wide c) (frame_laws c) (record_laws c) choice text w.packs.video (accepted_wide w) refl (of_matroska choice text w) (matroska_file w) (file_reads (frame_laws c) (record_laws c) (matroska_laws c) choice text w) input output known place f stops
+returns-clause-matroska_checked c = λ packing choice text w place input output f known stops.
+    check_refused Wide (file_laws Wide c) (frame_laws c) (record_laws c) choice text w.packs.video (accepted_wide w) refl (read_wide packing choice text w) (of_matroska packing choice text w) (matroska_file w)
+    (file_reads packing (frame_laws c) (record_laws c) (matroska_laws c) choice text w) input output known place f stops
 
 pub returns-clause-matroska_shown : goal.returns-clause-matroska_shown
-returns-clause-matroska_shown c = λ choice text w cost input output f known stops.
-    show_refused Wide (file_laws Wide c) (frame_laws c) (record_laws c) choice text w.packs.video (accepted_wide w) refl (of_matroska choice text w) (matroska_file w) (file_reads (frame_laws c) (record_laws c) (matroska_laws c) choice text w) input output known cost f stops
+returns-clause-matroska_shown c = λ packing choice text w cost input output f known stops.
+    show_refused Wide (file_laws Wide c) (frame_laws c) (record_laws c) choice text w.packs.video (accepted_wide w) refl (read_wide packing choice text w) (of_matroska packing choice text w) (matroska_file w)
+    (file_reads packing (frame_laws c) (record_laws c) (matroska_laws c) choice text w) input output known cost f stops
 
 pub returns-clause-matroska_same : goal.returns-clause-matroska_same
-returns-clause-matroska_same c = λ choice text w. same_by (file_laws Wide c) w.packs.video.ppm text w.packs.video.head w.packs.video.pictures (of_matroska choice text w).is
+returns-clause-matroska_same c = λ packing choice text w. same_by (file_laws Wide c) w.packs.video.ppm text w.packs.video.head w.packs.video.pictures (of_matroska packing choice text w).is
 
 pub returns-clause-matroska_ppm : goal.returns-clause-matroska_ppm
-returns-clause-matroska_ppm c = λ choice text w. ppm_by w.packs.video.ppm text w.packs.video.head w.packs.video.pictures (of_matroska choice text w).is
+returns-clause-matroska_ppm c = λ packing choice text w. ppm_by w.packs.video.ppm text w.packs.video.head w.packs.video.pictures (of_matroska packing choice text w).is
 
 pub returns-clause-begun : goal.returns-clause-begun
 returns-clause-begun c = λ choice v a has some rated. begun_read (matroska_laws c) choice v a some (writable (frame_laws c) (record_laws c) choice v a has some rated)

@@ -1,11 +1,12 @@
-use Rattle.std.proofs.Common.{arith, rules, ◌+◌, ◌-◌, ◌<◌, ◌∙◌, ap, inl, inr, length, get_or, Bool, ℤ}
+use Rattle.std.proofs.Common.{arith, rules, ◌+◌, ◌-◌, ◌<◌, ◌∙◌, ap, sym, inl, inr, length, get_or, Bool, ℤ}
 use Rattle.std.proofs.lemmas.Int.{to_z-of_z}
 use Rattle.std.specs.Int.{w32}
 use mir.Val.{SFits}
 use Rattle.ffv1_plane.specs.declared.prediction.Around.{Around}
-use Rattle.ffv1_plane.specs.Prediction.{predicted}
+use Rattle.ffv1_plane.specs.Prediction.{predicted_in}
 use Rattle.ffv1_plane.specs.Context.{size_of, flip_of}
 use Rattle.ffv1_plane.specs.Residual.{chosen_of}
+use Rattle.ffv1_line.proofs.Narrow.{unsigned_at}
 use Rattle.ffv1_line.proofs.Rows.{scalars}
 use Rattle.ffv1_line.proofs.Beside.{beside_by, folded_by, before_next, two_before_next, block_next}
 use Rattle.ffv1_line.proofs.block.prepare_places.Goals as goal
@@ -32,9 +33,9 @@ loop-k-preserved g c =
     let nine = simp to_z-of_z at c.nine_bits.ensures.value in
     let value = simp to_z-of_z at c.residual_of-residual.ensures.value in
     let is = beside_by two one cur x (length cur - 1) c.loop-k.ll c.loop-k.l c.loop-k.tl c.right_above.result (omega arith) c.loop-k.invariant.two_left c.loop-k.invariant.left c.loop-k.invariant.top_left c.right_above.ensures in
-    let chosen = nine ∙ value ∙ ap (λ (p : ℤ). chosen_of c.args.part.now.bits p c.context_by-size.result.1 sample) c.predict.ensures
-    ∙ ap (λ (f : Bool). chosen_of c.args.part.now.bits (predicted at) f sample) c.context_by-size.ensures.flip
-    ∙ ap (λ (a : Around). chosen_of c.args.part.now.bits (predicted a) (flip_of set a) sample) is in
+    let chosen = nine ∙ value ∙ ap (λ (p : ℤ). chosen_of c.args.part.now.bits p c.context_by-size.result.1 sample) (c.predict.ensures ∙ sym (unsigned_at c.args.part.now.bits c.requires.part.bits at))
+    ∙ ap (λ (f : Bool). chosen_of c.args.part.now.bits (predicted_in c.args.part.now.bits at) f sample) c.context_by-size.ensures.flip
+    ∙ ap (λ (a : Around). chosen_of c.args.part.now.bits (predicted_in c.args.part.now.bits a) (flip_of set a) sample) is in
     record {
       two_left = two_before_next one cur c.args.part.now.from c.loop-k.k c.loop-k.l c.loop-k.invariant.left;
       left = before_next one cur c.args.part.now.from c.loop-k.k;

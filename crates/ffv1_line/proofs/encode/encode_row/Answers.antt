@@ -16,9 +16,8 @@ parts-init g c = record {
 pub encode_block-requires-clause-part : goal.encode_block-requires-clause-part
 encode_block-requires-clause-part g c =
     let one_long : length c.above.inside.one.now ≡ length c.args.cur.now = rw (← c.above.view_is) at c.requires.one_long in
-    let bits : c.coding.inside.bits ≡ g.row.BITS = rw (← c.coding.view_is) at c.requires.bits in
     record {
-      bits = rw bits at c.coding.invariant;
+      bits = c.requires.depth;
       near = rw (← c.coding.view_is) at c.requires.near;
       some = c.requires.some;
       few = omega (arith, c.min-count.ensures);

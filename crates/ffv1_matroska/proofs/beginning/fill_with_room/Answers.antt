@@ -1,4 +1,5 @@
 use Rattle.std.proofs.Common.{◌-◌, ◌∙◌, arith}
+use Rattle.std.proofs.lemmas.Grind.{common_steps}
 use Rattle.std.proofs.lemmas.Result.{err_from_is_err_and}
 use Rattle.ffv1_reads.specs.Reads.{Kept}
 use Rattle.ffv1_reads.proofs.LoopReadings.{fill_done, fill_more, fill_refused, wanted_consumed}
@@ -22,3 +23,39 @@ returns-clause-answer g c =
     let last = c.in_ok-append.ensures in
     let all = fill_more _ _ _ items c.append.new.bytes.items 1 before last.answer.1 in
     (last.answer.0 ∙ read.0, fill_done _ _ c.append.new.bytes.items size (omega (arith, c.requires, c.in_ok-fill.ensures.long, last.long)) all)
+
+pub returns-in_err-fill-clause-kept : goal.returns-in_err-fill-clause-kept
+returns-in_err-fill-clause-kept g c =
+    let p = err_from_is_err_and c.from_residual.result c.from_residual.ensures.1 in
+    rw p.1 (grind (arith, common_steps))
+
+pub returns-in_err-reserve_exact-clause-kept : goal.returns-in_err-reserve_exact-clause-kept
+returns-in_err-reserve_exact-clause-kept g c =
+    let p = err_from_is_err_and c.from_residual-in_err-reserve_exact.result c.from_residual-in_err-reserve_exact.ensures.1 in
+    rw p.1 (grind (arith, common_steps))
+
+pub returns-in_err-append-clause-kept : goal.returns-in_err-append-clause-kept
+returns-in_err-append-clause-kept g c =
+    let p = err_from_is_err_and c.from_residual-in_err-append.result c.from_residual-in_err-append.ensures.1 in
+    rw p.1 (grind (arith, common_steps))
+
+pub returns-clause-kept : goal.returns-clause-kept
+returns-clause-kept g c = grind (arith, common_steps)
+
+pub returns-in_err-fill-clause-grown : goal.returns-in_err-fill-clause-grown
+returns-in_err-fill-clause-grown g c =
+    let p = err_from_is_err_and c.from_residual.result c.from_residual.ensures.1 in
+    rw p.1 (grind (arith, common_steps))
+
+pub returns-in_err-reserve_exact-clause-grown : goal.returns-in_err-reserve_exact-clause-grown
+returns-in_err-reserve_exact-clause-grown g c =
+    let p = err_from_is_err_and c.from_residual-in_err-reserve_exact.result c.from_residual-in_err-reserve_exact.ensures.1 in
+    rw p.1 (grind (arith, common_steps))
+
+pub returns-in_err-append-clause-grown : goal.returns-in_err-append-clause-grown
+returns-in_err-append-clause-grown g c =
+    let p = err_from_is_err_and c.from_residual-in_err-append.result c.from_residual-in_err-append.ensures.1 in
+    rw p.1 (grind (arith, common_steps))
+
+pub returns-clause-grown : goal.returns-clause-grown
+returns-clause-grown g c = grind (arith, common_steps)

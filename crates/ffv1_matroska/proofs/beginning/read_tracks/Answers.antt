@@ -11,9 +11,9 @@ use Rattle.ffv1_matroska.proofs.beginning.read_tracks.Goals as goal
 abbrev behind_content : List ℕ → Reading Track
 behind_content content = told (track_in content)
 
-pub returns-in_err-track : goal.returns-in_err-track
+pub returns-in_err-track-clause-answer : goal.returns-in_err-track-clause-answer
 unfolding tracks_read
-returns-in_err-track g c =
+returns-in_err-track-clause-answer g c =
     let p = err_from_is_err_and c.from_residual-in_err-track.result c.from_residual-in_err-track.ensures.1 in
     let start = goes_none (tracks_read c.args.size) (g.R.ByteIn.remaining c.args.input.now) (g.R.ByteIn.failures c.args.input.now) in
     let content = c.keep_tracks.new.content.items in

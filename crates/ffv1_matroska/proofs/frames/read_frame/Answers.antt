@@ -1,4 +1,5 @@
-use Rattle.std.proofs.Common.{◌≡◌, ◌∙◌, ℕ, List, Option, Some, true, false, refl, sym}
+use Rattle.std.proofs.Common.{◌≡◌, ◌∙◌, ℕ, List, Option, Some, true, false, refl, sym, arith}
+use Rattle.std.proofs.lemmas.Grind.{common_steps}
 use Rattle.std.proofs.lemmas.Result.{err_from_is_err_and}
 use Rattle.ffv1_reads.specs.Reads.{Reading, given, refused}
 use Rattle.ffv1_reads.specs.declared.fault.FileFault.TheVariants as fault
@@ -83,3 +84,22 @@ returns-clause-answer g c =
     let next = goes_read (kept_summed size after.sum) (behind after) _ _ (bytes, sum) found c.in_ok-fill_summed.ensures.answer in
     let sound : is_sound last ≡ true = rw c.summed_at-last.ensures at (sym c.is_sound.ensures ∙ c.if-not-is_sound.false) in
     rw c.summed_at-last.ensures (none_given (Some (bytes, last)) (goes_same _ (given (Some (bytes, last))) (λ text. rw sound refl) next))
+
+pub returns-in_err-size-clause-room : goal.returns-in_err-size-clause-room
+returns-in_err-size-clause-room g c =
+    let p = err_from_is_err_and c.from_residual.result c.from_residual.ensures.1 in
+    rw p.1 (grind (arith, common_steps))
+
+pub returns-in_default-clause-room : goal.returns-in_default-clause-room
+returns-in_default-clause-room g c = grind (arith, common_steps)
+
+pub returns-in_err-fill_summed-clause-room : goal.returns-in_err-fill_summed-clause-room
+returns-in_err-fill_summed-clause-room g c =
+    let p = err_from_is_err_and c.from_residual-in_err-fill_summed.result c.from_residual-in_err-fill_summed.ensures.1 in
+    rw p.1 (grind (arith, common_steps))
+
+pub returns-then-not-is_sound-clause-room : goal.returns-then-not-is_sound-clause-room
+returns-then-not-is_sound-clause-room g c = grind (arith, common_steps)
+
+pub returns-clause-room : goal.returns-clause-room
+returns-clause-room g c = grind (arith, common_steps)

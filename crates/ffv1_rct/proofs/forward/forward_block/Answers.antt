@@ -13,7 +13,7 @@ returns c =
     let green = byte c.args.g.now (omega (arith, q.at, q.g)) in
     let blue = byte c.args.b.now (omega (arith, q.at, q.b)) in
     let raised = zipped at 16 minus _ _ _ _ (splat at 16 256) green in
-    coded_block c.args.r.now c.args.g.now c.args.b.now c.args.y.now c.args.cb.now c.args.cr.now at 16 _ _ _ _ _ _
+    coded_block 8 c.args.r.now c.args.g.now c.args.b.now c.args.y.now c.args.cb.now c.args.cr.now at 16 _ _ _ _ _ _
     (omega (arith, q.at, q.y)) (omega (arith, q.at, q.cb)) (omega (arith, q.at, q.cr))
     q.done
     (zipped at 16 right _ _ _ _ (zipped at 16 plus _ _ _ _ (zipped at 16 plus _ _ _ _ red (zipped at 16 plus _ _ _ _ green green)) blue) (splat at 16 2))

@@ -52,7 +52,7 @@ returns c =
     let blue = mapped c.args.at 16 (λ x. x) _ _ (other_are c.args.at cb y cb cr lb q.at lb lr) in
     record {
       all = λ t.
-          colours_block y cb cr c.args.r.now c.args.g.now c.args.b.now c.args.at 16 _ _ _ _ _ _
+          colours_block 8 y cb cr c.args.r.now c.args.g.now c.args.b.now c.args.at 16 _ _ _ _ _ _
           (omega (arith, q.at, q.r)) (omega (arith, q.at, q.g)) (omega (arith, q.at, q.b)) q.done red green blue
           (λ k le lt.
           let is = bytes k le lt in

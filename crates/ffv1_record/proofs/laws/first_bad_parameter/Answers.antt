@@ -5,8 +5,8 @@ use Rattle.ffv1_record.proofs.FirstBadParameter.{ordered}
 use Rattle.ffv1_record.proofs.laws.first_bad_parameter.Goals as goal
 
 pub returns-clause-read : goal.returns-clause-read
-returns-clause-read c = λ bytes width height bits x f are h. ordered bytes are bits x f width height h
+returns-clause-read c = λ most bytes width height bits x f are h. ordered bytes are bits x f most width height h
 
 pub returns-clause-refused : goal.returns-clause-refused
-returns-clause-refused c = λ bytes width height bits x f are long whole h.
-    inr (inr (long, whole, inr (inl (ordered (body_of bytes) (taken_bytes bytes (length bytes - 4) are) bits x f width height h))))
+returns-clause-refused c = λ most bytes width height bits x f are long whole h.
+    inr (inr (long, whole, inr (inl (ordered (body_of bytes) (taken_bytes bytes (length bytes - 4) are) bits x f most width height h))))

@@ -7,4 +7,4 @@ pub returns-clause-stored : goal.returns-clause-stored
 returns-clause-stored c = λ x t is. c.written_is_record.ensures x
 
 pub returns-clause-none : goal.returns-clause-none
-returns-clause-none c = λ x t f is refused. no_refusal (record_of x) (record_bytes x) x t f is (c.written_is_record.ensures x) refused
+returns-clause-none c = λ x t most f is low refused. no_refusal most (record_of x) (record_bytes x) x t f is low (c.written_is_record.ensures x) refused

@@ -1,4 +1,4 @@
-use Rattle.ffv1_record.specs.Configuration.{configuration_of}
+use Rattle.ffv1_record.specs.Configuration.{configuration_of, at_depth}
 use Rattle.ffv1_record.proofs.CallsGive.{and_then, handed, stop, gives_done, told, read_first, read_then}
 use Rattle.ffv1_record.proofs.read.read_parameters.Goals as goal
 
@@ -24,7 +24,7 @@ pub returns-in_err-intra-clause-gives : goal.returns-in_err-intra-clause-gives
 returns-in_err-intra-clause-gives g c = handed c.from_residual-in_err-intra.result c.from_residual-in_err-intra.ensures.1 (and_then c.in_ok-coder.ensures.gives (and_then c.in_ok-planes.ensures.gives (and_then c.in_ok-columns.ensures.gives (and_then c.in_ok-rows.ensures.gives (and_then c.in_ok-sets.ensures.gives (and_then c.in_ok-ec.ensures.gives (stop c.in_err-intra.ensures.gives)))))))
 
 pub returns-clause-gives : goal.returns-clause-gives
-returns-clause-gives g c = (and_then c.in_ok-coder.ensures.gives (and_then c.in_ok-planes.ensures.gives (and_then c.in_ok-columns.ensures.gives (and_then c.in_ok-rows.ensures.gives (and_then c.in_ok-sets.ensures.gives (and_then c.in_ok-ec.ensures.gives (and_then c.in_ok-intra.ensures.gives (gives_done configuration_of _ _))))))))
+returns-clause-gives g c = (and_then c.in_ok-coder.ensures.gives (and_then c.in_ok-planes.ensures.gives (and_then c.in_ok-columns.ensures.gives (and_then c.in_ok-rows.ensures.gives (and_then c.in_ok-sets.ensures.gives (and_then c.in_ok-ec.ensures.gives (and_then c.in_ok-intra.ensures.gives (gives_done (λ r. at_depth (configuration_of r.0) r.1) _ _))))))))
 
 pub returns-in_err-sets-clause-memory : goal.returns-in_err-sets-clause-memory
 returns-in_err-sets-clause-memory g c = told _ c.from_residual-in_err-sets.result c.from_residual-in_err-sets.ensures.1

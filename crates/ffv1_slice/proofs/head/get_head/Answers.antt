@@ -1,4 +1,4 @@
-use Rattle.std.proofs.Common.{Ok, ap, ◌*◌, ◌^◌, ◌<◌, ◌≤◌, length}
+use Rattle.std.proofs.Common.{Ok, ap}
 use Rattle.ffv1_slice.proofs.HeadValues.{small_slice}
 use Rattle.ffv1_slice.proofs.FoundHeads.{read_is, refused_is, read_only, not_refused}
 use Rattle.ffv1_slice.proofs.head.get_head.Goals as goal

@@ -1,6 +1,5 @@
 use Rattle.std.proofs.Common.{refl, arith, [], ◌∷◌, true, false, subst}
-use Rattle.ffv1_slice.specs.Head.{key_steps, no_key, CodesKey}
-use Rattle.ffv1_slice.specs.Coding.{ReadsAt}
+use Rattle.ffv1_slice.specs.Head.{no_key, CodesKey}
 use Rattle.ffv1_slice.proofs.Symbols.{reads_at}
 use Rattle.ffv1_slice.proofs.Keys.{key_coded, one_key}
 use Rattle.ffv1_slice.proofs.head.get_key.Goals as goal

@@ -1,4 +1,4 @@
-use Rattle.std.proofs.Common.{[], ◌∷◌, ◌++◌, ◌%◌, ◌/◌}
+use Rattle.std.proofs.Common.{◌++◌}
 use Rattle.ffv1_record.specs.Configuration.{configuration_of}
 use Rattle.ffv1_slice.specs.Head.{head_values, place_of, indexes_of, info_of, values_steps}
 use Rattle.ffv1_range.proofs.Growth.{on_err}

@@ -1,6 +1,6 @@
-use Rattle.std.proofs.Common.{[], ◌∷◌, ◌++◌, ◌%◌, ◌/◌, length, replicate, Ok, Err, ap, ◌∙◌, sym}
-use Rattle.ffv1_record.specs.Configuration.{configuration_of}
-use Rattle.ffv1_slice.specs.Head.{head_rules, head_values, place_rules, index_rules, info_rules, indexes_of, info_of, values_steps}
+use Rattle.std.proofs.Common.{◌++◌, length, replicate, Ok}
+use Rattle.ffv1_record.specs.Configuration.{configuration_of, at_depth}
+use Rattle.ffv1_slice.specs.Head.{head_rules, head_values, index_rules, info_rules}
 use Rattle.ffv1_slice.specs.declared.head.SliceHead.{SliceHead}
 use Rattle.ffv1_slice.specs.Internal.Values.{Gives}
 use Rattle.ffv1_slice.proofs.CallsGive.{and_gives, and_stops, stops}
@@ -33,7 +33,7 @@ returns-in_err-structure-clause-refused g c =
 
 pub returns-clause-head : goal.returns-clause-head
 returns-clause-head g c =
-    let config = configuration_of c.config-config.result.now in
+    let config = at_depth (configuration_of c.config-config.result.now) c.args.checked.now.configuration.depth in
     let h : SliceHead = record { indexes = c.in_ok-indexes.indexes; structure = c.in_ok-structure.structure; sar_num = c.in_ok-structure.sar_num; sar_den = c.in_ok-structure.sar_den } in
     let all : Gives c.table-table.result.now (head_rules c.args.checked.now.profile config c.args.slice) c.args.decoder.now (replicate 32 128) c.get_info.new.decoder c.get_info.new.states (Ok (head_values config c.args.slice h)) =
     rw (← c.len.ensures.count, ← c.profile.ensures) (and_gives c.in_ok-get_place.ensures.gives (and_gives c.in_ok-indexes.ensures.gives c.in_ok-structure.ensures.gives)) in

@@ -1,11 +1,6 @@
-use Rattle.std.proofs.Common.{[], ◌∷◌, get_or, subst}
-use Rattle.ffv1_range.specs.Puts.{Puts}
-use Rattle.ffv1_slice.specs.Head.{values_steps}
+use Rattle.std.proofs.Common.{[], ◌∷◌}
 use Rattle.ffv1_range.proofs.Growth.{on_err}
 use Rattle.ffv1_slice.proofs.CallsGive.{refused_behind, indexes_first, indexes_second}
-use Rattle.std.proofs.Common.{Bool, true, false}
-use Rattle.ffv1_slice.specs.Head.{indexes_of}
-use Rattle.ffv1_range.specs.Puts.{MayBeRefused}
 use Rattle.ffv1_slice.proofs.CallsGive.{and_puts}
 use Rattle.ffv1_slice.proofs.values.put_indexes.Goals as goal
 

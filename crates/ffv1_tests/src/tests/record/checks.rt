@@ -153,9 +153,9 @@ fn parities(rt: HostRuntime) {
 /// named, and where one is.
 fn profiles(alloc: Global, profile: Profile) -> Result<[Profile; 4], RecordFault> {
     let checked = mono(alloc, 1, 1)?.check()?;
-    let checked_in = mono(alloc, 1, 1)?.check_in(profile, 8)?;
+    let checked_in = mono(alloc, 1, 1)?.check_in(profile, 8, 8)?;
     let read = read_record(alloc, &SMALL, 1, 1)?;
-    let read_in = read_record_in(alloc, &SMALL, 1, 1, profile)?;
+    let read_in = read_record_in(alloc, &SMALL, 1, 1, profile, 8)?;
     Ok([
         checked.profile(),
         checked_in.profile(),
@@ -166,8 +166,8 @@ fn profiles(alloc: Global, profile: Profile) -> Result<[Profile; 4], RecordFault
 
 /// Whether a record that is read in two profiles is the same.
 fn are_same(alloc: Global, first: Profile, second: Profile) -> Result<bool, RecordFault> {
-    let one = read_record_in(alloc, &SMALL, 1, 1, first)?;
-    let other = read_record_in(alloc, &SMALL, 1, 1, second)?;
+    let one = read_record_in(alloc, &SMALL, 1, 1, first, 8)?;
+    let other = read_record_in(alloc, &SMALL, 1, 1, second, 8)?;
     Ok(one == other)
 }
 
@@ -184,7 +184,7 @@ fn kept_profiles(rt: HostRuntime) -> Result<(), Fail> {
 /// Why a configuration of this width is refused at a depth; None where it is accepted.
 fn fault_at(alloc: Global, width: u32, depth: u32) -> Option<RecordFault> {
     match mono(alloc, width, 1) {
-        Ok(config) => config.check_in(Profile::Wide, depth).err(),
+        Ok(config) => config.check_in(Profile::Wide, depth, 8).err(),
         Err(fault) => Some(fault),
     }
 }

@@ -101,7 +101,14 @@ fn written_and_read_back(
     let (width, height) = (checked.config().width, checked.config().height);
     let record = write_record(alloc, checked)?;
     one_configuration();
-    match read_record_in(alloc, &record, width, height, checked.profile()) {
+    match read_record_in(
+        alloc,
+        &record,
+        width,
+        height,
+        checked.profile(),
+        checked.depth(),
+    ) {
         Ok(again) => Ok(again),
         Err(fault) => Err(fault),
     }

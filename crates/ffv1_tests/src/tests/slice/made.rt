@@ -33,6 +33,6 @@ pub(super) fn pair(alloc: Global, profile: Profile) -> Result<Checked, Fail>
     ensures extra { IfOk result (λ c. c.configuration.extra_plane ≡ false) }
 {
     let config = made::mono(alloc, 2, 1, 2, false)?;
-    let checked = config.check_in(profile, 8)?;
+    let checked = config.check_in(profile, 8, 8)?;
     Ok(checked)
 }

@@ -1,11 +1,23 @@
-use Rattle.std.proofs.Common.{◌≡◌, ◌<◌, ◌∙◌, ap, sym, subst, refl, ℕ, length, slice_set, arith}
+use Rattle.std.proofs.Common.{◌≡◌, ◌+◌, ◌*◌, ◌<◌, ◌≤◌, ◌∙◌, ap, sym, subst, refl, ℕ, List, length, slice_set, arith}
 use Rattle.std.specs.Vec.{with_items}
 use Rattle.std.specs.declared.vec.Vec.{Vec}
 use Rattle.std.proofs.lemmas.List.{with_items_is}
 use Rattle.ffv1_codec.specs.Picture.{Planes, AreOf, planes_of, plane}
 use Rattle.ffv1_codec.specs.Kept.{Kept, IsLine, with_samples, with_line}
-use Rattle.ffv1_codec.proofs.LinesKept.{plane_of, planes_set, planes_long, sizes_kept}
+use Rattle.ffv1_codec.proofs.LinesKept.{line_fits, plane_of, planes_set, planes_long, sizes_kept}
 use Rattle.ffv1_codec.proofs.sinks.KeepLinesLineSink.line.Goals as goal
+
+pub put-requires : goal.put-requires
+put-requires g c =
+    let d = c.self.inside.grid in
+    let items = c.self.inside.planes.items in
+    let p = c.args.plane in
+    let y = c.args.y in
+    let samples = c.args.samples.now in
+    let line : IsLine d p y samples = c.if-not-is_line.ensures.yes refl in
+    let inside : p < length items = omega (arith, line.in_plane, c.self.invariant.count, planes_long items) in
+    let old : c.index_mut.result.now.items ≡ plane (planes_of items) p = ap (λ (z : Vec ℕ _). z.items) c.index_mut.ensures.value ∙ sym (plane_of items p c.index_mut.result.now inside) in
+    record { room = subst (λ (z : List ℕ). y * length samples + length samples ≤ length z) (sym (c.deref_mut.ensures.value ∙ old)) (line_fits d (planes_of items) p y samples c.self.invariant line) }
 
 pub invariant_of-self-2 : goal.invariant_of-self-2
 invariant_of-self-2 g c =

@@ -15,3 +15,9 @@ returns-clause-answer g c = elim c.match-self.branch [
       (passage g.R.ByteIn.remaining g.R.ByteIn.failures c.args.input.now w.next_frame-in-Matroska.new.input) w.next_frame-in-Matroska.result
       w.next_frame-in-Matroska.ensures.stands (w.next_frame-in-Matroska.ensures.answer none))
 ]
+
+pub returns-clause-room : goal.returns-clause-room
+returns-clause-room g c = elim c.match-self.branch [
+  | in-Avi w ↦ rw (w.result-is, w.frame-is) w.next_frame.ensures.room
+  | in-Matroska w ↦ rw (w.result-is, w.frame-is) w.next_frame-in-Matroska.ensures.room
+]

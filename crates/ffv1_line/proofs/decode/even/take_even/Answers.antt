@@ -51,7 +51,7 @@ loop-at-preserved g c =
                     on = λ before on. rw more (same_from_next _ _ _ _ (read.on before on));
                     lined = λ first fresh lined.
                         rw (set-set states slot c.loop-at.state c.take_zero.new.state) at
-                        (even_next _ _ p.bits _ _ _ _ _ _ _ _ _ p.from p.count i p.early.now _ _ _ _ filled here within wide kept.left top early
+                        (even_next _ _ p.bits _ _ _ _ _ _ _ _ _ p.from p.count i p.early.now _ _ _ _ filled here within wide kept.left top early may.places.bits
                         (rw (← kept.same) at may.again) even kept.begins (read.lined first fresh lined) follows);
                   };
             };

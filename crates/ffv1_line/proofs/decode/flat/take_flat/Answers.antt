@@ -49,7 +49,7 @@ loop-at-preserved g c =
                     on = λ before on. rw more (same_from_next _ _ _ _ (read.on before on));
                     lined = λ first fresh lined.
                         rw (set-set states 0 c.loop-at.state c.take_zero.new.state) at
-                        (flat_next _ _ p.bits _ _ _ _ _ _ _ _ _ p.from p.count i p.early.now _ _ filled inside whole wide kept.left kept.top next
+                        (flat_next _ _ p.bits _ _ _ _ _ _ _ _ _ p.from p.count i p.early.now _ _ filled inside whole wide kept.left kept.top next may.places.bits
                         (rw (← kept.same) at may.again) c.requires.flat kept.begins (read.lined first fresh lined) follows);
                   };
             };

@@ -16,10 +16,9 @@ parts-init g c =
 pub decode_block_by-requires-clause-ready : goal.decode_block_by-requires-clause-ready
 decode_block_by-requires-clause-ready g c =
     let one_long : length c.above.inside.one.now ≡ length c.args.cur.now = rw (← c.above.view_is) at c.requires.one_long in
-    let bits : c.coding.inside.bits ≡ g.row.BITS = rw (← c.coding.view_is) at c.requires.bits in
     record {
       places = record {
-        bits = rw bits at c.coding.invariant;
+        bits = c.requires.depth;
         near = rw (← c.coding.view_is) at c.requires.near;
         some = omega (arith, c.requires.some, one_long);
         few = omega (arith, c.min-count.ensures);

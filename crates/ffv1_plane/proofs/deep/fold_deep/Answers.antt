@@ -1,0 +1,6 @@
+use Rattle.std.proofs.Common.{◌≡◌, pos, sym, ap, ◌∙◌}
+use Rattle.ffv1_plane.proofs.Words.{folded_word}
+use Rattle.ffv1_plane.proofs.deep.fold_deep.Goals as goal
+
+pub returns-clause-value : goal.returns-clause-value
+returns-clause-value c = folded_word c.args.bits c.lowest_bits.result c.args.difference c.requires.some c.requires.few c.ranges.difference c.lowest_bits.ensures.small c.lowest_bits.ensures.value
