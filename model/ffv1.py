@@ -16,6 +16,7 @@ program's commands in `commands.py`.
 
 FAULTS = {
     1: "StateTable", 3: "BadStart", 4: "SymbolTooLong", 5: "Runs", 6: "Contexts", 7: "Colour",
+    8: "Overread",
     10: "Size",
     11: "Grid", 12: "ChromaEdge", 13: "Subsampling", 14: "Sets", 15: "Short", 16: "Parity",
     17: "Version", 18: "MicroVersion", 19: "Coder", 20: "ColourSpace", 21: "Depth",
@@ -221,7 +222,8 @@ DEPTHS = [8, 9, 10, 12, 14, 16]     # own: the bits of a sample that are accepte
 
 class Config:
     """The parameters of the profile, and the size of the pictures, which the container tells; and
-    whether the profile is the wide one, of other depths than 8 and of heads without an aspect."""
+    whether the profile is the wide one, of other depths than 8 and of heads without an aspect, in
+    which a slice is not read too far."""
 
     def __init__(self, width, height, coder=1, deltas=None, rct=False, chroma=False, log2_h=0,
                  log2_v=0, extra=False, columns=1, rows=1, sets=None, ec=1, intra=1, depth=8,
@@ -651,12 +653,19 @@ class Slice:
         self.decoder = Decoder(self.data, self.config.table())
         get_key(self.decoder, self.number)
         self.indexes, *info = get_head(self.decoder, self.config, self.number)
+        self.look()
         return info
 
     def read(self, plane):
         """The next line of a plane."""
         runs = self.config.sets[self.indexes[class_of(plane)]]
         get_line(self.decoder, self.config, runs, plane, self.cells[plane])
+
+    def look(self, *place):
+        """Own: wide, 8 where more than two bytes behind the end were read: there are more
+        renormalisations than coded bytes."""
+        if self.config.wide and self.decoder.interval.count - 2 > len(self.data):
+            raise Fault(8, self.number, *place)
 
 
 class Decoded:
@@ -689,15 +698,16 @@ def finished(config, row, planes, y):
 
 
 def decode_line(config, row, planes, y, out, room):
-    """Own: a line of these planes: in each slice from the left, then as a whole, then handed over to
-    a sink that takes so many lines."""
+    """Own: a line of these planes: in each slice from the left, after which it is looked at how far
+    that was read, then as a whole, then handed over to a sink that takes so many lines."""
     for slice in row:
         for plane in planes:
+            left, top = cell_of(config, slice.number, plane)[:2]
             try:
                 slice.read(plane)
             except Fault as fault:
-                left, top = cell_of(config, slice.number, plane)[:2]
                 raise Fault(fault.number, slice.number, plane, top + y, left + fault.x)
+            slice.look(plane, top + y)
     for plane, samples in zip(planes, finished(config, row, planes, y)):
         line = cell_of(config, row[0].number, plane)[1] + y
         if len(out.lines) == room:

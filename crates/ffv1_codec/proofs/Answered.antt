@@ -130,14 +130,14 @@ module _ {S : Type 0} (takes refuses : LineStep S) (a : Accepted) (payload : Lis
   told t s decided few = let all = decided.in_all in omega (arith, all, few)
 
   pub few_told : (result : Result Said FrameFault) (cut : Result (List ℕ) CutFault) →
-      ((coded : ℕ → List ℕ) (s : State) → Decodes a coded s → decisions_in s ≤ most) →
-      ((coded : ℕ → List ℕ) (f : FrameFault) (s : State) → decoding.Refuses a coded f s → decisions_in s ≤ most) →
-      ((coded : ℕ → List ℕ) (r i p y : ℕ) (s : State) → Offers a coded r i p y s → decisions_in s ≤ most) →
+      ((os : List ℕ) (s : State) → cut ≡ Ok os → Decodes a (coded_of payload (foot_length a.configuration.ec) (slice_index os)) s → decisions_in s ≤ most) →
+      ((os : List ℕ) (f : FrameFault) (s : State) → cut ≡ Ok os → decoding.Refuses a (coded_of payload (foot_length a.configuration.ec) (slice_index os)) f s → decisions_in s ≤ most) →
+      ((os : List ℕ) (r i p y : ℕ) (s : State) → cut ≡ Ok os → Offers a (coded_of payload (foot_length a.configuration.ec) (slice_index os)) r i p y s → decisions_in s ≤ most) →
       AnswersCut takes refuses a payload old new tally result cut → decided_by tally ≤ most
   few_told result (Err f) end fault offered answer = rw answer.1 (omega arith)
-  few_told (Ok said) (Ok os) end fault offered answer = told a.table answer.state answer.decided (end (coded_of payload (foot_length a.configuration.ec) (slice_index os)) answer.state answer.decodes)
+  few_told (Ok said) (Ok os) end fault offered answer = told a.table answer.state answer.decided (end os answer.state refl answer.decodes)
   few_told (Err f) (Ok os) end fault offered answer = elim answer [
-    | inl faults ↦ told a.table faults.state faults.decided (fault (coded_of payload (foot_length a.configuration.ec) (slice_index os)) f faults.state faults.refused)
+    | inl faults ↦ told a.table faults.state faults.decided (fault os f faults.state refl faults.refused)
     | inr sink ↦
-        told a.table sink.state sink.decided (offered (coded_of payload (foot_length a.configuration.ec) (slice_index os)) sink.row sink.number sink.plane sink.line sink.state sink.offers)
+        told a.table sink.state sink.decided (offered os sink.row sink.number sink.plane sink.line sink.state refl sink.offers)
   ]

@@ -74,11 +74,17 @@ module _ (a : Accepted) (coded : ℕ → List ℕ) where
       | inl key ↦ own_by f.fault fault.NotKey key.0 refl
       | inr rest ↦ elim rest [
         | inl head ↦ own_by f.fault (of_slice head.0) head.3 (stopped (head_rules a.profile a.configuration (slice_number a.configuration r k)) 0 head.0 head.1 (rules_own a.profile a.configuration (slice_number a.configuration r k)) head.2.stops)
-        | inr differs ↦ own_by f.fault fault.InfoDiffers differs.5 refl
+        | inr last ↦ elim last [
+          | inl differs ↦ own_by f.fault fault.InfoDiffers differs.5 refl
+          | inr over ↦ own_by f.fault fault.Overread over.2 refl
+        ]
       ]
     ]
   ]
-  event_own s t (Read r k p y) f h = own_by f.fault fault.SymbolTooLong (ap (λ (z : FrameFault). z.fault) h.3) refl
+  event_own s t (Read r k p y) f h = elim h [
+    | inl stop ↦ own_by f.fault fault.SymbolTooLong (ap (λ (z : FrameFault). z.fault) stop.3) refl
+    | inr over ↦ own_by f.fault fault.Overread (ap (λ (z : FrameFault). z.fault) over.3) refl
+  ]
   event_own s t (Finish r planes y) f h = own_by f.fault fault.Colour (ap (λ (z : FrameFault). z.fault) h.4) refl
   event_own s t (Hand r i p y) f h = absurd h
   event_own s t Close f h = absurd h

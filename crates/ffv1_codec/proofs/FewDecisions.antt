@@ -34,6 +34,7 @@ pub record StepLaws (a : Accepted) : Type 0 where
   pub small : (set : Set) (bits : ℕ) (c : Cell) (y x : ℕ) (qs : List ℤ) → AreSuiting set bits c y x qs → AreSmall qs
   pub head : (n : ℕ) (h : SliceHead) → IsHead a.profile a.configuration h → n < a.configuration.columns * a.configuration.rows → length (head_steps a.configuration n h) ≤ head_most a.configuration
   pub stopped : (n before : ℕ) (f : SliceFault) (steps : List Step) → Stops (head_rules a.profile a.configuration n) before f steps → length steps ≤ numbers_most a.configuration
+  pub short : (n before : ℕ) (f : SliceFault) (steps : List Step) → n < a.configuration.columns * a.configuration.rows → Stops (head_rules a.profile a.configuration n) before f steps → length steps ≤ 168
 
 -- at most so many for the key and the head of a slice
 abbrev pub opening_most : Configuration → ℕ
@@ -47,7 +48,7 @@ one_at_most : (b : Bool) (n : ℕ) → (if b then n else 0) ≤ n
 one_at_most true n = omega arith
 one_at_most false n = omega arith
 
-head_few : (c : Configuration) → head_most c ≤ 558
+head_few : (c : Configuration) → head_most c ≤ 108
 head_few c =
     let extra = one_at_most c.extra_plane 6 in
     let across = one_at_most (nat_lt 16 c.columns) 2 in
@@ -91,6 +92,15 @@ module _ (a : Accepted) (coded : ℕ → List ℕ) (laws : StepLaws a) where
       let refused = laws.long (size_of set (around cell (length qs) y) * 32) too_long in
       omega (arith, long, sum, steps, few, refused, laws.refused, f.short)
 
+  -- the key and the head of a slice
+  opening_few : (n : ℕ) (h : SliceHead) → n < a.configuration.columns * a.configuration.rows → IsHead a.profile a.configuration h → length (key_steps n ++ head_steps a.configuration n h) ≤ 109
+  opening_few n h inside is =
+      let few = laws.head n h is inside in
+      let most = head_few a.configuration in
+      let sum = length-append (key_steps n) (head_steps a.configuration n h) in
+      let key = key_few n in
+      omega (arith, few, most, sum, key)
+
   -- a slice that is not opened
   pub reason_few : (info : Option Said) (n : ℕ) (f : CodecFault) (steps : List Step) → n < a.configuration.columns * a.configuration.rows → RefusesOpen a coded info n f steps → length steps ≤ opening_most a.configuration
   reason_few info n f steps inside refuses = elim refuses [
@@ -104,12 +114,31 @@ module _ (a : Accepted) (coded : ℕ → List ℕ) (laws : StepLaws a) where
             let long = laws.long 1 head.1 in
             let key = key_few n in
             rw head.4 (omega (arith, stops, sum, long, key))
-        | inr differs ↦
-            let few = laws.head n differs.0 differs.2.head inside in
-            let most = head_few a.configuration in
-            let sum = length-append (key_steps n) (head_steps a.configuration n differs.0) in
+        | inr last ↦ elim last [
+          | inl differs ↦ let few = opening_few n differs.0 inside differs.2.head in rw differs.6 (omega (arith, few))
+          | inr over ↦ let few = opening_few n over.0 inside over.1.head in rw over.3 (omega (arith, few))
+        ]
+      ]
+    ]
+  ]
+
+  -- whatever it is, few decisions were made
+  pub reason_short : (info : Option Said) (n : ℕ) (f : CodecFault) (steps : List Step) → n < a.configuration.columns * a.configuration.rows → RefusesOpen a coded info n f steps → length steps ≤ 169
+  reason_short info n f steps inside refuses = elim refuses [
+    | inl bad ↦ rw bad.2 (omega arith)
+    | inr more ↦ elim more [
+      | inl key ↦ rw key.2 (omega arith)
+      | inr later ↦ elim later [
+        | inl head ↦
+            let stops = laws.short n 0 head.0 head.1 inside head.2.stops in
+            let sum = length-append (key_steps n) (shifted 1 head.1) in
+            let long = laws.long 1 head.1 in
             let key = key_few n in
-            rw differs.6 (omega (arith, few, most, sum, key))
+            rw head.4 (omega (arith, stops, sum, long, key))
+        | inr last ↦ elim last [
+          | inl differs ↦ let few = opening_few n differs.0 inside differs.2.head in rw differs.6 (omega (arith, few))
+          | inr over ↦ let few = opening_few n over.0 inside over.1.head in rw over.3 (omega (arith, few))
+        ]
       ]
     ]
   ]

@@ -1,26 +1,27 @@
 -- Few decisions are made in a frame, wherever decoding stands.
-use Rattle.std.proofs.Common.{◌≡◌, ◌≢◌, refl, ℕ, zero, suc, ◌+◌, ◌-◌, ◌*◌, ◌<◌, ◌≤◌, true, List, [], ◌∷◌, ◌++◌, map, length, get_or, replicate, inl, inr, ap, sym, subst, ◌∙◌, arith, length-set, get_or-set_same, get_or-set_other, mul_assoc}
+use Rattle.std.proofs.Common.{◌≡◌, ◌≢◌, refl, ℕ, ℤ, zero, suc, ◌+◌, ◌-◌, ◌<◌, ◌≤◌, true, Option, List, [], ◌∷◌, ◌++◌, map, length, get_or, replicate, inl, inr, ap, sym, subst, ◌∙◌, arith, length-set, get_or-set_same, get_or-set_other}
 use Rattle.std.specs.List.{flat_map, range_with_len}
 use Rattle.std.proofs.lemmas.Bool.{cases_lt, cases_eq}
 use Rattle.std.proofs.lemmas.List.{length-replicate}
+use Rattle.ffv1_range.specs.Symbols.{Step}
 use Rattle.ffv1_record.specs.Configuration.{Configuration, is_rct}
 use Rattle.ffv1_record.specs.Accepted.{Accepted}
-use Rattle.ffv1_slice.specs.Grid.{across, down, division_of}
-use Rattle.ffv1_codec.specs.Sides.{Tiles}
+use Rattle.ffv1_slice.specs.declared.head.SliceHead.{SliceHead}
+use Rattle.ffv1_slice.specs.Head.{CodesHead, key_steps, head_steps}
+use Rattle.ffv1_codec.specs.declared.fault.CodecFault.{CodecFault}
 use Rattle.ffv1_codec.specs.declared.fault.FrameFault.{FrameFault}
-use Rattle.ffv1_codec.specs.Picture.{plane_count, plane_width, plane_height}
+use Rattle.ffv1_codec.specs.Overread.{IsWithin}
+use Rattle.ffv1_codec.specs.Picture.{plane_count}
+use Rattle.ffv1_codec.specs.SliceList.{Said}
 use Rattle.ffv1_codec.specs.Order.{Event, events_of, row_events, series_events, series_of, column_events, hand_events, numbered, lines_down}
 use Rattle.ffv1_codec.specs.Order.Event.{Open, Read, Finish, Hand, Close}
 use Rattle.ffv1_codec.specs.Runs.{Runs}
-use Rattle.ffv1_codec.specs.Bounds.{samples_of, most_decisions}
 use Rattle.ffv1_codec.specs.Answer.{decisions_in}
-use Rattle.ffv1_codec.specs.Decoding.{State, Slice, StepsBy, FaultsWith, at_first, slice_at, slice_number, width_in, behind_line, behind_steps, steps_of_line, steps_of_stop, opened, decided_in, unread}
+use Rattle.ffv1_codec.specs.Decoding.{State, Slice, StepsBy, FaultsWith, RefusesOpen, ReadsLine, StopsInLine, at_first, slice_at, slice_number, put_slice, width_in, behind_line, behind_steps, steps_of_line, steps_of_stop, opened, decided_in, unread}
 use Rattle.ffv1_codec.proofs.Machines.{Each, each_append, each_range, each_map, each_flat, runs_split, Reaches, reaches_split}
 use Rattle.ffv1_codec.proofs.Groups.{Group, IsGroup, groups_of, group_events, groups_are, row_by_groups}
 use Rattle.ffv1_codec.proofs.Keys.{range_join}
-use Rattle.ffv1_codec.proofs.FromCoded.{number_inside}
-use Rattle.ffv1_codec.proofs.Totals.{total, total_is, total_append, total_below, total_same, total_add, total_scaled, total_each, total_swapped, total_parts}
-use Rattle.ffv1_codec.proofs.FewDecisions.{StepLaws, opening_most, reason_few, capacity, HasFew, few_in_all, few_opened, few_read, few_stopped}
+use Rattle.ffv1_codec.proofs.Totals.{total, total_is, total_append, total_below}
 
 -- an event of the lines of row r
 abbrev pub IsInLines : Configuration → ℕ → Event → Type 0
@@ -45,11 +46,29 @@ lines_in_lines c r same =
     subst (Each (IsInLines c r)) (sym (row_by_groups c r))
     (each_flat (IsInLines c r) (IsGroup c r) (group_events c r) (groups_of c r) (groups_are c r same) (group_in_lines c r))
 
-module _ (a : Accepted) (coded : ℕ → List ℕ) (laws : StepLaws a) where
-  -- the bounds of a slice, of the slices of a row, and of those of some rows
-  abbrev pub slice_most : ℕ → ℕ → ℕ
-  slice_most r k = opening_most a.configuration + 63 * capacity a coded laws r k
+-- what bounds the decisions of the slice in row r and column k: what holds of it between two events,
+-- and how many there are then, and where an event of it is refused
+pub record SliceLaws (a : Accepted) (coded : ℕ → List ℕ) (most : ℕ → ℕ → ℕ) (Has : ℕ → ℕ → Slice → Type 0) : Type 0 where
+  pub few : (r k : ℕ) (q : Slice) → Has r k q → length q.past ≤ most r k
+  pub opened : (r k : ℕ) (h : SliceHead) → r < a.configuration.rows → k < a.configuration.columns →
+      CodesHead (coded (slice_number a.configuration r k)) a.table a.profile a.configuration (slice_number a.configuration r k) h →
+      IsWithin a (coded (slice_number a.configuration r k)) (key_steps (slice_number a.configuration r k) ++ head_steps a.configuration (slice_number a.configuration r k) h) →
+      Has r k (opened a coded (slice_number a.configuration r k) h)
+  pub closed : (r k : ℕ) (info : Option Said) (f : CodecFault) (steps : List Step) → r < a.configuration.rows → k < a.configuration.columns →
+      RefusesOpen a coded info (slice_number a.configuration r k) f steps → length steps ≤ most r k
+  pub read : (r k p y : ℕ) (q : Slice) (qs : List ℤ) (row : List ℕ) → k < a.configuration.columns → p < plane_count a.configuration → y < lines_down a.configuration p r → Has r k q →
+      ReadsLine a coded (slice_number a.configuration r k) p (width_in a.configuration p k) y q qs row →
+      IsWithin a (coded (slice_number a.configuration r k)) (q.past ++ steps_of_line a coded q p (width_in a.configuration p k) y qs row) →
+      Has r k (behind_line q (steps_of_line a coded q p (width_in a.configuration p k) y qs row) p row)
+  pub overread : (r k p y : ℕ) (q : Slice) (qs : List ℤ) (row : List ℕ) → k < a.configuration.columns → p < plane_count a.configuration → y < lines_down a.configuration p r → Has r k q →
+      ReadsLine a coded (slice_number a.configuration r k) p (width_in a.configuration p k) y q qs row →
+      length (q.past ++ steps_of_line a coded q p (width_in a.configuration p k) y qs row) ≤ most r k
+  pub stopped : (r k p y : ℕ) (q : Slice) (qs : List ℤ) (row : List ℕ) → k < a.configuration.columns → p < plane_count a.configuration → y < lines_down a.configuration p r → Has r k q →
+      StopsInLine a coded (slice_number a.configuration r k) p (width_in a.configuration p k) y q qs row →
+      length (q.past ++ steps_of_stop a coded q p (width_in a.configuration p k) y qs row) ≤ most r k
 
+module _ (a : Accepted) (coded : ℕ → List ℕ) (slice_most : ℕ → ℕ → ℕ) (Has : ℕ → ℕ → Slice → Type 0) (laws : SliceLaws a coded slice_most Has) where
+  -- the bounds of the slices of a row, and of those of some rows
   abbrev pub row_most : ℕ → ℕ
   row_most r = total (slice_most r) (range_with_len 0 a.configuration.columns)
 
@@ -95,14 +114,14 @@ module _ (a : Accepted) (coded : ℕ → List ℕ) (laws : StepLaws a) where
   -- the lines of a row
   module _ (r : ℕ) (r_inside : r < a.configuration.rows) where
     abbrev pub AllFew : State → Type 0
-    AllFew s = (k : ℕ) → k < a.configuration.columns → HasFew a coded laws r k (slice_at s k)
+    AllFew s = (k : ℕ) → k < a.configuration.columns → Has r k (slice_at s k)
 
     record Line (s : State) : Type 0 where
       pub settled : Settled r s
       pub few : AllFew s
 
     line_bounded : (s : State) → Line s → Bounded s
-    line_bounded s l = bounded r s r_inside l.settled (λ k inside. few_in_all a coded laws r k (slice_at s k) (l.few k inside))
+    line_bounded s l = bounded r s r_inside l.settled (λ k inside. laws.few r k (slice_at s k) (l.few k inside))
 
     line_same : (s t : State) → t.done ≡ s.done → t.columns ≡ s.columns → Line s → Line t
     line_same s t done columns l = record {
@@ -110,7 +129,7 @@ module _ (a : Accepted) (coded : ℕ → List ℕ) (laws : StepLaws a) where
         done = subst (λ qs. total (λ (q : Slice). length q.past) qs ≤ rows_most r) (sym done) l.settled.done;
         long = ap (λ qs. length qs) columns ∙ l.settled.long;
       };
-      few = λ k inside. subst (HasFew a coded laws r k) (ap (λ qs. get_or qs k unread) (sym columns)) (l.few k inside);
+      few = λ k inside. subst (Has r k) (ap (λ qs. get_or qs k unread) (sym columns)) (l.few k inside);
     }
 
     line_step : (s m : State) (e : Event) → IsInLines a.configuration r e → Line s → StepsBy a coded s e m → Line m
@@ -129,39 +148,48 @@ module _ (a : Accepted) (coded : ℕ → List ℕ) (laws : StepLaws a) where
           few = λ k inside. elim (cases_eq k i) [
             | inl same ↦
                 let now : slice_at m i ≡ next = ap (λ z. slice_at z i) g.3 ∙ get_or-set_same s.columns i next unread place in
-                subst (λ j. HasFew a coded laws r j (slice_at m j)) (sym same)
-                (subst (HasFew a coded laws r i) (sym now) (few_read a coded laws r i p y q g.0 g.1 kind.2 kind.3 (l.few i kind.1) g.2))
+                subst (λ j. Has r j (slice_at m j)) (sym same)
+                (subst (Has r i) (sym now) (laws.read r i p y q g.0 g.1 kind.1 kind.2 kind.3 (l.few i kind.1) g.2 g.4))
             | inr other ↦
                 let now : slice_at m k ≡ slice_at s k = ap (λ z. slice_at z k) g.3 ∙ get_or-set_other s.columns i k next unread other in
-                subst (HasFew a coded laws r k) (sym now) (l.few k inside)
+                subst (Has r k) (sym now) (l.few k inside)
           ];
         }
     line_step s m (Finish j planes y) kind l f = line_same s m (ap (λ (z : State). z.done) f.2) (ap (λ (z : State). z.columns) f.2) l
     line_step s m (Hand j i p y) kind l f = line_same s m (ap (λ (z : State). z.done) f) (ap (λ (z : State). z.columns) f) l
     line_step s m Close kind l f = absurd kind
 
+    -- one slice has another past
+    refused_at : (s t : State) (i : ℕ) (next : Slice) → i < a.configuration.columns → Line s → t ≡ put_slice s i next → length next.past ≤ slice_most r i → Bounded t
+    refused_at s t i next inside l is few =
+        let place : i < length s.columns = rw l.settled.long inside in
+        bounded r t r_inside
+        (record {
+          done = subst (λ (z : State). total (λ (q : Slice). length q.past) z.done ≤ rows_most r) (sym is) l.settled.done;
+          long = ap (λ (z : State). length z.columns) is ∙ length-set s.columns i next ∙ l.settled.long;
+        })
+        (λ k here. elim (cases_eq k i) [
+          | inl same ↦
+              let now : slice_at t i ≡ next = ap (λ z. slice_at z i) is ∙ get_or-set_same s.columns i next unread place in
+              subst (λ j. length (slice_at t j).past ≤ slice_most r j) (sym same) (subst (λ (z : Slice). length z.past ≤ slice_most r i) (sym now) few)
+          | inr other ↦
+              let now : slice_at t k ≡ slice_at s k = ap (λ z. slice_at z k) is ∙ get_or-set_other s.columns i k next unread other in
+              subst (λ (z : Slice). length z.past ≤ slice_most r k) (sym now) (laws.few r k (slice_at s k) (l.few k here))
+        ])
+
     line_fault : (s t : State) (e : Event) (f : FrameFault) → IsInLines a.configuration r e → Line s → FaultsWith a coded s e f t → Bounded t
     line_fault s t (Open j k) f kind l h = absurd kind
     line_fault s t (Read j i p y) f kind l h =
         let c = a.configuration in
-        let g = subst (λ z. FaultsWith a coded s (Read z i p y) f t) kind.0 h in
         let q = slice_at s i in
-        let next = behind_steps q (steps_of_stop a coded q p (width_in c p i) y g.0 g.1) in
-        let place : i < length s.columns = rw l.settled.long kind.1 in
-        bounded r t r_inside
-        (record {
-          done = subst (λ (z : State). total (λ (q : Slice). length q.past) z.done ≤ rows_most r) (sym g.4) l.settled.done;
-          long = ap (λ (z : State). length z.columns) g.4 ∙ length-set s.columns i next ∙ l.settled.long;
-        })
-        (λ k inside. elim (cases_eq k i) [
-          | inl same ↦
-              let now : slice_at t i ≡ next = ap (λ z. slice_at z i) g.4 ∙ get_or-set_same s.columns i next unread place in
-              subst (λ j. length (slice_at t j).past ≤ slice_most r j) (sym same)
-              (subst (λ (z : Slice). length z.past ≤ slice_most r i) (sym now) (few_stopped a coded laws r i p y q g.0 g.1 kind.2 kind.3 (l.few i kind.1) g.2))
-          | inr other ↦
-              let now : slice_at t k ≡ slice_at s k = ap (λ z. slice_at z k) g.4 ∙ get_or-set_other s.columns i k next unread other in
-              subst (λ (z : Slice). length z.past ≤ slice_most r k) (sym now) (few_in_all a coded laws r k (slice_at s k) (l.few k inside))
-        ])
+        elim (subst (λ z. FaultsWith a coded s (Read z i p y) f t) kind.0 h) [
+          | inl stop ↦
+              let next = behind_steps q (steps_of_stop a coded q p (width_in c p i) y stop.0 stop.1) in
+              refused_at s t i next kind.1 l stop.4 (laws.stopped r i p y q stop.0 stop.1 kind.1 kind.2 kind.3 (l.few i kind.1) stop.2)
+          | inr over ↦
+              let next = behind_line q (steps_of_line a coded q p (width_in c p i) y over.0 over.1) p over.1 in
+              refused_at s t i next kind.1 l over.4 (laws.overread r i p y q over.0 over.1 kind.1 kind.2 kind.3 (l.few i kind.1) over.2)
+        ]
     line_fault s t (Finish j planes y) f kind l h = line_bounded t (line_same s t (ap (λ (z : State). z.done) h.5) (ap (λ (z : State). z.columns) h.5) l)
     line_fault s t (Hand j i p y) f kind l h = absurd h
     line_fault s t Close f kind l h = absurd kind
@@ -183,12 +211,12 @@ module _ (a : Accepted) (coded : ℕ → List ℕ) (laws : StepLaws a) where
     -- the slices of the row before column from are open
     record OpenTo (from : ℕ) (s : State) : Type 0 where
       pub settled : Settled r s
-      pub few : (k : ℕ) → k < from → HasFew a coded laws r k (slice_at s k)
+      pub few : (k : ℕ) → k < from → Has r k (slice_at s k)
       pub fresh : (k : ℕ) → from ≤ k → slice_at s k ≡ unread
 
     open_each : (from : ℕ) (s : State) → OpenTo from s → (k : ℕ) → length (slice_at s k).past ≤ slice_most r k
     open_each from s o k = elim (cases_lt k from) [
-      | inl below ↦ few_in_all a coded laws r k (slice_at s k) (o.few k below)
+      | inl below ↦ laws.few r k (slice_at s k) (o.few k below)
       | inr above ↦ subst (λ (z : Slice). length z.past ≤ slice_most r k) (sym (o.fresh k (omega (arith, above)))) (omega arith)
     ]
 
@@ -209,11 +237,11 @@ module _ (a : Accepted) (coded : ℕ → List ℕ) (laws : StepLaws a) where
           few = λ k below. elim (cases_eq k from) [
             | inl same ↦
                 let now : slice_at m from ≡ q = ap (λ z. slice_at z from) f.3 ∙ get_or-set_same s.columns from q unread place in
-                subst (λ j. HasFew a coded laws r j (slice_at m j)) (sym same)
-                (subst (HasFew a coded laws r from) (sym now) (few_opened a coded laws r from f.0 (number_inside r from c.rows c.columns r_inside inside) f.1.head))
+                subst (λ j. Has r j (slice_at m j)) (sym same)
+                (subst (Has r from) (sym now) (laws.opened r from f.0 r_inside inside f.1 f.4))
             | inr other ↦
                 let now : slice_at m k ≡ slice_at s k = ap (λ z. slice_at z k) f.3 ∙ get_or-set_other s.columns from k q unread other in
-                subst (HasFew a coded laws r k) (sym now) (o.few k (omega (arith, below, other)))
+                subst (Has r k) (sym now) (o.few k (omega (arith, below, other)))
           ];
           fresh = λ k above.
               let other : k ≢ from = omega (arith, above) in
@@ -226,7 +254,7 @@ module _ (a : Accepted) (coded : ℕ → List ℕ) (laws : StepLaws a) where
         let n = slice_number c r from in
         let q = decided_in h.0 in
         let place : from < length s.columns = rw o.settled.long inside in
-        let few = reason_few a coded laws s.info n f.fault h.0 (number_inside r from c.rows c.columns r_inside inside) h.1 in
+        let few = laws.closed r from s.info f.fault h.0 r_inside inside h.1 in
         bounded r t r_inside
         (record {
           done = subst (λ (z : State). total (λ (q : Slice). length q.past) z.done ≤ rows_most r) (sym h.3) o.settled.done;
@@ -235,7 +263,7 @@ module _ (a : Accepted) (coded : ℕ → List ℕ) (laws : StepLaws a) where
         (λ k here. elim (cases_eq k from) [
           | inl same ↦
               let now : slice_at t from ≡ q = ap (λ z. slice_at z from) h.3 ∙ get_or-set_same s.columns from q unread place in
-              subst (λ j. length (slice_at t j).past ≤ slice_most r j) (sym same) (subst (λ (z : Slice). length z.past ≤ slice_most r from) (sym now) (omega (arith, few)))
+              subst (λ j. length (slice_at t j).past ≤ slice_most r j) (sym same) (subst (λ (z : Slice). length z.past ≤ slice_most r from) (sym now) few)
           | inr other ↦
               let now : slice_at t k ≡ slice_at s k = ap (λ z. slice_at z k) h.3 ∙ get_or-set_other s.columns from k q unread other in
               subst (λ (z : Slice). length z.past ≤ slice_most r k) (sym now) (open_each from s o k)
@@ -263,7 +291,7 @@ module _ (a : Accepted) (coded : ℕ → List ℕ) (laws : StepLaws a) where
     columns_few : (s : State) → Line s → total (λ (q : Slice). length q.past) s.columns ≤ row_most r
     columns_few s l =
         let row = total_below (λ (q : Slice). length q.past) unread (slice_most r) 0 s.columns (λ k less.
-        let here = few_in_all a coded laws r k (slice_at s k) (l.few k (subst (λ n. k < n) l.settled.long less)) in
+        let here = laws.few r k (slice_at s k) (l.few k (subst (λ n. k < n) l.settled.long less)) in
         let place : slice_most r k ≡ slice_most r (0 + k) = ap (slice_most r) (let same : k ≡ 0 + k = omega arith in same) in
         omega (arith, here, place)) in
         subst (λ n. total (λ (q : Slice). length q.past) s.columns ≤ total (slice_most r) (range_with_len 0 n)) l.settled.long row
@@ -357,58 +385,9 @@ module _ (a : Accepted) (coded : ℕ → List ℕ) (laws : StepLaws a) where
     pub frame_reached : (t : State) → Reaches (StepsBy a coded) (FaultsWith a coded) (at_first a.configuration) (events_of a.configuration) t → Bounded t
     frame_reached t h = rows_reached 0 a.configuration.rows (at_first a.configuration) t (omega arith) (record { done = omega arith; fresh = refl }) h
 
-  module _ (tiles_h : (p : ℕ) → Tiles (across (division_of a.configuration) p)) (tiles_v : (p : ℕ) → Tiles (down (division_of a.configuration) p)) where
-    abbrev pub all_planes : List ℕ
-    all_planes = range_with_len 0 (plane_count a.configuration)
-
-    abbrev pub all_columns : List ℕ
-    all_columns = range_with_len 0 a.configuration.columns
-
-    abbrev pub all_rows : List ℕ
-    all_rows = range_with_len 0 a.configuration.rows
-
-    -- the samples of the slices of a row, plane by plane
-    row_samples : (r : ℕ) → total (capacity a coded laws r) all_columns ≡ total (λ p. plane_width a.configuration p * lines_down a.configuration p r) all_planes
-    row_samples r =
-        let c = a.configuration in
-        total_swapped (λ k p. width_in c p k * lines_down c p r) all_columns all_planes
-        ∙ total_same (λ p. total (λ k. width_in c p k * lines_down c p r) all_columns) (λ p. plane_width c p * lines_down c p r) all_planes (λ p.
-        total_same (λ k. width_in c p k * lines_down c p r) (λ k. lines_down c p r * width_in c p k) all_columns (λ k. let turned : width_in c p k * lines_down c p r ≡ lines_down c p r * width_in c p k = omega arith in turned)
-        ∙ total_scaled (lines_down c p r) (width_in c p) all_columns
-        ∙ ap (λ n. lines_down c p r * n) (total_parts (across (division_of c) p) (tiles_h p))
-        ∙ (let turned : lines_down c p r * plane_width c p ≡ plane_width c p * lines_down c p r = omega arith in turned))
-
-    all_samples : total (λ r. total (capacity a coded laws r) all_columns) all_rows ≡ samples_of a.configuration
-    all_samples =
-        let c = a.configuration in
-        total_same (λ r. total (capacity a coded laws r) all_columns) (λ r. total (λ p. plane_width c p * lines_down c p r) all_planes) all_rows row_samples
-        ∙ total_swapped (λ r p. plane_width c p * lines_down c p r) all_rows all_planes
-        ∙ total_same (λ p. total (λ r. plane_width c p * lines_down c p r) all_rows) (λ p. plane_width c p * plane_height c p) all_planes (λ p.
-        total_scaled (plane_width c p) (lines_down c p) all_rows ∙ ap (λ n. plane_width c p * n) (total_parts (down (division_of c) p) (tiles_v p)))
-        ∙ total_is (λ p. plane_width c p * plane_height c p) all_planes
-
-    row_sum : (r : ℕ) → row_most r ≡ opening_most a.configuration * a.configuration.columns + 63 * total (capacity a coded laws r) all_columns
-    row_sum r =
-        let sum = total_add (λ k. opening_most a.configuration) (λ k. 63 * capacity a coded laws r k) all_columns in
-        let first = total_each (opening_most a.configuration) 0 a.configuration.columns in
-        let second = total_scaled 63 (capacity a coded laws r) all_columns in
-        omega (arith, sum, first, second)
-
-    pub whole_most : rows_most a.configuration.rows ≡ most_decisions a.configuration
-    whole_most =
-        let c = a.configuration in
-        let rows = total_same row_most (λ r. opening_most c * c.columns + 63 * total (capacity a coded laws r) all_columns) all_rows row_sum in
-        let sum = total_add (λ r. opening_most c * c.columns) (λ r. 63 * total (capacity a coded laws r) all_columns) all_rows in
-        let first = total_each (opening_most c * c.columns) 0 c.rows in
-        let second = total_scaled 63 (λ r. total (capacity a coded laws r) all_columns) all_rows in
-        let samples = all_samples in
-        let regrouped : opening_most c * c.columns * c.rows ≡ opening_most c * (c.columns * c.rows) = mul_assoc (opening_most c) c.columns c.rows in
-        omega (arith, rows, sum, first, second, samples, regrouped)
-
-    pub few_in : (t : State) → Bounded t → decisions_in t ≤ most_decisions a.configuration
-    few_in t b =
-        let sum = total_append (λ (q : Slice). length q.past) t.done t.columns in
-        let all = total_is (λ (q : Slice). length q.past) (t.done ++ t.columns) in
-        let most = whole_most in
-        let few = b.few in
-        omega (arith, sum, all, most, few)
+  pub few_in : (t : State) → Bounded t → decisions_in t ≤ rows_most a.configuration.rows
+  few_in t b =
+      let sum = total_append (λ (q : Slice). length q.past) t.done t.columns in
+      let all = total_is (λ (q : Slice). length q.past) (t.done ++ t.columns) in
+      let few = b.few in
+      omega (arith, sum, all, few)

@@ -28,6 +28,8 @@ use Rattle.ffv1_codec.proofs.PictureLines.{ColourLaws}
 use Rattle.ffv1_codec.proofs.PictureMade.{PictureLaws, alike_lines, some_wide}
 use Rattle.ffv1_codec.proofs.SlicesRead.{FrontLaws, Coding, cell_at}
 use Rattle.ffv1_codec.proofs.RowsRead.{Standing, AllStand, groups_go}
+use Rattle.ffv1_codec.specs.Overread.{IsWithin}
+use Rattle.ffv1_codec.proofs.TooFar.{within_front}
 
 module _ (a : Accepted) (coded : ℕ → List ℕ) (planes : Planes) (info : Said) (r : ℕ) where
   -- the bytes code a slice of the picture
@@ -61,6 +63,13 @@ module _ (a : Accepted) (coded : ℕ → List ℕ) (planes : Planes) (info : Sai
               (front k inside).front (key_steps n ++ head_steps c n w.head) w.body
               (subst (λ (z : List Step). Codes (coded n) (decisions_after a.table [] z)) (sym (append_assoc (key_steps n) (head_steps c n w.head) w.body)) w.coding.codes);
         }
+
+    opening_within : (k : ℕ) (w : Known k) → IsWithin a (coded (slice_number a.configuration r k)) (key_steps (slice_number a.configuration r k) ++ head_steps a.configuration (slice_number a.configuration r k) w.head)
+    opening_within k w =
+        let n = slice_number a.configuration r k in
+        let c = a.configuration in
+        within_front a (coded n) (key_steps n ++ head_steps c n w.head) w.body
+        (subst (IsWithin a (coded n)) (sym (append_assoc (key_steps n) (head_steps c n w.head) w.body)) w.coding.within)
 
     standing : (k : ℕ) → (w : Known k) → Standing a coded planes info r k (row_lines a.configuration r) (opened a coded (slice_number a.configuration r k) w.head)
     standing k w =
@@ -124,7 +133,7 @@ module _ (a : Accepted) (coded : ℕ → List ℕ) (planes : Planes) (info : Sai
         let here : slice_at rest.end from ≡ q = rest.before from (omega arith) ∙ get_or-set_same s.columns from q unread place in
         record {
           end = rest.end;
-          runs = (m, (w.head, codes_head from inside w, agrees s.info w.head may w.says, refl), rest.runs);
+          runs = (m, (w.head, codes_head from inside w, agrees s.info w.head may w.says, refl, opening_within from w), rest.runs);
           stand = λ k least most. elim (cases_eq k from) [
             | inl same ↦
                 subst (λ j. Standing a coded planes info r j (row_lines c r) (slice_at rest.end j)) (sym same)

@@ -65,6 +65,7 @@ module _ (a : Accepted) (coded : ℕ → List ℕ) (laws : PictureLaws a) where
         is_body = subst (λ j. IsBody c q.head (λ p. cell_of (width_in c p j) (plane q.cells p)) ls has.body) (sym place.1) has.is_body;
         past = has.past;
         codes = has.codes;
+        within = has.within;
       }
 
   list_is : (r k : ℕ) → k < a.configuration.columns → lines_in a.configuration (slice_number a.configuration r k) ≡ row_lines a.configuration r

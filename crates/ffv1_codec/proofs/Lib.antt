@@ -18,6 +18,7 @@ mod SegmentReads
 mod Outcomes
 mod PartPlaces
 mod SegmentTied
+mod SegmentLooked
 mod ColumnsOpen
 mod RunsInRow
 mod Ranges
@@ -34,6 +35,7 @@ mod PlanesDecodes
 mod RowDecodes
 mod TalliesUp
 mod RowsDecodes
+pub mod TooFar
 pub mod Machines
 pub mod OneLine
 pub mod OneColour
@@ -62,8 +64,11 @@ pub mod FromCoded
 pub mod OnePicture
 pub mod Answered
 pub mod Totals
+pub mod RefusedHeads
 pub mod FewDecisions
 pub mod FewInFrame
+pub mod FewBySamples
+pub mod FewByBytes
 pub mod KnownSlices
 mod LinesKept
 pub mod OnlyRead

@@ -1,5 +1,5 @@
 -- Where the lines that are handed over stand: in one order, whatever they hold.
-use Rattle.std.proofs.Common.{◌≡◌, refl, ℕ, zero, suc, ◌+◌, true, false, if◌then◌else◌, List, [], ◌∷◌, ◌++◌, map, ap, sym, ◌∙◌, arith, append-nil, append_assoc}
+use Rattle.std.proofs.Common.{◌≡◌, refl, ℕ, zero, suc, ◌+◌, true, false, if◌then◌else◌, List, [], ◌∷◌, ◌++◌, map, inl, inr, ap, sym, ◌∙◌, arith, append-nil, append_assoc}
 use Rattle.std.specs.List.{flat_map, range_with_len}
 use Rattle.std.proofs.lemmas.Grind.{flat_map-append}
 use Rattle.std.proofs.lemmas.List.{map-append}
@@ -125,7 +125,10 @@ module _ (a : Accepted) (coded : ℕ → List ℕ) where
 
   fault_places : (s t : State) (e : Event) (f : FrameFault) → FaultsWith a coded s e f t → places t ≡ places s
   fault_places s t (Open r k) f h = ap (λ (z : State). places z) h.3
-  fault_places s t (Read r k p y) f h = ap (λ (z : State). places z) h.4
+  fault_places s t (Read r k p y) f h = elim h [
+    | inl stop ↦ ap (λ (z : State). places z) stop.4
+    | inr over ↦ ap (λ (z : State). places z) over.4
+  ]
   fault_places s t (Finish r planes y) f h = ap (λ (z : State). places z) h.5
   fault_places s t (Hand r i p y) f h = absurd h
   fault_places s t Close f h = absurd h

@@ -250,11 +250,17 @@ module _ (a : Accepted) (coded : ℕ → List ℕ) where
       | inl key ↦ other_fault f.fault fault.NotKey key.0 (λ e. cc)
       | inr rest ↦ elim rest [
         | inl head ↦ other_fault f.fault (of_slice head.0) head.3 (slice_own head.0)
-        | inr differs ↦ other_fault f.fault fault.InfoDiffers differs.5 (λ e. cc)
+        | inr last ↦ elim last [
+          | inl differs ↦ other_fault f.fault fault.InfoDiffers differs.5 (λ e. cc)
+          | inr over ↦ other_fault f.fault fault.Overread over.2 (λ e. cc)
+        ]
       ]
     ]
   ]
-  event_own s t (Read r k p y) f h = other_fault f.fault fault.SymbolTooLong (ap (λ (z : FrameFault). z.fault) h.3) (λ e. cc)
+  event_own s t (Read r k p y) f h = elim h [
+    | inl stop ↦ other_fault f.fault fault.SymbolTooLong (ap (λ (z : FrameFault). z.fault) stop.3) (λ e. cc)
+    | inr over ↦ other_fault f.fault fault.Overread (ap (λ (z : FrameFault). z.fault) over.3) (λ e. cc)
+  ]
   event_own s t (Finish r planes y) f h = other_fault f.fault fault.Colour (ap (λ (z : FrameFault). z.fault) h.4) (λ e. cc)
   event_own s t (Hand r i p y) f h = absurd h
   event_own s t Close f h = absurd h

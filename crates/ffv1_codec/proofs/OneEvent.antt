@@ -1,5 +1,5 @@
 -- At each state an event makes one step at most, or is refused in one way.
-use Rattle.std.proofs.Common.{◌≡◌, ℕ, ℤ, ◌+◌, ◌<◌, true, Some, List, map, length, ap, sym, subst, ◌∙◌}
+use Rattle.std.proofs.Common.{◌≡◌, ℕ, ℤ, ◌+◌, ◌<◌, ◌++◌, true, Some, List, map, length, inl, inr, ap, sym, subst, ◌∙◌}
 use Rattle.std.proofs.lemmas.List.{length-map}
 use Rattle.ffv1_range.specs.Symbols.{Step}
 use Rattle.ffv1_record.specs.Configuration.{Configuration, is_rct}
@@ -12,11 +12,13 @@ use Rattle.ffv1_codec.specs.declared.fault.FrameFault.{FrameFault}
 use Rattle.ffv1_codec.specs.SliceList.{said_by}
 use Rattle.ffv1_codec.specs.Order.{Event}
 use Rattle.ffv1_codec.specs.Order.Event.{Open, Read, Finish, Hand, Close}
-use Rattle.ffv1_codec.specs.Decoding.{State, StepsBy, FaultsWith, slice_at, slice_number, width_in, left_of, top_of, put_slice, opened, behind_line, behind_steps, decided_in, steps_of_line, steps_of_stop, coded_line, in_slice}
+use Rattle.ffv1_codec.specs.Decoding.{State, StepsBy, FaultsWith, StopsAt, OverreadsAt, slice_at, slice_number, width_in, left_of, top_of, put_slice, opened, behind_line, behind_steps, decided_in, steps_of_line, steps_of_stop, coded_line, in_slice}
 use Rattle.ffv1_codec.proofs.Machines.{OneEach}
 use Rattle.ffv1_codec.proofs.OneLine.{RowLaws, one_line, line_or_stop, one_stop}
 use Rattle.ffv1_codec.proofs.OneColour.{AreFew, one_finish, finish_or_colourless, one_colourless}
 use Rattle.ffv1_codec.proofs.OneOpening.{HeadLaws, head_or_refusal, one_reason}
+use Rattle.ffv1_codec.specs.Overread.{IsWithin}
+use Rattle.ffv1_codec.proofs.TooFar.{not_overread}
 
 -- an event of pictures of a configuration
 abbrev pub IsEvent : Configuration → Event → Type 0
@@ -55,22 +57,28 @@ module _ (a : Accepted) (coded : ℕ → List ℕ) (laws : BytesLaws a coded) wh
 
   apart : (s x z : State) (e : Event) (f : FrameFault) → IsEvent a.configuration e → StepsBy a coded s e x → FaultsWith a coded s e f z → ⊥
   apart s x z (Open r k) f kind g h =
-      head_or_refusal a (coded (slice_number a.configuration r k)) (slice_number a.configuration r k) (laws.heads r k kind.0 kind.1) s.info g.0 f.fault h.0 g.1 g.2 h.1
-  apart s x z (Read r k p y) f kind g h =
-      line_or_stop a coded (slice_number a.configuration r k) (laws.rows (slice_number a.configuration r k)) p (width_in a.configuration p k) y (laws.wide p k kind) (slice_at s k) g.0 h.0 g.1 h.1 g.2 h.2
+      head_or_refusal a (coded (slice_number a.configuration r k)) (slice_number a.configuration r k) (laws.heads r k kind.0 kind.1) s.info g.0 f.fault h.0 g.1 g.2 g.4 h.1
+  apart s x z (Read r k p y) f kind g h = elim h [
+    | inl stop ↦
+        line_or_stop a coded (slice_number a.configuration r k) (laws.rows (slice_number a.configuration r k)) p (width_in a.configuration p k) y (laws.wide p k kind) (slice_at s k) g.0 stop.0 g.1 stop.1 g.2 stop.2
+    | inr over ↦
+        let n = slice_number a.configuration r k in
+        let q = slice_at s k in
+        let width = width_in a.configuration p k in
+        let same = one_line a coded n (laws.rows n) p width y (laws.wide p k kind) q g.0 over.0 g.1 over.1 g.2 over.2 in
+        let within : IsWithin a (coded n) (q.past ++ steps_of_line a coded q p width y over.0 over.1) =
+        subst (λ row. IsWithin a (coded n) (q.past ++ steps_of_line a coded q p width y over.0 row)) same.1
+        (subst (λ qs. IsWithin a (coded n) (q.past ++ steps_of_line a coded q p width y qs g.1)) same.0 g.4) in
+        not_overread a (coded n) (q.past ++ steps_of_line a coded q p width y over.0 over.1) within over.5
+  ]
   apart s x z (Finish r planes y) f kind g h =
       finish_or_colourless a.configuration (map (coded_line a.configuration s y) planes) h.0 g.0 g.1 h.2
   apart s x z (Hand r i p y) f kind g h = h
   apart s x z Close f kind g h = h
 
-  fault_same : (s x z : State) (e : Event) (f g : FrameFault) → IsEvent a.configuration e → FaultsWith a coded s e f x → FaultsWith a coded s e g z → (f ≡ g) × (x ≡ z)
-  fault_same s x z (Open r k) f g kind h j =
-      let n = slice_number a.configuration r k in
-      let same = one_reason a (coded n) n (laws.heads r k kind.0 kind.1) s.info f.fault g.fault h.0 j.0 h.1 j.1 in
-      let place : CodecFault → FrameFault = λ cause. in_slice cause n in
-      let after : List Step → State = λ steps. put_slice s k (decided_in steps) in
-      (h.2 ∙ ap place same.0 ∙ sym j.2, h.3 ∙ ap after same.1 ∙ sym j.3)
-  fault_same s x z (Read r k p y) f g kind h j =
+  -- a line that is refused within it is so in one place; one that is read too far is read in one way
+  stop_same : (s x z : State) (r k p y : ℕ) (f g : FrameFault) → k < a.configuration.columns → StopsAt a coded s r k p y f x → StopsAt a coded s r k p y g z → (f ≡ g) × (x ≡ z)
+  stop_same s x z r k p y f g kind h j =
       let n = slice_number a.configuration r k in
       let q = slice_at s k in
       let width = width_in a.configuration p k in
@@ -84,6 +92,38 @@ module _ (a : Accepted) (coded : ℕ → List ℕ) (laws : BytesLaws a coded) wh
       } in
       let after : List ℤ → List ℕ → State = λ qs row. put_slice s k (behind_steps q (steps_of_stop a coded q p width y qs row)) in
       (h.3 ∙ ap place same.0 ∙ sym j.3, h.4 ∙ ap (λ qs. after qs h.1) same.0 ∙ ap (after j.0) same.1 ∙ sym j.4)
+
+  over_same : (s x z : State) (r k p y : ℕ) (f g : FrameFault) → k < a.configuration.columns → OverreadsAt a coded s r k p y f x → OverreadsAt a coded s r k p y g z → (f ≡ g) × (x ≡ z)
+  over_same s x z r k p y f g kind h j =
+      let n = slice_number a.configuration r k in
+      let q = slice_at s k in
+      let width = width_in a.configuration p k in
+      let same = one_line a coded n (laws.rows n) p width y (laws.wide p k kind) q h.0 j.0 h.1 j.1 h.2 j.2 in
+      let after : List ℤ → List ℕ → State = λ qs row. put_slice s k (behind_line q (steps_of_line a coded q p width y qs row) p row) in
+      (h.3 ∙ sym j.3, h.4 ∙ ap (λ qs. after qs h.1) same.0 ∙ ap (after j.0) same.1 ∙ sym j.4)
+
+  stop_or_over : (s x z : State) (r k p y : ℕ) (f g : FrameFault) → k < a.configuration.columns → StopsAt a coded s r k p y f x → OverreadsAt a coded s r k p y g z → ⊥
+  stop_or_over s x z r k p y f g kind h j =
+      let n = slice_number a.configuration r k in
+      line_or_stop a coded n (laws.rows n) p (width_in a.configuration p k) y (laws.wide p k kind) (slice_at s k) j.0 h.0 j.1 h.1 j.2 h.2
+
+  fault_same : (s x z : State) (e : Event) (f g : FrameFault) → IsEvent a.configuration e → FaultsWith a coded s e f x → FaultsWith a coded s e g z → (f ≡ g) × (x ≡ z)
+  fault_same s x z (Open r k) f g kind h j =
+      let n = slice_number a.configuration r k in
+      let same = one_reason a (coded n) n (laws.heads r k kind.0 kind.1) s.info f.fault g.fault h.0 j.0 h.1 j.1 in
+      let place : CodecFault → FrameFault = λ cause. in_slice cause n in
+      let after : List Step → State = λ steps. put_slice s k (decided_in steps) in
+      (h.2 ∙ ap place same.0 ∙ sym j.2, h.3 ∙ ap after same.1 ∙ sym j.3)
+  fault_same s x z (Read r k p y) f g kind h j = elim h [
+    | inl stop ↦ elim j [
+      | inl other ↦ stop_same s x z r k p y f g kind stop other
+      | inr over ↦ absurd (stop_or_over s x z r k p y f g kind stop over)
+    ]
+    | inr over ↦ elim j [
+      | inl stop ↦ absurd (stop_or_over s z x r k p y g f kind stop over)
+      | inr other ↦ over_same s x z r k p y f g kind over other
+    ]
+  ]
   fault_same s x z (Finish r planes y) f g kind h j =
       let read = map (coded_line a.configuration s y) planes in
       let same_x = one_colourless a.configuration read h.0 j.0 h.2 j.2 in

@@ -12,6 +12,8 @@ use Rattle.ffv1_codec.specs.declared.fault.CodecFault.{CodecFault}
 use Rattle.ffv1_codec.specs.declared.fault.CodecFault.TheVariants as fault
 use Rattle.ffv1_codec.specs.SliceList.{Said, said_by}
 use Rattle.ffv1_codec.specs.Decoding.{RefusesOpen, AgreesWith, of_slice}
+use Rattle.ffv1_codec.specs.Overread.{IsWithin, IsOverread}
+use Rattle.ffv1_codec.proofs.TooFar.{not_overread}
 
 -- the laws of decisions and of heads, for the bytes of a slice
 pub record HeadLaws (a : Accepted) (bytes : List ℕ) (n : ℕ) : Type 0 where
@@ -37,19 +39,30 @@ module _ (a : Accepted) (bytes : List ℕ) (n : ℕ) (laws : HeadLaws a bytes n)
       not_both (laws.one_bit [] (decisions_after a.table (record { slot = 0; bit = true } ∷ []) more) [] 128 true false state (laws.named (record { slot = 0; bit = true } ∷ []) more) tt codes other)
   one_key more (suc m) first codes other = absurd (omega (arith, first))
 
+  -- no head is read too far that is not
+  too_far : (h g : SliceHead) → CodesHead bytes a.table a.profile a.configuration n h → CodesHead bytes a.table a.profile a.configuration n g → IsWithin a bytes (key_steps n ++ head_steps a.configuration n h) →
+      IsOverread a bytes (key_steps n ++ head_steps a.configuration n g) → ⊥
+  too_far h g codes other within over =
+      not_overread a bytes (key_steps n ++ head_steps a.configuration n g)
+      (subst (λ z. IsWithin a bytes (key_steps n ++ head_steps a.configuration n z)) (laws.head h g codes other) within) over
+
   -- why a slice is not opened, seen from a head that the bytes code
   pub head_or_refusal : (info : Option Said) (h : SliceHead) (f : CodecFault) (steps : List Step) →
-      CodesHead bytes a.table a.profile a.configuration n h → AgreesWith info (said_by a.profile h) → RefusesOpen a (λ _. bytes) info n f steps → ⊥
-  head_or_refusal info h f steps codes agrees refuses = elim refuses [
+      CodesHead bytes a.table a.profile a.configuration n h → AgreesWith info (said_by a.profile h) → IsWithin a bytes (key_steps n ++ head_steps a.configuration n h) →
+      RefusesOpen a (λ _. bytes) info n f steps → ⊥
+  head_or_refusal info h f steps codes agrees within refuses = elim refuses [
     | inl bad ↦ bad.1 (starts (key_steps n ++ head_steps a.configuration n h) codes.codes)
     | inr more ↦ elim more [
       | inl key ↦ one_key (head_steps a.configuration n h) n key.1.first codes.codes key.1.codes
       | inr other ↦ elim other [
         | inl head ↦ laws.apart h head.0 head.1 codes head.2
-        | inr differs ↦
-            let same : h ≡ differs.0 = laws.head h differs.0 codes differs.2 in
-            let agreed : said_by a.profile h ≡ differs.1 = subst (λ i. AgreesWith i (said_by a.profile h)) differs.3 agrees in
-            differs.4 (ap (said_by a.profile) (sym same) ∙ agreed)
+        | inr last ↦ elim last [
+          | inl differs ↦
+              let same : h ≡ differs.0 = laws.head h differs.0 codes differs.2 in
+              let agreed : said_by a.profile h ≡ differs.1 = subst (λ i. AgreesWith i (said_by a.profile h)) differs.3 agrees in
+              differs.4 (ap (said_by a.profile) (sym same) ∙ agreed)
+          | inr over ↦ too_far h over.0 codes over.1 within over.4
+        ]
       ]
     ]
   ]
@@ -68,7 +81,10 @@ module _ (a : Accepted) (bytes : List ℕ) (n : ℕ) (laws : HeadLaws a bytes n)
       | inl key ↦ absurd (none (starts no_key key.1.codes))
       | inr later ↦ elim later [
         | inl head ↦ absurd (none (starts (key_steps n ++ shifted 1 head.1) head.2.codes))
-        | inr differs ↦ absurd (none (starts (key_steps n ++ head_steps a.configuration n differs.0) differs.2.codes))
+        | inr last ↦ elim last [
+          | inl differs ↦ absurd (none (starts (key_steps n ++ head_steps a.configuration n differs.0) differs.2.codes))
+          | inr over ↦ absurd (none (starts (key_steps n ++ head_steps a.configuration n over.0) over.1.codes))
+        ]
       ]
     ]
   ]
@@ -81,7 +97,10 @@ module _ (a : Accepted) (bytes : List ℕ) (n : ℕ) (laws : HeadLaws a bytes n)
       | inl key ↦ (is ∙ sym key.0, long ∙ sym key.2)
       | inr later ↦ elim later [
         | inl head ↦ absurd (one_key (shifted 1 head.1) n refused.first head.2.codes refused.codes)
-        | inr differs ↦ absurd (one_key (head_steps a.configuration n differs.0) n refused.first differs.2.codes refused.codes)
+        | inr last ↦ elim last [
+          | inl differs ↦ absurd (one_key (head_steps a.configuration n differs.0) n refused.first differs.2.codes refused.codes)
+          | inr over ↦ absurd (one_key (head_steps a.configuration n over.0) n refused.first over.1.codes refused.codes)
+        ]
       ]
     ]
   ]
@@ -96,21 +115,44 @@ module _ (a : Accepted) (bytes : List ℕ) (n : ℕ) (laws : HeadLaws a bytes n)
         | inl head ↦
             let same = laws.refusal h head.0 more head.1 refused head.2 in
             (is ∙ ap of_slice same.0 ∙ sym head.3, long ∙ ap (λ steps. key_steps n ++ shifted 1 steps) same.1 ∙ sym head.4)
-        | inr differs ↦ absurd (laws.apart differs.0 h more differs.2 refused)
+        | inr last ↦ elim last [
+          | inl differs ↦ absurd (laws.apart differs.0 h more differs.2 refused)
+          | inr over ↦ absurd (laws.apart over.0 h more over.1 refused)
+        ]
       ]
     ]
   ]
 
   bad_info : (info : Option Said) (f g : CodecFault) (xs ys : List Step) (h : SliceHead) → CodesHead bytes a.table a.profile a.configuration n h → f ≡ fault.InfoDiffers →
-      xs ≡ key_steps n ++ head_steps a.configuration n h → Reason info g ys → SameReason f g xs ys
-  bad_info info f g xs ys h codes is long other = elim other [
+      xs ≡ key_steps n ++ head_steps a.configuration n h → IsWithin a bytes (key_steps n ++ head_steps a.configuration n h) → Reason info g ys → SameReason f g xs ys
+  bad_info info f g xs ys h codes is long within other = elim other [
     | inl bad ↦ absurd (bad.1 (starts (key_steps n ++ head_steps a.configuration n h) codes.codes))
     | inr rest ↦ elim rest [
       | inl key ↦ absurd (one_key (head_steps a.configuration n h) n key.1.first codes.codes key.1.codes)
       | inr later ↦ elim later [
         | inl head ↦ absurd (laws.apart h head.0 head.1 codes head.2)
-        | inr differs ↦
-            (is ∙ sym differs.5, long ∙ ap (λ z. key_steps n ++ head_steps a.configuration n z) (laws.head h differs.0 codes differs.2) ∙ sym differs.6)
+        | inr last ↦ elim last [
+          | inl differs ↦
+              (is ∙ sym differs.5, long ∙ ap (λ z. key_steps n ++ head_steps a.configuration n z) (laws.head h differs.0 codes differs.2) ∙ sym differs.6)
+          | inr over ↦ absurd (too_far h over.0 codes over.1 within over.4)
+        ]
+      ]
+    ]
+  ]
+
+  bad_reach : (info : Option Said) (f g : CodecFault) (xs ys : List Step) (h : SliceHead) → CodesHead bytes a.table a.profile a.configuration n h → f ≡ fault.Overread →
+      xs ≡ key_steps n ++ head_steps a.configuration n h → IsOverread a bytes (key_steps n ++ head_steps a.configuration n h) → Reason info g ys → SameReason f g xs ys
+  bad_reach info f g xs ys h codes is long over other = elim other [
+    | inl bad ↦ absurd (bad.1 (starts (key_steps n ++ head_steps a.configuration n h) codes.codes))
+    | inr rest ↦ elim rest [
+      | inl key ↦ absurd (one_key (head_steps a.configuration n h) n key.1.first codes.codes key.1.codes)
+      | inr later ↦ elim later [
+        | inl head ↦ absurd (laws.apart h head.0 head.1 codes head.2)
+        | inr last ↦ elim last [
+          | inl differs ↦ absurd (too_far differs.0 h differs.2 codes differs.7 over)
+          | inr same ↦
+              (is ∙ sym same.2, long ∙ ap (λ z. key_steps n ++ head_steps a.configuration n z) (laws.head h same.0 codes same.1) ∙ sym same.3)
+        ]
       ]
     ]
   ]
@@ -123,7 +165,10 @@ module _ (a : Accepted) (bytes : List ℕ) (n : ℕ) (laws : HeadLaws a bytes n)
       | inl key ↦ bad_key info f g xs ys key.0 key.1 key.2 other
       | inr later ↦ elim later [
         | inl head ↦ bad_head info f g xs ys head.1 head.0 head.2 head.3 head.4 other
-        | inr differs ↦ bad_info info f g xs ys differs.0 differs.2 differs.5 differs.6 other
+        | inr last ↦ elim last [
+          | inl differs ↦ bad_info info f g xs ys differs.0 differs.2 differs.5 differs.6 differs.7 other
+          | inr over ↦ bad_reach info f g xs ys over.0 over.1 over.2 over.3 over.4 other
+        ]
       ]
     ]
   ]

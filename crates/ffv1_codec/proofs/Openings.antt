@@ -25,6 +25,7 @@ use Rattle.ffv1_codec.specs.Decoding.{AgreesWith, of_slice}
 use Rattle.ffv1_codec.specs.Stands.{Stands, told_by, tally_behind, window}
 use Rattle.ffv1_codec.specs.Opened.{Begun, HeadRead, HeadRefused, IsCutOf, ColumnOpened, ColumnRefused, coded_by}
 use Rattle.ffv1_codec.proofs.SegmentReads.{Telling, tells}
+use Rattle.ffv1_codec.specs.Overread.{IsWithin, IsOverread}
 
 pub key_outside : (n : ℕ) → AreOutside (key_steps n) 1 32
 key_outside zero = (inl (omega arith), tt)
@@ -174,11 +175,12 @@ module _ (a : Accepted) (payload : List ℕ) (cut : Cut) (n begin end : ℕ) (is
         tells telling (coded_by a payload cut n) a.table (paused new) steps (subst (λ b. At (resumed (paused new) b) (interval_of (decisions_after a.table [] steps))) (begun.bytes ∙ coded_is) begun.at) begun.counted
 
     pub column_opened : (indexes : List ℕ) (h : SliceHead) (before after : Option Said) → indexes ≡ h.indexes → HeadRead a n old new h → AgreesWith before (said_by a.profile h) → after ≡ Some (said_by a.profile h) →
-        ((slots : ℕ) → HasStates a.table (replicate slots 128) 33 (key_steps n ++ head_steps a.configuration n h)) →
+        IsWithin a bytes (key_steps n ++ head_steps a.configuration n h) → ((slots : ℕ) → HasStates a.table (replicate slots 128) 33 (key_steps n ++ head_steps a.configuration n h)) →
         ColumnOpened a (coded_by a payload cut) payload n (record { parked = Some (paused new); first = begin; last = end; indexes = indexes }) before after
-    column_opened indexes h before after indexes_are read agrees says has = record {
+    column_opened indexes h before after indexes_are read agrees says within has = record {
       head = h;
       codes = subst (λ b. CodesHead b a.table a.profile a.configuration n h) coded_is read.codes;
+      within = subst (λ b. IsWithin a b (key_steps n ++ head_steps a.configuration n h)) bytes_are within;
       agrees = agrees;
       says = says;
       bytes_are = bytes_are;
@@ -187,11 +189,38 @@ module _ (a : Accepted) (payload : List ℕ) (cut : Cut) (n begin end : ℕ) (is
     }
 
     pub column_differs : Telling → (column : Column) (h : SliceHead) (before : Option Said) (s : Said) → column.parked ≡ Some (paused new) → HeadRead a n old new h → before ≡ Some s → said_by a.profile h ≢ s →
+        IsWithin a bytes (key_steps n ++ head_steps a.configuration n h) →
         ColumnRefused a (coded_by a payload cut) n column before fault.InfoDiffers
-    column_differs telling column h before s parked read was differs = record {
+    column_differs telling column h before s parked read was differs within = record {
       steps = key_steps n ++ head_steps a.configuration n h;
-      refuses = inr (inr (inr (h, s, subst (λ b. CodesHead b a.table a.profile a.configuration n h) coded_is read.codes, was, differs, refl, refl)));
+      refuses = inr (inr (inr (inl (
+        h,
+        s,
+        subst (λ b. CodesHead b a.table a.profile a.configuration n h) coded_is read.codes,
+        was,
+        differs,
+        refl,
+        refl,
+        subst (λ b. IsWithin a b (key_steps n ++ head_steps a.configuration n h)) bytes_are within,
+      ))));
       told = ap told_by parked ∙ told_after telling (key_steps n ++ head_steps a.configuration n h) read.begun;
+    }
+
+    pub head_told : Telling → (h : SliceHead) → HeadRead a n old new h → told_by (Some (paused new)) ≡ tally_behind a.table (key_steps n ++ head_steps a.configuration n h)
+    head_told telling h read = told_after telling (key_steps n ++ head_steps a.configuration n h) read.begun
+
+    pub column_overread : Telling → (column : Column) (h : SliceHead) (before : Option Said) → column.parked ≡ Some (paused new) → HeadRead a n old new h → IsOverread a bytes (key_steps n ++ head_steps a.configuration n h) →
+        ColumnRefused a (coded_by a payload cut) n column before fault.Overread
+    column_overread telling column h before parked read over = record {
+      steps = key_steps n ++ head_steps a.configuration n h;
+      refuses = inr (inr (inr (inr (
+        h,
+        subst (λ b. CodesHead b a.table a.profile a.configuration n h) coded_is read.codes,
+        refl,
+        refl,
+        subst (λ b. IsOverread a b (key_steps n ++ head_steps a.configuration n h)) bytes_are over,
+      ))));
+      told = ap told_by parked ∙ head_told telling h read;
     }
 
     pub column_stopped : Telling → (column : Column) (before : Option Said) (f : CodecFault) → column.parked ≡ Some (paused new) → HeadRefused a n old new f → ColumnRefused a (coded_by a payload cut) n column before f

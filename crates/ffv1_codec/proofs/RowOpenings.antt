@@ -70,7 +70,7 @@ module _ (a : Accepted) (coded : ℕ → List ℕ) (payload : List ℕ) (r : ℕ
         let q = opened a coded num made.head in
         let t = put_slice m n q in
         let few : n < length m.columns = omega (arith, inside, known) in
-        let step : StepsBy a coded before.state (Open r n) t = (made.head, made.codes, subst (λ z. AgreesWith z (said_by a.profile made.head)) (sym info_is) made.agrees, refl) in
+        let step : StepsBy a coded before.state (Open r n) t = (made.head, made.codes, subst (λ z. AgreesWith z (said_by a.profile made.head)) (sym info_is) made.agrees, refl, made.within) in
         let zero_is : 0 + n ≡ n = omega arith in
         record {
           state = t;

@@ -24,6 +24,7 @@ use Rattle.ffv1_codec.proofs.Groups.{groups_of, group_events, row_by_groups, gro
 use Rattle.ffv1_codec.proofs.ColumnSteps.{IsOfRow, ReadsNext, column_runs}
 use Rattle.ffv1_codec.proofs.SliceBodies.{CellLaws, HasRead, longer, plane_is, plane_put, plane_beside}
 use Rattle.ffv1_codec.proofs.LinesMade.{MadeOf, goes_on, AllHave, have_more, row_made, groups_of_row}
+use Rattle.ffv1_codec.specs.Overread.{IsWithin}
 
 nothing_read : (c : Configuration) (h : SliceHead) (cell : ℕ → Cell) → IsBody c h cell [] []
 unfolding IsBody
@@ -31,8 +32,9 @@ nothing_read c h cell = refl
 
 module _ (a : Accepted) (coded : ℕ → List ℕ) (r : ℕ) where
   has_opened : (k : ℕ) (h : SliceHead) → CodesHead (coded (slice_number a.configuration r k)) a.table a.profile a.configuration (slice_number a.configuration r k) h →
+      IsWithin a (coded (slice_number a.configuration r k)) (key_steps (slice_number a.configuration r k) ++ head_steps a.configuration (slice_number a.configuration r k) h) →
       HasRead a coded r k [] (opened a coded (slice_number a.configuration r k) h)
-  has_opened k h codes =
+  has_opened k h codes within =
       let c = a.configuration in
       let n = slice_number c r k in
       record {
@@ -43,6 +45,7 @@ module _ (a : Accepted) (coded : ℕ → List ℕ) (r : ℕ) where
         past = ap (λ z. key_steps n ++ z) (sym (append-nil (head_steps c n h)));
         is_body = nothing_read c h _;
         codes = codes.codes;
+        within = within;
       }
 
   -- what slices of the row say
@@ -95,7 +98,7 @@ module _ (a : Accepted) (coded : ℕ → List ℕ) (r : ℕ) where
         each = λ k least most. elim (cases_eq k from) [
           | inl same ↦
               subst (λ j. HasRead a coded r j [] (slice_at t j) × Says t j) (sym same)
-              (subst (HasRead a coded r from []) (sym here) (has_opened from h f.1.1), t_info ∙ ap (λ (z : Slice). Some (said_by a.profile z.head)) (sym here))
+              (subst (HasRead a coded r from []) (sym here) (has_opened from h f.1.1 f.1.4), t_info ∙ ap (λ (z : Slice). Some (said_by a.profile z.head)) (sym here))
           | inr other ↦ rest.each k (omega (arith, least, other)) (omega (arith, most))
         ];
         empty = λ k least most. elim (cases_eq k from) [

@@ -75,7 +75,7 @@ module _ (a : Accepted) (coded : ℕ → List ℕ) (planes : Planes) (info : Sai
         let m = put_slice s i next in
         record {
           next = m;
-          steps = (go.qs, go.row, go.reads, refl);
+          steps = (go.qs, go.row, go.reads, refl, go.within);
           stand = λ k here. elim (cases_eq k i) [
             | inl same ↦
                 let now : slice_at m i ≡ next = get_or-set_same s.columns i next unread place in

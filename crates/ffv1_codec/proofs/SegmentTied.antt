@@ -13,9 +13,10 @@ use Rattle.ffv1_codec.specs.Picture.{Planes, plane, plane_count}
 use Rattle.ffv1_codec.specs.SliceList.{class_of, base_of, bits_of, set_at, set_in}
 use Rattle.ffv1_codec.specs.Places.{AreParts}
 use Rattle.ffv1_codec.specs.Order.Event.{Read}
-use Rattle.ffv1_codec.specs.Decoding.{State, Slice, StepsBy, slice_at, slice_number, put_slice, behind_line, behind_steps, steps_of_line, steps_of_stop, left_of, width_in, top_of, unread}
+use Rattle.ffv1_codec.specs.Overread.{IsWithin, IsOverread}
+use Rattle.ffv1_codec.specs.Decoding.{State, Slice, StepsBy, FaultsWith, ReadsLine, slice_at, slice_number, put_slice, behind_line, behind_steps, steps_of_line, steps_of_stop, left_of, width_in, top_of, unread}
 use Rattle.ffv1_codec.specs.Stands.{Stands, SegmentRead, SegmentRefused, window, told_by, tally_behind}
-use Rattle.ffv1_codec.specs.Tied.{TiedColumn, TiedColumns, TiedLine, AreTold, StepMade, Stopped, SameOthers, slots_in, column_at, bytes_in, no_column, part_of}
+use Rattle.ffv1_codec.specs.Tied.{TiedColumn, TiedColumns, TiedLine, AreTold, SegmentMade, Stopped, SameOthers, slots_in, column_at, bytes_in, no_column, part_of, overread_in}
 use Rattle.ffv1_codec.proofs.WrittenParts.{put, put_window, put_other}
 use Rattle.ffv1_codec.proofs.Sizes.{part_apart}
 use Rattle.ffv1_codec.proofs.ByNumber.{plane_is}
@@ -120,8 +121,14 @@ module _ (a : Accepted) (coded : ℕ → List ℕ) (r next : ℕ) (payload : Lis
         abbrev pub state_new : State
         state_new = put_slice s k slice_new
 
-        pub step : StepsBy a coded s (Read r k p y) state_new
-        step = (read_one.residuals, row, record { above = rolls.long; long = read_one.long; row_long = row_long; codes = read_one.codes }, refl)
+        reads : ReadsLine a coded n p width y old read_one.residuals row
+        reads = record { above = rolls.long; long = read_one.long; row_long = row_long; codes = read_one.codes }
+
+        pub step : IsWithin a (coded n) (slice_at state_new k).past → StepsBy a coded s (Read r k p y) state_new
+        step within = (read_one.residuals, row, reads, refl, subst (λ (z : Slice). IsWithin a (coded n) z.past) (slice_now s k slice_new inside_s) within)
+
+        pub fault_is : IsOverread a (coded n) (slice_at state_new k).past → FaultsWith a coded s (Read r k p y) (overread_in a.configuration r k p y) state_new
+        fault_is over = inr (read_one.residuals, row, reads, refl, refl, subst (λ (z : Slice). IsOverread a (coded n) z.past) (slice_now s k slice_new inside_s) over)
 
         cell_now : plane slice_new.cells p ≡ samples ++ row
         cell_now = plane_now old.cells p (samples ++ row) (omega (arith, inside_p, (tied.each k inside_k).cells))
@@ -208,10 +215,11 @@ module _ (a : Accepted) (coded : ℕ → List ℕ) (r next : ℕ) (payload : Lis
 
         pub step_made : AreParts (across (division_of a.configuration) p) → ((width n : ℕ) (samples two one cur : List ℕ) → length cur ≡ width → Rolls width samples two one n → Rolls width (samples ++ cur) one cur (n + 1)) →
             offset + a.configuration.width ≤ length cur → TiedLine a.configuration p offset k y two one cur s →
-            StepMade a coded r next payload p offset y k (slice_set columns k q) (put (k * slots) slots states new) two one (put left width cur row) s
+            SegmentMade a coded r next payload p offset y k (slice_set columns k q) (put (k * slots) slots states new) two one (put left width cur row) s
         step_made are rolling room line = record {
           state = state_new;
           step = step;
+          fault = fault_is;
           columns_are = columns_are;
           line_is = line_is are rolling room line;
           others = others;
@@ -238,7 +246,7 @@ module _ (a : Accepted) (coded : ℕ → List ℕ) (r next : ℕ) (payload : Lis
             let place : ℕ → FrameFault = λ z. record { fault = fault.SymbolTooLong; slice = n; plane = p; line = top_of a.configuration p r + y; x = left_of a.configuration p k + z } in
             record {
               state = state_last;
-              stops = inl (refused_one.residuals, row, record { above = rolls.long; short = omega (arith, count, less); row_long = row_long ∙ sym count; refuses = refused_one.refuses }, is ∙ ap place (sym count), refl);
+              stops = inl (inl (refused_one.residuals, row, record { above = rolls.long; short = omega (arith, count, less); row_long = row_long ∙ sym count; refuses = refused_one.refuses }, is ∙ ap place (sym count), refl));
               told = record {
                 long = length-set s.columns k slice_last ∙ tied.known ∙ sym long ∙ sym (length-set columns k q);
                 each = λ j h. elim (cases_eq j k) [

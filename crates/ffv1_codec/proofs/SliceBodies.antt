@@ -20,6 +20,7 @@ use Rattle.ffv1_codec.proofs.Machines.{Each, each_append}
 use Rattle.ffv1_codec.proofs.OneLine.{in_rows}
 use Rattle.ffv1_codec.proofs.LinesRead.{read_at}
 use Rattle.ffv1_codec.proofs.ColumnSteps.{ReadsNext}
+use Rattle.ffv1_codec.specs.Overread.{IsWithin}
 
 -- the laws of cells that agree
 pub record CellLaws : Type 0 where
@@ -92,6 +93,7 @@ module _ (a : Accepted) (coded : ℕ → List ℕ) (r k : ℕ) where
     pub past : q.past ≡ key_steps (slice_number a.configuration r k) ++ (head_steps a.configuration (slice_number a.configuration r k) q.head ++ body)
     pub is_body : IsBody a.configuration q.head (cells_of q) ls body
     pub codes : Codes (coded (slice_number a.configuration r k)) (decisions_after a.table [] q.past)
+    pub within : IsWithin a (coded (slice_number a.configuration r k)) q.past
 
   -- one plane is longer, and the others stay
   pub record Longer (q t : Slice) : Type 0 where
@@ -178,4 +180,5 @@ module _ (a : Accepted) (coded : ℕ → List ℕ) (r k : ℕ) where
                 ∙ ap (λ h. key_steps n ++ (head_steps c n h ++ (has.body ++ line_steps c q.head (cells_of t) l next.qs))) (sym more.head);
             is_body = subst (λ h. IsBody c h (cells_of t) (ls ++ (l ∷ [])) (has.body ++ line_steps c q.head (cells_of t) l next.qs)) (sym more.head) new_body;
             codes = subst (λ steps. Codes (coded n) (decisions_after a.table [] steps)) (sym past) next.reads.codes.codes;
+            within = subst (IsWithin a (coded n)) (sym past) next.within;
           })

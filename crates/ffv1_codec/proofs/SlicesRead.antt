@@ -18,6 +18,8 @@ use Rattle.ffv1_codec.specs.Decoding.{Slice, ReadsLine, slice_number, width_in, 
 use Rattle.ffv1_codec.proofs.OneLine.{in_rows}
 use Rattle.ffv1_codec.proofs.SliceBodies.{CellLaws, plane_put, plane_beside}
 use Rattle.ffv1_codec.proofs.PlanesMade.{rows_in, counted}
+use Rattle.ffv1_codec.specs.Overread.{IsWithin}
+use Rattle.ffv1_codec.proofs.TooFar.{within_front}
 
 -- the laws of decisions
 pub record FrontLaws (a : Accepted) (bytes : List ℕ) : Type 0 where
@@ -43,6 +45,8 @@ module _ (a : Accepted) (coded : ℕ → List ℕ) (planes : Planes) (r k : ℕ)
   pub record Coding (h : SliceHead) (body : List Step) : Type 0 where
     pub codes : Codes (coded (slice_number a.configuration r k)) (decisions_after a.table []
         (key_steps (slice_number a.configuration r k) ++ (head_steps a.configuration (slice_number a.configuration r k) h ++ body)))
+    pub within : IsWithin a (coded (slice_number a.configuration r k))
+        (key_steps (slice_number a.configuration r k) ++ (head_steps a.configuration (slice_number a.configuration r k) h ++ body))
 
   -- the slice stands before these lines of its list
   pub record StandsBefore (h : SliceHead) (body : List Step) (more : List Line) (q : Slice) : Type 0 where
@@ -61,6 +65,7 @@ module _ (a : Accepted) (coded : ℕ → List ℕ) (planes : Planes) (r k : ℕ)
     pub row : List ℕ
     pub reads : ReadsLine a coded (slice_number a.configuration r k) p (width_in a.configuration p k) y q qs row
     pub stands : StandsBefore h body more (behind_line q (steps_of_line a coded q p (width_in a.configuration p k) y qs row) p row)
+    pub within : IsWithin a (coded (slice_number a.configuration r k)) (q.past ++ steps_of_line a coded q p (width_in a.configuration p k) y qs row)
 
   -- the residuals of the next line
   record Split (h : SliceHead) (l : Line) (more : List Line) (steps : List Step) : Type 0 where
@@ -205,4 +210,5 @@ module _ (a : Accepted) (coded : ℕ → List ℕ) (planes : Planes) (r k : ℕ)
                 ap (λ z. z ++ steps) stands.past ∙ append_assoc (key_steps n) (head_steps c n h ++ stands.before) steps
                 ∙ ap (λ z. key_steps n ++ z) (append_assoc (head_steps c n h) stands.before steps);
           };
+          within = within_front a (coded n) (q.past ++ steps) parts.rest (subst (IsWithin a (coded n)) whole coding.within);
         }

@@ -27,6 +27,7 @@ use Rattle.ffv1_codec.specs.Picture.{plane, plane_count, green_of, blue_of}
 use Rattle.ffv1_codec.specs.SliceList.{Said, said_by, base_of, bits_of, set_in}
 use Rattle.ffv1_codec.specs.Order.{Event, events_of}
 use Rattle.ffv1_codec.specs.Order.Event.{Open, Read, Finish, Hand, Close}
+use Rattle.ffv1_codec.specs.Overread.{IsWithin, IsOverread}
 use Rattle.ffv1_codec.specs.Runs.{Runs, Stops}
 
 -- what is known of a slice: what was decided in it, what its head says, and for each plane the
@@ -209,7 +210,11 @@ module _ (a : Accepted) (coded : ℕ → List ℕ) where
       ⊎ ((h : SliceHead) × (first : Said)
       × CodesHead (coded n) a.table a.profile a.configuration n h
       × (info ≡ Some first) × (said_by a.profile h ≢ first) × (f ≡ fault.InfoDiffers)
-      × (steps ≡ key_steps n ++ head_steps a.configuration n h))
+      × (steps ≡ key_steps n ++ head_steps a.configuration n h)
+      × IsWithin a (coded n) (key_steps n ++ head_steps a.configuration n h))
+      ⊎ ((h : SliceHead) × CodesHead (coded n) a.table a.profile a.configuration n h
+      × (f ≡ fault.Overread) × (steps ≡ key_steps n ++ head_steps a.configuration n h)
+      × IsOverread a (coded n) (key_steps n ++ head_steps a.configuration n h))
 
   -- what is known once slice n is opened
   abbrev pub opened : ℕ → SliceHead → Slice
@@ -226,12 +231,15 @@ module _ (a : Accepted) (coded : ℕ → List ℕ) where
       (h : SliceHead) × CodesHead (coded n) a.table a.profile a.configuration n h
       × AgreesWith s.info (said_by a.profile h)
       × (t ≡ put_slice (record s { info = Some (said_by a.profile h) }) k (opened n h))
+      × IsWithin a (coded n) (key_steps n ++ head_steps a.configuration n h)
   StepsBy s (Read r k p y) t =
       let q = slice_at s k in
       let width = width_in a.configuration p k in
       (qs : List ℤ) × (row : List ℕ)
       × ReadsLine (slice_number a.configuration r k) p width y q qs row
       × (t ≡ put_slice s k (behind_line q (steps_of_line q p width y qs row) p row))
+      × IsWithin a (coded (slice_number a.configuration r k))
+      (q.past ++ steps_of_line q p width y qs row)
   StepsBy s (Finish r planes y) t =
       (out : List (List ℕ))
       × Finishes a.configuration (map (coded_line a.configuration s y) planes) out
@@ -250,13 +258,9 @@ module _ (a : Accepted) (coded : ℕ → List ℕ) where
         columns = replicate a.configuration.columns unread;
       }
 
-  -- the event is refused, with this fault and what is known then
-  abbrev pub FaultsWith : State → Event → FrameFault → State → Type 0
-  FaultsWith s (Open r k) f t =
-      let n = slice_number a.configuration r k in
-      (steps : List Step) × RefusesOpen s.info n f.fault steps × (f ≡ in_slice f.fault n)
-      × (t ≡ put_slice s k (decided_in steps))
-  FaultsWith s (Read r k p y) f t =
+  -- line y of a cell is refused within it, at a symbol
+  abbrev pub StopsAt : State → ℕ → ℕ → ℕ → ℕ → FrameFault → State → Type 0
+  StopsAt s r k p y f t =
       let n = slice_number a.configuration r k in
       let q = slice_at s k in
       let width = width_in a.configuration p k in
@@ -269,6 +273,31 @@ module _ (a : Accepted) (coded : ℕ → List ℕ) where
         x = left_of a.configuration p k + length qs;
       })
       × (t ≡ put_slice s k (behind_steps q (steps_of_stop q p width y qs row)))
+
+  -- it is read, and its slice was read too far
+  abbrev pub OverreadsAt : State → ℕ → ℕ → ℕ → ℕ → FrameFault → State → Type 0
+  OverreadsAt s r k p y f t =
+      let n = slice_number a.configuration r k in
+      let q = slice_at s k in
+      let width = width_in a.configuration p k in
+      (qs : List ℤ) × (row : List ℕ) × ReadsLine n p width y q qs row
+      × (f ≡ record {
+        fault = fault.Overread;
+        slice = n;
+        plane = p;
+        line = top_of a.configuration p r + y;
+        x = 0;
+      })
+      × (t ≡ put_slice s k (behind_line q (steps_of_line q p width y qs row) p row))
+      × IsOverread a (coded n) (q.past ++ steps_of_line q p width y qs row)
+
+  -- the event is refused, with this fault and what is known then
+  abbrev pub FaultsWith : State → Event → FrameFault → State → Type 0
+  FaultsWith s (Open r k) f t =
+      let n = slice_number a.configuration r k in
+      (steps : List Step) × RefusesOpen s.info n f.fault steps × (f ≡ in_slice f.fault n)
+      × (t ≡ put_slice s k (decided_in steps))
+  FaultsWith s (Read r k p y) f t = StopsAt s r k p y f t ⊎ OverreadsAt s r k p y f t
   FaultsWith s (Finish r planes y) f t =
       (x : ℕ) × (k : ℕ)
       × IsColourless a.configuration (map (coded_line a.configuration s y) planes) x

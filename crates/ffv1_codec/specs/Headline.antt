@@ -4,8 +4,11 @@ use Rattle.std.specs.List.{filter, range_with_len}
 use Rattle.ffv1_wire.specs.Runs.{LineStep, Line, Grows}
 use Rattle.ffv1_wire.specs.Runs as wire
 use Rattle.ffv1_range.specs.declared.tally.Tally.{Tally}
+use Rattle.ffv1_range.specs.Standard.{standard}
+use Rattle.ffv1_range.specs.Renormalising.{decisions_a_byte}
 use Rattle.ffv1_record.specs.Accepted.{Accepted}
 use Rattle.ffv1_record.specs.Held.{held_of}
+use Rattle.ffv1_record.specs.declared.config.Profile.TheVariants as profile
 use Rattle.ffv1_record.specs.declared.checked.Held.{Held}
 use Rattle.ffv1_codec.specs.declared.fault.CodecFault.TheVariants as fault
 use Rattle.ffv1_codec.specs.declared.fault.FrameFault.{FrameFault}
@@ -14,7 +17,7 @@ use Rattle.ffv1_codec.specs.SliceList.{Said}
 use Rattle.ffv1_codec.specs.Frame.{IsSaid, CodesPicture, HasLongSlice, frame_of}
 use Rattle.ffv1_codec.specs.Lines.{lines_of}
 use Rattle.ffv1_codec.specs.Length.{frame_most}
-use Rattle.ffv1_codec.specs.Bounds.{most_decisions}
+use Rattle.ffv1_codec.specs.Bounds.{most_decisions, most_by_bytes, most_by_standard}
 use Rattle.ffv1_codec.specs.Answer.{decided_by}
 
 -- each row of each plane stands once among the lines of a picture, in each plane from the top
@@ -46,8 +49,10 @@ module _ {S : Type 0} (takes refuses : LineStep S) (a : Accepted) (old new : S)
 
   -- decoding accepts exactly the payloads that code a picture, every encoded frame among them, and
   -- hands over each sample, once and in its place; such a frame is short; whatever bytes come, few
-  -- decisions are made, at most 63 a sample and 559 a slice, with transparency 621; and no more is
-  -- held than the configuration says, whatever the height
+  -- decisions are made, at most 63 a sample and 559 a slice, with transparency 621, and in Wide few
+  -- for what the payload weighs: by the standard's table at most 197 for each coded byte and 197 a
+  -- slice, and beside them 63 for each sample of one line of its cell; and no more is held than the
+  -- configuration says, whatever the height
   pub record Headline (payload : List ℕ) (tally : Tally) (held : Held) : Type 0 where
     pub found : (info : Said) → result ≡ Ok info →
         (planes : Planes) × CodesPicture a payload planes info
@@ -60,4 +65,8 @@ module _ {S : Type 0} (takes refuses : LineStep S) (a : Accepted) (old new : S)
         DecodesTo planes info
     pub short : AreShort a
     pub few : decided_by tally ≤ most_decisions a.configuration
+    pub few_by_bytes : a.profile ≡ profile.Wide → decided_by tally
+        ≤ most_by_bytes (decisions_a_byte a.table.floor) a.configuration payload
+    pub few_by_standard : a.profile ≡ profile.Wide → a.table ≡ standard → decided_by tally
+        ≤ most_by_standard a.configuration payload
     pub holds : held ≡ held_of a.configuration

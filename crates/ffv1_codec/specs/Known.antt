@@ -7,6 +7,7 @@ use Rattle.ffv1_line.specs.Cell.{Cell, cell_of}
 use Rattle.ffv1_record.specs.Configuration.{Configuration}
 use Rattle.ffv1_record.specs.Accepted.{Accepted}
 use Rattle.ffv1_slice.specs.Head.{IsHead, key_steps, head_steps}
+use Rattle.ffv1_codec.specs.Overread.{IsWithin}
 use Rattle.ffv1_codec.specs.Picture.{plane}
 use Rattle.ffv1_codec.specs.SliceList.{Line, IsBody, lines_in}
 use Rattle.ffv1_codec.specs.Decoding.{Slice, width_in}
@@ -15,8 +16,8 @@ use Rattle.ffv1_codec.specs.Decoding.{Slice, width_in}
 abbrev pub cells_of : Configuration → ℕ → Slice → ℕ → Cell
 cells_of c n q p = cell_of (width_in c p (n % c.columns)) (plane q.cells p)
 
--- the bytes of slice n code what was decided in it: its key, its head, and residuals that suit the
--- samples of these lines
+-- the bytes of slice n code what was decided in it, and are not read too far: its key, its head,
+-- and residuals that suit the samples of these lines
 pub record CodesRead (a : Accepted) (coded : ℕ → List ℕ) (n : ℕ) (q : Slice) (read : List Line)
     : Type 0 where
   pub is_head : IsHead a.profile a.configuration q.head
@@ -24,6 +25,7 @@ pub record CodesRead (a : Accepted) (coded : ℕ → List ℕ) (n : ℕ) (q : Sl
   pub is_body : IsBody a.configuration q.head (cells_of a.configuration n q) read body
   pub past : q.past ≡ key_steps n ++ (head_steps a.configuration n q.head ++ body)
   pub codes : Codes (coded n) (decisions_after a.table [] q.past)
+  pub within : IsWithin a (coded n) q.past
 
 -- they are the first of its lines in the order of coding
 pub record IsBegun (a : Accepted) (coded : ℕ → List ℕ) (n : ℕ) (q : Slice) : Type 0 where

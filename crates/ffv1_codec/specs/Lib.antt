@@ -7,6 +7,7 @@ pub mod CellRows
 pub mod Worked
 pub mod Runs
 pub mod Order
+pub mod Overread
 pub mod Decoding
 pub mod Lines
 pub mod Answer

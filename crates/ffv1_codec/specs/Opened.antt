@@ -18,6 +18,7 @@ use Rattle.ffv1_slice.specs.Head.{CodesHead, RefusesHead, RefusesKey, key_steps,
 use Rattle.ffv1_codec.specs.declared.column.Column.{Column}
 use Rattle.ffv1_codec.specs.declared.fault.CodecFault.{CodecFault}
 use Rattle.ffv1_codec.specs.declared.fault.FrameFault.{FrameFault}
+use Rattle.ffv1_codec.specs.Overread.{IsWithin}
 use Rattle.ffv1_codec.specs.SliceList.{Said, said_by}
 use Rattle.ffv1_codec.specs.Runs.{Runs, Stops}
 use Rattle.ffv1_codec.specs.Order.Event.{Open}
@@ -61,6 +62,7 @@ pub record ColumnOpened (a : Accepted) (coded : ℕ → List ℕ) (payload : Lis
     (column : Column) (old new : Option Said) : Type 0 where
   pub head : SliceHead
   pub codes : CodesHead (coded n) a.table a.profile a.configuration n head
+  pub within : IsWithin a (coded n) (key_steps n ++ head_steps a.configuration n head)
   pub agrees : AgreesWith old (said_by a.profile head)
   pub says : new ≡ Some (said_by a.profile head)
   pub bytes_are : bytes_in payload column ≡ coded n

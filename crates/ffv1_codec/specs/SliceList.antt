@@ -18,6 +18,7 @@ use Rattle.ffv1_record.specs.declared.config.Profile.{Profile}
 use Rattle.ffv1_record.specs.Accepted.{Accepted}
 use Rattle.ffv1_slice.specs.declared.head.SliceHead.{SliceHead}
 use Rattle.ffv1_slice.specs.Head.{IsHead, key_steps, head_steps, aspect_of}
+use Rattle.ffv1_codec.specs.Overread.{IsWithin}
 use Rattle.ffv1_codec.specs.Picture.{Planes, plane_count, cell_in, cell_height}
 
 -- no set
@@ -112,7 +113,8 @@ said_by p h = record {
   sar_den = (said_aspect p h.sar_num h.sar_den).1;
 }
 
--- the bytes code slice n of a picture: its key, a head that says this, and its samples
+-- the bytes code slice n of a picture: its key, a head that says this, and its samples; in Wide
+-- they are not read too far
 pub record CodesSlice (bytes : List ℕ) (a : Accepted) (planes : Planes) (info : Said) (n : ℕ)
     : Type 0 where
   pub head : SliceHead
@@ -123,6 +125,7 @@ pub record CodesSlice (bytes : List ℕ) (a : Accepted) (planes : Planes) (info 
       (lines_in a.configuration n) body
   pub codes : Codes bytes (decisions_after a.table []
       (key_steps n ++ (head_steps a.configuration n head ++ body)))
+  pub within : IsWithin a bytes (key_steps n ++ (head_steps a.configuration n head ++ body))
 
 -- the head that an encoder takes: class k has set k, or the last one
 abbrev pub chosen_index : Configuration → ℕ → ℕ

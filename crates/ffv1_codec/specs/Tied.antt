@@ -13,14 +13,16 @@ use Rattle.ffv1_slice.specs.Grid.{division_of}
 use Rattle.ffv1_line.specs.Cell.{Rolls}
 use Rattle.ffv1_codec.specs.declared.column.Column.{Column}
 use Rattle.ffv1_codec.specs.declared.frame.Frame.{Frame}
+use Rattle.ffv1_codec.specs.declared.fault.CodecFault.TheVariants as fault
 use Rattle.ffv1_codec.specs.declared.fault.FrameFault.{FrameFault}
+use Rattle.ffv1_codec.specs.Overread.{IsWithin, IsOverread}
 use Rattle.ffv1_codec.specs.Picture.{plane, plane_count}
 use Rattle.ffv1_codec.specs.SliceList.{bits_of}
 use Rattle.ffv1_codec.specs.Runs.{Runs, Stops}
 use Rattle.ffv1_codec.specs.Order.{Event, column_events}
 use Rattle.ffv1_codec.specs.Order.Event.{Read}
 use Rattle.ffv1_codec.specs.Decoding.{State, Slice, StepsBy, FaultsWith, slice_at, slice_number}
-use Rattle.ffv1_codec.specs.Decoding.{left_of, width_in}
+use Rattle.ffv1_codec.specs.Decoding.{left_of, top_of, width_in}
 use Rattle.ffv1_codec.specs.Stands.{Stands, window, told_by, tally_behind}
 
 -- how many states a slice has
@@ -105,7 +107,30 @@ abbrev pub SameOthers : ℕ → State → State → Type 0
 SameOthers p s t =
     (k q : ℕ) → q ≢ p → plane (slice_at t k).cells q ≡ plane (slice_at s k).cells q
 
+-- the fault of a slice that was read too far, looked at after line y of its cell in plane p
+abbrev pub overread_in : Configuration → ℕ → ℕ → ℕ → ℕ → FrameFault
+overread_in c r k p y = record {
+  fault = fault.Overread;
+  slice = slice_number c r k;
+  plane = p;
+  line = top_of c p r + y;
+  x = 0;
+}
+
 module _ (a : Accepted) (coded : ℕ → List ℕ) (r next : ℕ) (payload : List ℕ) where
+  -- a segment was read, and it is to be looked at whether its slice was read too far
+  pub record SegmentMade (p offset y k : ℕ) (columns : List Column) (states two one cur : List ℕ)
+      (s : State) : Type 0 where
+    pub state : State
+    pub step : IsWithin a (coded (slice_number a.configuration r k)) (slice_at state k).past →
+        StepsBy a coded s (Read r k p y) state
+    pub fault : IsOverread a (coded (slice_number a.configuration r k)) (slice_at state k).past →
+        FaultsWith a coded s (Read r k p y) (overread_in a.configuration r k p y) state
+    pub columns_are : TiedColumns a coded r next payload columns states state
+    pub line_is : TiedLine a.configuration p offset (suc k) y two one cur state
+    pub others : SameOthers p s state
+    pub same : state ≡ record s { columns = state.columns }
+
   -- a segment was read
   pub record StepMade (p offset y k : ℕ) (columns : List Column) (states two one cur : List ℕ)
       (s : State) : Type 0 where

@@ -5,6 +5,9 @@ ghost use Rattle.ffv1_wire.specs.Runs.{Grows};
 ghost use Rattle.ffv1_range.specs.declared.tally.Tally.{Tally};
 ghost use Rattle.ffv1_range.specs.Codes.{AreBytes};
 ghost use Rattle.ffv1_record.specs.Accepted.{Accepted, IsAccepted};
+ghost use Rattle.ffv1_record.specs.declared.config.Profile.TheVariants as profile;
+ghost use Rattle.ffv1_range.specs.Standard.{standard};
+ghost use Rattle.ffv1_range.specs.Renormalising.{decisions_a_byte};
 ghost use Rattle.ffv1_codec.specs.declared.fault.FrameFault.{FrameFault};
 ghost use Rattle.ffv1_codec.specs.Picture.{Planes, Fits};
 ghost use Rattle.ffv1_codec.specs.SliceList.{Said};
@@ -13,7 +16,7 @@ ghost use Rattle.ffv1_codec.specs.Lines.{lines_of};
 ghost use Rattle.ffv1_codec.specs.Answer.{Answers, decisions_in, decided_by, no_tally};
 ghost use Rattle.ffv1_record.specs.Held.{held_of};
 ghost use Rattle.ffv1_record.specs.declared.checked.Held.{Held};
-ghost use Rattle.ffv1_codec.specs.Bounds.{most_decisions};
+ghost use Rattle.ffv1_codec.specs.Bounds.{most_decisions, most_by_bytes, most_by_standard};
 ghost use Rattle.ffv1_codec.specs.Headline.{StandsOnce, AreShort, DecodesTo, Headline};
 ghost use Rattle.ffv1_slice.specs.Cutting.{Cuts};
 ghost use Rattle.ffv1_codec.specs.declared.fault.CodecFault.TheVariants as codec_fault;
@@ -25,8 +28,10 @@ ghost use Rattle.ffv1_codec.specs.Decoding.{State, Decodes, Offers, in_slice};
 use crate::decoding_laws::{decoded, is_decoded, one_end};
 use crate::laws::{encoded_frame, sides};
 use ffv1_line::laws::{lengths as line_lengths, suiting_rows};
-use ffv1_range::laws::lengths as decision_lengths;
-use ffv1_record::laws::burst;
+use ffv1_range::laws::{
+    decisions_by_renormalisations, decisions_renormalise, lengths as decision_lengths,
+};
+use ffv1_record::laws::{accepted, burst};
 use ffv1_slice::laws::{cutting, lengths, one_cutting};
 use ffv1_wire::LineSink;
 
@@ -93,11 +98,37 @@ pub fn few_decisions<S: LineSink>()
         Answers S.takes S.refuses a payload old new tally result →
         decided_by tally ≤ most_decisions a.configuration }
 {
+    accepted();
     suiting_rows();
     line_lengths();
     lengths();
     decision_lengths();
     sides();
+}
+
+/// In `Wide` a tally tells few decisions for the coded bytes of the payload, however decoding ends:
+/// at most `decisions_a_byte` for each of them and as many a slice, at least 169, and 63 for each
+/// sample of one line of its cell. By the standard's table these are 197 for each and 197 a slice.
+pub fn few_by_bytes<S: LineSink>()
+    ensures table { (a : Accepted) (payload : List ℕ) (old new : S) (tally : Tally)
+        (result : Result Said FrameFault) → IsAccepted a.configuration a.table →
+        a.profile ≡ profile.Wide → Answers S.takes S.refuses a payload old new tally result →
+        decided_by tally ≤ most_by_bytes (decisions_a_byte a.table.floor) a.configuration payload }
+    ensures standard { (a : Accepted) (payload : List ℕ) (old new : S) (tally : Tally)
+        (result : Result Said FrameFault) → IsAccepted a.configuration a.table →
+        a.profile ≡ profile.Wide → a.table ≡ standard →
+        Answers S.takes S.refuses a payload old new tally result →
+        decided_by tally ≤ most_by_standard a.configuration payload }
+{
+    accepted();
+    suiting_rows();
+    line_lengths();
+    lengths();
+    decision_lengths();
+    decisions_by_renormalisations();
+    decisions_renormalise();
+    sides();
+    cutting();
 }
 
 /// Whatever the payload and the sink, a fault that is answered is one of decoding: of cutting it,
@@ -136,4 +167,5 @@ pub fn headline<S: LineSink>()
     each_line_once();
     encoded_frame();
     few_decisions::<S>();
+    few_by_bytes::<S>();
 }

@@ -249,12 +249,17 @@ impl<A: Allocator> FrameDecoder<A> {
     /// It is Ok exactly where the payload codes a picture and the sink takes its lines. The fault
     /// is the first in that order, with its place: `Footer`, `Leftover`, `SliceParity` or
     /// `SliceStatus` before any line, `BadStart`, `NotKey`, a fault of the head or `InfoDiffers`
-    /// where a slice is opened, `SymbolTooLong` in a sample, `Colour` in a line that was read, and
+    /// where a slice is opened, `SymbolTooLong` in a sample, `Overread` at `Wide` after a head and
+    /// after each line of a cell, `Colour` in a line that was read, and
     /// `Sink` exactly where the sink refused the line that came next. The sink then has the lines
     /// before it and nothing is decided after it; the decoder is ready for the next frame.
     ///
     /// Heads are read in the profile of the configuration: at `Wide` an aspect of which just one
     /// number is 0 says what 0:0 says, that it is unknown.
+    ///
+    /// Bytes after the end of a slice are read as 0. At `Wide` a slice that is read more than two
+    /// bytes past its end is `Overread`, exactly where its decoder has renormalised more often than
+    /// the slice has coded bytes. So a payload is decoded in a time that goes by its length.
     ///
     /// With parity, a payload that differs from a good one within 32 neighbouring bits of one
     /// slice, its slice_size aside, is `SliceParity` in that slice, before any line.

@@ -22,6 +22,10 @@ pub enum CodecFault {
     /// A place has no red, green and blue from 0 to 255, or no transparency from 0 to 255.
     #[error("7 Colour")]
     Colour,
+    /// At `Wide` a slice is read more than two bytes past its end: its decoder renormalised more
+    /// often than the slice has coded bytes.
+    #[error("8 Overread")]
+    Overread,
     /// The keyframe is 0.
     #[error("30 NotKey")]
     NotKey,
@@ -77,9 +81,11 @@ pub struct FrameFault {
     /// The number of the slice, in raster order. It is 0 for bytes before the first slice, that of
     /// the slice which holds `x` for a colour, and that of the row's first slice for a sink.
     pub slice: u16,
-    /// The plane of a sample's symbol, or of the line that a sink refused.
+    /// The plane of a sample's symbol, of a line that was read too far, or of the line that a sink
+    /// refused.
     pub plane: u8,
-    /// The line of the plane: of a sample's symbol, a colour, or the line that a sink refused.
+    /// The line of the plane: of a sample's symbol, a colour, the line that was read too far, or
+    /// the line that a sink refused.
     pub line: u16,
     /// The column of the plane: of a sample's symbol, or a colour.
     pub x: u16,

@@ -44,6 +44,7 @@ mod hand;
 pub mod info;
 pub mod laws;
 mod opening;
+mod overread;
 pub mod picture;
 mod places;
 mod places_of_colours;

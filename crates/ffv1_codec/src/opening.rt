@@ -21,6 +21,7 @@ use crate::column::Column;
 use crate::fault::{CodecFault, FrameFault};
 use crate::frame::Frame;
 use crate::info::Info;
+use crate::overread::is_overread;
 use ffv1_range::RangeDecoder;
 use ffv1_range::laws::{
     counted_from_nothing, counted_in_parts, empty_list, kept_states, slots, two_parts,
@@ -140,6 +141,9 @@ fn open_column<A: Allocator, B: Allocator>(
     column.first = begin;
     column.last = end;
     column.indexes = head.indexes;
+    if is_overread(frame, column) {
+        return Err(CodecFault::Overread);
+    }
     if agrees(first, said(&head)) {
         return Ok(());
     }

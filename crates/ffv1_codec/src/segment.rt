@@ -13,11 +13,13 @@ ghost use Rattle.ffv1_codec.specs.Order.Event.{Read};
 ghost use Rattle.ffv1_codec.specs.Decoding.{State, left_of, width_in, top_of, slice_number};
 ghost use Rattle.ffv1_codec.specs.Stands.{Stands, SegmentRead, SegmentRefused, window};
 ghost use Rattle.ffv1_codec.specs.Tied.{IsFrame, IsOpen, AreOpen, bytes_in, slots_in};
-ghost use Rattle.ffv1_codec.specs.Tied.{TiedColumns, TiedLine, StepMade, Stopped};
+ghost use Rattle.ffv1_codec.specs.Tied.{TiedColumns, TiedLine, SegmentMade, StepMade, Stopped};
+ghost use Rattle.ffv1_codec.specs.Tied.{overread_in};
 
 use crate::column::Column;
 use crate::fault::{CodecFault, FrameFault};
 use crate::frame::{Frame, Segment};
+use crate::overread::is_overread;
 use crate::places::places;
 use ffv1_line::laws::{cell_is_read, samples_below, slots};
 use ffv1_line::{Above, Coding, TooLong, decode_line};
@@ -220,7 +222,103 @@ fn refusal<A: Allocator>(frame: &Frame<'_, A>, segment: &Segment, x: usize) -> F
     }
 }
 
-/// Reads a segment into its place of a line.
+/// Reads a segment into its place of a line. How far its slice was read is not looked at.
+fn read_on<A: Allocator>(
+    frame: &Frame<'_, A>,
+    segment: &Segment,
+    columns: &mut [Column],
+    states: &mut [u8],
+    two: &[u16],
+    one: &[u16],
+    cur: &mut [u16],
+) -> Result<(), FrameFault>
+    requires frame { IsFrame frame.now }
+    requires row { segment.now.row < frame.now.checked.now.configuration.rows }
+    requires column { segment.now.column < frame.now.checked.now.configuration.columns }
+    requires plane { segment.now.plane < plane_count frame.now.checked.now.configuration }
+    requires few { segment.now.index < 4 }
+    requires y { segment.now.y < lines_down frame.now.checked.now.configuration
+        segment.now.plane segment.now.row }
+    requires many { length columns.old ≡ frame.now.checked.now.configuration.columns }
+    requires open { AreOpen frame.now.payload.now frame.now.checked.now.configuration.sets
+        columns.old }
+    requires two_long { segment.now.index * frame.now.checked.now.configuration.width
+        + frame.now.checked.now.configuration.width ≤ length two.now }
+    requires one_long { segment.now.index * frame.now.checked.now.configuration.width
+        + frame.now.checked.now.configuration.width ≤ length one.now }
+    requires cur_long { segment.now.index * frame.now.checked.now.configuration.width
+        + frame.now.checked.now.configuration.width ≤ length cur.old }
+    requires room { length states.old ≡ frame.now.checked.now.configuration.columns
+        * slots_in frame.now.checked.now.configuration }
+    requires held { AllHeld frame.now.checked.now.table states.old }
+    ensures exact { (coded : ℕ → List ℕ) (next : ℕ) (s : State) →
+        let a = frame.now.checked.now in
+        let offset = segment.now.index * a.configuration.width in
+        segment.now.plane < next →
+        TiedColumns a coded segment.now.row next frame.now.payload.now columns.old states.old s →
+        TiedLine a.configuration segment.now.plane offset segment.now.column segment.now.y two.now
+        one.now cur.old s →
+        MatchResult result
+        (λ _. SegmentMade a coded segment.now.row next frame.now.payload.now segment.now.plane offset
+        segment.now.y segment.now.column columns.new states.new two.now one.now cur.new s)
+        (λ f. Stopped a coded columns.new
+        (Read segment.now.row segment.now.column segment.now.plane segment.now.y ∷ []) f s) }
+    ensures beside { (b n : ℕ) → b + n ≤ length cur.old →
+        (b + n ≤ segment.now.index * frame.now.checked.now.configuration.width)
+        ⊎ (segment.now.index * frame.now.checked.now.configuration.width
+        + frame.now.checked.now.configuration.width ≤ b) →
+        window b n cur.new ≡ window b n cur.old }
+    ensures own { IfErr result IsOwn }
+    ensures open { AreOpen frame.now.payload.now frame.now.checked.now.configuration.sets
+        columns.new }
+    ensures held { AllHeld frame.now.checked.now.table states.new }
+{
+    accepted();
+    accepted_parts();
+    cell_is_read();
+    counted_from_nothing();
+    places();
+    let (left, right) = extent(frame, segment);
+    let k = segment.column;
+    let at = k * frame.slots;
+    match read_column(
+        frame,
+        segment.plane,
+        &mut columns[k],
+        &mut states[at..at + frame.slots],
+        &two[left..right],
+        &one[left..right],
+        &mut cur[left..right],
+    ) {
+        Ok(()) => Ok(()),
+        Err(refused) => Err(refusal(frame, segment, refused.x)),
+    }
+}
+
+/// The fault of a segment whose slice was read too far.
+fn overread<A: Allocator>(frame: &Frame<'_, A>, segment: &Segment) -> FrameFault
+    requires frame { IsFrame frame.now }
+    requires row { segment.now.row < frame.now.checked.now.configuration.rows }
+    requires column { segment.now.column < frame.now.checked.now.configuration.columns }
+    requires y { segment.now.y < lines_down frame.now.checked.now.configuration
+        segment.now.plane segment.now.row }
+    ensures value { result ≡ overread_in frame.now.checked.now.configuration segment.now.row
+        segment.now.column segment.now.plane segment.now.y }
+    ensures own { IsOwn result }
+{
+    places();
+    accepted();
+    let top = frame.grid.top(segment.plane as u32, segment.row);
+    FrameFault {
+        fault: CodecFault::Overread,
+        slice: (segment.row as usize * frame.grid.columns() as usize + segment.column) as u16,
+        plane: segment.plane,
+        line: (top + segment.y) as u16,
+        x: 0,
+    }
+}
+
+/// Reads a segment into its place of a line, and looks at how far its slice was read.
 pub(crate) fn read_at<A: Allocator>(
     frame: &Frame<'_, A>,
     segment: &Segment,
@@ -271,24 +369,10 @@ pub(crate) fn read_at<A: Allocator>(
         columns.new }
     ensures held { AllHeld frame.now.checked.now.table states.new }
 {
-    accepted();
-    accepted_parts();
-    cell_is_read();
     counted_from_nothing();
-    places();
-    let (left, right) = extent(frame, segment);
-    let k = segment.column;
-    let at = k * frame.slots;
-    match read_column(
-        frame,
-        segment.plane,
-        &mut columns[k],
-        &mut states[at..at + frame.slots],
-        &two[left..right],
-        &one[left..right],
-        &mut cur[left..right],
-    ) {
-        Ok(()) => Ok(()),
-        Err(refused) => Err(refusal(frame, segment, refused.x)),
+    read_on(frame, segment, columns, states, two, one, cur)?;
+    if is_overread(frame, &columns[segment.column]) {
+        return Err(overread(frame, segment));
     }
+    Ok(())
 }

@@ -33,6 +33,9 @@ pub enum Fault {
     /// A place has no red, green and blue below 2^depth, or no transparency below 2^depth.
     #[error("7 Colour")]
     Colour,
+    /// A slice is read more than two bytes past its end.
+    #[error("8 Overread")]
+    Overread,
     /// The width or the height is not from 1 to 8192.
     #[error("10 Size")]
     Size,
@@ -266,6 +269,7 @@ impl From<ffv1_codec::CodecFault> for Fault {
             ffv1_codec::CodecFault::BadStart => Fault::BadStart,
             ffv1_codec::CodecFault::SymbolTooLong => Fault::SymbolTooLong,
             ffv1_codec::CodecFault::Colour => Fault::Colour,
+            ffv1_codec::CodecFault::Overread => Fault::Overread,
             ffv1_codec::CodecFault::NotKey => Fault::NotKey,
             ffv1_codec::CodecFault::Place => Fault::Place,
             ffv1_codec::CodecFault::SetIndex => Fault::SetIndex,

@@ -55,7 +55,7 @@ pub fn decode_line<'a, B: Allocator>(
 {
     let Coding { set, bits, .. } = coding;
     let near = set.is_near();
-    if *bits > 9 {
+    if *bits == 16 {
         if near {
             return decode_deep::<B, true>(decoder, coding, states, above, cur);
         }
@@ -67,8 +67,14 @@ pub fn decode_line<'a, B: Allocator>(
         }
         return decode_row::<B, 8, false>(decoder, coding, states, above, cur);
     }
-    if near {
-        return decode_row::<B, 9, true>(decoder, coding, states, above, cur);
+    if *bits == 9 {
+        if near {
+            return decode_row::<B, 9, true>(decoder, coding, states, above, cur);
+        }
+        return decode_row::<B, 9, false>(decoder, coding, states, above, cur);
     }
-    decode_row::<B, 9, false>(decoder, coding, states, above, cur)
+    if near {
+        return decode_row::<B, 0, true>(decoder, coding, states, above, cur);
+    }
+    decode_row::<B, 0, false>(decoder, coding, states, above, cur)
 }

@@ -62,6 +62,7 @@ fn number_of(fault: CodecFault) -> u32 {
         CodecFault::BadStart => 3,
         CodecFault::SymbolTooLong => 4,
         CodecFault::Colour => 7,
+        CodecFault::Overread => 8,
         CodecFault::NotKey => 30,
         CodecFault::Place => 31,
         CodecFault::SetIndex => 32,

@@ -1,5 +1,5 @@
 -- What is carried from place to place along a row.
-use Rattle.std.specs.Prelude.{ℕ, ◌≡◌, min, max, false, List, slice_index, pos}
+use Rattle.std.specs.Prelude.{ℕ, ◌≡◌, ◌≤◌, min, max, false, List, slice_index, pos}
 use Rattle.std.proofs.Common.{suc}
 use Rattle.ffv1_plane.specs.declared.early.Early.{Early}
 use Rattle.ffv1_plane.specs.declared.prediction.Around.{Around}
@@ -67,3 +67,8 @@ pub record IsFlat (set : Set) : Type 0 where
 pub record ComesAgain (bits l : ℕ) : Type 0 where
   pub makes : (a : Around) → a.l ≡ l → a.t ≡ l → a.tl ≡ l →
       pos l ≡ sample_of bits (predicted a) false (pos 0)
+
+-- samples of so many bits, which are predicted by numbers without a sign (RFC 9043, 3.3)
+pub record AreUnsigned (bits : ℕ) : Type 0 where
+  pub least : 8 ≤ bits
+  pub most : bits ≤ 15

@@ -11,11 +11,11 @@ use Rattle.ffv1_plane.specs.Quantisation.{contexts_of, IsNear}
 use Rattle.ffv1_line.specs.declared.decode.places.Places.{Places}
 use Rattle.ffv1_line.specs.declared.decode.places.Behind.{Behind}
 use Rattle.ffv1_line.specs.Decoded.{Lined, Refused, SameFrom}
-use Rattle.ffv1_line.specs.Internal.Along.{IsBehind, IsFilled, ComesAgain}
+use Rattle.ffv1_line.specs.Internal.Along.{AreUnsigned, IsBehind, IsFilled, ComesAgain}
 
 -- they are places of a row that is not empty, and what the rows above decide of them is prepared
 pub record ArePlaces {B : Type 0} (p : Places B) : Type 0 where
-  pub bits : (p.bits ≡ 8) ⊎ (p.bits ≡ 9)
+  pub bits : AreUnsigned p.bits
   pub near : IsTrue p.near → IsNear p.set.now
   pub some : 0 < length p.one.now
   pub few : p.count ≤ 128

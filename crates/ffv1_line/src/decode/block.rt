@@ -1,6 +1,6 @@
 //! A block of places is decoded.
 
-ghost use Rattle.std.specs.Prelude.{◌≡◌, ◌+◌, OnOk, IfErr};
+ghost use Rattle.std.specs.Prelude.{◌≡◌, ◌+◌, ◌⊎◌, OnOk, IfErr};
 ghost use Rattle.ffv1_line.specs.Internal.Places.{IsReady, StandsAt, ReadZeros, ReadOn};
 ghost use Rattle.ffv1_line.specs.Internal.Places.{ReadToRefusal};
 
@@ -113,7 +113,7 @@ fn decode_calm<B: Allocator, const BITS: u8, const NEAR: bool>(
     states: &mut [u8],
     cur: &mut [u16],
 ) -> Result<bool, TooLong>
-    requires bits { places.now.bits ≡ BITS }
+    requires bits { (BITS ≡ 0) ⊎ (places.now.bits ≡ BITS) }
     requires near { places.now.near ≡ NEAR }
     requires ready { IsReady places.now states.old cur.old }
     ensures ok { OnOk result (ReadOn places.now places.now.from decoder.old states.old cur.old
@@ -138,7 +138,7 @@ pub(crate) fn decode_block_by<B: Allocator, const BITS: u8, const NEAR: bool>(
     cur: &mut [u16],
     was_calm: bool,
 ) -> Result<bool, TooLong>
-    requires bits { places.now.bits ≡ BITS }
+    requires bits { (BITS ≡ 0) ⊎ (places.now.bits ≡ BITS) }
     requires near { places.now.near ≡ NEAR }
     requires ready { IsReady places.now states.old cur.old }
     ensures ok { OnOk result (ReadOn places.now places.now.from decoder.old states.old cur.old

@@ -1,4 +1,4 @@
-//! A row of samples of more than 9 bits is decoded.
+//! A row of samples of 16 bits is decoded, which are predicted by signed numbers.
 
 ghost use Rattle.std.specs.Prelude.{◌≡◌, ◌*◌, ◌≤◌, ◌<◌, IfOk, IfErr, OnOk, OnErr, IsTrue, length};
 ghost use Rattle.ffv1_range.specs.Symbols.{AllHeld};

@@ -7,7 +7,7 @@ ghost use Rattle.ffv1_line.specs.Internal.Places.{MayComeAgain, Carries, StandsA
 ghost use Rattle.ffv1_line.specs.Internal.Places.{ReadZerosBy};
 
 use crate::decode::places::{Behind, Places};
-use ffv1_plane::{late_context, predict_late, unfold};
+use ffv1_plane::{deep_sample, late_context, predict_late};
 use ffv1_range::RangeDecoder;
 use std::alloc::Allocator;
 
@@ -87,7 +87,7 @@ pub(crate) fn decode_even<B: Allocator>(
     let (size, _) = late_context(set, sum, l, l, ll, false);
     let (next, _) = late_context(set, sum, l, l, l, false);
     // A sample of more bits, as only a row from elsewhere has, does not come again.
-    if size != next || unfold(predict_late(l, l, l, l), 0, bits) != l {
+    if size != next || deep_sample(predict_late(l, l, l, l), false, 0, bits) != l {
         return start;
     }
     let slot = size as usize * 32;

@@ -10,7 +10,7 @@ ghost use Rattle.ffv1_line.specs.Internal.Places.{ReadZerosBy};
 
 use crate::decode::places::{Behind, Places};
 use ffv1_plane::laws::flat;
-use ffv1_plane::{predict_late, unfold};
+use ffv1_plane::{deep_sample, predict_late};
 use ffv1_range::RangeDecoder;
 use std::alloc::Allocator;
 
@@ -86,7 +86,7 @@ pub(crate) fn decode_flat<B: Allocator>(
         return start;
     }
     // A sample of more bits, as only a row from elsewhere has, does not come again.
-    if unfold(predict_late(l, l, l, l), 0, bits) != l {
+    if deep_sample(predict_late(l, l, l, l), false, 0, bits) != l {
         return start;
     }
     set.bounded();

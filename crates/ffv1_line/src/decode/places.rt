@@ -1,6 +1,6 @@
 //! A block of places of a row that is decoded.
 
-ghost use Rattle.std.specs.Prelude.{◌≡◌};
+ghost use Rattle.std.specs.Prelude.{◌≡◌, ◌⊎◌};
 
 use ffv1_plane::{Early, QuantSet};
 use ffv1_range::StateTable;
@@ -14,7 +14,7 @@ pub(crate) struct Places<'a, B: Allocator> {
     pub(crate) table: &'a StateTable,
     /// The quantisation table set.
     pub(crate) set: &'a QuantSet<B>,
-    /// The bits of a sample, 8 or 9.
+    /// The bits of a sample, from 8 to 15.
     pub(crate) bits: u8,
     /// Said of no set but one whose fourth and fifth tables have one level.
     pub(crate) near: bool,
@@ -31,10 +31,11 @@ pub(crate) struct Places<'a, B: Allocator> {
 }
 
 impl<'a, B: Allocator> Places<'a, B> {
-    /// The same, with the bits and the kind of the set as constants.
+    /// The same, with the bits and the kind of the set as constants; where `BITS` is 0, the bits are
+    /// no constant.
     #[inline(always)]
     pub(crate) fn fixed<const BITS: u8, const NEAR: bool>(&self) -> Places<'a, B>
-        requires bits { self.now.bits ≡ BITS }
+        requires bits { (BITS ≡ 0) ⊎ (self.now.bits ≡ BITS) }
         requires near { self.now.near ≡ NEAR }
         ensures { result ≡ self.now }
     {
@@ -51,7 +52,7 @@ impl<'a, B: Allocator> Places<'a, B> {
         Places {
             table,
             set,
-            bits: BITS,
+            bits: fixed_bits::<BITS>(self.bits),
             near: NEAR,
             two,
             one,
@@ -60,6 +61,15 @@ impl<'a, B: Allocator> Places<'a, B> {
             count,
         }
     }
+}
+
+/// The bits as a constant, which 0 is not.
+#[inline(always)]
+pub(crate) fn fixed_bits<const BITS: u8>(bits: u8) -> u8
+    requires { (BITS ≡ 0) ⊎ (bits ≡ BITS) }
+    ensures { result ≡ bits }
+{
+    if BITS == 0 { bits } else { BITS }
 }
 
 /// What is carried from place to place along a block: the samples two to the left and to the left.

@@ -4,11 +4,12 @@ ghost use Rattle.std.specs.Prelude.{◌≡◌, ◌*◌, ◌<◌, ◌⊎◌, IfEr
 ghost use Rattle.ffv1_range.specs.Symbols.{AllHeld};
 ghost use Rattle.ffv1_plane.specs.Quantisation.{contexts_of, IsNear};
 ghost use Rattle.ffv1_line.specs.Decoded.{Lined, Refused, SameFrom};
+ghost use Rattle.ffv1_line.specs.Internal.Along.{AreUnsigned};
 
 use crate::above::Above;
 use crate::coding::Coding;
 use crate::decode::block::decode_block_by;
-use crate::decode::places::Places;
+use crate::decode::places::{Places, fixed_bits};
 use crate::fault::TooLong;
 use ffv1_plane::{BLOCK, Early};
 use ffv1_range::RangeDecoder;
@@ -17,8 +18,9 @@ use std::alloc::Allocator;
 /// The least state of the first context's zeros with which a row begins as after a calm block.
 const MOSTLY_ZEROS: u8 = 224;
 
-/// A row of a cell of 8 or 9 bits, by a body of its own for each depth and each kind of set. `NEAR`
-/// may be said of a set whose fourth and fifth tables have one level.
+/// A row of a cell of 8 to 15 bits, by a body of its own for each kind of set, for 8 and for 9 bits,
+/// and one for all others, whose `BITS` is 0. `NEAR` may be said of a set whose fourth and fifth
+/// tables have one level.
 #[inline(never)]
 pub(crate) fn decode_row<B: Allocator, const BITS: u8, const NEAR: bool>(
     decoder: &mut RangeDecoder<'_>,
@@ -27,8 +29,8 @@ pub(crate) fn decode_row<B: Allocator, const BITS: u8, const NEAR: bool>(
     above: &Above<'_>,
     cur: &mut [u16],
 ) -> Result<(), TooLong>
-    requires depth { (BITS ≡ 8) ⊎ (BITS ≡ 9) }
-    requires bits { coding.now.bits ≡ BITS }
+    requires depth { AreUnsigned coding.now.bits }
+    requires bits { (BITS ≡ 0) ⊎ (coding.now.bits ≡ BITS) }
     requires near { IsTrue NEAR → IsNear coding.now.set }
     requires some { 0 < length cur.old }
     requires one_long { length above.now.one ≡ length cur.old }
@@ -43,6 +45,7 @@ pub(crate) fn decode_row<B: Allocator, const BITS: u8, const NEAR: bool>(
     ensures held { AllHeld coding.now.table states.new }
 {
     let Coding { table, set, .. } = coding;
+    let bits = fixed_bits::<BITS>(coding.bits);
     let Above { two, one } = above;
     let mut local = decoder.clone().unwrap();
     let mut early = Early::new();
@@ -54,7 +57,7 @@ pub(crate) fn decode_row<B: Allocator, const BITS: u8, const NEAR: bool>(
         let places = Places {
             table,
             set,
-            bits: BITS,
+            bits,
             near: NEAR,
             two,
             one,

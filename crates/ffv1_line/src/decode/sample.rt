@@ -1,20 +1,37 @@
 //! A sample is decoded.
 
-ghost use Rattle.std.specs.Prelude.{◌≡◌, ℕ, ◌+◌, ◌*◌, ◌≤◌, ◌<◌, IfOk, OnErr, length};
+ghost use Rattle.std.specs.Prelude.{◌≡◌, ℕ, ◌+◌, ◌*◌, ◌^◌, ◌≤◌, ◌<◌, IfOk, OnErr, length, pos};
 ghost use Rattle.ffv1_range.specs.Symbols.{AllHeld};
 ghost use Rattle.ffv1_range.specs.Follows.{Follows};
 ghost use Rattle.ffv1_range.specs.Reading.{summed};
 ghost use Rattle.ffv1_range.specs.Among.{AreNonzeros, sums_among, sums_refused};
 ghost use Rattle.ffv1_plane.specs.Quantisation.{contexts_of};
+ghost use Rattle.ffv1_plane.specs.Residual.{sample_of, turned};
 ghost use Rattle.ffv1_line.specs.Row.{refused_steps};
 ghost use Rattle.ffv1_line.specs.Decoded.{Sampled};
-ghost use Rattle.ffv1_line.specs.Internal.Along.{IsPrepared};
+ghost use Rattle.ffv1_line.specs.Internal.Along.{AreUnsigned, IsPrepared};
 ghost use Rattle.ffv1_line.specs.Internal.Places.{ArePlaces, around_place};
 
 use crate::decode::places::{Behind, Places};
-use ffv1_plane::{late_context, predict_late, sample_signed, unfold};
+use ffv1_plane::{deep_sample, late_context, predict_late, sample_signed};
 use ffv1_range::{Nonzeros, RangeDecoder, SignedNumber};
 use std::alloc::Allocator;
+
+/// The sample of a residual by its size and its sign, among samples of 8 to 15 bits.
+#[inline(always)]
+fn sample_by_sign(prediction: i32, flip: bool, size: u32, negative: bool, bits: u8) -> u16
+    requires bits { AreUnsigned bits }
+    requires size { size < 2 ^ 31 }
+    ensures value { pos result ≡ sample_of bits prediction flip (turned negative (pos size)) }
+    ensures small { result < 2 ^ bits }
+{
+    if bits == 8 || bits == 9 {
+        return sample_signed(prediction, flip, size, negative, bits);
+    }
+    let size = size as i32;
+    let residual = if negative { -size } else { size };
+    deep_sample(prediction, flip, residual, bits)
+}
 
 /// The sample that comes next, at place `i` of a block, which adds its symbol to `nonzeros`.
 #[inline(always)]
@@ -60,9 +77,9 @@ pub(crate) fn decode_sample<B: Allocator>(
     let prediction = predict_late(l, early.t[i], early.least[i], early.most[i]);
     match decoder.tally_signed_in_row(nonzeros, table, states, context as usize) {
         // A zero, the most frequent one, has no sign to flip.
-        Ok(None) => Ok(unfold(prediction, 0, bits)),
+        Ok(None) => Ok(deep_sample(prediction, false, 0, bits)),
         Ok(Some(SignedNumber { size, negative })) => {
-            Ok(sample_signed(prediction, flip, size, negative, bits))
+            Ok(sample_by_sign(prediction, flip, size, negative, bits))
         }
         Err(_) => Err(()),
     }

@@ -19,7 +19,7 @@ fn are_shown<T: Display>(rt: &impl Abort, alloc: Global, rows: &[(T, &str)]) {
 }
 
 /// Those of the engine.
-static ENGINE: [(Fault, &str); 59] = [
+static ENGINE: [(Fault, &str); 60] = [
     (Fault::StateTable, "1 StateTable"),
     (Fault::OutOfMemory, "2 OutOfMemory"),
     (Fault::BadStart, "3 BadStart"),
@@ -27,6 +27,7 @@ static ENGINE: [(Fault, &str); 59] = [
     (Fault::Runs, "5 Runs"),
     (Fault::Contexts, "6 Contexts"),
     (Fault::Colour, "7 Colour"),
+    (Fault::Overread, "8 Overread"),
     (Fault::Size, "10 Size"),
     (Fault::Grid, "11 Grid"),
     (Fault::ChromaEdge, "12 ChromaEdge"),
@@ -172,11 +173,12 @@ static SLICES: [(SliceFault, &str); 12] = [
 ];
 
 /// Those of the codec.
-static CODEC: [(CodecFault, &str); 16] = [
+static CODEC: [(CodecFault, &str); 17] = [
     (CodecFault::OutOfMemory, "2 OutOfMemory"),
     (CodecFault::BadStart, "3 BadStart"),
     (CodecFault::SymbolTooLong, "4 SymbolTooLong"),
     (CodecFault::Colour, "7 Colour"),
+    (CodecFault::Overread, "8 Overread"),
     (CodecFault::NotKey, "30 NotKey"),
     (CodecFault::Place, "31 Place"),
     (CodecFault::SetIndex, "32 SetIndex"),

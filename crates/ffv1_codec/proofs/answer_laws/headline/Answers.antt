@@ -16,5 +16,7 @@ returns g c = λ a payload old new result tally held is bytes short answer holds
       (subst (λ bs. CodesPicture a bs planes info) (sym same) (c.encoded_frame.ensures a planes info is picture said none)) answer;
   short = short;
   few = c.few_decisions.ensures.answer a payload old new tally result is answer;
+  few_by_bytes = λ wide. c.few_by_bytes.ensures.table a payload old new tally result is wide answer;
+  few_by_standard = λ wide standard. c.few_by_bytes.ensures.standard a payload old new tally result is wide standard answer;
   holds = holds;
 }

@@ -12,6 +12,7 @@ use Rattle.ffv1_codec.specs.Picture.{Planes, cell_in}
 use Rattle.ffv1_codec.specs.SliceList.{Said, CodesSlice, chosen_slice, chosen_head, chosen_body, lines_in}
 use Rattle.ffv1_codec.specs.Frame.{HasLongSlice, slice_bytes, slices_bytes, frame_of}
 use Rattle.ffv1_codec.proofs.Aspects.{said_chosen}
+use Rattle.ffv1_codec.proofs.TooFar.{ending_within}
 use Rattle.ffv1_codec.proofs.laws.encoded_frame.Goals as goal
 
 coded_list : (f : ℕ → List ℕ) (from count : ℕ) → ((n : ℕ) → AreBytes (f n)) → ((n : ℕ) → from ≤ n → n < from + count → length (f n) ≤ 16777215) → AreCodedBytes (map f (range_with_len from count))
@@ -62,6 +63,7 @@ returns c = λ a planes info is picture said none.
             body = chosen_body conf head (cell_in conf planes n) (lines_in conf n);
             is_body = c.chosen_slices.ensures.body a planes info n is picture;
             codes = c.sentinel_ending.ensures.codes (decisions_after a.table [] steps) (c.named_states.ensures.named a.table [] steps is.closed);
+            within = ending_within a steps;
           } in
           subst (λ bs. CodesSlice bs a planes info n) here slice;
     }

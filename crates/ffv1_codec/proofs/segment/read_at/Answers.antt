@@ -1,232 +1,60 @@
-use Rattle.std.proofs.Common.{◌≡◌, refl, ◌+◌, ◌-◌, ◌*◌, ◌<◌, ◌≤◌, ◌⊎◌, inl, inr, ap, sym, subst, ◌∙◌, length, slice_index, slice_index_or, take, arith}
-use Rattle.std.proofs.lemmas.List.{get_or_default, length-take-le}
-use Rattle.ffv1_record.specs.Held.{classes_of}
-use Rattle.ffv1_line.specs.Cell.{Rolls}
-use Rattle.ffv1_codec.specs.Picture.{plane}
-use Rattle.ffv1_codec.specs.SliceList.{bits_of, base_of, class_of, set_at}
-use Rattle.ffv1_codec.specs.Stands.{SegmentRead, SegmentRefused, window}
-use Rattle.ffv1_codec.specs.Decoding.{slice_at, left_of, width_in}
-use Rattle.ffv1_codec.specs.Tied.{IsOpen, column_at, no_column, slots_in, bytes_in}
-use Rattle.ffv1_codec.proofs.Sizes.{slots_small, part_small, part_apart}
-use Rattle.ffv1_codec.proofs.ClassRoom.{classes_most}
-use Rattle.ffv1_codec.proofs.WrittenParts.{put_held, put_other, part_held, part_long}
-use Rattle.ffv1_codec.proofs.ColumnsOpen.{open_next}
-use Rattle.ffv1_codec.proofs.SegmentTied.{step_made, stopped, stands_here}
+use Rattle.std.proofs.Common.{◌≡◌, ◌*◌, ◌<◌, [], ◌∷◌, refl, subst, sym, ◌∙◌, length, slice_index_or, arith}
+use Rattle.std.proofs.lemmas.List.{get_or_default}
+use Rattle.std.proofs.lemmas.Result.{err_from_is_err_and}
+use Rattle.ffv1_codec.specs.declared.fault.FrameFault.{FrameFault}
+use Rattle.ffv1_codec.specs.Order.Event.{Read}
+use Rattle.ffv1_codec.specs.Tied.{Stopped, column_at, no_column}
+use Rattle.ffv1_codec.proofs.SegmentLooked.{step_looked, stop_looked}
 use Rattle.ffv1_codec.proofs.segment.read_at.Goals as goal
 
-pub overflow_add-at : goal.overflow_add-at
-overflow_add-at g c =
-    let a = c.args.frame.now.checked.now in
-    let conf = a.configuration in
-    let k = c.args.segment.now.column in
-    let slots = c.args.frame.now.slots in
-    let most = c.accepted_parts.ensures.most conf a.table c.requires.frame.accepted in
-    let few = slots_small (classes_of conf.chroma_planes conf.extra_plane) _ (classes_most conf.chroma_planes conf.extra_plane) most in
-    let columns = c.accepted.ensures.columns conf a.table c.requires.frame.accepted in
-    let small = part_small k slots (omega (arith, c.requires.column, columns)) (omega (arith, few, c.requires.frame.slots)) in
-    omega (arith, small)
+pub returns-in_err-read_on-clause-exact : goal.returns-in_err-read_on-clause-exact
+returns-in_err-read_on-clause-exact g c = λ coded next s less tied line.
+    let p = err_from_is_err_and c.from_residual.result c.from_residual.ensures.1 in
+    rw (p.1, p.2) (c.in_err-read_on.ensures.exact coded next s less tied line)
 
-pub slice_bounds-read_column-end : goal.slice_bounds-read_column-end
-slice_bounds-read_column-end g c =
-    let a = c.args.frame.now.checked.now in
-    let conf = a.configuration in
+pub is_overread-requires-clause-rises : goal.is_overread-requires-clause-rises
+is_overread-requires-clause-rises g c =
     let k = c.args.segment.now.column in
-    let slots = c.args.frame.now.slots in
-    let part = part_apart k conf.columns slots c.requires.column in
-    let room : length c.args.states.now ≡ conf.columns * slots = c.requires.room ∙ ap (λ z. conf.columns * z) (sym c.requires.frame.slots) in
-    let fits : k * slots + slots ≤ length c.args.states.now = omega (arith, part, room) in
-    fits
+    let few : k < length c.read_on.new.columns = omega (arith, c.requires.column, c.requires.many, c.read_on.auto.columns) in
+    let column_is : slice_index_or c.read_on.new.columns k c.index-columns-segment.result ≡ column_at c.read_on.new.columns k =
+    get_or_default c.read_on.new.columns k c.index-columns-segment.result no_column few in
+    rw column_is ((c.in_ok-read_on.ensures.open k few).rises)
 
-pub read_column-requires-clause-open : goal.read_column-requires-clause-open
-read_column-requires-clause-open g c =
-    let a = c.args.frame.now.checked.now in
-    let conf = a.configuration in
+pub is_overread-requires-clause-inside : goal.is_overread-requires-clause-inside
+is_overread-requires-clause-inside g c =
     let k = c.args.segment.now.column in
-    let slots = c.args.frame.now.slots in
-    let column_is : slice_index_or c.args.columns.now k c.index-columns-k.result ≡ column_at c.args.columns.now k = get_or_default c.args.columns.now k c.index-columns-k.result no_column (omega (arith, c.requires.column, c.requires.many)) in
-    subst (IsOpen c.args.frame.now.payload.now conf.sets) (sym column_is) (c.requires.open k (omega (arith, c.requires.column, c.requires.many)))
+    let few : k < length c.read_on.new.columns = omega (arith, c.requires.column, c.requires.many, c.read_on.auto.columns) in
+    let column_is : slice_index_or c.read_on.new.columns k c.index-columns-segment.result ≡ column_at c.read_on.new.columns k =
+    get_or_default c.read_on.new.columns k c.index-columns-segment.result no_column few in
+    rw column_is ((c.in_ok-read_on.ensures.open k few).inside)
 
-pub read_column-requires-clause-held : goal.read_column-requires-clause-held
-read_column-requires-clause-held g c =
+pub returns-then-is_overread-clause-exact : goal.returns-then-is_overread-clause-exact
+returns-then-is_overread-clause-exact g c = λ coded next s less tied line.
     let a = c.args.frame.now.checked.now in
-    let conf = a.configuration in
-    let k = c.args.segment.now.column in
-    let slots = c.args.frame.now.slots in
-    let part = part_apart k conf.columns slots c.requires.column in
-    let room : length c.args.states.now ≡ conf.columns * slots = c.requires.room ∙ ap (λ z. conf.columns * z) (sym c.requires.frame.slots) in
-    let fits : k * slots + slots ≤ length c.args.states.now = omega (arith, part, room) in
-    let thick : k * slots + slots - k * slots ≡ slots = omega arith in
-    rw thick (part_held a.table c.args.states.now (k * slots) slots fits c.requires.held)
+    let segment = c.args.segment.now in
+    let k = segment.column in
+    let columns = c.read_on.new.columns in
+    let long : length columns ≡ a.configuration.columns = c.read_on.auto.columns ∙ c.requires.many in
+    let few : k < length columns = omega (arith, c.requires.column, long) in
+    let column_is : slice_index_or columns k c.index-columns-segment.result ≡ column_at columns k =
+    get_or_default columns k c.index-columns-segment.result no_column few in
+    let over = rw column_is at (c.if-is_overread.ensures.yes refl) in
+    let made = c.in_ok-read_on.ensures.exact coded next s less tied line in
+    subst (λ (f : FrameFault). Stopped a coded columns (Read segment.row k segment.plane segment.y ∷ []) f s) (sym c.overread.ensures.value)
+    (stop_looked a coded segment.row next c.args.frame.now.payload.now segment.plane (segment.index * a.configuration.width) segment.y k columns c.read_on.new.states c.args.two.now c.args.one.now c.read_on.new.cur s made c.requires.column
+    c.counted_from_nothing.ensures over long)
 
-pub returns-in-Ok-clause-exact : goal.returns-in-Ok-clause-exact
-returns-in-Ok-clause-exact g c = λ coded next s less tied line.
+pub returns-clause-exact : goal.returns-clause-exact
+returns-clause-exact g c = λ coded next s less tied line.
     let a = c.args.frame.now.checked.now in
-    let conf = a.configuration in
-    let k = c.args.segment.now.column in
-    let slots = c.args.frame.now.slots in
-    let part = part_apart k conf.columns slots c.requires.column in
-    let room : length c.args.states.now ≡ conf.columns * slots = c.requires.room ∙ ap (λ z. conf.columns * z) (sym c.requires.frame.slots) in
-    let fits : k * slots + slots ≤ length c.args.states.now = omega (arith, part, room) in
-    let thick : k * slots + slots - k * slots ≡ slots = omega arith in
-    let column_is : slice_index_or c.args.columns.now k c.index-columns-k.result ≡ column_at c.args.columns.now k = get_or_default c.args.columns.now k c.index-columns-k.result no_column (omega (arith, c.requires.column, c.requires.many)) in
-    let p = c.args.segment.now.plane in
-    let left = c.extent-left.result.0 in
-    let width = c.extent-left.result.1 - left in
-    let right : width ≡ width_in conf p k = omega (arith, c.extent-left.ensures.right) in
-    let cur_fits : left + width ≤ length c.args.cur.now = omega (arith, c.extent-left.ensures.some, c.extent-left.ensures.inside, c.requires.cur_long) in
-    let row_long : length c.read_column.new.cur ≡ width = c.read_column.auto.cur ∙ part_long left width width c.args.cur.now refl cur_fits in
-    let states_long : length c.read_column.new.states ≡ slots = c.read_column.auto.states ∙ part_long (k * slots) slots (k * slots + slots - k * slots) c.args.states.now thick fits in
-    let same = rw column_is at c.in-Ok.ensures.same in
-    let slots_are : c.args.frame.now.slots ≡ slots_in conf = c.requires.frame.slots in
-    let left_is : left ≡ c.args.segment.now.index * conf.width + left_of conf p k = c.extent-left.ensures.left in
-    let exact = rw (column_is, thick, slots_are, right, left_is) at c.in-Ok.ensures.exact in
-    let place = c.args.segment.now.index * conf.width + left_of conf p k in
-    let old = slice_at s k in
-    let rolls : Rolls (width_in conf p k) (plane old.cells p) (window place (width_in conf p k) c.args.two.now) (window place (width_in conf p k) c.args.one.now) c.args.segment.now.y = line.unread k (omega arith) c.requires.column in
-    let row_is : length c.read_column.new.cur ≡ width_in conf p k = row_long ∙ right in
-    let stands = stands_here a coded c.args.segment.now.row next c.args.frame.now.payload.now c.args.columns.now c.args.states.now s tied p c.args.segment.now.index c.args.segment.now.y k c.args.two.now c.args.one.now c.args.cur.now c.read_column.new.cur
-    c.read_column.new.column c.requires.column c.requires.many same in
-    let rolls_here = subst (λ w. Rolls w (plane old.cells p) (window place (width_in conf p k) c.args.two.now) (window place (width_in conf p k) c.args.one.now) c.args.segment.now.y) (sym row_is) rolls in
-    let made = exact old.past (plane old.cells p) c.args.segment.now.y stands rolls_here in
-    let bytes = bytes_in c.args.frame.now.payload.now (column_at c.args.columns.now k) in
-    let set = set_at conf.sets (slice_index (column_at c.args.columns.now k).indexes (class_of p)) in
-    let raw = subst (λ w. SegmentRead bytes a.table (base_of conf p) 33 set (bits_of conf) old.past (plane old.cells p) w c.args.segment.now.y c.read_column.new.column.parked c.read_column.new.states c.read_column.new.cur) row_is made in
-    let long : length c.read_column.new.states ≡ slots_in conf = states_long ∙ slots_are in
-    let are = c.places.ensures.across conf a.table p c.requires.frame.accepted in
-    rw (thick, slots_are, right, left_is) (step_made a coded c.args.segment.now.row next c.args.frame.now.payload.now c.args.columns.now c.args.states.now s tied p c.args.segment.now.index c.args.segment.now.y k c.args.two.now c.args.one.now c.args.cur.now c.read_column.new.cur
-    c.read_column.new.column c.requires.column c.requires.many same rolls c.read_column.new.states c.in-Ok.ensures.small row_is less c.requires.plane c.requires.room long raw are c.cell_is_read.ensures.rolls c.requires.cur_long line)
-
-pub returns-in-Ok-clause-beside : goal.returns-in-Ok-clause-beside
-returns-in-Ok-clause-beside g c = λ b n within apart.
-    let a = c.args.frame.now.checked.now in
-    let conf = a.configuration in
-    let k = c.args.segment.now.column in
-    let slots = c.args.frame.now.slots in
-    let part = part_apart k conf.columns slots c.requires.column in
-    let room : length c.args.states.now ≡ conf.columns * slots = c.requires.room ∙ ap (λ z. conf.columns * z) (sym c.requires.frame.slots) in
-    let fits : k * slots + slots ≤ length c.args.states.now = omega (arith, part, room) in
-    let thick : k * slots + slots - k * slots ≡ slots = omega arith in
-    let column_is : slice_index_or c.args.columns.now k c.index-columns-k.result ≡ column_at c.args.columns.now k = get_or_default c.args.columns.now k c.index-columns-k.result no_column (omega (arith, c.requires.column, c.requires.many)) in
-    let p = c.args.segment.now.plane in
-    let left = c.extent-left.result.0 in
-    let width = c.extent-left.result.1 - left in
-    let right : width ≡ width_in conf p k = omega (arith, c.extent-left.ensures.right) in
-    let cur_fits : left + width ≤ length c.args.cur.now = omega (arith, c.extent-left.ensures.some, c.extent-left.ensures.inside, c.requires.cur_long) in
-    let row_long : length c.read_column.new.cur ≡ width = c.read_column.auto.cur ∙ part_long left width width c.args.cur.now refl cur_fits in
-    let states_long : length c.read_column.new.states ≡ slots = c.read_column.auto.states ∙ part_long (k * slots) slots (k * slots + slots - k * slots) c.args.states.now thick fits in
-    let index = c.args.segment.now.index * conf.width in
-    let apart : (b + n ≤ left) ⊎ (left + width ≤ b) = elim apart [
-      | inl front ↦ inl (omega (arith, front, c.extent-left.ensures.left))
-      | inr behind ↦ inr (omega (arith, behind, c.extent-left.ensures.some, c.extent-left.ensures.inside))
-    ] in
-    put_other c.args.cur.now c.read_column.new.cur left width cur_fits row_long b n within apart
-
-pub returns-in-Ok-clause-open : goal.returns-in-Ok-clause-open
-returns-in-Ok-clause-open g c =
-    let a = c.args.frame.now.checked.now in
-    let conf = a.configuration in
-    let k = c.args.segment.now.column in
-    let slots = c.args.frame.now.slots in
-    let column_is : slice_index_or c.args.columns.now k c.index-columns-k.result ≡ column_at c.args.columns.now k = get_or_default c.args.columns.now k c.index-columns-k.result no_column (omega (arith, c.requires.column, c.requires.many)) in
-    let same = rw column_is at c.in-Ok.ensures.same in
-    open_next c.args.frame.now.payload.now conf.sets c.args.columns.now k c.read_column.new.column (omega (arith, c.requires.column, c.requires.many)) c.requires.open same c.in-Ok.ensures.open
-
-pub returns-in-Ok-clause-held : goal.returns-in-Ok-clause-held
-returns-in-Ok-clause-held g c =
-    let a = c.args.frame.now.checked.now in
-    let conf = a.configuration in
-    let k = c.args.segment.now.column in
-    let slots = c.args.frame.now.slots in
-    let part = part_apart k conf.columns slots c.requires.column in
-    let room : length c.args.states.now ≡ conf.columns * slots = c.requires.room ∙ ap (λ z. conf.columns * z) (sym c.requires.frame.slots) in
-    let fits : k * slots + slots ≤ length c.args.states.now = omega (arith, part, room) in
-    let thick : k * slots + slots - k * slots ≡ slots = omega arith in
-    let states_long : length c.read_column.new.states ≡ slots = c.read_column.auto.states ∙ part_long (k * slots) slots (k * slots + slots - k * slots) c.args.states.now thick fits in
-    rw thick (put_held c.args.states.now c.read_column.new.states (k * slots) slots fits states_long a.table c.requires.held c.in-Ok.ensures.held)
-
-pub returns-in-Err-clause-exact : goal.returns-in-Err-clause-exact
-returns-in-Err-clause-exact g c = λ coded next s less tied line.
-    let a = c.args.frame.now.checked.now in
-    let conf = a.configuration in
-    let k = c.args.segment.now.column in
-    let slots = c.args.frame.now.slots in
-    let part = part_apart k conf.columns slots c.requires.column in
-    let room : length c.args.states.now ≡ conf.columns * slots = c.requires.room ∙ ap (λ z. conf.columns * z) (sym c.requires.frame.slots) in
-    let fits : k * slots + slots ≤ length c.args.states.now = omega (arith, part, room) in
-    let thick : k * slots + slots - k * slots ≡ slots = omega arith in
-    let column_is : slice_index_or c.args.columns.now k c.index-columns-k.result ≡ column_at c.args.columns.now k = get_or_default c.args.columns.now k c.index-columns-k.result no_column (omega (arith, c.requires.column, c.requires.many)) in
-    let p = c.args.segment.now.plane in
-    let left = c.extent-left.result.0 in
-    let width = c.extent-left.result.1 - left in
-    let right : width ≡ width_in conf p k = omega (arith, c.extent-left.ensures.right) in
-    let cur_fits : left + width ≤ length c.args.cur.now = omega (arith, c.extent-left.ensures.some, c.extent-left.ensures.inside, c.requires.cur_long) in
-    let row_long : length c.read_column.new.cur ≡ width = c.read_column.auto.cur ∙ part_long left width width c.args.cur.now refl cur_fits in
-    let states_long : length c.read_column.new.states ≡ slots = c.read_column.auto.states ∙ part_long (k * slots) slots (k * slots + slots - k * slots) c.args.states.now thick fits in
-    let same = rw column_is at c.in-Err.ensures.same in
-    let slots_are : c.args.frame.now.slots ≡ slots_in conf = c.requires.frame.slots in
-    let left_is : left ≡ c.args.segment.now.index * conf.width + left_of conf p k = c.extent-left.ensures.left in
-    let exact = rw (column_is, thick, slots_are, right, left_is) at c.in-Err.ensures.exact in
-    let place = c.args.segment.now.index * conf.width + left_of conf p k in
-    let old = slice_at s k in
-    let rolls : Rolls (width_in conf p k) (plane old.cells p) (window place (width_in conf p k) c.args.two.now) (window place (width_in conf p k) c.args.one.now) c.args.segment.now.y = line.unread k (omega arith) c.requires.column in
-    let row_is : length c.read_column.new.cur ≡ width_in conf p k = row_long ∙ right in
-    let stands = stands_here a coded c.args.segment.now.row next c.args.frame.now.payload.now c.args.columns.now c.args.states.now s tied p c.args.segment.now.index c.args.segment.now.y k c.args.two.now c.args.one.now c.args.cur.now (take c.in-Err.refused.x c.read_column.new.cur)
-    c.read_column.new.column c.requires.column c.requires.many same in
-    let rolls_here = subst (λ w. Rolls w (plane old.cells p) (window place (width_in conf p k) c.args.two.now) (window place (width_in conf p k) c.args.one.now) c.args.segment.now.y) (sym row_is) rolls in
-    let made = exact old.past (plane old.cells p) c.args.segment.now.y stands rolls_here in
-    let bytes = bytes_in c.args.frame.now.payload.now (column_at c.args.columns.now k) in
-    let set = set_at conf.sets (slice_index (column_at c.args.columns.now k).indexes (class_of p)) in
-    let x = c.in-Err.refused.x in
-    let raw = subst (λ w. SegmentRefused bytes a.table (base_of conf p) 33 set (bits_of conf) old.past (plane old.cells p) w c.args.segment.now.y c.read_column.new.column.parked (take x c.read_column.new.cur) x) row_is made in
-    let few : x < width_in conf p k = omega (arith, c.in-Err.ensures.inside, row_is) in
-    let taken : length (take x c.read_column.new.cur) ≡ x = length-take-le x c.read_column.new.cur (omega (arith, few, row_is)) in
-    stopped a coded c.args.segment.now.row next c.args.frame.now.payload.now c.args.columns.now c.args.states.now s tied p c.args.segment.now.index c.args.segment.now.y k c.args.two.now c.args.one.now c.args.cur.now (take c.in-Err.refused.x c.read_column.new.cur)
-    c.read_column.new.column c.requires.column c.requires.many same rolls x taken few c.counted_from_nothing.ensures raw c.refusal.result c.refusal.ensures
-
-pub returns-in-Err-clause-beside : goal.returns-in-Err-clause-beside
-returns-in-Err-clause-beside g c = λ b n within apart.
-    let a = c.args.frame.now.checked.now in
-    let conf = a.configuration in
-    let k = c.args.segment.now.column in
-    let slots = c.args.frame.now.slots in
-    let part = part_apart k conf.columns slots c.requires.column in
-    let room : length c.args.states.now ≡ conf.columns * slots = c.requires.room ∙ ap (λ z. conf.columns * z) (sym c.requires.frame.slots) in
-    let fits : k * slots + slots ≤ length c.args.states.now = omega (arith, part, room) in
-    let thick : k * slots + slots - k * slots ≡ slots = omega arith in
-    let column_is : slice_index_or c.args.columns.now k c.index-columns-k.result ≡ column_at c.args.columns.now k = get_or_default c.args.columns.now k c.index-columns-k.result no_column (omega (arith, c.requires.column, c.requires.many)) in
-    let p = c.args.segment.now.plane in
-    let left = c.extent-left.result.0 in
-    let width = c.extent-left.result.1 - left in
-    let right : width ≡ width_in conf p k = omega (arith, c.extent-left.ensures.right) in
-    let cur_fits : left + width ≤ length c.args.cur.now = omega (arith, c.extent-left.ensures.some, c.extent-left.ensures.inside, c.requires.cur_long) in
-    let row_long : length c.read_column.new.cur ≡ width = c.read_column.auto.cur ∙ part_long left width width c.args.cur.now refl cur_fits in
-    let states_long : length c.read_column.new.states ≡ slots = c.read_column.auto.states ∙ part_long (k * slots) slots (k * slots + slots - k * slots) c.args.states.now thick fits in
-    let index = c.args.segment.now.index * conf.width in
-    let apart : (b + n ≤ left) ⊎ (left + width ≤ b) = elim apart [
-      | inl front ↦ inl (omega (arith, front, c.extent-left.ensures.left))
-      | inr behind ↦ inr (omega (arith, behind, c.extent-left.ensures.some, c.extent-left.ensures.inside))
-    ] in
-    put_other c.args.cur.now c.read_column.new.cur left width cur_fits row_long b n within apart
-
-pub returns-in-Err-clause-open : goal.returns-in-Err-clause-open
-returns-in-Err-clause-open g c =
-    let a = c.args.frame.now.checked.now in
-    let conf = a.configuration in
-    let k = c.args.segment.now.column in
-    let slots = c.args.frame.now.slots in
-    let column_is : slice_index_or c.args.columns.now k c.index-columns-k.result ≡ column_at c.args.columns.now k = get_or_default c.args.columns.now k c.index-columns-k.result no_column (omega (arith, c.requires.column, c.requires.many)) in
-    let same = rw column_is at c.in-Err.ensures.same in
-    open_next c.args.frame.now.payload.now conf.sets c.args.columns.now k c.read_column.new.column (omega (arith, c.requires.column, c.requires.many)) c.requires.open same c.in-Err.ensures.open
-
-pub returns-in-Err-clause-held : goal.returns-in-Err-clause-held
-returns-in-Err-clause-held g c =
-    let a = c.args.frame.now.checked.now in
-    let conf = a.configuration in
-    let k = c.args.segment.now.column in
-    let slots = c.args.frame.now.slots in
-    let part = part_apart k conf.columns slots c.requires.column in
-    let room : length c.args.states.now ≡ conf.columns * slots = c.requires.room ∙ ap (λ z. conf.columns * z) (sym c.requires.frame.slots) in
-    let fits : k * slots + slots ≤ length c.args.states.now = omega (arith, part, room) in
-    let thick : k * slots + slots - k * slots ≡ slots = omega arith in
-    let states_long : length c.read_column.new.states ≡ slots = c.read_column.auto.states ∙ part_long (k * slots) slots (k * slots + slots - k * slots) c.args.states.now thick fits in
-    rw thick (put_held c.args.states.now c.read_column.new.states (k * slots) slots fits states_long a.table c.requires.held c.in-Err.ensures.held)
+    let segment = c.args.segment.now in
+    let k = segment.column in
+    let columns = c.read_on.new.columns in
+    let long : length columns ≡ a.configuration.columns = c.read_on.auto.columns ∙ c.requires.many in
+    let few : k < length columns = omega (arith, c.requires.column, long) in
+    let column_is : slice_index_or columns k c.index-columns-segment.result ≡ column_at columns k =
+    get_or_default columns k c.index-columns-segment.result no_column few in
+    let within = rw column_is at (c.if-is_overread.ensures.no refl) in
+    let made = c.in_ok-read_on.ensures.exact coded next s less tied line in
+    step_looked a coded segment.row next c.args.frame.now.payload.now segment.plane (segment.index * a.configuration.width) segment.y k columns c.read_on.new.states c.args.two.now c.args.one.now c.read_on.new.cur s made c.requires.column
+    c.counted_from_nothing.ensures within

@@ -1,4 +1,8 @@
 use Rattle.std.proofs.Common.{refl, ◌<◌, length, arith, rules, ◌∙◌}
+use Rattle.std.proofs.lemmas.Int.{to_z-of_z}
+use Rattle.std.specs.Int.{w32}
+use mir.Val.{SFits}
+use Rattle.ffv1_line.proofs.Even.{comes_again}
 use Rattle.ffv1_line.proofs.decode.flat.decode_flat.Goals as goal
 
 pub bounds-states-0 : goal.bounds-states-0
@@ -10,6 +14,7 @@ pub take_flat-left-requires-clause-may : goal.take_flat-left-requires-clause-may
 take_flat-left-requires-clause-may g c =
     let below = c.bounded.ensures.below (record { l = 0; t = 0; tl = 0; tr = 0; ll = 0; tt = 0 }) in
     let stands = c.requires.stands in
+    let fits : SFits w32 c.predict_late.result = search rules in
     record {
       places = stands.ready.places;
       long = stands.ready.long;
@@ -17,7 +22,7 @@ take_flat-left-requires-clause-may g c =
       inside = stands.inside;
       begins = stands.begins;
       left = search rules;
-      again = search rules;
+      again = comes_again c.args.places.now.bits c.args.behind.now.l c.deep_sample.result c.predict_late.result c.if-deep_sample-l.false (simp to_z-of_z at c.deep_sample.ensures.value) c.predict_late.ensures;
     }
 
 pub take_flat-left-requires-clause-flat : goal.take_flat-left-requires-clause-flat

@@ -18,7 +18,7 @@ decode_block_by-requires-clause-ready g c =
     let one_long : length c.above.inside.one.now ≡ length c.args.cur.now = rw (← c.above.view_is) at c.requires.one_long in
     record {
       places = record {
-        bits = c.requires.depth;
+        bits = rw c.fixed_bits-bits.ensures (rw (← c.coding.view_is) at c.requires.depth);
         near = rw (← c.coding.view_is) at c.requires.near;
         some = omega (arith, c.requires.some, one_long);
         few = omega (arith, c.min-count.ensures);

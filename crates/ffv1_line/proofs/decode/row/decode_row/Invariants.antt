@@ -10,7 +10,7 @@ invariant-parts g l = record {
   rows : length l.states ≡ contexts_of l.set.now * 32;
   within : l.from ≤ length l.cur;
   behind : SameFrom l.from l.fn.cur l.cur;
-  lined : Lined l.table.now l.set.now g.row.BITS l.fn.decoder l.fn.states l.local l.states l.two.now l.one.now l.cur l.from;
+  lined : Lined l.table.now l.set.now l.bits l.fn.decoder l.fn.states l.local l.states l.two.now l.one.now l.cur l.from;
 }
 
 abbrev pub decreases-parts : goal.decreases-parts
