@@ -196,36 +196,44 @@ def y4m_picture(planes, depth):
 
 # ---------------------------------------------------------------------------------------------- PPM
 
-def ppm_number(source, end):
-    """A width or height, up to this byte behind it."""
-    text = b""
-    while len(text) <= 4 and not text.endswith(end):
-        text += source.exactly(1, 60)
-    size = decimal(text[:-1], 1, 8192) if text.endswith(end) else None
-    if size is None:
-        raise Fault(60)
-    return size
+WHITE = b" \t\n\r"
+MAXIMA = {b"%d" % (2 ** depth - 1): depth for depth in [8, 9, 10, 12, 14, 16]}
 
 
-MAXIMA = {b"%d\n" % (2 ** depth - 1): depth for depth in [8, 9, 10, 12, 14, 16]}
+def ppm_blank(source):
+    """The first byte behind white space and comments, each from # to a line feed or a carriage
+    return. Own: both have fewer than 65536 bytes, and none is in a number or right behind it."""
+    comment = False
+    for _ in range(65536):
+        byte = source.exactly(1, 60)
+        if comment:
+            comment = byte not in b"\n\r"
+        elif byte == b"#":
+            comment = True
+        elif byte not in WHITE:
+            return byte
+    raise Fault(60)
 
 
-def ppm_depth(source):
-    """The depth of which the third line says the greatest number. Own: no other maximum."""
-    line = b""
-    while len(line) < 6 and not line.endswith(b"\n"):
-        line += source.exactly(1, 60)
-    if line not in MAXIMA:
-        raise Fault(60)
-    return MAXIMA[line]
+def ppm_word(source, word, most):
+    """A word that begins so, of so many bytes at most, and the byte of white space behind it."""
+    for _ in range(most + 1 - len(word)):
+        byte = source.exactly(1, 60)
+        if byte in WHITE:
+            return word
+        word += byte
+    raise Fault(60)
 
 
 def ppm_format(source, first):
-    """The header of an image whose first byte is read: its width, height and depth. Own: no
-    comments."""
-    if first + source.exactly(2, 60) != b"P6\n":
+    """The header of an image whose first byte is read: its width, height and depth. Own: no other
+    maximum than one less than a power, and numbers in their shortest spelling."""
+    magic = ppm_word(source, first, 2)
+    width, height = (decimal(ppm_word(source, ppm_blank(source), 4), 1, 8192) for _ in range(2))
+    depth = MAXIMA.get(ppm_word(source, ppm_blank(source), 5))
+    if magic != b"P6" or None in (width, height, depth):
         raise Fault(60)
-    return ppm_number(source, b" "), ppm_number(source, b"\n"), ppm_depth(source)
+    return width, height, depth
 
 
 def open_ppm(source, first):

@@ -85,6 +85,30 @@ def several_pictures():
     yield round_trip("two images", images, "--columns 2 --rows 2", images, 2)
 
 
+# as Netpbm and others write a header of 1 by 1, of 8 bits
+SPACED = [
+    b"P6 1 1\n255\n", b"P6\n1\n1\n255\n", b"P6\n#c\n1 1\n255\n", b"P6 1 1 255 ",
+    b"P6\t1\r1\n\r\n255\t",
+    b"P6\n# GIMP\n# two lines\n1 1\n255\n", b"P6\r\n1 1\r\n255\r", b"P6 #c\r1 #P5\n1 255\n",
+    b"P6" + b" " * 65536 + b"1 1 255\n", b"P6 #" + b"c" * 65533 + b"\n1 1 255\n",
+]
+
+
+def spaced_images():
+    """Headers of PPM with any white space and comments."""
+    for header in SPACED:
+        name = header if len(header) < 64 else header[:12] + b".."
+        yield round_trip(f"header {name!r}", header + b"\xff\0\0", "", RED)
+    both = b"P6 1 1 255\n\xff\0\0" + b"P6\n#\n1\n1 255 \0\xff\n"
+    yield round_trip("two images of other headers", both, "", RED + ppm(1, 1, b"\0\xff\n"), 2)
+    deep = b"P6 # deep\n1 1\n65535\n" + bytes(6)
+    yield refused("RGB of 16 bits with a comment", deep, "21 Depth")
+    far = b"P6" + b" " * 65537 + b"1 1 255\n\xff\0\0"
+    yield refused("65536 bytes behind the first of white space", far, "60 Header")
+    yield refused("another size behind a comment", RED + b"P6 #\n2 1 255\n" + bytes(6),
+                  "71 FormatChanged")
+
+
 # ------------------------------------------------------------------------------------ refused texts
 
 def refused(name, text, fault, words=""):
@@ -103,9 +127,10 @@ TAGS = [
     ("H+2 W2", "61 Tag"), ("W2 H2\r", "61 Tag"),
 ]
 IMAGE_HEADERS = [
-    b"P5\n1 1\n255\n", b"P6 1 1\n255\n", b"P6\n01 1\n255\n", b"P6\n1 8193\n255\n",
-    b"P6\n1 1\n65534\n", b"P6\n#c\n1 1\n255\n", b"P6\n1\n1\n255\n", b"P6\n1 0\n255\n",
-    b"P6\n1 1\n25",
+    b"P5\n1 1\n255\n", b"P6\n01 1\n255\n", b"P6\n1 8193\n255\n", b"P6\n1 1\n65534\n",
+    b"P6\n1 0\n255\n", b"P6\n1 1\n25", b"P61 1\n255\n", b"P6#c\n1 1\n255\n",
+    b"P6\n1#c\n1\n255\n", b"P6\n1 1\n255#c\n", b"P6\n1 1\n255#\n \n", b"P6\n1\x0b1\n255\n",
+    b"P6\n#c 1 1 255\n", b"P6\n1 +1\n255\n", b"P6\n1 1 0255\n",
 ]
 
 
@@ -146,5 +171,5 @@ def refused_grids():
                      y4m("W5 H1 F0:0 I? A0:0 C420jpeg", bytes(range(11))))
 
 
-CASES = [known_frames, tagged_texts, several_pictures, refused_headers, refused_pictures,
-         refused_grids]
+CASES = [known_frames, tagged_texts, several_pictures, spaced_images, refused_headers,
+         refused_pictures, refused_grids]

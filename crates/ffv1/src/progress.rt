@@ -11,13 +11,13 @@ const PAUSE: u64 = 1;
 const MEBIBYTE: u64 = 1048576;
 
 /// A reader that gives the bytes and the failures of another one, and tells at most once a second
-/// how much was read. Where the clock fails nothing is told, and a line that cannot be printed is
+/// how much was read. Where the clock fails it prints nothing, and a line that cannot be printed is
 /// left out.
 #[derive(Drop)]
 pub struct Watched<'a, R, P> {
     inner: R,
     rt: &'a P,
-    // When it was told last, or the reader was made; none where nothing is told.
+    // When it printed last, or was made; none where it prints nothing.
     told: Option<Instant>,
     // How many bytes there are, where that is known.
     size: Option<u64>,
@@ -25,7 +25,7 @@ pub struct Watched<'a, R, P> {
 }
 
 impl<'a, R, P: Eprint + Clock> Watched<'a, R, P> {
-    /// Wraps a reader. Nothing is told of it but where `progress` asks for that.
+    /// Wraps a reader. It prints only where `progress` asks for that.
     pub fn new(rt: &'a P, inner: R, size: Option<u64>, progress: bool) -> Watched<'a, R, P>
         ensures { result.inner ≡ inner }
     {

@@ -71,6 +71,7 @@ pub mod FewBySamples
 pub mod FewByBytes
 pub mod KnownSlices
 mod LinesKept
+mod Filling
 pub mod OnlyRead
 pub mod Damaged
 mod OfferedLines

@@ -45,7 +45,7 @@ place_short : (k : ℕ) → k < 32 → IsShort (placed k) 10
 place_short k few = record {
   value = λ before v small passes.
       let same = eqb-true v k passes in
-      let most = short 4 k (omega (arith, few)) (omega (arith, few)) in
+      let most = short 4 k (omega (arith, few)) in
       subst (λ n. length (unsigned_steps n) ≤ 10) (sym same) (omega (arith, most));
 }
 
@@ -60,7 +60,7 @@ index_short : (count : ℕ) → count ≤ 8 → IsShort (indexed count) 6
 index_short count few = record {
   value = λ before v small passes.
       let below = ltb-true v count passes in
-      let most = short 2 v (omega (arith, few, below)) (omega (arith, few, below)) in
+      let most = short 2 v (omega (arith, few, below)) in
       omega (arith, most);
 }
 
@@ -68,7 +68,7 @@ structure_short : IsShort structured 4
 structure_short = record {
   value = λ before v small passes.
       let below = ltb-true v 4 passes in
-      let most = short 1 v (omega (arith, below)) (omega (arith, below)) in
+      let most = short 1 v (omega (arith, below)) in
       omega (arith, most);
 }
 

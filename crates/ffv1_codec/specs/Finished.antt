@@ -58,7 +58,7 @@ pub record AreMade (k : Colouring) (read made : List ℕ) : Type 0 where
   pub transparency : k.extra ≡ true → (line_at k.width 3 made ≡ line_at k.width 3 read)
       × ((x : ℕ) → x < k.width → slice_index (line_at k.width 3 read) x < 2 ^ k.depth)
 
--- a place that has a colour, and transparency of so many bits
+-- a sample that has a colour, and transparency of so many bits
 abbrev pub HasBoth : Colouring → List ℕ → ℕ → Type 0
 HasBoth k read x =
     HasColourAtIn k.depth (line_at k.width 0 read) (line_at k.width 1 read)
@@ -93,7 +93,7 @@ pub record Finished (c : Configuration) (first count y : ℕ) (out : List ℕ) (
   pub finishes : Finishes c (map (coded_line c s y) (range_with_len first count)) lines
   pub stands : StandsIn c first count out (record s { out = lines })
 
--- the fault of a place of a line of row r that has no colour
+-- the fault of a sample of a line of row r that has no colour
 abbrev pub IsNoColour : Configuration → ℕ → ℕ → ℕ → FrameFault → Type 0
 IsNoColour c r y x f =
     (k : ℕ) × Lies (across (division_of c) 0) x k

@@ -16,6 +16,7 @@ pub mod Stands
 pub mod Tied
 pub mod Places
 pub mod Progress
+pub mod Filled
 pub mod Finished
 pub mod Opened
 pub mod Tallies

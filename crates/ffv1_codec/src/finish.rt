@@ -24,7 +24,7 @@ use ffv1_record::Colour;
 use ffv1_record::laws::{accepted, accepted_parts};
 use std::alloc::Allocator;
 
-/// The column of slices in which a place of plane 0 lies.
+/// The column of slices in which a sample of plane 0 lies.
 fn column_of<A: Allocator>(frame: &Frame<'_, A>, x: usize) -> u32
     requires frame { IsFrame frame.now }
     requires x { x < whole_of (across (division_of frame.now.checked.now.configuration) 0) }
@@ -42,7 +42,7 @@ fn column_of<A: Allocator>(frame: &Frame<'_, A>, x: usize) -> u32
     last
 }
 
-/// The fault of a place that has no colour.
+/// The fault of a sample that has no colour.
 fn colourless<A: Allocator>(frame: &Frame<'_, A>, line: &CodedLine, x: usize) -> FrameFault
     requires frame { IsFrame frame.now }
     requires row { line.now.row < frame.now.checked.now.configuration.rows }

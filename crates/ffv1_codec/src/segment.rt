@@ -190,7 +190,7 @@ fn extent<A: Allocator>(frame: &Frame<'_, A>, segment: &Segment) -> (usize, usiz
     (left, right)
 }
 
-/// The fault of a segment whose symbol at a place is refused.
+/// The fault of a segment of which a symbol is refused.
 fn refusal<A: Allocator>(frame: &Frame<'_, A>, segment: &Segment, x: usize) -> FrameFault
     requires frame { IsFrame frame.now }
     requires row { segment.now.row < frame.now.checked.now.configuration.rows }

@@ -5,6 +5,11 @@ ghost use Rattle.std.specs.Prelude.{◌≡◌, ◌*◌, ◌+◌, ◌≤◌, ◌<
 ghost use Rattle.ffv1_samples.specs.Samples.{sample_bytes};
 ghost use Rattle.ffv1_slice.specs.Grid.{IsDivision, division_of, across, down, whole_of};
 ghost use Rattle.ffv1_codec.specs.declared.fault.CodecFault.TheVariants as fault;
+ghost use Rattle.std.specs.Vec.{vec_capacity};
+ghost use Rattle.std.specs.Borrow.{sem};
+ghost use Rattle.std.specs.Io.BufRead.{Rests};
+ghost use Rattle.ffv1_codec.specs.contracts.sinks.KeepLines.{the_row};
+ghost use Rattle.ffv1_codec.specs.Filled.{AreBegun, filled, filled_planes};
 ghost use Rattle.ffv1_codec.specs.Picture.{AreOf, plane, planes_of};
 ghost use Rattle.ffv1_codec.specs.Kept.{IsLine, with_samples, Keeps, KeepsNot, Drops, DropsNot};
 ghost use Rattle.ffv1_codec.specs.Kept.{Kept, zeros_of};
@@ -33,6 +38,18 @@ fn is_line(grid: &Grid, plane: u8, y: u16, samples: &[u8]) -> bool
     samples.len() == grid.sample_bytes() * grid.width(of) as usize
 }
 
+/// Puts zeros after the bytes of a plane, up to so many.
+fn fill_up<A: Allocator>(plane: &mut Vec<u8, A>, size: usize)
+    requires room { size ≤ vec_capacity plane.old }
+    ensures items { plane.new.items ≡ filled size plane.old.items }
+    ensures capacity { vec_capacity plane.new ≡ vec_capacity plane.old }
+{
+    let missing = size.saturating_sub(plane.len());
+    for _ in 0..missing {
+        plane.push_reserved(0);
+    }
+}
+
 /// Puts a line in its place.
 fn put(plane: &mut [u8], y: usize, line: &[u8])
     requires room { y * length line.now + length line.now ≤ length plane.old }
@@ -42,8 +59,23 @@ fn put(plane: &mut [u8], y: usize, line: &[u8])
     plane[at..at + line.len()].copy_from_slice(line);
 }
 
+/// Puts a line in its place in a plane that has room for it, after zeros for the lines that are
+/// missing before it.
+fn keep<A: Allocator>(plane: &mut Vec<u8, A>, y: usize, line: &[u8])
+    requires room { y * length line.now + length line.now ≤ vec_capacity plane.old }
+    ensures items { plane.new.items ≡ with_samples
+        (filled (y * length line.now + length line.now) plane.old.items) y line.now }
+    ensures capacity { vec_capacity plane.new ≡ vec_capacity plane.old }
+{
+    fill_up(plane, y * line.len() + line.len());
+    put(plane, y, line);
+}
+
 /// Keeps the lines of a picture, each in its place. It refuses exactly the lines that are not of
 /// its configuration, and counts them modulo 2^64.
+///
+/// Room for all planes is set aside at once, and first written as the lines come: a picture that is
+/// refused early costs the lines that it had.
 #[derive(Drop)]
 pub struct KeepLines<A: Allocator = Global> {
     grid: Grid,
@@ -52,30 +84,45 @@ pub struct KeepLines<A: Allocator = Global> {
 }
 
 impl<A: Allocator> Model for KeepLines<A> {
-    ghost use Rattle.ffv1_codec.specs.Picture.{AreOf, planes_of};
+    ghost use Rattle.ffv1_codec.specs.Picture.{planes_of};
+    ghost use Rattle.ffv1_codec.specs.Filled.{AreBegun, filled_planes};
     ghost use Rattle.ffv1_codec.specs.Kept.{Kept};
 
     ghost Value = { Kept };
 
     ghost view = { λ s. record {
       grid = s.grid;
-      planes = planes_of s.planes.items;
+      planes = filled_planes s.grid (planes_of s.planes.items);
       failures = s.failures;
     } };
 
-    ghost invariant = { λ s. AreOf s.grid (planes_of s.planes.items) };
+    ghost invariant = { λ s. AreBegun s.grid s.planes.items };
 }
 
-/// Planes of zeros.
-fn zeros<A: Allocator + Copy>(alloc: A, grid: &Grid) -> Result<Vec<Vec<u8, A>, A>, AllocError>
+/// Planes without lines, each with room for all of them.
+fn rooms<A: Allocator + Copy>(alloc: A, grid: &Grid) -> Result<Vec<Vec<u8, A>, A>, AllocError>
     requires { IsDivision grid.now }
-    ensures { IfOk result (λ v. planes_of v.items ≡ zeros_of grid.now) }
+    ensures begun { IfOk result (λ v. AreBegun grid.now v.items) }
+    ensures zeros { IfOk result (λ v.
+        filled_planes grid.now (planes_of v.items) ≡ zeros_of grid.now) }
 {
     let mut planes = Vec::new(alloc);
     for plane in 0..grid.planes() {
-        planes.push(vec![in alloc; 0u8; plane_bytes(grid, plane)]?)?;
+        planes.push(Vec::with_capacity(alloc, plane_bytes(grid, plane))?)?;
     }
     Ok(planes)
+}
+
+/// Puts zeros in place of all lines that are missing.
+fn fill<A: Allocator>(grid: &Grid, planes: &mut [Vec<u8, A>])
+    requires division { IsDivision grid.now }
+    requires begun { AreBegun grid.now planes.old }
+    ensures begun { AreBegun grid.now planes.new }
+    ensures planes { planes_of planes.new ≡ filled_planes grid.now (planes_of planes.old) }
+{
+    for plane in 0..grid.planes() {
+        fill_up(&mut planes[plane as usize], plane_bytes(grid, plane));
+    }
 }
 
 impl<A: Allocator + Copy> KeepLines<A> {
@@ -89,7 +136,7 @@ impl<A: Allocator + Copy> KeepLines<A> {
         ensures err { IfErr result (λ f. f ≡ fault.OutOfMemory) }
     {
         let grid = Grid::of(checked);
-        let planes = zeros(alloc, &grid)?;
+        let planes = rooms(alloc, &grid)?;
         Ok(KeepLines {
             grid,
             planes,
@@ -100,10 +147,13 @@ impl<A: Allocator + Copy> KeepLines<A> {
 
 impl<A: Allocator> KeepLines<A> {
     /// The planes, each accepted line in its place, and 0 where none was.
-    pub fn planes(&self) -> &[Vec<u8, A>]
-        ensures value { self.now.planes ≡ planes_of result.now }
-        ensures sizes { AreOf self.now.grid self.now.planes }
+    pub fn planes(&mut self) -> &[Vec<u8, A>]
+        ensures value { self.old.planes ≡ planes_of result.now }
+        ensures sizes { AreOf self.old.grid self.old.planes }
+        ensures* same { sem 𝓛 (Rests (the_row A.row A.Allocator) self.entry
+            (λ new. new ≡ self.old)) }
     {
+        fill(&self.grid, &mut self.planes);
         self.planes.as_slice()
     }
 
@@ -127,7 +177,7 @@ impl<A: Allocator> LineSink for KeepLines<A> {
             self.failures = self.failures.wrapping_add(1);
             return Err(SinkFault);
         }
-        put(&mut self.planes[plane as usize], y as usize, samples);
+        keep(&mut self.planes[plane as usize], y as usize, samples);
         Ok(())
     }
 }

@@ -67,7 +67,7 @@ fn bits_of<A: Allocator>(checked: &Checked<A>) -> u8
     }
 }
 
-/// A row of a cell is coded, by the states of its class, which begin at a place of all states.
+/// A row of a cell is coded, by the states of its class, which begin at this offset of all states.
 fn put_row<R: Allocator, A: Allocator>(
     encoder: &mut RangeEncoder<R>,
     table: &StateTable,

@@ -18,7 +18,7 @@ use Rattle.ffv1_matroska.specs.WrittenPlaces.{last_place}
 use Rattle.ffv1_matroska.specs.Writers.{Finishes, Makes, Writing as Writer, rate_in, writing_of}
 use Rattle.ffv1_matroska.specs.declared.shown.Shown.{Shown}
 use Rattle.ffv1_y4m.specs.Header.{header_of}
-use Rattle.ffv1_y4m.specs.Images.{IsImages, ReadsFrom}
+use Rattle.ffv1_y4m.specs.Images.{IsImagesIn, ReadsFrom}
 use Rattle.ffv1_y4m.specs.Ppm.{image_header}
 use Rattle.ffv1_y4m.specs.Reads.{Wants}
 use Rattle.ffv1_y4m.specs.Text.{IsText, ReadsAll}
@@ -47,7 +47,7 @@ TextsOnly = (text : List ℕ) (most depth : ℕ) (h : VideoHead) (rest : List �
 
 abbrev pub ImagesOnly : Type 0
 ImagesOnly = (text : List ℕ) (most depth : ℕ) (h : VideoHead) (rest : List ℕ) (image : List (List ℕ)) (images : List (List (List ℕ))) → image_header most text ≡ Ok (record { head = h; depth = depth }, rest) → ReadsFrom most (record { head = h; depth = depth }) rest image images →
-    IsImages text depth h.width h.height (image ∷ images)
+    IsImagesIn most text depth h.width h.height (image ∷ images)
 
 -- ---- what is opened, or why not
 
@@ -307,7 +307,7 @@ module _ (most : ℕ) (choice : Choice) (p : Passage) (r : VideoReading) (a : Ac
         some_read : 0 < length pictures
         some_read = some_pictures a r pictures h.frames h.all.are some_in
 
-        read : ReadsVideo p.old q.new (video_of r pictures)
+        read : ReadsVideo most p.old q.new (video_of r pictures)
         read = reads_video texts_only images_only most p.old p.new q.new r pictures opens.read.later opens.read.known opens.head known some_read
 
         all_frames_are : 0 < length (frames_for a r.head pictures)
@@ -325,7 +325,7 @@ module _ (most : ℕ) (choice : Choice) (p : Passage) (r : VideoReading) (a : Ac
         pub finish_stops : (f : FileFault) → Finishes z v (Err f) → RefusesMatroska most choice (joined p q) (joined o z) (of_avi f)
         finish_stops f finishes = fails f (subst (λ x. Finishes z x (Err f)) writer_is finishes)
           where
-            fails_by : FinishFails choice (joined p q) (joined o z) → z.after ≡ one_more z.before → RefusesMatroska most choice (joined p q) (joined o z) fault.Write
+            fails_by : FinishFails most choice (joined p q) (joined o z) → z.after ≡ one_more z.before → RefusesMatroska most choice (joined p q) (joined o z) fault.Write
             fails_by fails after = (after ∙ ap one_more (number ∙ put.kept), kept, inr fails)
 
             fails : (f : FileFault) → Finishes z (writing_of head (shown_for r.head) (frames_for a r.head pictures)) (Err f) → RefusesMatroska most choice (joined p q) (joined o z) (of_avi f)

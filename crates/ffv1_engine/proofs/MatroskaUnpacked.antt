@@ -28,15 +28,15 @@ use Rattle.ffv1_engine.specs.MatroskaRoundTrip.{WasPackedMatroska, matroska_file
 use Rattle.ffv1_engine.specs.PackMatroska.{HasClusters, begun_file, shown_for, whole_file}
 use Rattle.ffv1_engine.specs.Packing.{AreReadable, packed_frames, packed_head, said_for}
 use Rattle.ffv1_engine.specs.RoundTrip.{IsReadIn}
-use Rattle.ffv1_engine.specs.Video.{Video}
+use Rattle.ffv1_engine.specs.Video.{IsReadVideo, Video}
 use Rattle.ffv1_engine.specs.declared.profile.Profile.{Profile}
 use Rattle.ffv1_engine.specs.declared.profile.Profile.TheVariants.{Wide}
-use Rattle.ffv1_engine.specs.Profiles.{record_profile}
+use Rattle.ffv1_engine.specs.Profiles.{greatest_depth, record_profile}
 use Rattle.ffv1_engine.proofs.PackedFrames.{FrameLaws, frame_bytes, frame_some}
 use Rattle.ffv1_engine.proofs.Depths.{all_within}
 use Rattle.ffv1_engine.proofs.PackedIsUnpacked.{Given, reads_is, short_in}
 use Rattle.ffv1_engine.proofs.PackedText.{RecordLaws, rated_by, sized}
-use Rattle.ffv1_engine.proofs.RecordShort.{record_are_bytes, record_most}
+use Rattle.ffv1_engine.proofs.RecordShort.{HasLowNumbers, low_numbers, record_are_bytes, record_most}
 
 -- ---- Tracks are short
 
@@ -149,7 +149,7 @@ writable frame_laws records choice v a has some rated =
       timed = has.timed;
       record_is = all_bytes (record_of a.configuration) (record_are_bytes a.configuration);
       short = tracks_short (packed_head choice v a) (shown_for v.head)
-          (subst (λ c. length (record_of c) ≤ 2568) (sym has.for.configuration) (record_most records.symbols choice v.ppm v.head));
+          (subst (λ c. length (record_of c) ≤ 2568) (sym has.for.configuration) (record_most records.symbols choice v.ppm v.head (subst HasLowNumbers has.for.configuration (low_numbers records.numbers a.configuration a.table has.for.accepted))));
       written = are_written frame_laws a has.for.accepted (said_for v.head) v.pictures has.readable;
       near = has.near some;
     }
@@ -211,9 +211,14 @@ module _ (laws : MatroskaLaws) where
 abbrev pub accepted_wide : {packing : Profile} → {choice : Choice} → {text : List ℕ} → WasPackedMatroska packing choice text → Accepted
 accepted_wide w = record { configuration = w.packs.accepted.configuration; table = w.packs.accepted.table; profile = record_profile Wide }
 
+-- the text that was packed is that video, as it was read
+pub packed_so : (packing : Profile) (choice : Choice) (text : List ℕ) (w : WasPackedMatroska packing choice text) → IsReadVideo (greatest_depth packing) text (matroska_video w)
+packed_so packing choice text w = reads_is (greatest_depth packing) text w.input.old w.input.new w.packs.video w.known w.packs.reads
+
 pub given : (packing : Profile) (choice : Choice) (text : List ℕ) (w : WasPackedMatroska packing choice text) → Given choice text (matroska_video w) (accepted_wide w)
 given packing choice text w = record {
-  is = reads_is text w.input.old w.input.new w.packs.video w.known w.packs.reads;
+  most = greatest_depth packing;
+  is = reads_is (greatest_depth packing) text w.input.old w.input.new w.packs.video w.known w.packs.reads;
   bytes = w.bytes;
   for = record { configuration = w.packs.has.for.configuration; accepted = w.packs.has.for.accepted };
   some = w.packs.some;

@@ -19,6 +19,7 @@ use Rattle.ffv1_reads.specs.Reads as avi
 use Rattle.ffv1_avi.specs.Written.{file_of}
 use Rattle.ffv1_y4m.specs.Canonical.{canonical_text}
 use Rattle.ffv1_y4m.specs.HeaderLine.{IsHeaderLine}
+use Rattle.ffv1_y4m.specs.Images.{IsImages, IsImagesIn}
 use Rattle.ffv1_y4m.specs.Text.{AllFit, IsText}
 use Rattle.ffv1_y4m.specs.VideoHead.{IsHead, IsNamed, IsRatio}
 use Rattle.ffv1_engine.specs.Video.{SaidHead}
@@ -41,7 +42,7 @@ use Rattle.ffv1_engine.specs.RoundTrip.{HoldsBy, IsFileIn, IsNoContent, IsReadIn
 use Rattle.ffv1_engine.specs.Stream.{AreFrames, Begins, BeginsKnown, FaultsFrame, Frame, IsRead, IsStream, ReadsFile, ReadsFrames, Stream, payloads}
 use Rattle.ffv1_engine.specs.Unpack.{LacksTextIn, UnpackDone, UnpackStops, UnpackStopsBy}
 use Rattle.ffv1_engine.specs.Unpacked.{AllSay, AreAlike, HasTextBy, LacksText, LacksTextBy, is_ppm_stream, pictures, text_of}
-use Rattle.ffv1_engine.specs.Video.{IsVideo, IsVideoBy, ReadsVideo, Video}
+use Rattle.ffv1_engine.specs.Video.{IsReadVideo, IsReadVideoBy, IsVideo, IsVideoBy, ReadsVideo, Video}
 use Rattle.ffv1_engine.specs.VideoReads.{IsHeadBy}
 use Rattle.ffv1_engine.proofs.Depths.{all_within, eight_within}
 use Rattle.ffv1_engine.proofs.FileTurns.{Opened, Others, no_fault as no_read_fault, no_more, no_stop, one_more, opened, others}
@@ -78,9 +79,9 @@ text_or_none true c f has lacks = absurd (let wrong : true ≡ false = sym lacks
 text_or_none false c f has lacks = absurd (let wrong : true ≡ false = sym has ∙ lacks.0 in cc)
 
 -- the canonical text is one of the same video
-pub same_by : {profile : Profile} → FileLaws profile → (ppm : Bool) (text : List ℕ) (h : SaidHead) (ps : List Planes) → IsVideoBy ppm text h ps → IsVideoBy ppm (canonical_by ppm h ps) h ps
-same_by laws true text h ps v = (v.0, record { sized = v.1.sized; named = v.1.named; whole = refl; fit = v.1.fit })
-same_by laws false text h ps v =
+pub same_by : {profile : Profile} → FileLaws profile → (most : ℕ) (ppm : Bool) (text : List ℕ) (h : SaidHead) (ps : List Planes) → IsReadVideoBy most ppm text h ps → IsVideoBy ppm (canonical_by ppm h ps) h ps
+same_by laws deepest true text h ps v = (v.0, record { sized = v.1.sized; named = v.1.named; whole = refl; fit = v.1.fit })
+same_by laws deepest false text h ps v =
     laws.canonical h.depth h.head ps (laws.said v.line h.depth h.head v.said) (laws.named v.line h.depth h.head v.said) v.fit
 
 pub ppm_by : (ppm : Bool) (text : List ℕ) (h : SaidHead) (ps : List Planes) → IsVideoBy ppm text h ps → ppm ≡ true → canonical_by ppm h ps ≡ text
@@ -121,7 +122,8 @@ begins_in profile file (Some rest) s frames h = record { to = h.0; at = rest; be
 
 -- a text that is packed
 pub record Given (choice : Choice) (text : List ℕ) (v : Video) (a : Accepted) : Type 0 where
-  pub is : IsVideo text v
+  pub most : ℕ
+  pub is : IsReadVideo most text v
   pub bytes : AreBytes text
   pub for : IsFor choice v.ppm v.head a
   pub some : 0 < length v.pictures
@@ -135,16 +137,16 @@ module _ (profile : Profile) (files : FileLaws profile) (frame_laws : FrameLaws)
   for = g.for.configuration
 
   pub head : IsHeadBy v.ppm v.head.head
-  head = head_given files.said v.ppm text v.head v.pictures g.is
+  head = head_given files.said g.most v.ppm text v.head v.pictures g.is
 
   named : IsNamed v.head.depth v.head.head
-  named = name_given files.named v.ppm text v.head v.pictures g.is
+  named = name_given files.named g.most v.ppm text v.head v.pictures g.is
 
   said : IsSaid (said_for v.head)
   said = said_given v.ppm v.head head
 
   pub coded : AllCoded a (said_for v.head) v.pictures
-  coded = all_coded frame_laws a g.for.accepted choice v.ppm v.head for head said v.pictures (pictures_given v.ppm text v.head v.pictures g.is g.bytes) g.short
+  coded = all_coded frame_laws a g.for.accepted choice v.ppm v.head for head said v.pictures (pictures_given g.most v.ppm text v.head v.pictures g.is g.bytes) g.short
 
   pub can_write : riff_size (packed_head choice v a) (packed_frames v a) ≤ most → IsWritable (packed_head choice v a) (packed_frames v a)
   can_write small = writable profile records choice v.ppm v.head a for g.for.accepted profiled head read g.rated v.pictures coded g.readable small
@@ -343,10 +345,10 @@ module _ (profile : Profile) (files : FileLaws profile) (frame_laws : FrameLaws)
       show_refused true f (inr (inr h)) = no_content f (λ e. no_cost_fault f (subst (λ why. CostStopsBy profile input output f why) e h))
 
 -- a text that was packed is such a text
-pub reads_is : (text : List ℕ) (old new : Option (List ℕ)) (v : Video) → old ≡ Some text → ReadsVideo old new v → IsVideo text v
-reads_is text old new v known h = is_video new (subst (λ o. ReadsVideo o new v) known h)
+pub reads_is : (most : ℕ) (text : List ℕ) (old new : Option (List ℕ)) (v : Video) → old ≡ Some text → ReadsVideo most old new v → IsReadVideo most text v
+reads_is most text old new v known h = is_video new (subst (λ o. ReadsVideo most o new v) known h)
   where
-    is_video : (rest : Option (List ℕ)) → ReadsVideo (Some text) rest v → IsVideo text v
+    is_video : (rest : Option (List ℕ)) → ReadsVideo most (Some text) rest v → IsReadVideo most text v
     is_video None k = absurd k
     is_video (Some rest) k = k.0
 
@@ -360,7 +362,8 @@ short_in profile a h (p ∷ ps) short = (λ long. short.0 (record { slice = long
 
 pub given : (packing profile : Profile) (choice : Choice) (text : List ℕ) (w : WasPacked packing choice text) → Given choice text (video_in w) (accepted_in profile w)
 given packing profile choice text w = record {
-  is = reads_is text w.input.old w.input.new w.packs.video w.known w.packs.reads;
+  most = greatest_depth packing;
+  is = reads_is (greatest_depth packing) text w.input.old w.input.new w.packs.video w.known w.packs.reads;
   bytes = w.bytes;
   for = record { configuration = w.packs.packable.for.configuration; accepted = w.packs.packable.for.accepted };
   some = w.packs.packable.some;
@@ -369,11 +372,21 @@ given packing profile choice text w = record {
   rated = w.rated;
 }
 
-pub same_video : {profile : Profile} → FileLaws profile → (packing : Profile) (choice : Choice) (text : List ℕ) (w : WasPacked packing choice text) → IsVideo (canonical_of (video_in w)) (video_in w)
-same_video files packing choice text w = same_by files w.packs.video.ppm text w.packs.video.head w.packs.video.pictures (given packing Strict choice text w).is
+-- the text that was packed is that video, as it was read
+pub packed_so : (packing : Profile) (choice : Choice) (text : List ℕ) (w : WasPacked packing choice text) → IsReadVideo (greatest_depth packing) text (video_in w)
+packed_so packing choice text w = reads_is (greatest_depth packing) text w.input.old w.input.new w.packs.video w.known w.packs.reads
 
-pub same_ppm : (packing : Profile) (choice : Choice) (text : List ℕ) (w : WasPacked packing choice text) → (video_in w).ppm ≡ true → canonical_of (video_in w) ≡ text
-same_ppm packing choice text w = ppm_by w.packs.video.ppm text w.packs.video.head w.packs.video.pictures (given packing Strict choice text w).is
+pub same_video : {profile : Profile} → FileLaws profile → (packing : Profile) (choice : Choice) (text : List ℕ) (w : WasPacked packing choice text) → IsVideo (canonical_of (video_in w)) (video_in w)
+same_video files packing choice text w = same_by files (greatest_depth packing) w.packs.video.ppm text w.packs.video.head w.packs.video.pictures (packed_so packing choice text w)
+
+pub same_ppm : (packing : Profile) (choice : Choice) (text : List ℕ) (w : WasPacked packing choice text) → IsVideo text (video_in w) → (video_in w).ppm ≡ true → canonical_of (video_in w) ≡ text
+same_ppm packing choice text w is = ppm_by w.packs.video.ppm text w.packs.video.head w.packs.video.pictures is
+
+-- headers of PPM are three lines where depths up to 8 are read
+pub lined_by : (lined : (text : List ℕ) (most depth width height : ℕ) (images : List Planes) → most ≤ 8 → IsImagesIn most text depth width height images → IsImages text depth width height images) →
+    (most : ℕ) (ppm : Bool) (text : List ℕ) (h : SaidHead) (ps : List Planes) → most ≤ 8 → IsReadVideoBy most ppm text h ps → IsVideoBy ppm text h ps
+lined_by lined deepest true text h ps few v = (v.0, lined text deepest h.depth h.head.width h.head.height ps few v.1)
+lined_by lined deepest false text h ps few v = v
 
 -- it is read in each profile that reads its depth
 pub read_in : (packing profile : Profile) (choice : Choice) (text : List ℕ) (w : WasPacked packing choice text) → IsReadIn packing (video_in w) × IsReadIn Wide (video_in w) × ((video_in w).head.depth ≡ 8 → IsReadIn profile (video_in w))

@@ -6,29 +6,29 @@ use Rattle.ffv1_slice.specs.Head.{is_aspect}
 use Rattle.ffv1_codec.specs.Frame.{IsSaid}
 use Rattle.ffv1_codec.specs.Picture.{AreSamples, IsPicture, Planes}
 use Rattle.ffv1_y4m.specs.HeaderLine.{IsHeaderLine}
-use Rattle.ffv1_y4m.specs.Images.{AllColours, AreColours, image_text, samples_text}
+use Rattle.ffv1_y4m.specs.Images.{AllColours, AreColours, AreSpelled, samples_text}
 use Rattle.ffv1_y4m.specs.Pictures.{frame_line, picture_text}
-use Rattle.ffv1_y4m.specs.Ppm.{bytes_for, bytes_of_pairs, image_header_text, in_turn, interleaved, pairs_of, turned}
+use Rattle.ffv1_y4m.specs.Ppm.{bytes_for, bytes_of_pairs, in_turn, interleaved, pairs_of, turned}
 use Rattle.ffv1_y4m.specs.Text.{AllFit}
 use Rattle.ffv1_y4m.specs.VideoHead.{AreInDepth, Fits as VideoFits, IsHead, IsNamed, IsRatio, colour_head, plane_bytes, reduced}
 use Rattle.ffv1_engine.specs.Video.{SaidHead}
 use Rattle.ffv1_y4m.specs.declared.head.VideoHead.{VideoHead}
 use Rattle.ffv1_words.specs.declared.order.Choice.{Choice}
 use Rattle.ffv1_engine.specs.Packing.{configuration_for, said_for}
-use Rattle.ffv1_engine.specs.Video.{IsVideoBy}
+use Rattle.ffv1_engine.specs.Video.{IsReadVideoBy}
 use Rattle.ffv1_engine.specs.VideoReads.{IsHeadBy}
 use Rattle.ffv1_engine.proofs.ByteLists.{bytes_behind, bytes_front, bytes_pushed, no_bytes}
 use Rattle.ffv1_engine.proofs.VideoFits.{fits}
 
 -- its head is one that readers give
-pub head_given : ((line : List ℕ) (depth : ℕ) (h : VideoHead) → IsHeaderLine line depth h → IsHead h) → (ppm : Bool) (text : List ℕ) (h : SaidHead) (ps : List Planes) → IsVideoBy ppm text h ps → IsHeadBy ppm h.head
-head_given said true text h ps v = (record { some_wide = v.1.sized.some_wide; wide = v.1.sized.wide; some_high = v.1.sized.some_high; high = v.1.sized.high }, v.0)
-head_given said false text h ps v = said v.line h.depth h.head v.said
+pub head_given : ((line : List ℕ) (depth : ℕ) (h : VideoHead) → IsHeaderLine line depth h → IsHead h) → (most : ℕ) (ppm : Bool) (text : List ℕ) (h : SaidHead) (ps : List Planes) → IsReadVideoBy most ppm text h ps → IsHeadBy ppm h.head
+head_given said most true text h ps v = (record { some_wide = v.1.sized.some_wide; wide = v.1.sized.wide; some_high = v.1.sized.some_high; high = v.1.sized.high }, v.0)
+head_given said most false text h ps v = said v.line h.depth h.head v.said
 
 -- and its chroma has a name at its depth
-pub name_given : ((line : List ℕ) (depth : ℕ) (h : VideoHead) → IsHeaderLine line depth h → IsNamed depth h) → (ppm : Bool) (text : List ℕ) (h : SaidHead) (ps : List Planes) → IsVideoBy ppm text h ps → IsNamed h.depth h.head
-name_given named true text h ps v = subst (λ k. IsNamed h.depth k) (sym v.0) v.1.named
-name_given named false text h ps v = named v.line h.depth h.head v.said
+pub name_given : ((line : List ℕ) (depth : ℕ) (h : VideoHead) → IsHeaderLine line depth h → IsNamed depth h) → (most : ℕ) (ppm : Bool) (text : List ℕ) (h : SaidHead) (ps : List Planes) → IsReadVideoBy most ppm text h ps → IsNamed h.depth h.head
+name_given named most true text h ps v = subst (λ k. IsNamed h.depth k) (sym v.0) v.1.named
+name_given named most false text h ps v = named v.line h.depth h.head v.said
 
 -- what frames say of its pictures
 aspect_by : (a b : Bool) (n d : ℕ) → (n == 0) ≡ a → (d == 0) ≡ b → a ≡ b → n ≤ 65535 → d ≤ 65535 → is_aspect n d ≡ true
@@ -142,23 +142,22 @@ colour_samples depth n p c are =
     let bytes : AreBytes (interleaved depth c.red c.green c.blue) = subst (λ q. AreBytes (samples_text depth q)) c.planes_are are in
     subst AreSamples (sym c.planes_are) (three_samples c.red c.green c.blue (three_by (depth == 8) n c.red c.green c.blue c.red_long c.green_long c.blue_long bytes))
 
-all_colours : (depth w h : ℕ) (ps : List Planes) → AllColours depth (bytes_for depth (w * h)) ps → AreBytes (flat_map (image_text depth w h) ps) → AllFitting (record { head = colour_head w h; depth = depth }) ps
-all_colours depth w h [] colours are = tt
-all_colours depth w h (p ∷ ps) colours are =
-    let one = bytes_front (image_text depth w h p) (flat_map (image_text depth w h) ps) are in
-    let more = bytes_behind (image_text depth w h p) (flat_map (image_text depth w h) ps) are in (
+all_colours : (most depth w h : ℕ) (text : List ℕ) (ps : List Planes) → AllColours depth (bytes_for depth (w * h)) ps → AreSpelled most depth w h text ps → AreBytes text → AllFitting (record { head = colour_head w h; depth = depth }) ps
+all_colours most depth w h text [] colours spelled are = tt
+all_colours most depth w h text (p ∷ ps) colours (header, rest, is, whole, spelled) are =
+    let behind = bytes_behind header (samples_text depth p ++ rest) (subst AreBytes whole are) in (
       record {
         fits = colour_fits depth w h p colours.0.0;
         small = colours.0.1;
-        bytes = colour_samples depth (w * h) p colours.0.0 (bytes_behind (image_header_text depth w h) (samples_text depth p) one);
+        bytes = colour_samples depth (w * h) p colours.0.0 (bytes_front (samples_text depth p) rest behind);
       },
-      all_colours depth w h ps colours.1 more,
+      all_colours most depth w h rest ps colours.1 spelled (bytes_behind (samples_text depth p) rest behind),
     )
 
-pub pictures_given : (ppm : Bool) (text : List ℕ) (h : SaidHead) (ps : List Planes) → IsVideoBy ppm text h ps → AreBytes text → AllFitting h ps
-pictures_given true text h ps v are =
-    subst (λ (k : VideoHead). AllFitting (record { head = k; depth = h.depth }) ps) (sym v.0) (all_colours h.depth h.head.width h.head.height ps v.1.fit (subst AreBytes v.1.whole are))
-pictures_given false text h ps v are =
+pub pictures_given : (most : ℕ) (ppm : Bool) (text : List ℕ) (h : SaidHead) (ps : List Planes) → IsReadVideoBy most ppm text h ps → AreBytes text → AllFitting h ps
+pictures_given most true text h ps v are =
+    subst (λ (k : VideoHead). AllFitting (record { head = k; depth = h.depth }) ps) (sym v.0) (all_colours most h.depth h.head.width h.head.height text ps v.1.fit v.1.spelled are)
+pictures_given most false text h ps v are =
     let whole : AreBytes (v.line ++ 10 ∷ flat_map picture_text ps) = subst AreBytes v.whole are in
     all_fitting h ps v.fit (bytes_behind (10 ∷ []) (flat_map picture_text ps) (bytes_behind v.line (10 ∷ flat_map picture_text ps) whole))
 

@@ -28,7 +28,7 @@ use Rattle.ffv1_engine.specs.Stream.{Frame, IsStream, Stream}
 use Rattle.ffv1_engine.specs.Unpacked.{AllSay, AreAlike, HasText, pictures, text_of, video_of}
 use Rattle.ffv1_engine.specs.VideoReads.{IsHeadBy}
 use Rattle.ffv1_engine.proofs.PackedFrames.{AllCoded}
-use Rattle.ffv1_engine.proofs.RecordShort.{SymbolLaws, record_are_bytes, record_short}
+use Rattle.ffv1_engine.proofs.RecordShort.{HasLowNumbers, NumberLaws, SymbolLaws, low_numbers, record_are_bytes, record_short}
 
 -- what is known of records
 pub record RecordLaws : Type 0 where
@@ -37,6 +37,7 @@ pub record RecordLaws : Type 0 where
   pub table : (c : Configuration) (t u : Table) → IsAccepted c t → IsAccepted c u → t ≡ u
   pub none : (most : ℕ) (bytes : List ℕ) (c : Configuration) (t : Table) (f : RecordFault) → AreBytes bytes → IsAccepted c t → c.depth ≤ most → IsRecord bytes c → IsRefused most bytes c.width c.height f → ⊥
   pub symbols : SymbolLaws
+  pub numbers : NumberLaws
 
 -- its head and its configuration
 abbrev pub stream_for : Choice → Bool → SaidHead → Accepted → Stream
@@ -73,7 +74,7 @@ module _ (profile : Profile) (laws : RecordLaws) (choice : Choice) (ppm : Bool) 
         rate = let few = ratio.first in omega (arith, few);
         scale = let few = ratio.second in omega (arith, few);
         both = ratio.both;
-        short = subst (λ c. 40 + length (record_of c) ≤ limit) (sym for) (record_short laws.symbols choice ppm h);
+        short = subst (λ c. 40 + length (record_of c) ≤ limit) (sym for) (record_short laws.symbols choice ppm h (subst HasLowNumbers for (low_numbers laws.numbers a.configuration a.table accepted)));
         sized = sized_frames a (said_for h) ps coded readable;
         small = small;
       }

@@ -2,7 +2,7 @@
 use Rattle.std.specs.Prelude.{◌≡◌, ℕ, ◌==◌, Bool, true, false, List, [], ◌∷◌, Option, Some, None, Ok, Err, ◌&&◌, ◌<◌, length}
 use Rattle.std.proofs.Common.{arith, refl, sym, ◌∙◌, ap, subst, cond}
 use Rattle.ffv1_codec.specs.Picture.{Planes}
-use Rattle.ffv1_y4m.specs.Images.{IsImages, ReadsFrom, ReadsImages}
+use Rattle.ffv1_y4m.specs.Images.{IsImagesIn, ReadsFrom, ReadsImages}
 use Rattle.ffv1_y4m.specs.Pictures.{bytes_read, frame_begun, frame_line, picture_read, planes_read}
 use Rattle.ffv1_y4m.specs.Ppm.{colours_read, image_begun, image_bytes, image_header, image_read, same_format}
 use Rattle.ffv1_y4m.specs.Sequence.{◌>>=◌, Outcome, Reading, give, refuse, where_begun}
@@ -21,7 +21,7 @@ use Rattle.ffv1_words.specs.declared.order.Choice.{Choice}
 use Rattle.ffv1_engine.specs.Encoding.{AllKnown, EncodesAll}
 use Rattle.ffv1_engine.specs.Pack.{EncodesVideo, EndsVideo}
 use Rattle.ffv1_engine.specs.Packing.{IsFor, frames_for, head_for}
-use Rattle.ffv1_engine.specs.Video.{IsVideoBy, ReadsPictures, ReadsVideo, at_first, is_ppm, picture_next, seen_as, video_head}
+use Rattle.ffv1_engine.specs.Video.{IsReadVideoBy, ReadsPictures, ReadsVideo, at_first, is_ppm, picture_next, seen_as, video_head}
 use Rattle.ffv1_engine.specs.VideoReads.{HeadKnown, HeadRead, IsHeadBy, IsHeadOf, VideoReading}
 use Rattle.ffv1_engine.proofs.PicturesSoFar.{joined}
 use Rattle.ffv1_engine.proofs.VideoEncoded.{next_up_to, reads_up_to, video_of}
@@ -152,16 +152,16 @@ images_read most text h rest kind e =
     (sym (ap (λ b. cond b (seen_as (image_header most text) (λ k. record { head = k.head; depth = k.depth })) (seen_as (header_of most text) (λ k. record { head = k.head; depth = k.depth }))) kind) ∙ e)
 
 module _ (texts_only : (text : List ℕ) (most depth : ℕ) (h : VideoHead) (rest : List ℕ) (pictures : List (List (List ℕ))) → header_of most text ≡ Ok (record { head = h; depth = depth }, rest) → ReadsAll depth h rest pictures → IsText text depth h pictures)
-    (images_only : (text : List ℕ) (most depth : ℕ) (h : VideoHead) (rest : List ℕ) (image : List (List ℕ)) (images : List (List (List ℕ))) → image_header most text ≡ Ok (record { head = h; depth = depth }, rest) → ReadsFrom most (record { head = h; depth = depth }) rest image images → IsImages text depth h.width h.height (image ∷ images)) where
+    (images_only : (text : List ℕ) (most depth : ℕ) (h : VideoHead) (rest : List ℕ) (image : List (List ℕ)) (images : List (List (List ℕ))) → image_header most text ≡ Ok (record { head = h; depth = depth }, rest) → ReadsFrom most (record { head = h; depth = depth }) rest image images → IsImagesIn most text depth h.width h.height (image ∷ images)) where
   by_kind : (ppm : Bool) (most : ℕ) (h : SaidHead) (text behind left rest : List ℕ) (ps : List Planes) → ppm ≡ is_ppm text → video_head most text ≡ Ok (h, behind) → ReadsPictures ppm most h true behind ps left →
-      picture_next ppm most h (at_first ps) left ≡ Ok (None, rest) → 0 < length ps → IsHeadBy ppm h.head → IsVideoBy ppm text h ps
+      picture_next ppm most h (at_first ps) left ≡ Ok (None, rest) → 0 < length ps → IsHeadBy ppm h.head → IsReadVideoBy most ppm text h ps
   by_kind true most h text behind left rest [] kind head reads end some is = absurd (omega (arith, some))
   by_kind true most h text behind left rest (p ∷ ps) kind head reads end some is =
       (is.1, images_only text most h.depth h.head behind p ps (images_read most text h behind (sym kind) head) (all_images most h behind p ps left rest reads end))
   by_kind false most h text behind left rest ps kind head reads end some is =
       texts_only text most h.depth h.head behind ps (text_read most text h behind (sym kind) head) (all_pictures most h true behind ps left rest reads end)
 
-  pub reads_video : (most : ℕ) (old mid new : Option (List ℕ)) (r : VideoReading) (ps : List Planes) → (r.ppm ≡ true → r.most ≡ most) → HeadKnown most old mid r.ppm r.head → IsHeadOf r → AllKnown mid new r ps → 0 < length ps → ReadsVideo old new (video_of r ps)
+  pub reads_video : (most : ℕ) (old mid new : Option (List ℕ)) (r : VideoReading) (ps : List Planes) → (r.ppm ≡ true → r.most ≡ most) → HeadKnown most old mid r.ppm r.head → IsHeadOf r → AllKnown mid new r ps → 0 < length ps → ReadsVideo most old new (video_of r ps)
   reads_video most None mid new r ps later h is k some = tt
   reads_video most (Some text) None new r ps later h is k some = absurd h
   reads_video most (Some text) (Some behind) None r ps later h is k some = k

@@ -101,7 +101,7 @@ divided d planes most e =
     }
 
 -- samples of more than 8 bits that lie below 2 ^ depth
-both : (a b : Bool) → (a && b) ≡ true → (a ≡ true) × (b ≡ true)
+pub both : (a b : Bool) → (a && b) ≡ true → (a ≡ true) × (b ≡ true)
 both true b h = (refl, h)
 both false b h = absurd (cc)
 

@@ -8,7 +8,7 @@ use Rattle.ffv1_wire.specs.Reads.{GivesByte}
 use Rattle.ffv1_y4m.specs.Passage.{known_text}
 use Rattle.ffv1_y4m.specs.Reads.{ReadsAs, Refused, Nowhere, Wants}
 use Rattle.ffv1_y4m.specs.Header.{head_of_line, header_of, line_end, line_read, line_to}
-use Rattle.ffv1_y4m.specs.Ppm.{depth_of_line, image_head, image_header, maximum_read, maximum_room, some_head}
+use Rattle.ffv1_y4m.specs.Ppm.{image_header}
 use Rattle.ffv1_y4m.specs.Sequence.{◌>>=◌, ◌then◌, Outcome, Reading, give, judge, left}
 use Rattle.ffv1_y4m.specs.declared.fault.Fault.{Fault as Y4mFault}
 use Rattle.ffv1_y4m.specs.declared.fault.Fault.TheVariants as fault
@@ -22,22 +22,12 @@ use Rattle.ffv1_engine.specs.VideoReads.{HeadKnown, HeadRefused, LacksKnown}
 fewer : (n c : ℕ) (cs : List ℕ) → 0 < n → length (drop n (c ∷ cs)) ≤ length cs
 fewer n c cs some = let e = length-drop n (c ∷ cs) in omega (arith, e, some)
 
-no_more : (n : ℕ) (text : List ℕ) → length (drop n text) ≤ length text
-no_more n text = let e = length-drop n text in omega (arith, e)
-
 line_to_takes : (most c : ℕ) (cs : List ℕ) (end : Option ℕ) → 0 < most → length (left (line_to most (c ∷ cs) end)) ≤ length cs
 line_to_takes most c cs None some = fewer most c cs some
 line_to_takes most c cs (Some end) some = fewer (end + 1) c cs (omega arith)
 
 line_takes : (most c : ℕ) (cs : List ℕ) → 0 < most → length (left (line_read most (c ∷ cs))) ≤ length cs
 line_takes most c cs some = line_to_takes most c cs (line_end most (c ∷ cs)) some
-
-line_to_keeps : (most : ℕ) (text : List ℕ) (end : Option ℕ) → length (left (line_to most text end)) ≤ length text
-line_to_keeps most text None = no_more most text
-line_to_keeps most text (Some end) = no_more (end + 1) text
-
-line_keeps : (most : ℕ) (text : List ℕ) → length (left (line_read most text)) ≤ length text
-line_keeps most text = line_to_keeps most text (line_end most text)
 
 -- what comes after it gives no byte back
 then_keeps : {X Y : Type 0} (o : Outcome X) (next : X → Reading Y) (n : ℕ) → ((x : X) (text : List ℕ) → length (left (next x text)) ≤ length text) → length (left o) ≤ n → length (left (o >>= λ p. next p.0 p.1)) ≤ n
@@ -48,32 +38,9 @@ judge_keeps : {X : Type 0} (r : Result X Y4mFault) (text : List ℕ) → length 
 judge_keeps (Ok x) text = omega arith
 judge_keeps (Err f) text = omega arith
 
-option_keeps : {X Y : Type 0} (next : Option X → Reading Y) → ((text : List ℕ) → length (left (next None text)) ≤ length text) → ((x : X) (text : List ℕ) → length (left (next (Some x) text)) ≤ length text) →
-    (o : Option X) (text : List ℕ) → length (left (next o text)) ≤ length text
-option_keeps next none some None text = none text
-option_keeps next none some (Some x) text = some x text
-
 header_takes : (most c : ℕ) (cs : List ℕ) → length (left (header_of most (c ∷ cs))) ≤ length cs
 header_takes most c cs =
     then_keeps (line_read 1025 (c ∷ cs)) (λ line. judge (head_of_line most line)) (length cs) (λ line text. judge_keeps (head_of_line most line) text) (line_takes 1025 c cs (omega arith))
-
-maximum_keeps : (most : ℕ) (text : List ℕ) → length (left (maximum_read most text)) ≤ length text
-maximum_keeps most text =
-    then_keeps (line_read (maximum_room most) text) (λ line. give (depth_of_line most line)) (length text) (λ line rest. omega arith) (line_keeps (maximum_room most) text)
-
-last_keeps : (most : ℕ) (magic sizes text : List ℕ) → length (left ((maximum_read most then λ depth. some_head (image_head magic sizes depth)) text)) ≤ length text
-last_keeps most magic sizes text =
-    then_keeps (maximum_read most text) (λ depth. some_head (image_head magic sizes depth)) (length text)
-    (λ depth rest. option_keeps some_head (λ t. omega arith) (λ h t. omega arith) (image_head magic sizes depth) rest) (maximum_keeps most text)
-
-sizes_keep : (most : ℕ) (magic text : List ℕ) → length (left ((line_read 10 then λ sizes. maximum_read most then λ depth. some_head (image_head magic sizes depth)) text)) ≤ length text
-sizes_keep most magic text =
-    then_keeps (line_read 10 text) (λ sizes. maximum_read most then λ depth. some_head (image_head magic sizes depth)) (length text) (λ sizes rest. last_keeps most magic sizes rest) (line_keeps 10 text)
-
-image_takes : (most c : ℕ) (cs : List ℕ) → length (left (image_header most (c ∷ cs))) ≤ length cs
-image_takes most c cs =
-    then_keeps (line_read 3 (c ∷ cs)) (λ magic. line_read 10 then λ sizes. maximum_read most then λ depth. some_head (image_head magic sizes depth)) (length cs) (λ magic rest. sizes_keep most magic rest)
-    (line_takes 3 c cs (omega arith))
 
 left_seen : {X : Type 0} (o : Outcome X) (view : X → SaidHead) → left (seen_as o view) ≡ left o
 left_seen (Ok p) view = refl
@@ -88,16 +55,16 @@ images_read : (most : ℕ) (text : List ℕ) → is_ppm text ≡ true → video_
 images_read most text kind =
     ap (λ b. cond b (seen_as (image_header most text) (λ h. record { head = h.head; depth = h.depth })) (seen_as (header_of most text) (λ h. record { head = h.head; depth = h.depth }))) kind
 
-kind_takes : (most : ℕ) (ppm : Bool) (c : ℕ) (cs : List ℕ) → (c == 80) ≡ ppm → length (left (video_head most (c ∷ cs))) ≤ length cs
-kind_takes most true c cs kind =
+kind_takes : (image_takes : (most : ℕ) → Wants (image_header most) []) (most : ℕ) (ppm : Bool) (c : ℕ) (cs : List ℕ) → (c == 80) ≡ ppm → length (left (video_head most (c ∷ cs))) ≤ length cs
+kind_takes image_takes most true c cs kind =
     let same = ap (λ o. left o) (images_read most (c ∷ cs) kind) ∙ left_seen (image_header most (c ∷ cs)) (λ h. record { head = h.head; depth = h.depth }) in
     subst (λ t. length t ≤ length cs) (sym same) (image_takes most c cs)
-kind_takes most false c cs kind =
+kind_takes image_takes most false c cs kind =
     let same = ap (λ o. left o) (text_read most (c ∷ cs) kind) ∙ left_seen (header_of most (c ∷ cs)) (λ h. record { head = h.head; depth = h.depth }) in
     subst (λ t. length t ≤ length cs) (sym same) (header_takes most c cs)
 
-pub wants_head : (most : ℕ) → Wants (video_head most) []
-wants_head most next behind = kind_takes most (next == 80) next behind refl
+pub wants_head : (image_takes : (most : ℕ) → Wants (image_header most) []) (most : ℕ) → Wants (video_head most) []
+wants_head image_takes most next behind = kind_takes image_takes most (next == 80) next behind refl
 
 -- ---- the first byte of a text
 
@@ -155,25 +122,25 @@ module _ {X : Type 0} (most : ℕ) (ppm : Bool) (reading : Reading X) (view : X 
       let text = c ∷ (cs ++ (next ∷ behind)) in
       subst (λ t. length t ≤ length behind) (sym (ap (λ o. left o) (same text is) ∙ left_seen (reading text) view)) (wants next behind)
 
-  wants_empty : (bytes ys : List ℕ) → [] ≡ bytes ++ ys → Wants (video_head most) bytes
-  wants_empty [] ys e = wants_head most
-  wants_empty (c ∷ cs) ys e = absurd (cc)
+  wants_empty : (takes : (m : ℕ) → Wants (image_header m) []) → (bytes ys : List ℕ) → [] ≡ bytes ++ ys → Wants (video_head most) bytes
+  wants_empty takes [] ys e = wants_head takes most
+  wants_empty takes (c ∷ cs) ys e = absurd (cc)
 
-  wants_after : (b : ℕ) (rest bytes ys : List ℕ) → (b == 80) ≡ ppm → b ∷ rest ≡ bytes ++ ys → Wants reading bytes → Wants (video_head most) bytes
-  wants_after b rest [] ys says e wants = wants_head most
-  wants_after b rest (c ∷ cs) ys says e wants =
+  wants_after : (takes : (m : ℕ) → Wants (image_header m) []) → (b : ℕ) (rest bytes ys : List ℕ) → (b == 80) ≡ ppm → b ∷ rest ≡ bytes ++ ys → Wants reading bytes → Wants (video_head most) bytes
+  wants_after takes b rest [] ys says e wants = wants_head takes most
+  wants_after takes b rest (c ∷ cs) ys says e wants =
       let first : b ≡ c = cc in
       kind_wants c cs (subst (λ x. (x == 80) ≡ ppm) first says) wants
 
-  wants_whole : (old mid new : Option (List ℕ)) (first : Option ℕ) → GivesByte old mid first → FirstSays ppm first →
+  wants_whole : (takes : (m : ℕ) → Wants (image_header m) []) → (old mid new : Option (List ℕ)) (first : Option ℕ) → GivesByte old mid first → FirstSays ppm first →
       ((bytes : List ℕ) × Consumes (known_text first mid) new bytes × Wants reading bytes) → (bytes : List ℕ) × Consumes old new bytes × Wants (video_head most) bytes
-  wants_whole None mid new first h says t = ([], tt, wants_head most)
-  wants_whole (Some text) None new None h says t = absurd h.0
-  wants_whole (Some text) (Some rest) None None h says (bytes, taken, wants) = absurd taken
-  wants_whole (Some text) (Some rest) (Some ys) None h says (bytes, taken, wants) = (bytes, sym h.0 ∙ taken, wants_empty bytes ys (sym h.1 ∙ taken))
-  wants_whole (Some text) None new (Some b) h says t = absurd h
-  wants_whole (Some text) (Some rest) None (Some b) h says (bytes, taken, wants) = absurd taken
-  wants_whole (Some text) (Some rest) (Some ys) (Some b) h says (bytes, taken, wants) = (bytes, h ∙ taken, wants_after b rest bytes ys says taken wants)
+  wants_whole takes None mid new first h says t = ([], tt, wants_head takes most)
+  wants_whole takes (Some text) None new None h says t = absurd h.0
+  wants_whole takes (Some text) (Some rest) None None h says (bytes, taken, wants) = absurd taken
+  wants_whole takes (Some text) (Some rest) (Some ys) None h says (bytes, taken, wants) = (bytes, sym h.0 ∙ taken, wants_empty takes bytes ys (sym h.1 ∙ taken))
+  wants_whole takes (Some text) None new (Some b) h says t = absurd h
+  wants_whole takes (Some text) (Some rest) None (Some b) h says (bytes, taken, wants) = absurd taken
+  wants_whole takes (Some text) (Some rest) (Some ys) (Some b) h says (bytes, taken, wants) = (bytes, h ∙ taken, wants_after takes b rest bytes ys says taken wants)
 
   lacks_by : (text : List ℕ) (new : Option (List ℕ)) (f : Y4mFault) → is_ppm text ≡ ppm → ReadsAs reading (Some text) new (Err f) → LacksKnown most (Some text) new (of_y4m f)
   lacks_by text None f is r = r
@@ -183,36 +150,36 @@ module _ {X : Type 0} (most : ℕ) (ppm : Bool) (reading : Reading X) (view : X 
   lacks None mid new first f h says r = tt
   lacks (Some text) mid new first f h says r = lacks_by text new f (kind_of ppm (Some text) mid text first refl h says) (subst (λ z. ReadsAs reading z new (Err f)) (whole_text (Some text) mid text first refl h) r)
 
-  refused : (old mid new : Option (List ℕ)) (before after : ℕ) (first : Option ℕ) (f : Y4mFault) → GivesByte old mid first → FirstSays ppm first
+  refused : (takes : (m : ℕ) → Wants (image_header m) []) → (old mid new : Option (List ℕ)) (before after : ℕ) (first : Option ℕ) (f : Y4mFault) → GivesByte old mid first → FirstSays ppm first
       → Refused reading Nowhere (record { old = known_text first mid; new = new; before = before; after = after }) f
       → HeadRefused most (record { old = old; new = new; before = before; after = after }) (of_y4m f)
-  refused old mid new before after first fault.OutOfMemory h says r = absurd r.1.2
-  refused old mid new before after first fault.Read h says r = (r.0, wants_whole old mid new first h says r.1)
-  refused old mid new before after first fault.Write h says r = absurd r
-  refused old mid new before after first fault.Header h says r = (r.0, lacks old mid new first _ h says r.1)
-  refused old mid new before after first fault.Tag h says r = (r.0, lacks old mid new first _ h says r.1)
-  refused old mid new before after first fault.Unsupported h says r = (r.0, lacks old mid new first _ h says r.1)
-  refused old mid new before after first fault.FrameLine h says r = (r.0, lacks old mid new first _ h says r.1)
-  refused old mid new before after first fault.FrameTruncated h says r = (r.0, lacks old mid new first _ h says r.1)
-  refused old mid new before after first fault.SampleTooLarge h says r = (r.0, lacks old mid new first _ h says r.1)
-  refused old mid new before after first fault.FormatChanged h says r = (r.0, lacks old mid new first _ h says r.1)
+  refused takes old mid new before after first fault.OutOfMemory h says r = absurd r.1.2
+  refused takes old mid new before after first fault.Read h says r = (r.0, wants_whole takes old mid new first h says r.1)
+  refused takes old mid new before after first fault.Write h says r = absurd r
+  refused takes old mid new before after first fault.Header h says r = (r.0, lacks old mid new first _ h says r.1)
+  refused takes old mid new before after first fault.Tag h says r = (r.0, lacks old mid new first _ h says r.1)
+  refused takes old mid new before after first fault.Unsupported h says r = (r.0, lacks old mid new first _ h says r.1)
+  refused takes old mid new before after first fault.FrameLine h says r = (r.0, lacks old mid new first _ h says r.1)
+  refused takes old mid new before after first fault.FrameTruncated h says r = (r.0, lacks old mid new first _ h says r.1)
+  refused takes old mid new before after first fault.SampleTooLarge h says r = (r.0, lacks old mid new first _ h says r.1)
+  refused takes old mid new before after first fault.FormatChanged h says r = (r.0, lacks old mid new first _ h says r.1)
 
 -- of YUV4MPEG2
 pub header_known : (most : ℕ) (old mid new : Option (List ℕ)) (first : Option ℕ) (h : VideoHead) (depth : ℕ) → GivesByte old mid first → FirstSays false first →
     ReadsAs (header_of most) (known_text first mid) new (Ok (record { head = h; depth = depth })) → HeadKnown most old new false (record { head = h; depth = depth })
 header_known most old mid new first h depth gives says r = known most false (header_of most) (λ k. record { head = k.head; depth = k.depth }) (text_read most) old mid new first _ gives says r
 
-pub header_refused : (most : ℕ) (old mid new : Option (List ℕ)) (before after : ℕ) (first : Option ℕ) (f : Y4mFault) → GivesByte old mid first → FirstSays false first
+pub header_refused : (takes : (m : ℕ) → Wants (image_header m) []) (most : ℕ) (old mid new : Option (List ℕ)) (before after : ℕ) (first : Option ℕ) (f : Y4mFault) → GivesByte old mid first → FirstSays false first
     → Refused (header_of most) Nowhere (record { old = known_text first mid; new = new; before = before; after = after }) f
     → HeadRefused most (record { old = old; new = new; before = before; after = after }) (of_y4m f)
-header_refused most = refused most false (header_of most) (λ k. record { head = k.head; depth = k.depth }) (text_read most)
+header_refused takes most = refused most false (header_of most) (λ k. record { head = k.head; depth = k.depth }) (text_read most) takes
 
 -- of PPM
 pub image_known : (most : ℕ) (old mid new : Option (List ℕ)) (first : Option ℕ) (h : VideoHead) (depth : ℕ) → GivesByte old mid first → FirstSays true first →
     ReadsAs (image_header most) (known_text first mid) new (Ok (record { head = h; depth = depth })) → HeadKnown most old new true (record { head = h; depth = depth })
 image_known most old mid new first h depth gives says r = known most true (image_header most) (λ k. record { head = k.head; depth = k.depth }) (images_read most) old mid new first _ gives says r
 
-pub image_refused : (most : ℕ) (old mid new : Option (List ℕ)) (before after : ℕ) (first : Option ℕ) (f : Y4mFault) → GivesByte old mid first → FirstSays true first
+pub image_refused : (takes : (m : ℕ) → Wants (image_header m) []) (most : ℕ) (old mid new : Option (List ℕ)) (before after : ℕ) (first : Option ℕ) (f : Y4mFault) → GivesByte old mid first → FirstSays true first
     → Refused (image_header most) Nowhere (record { old = known_text first mid; new = new; before = before; after = after }) f
     → HeadRefused most (record { old = old; new = new; before = before; after = after }) (of_y4m f)
-image_refused most = refused most true (image_header most) (λ k. record { head = k.head; depth = k.depth }) (images_read most)
+image_refused takes most = refused most true (image_header most) (λ k. record { head = k.head; depth = k.depth }) (images_read most) takes

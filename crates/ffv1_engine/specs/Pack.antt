@@ -42,7 +42,7 @@ pub record Packs (most : ℕ) (choice : Choice) (input output : Passage) (packed
     : Type 0 where
   pub video : Video
   pub accepted : Accepted
-  pub reads : ReadsVideo input.old input.new video
+  pub reads : ReadsVideo most input.old input.new video
   pub packable : IsPackable most choice video accepted
   pub writes : Appends output.old output.new (packed_file choice video accepted)
   pub frames : packed.frames ≡ length video.pictures
@@ -54,7 +54,7 @@ pub record Packs (most : ℕ) (choice : Choice) (input output : Passage) (packed
 pub record PacksBeginning (most : ℕ) (choice : Choice) (input output : Passage) : Type 0 where
   pub video : Video
   pub accepted : Accepted
-  pub reads : ReadsVideo input.old input.new video
+  pub reads : ReadsVideo most input.old input.new video
   pub packable : IsPackable most choice video accepted
   pub writes : AppendsBeginning output.old output.new (packed_file choice video accepted)
 
@@ -161,7 +161,7 @@ pub record EncodesVideo (most : ℕ) (choice : Choice) (p : Passage) (head : Hea
     (frames : List (List ℕ)) : Type 0 where
   pub video : Video
   pub accepted : Accepted
-  pub reads : ReadsVideo p.old p.new video
+  pub reads : ReadsVideo most p.old p.new video
   pub ends : EndsVideo most p.old p.new video
   pub deep : video.head.depth ≤ most
   pub for : IsFor choice video.ppm video.head accepted

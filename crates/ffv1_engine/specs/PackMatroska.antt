@@ -86,7 +86,7 @@ pub record PacksMatroska (most : ℕ) (choice : Choice) (input output : Passage)
   pub video : Video
   pub accepted : Accepted
   pub deep : video.head.depth ≤ most
-  pub reads : ReadsVideo input.old input.new video
+  pub reads : ReadsVideo most input.old input.new video
   pub some : 0 < length video.pictures
   pub has : HasClusters choice video accepted
   pub writes : Appends output.old output.new (whole_file packed.finished choice video accepted)
@@ -136,8 +136,8 @@ EndsClusters most choice v a left rest f =
     ⊎ ((picture_next v.ppm most v.head (at_first v.pictures) left ≡ Ok (None, rest))
     × (v.pictures ≡ []) × (f ≡ fault.NoFrames))
 
--- the Clusters of a video were written, and of the text, where it is known, this video was read, and
--- then so much as this says
+-- the Clusters of a video were written, and of the text, where it is known, this video was read,
+-- and then so much as this says
 pub record PacksSome (most : ℕ) (Next : Video → Accepted → List ℕ → List ℕ → Type 0)
     (choice : Choice) (input output : Passage) : Type 0 where
   pub video : Video
@@ -184,10 +184,10 @@ pub record ClusterFails (most : ℕ) (choice : Choice) (input output : Passage) 
 
 -- a write after all Clusters failed: of Cues a beginning was written; or the whole open file was,
 -- and over its own opening a beginning of the finished one
-pub record FinishFails (choice : Choice) (input output : Passage) : Type 0 where
+pub record FinishFails (most : ℕ) (choice : Choice) (input output : Passage) : Type 0 where
   pub video : Video
   pub accepted : Accepted
-  pub reads : ReadsVideo input.old input.new video
+  pub reads : ReadsVideo most input.old input.new video
   pub some : 0 < length video.pictures
   pub has : HasClusters choice video accepted
   pub writes :
@@ -210,7 +210,7 @@ StandsAfterHead most old new = Known old new (λ text rest.
 abbrev pub RefusesMatroskaBy : ℕ → Cause → Choice → Passage → Passage → Fault → Type 0
 RefusesMatroskaBy most Writing choice input output f =
     (output.after ≡ one_more output.before) × (input.after ≡ input.before)
-    × (ClusterFails most choice input output ⊎ FinishFails choice input output)
+    × (ClusterFails most choice input output ⊎ FinishFails most choice input output)
 RefusesMatroskaBy most Reading choice input output f =
     (output.after ≡ output.before) × (input.after ≡ one_more input.before)
     × ((Keeps output.old output.new × Known input.old input.new (Taken (Wants (video_head most))))

@@ -2,7 +2,7 @@
 use Rattle.std.specs.Prelude.{◌≡◌, ℕ, ◌==◌, Bool, true, false, if◌then◌else◌, List, [], ◌∷◌, Option}
 use Rattle.std.specs.Prelude.{Some, Ok, Err}
 use Rattle.ffv1_y4m.specs.Header.{header_of}
-use Rattle.ffv1_y4m.specs.Images.{IsImages}
+use Rattle.ffv1_y4m.specs.Images.{IsImages, IsImagesIn}
 use Rattle.ffv1_y4m.specs.Pictures.{picture_read}
 use Rattle.ffv1_y4m.specs.Ppm.{image_header, image_read}
 use Rattle.ffv1_y4m.specs.Sequence.{Outcome, Reading}
@@ -37,6 +37,17 @@ IsVideoBy false text h pictures = IsText text h.depth h.head pictures
 
 abbrev pub IsVideo : List ℕ → Video → Type 0
 IsVideo text v = IsVideoBy v.ppm text v.head v.pictures
+
+-- the same, as it is read where depths up to `most` are: above 8 with headers of PPM as Netpbm
+-- writes them
+abbrev pub IsReadVideoBy : ℕ → Bool → List ℕ → SaidHead → List Planes → Type 0
+IsReadVideoBy most true text h pictures =
+    (h.head ≡ colour_head h.head.width h.head.height)
+    × IsImagesIn most text h.depth h.head.width h.head.height pictures
+IsReadVideoBy most false text h pictures = IsText text h.depth h.head pictures
+
+abbrev pub IsReadVideo : ℕ → List ℕ → Video → Type 0
+IsReadVideo most text v = IsReadVideoBy most v.ppm text v.head v.pictures
 
 -- what was read, seen so
 abbrev pub seen_as : {X Y : Type 0} → Outcome X → (X → Y) → Outcome Y
@@ -76,6 +87,6 @@ pub record Begins (most : ℕ) (text : List ℕ) (v : Video) (left : List ℕ) :
   pub head : video_head most text ≡ Ok (v.head, behind)
   pub pictures : ReadsPictures v.ppm most v.head true behind v.pictures left
 
--- where the text is known, all of it was read, and it is this video
-abbrev pub ReadsVideo : Option (List ℕ) → Option (List ℕ) → Video → Type 0
-ReadsVideo old new v = Known old new (λ text rest. IsVideo text v × (rest ≡ []))
+-- where the text is known, all of it was read, with depths up to `most`, and it is this video
+abbrev pub ReadsVideo : ℕ → Option (List ℕ) → Option (List ℕ) → Video → Type 0
+ReadsVideo most old new v = Known old new (λ text rest. IsReadVideo most text v × (rest ≡ []))

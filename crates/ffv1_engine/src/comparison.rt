@@ -114,7 +114,8 @@ fn decode_rows<A: Allocator + Copy>(
     Ok(true)
 }
 
-/// Whether the code of a mono plane decodes to the plane's samples: it does, if memory serves.
+/// Whether the code of a mono plane decodes to the plane's samples. It does where memory is not
+/// refused.
 pub(crate) fn decodes_to<A: Allocator + Copy>(
     alloc: A,
     code: &[u8],

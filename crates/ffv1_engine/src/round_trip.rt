@@ -13,7 +13,7 @@ ghost use Rattle.ffv1_engine.specs.Show.{ShowStops};
 ghost use Rattle.ffv1_record.specs.Accepted.{Accepted};
 ghost use Rattle.ffv1_files.specs.Files.{file_read};
 ghost use Rattle.ffv1_files.specs.declared.container.Scope.TheVariants.{Whole};
-ghost use Rattle.ffv1_engine.specs.declared.profile.Profile.TheVariants.{Wide};
+ghost use Rattle.ffv1_engine.specs.declared.profile.Profile.TheVariants.{Strict, Wide};
 ghost use Rattle.ffv1_engine.specs.MatroskaRoundTrip.{HoldsMatroska, WasPackedMatroska};
 ghost use Rattle.ffv1_engine.specs.MatroskaRoundTrip.{matroska_file, matroska_video};
 ghost use Rattle.ffv1_engine.specs.PackMatroska.{HasClusters, begun_file};
@@ -22,7 +22,8 @@ ghost use Rattle.ffv1_engine.specs.RoundTrip.{IsReadIn};
 ghost use Rattle.ffv1_engine.specs.RoundTrip.{Holds, IsNoContent, IsUnpacked, WasPacked};
 ghost use Rattle.ffv1_engine.specs.RoundTrip.{canonical_of, file_in, video_in};
 ghost use Rattle.ffv1_engine.specs.Unpack.{UnpackDone, UnpackStops};
-ghost use Rattle.ffv1_engine.specs.Video.{IsVideo, Video};
+ghost use Rattle.ffv1_engine.specs.Profiles.{greatest_depth};
+ghost use Rattle.ffv1_engine.specs.Video.{IsReadVideo, IsVideo, Video};
 
 use ffv1_avi::laws::written_is_read as avi_is_written;
 use ffv1_codec::answer_laws::one_picture;
@@ -31,10 +32,10 @@ use ffv1_codec::laws::{encoded_frame, frame_lengths};
 use ffv1_files::laws::{file_is_read, frames_in_turn, written_is_read};
 use ffv1_matroska::laws::read_is_file;
 use ffv1_matroska::written_laws::written_is_read as matroska_is_written;
-use ffv1_range::laws::{counts, lengths, sentinel_ending};
+use ffv1_range::laws::{counts, exponents, lengths, sentinel_ending};
 use ffv1_record::laws::{accepted, one_configuration, one_refusal, written_is_record};
 use ffv1_slice::laws::cutting;
-use ffv1_y4m::laws::{said_depths, said_heads, texts};
+use ffv1_y4m::laws::{images, said_depths, said_heads, texts};
 
 /// The rate and the scale that a command line names are such as a file has: `words` makes no choice
 /// for which `packed_is_unpacked` would not speak of PPM.
@@ -46,9 +47,10 @@ pub fn named_rate()
 /// A text that `pack` has packed, no frame of it longer than 67108864 bytes, is unpacked again. Its
 /// file holds a stream of frames that code its pictures. Where `unpack` is Ok on that file, at
 /// either profile that reads samples of its depth, it has read all of it and written the canonical
-/// text of the video: a text of the same video, and for PPM the very text that was packed. Where
-/// `unpack`, `check` or `show` is refused on it, at such a profile, that is for `OutOfMemory` (2),
-/// `Read` (56) or `Write` (57), and for no fault of the file.
+/// text of the video: a text of the same video, and for PPM whose headers are three lines each, as
+/// they are at `Strict`, the very text that was packed. Where `unpack`, `check` or `show` is
+/// refused on it, at such a profile, that is for `OutOfMemory` (2), `Read` (56) or `Write` (57),
+/// and for no fault of the file.
 ///
 /// The profile that a text was packed in reads its depth, `Wide` reads that of each text that was
 /// packed, and `Strict` those of 8 bits.
@@ -84,8 +86,13 @@ pub fn packed_is_unpacked()
     ensures same { (packing : Profile) (choice : Choice) (text : List ℕ)
         (w : WasPacked packing choice text) →
         IsVideo (canonical_of (video_in w)) (video_in w) }
-    ensures ppm { (packing : Profile) (choice : Choice) (text : List ℕ)
+    ensures packed { (packing : Profile) (choice : Choice) (text : List ℕ)
         (w : WasPacked packing choice text) →
+        IsReadVideo (greatest_depth packing) text (video_in w) }
+    ensures strict { (choice : Choice) (text : List ℕ) (w : WasPacked Strict choice text) →
+        IsVideo text (video_in w) }
+    ensures ppm { (packing : Profile) (choice : Choice) (text : List ℕ)
+        (w : WasPacked packing choice text) → IsVideo text (video_in w) →
         (video_in w).ppm ≡ true → canonical_of (video_in w) ≡ text }
     ensures matroska_holds { (packing : Profile) (choice : Choice) (text : List ℕ)
         (w : WasPackedMatroska packing choice text) →
@@ -110,8 +117,13 @@ pub fn packed_is_unpacked()
     ensures matroska_same { (packing : Profile) (choice : Choice) (text : List ℕ)
         (w : WasPackedMatroska packing choice text) →
         IsVideo (canonical_of (matroska_video w)) (matroska_video w) }
-    ensures matroska_ppm { (packing : Profile) (choice : Choice) (text : List ℕ)
+    ensures matroska_packed { (packing : Profile) (choice : Choice) (text : List ℕ)
         (w : WasPackedMatroska packing choice text) →
+        IsReadVideo (greatest_depth packing) text (matroska_video w) }
+    ensures matroska_strict { (choice : Choice) (text : List ℕ)
+        (w : WasPackedMatroska Strict choice text) → IsVideo text (matroska_video w) }
+    ensures matroska_ppm { (packing : Profile) (choice : Choice) (text : List ℕ)
+        (w : WasPackedMatroska packing choice text) → IsVideo text (matroska_video w) →
         (matroska_video w).ppm ≡ true → canonical_of (matroska_video w) ≡ text }
     ensures begun { (choice : Choice) (v : Video) (a : Accepted) → HasClusters choice v a →
         0 < length v.pictures →
@@ -123,9 +135,11 @@ pub fn packed_is_unpacked()
     counts();
     cutting();
     encoded_frame();
+    exponents();
     file_is_read();
     frame_lengths();
     frames_in_turn();
+    images();
     is_decoded();
     lengths();
     one_configuration();

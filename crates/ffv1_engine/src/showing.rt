@@ -1,4 +1,4 @@
-//! What a file says is told, and what its frames cost.
+//! Prints what a file says, and what its frames cost.
 
 ghost use Rattle.std.specs.Prelude.{◌≡◌, ◌⊎◌, IfErr, List, None, OnOk, false, true};
 ghost use Rattle.ffv1_wire.specs.Passage.{passage};
@@ -91,8 +91,8 @@ fn tell_costs<R: ByteIn, W: ByteOut, A: Allocator + Copy>(
 /// The line `extra 1` is there where there is a plane of transparency, the line `depth` where a
 /// sample has more than 8 bits, and the line `segment` of Matroska: it has the bytes of the
 /// Segment, or says that their number is not known, so that the file may be cut where a Cluster
-/// ends. What is held is told as `Checked::held` says it. Which stream of the file is told, and
-/// where its record ends, is by the profile. A file without frames is none the worse. With `cost`
+/// ends. The decoder holds what `Checked::held` says. Which stream of the file counts, and
+/// where its record ends, is by the profile. A file without frames is no fault. With `cost`
 /// all frames that the profile reads are then decoded, and a line of each is written as soon as it
 /// is decoded:
 ///
@@ -101,8 +101,8 @@ fn tell_costs<R: ByteIn, W: ByteOut, A: Allocator + Copy>(
 /// ```
 ///
 /// Frames are counted from 0; a count of 64 bits stays at its greatest value. Without `cost`
-/// nothing after the header of the first `movi`, or of the first Cluster, is read, and no decoder is
-/// made; with it, beside what the decoder holds, one payload and one line are held.
+/// nothing after the header of the first `movi`, or of the first Cluster, is read, and no decoder
+/// is made; with it, beside what the decoder holds, one payload and one line are held.
 ///
 /// The faults are those of the file up to its first frame (`NotAvi`, `NoFfv1`, `Truncated`,
 /// `ChunkTooLong`) and of its record, with nothing written; with `cost` then those of the chunks of

@@ -17,6 +17,7 @@ ghost use Rattle.ffv1_engine.specs.VideoReads.{NextRefused, VideoReading, readin
 use crate::fault::Fault;
 use crate::profile::Profile;
 use ffv1_wire::{ByteIn, read_byte};
+use ffv1_y4m::laws::image_headers;
 use ffv1_y4m::{PpmReader, VideoHead, Y4mReader};
 use std::alloc::{Allocator, Global};
 
@@ -48,7 +49,8 @@ fn open_text<R: ByteIn, A: Allocator + Copy>(
     }
 }
 
-/// Reads the header of the first image of a PPM, of a depth that the profile reads.
+/// Reads the header of the first image of a PPM, of a depth that the profile reads: three lines, or
+/// at `Wide` as Netpbm writes it.
 fn open_images<R: ByteIn, A: Allocator + Copy>(
     alloc: A,
     profile: Profile,
@@ -84,6 +86,7 @@ impl<A: Allocator + Copy> VideoReader<A> {
             (passage R.remaining R.failures input.old input.new)) }
         ensures own { IfErr result (λ f. is_pack_fault f ≡ true) }
     {
+        image_headers();
         let Ok(first) = read_byte(input) else {
             return Err(Fault::Read);
         };

@@ -1,14 +1,10 @@
 -- How many decisions residuals take.
 use Rattle.std.proofs.Common.{◌≡◌, refl, ℕ, ◌+◌, ◌-◌, ◌*◌, ◌^◌, ◌<◌, ◌≤◌, List, [], ◌∷◌, ◌++◌, length, arith, ◌∙◌, zero, suc, length-append, ℤ, pos, negsuc, unsigned_abs, true, false, ◌-ℤ◌, ◌≤ℤ◌, ◌<ℤ◌, inl, inr}
-use Rattle.std.specs.Int.{w32, leading_zeros}
-use Rattle.std.proofs.lemmas.Nat.{leading_top}
-use Rattle.std.specs.Int.Count.{leading_of_zero}
-use Rattle.std.proofs.lemmas.Bool.{cases_lt}
-use Rattle.std.proofs.Math.Pow.{pow_mono}
 use Rattle.std.proofs.lemmas.Int.{ints}
 use Rattle.ffv1_range.specs.Symbols.{signed_steps, exponent}
 use Rattle.ffv1_range.specs.History.{AreBelow}
 use Rattle.ffv1_range.proofs.Counting.{length-shifted, sized_length}
+use Rattle.ffv1_range.proofs.Prefix.{exponent_of}
 use Rattle.ffv1_range.proofs.Windows.{AreBelow-append}
 use Rattle.ffv1_plane.specs.declared.prediction.Around.{Around}
 use Rattle.ffv1_plane.specs.Quantisation.{Set, contexts_of}
@@ -21,37 +17,20 @@ use Rattle.ffv1_line.specs.Length.{binary_digits, decisions_of, row_decisions, c
 use Rattle.ffv1_line.proofs.Joined.{row_below}
 use Rattle.ffv1_line.proofs.Rows.{length-chosen}
 
-digits_of_some : (n : ℕ) → 0 < n → n < 2 ^ 31 → 2 * exponent n + 3 ≡ 2 * binary_digits n + 1
-digits_of_some n some small =
-    let wide : n < 2 ^ 32 = omega (arith, small) in
-    let top = leading_top 32 n some wide in
-    let most : leading_zeros w32 n + suc top.0 ≡ 32 = top.1 in
-    omega (arith, most)
-
-pub no_digits : leading_zeros w32 0 ≡ 32
-no_digits = leading_of_zero 32
+digits_of_some : (n : ℕ) → 2 * exponent (suc n) + 3 ≡ 2 * binary_digits (suc n) + 1
+digits_of_some n = omega arith
 
 -- the decisions of a symbol
 pub symbol_length : (v : ℤ) → unsigned_abs v < 2 ^ 31 → length (signed_steps v) ≡ decisions_of v
 unfolding decisions_of
-symbol_length (pos zero) small = omega (arith, no_digits)
-symbol_length (pos (suc n)) small = sized_length (suc n) false ∙ digits_of_some (suc n) (omega arith) small
-symbol_length (negsuc n) small = sized_length (suc n) true ∙ digits_of_some (suc n) (omega arith) small
+symbol_length (pos zero) small = omega arith
+symbol_length (pos (suc n)) small = sized_length (suc n) false ∙ digits_of_some n
+symbol_length (negsuc n) small = sized_length (suc n) true ∙ digits_of_some n
 
 -- below 2 ^ 31 the highest digit stands below place 31
-digits_top : (n j : ℕ) → leading_zeros w32 n + suc j ≡ 32 → n < 2 ^ 31 → 2 ^ j ≤ n → j < 31
-digits_top n j most small top =
-    elim (cases_lt j 31) [
-      | inl below ↦ below
-      | inr above ↦ let more : 2 ^ 31 ≤ 2 ^ j = pow_mono {i = 31} {j = j} above in absurd (omega (arith, more, small, top))
-    ]
-
 digits_most : (n : ℕ) → n < 2 ^ 31 → binary_digits n ≤ 31
-digits_most zero small = omega (arith, no_digits)
-digits_most (suc n) small =
-    let top = leading_top 32 (suc n) (omega arith) (omega (arith, small)) in
-    let most : leading_zeros w32 (suc n) + suc top.0 ≡ 32 = top.1 in
-    omega (arith, most, digits_top (suc n) top.0 most small top.2)
+digits_most zero small = omega arith
+digits_most (suc n) small = let is = exponent_of (suc n) (omega arith) small in omega (arith, is.small)
 
 -- at most 63
 pub symbol_most : (v : ℤ) → unsigned_abs v < 2 ^ 31 → decisions_of v ≤ 63

@@ -1,16 +1,16 @@
 -- How many decisions a row takes at most.
 use Rattle.std.proofs.Common.{◌≡◌, refl, ℕ, zero, suc, ◌+◌, ◌-◌, ◌*◌, ◌^◌, ◌<◌, ◌≤◌, List, [], ◌∷◌, ◌++◌, length, arith, sym, subst, ◌∙◌, length-append, ℤ, pos, negsuc, unsigned_abs, ◌-ℤ◌, ◌≤ℤ◌, ◌<ℤ◌, inl, inr}
 use Rattle.std.proofs.lemmas.Bool.{cases_lt}
-use Rattle.std.proofs.lemmas.Nat.{leading_top, pow_pos}
+use Rattle.std.proofs.lemmas.Nat.{pow_pos}
 use Rattle.std.proofs.lemmas.Int.{ints}
 use Rattle.std.proofs.Math.Pow.{pow_mono}
 use Rattle.std.proofs.Math.Nat.{pow-succ'}
-use Rattle.std.specs.Int.{w32, leading_zeros}
 use Rattle.ffv1_range.specs.Table.{Table}
 use Rattle.ffv1_range.specs.Reading.{Reading}
 use Rattle.ffv1_range.specs.Writing.{Writing}
-use Rattle.ffv1_range.specs.Symbols.{too_long, raising}
+use Rattle.ffv1_range.specs.Symbols.{exponent, too_long, raising}
 use Rattle.ffv1_range.proofs.Counting.{length-shifted}
+use Rattle.ffv1_range.proofs.Exponents.{exponent_place}
 use Rattle.ffv1_plane.specs.Prediction.{predicted_in}
 use Rattle.ffv1_plane.specs.Quantisation.{Set}
 use Rattle.ffv1_plane.specs.Context.{size_of, flip_of}
@@ -20,7 +20,7 @@ use Rattle.ffv1_line.specs.Row.{row_steps, refused_steps, chosen_at, chosen_row}
 use Rattle.ffv1_line.specs.Decoded.{Lined, Refused}
 use Rattle.ffv1_line.specs.Encoded.{Written}
 use Rattle.ffv1_line.specs.Length.{binary_digits, decisions_of, row_decisions, AreSmall, CountedAtMost}
-use Rattle.ffv1_line.proofs.Lengths.{row_length, row_most, no_digits, chosen_row_small}
+use Rattle.ffv1_line.proofs.Lengths.{row_length, row_most, chosen_row_small}
 use Rattle.ffv1_line.proofs.ThreeRows.{three, above_three, shows_three, suiting_small, lined_suits, lined_follows, refused_suits, refused_follows}
 
 -- the digits of a number, by its highest
@@ -30,28 +30,27 @@ record Highest (n : ℕ) : Type 0 where
   pub least : 2 ^ place ≤ n
   pub most : n < 2 ^ suc place
 
-highest : (n : ℕ) → 0 < n → n < 2 ^ 32 → Highest n
-highest n some small =
-    let top = leading_top 32 n some small in
-    let place : leading_zeros w32 n + suc top.0 ≡ 32 = top.1 in
-    record { place = top.0; digits = omega (arith, place); least = top.2; most = top.3 }
+highest : (n : ℕ) → 0 < n → Highest n
+highest zero some = absurd (omega arith)
+highest (suc n) some =
+    let place = exponent_place (suc n) some in
+    record { place = exponent (suc n); digits = omega arith; least = place.0; most = place.1 }
 
-pub digits_least : (n : ℕ) → 0 < n → n < 2 ^ 32 → 2 ^ (binary_digits n - 1) ≤ n
-digits_least n some small =
-    let h = highest n some small in
+pub digits_least : (n : ℕ) → 0 < n → 2 ^ (binary_digits n - 1) ≤ n
+digits_least n some =
+    let h = highest n some in
     let one_less : h.place ≡ binary_digits n - 1 = omega (arith, h.digits) in
     subst (λ k. 2 ^ k ≤ n) one_less h.least
 
-pub digits_below : (n : ℕ) → n < 2 ^ 32 → n < 2 ^ binary_digits n
-digits_below zero small = pow_pos (binary_digits 0)
-digits_below (suc n) small = let h = highest (suc n) (omega arith) small in subst (λ k. suc n < 2 ^ k) (sym h.digits) h.most
+pub digits_below : (n : ℕ) → n < 2 ^ binary_digits n
+digits_below zero = pow_pos (binary_digits 0)
+digits_below (suc n) = let h = highest (suc n) (omega arith) in subst (λ k. suc n < 2 ^ k) (sym h.digits) h.most
 
 -- a number up to 2 ^ m has m + 1 digits at most
-digits_few : (n m : ℕ) → n ≤ 2 ^ m → m < 31 → binary_digits n ≤ suc m
-digits_few zero m small few = omega (arith, no_digits)
-digits_few (suc n) m small few =
-    let less : 2 ^ m ≤ 2 ^ 30 = pow_mono {i = m} {j = 30} (omega (arith, few)) in
-    let h = highest (suc n) (omega arith) (omega (arith, less, small)) in
+digits_few : (n m : ℕ) → n ≤ 2 ^ m → binary_digits n ≤ suc m
+digits_few zero m small = omega arith
+digits_few (suc n) m small =
+    let h = highest (suc n) (omega arith) in
     elim (cases_lt h.place (suc m)) [
       | inl below ↦ omega (arith, h.digits, below)
       | inr above ↦
@@ -65,25 +64,25 @@ within : (q : ℤ) (half : ℕ) → (pos 0 -ℤ pos half) ≤ℤ q → q <ℤ po
 within (pos n) half least most = omega (arith, ints, most)
 within (negsuc n) half least most = omega (arith, ints, least)
 
-chosen_few : (set : Set) (bits m : ℕ) (c : Cell) (y x : ℕ) → bits ≡ suc m → m < 31 → decisions_of (chosen_at set bits c y x) ≤ 2 * bits + 1
+chosen_few : (set : Set) (bits m : ℕ) (c : Cell) (y x : ℕ) → bits ≡ suc m → decisions_of (chosen_at set bits c y x) ≤ 2 * bits + 1
 unfolding decisions_of
-chosen_few set bits m c y x is few =
+chosen_few set bits m c y x is =
     let folded = chosen_folded bits (predicted_in bits (around c x y)) (flip_of set (around c x y)) (seen c (suc (suc x)) (suc (suc y))) (omega (arith, is)) in
     let less : bits - 1 ≡ m = omega (arith, is) in
     let size : unsigned_abs (chosen_at set bits c y x) ≤ 2 ^ (bits - 1) = within (chosen_at set bits c y x) (2 ^ (bits - 1)) folded.least folded.most in
-    let digits = digits_few (unsigned_abs (chosen_at set bits c y x)) m (subst (λ k. unsigned_abs (chosen_at set bits c y x) ≤ 2 ^ k) less size) few in
+    let digits = digits_few (unsigned_abs (chosen_at set bits c y x)) m (subst (λ k. unsigned_abs (chosen_at set bits c y x) ≤ 2 ^ k) less size) in
     omega (arith, digits, is)
 
 decisions-append : (qs : List ℤ) (q : ℤ) → row_decisions (qs ++ (q ∷ [])) ≡ row_decisions qs + decisions_of q
 decisions-append [] q = omega arith
 decisions-append (p ∷ qs) q = let rest = decisions-append qs q in omega (arith, rest)
 
-chosen_row_few : (set : Set) (bits m : ℕ) (c : Cell) (y n : ℕ) → bits ≡ suc m → m < 31 → row_decisions (chosen_row set bits c y n) ≤ (2 * bits + 1) * n
+chosen_row_few : (set : Set) (bits m : ℕ) (c : Cell) (y n : ℕ) → bits ≡ suc m → row_decisions (chosen_row set bits c y n) ≤ (2 * bits + 1) * n
 unfolding chosen_row
-chosen_row_few set bits m c y zero is few = omega arith
-chosen_row_few set bits m c y (suc n) is few =
-    let rest = chosen_row_few set bits m c y n is few in
-    let last = chosen_few set bits m c y n is few in
+chosen_row_few set bits m c y zero is = omega arith
+chosen_row_few set bits m c y (suc n) is =
+    let rest = chosen_row_few set bits m c y n is in
+    let last = chosen_few set bits m c y n is in
     let all = decisions-append (chosen_row set bits c y n) (chosen_at set bits c y n) in
     omega (arith, rest, last, all)
 
@@ -128,5 +127,5 @@ written_most t set bits old states new after two one cur n m is few inside w =
     let power : 2 ^ m ≤ 2 ^ 30 = pow_mono {i = m} {j = 30} (omega (arith, few)) in
     let half : 2 ^ (bits - 1) < 2 ^ 31 = subst (λ k. 2 ^ k < 2 ^ 31) (sym less) (omega (arith, power)) in
     let long = row_length set c 2 0 (chosen_row set bits c 2 n) (chosen_row_small set bits c 2 n (omega (arith, is)) half) in
-    let most = chosen_row_few set bits m c 2 n is few in
+    let most = chosen_row_few set bits m c 2 n is in
     record { count = length (row_steps set c 2 0 (chosen_row set bits c 2 n)); few = omega (arith, long, most); goes_on = puts.counts.of_all }

@@ -1,12 +1,14 @@
 -- How many decisions residuals take.
-use Rattle.std.specs.Prelude.{ℕ, ◌+◌, ◌-◌, ◌*◌, ◌^◌, ◌<◌, ◌≤◌, List, [], ◌∷◌, length, ℤ}
+use Rattle.std.specs.Prelude.{ℕ, ◌+◌, ◌*◌, ◌^◌, ◌<◌, ◌≤◌, List, [], ◌∷◌, length, ℤ}
 use Rattle.std.specs.Prelude.{unsigned_abs}
-use Rattle.std.specs.Int.{w32, leading_zeros}
+use Rattle.std.proofs.Common.{zero, suc}
 use Rattle.ffv1_range.specs.Counts.{Counts, GoesOn, total}
+use Rattle.ffv1_range.specs.Symbols.{exponent}
 
--- how many binary digits a number below 2 ^ 32 has: none for 0
+-- how many binary digits a number has: none for 0
 abbrev pub binary_digits : ℕ → ℕ
-binary_digits n = 32 - leading_zeros w32 n
+binary_digits zero = 0
+binary_digits (suc n) = exponent (suc n) + 1
 
 -- the decisions of a residual of n binary digits: 2 n + 1 (RFC 9043, 3.8.1.2)
 unfoldable pub decisions_of : ℤ → ℕ

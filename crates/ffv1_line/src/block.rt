@@ -22,7 +22,7 @@ use std::simd::prelude::*;
 /// How many places of a row are coded at once.
 pub(crate) const PLACES: usize = 64;
 
-/// How many numbers their decisions take at most, 19 a place, with room for a row of the table of
+/// How many numbers their decisions take at most, 19 a sample, with room for a row of the table of
 /// symbols after them.
 pub(crate) const LIST: usize = 1240;
 
@@ -34,7 +34,7 @@ pub(crate) struct Block {
     pub(crate) list: [u32; LIST],
 }
 
-/// The sample before a place of a row.
+/// The sample to the left in a row.
 #[inline(always)]
 pub(crate) fn sample_before(above: &[u16], row: &[u16], x: usize) -> u16
     requires above { 0 < length above.now }
@@ -47,7 +47,7 @@ pub(crate) fn sample_before(above: &[u16], row: &[u16], x: usize) -> u16
     row[x - 1]
 }
 
-/// The sample two before a place of a row.
+/// The second sample to the left in a row.
 #[inline(always)]
 pub(crate) fn sample_two_before(above: &[u16], row: &[u16], x: usize) -> u16
     requires above { 0 < length above.now }
@@ -117,8 +117,8 @@ fn prepare_places<A: Allocator>(block: &mut Block, part: &Part<'_, A>, start: us
     }
 }
 
-/// The neighbours of 16 places of a row from `x` on, which all stand in the rows, and the samples of
-/// these places.
+/// The neighbours of 16 places of a row from `x` on, which all stand in the rows, and the samples
+/// of these places.
 #[inline(always)]
 fn around_lanes(two: &[u16], one: &[u16], cur: &[u16], x: usize) -> (AroundLanes, u16x16)
     requires inside { 2 ≤ x }

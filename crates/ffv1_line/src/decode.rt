@@ -10,8 +10,10 @@ mod deep;
 mod even;
 mod flat;
 pub(crate) mod places;
+mod plain;
 mod row;
 mod sample;
+mod wide;
 
 use crate::above::Above;
 use crate::coding::Coding;
@@ -20,6 +22,7 @@ use crate::decode::row::decode_row;
 use crate::fault::TooLong;
 use ffv1_range::RangeDecoder;
 use std::alloc::Allocator;
+pub use wide::decode_wide;
 
 /// Decodes one row of one cell of a plane: each sample from its prediction and the residual that
 /// its symbol codes (RFC 9043, 3.1 to 3.8).

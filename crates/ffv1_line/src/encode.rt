@@ -11,6 +11,8 @@ ghost use Rattle.ffv1_line.specs.Internal.Parts.{IsPart, IsBlockOf, part_steps};
 ghost use Rattle.ffv1_line.specs.Encoded.{Written, MayBeRefusedRow};
 
 mod deep;
+mod plain;
+mod wide;
 
 use crate::above::Above;
 use crate::block::{Block, LIST, PLACES, list_places, prepare};
@@ -19,6 +21,7 @@ use crate::encode::deep::encode_deep;
 use crate::part::Part;
 use ffv1_range::{Fault, RangeEncoder, StateTable};
 use std::alloc::Allocator;
+pub use wide::encode_wide;
 
 /// In a block of fewer nonzero residuals the symbols are written one by one.
 const CALM: u16 = 8;
@@ -73,7 +76,7 @@ fn put_residual<A: Allocator>(
     Ok(())
 }
 
-/// The same, in a place where nearly all residuals are 0.
+/// The same, where nearly all residuals are 0.
 #[inline(always)]
 fn put_calm<A: Allocator>(
     encoder: &mut RangeEncoder<A>,
@@ -162,7 +165,8 @@ fn encode_block<A: Allocator, B: Allocator>(
 }
 
 /// A row of a cell of 8 or 9 bits, by an encoder that has not failed, by a body of its own for each
-/// depth and each kind of set. `NEAR` may be said of a set whose fourth and fifth tables have one level.
+/// depth and each kind of set. `NEAR` may be said of a set whose fourth and fifth tables have one
+/// level.
 #[inline(never)]
 fn encode_row<A: Allocator, B: Allocator, const BITS: u8, const NEAR: bool>(
     encoder: &mut RangeEncoder<A>,

@@ -2,7 +2,7 @@
 
 use thiserror::Error;
 
-/// The symbol at a place has an exponent that is too long: its 31st exponent decision is 1.
+/// The symbol of a sample has an exponent that is too long: its 31st exponent decision is 1.
 #[derive(Clone, Copy, Debug, PartialEq, Eq, Error)]
 #[error("4 SymbolTooLong")]
 pub struct TooLong {

@@ -275,8 +275,8 @@ pub fn most_decisions()
 
 /// A number has d binary digits where it is at least 2^(d-1) and below 2^d, and 0 has none.
 pub fn digits()
-    ensures least { (n : ℕ) → 0 < n → n < 2 ^ 32 → 2 ^ (binary_digits n - 1) ≤ n }
-    ensures most { (n : ℕ) → n < 2 ^ 32 → n < 2 ^ binary_digits n }
+    ensures least { (n : ℕ) → 0 < n → 2 ^ (binary_digits n - 1) ≤ n }
+    ensures most { (n : ℕ) → n < 2 ^ binary_digits n }
     ensures none { binary_digits 0 ≡ 0 }
 {}
 

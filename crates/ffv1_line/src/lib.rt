@@ -15,6 +15,10 @@
 //! let bytes = encoder.finish_sentinel()?;
 //! ```
 //!
+//! Samples of 17 bits lie in lines of 32 bits: `encode_wide` and `decode_wide` are the same calls
+//! for these, by a `WideCoding` and a `WideAbove`. Both kinds of lines have one plain body
+//! (`Word`).
+//!
 //! What each call says is by the coordinates of the standard, for every cell of which these are
 //! rows; `laws` has what follows: bytes code one row at most, and what was written comes back.
 #![tactic(auto)]
@@ -30,11 +34,16 @@ mod neighbours;
 mod part;
 pub mod rolling;
 pub mod states;
+mod way;
+pub mod wide;
+pub mod word;
 
 pub use above::Above;
 pub use coding::Coding;
-pub use decode::decode_line;
-pub use encode::encode_line;
+pub use decode::{decode_line, decode_wide};
+pub use encode::{encode_line, encode_wide};
 pub use fault::TooLong;
 pub use rolling::RollingRows;
 pub use states::reset;
+pub use wide::{WideAbove, WideCoding};
+pub use word::Word;

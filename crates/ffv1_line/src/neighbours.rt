@@ -1,13 +1,14 @@
-//! The neighbours of a place in a row, and their context.
+//! The neighbours of a sample in a row, and their context.
 
 ghost use Rattle.std.specs.Prelude.{◌≡◌, ◌+◌, ◌≤◌, ◌<◌, IsTrue, length, min, slice_index};
 ghost use Rattle.ffv1_plane.specs.Quantisation.{IsNear, contexts_of};
 ghost use Rattle.ffv1_plane.specs.Context.{size_of, flip_of};
 
+use crate::word::Word;
 use ffv1_plane::{Around, QuantSet, context, context_near};
 use std::alloc::Allocator;
 
-/// The sample to the right above a place, whose sample above is `t`: after the end of a row stands
+/// The sample to the right above, where the sample above is `t`: after the end of a row stands
 /// its last sample (RFC 9043, 3.1).
 #[inline(always)]
 pub(crate) fn right_above(one: &[u16], x: usize, last: usize, t: u16) -> u16
@@ -22,7 +23,21 @@ pub(crate) fn right_above(one: &[u16], x: usize, last: usize, t: u16) -> u16
     one[x + 1]
 }
 
-/// The context of a place. `near` may be said of a set whose fourth and fifth tables have one
+/// The same in a line of any words.
+#[inline(always)]
+pub(crate) fn word_right_above<W: Word>(one: &[W], x: usize, last: usize, t: u32) -> u32
+    requires inside { x ≤ last }
+    requires last { last + 1 ≡ length one.now }
+    requires above { t ≡ slice_index (W.samples one.now) x }
+    ensures { result ≡ slice_index (W.samples one.now) (min (x + 1) last) }
+{
+    if x == last {
+        return t;
+    }
+    W::read(one, x + 1)
+}
+
+/// The context of a sample. `near` may be said of a set whose fourth and fifth tables have one
 /// level: then these are not looked up.
 #[inline(always)]
 pub(crate) fn context_by<A: Allocator>(

@@ -118,8 +118,8 @@ pub(crate) fn is_sound(place: Place) -> bool
     place.cluster > 0 || place.group > 0 || place.sum.is_met()
 }
 
-/// A step to a place, where a Cluster that has nothing left is judged. `Checksum` where its CRC-32
-/// is not the sum.
+/// A step to the next place, where a Cluster that has nothing left is judged. `Checksum` where its
+/// CRC-32 is not the sum.
 pub(crate) fn closed(place: Place) -> Result<Option<Step>, FileFault>
     ensures { result ≡ (if is_sound place then Ok (Some (step_to place)) else Err fault.Checksum) }
 {

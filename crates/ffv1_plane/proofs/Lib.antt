@@ -10,5 +10,6 @@ pub mod Remainders
 pub mod Scales
 pub mod Signed
 pub mod Sums
+pub mod WideWords
 pub mod Words
 pub mod Flat

@@ -1,7 +1,6 @@
 -- The prediction by signed numbers.
 use Rattle.std.proofs.Common.{◌≡◌, refl, sym, ◌∙◌, ℕ, ◌+◌, ◌%◌, ◌<◌, arith, ℤ, pos, ◌+ℤ◌, ◌-ℤ◌}
 use Rattle.std.proofs.lemmas.Int.{ints, int_min_is, int_max_is}
-use Rattle.std.proofs.lemmas.Bool.{cases_lt}
 use Rattle.std.specs.Int.{int_min, int_max}
 use Rattle.ffv1_plane.specs.Prediction.{median, signed}
 
@@ -16,13 +15,13 @@ min_raised x y k = omega (arith, ints, int_min_is)
 max_raised : (x y : ℤ) (k : ℕ) → int_max (x -ℤ pos k) (y -ℤ pos k) ≡ int_max x y -ℤ pos k
 max_raised x y k = omega (arith, ints, int_max_is)
 
-median_raised : (x y z : ℤ) (k : ℕ) → median (x -ℤ pos k) (y -ℤ pos k) (z -ℤ pos k) ≡ median x y z -ℤ pos k
+pub median_raised : (x y z : ℤ) (k : ℕ) → median (x -ℤ pos k) (y -ℤ pos k) (z -ℤ pos k) ≡ median x y z -ℤ pos k
 median_raised x y z k = rw (min_raised x y k, max_raised x y k, min_raised (int_max x y) z k, max_raised (int_min x y) (int_min (int_max x y) z) k) refl
 
-sum_raised : (x y z : ℤ) (a b d k : ℕ) → x ≡ pos a -ℤ pos k → y ≡ pos b -ℤ pos k → z ≡ pos d -ℤ pos k → x +ℤ y -ℤ z ≡ pos (a + b) -ℤ pos d -ℤ pos k
+pub sum_raised : (x y z : ℤ) (a b d k : ℕ) → x ≡ pos a -ℤ pos k → y ≡ pos b -ℤ pos k → z ≡ pos d -ℤ pos k → x +ℤ y -ℤ z ≡ pos (a + b) -ℤ pos d -ℤ pos k
 sum_raised x y z a b d k ix iy iz = omega (arith, ints)
 
-same_median : (x y z x' y' z' : ℤ) → x ≡ x' → y ≡ y' → z ≡ z' → median x y z ≡ median x' y' z'
+pub same_median : (x y z x' y' z' : ℤ) → x ≡ x' → y ≡ y' → z ≡ z' → median x y z ≡ median x' y' z'
 same_median x y z x' y' z' p q r = rw (p, q, r) refl
 
 pub predicted_raised : (l t tl a b d : ℕ) → l < 65536 → t < 65536 → tl < 65536 → a ≡ (l + 32768) % 65536 → b ≡ (t + 32768) % 65536 → d ≡ (tl + 32768) % 65536 →

@@ -18,7 +18,7 @@ factored bits few =
 pub rem_of_word : (bits : ℕ) (x y : ℤ) → bits ≤ 32 → IsCongruent 4294967296 x y → int_rem_euclid x (pos (2 ^ bits)) ≡ int_rem_euclid y (pos (2 ^ bits))
 rem_of_word bits x y few is = rem-congruent (2 ^ bits) x y (pow_pos bits) (congruent_factor 4294967296 (2 ^ bits) (2 ^ (32 - bits)) x y (factored bits few) is)
 
-of_z_below : (p : ℤ) → SFits w32 p → of_z w32 p < 4294967296
+pub of_z_below : (p : ℤ) → SFits w32 p → of_z w32 p < 4294967296
 of_z_below (pos a) fits = omega arith
 of_z_below (negsuc a) fits = omega arith
 
@@ -45,9 +45,9 @@ wrapped_difference p q fits fits' =
     let three = second.same in
     record { down = whole.down + all / 4294967296 + first.up + second.down; up = whole.up + first.down + second.up + 1; same = omega (arith, ints) }
 
-mask_is : (bits : ℕ) → bits ≤ 16 → 1 * 2 ^ bits % 4294967296 ≡ 2 ^ bits
+pub mask_is : (bits : ℕ) → bits ≤ 17 → 1 * 2 ^ bits % 4294967296 ≡ 2 ^ bits
 mask_is bits few =
-    let most = pow_mono {i = bits} {j = 16} few in
+    let most = pow_mono {i = bits} {j = 17} few in
     omega (arith, most)
 
 -- the lowest bits of a word
@@ -55,13 +55,13 @@ pub masked : (bits : ℕ) (p : ℤ) (u : ℕ) → bits ≤ 16 → SFits w32 p �
 masked bits p u few fits is =
     let near = unsigned_near p fits in
     let whole : pos (of_z w32 p) +ℤ pos (0 * 2 ^ bits) ≡ pos (of_z w32 p) = omega (arith, ints) in
-    rw (mask_is bits few, is) (ap pos (and_mask (of_z w32 p) bits)
+    rw (mask_is bits (omega arith), is) (ap pos (and_mask (of_z w32 p) bits)
     ∙ sym (int_rem_euclid_is (pos (of_z w32 p)) (pos (2 ^ bits)) (2 ^ bits) 0 (of_z w32 p) (pow_pos bits) refl whole)
     ∙ sym (rem_of_word bits p (pos (of_z w32 p)) (omega arith) near))
 
-half_is : (bits : ℕ) → bits ≤ 16 → 1 * 2 ^ (bits - 1) % 4294967296 ≡ 2 ^ (bits - 1)
+pub half_is : (bits : ℕ) → bits ≤ 17 → 1 * 2 ^ (bits - 1) % 4294967296 ≡ 2 ^ (bits - 1)
 half_is bits few =
-    let most = pow_mono {i = bits - 1} {j = 15} (omega arith) in
+    let most = pow_mono {i = bits - 1} {j = 16} (omega arith) in
     omega (arith, most)
 
 wrapped_onto : (p : ℤ) (k : ℕ) → SFits w32 p → IsCongruent 4294967296 (to_z w32 ((of_z w32 p + k) % 4294967296)) (p +ℤ pos k)
@@ -84,7 +84,7 @@ pub folded_word : (bits n : ℕ) (d : ℤ) → 0 < bits → bits ≤ 16 → SFit
 folded_word bits n d some few fits small is =
     let most = pow_mono {i = bits} {j = 16} few in
     let most' = pow_mono {i = bits - 1} {j = 15} (omega arith) in
-    let half = half_is bits few in
+    let half = half_is bits (omega arith) in
     let sum = rw half at is ∙ rem_of_word bits _ (d +ℤ pos (2 ^ (bits - 1))) (omega arith) (wrapped_onto d (2 ^ (bits - 1)) fits) in
     rw half (less_half n (2 ^ (bits - 1)) (omega (arith, small, most)) (omega (arith, most')) ∙ ap (λ v. v -ℤ pos (2 ^ (bits - 1))) sum)
 

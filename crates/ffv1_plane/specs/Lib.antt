@@ -5,3 +5,4 @@ pub mod Prediction
 pub mod Quantisation
 pub mod Raised
 pub mod Residual
+pub mod Wide

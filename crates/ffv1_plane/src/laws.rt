@@ -29,7 +29,7 @@ pub fn bounded()
     ensures { (set : Set) → IsSet set → (a : Around) → size_of set a < contexts_of set }
 {}
 
-/// In a set whose fourth and fifth tables have one level, the context of a place is 0 where the
+/// In a set whose fourth and fifth tables have one level, the context of a sample is 0 where the
 /// samples to the left, above, and above to the left and right are one.
 pub fn flat()
     ensures { (set : Set) → IsSet set → IsNear set → (a : Around) → a.t ≡ a.l → a.tl ≡ a.l →

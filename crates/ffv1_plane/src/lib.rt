@@ -2,7 +2,7 @@
 //! Prediction, contexts and folded sample differences of FFV1 (RFC 9043, 3.3 to 3.5, 3.8 and 4.1).
 //!
 //! A `QuantSet` is a quantisation table set, made by its runs (`QuantSet::from_runs`) or one of two
-//! of this codec's own (`QuantSet::small`, `QuantSet::large`). Of the samples around a place
+//! of this codec's own (`QuantSet::small`, `QuantSet::large`). Of the samples around one sample
 //! (`Around`), `predict` makes the prediction and `context` the number of the context and whether
 //! the sign is flipped. `residual_of` makes the residual that an encoder takes, and `sample_from`
 //! the sample again; `fold` and `unfold` are the same without the flip.
@@ -16,6 +16,9 @@
 //! Samples of more than 9 bits have `predict_in`, since 16 bits are predicted by signed numbers,
 //! `deep_residual` and `deep_sample`.
 //!
+//! Samples of up to 17 bits lie in a `WideAround`: `wide_residual` and `wide_sample` have the
+//! prediction in themselves, and `low_around` gives what has the context of the place.
+//!
 //! The test `plane::example` runs these lines. `laws` has what follows from the definitions.
 #![tactic(auto)]
 
@@ -28,6 +31,7 @@ pub mod prediction;
 pub mod quantisation;
 pub mod residual;
 mod table;
+pub mod wide;
 
 pub use deep::{deep_residual, deep_sample};
 pub use early::{BLOCK, Early, sample_signed};
@@ -36,3 +40,4 @@ pub use lanes::{AroundLanes, choose_lanes};
 pub use prediction::{Around, predict, predict_in, predict_late, predict_signed};
 pub use quantisation::{QuantSet, SetLanes, context, context_near, early_sum, late_context};
 pub use residual::{fold, residual_of, sample_from, unfold};
+pub use wide::{WideAround, low_around, wide_residual, wide_sample};

@@ -1,11 +1,11 @@
-//! The samples around a place, and the prediction from them.
+//! The samples around a sample, and the prediction from them.
 
 ghost use Rattle.std.specs.Prelude.{◌≡◌, ◌≤◌, min, max};
 ghost use Rattle.ffv1_plane.specs.declared.prediction.Around.{Around};
 ghost use Rattle.ffv1_plane.specs.Prediction.{predicted, predicted_signed, predicted_in};
 
-/// The samples around a place, as RFC 9043, 3.1 and 3.2 names them: left, top, top left, top right,
-/// two to the left and two above.
+/// The samples around a sample, as RFC 9043, 3.1 and 3.2 names them: left, top, top left, top
+/// right, two to the left and two above.
 #[derive(Clone, Copy, Debug, PartialEq, Eq)]
 pub struct Around {
     /// To the left.
@@ -22,7 +22,7 @@ pub struct Around {
     pub tt: u16,
 }
 
-/// The prediction of a place: the median of `l`, `t` and `l + t - tl` (RFC 9043, 3.3), from 0 to
+/// The prediction of a sample: the median of `l`, `t` and `l + t - tl` (RFC 9043, 3.3), from 0 to
 /// 65535.
 #[inline(always)]
 pub fn predict(around: &Around) -> i32
@@ -33,8 +33,8 @@ pub fn predict(around: &Around) -> i32
     (most - (around.tl.max(least).min(most) - least)) as i32
 }
 
-/// The same by the lesser and the greater one of the samples above and above to the left: the sample
-/// to the left, brought between them, is left out of the sum of those to the left and above.
+/// The same by the lesser and the greater one of the samples above and above to the left: the
+/// sample to the left, brought between them, is left out of the sum of those to the left and above.
 #[inline(always)]
 pub fn predict_late(l: u16, t: u16, least: u16, most: u16) -> i32
     requires { least ≤ t }
@@ -44,9 +44,9 @@ pub fn predict_late(l: u16, t: u16, least: u16, most: u16) -> i32
     (u32::from(l) + u32::from(t) - u32::from(l.max(least).min(most))) as i32
 }
 
-/// The prediction of a place among samples of 16 bits, which are read as signed numbers: the median
-/// of `l`, `t` and `l + t - tl` where a sample from 32768 on stands for itself less 65536 (RFC
-/// 9043, 3.3), from -32768 to 32767.
+/// The prediction of a sample among samples of 16 bits, which are read as signed numbers: the
+/// median of `l`, `t` and `l + t - tl` where a sample from 32768 on stands for itself less 65536
+/// (RFC 9043, 3.3), from -32768 to 32767.
 #[inline(always)]
 pub fn predict_signed(around: &Around) -> i32
     ensures { result ≡ predicted_signed around.now }
@@ -60,7 +60,7 @@ pub fn predict_signed(around: &Around) -> i32
     predict(&raised) - 32768
 }
 
-/// The prediction of a place among samples of `bits` bits (RFC 9043, 3.3): at 16 bits that of
+/// The prediction of a sample among samples of `bits` bits (RFC 9043, 3.3): at 16 bits that of
 /// `predict_signed`, else that of `predict`.
 #[inline(always)]
 pub fn predict_in(around: &Around, bits: u8) -> i32

@@ -269,8 +269,8 @@ impl<A: Allocator> QuantSet<A> {
         }
     }
 
-    /// The early parts of the sums of 16 places, as of `early_sum`, by the set's lanes. `near` may be
-    /// said of a set whose fourth and fifth tables have one level.
+    /// The early parts of the sums of 16 places, as of `early_sum`, by the set's lanes. `near` may
+    /// be said of a set whose fourth and fifth tables have one level.
     #[inline(always)]
     pub(crate) fn early_lanes(
         &self,
@@ -299,8 +299,8 @@ impl<A: Allocator> QuantSet<A> {
         sum + self.fifth.raised_lanes(&lanes.fifth, tt, t)
     }
 
-    /// The sums of the look-ups of 16 places, each raised by the sum of the greatest entries, by the
-    /// set's lanes. `near` may be said of a set whose fourth and fifth tables have one level.
+    /// The sums of the look-ups of 16 places, each raised by the sum of the greatest entries, by
+    /// the set's lanes. `near` may be said of a set whose fourth and fifth tables have one level.
     #[inline(always)]
     pub(crate) fn sum_lanes(&self, lanes: &SetLanes, around: &AroundLanes, near: bool) -> u16x16
         requires few { HasFewLevels self.now }
@@ -352,7 +352,7 @@ fn unraised(sum: u32, half: u32) -> (u32, bool)
     }
 }
 
-/// The context of a place (RFC 9043, 3.5): its number, which is the size of the sum of the five
+/// The context of a sample (RFC 9043, 3.5): its number, which is the size of the sum of the five
 /// look-ups, each by the low eight bits of a difference, and whether the sum is negative, so that
 /// the sign of the sample difference is flipped. The number is below `set.contexts()`.
 #[inline(always)]
@@ -387,8 +387,8 @@ const RAISE: u32 = 32768;
 
 /// The early part of the sum that makes a context, which the rows above decide: the entries of the
 /// second, the third and the fifth table, each raised by its table's greatest, and how far the sum
-/// of all five tables' greatest lies below 32768. `near` may be said of a set whose fourth and fifth
-/// tables have one level: then the fifth is not looked up.
+/// of all five tables' greatest lies below 32768. `near` may be said of a set whose fourth and
+/// fifth tables have one level: then the fifth is not looked up.
 #[inline(always)]
 pub fn early_sum<A: Allocator>(
     set: &QuantSet<A>,
@@ -408,7 +408,7 @@ pub fn early_sum<A: Allocator>(
     (sum + set.fifth.raised(tt, t)) as u16
 }
 
-/// The context of a place (RFC 9043, 3.5) by the early part of its sum and the samples that the
+/// The context of a sample (RFC 9043, 3.5) by the early part of its sum and the samples that the
 /// rest takes, as with `context`. `near` may be said of a set whose fourth and fifth tables have
 /// one level: then the fourth is not looked up.
 #[inline(always)]

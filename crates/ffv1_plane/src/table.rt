@@ -11,8 +11,8 @@ use std::alloc::{AllocError, Allocator};
 use std::marker::Model;
 use std::simd::prelude::*;
 
-/// Of a table, in 16 lanes each: the last places of the first five levels of its lower half, 255 for
-/// those that it has not, and its greatest level.
+/// Of a table, in 16 lanes each: the last places of the first five levels of its lower half, 255
+/// for those that it has not, and its greatest level.
 // Lanes from the first on: a loop over places would else spread each number anew.
 #[derive(Clone, Copy)]
 pub struct Steps {
@@ -26,7 +26,7 @@ pub struct Steps {
 
 /// What the entries of 16 places take of a table, in 16 lanes each: where its levels end, and its
 /// scale.
-// A copy that is no one else's: a loop that stores samples reads it from the table but once.
+// A copy of its own: a loop that stores samples reads it from the table but once.
 #[derive(Clone, Copy)]
 pub struct TableLanes {
     pub(crate) steps: Steps,
@@ -231,7 +231,7 @@ fn size_lanes(places: u8x16) -> u8x16
     places.simd_min(places.wrapping_neg())
 }
 
-/// 1 for each of 16 sizes above a place, which all lanes of `places` have, and else 0.
+/// 1 for each of 16 sizes above a sample, which all lanes of `places` have, and else 0.
 #[inline(always)]
 fn over_lanes(sizes: u8x16, places: u8x16) -> u8x16
     ensures { (xs : List ℕ) (f : ℕ → ℕ) (place : ℕ) → length xs ≡ 16 → sizes ≡ map f xs →
@@ -243,8 +243,8 @@ fn over_lanes(sizes: u8x16, places: u8x16) -> u8x16
         .select(u8x16::splat(0), u8x16::splat(1))
 }
 
-/// The levels of 16 places of a table, raised by the greatest, which all lanes of `most` have: added
-/// in the lower half, else taken away.
+/// The levels of 16 places of a table, raised by the greatest, which all lanes of `most` have:
+/// added in the lower half, else taken away.
 #[inline(always)]
 fn lift_lanes(places: u8x16, levels: u8x16, most: u8x16) -> u8x16
     ensures { (xs : List ℕ) (f g : ℕ → ℕ) (top : ℕ) → length xs ≡ 16 → places ≡ map f xs →

@@ -7,6 +7,7 @@ pub mod EndingCodes
 pub mod DecoderParts
 pub mod Counting
 pub mod Steps
+pub mod Exponents
 pub mod Mantissa
 pub mod Signed
 pub mod SetBits

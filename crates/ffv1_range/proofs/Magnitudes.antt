@@ -11,7 +11,7 @@ use Rattle.ffv1_range.specs.Among.{AreNonzeros, sums_among, sums_refused}
 use Rattle.ffv1_range.specs.declared.tally.Nonzeros.{Nonzeros}
 use Rattle.ffv1_range.specs.Internal.Registers.{Reads}
 use Rattle.ffv1_range.proofs.Counting.{too_long_ones, too_long_length}
-use Rattle.ffv1_range.proofs.Signed.{exponent_is}
+use Rattle.ffv1_range.proofs.Exponents.{exponent_is}
 use Rattle.ffv1_range.proofs.Steps.{reads_append, reads_summed_by, raising-zero, raising-add-one}
 
 raising_one : raising 1 ≡ record { slot = 1; bit = true } ∷ []
@@ -44,7 +44,7 @@ pub symbol_reads : (t : Table) (a b c d : Reading) (ss ts us vs : List ℕ) (e n
     Reads t a ss b ts (record { slot = 0; bit = false } ∷ []) → Reads t b ts c us (exponent_steps e ++ mantissa_steps e 0 n) →
     Reads t c us d vs (record { slot = 11 + min e 10; bit = negative } ∷ []) → Reads t a ss d vs (sized_steps n negative)
 symbol_reads t a b c d ss ts us vs e n negative small least most first second third =
-    let is = exponent_is e n small least most in
+    let is = exponent_is e n least most in
     rw is (reads_append t a c d ss us vs _ _
     (subst (Reads t a ss c us) (sym (append_assoc (record { slot = 0; bit = false } ∷ []) (exponent_steps e) (mantissa_steps e 0 n))) (reads_append t a b c ss ts us _ _ first second)) third)
 

@@ -1,11 +1,10 @@
 -- The bits of a number, one after another.
 use Rattle.std.proofs.Common.{◌≡◌, refl, ℕ, suc, ◌+◌, ◌-◌, ◌*◌, ◌/◌, ◌%◌, ◌^◌, ◌<◌, ◌≤◌, Bool, true, false, inl, inr, [], ◌∷◌, ◌++◌, ◌==◌, ap, ◌∙◌, min, arith}
-use Rattle.std.proofs.lemmas.Nat.{pow_below, shr-shr, leading_top}
+use Rattle.std.proofs.lemmas.Nat.{pow_below, shr-shr}
 use Rattle.std.proofs.lemmas.Bool.{cases_eq}
 use mir.Val.{bool_byte}
-use Rattle.std.specs.Int.{w32, leading_zeros}
 use Rattle.ffv1_range.specs.Weight.{one_if}
-use Rattle.ffv1_range.specs.Symbols.{exponent, mantissa_steps}
+use Rattle.ffv1_range.specs.Symbols.{mantissa_steps}
 
 -- one bit more fits
 pub next_fits : (exponent place number : ℕ) → exponent < 31 → 0 < place → place ≤ exponent → number < 2 * 2 ^ (exponent - place) → number * 2 + 1 < 2 ^ 32
@@ -51,12 +50,3 @@ bit_is false = refl
 pub one_if_most : (b : Bool) → one_if b ≤ 1
 one_if_most true = omega arith
 one_if_most false = omega arith
-
--- the exponent of a number is the place of its highest bit
-pub exponent_place : (n : ℕ) → 0 < n → n < 2 ^ 32 → (2 ^ exponent n ≤ n) × (n < 2 ^ (exponent n + 1))
-exponent_place n some wide =
-    let top = leading_top 32 n some wide in
-    let zeros : leading_zeros w32 n + suc top.0 ≡ 32 = top.1 in
-    let is : exponent n ≡ top.0 = omega (arith, zeros) in
-    let next : exponent n + 1 ≡ suc top.0 = omega (arith, is) in
-    (rw is top.2, rw next top.3)

@@ -1,11 +1,12 @@
 -- No symbol begins another one.
-use Rattle.std.proofs.Common.{◌≡◌, refl, ℕ, zero, suc, ◌+◌, ◌/◌, ◌%◌, ◌^◌, ◌<◌, ◌==◌, Bool, true, false, List, [], ◌∷◌, ◌++◌, min, arith, ap, sym, ◌∙◌, zero-add, append_assoc, append-nil, pos, negsuc, ℤ, pow_mono, inl, inr}
+use Rattle.std.proofs.Common.{◌≡◌, refl, ℕ, zero, suc, ◌+◌, ◌/◌, ◌%◌, ◌^◌, ◌<◌, ◌≤◌, ◌==◌, Bool, true, false, List, [], ◌∷◌, ◌++◌, min, arith, ap, sym, ◌∙◌, zero-add, append_assoc, append-nil, pos, negsuc, ℤ, pow_mono, inl, inr}
 use Rattle.std.proofs.lemmas.Bool.Decides.{nat_tests}
-use Rattle.std.proofs.lemmas.Nat.{shr-shr, leading_top, pow_pos, le-div, div_below}
+use Rattle.std.proofs.lemmas.Nat.{shr-shr, pow_pos, le-div, div_below}
 use Rattle.std.proofs.lemmas.Bool.{cases_lt}
 use Rattle.std.proofs.Math.Nat.{pow-succ'}
 use Rattle.std.proofs.Math.IntN.{nat_abs}
 use Rattle.ffv1_range.specs.Symbols.{Step, raising, exponent, exponent_steps, mantissa_steps, sized_steps, signed_steps, too_long}
+use Rattle.ffv1_range.proofs.Exponents.{exponent_place}
 
 -- ones from place k on, and a 0
 unfoldable pub exps : ℕ → ℕ → List Step
@@ -86,21 +87,18 @@ pub record IsExponent (e n : ℕ) : Type 0 where
   pub top : n / 2 ^ e ≡ 1
 
 pub exponent_of : (n : ℕ) → 0 < n → n < 2 ^ 31 → IsExponent (exponent n) n
-exponent_of n positive below =
-    let found = leading_top 32 n positive (omega arith) in
-    let j = found.0 in
-    let zeros = found.1 in
-    let least = found.2 in
-    let most = found.3 in
-    let is : exponent n ≡ found.0 = omega arith in
-    let power = pow_pos found.0 in
-    let up = pow-succ' 2 found.0 in
-    let one = le-div 1 n (2 ^ found.0) power (omega arith) in
-    let two = div_below n (2 ^ found.0) 2 power (omega arith) in
-    rw is (record {
-      small = elim (cases_lt found.0 31) [ inl h ↦ h | inr h ↦ let big = pow_mono {i = 31} {j = found.0} h in absurd (omega arith) ];
-      top = omega arith;
-    })
+exponent_of n positive below = placed (exponent n) (exponent_place n positive).0 (exponent_place n positive).1
+  where
+    placed : (e : ℕ) → 2 ^ e ≤ n → n < 2 ^ suc e → IsExponent e n
+    placed e least most =
+        let power = pow_pos e in
+        let up = pow-succ' 2 e in
+        let one = le-div 1 n (2 ^ e) power (omega arith) in
+        let two = div_below n (2 ^ e) 2 power (omega arith) in
+        record {
+          small = elim (cases_lt e 31) [ inl h ↦ h | inr h ↦ let big = pow_mono {i = 31} {j = e} h in absurd (omega arith) ];
+          top = omega arith;
+        }
 
 regrouped : (a b c d e : List Step) → (((a ++ b) ++ c) ++ d) ++ e ≡ a ++ (b ++ (c ++ (d ++ e)))
 regrouped a b c d e = simp append_assoc

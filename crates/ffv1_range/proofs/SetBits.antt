@@ -7,6 +7,7 @@ use Rattle.std.specs.Int.Count
 use Rattle.ffv1_range.specs.Symbols.{exponent, mantissa_steps}
 use Rattle.ffv1_range.specs.Counts.{ones_in}
 use Rattle.ffv1_range.proofs.Counting.{ones_in-append}
+use Rattle.ffv1_range.proofs.Exponents.{below_power}
 use Rattle.ffv1_range.proofs.Mantissa.{one_if_odd}
 use Rattle.ffv1_range.proofs.Prefix.{exponent_of}
 use Rattle.std.proofs.Math.Pow.{pow_pos}
@@ -43,10 +44,6 @@ mantissa_set (suc c) place d n =
     let more = ones_in-append (mantissa_steps c (suc place) (n / 2)) (record { slot = 22 + min place 9; bit = (n % 2) == 1 } ∷ []) in
     let step = set_bits_more d c n in
     omega arith
-
-below_power : (e : ℕ) → e < 2 ^ e
-below_power zero = omega arith
-below_power (suc e) = let rest = below_power e in let power = pow-succ' 2 e in omega arith
 
 pub mantissa_bits : (e n : ℕ) → 2 ^ e ≤ n → n / 2 ^ e ≡ 1 → ones_in (mantissa_steps e 0 n) + 1 ≡ Count.ones_in n n
 mantissa_bits e n least top =

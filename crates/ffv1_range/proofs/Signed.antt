@@ -3,7 +3,6 @@ use Rattle.std.proofs.Common.{◌≡◌, refl, ℕ, zero, suc, ◌+◌, ◌-◌,
 use Rattle.std.proofs.Math.IntN.{nat_abs}
 use lib.Signed.{lt_z}
 use Rattle.std.proofs.lemmas.Int.{ints}
-use Rattle.std.specs.Int.Count.{count_leading_zeros, leading_unique}
 use Rattle.std.proofs.Math.Nat.{pow-succ'}
 use Rattle.ffv1_range.specs.Table.{Table}
 use Rattle.ffv1_range.specs.Reading.{Reading}
@@ -11,14 +10,8 @@ use Rattle.ffv1_range.specs.Signed.{signed_by}
 use Rattle.ffv1_range.specs.Symbols.{exponent, exponent_steps, mantissa_steps, magnitude_steps, sized_steps, signed_steps, unsigned_steps}
 use Rattle.ffv1_range.specs.Writing.{Writing}
 use Rattle.ffv1_range.specs.Internal.Registers.{Reads, Writes}
+use Rattle.ffv1_range.proofs.Exponents.{exponent_is}
 use Rattle.ffv1_range.proofs.Steps.{reads_append, writes_append}
-
--- the exponent of a number is where its highest bit stands
-pub exponent_is : (e n : ℕ) → e < 31 → 2 ^ e ≤ n → n < 2 * 2 ^ e → exponent n ≡ e
-exponent_is e n small least most =
-    let power = pow-succ' 2 e in
-    let zeros : 31 - e ≡ count_leading_zeros 32 n = leading_unique 32 n (31 - e) (suc e) (omega arith) (omega arith) (omega arith) in
-    omega arith
 
 pub positive_steps : (n : ℕ) → 0 < n → signed_steps (pos n) ≡ sized_steps n false
 positive_steps zero h = absurd (omega arith)
@@ -45,7 +38,7 @@ pub magnitude_reads : (t : Table) (a b c d : Reading) (ss ts us vs : List ℕ) (
     Reads t a ss b ts (record { slot = 0; bit = false } ∷ []) → Reads t b ts c us (exponent_steps ex) → Reads t c us d vs (mantissa_steps ex 0 n) →
     Reads t a ss d vs (magnitude_steps n)
 magnitude_reads t a b c d ss ts us vs ex n small least most first second third =
-    rw (exponent_is ex n small least most) (reads_append t a c d ss us vs _ _ (reads_append t a b c ss ts us _ _ first second) third)
+    rw (exponent_is ex n least most) (reads_append t a c d ss us vs _ _ (reads_append t a b c ss ts us _ _ first second) third)
 
 -- a number and its sign
 pub sized_reads : (t : Table) (a b c d e : Reading) (ss ts us vs ws : List ℕ) (ex n : ℕ) (negative : Bool) →
@@ -55,7 +48,7 @@ pub sized_reads : (t : Table) (a b c d e : Reading) (ss ts us vs ws : List ℕ) 
     Reads t a ss e ws (sized_steps n negative)
 sized_reads t a b c d e ss ts us vs ws ex n negative small least most first second third last =
     reads_append t a d e ss vs ws _ _ (magnitude_reads t a b c d ss ts us vs ex n small least most first second third)
-    (rw (exponent_is ex n small least most) last)
+    (rw (exponent_is ex n least most) last)
 
 -- the same, written
 pub magnitude_writes : (t : Table) (a b c d : Writing) (ss ts us vs : List ℕ) (n : ℕ) →

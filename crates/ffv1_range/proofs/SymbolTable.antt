@@ -8,7 +8,7 @@ use Rattle.std.proofs.lemmas.Bool.{leb-true}
 use Rattle.std.proofs.lemmas.List.FromFn.{get_or-range_with_len, length-range_with_len}
 use Rattle.std.specs.Prelude.{replicate}
 use Rattle.ffv1_range.specs.declared.symbol_table.TheConstants.{SYMBOLS, LENGTHS}
-use Rattle.ffv1_range.specs.Symbols.{Step, shifted, signed_steps, raising}
+use Rattle.ffv1_range.specs.Symbols.{Step, shifted, signed_steps, raising, halvings}
 use Rattle.ffv1_range.specs.Weight.{one_if}
 use Rattle.ffv1_range.specs.Listed.{step_of, steps_of, of_nine_bits}
 use Rattle.ffv1_range.proofs.Standard.{all_below, all_below-at}
@@ -27,18 +27,18 @@ abbrev pub row_of : ℕ → List ℕ
 row_of residual = take 24 (codes_of residual ++ replicate 24 0)
 
 symbols : SYMBOLS ≡ flat_map row_of (range_with_len 0 512)
-unfolding raising lib.Count.count_leading_zeros
+unfolding raising halvings
 symbols = refl
 
 lengths : LENGTHS ≡ map long_of (range_with_len 0 512)
-unfolding raising lib.Count.count_leading_zeros
+unfolding raising halvings
 lengths = refl
 
 is_short : ℕ → Bool
 is_short residual = nat_le (long_of residual) 19
 
 all_short : all_below is_short 512 ≡ true
-unfolding all_below is_short raising lib.Count.count_leading_zeros
+unfolding all_below is_short raising halvings
 all_short = refl
 
 -- rows of one length, one after the other

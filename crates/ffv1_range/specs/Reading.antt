@@ -1,8 +1,8 @@
 -- Where a decoder stands.
-use Rattle.std.specs.Prelude.{◌≡◌, ℕ, ◌+◌, ◌^◌, min, List}
+use Rattle.std.specs.Prelude.{◌≡◌, ℕ, ◌+◌, ◌^◌, min, List, []}
 use Rattle.ffv1_range.specs.Interval.{Interval}
 use Rattle.ffv1_range.specs.Codes.{value, Inside}
-use Rattle.ffv1_range.specs.Counts.{Counts, saturated}
+use Rattle.ffv1_range.specs.Counts.{Counts, saturated, uncounted}
 use Rattle.ffv1_range.specs.declared.tally.Sums.{Sums}
 
 -- what a decoder holds: the bytes, the width of its interval, how far the upper end of the interval
@@ -13,6 +13,16 @@ pub record Reading : Type 0 where
   pub gap : ℕ
   pub renormalisations : ℕ
   pub counts : Counts
+
+-- a decoder of no bytes, at the first interval
+abbrev pub of_nothing : Reading
+of_nothing = record {
+  bytes = [];
+  width = 65280;
+  gap = 65280;
+  renormalisations = 0;
+  counts = uncounted;
+}
 
 -- the decoder stands at this interval (RFC 9043, 3.8.1.1)
 pub record At (r : Reading) (i : Interval) : Type 0 where

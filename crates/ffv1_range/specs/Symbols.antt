@@ -1,8 +1,8 @@
 -- The decisions of a symbol, by their slots (RFC 9043, 3.8.1.2).
-use Rattle.std.specs.Prelude.{◌≡◌, ℕ, ◌+◌, ◌-◌, ◌/◌, ◌%◌, ◌<◌, Bool, true, false, ◌==◌, min, List}
-use Rattle.std.specs.Prelude.{[], ◌∷◌, ◌++◌, length, slice_index, slice_set, ℤ, pos, negsuc}
+use Rattle.std.specs.Prelude.{◌≡◌, ℕ, ◌+◌, ◌/◌, ◌%◌, ◌<◌, Bool, true, false, ◌==◌, nat_lt, min}
+use Rattle.std.specs.Prelude.{if◌then◌else◌, List, [], ◌∷◌, ◌++◌, length, slice_index, slice_set}
+use Rattle.std.specs.Prelude.{ℤ, pos, negsuc}
 use Rattle.std.proofs.Common.{zero, suc}
-use Rattle.std.specs.Int.{w32, leading_zeros}
 use Rattle.ffv1_range.specs.Interval.{Decision}
 use Rattle.ffv1_range.specs.Table.{Table, Holds, moved}
 
@@ -27,9 +27,14 @@ mantissa_steps (suc count) place n =
     mantissa_steps count (suc place) (n / 2) ++
     (record { slot = 22 + min place 9; bit = (n % 2) == 1 } ∷ [])
 
+-- how often a number is halved until 1 is left, or none, in so many steps at most
+unfoldable pub halvings : ℕ → ℕ → ℕ
+halvings zero n = 0
+halvings (suc most) n = if nat_lt n 2 then 0 else suc (halvings most (n / 2))
+
 -- the place of the highest bit
 abbrev pub exponent : ℕ → ℕ
-exponent n = 31 - leading_zeros w32 n
+exponent n = halvings n n
 
 -- a number that is not zero
 abbrev pub magnitude_steps : ℕ → List Step

@@ -1,5 +1,5 @@
 -- Where an encoder stands.
-use Rattle.std.specs.Prelude.{◌+◌, Bool, false}
+use Rattle.std.specs.Prelude.{◌≡◌, ◌+◌, Bool, true, false, IsTrue, IsFalse}
 use Rattle.ffv1_range.specs.Interval.{Interval, start}
 use Rattle.ffv1_range.specs.Counts.{Counts, uncounted, saturated}
 use Rattle.ffv1_range.specs.declared.tally.Sums.{Sums}
@@ -13,6 +13,15 @@ pub record Writing : Type 0 where
 -- nothing was put yet
 abbrev pub unwritten : Writing
 unwritten = record { interval = start; counts = uncounted; failed = false }
+
+-- what is left of an encoder whose growth is refused: no byte, and its counts
+abbrev pub refused_writing : Writing → Writing
+refused_writing w = record { interval = start; counts = w.counts; failed = true }
+
+-- the same of one that may have failed before: then nothing of it moves
+abbrev pub LeavesNothing : Writing → Writing → Type 0
+LeavesNothing old new =
+    (IsTrue old.failed → new ≡ old) × (IsFalse old.failed → new ≡ refused_writing old)
 
 -- an encoder whose counts go on by sums
 abbrev pub summed_writing : Writing → Sums → Writing

@@ -1,11 +1,11 @@
 //! Decisions are read.
 
 ghost use Rattle.std.specs.Prelude.{◌≡◌, ℕ, ◌+◌, ◌-◌, ◌*◌, ◌^◌, ◌≤◌, ◌<◌, ◌↔◌, IfOk, IfErr, IsErr};
-ghost use Rattle.std.specs.Prelude.{slice_index, slice_set, List, [], ◌∷◌, IsTrue, IsFalse, true, ⊤};
+ghost use Rattle.std.specs.Prelude.{slice_index, slice_set, List, [], ◌∷◌, IsTrue, IsFalse, true};
 ghost use Rattle.ffv1_range.specs.Interval.{Interval, narrow, renormalised, share, start};
 ghost use Rattle.ffv1_range.specs.Codes.{value};
 ghost use Rattle.ffv1_range.specs.Table.{moved, Holds};
-ghost use Rattle.ffv1_range.specs.Reading.{At, paused, summed};
+ghost use Rattle.ffv1_range.specs.Reading.{At, of_nothing, paused, summed};
 ghost use Rattle.ffv1_range.specs.Among.{AreNonzeros, sums_among};
 ghost use Rattle.ffv1_range.specs.Follows.{Follows};
 ghost use Rattle.ffv1_range.specs.Counts.{uncounted, counted, saturated, total};
@@ -15,8 +15,8 @@ use crate::fault::Fault;
 use crate::parked::Parked;
 use crate::table::StateTable;
 use crate::tally::{Nonzeros, Sums, Tally};
-use std::alloc::AllocError;
 use std::marker::Model;
+use std::mem::replace;
 
 /// A decoder of the decisions that some bytes code (RFC 9043, 3.8.1.1). Bytes after the end are
 /// read as 0. It takes no memory.
@@ -25,8 +25,7 @@ use std::marker::Model;
 /// end lies above the number of the bytes, how often it renormalised, and its counts. `At` says
 /// which interval that is.
 ///
-/// A clone stands at the same place of the same bytes, and reads on by itself. It takes no memory
-/// and never fails.
+/// No decoder is copied: `take` hands over what a reference leads to, and `park` lets bytes go.
 #[derive(Drop)]
 pub struct RangeDecoder<'a> {
     pub(crate) bytes: &'a [u8],
@@ -52,24 +51,6 @@ impl<'a> Model for RangeDecoder<'a> {
     } };
 
     ghost invariant = { λ r. IsReading r.width r.gap };
-}
-
-impl<'a> Clone for RangeDecoder<'a> {
-    ghost is_clone = { λ decoder clone. clone ≡ decoder };
-
-    ghost is_infallible = { λ _. ⊤ };
-
-    #[inline(always)]
-    fn clone(&self) -> Result<RangeDecoder<'a>, AllocError> {
-        Ok(RangeDecoder {
-            bytes: self.bytes,
-            width: self.width,
-            gap: self.gap,
-            renormalisations: self.renormalisations,
-            ones: self.ones,
-            zeros: self.zeros,
-        })
-    }
 }
 
 impl<'a> RangeDecoder<'a> {
@@ -130,6 +111,23 @@ impl<'a> RangeDecoder<'a> {
             ones: self.ones,
             zeros: self.zeros,
         }
+    }
+
+    /// The decoder as it stands. In its place stands one of no bytes.
+    #[inline(always)]
+    pub fn take(&mut self) -> RangeDecoder<'a>
+        ensures value { result ≡ self.old }
+        ensures left { self.new ≡ of_nothing }
+    {
+        let nothing = RangeDecoder {
+            bytes: &[],
+            width: FIRST_WIDTH,
+            gap: FIRST_WIDTH,
+            renormalisations: 0,
+            ones: 0,
+            zeros: 0,
+        };
+        replace(self, nothing)
     }
 
     /// Sums of nothing, by which its counts stay as they are.

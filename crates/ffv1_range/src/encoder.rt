@@ -2,12 +2,15 @@
 
 ghost use Rattle.std.specs.Prelude.{◌≡◌, ℕ, ◌+◌, ◌-◌, ◌*◌, ◌/◌, ◌^◌, ◌≤◌, ◌<◌, ◌++◌, List, length};
 ghost use Rattle.std.specs.Prelude.{replicate, slice_index, slice_set, [], ◌∷◌, IsTrue, IfOk};
-ghost use Rattle.std.specs.Prelude.{IfErr, IsErr, OnOk, OnErr, ◌⊎◌, false};
+ghost use Rattle.std.specs.Prelude.{IfErr, IsErr, OnOk, OnErr, ◌⊎◌, false, true};
+ghost use Rattle.std.specs.Vec.{vec_capacity, vec_len};
 ghost use Rattle.ffv1_range.specs.Interval.{Decision, narrow, part, renormalised, interval_of};
+ghost use Rattle.ffv1_range.specs.Interval.{start};
 ghost use Rattle.ffv1_range.specs.Codes.{value, sentinel_of, full_of, rounded_of, AreBytes};
 ghost use Rattle.ffv1_range.specs.Codes.{AreStates, Codes};
 ghost use Rattle.ffv1_range.specs.Table.{Table, moved, Holds};
-ghost use Rattle.ffv1_range.specs.Writing.{unwritten, summed_writing};
+ghost use Rattle.ffv1_range.specs.Writing.{unwritten, summed_writing, refused_writing};
+ghost use Rattle.ffv1_range.specs.Writing.{LeavesNothing};
 ghost use Rattle.ffv1_range.specs.Counts.{counted, total};
 ghost use Rattle.ffv1_range.specs.Symbols.{Step};
 ghost use Rattle.ffv1_range.specs.History.{AreBelow, decisions_after};
@@ -92,6 +95,7 @@ impl<A: Allocator> RangeEncoder<A> {
             (self.old.interval.count < (narrow self.old.interval state.old bit).count)) }
         ensures err { IfErr result (λ f. (f ≡ Fault.OutOfMemory) × IsTrue self.new.failed) }
         ensures kept { OnErr result (self.new.counts ≡ self.old.counts) }
+        ensures left { OnErr result (LeavesNothing self.old self.new) }
         ensures stays { IsTrue self.old.failed → IsErr result }
     {
         let before = *state;
@@ -229,6 +233,7 @@ impl<A: Allocator> RangeEncoder<A> {
             (narrow self.old.interval state bit).count) }
         ensures err { IfErr result (λ f. (f ≡ Fault.OutOfMemory) × IsTrue self.new.failed) }
         ensures kept { OnErr result (self.new.counts ≡ self.old.counts) }
+        ensures left { OnErr result (self.new ≡ refused_writing self.old) }
     {
         let mut span = Span {
             low: self.low,
@@ -240,10 +245,21 @@ impl<A: Allocator> RangeEncoder<A> {
         match done {
             Ok(()) => Ok(()),
             Err(_) => {
-                self.failed = true;
+                self.fail();
                 Err(Fault::OutOfMemory)
             }
         }
+    }
+
+    /// Nothing is left of the bytes, and every later put is refused.
+    #[cold]
+    pub(crate) fn fail(&mut self)
+        ensures { self.new ≡ refused_writing self.old }
+    {
+        self.bytes.clear();
+        self.low = 0;
+        self.width = FIRST_WIDTH;
+        self.failed = true;
     }
 }
 
@@ -271,6 +287,7 @@ pub(crate) fn narrow_by<A: Allocator>(
     ensures refused { OnErr result (
         (interval_from bytes.old.items span.old.low span.old.width).count <
         (narrow (interval_from bytes.old.items span.old.low span.old.width) state bit).count) }
+    ensures full { OnErr result (vec_capacity bytes.old ≤ vec_len bytes.old) }
     ensures writing { IsWriting bytes.new.items span.new.low span.new.width }
 {
     let (low, width) = part_of(bytes, span.low, span.width, state, bit);
@@ -322,6 +339,7 @@ pub(crate) fn emit<A: Allocator>(bytes: &mut Vec<u8, A>, top: u32) -> Result<(),
     ensures value { OnOk result (value bytes.new.items (length bytes.new.items) ≡
         256 * value bytes.old.items (length bytes.old.items) + top) }
     ensures long { OnOk result (length bytes.new.items ≡ length bytes.old.items + 1) }
+    ensures full { OnErr result (vec_capacity bytes.old ≤ vec_len bytes.old) }
     ensures bytes_fit { OnOk result (AreBytes bytes.new.items) }
 {
     if top < 256 {

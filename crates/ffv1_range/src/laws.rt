@@ -156,10 +156,10 @@ pub fn slots()
         shifted base (xs ++ ys) ≡ shifted base xs ++ shifted base ys }
 {}
 
-/// An exponent is the place of the highest bit.
+/// An exponent is the place of the highest bit, whatever the number above 0.
 pub fn exponents()
-    ensures least { (n : ℕ) → 0 < n → n < 2 ^ 32 → 2 ^ exponent n ≤ n }
-    ensures most { (n : ℕ) → 0 < n → n < 2 ^ 32 → n < 2 ^ (exponent n + 1) }
+    ensures least { (n : ℕ) → 0 < n → 2 ^ exponent n ≤ n }
+    ensures most { (n : ℕ) → 0 < n → n < 2 ^ (exponent n + 1) }
 {}
 
 /// How many decisions a symbol takes.

@@ -1,7 +1,9 @@
 //! Decisions of a list are written.
 
-ghost use Rattle.std.specs.Prelude.{◌≡◌, ℕ, ◌+◌, ◌*◌, ◌/◌, ◌^◌, ◌≤◌, ◌<◌, [], ◌∷◌, OnOk, OnErr, IfOk, IfErr};
-ghost use Rattle.std.specs.Prelude.{IsTrue, length, false, List, ◌++◌, take, drop, map, slice_index};
+ghost use Rattle.std.specs.Prelude.{◌≡◌, ℕ, ◌+◌, ◌*◌, ◌/◌, ◌^◌, ◌≤◌, ◌<◌, [], ◌∷◌, OnOk, OnErr};
+ghost use Rattle.std.specs.Prelude.{IfOk, IfErr, IsTrue, length, false, List, ◌++◌, take, drop, map};
+ghost use Rattle.std.specs.Prelude.{slice_index};
+ghost use Rattle.std.specs.Vec.{vec_capacity, vec_len};
 ghost use Rattle.ffv1_range.specs.Interval.{narrow, part, renormalised};
 ghost use Rattle.ffv1_range.specs.Codes.{value, AreBytes};
 ghost use Rattle.ffv1_range.specs.Symbols.{AllHeld, shifted, signed_steps};
@@ -9,6 +11,7 @@ ghost use Rattle.ffv1_range.specs.History.{AreBelow};
 ghost use Rattle.ffv1_range.specs.Counts.{ones_in};
 ghost use Rattle.ffv1_range.specs.Listed.{step_of, steps_of, of_nine_bits};
 ghost use Rattle.ffv1_range.specs.Puts.{Puts, Grows, MayBeRefused};
+ghost use Rattle.ffv1_range.specs.Writing.{refused_writing};
 ghost use Rattle.ffv1_range.specs.Internal.Registers.{Writes, IsWriting, IsHolding, IsMarked};
 ghost use Rattle.ffv1_range.specs.Internal.Registers.{IsMarkedPart, interval_from, interval_held};
 ghost use Rattle.ffv1_range.specs.Internal.Registers.{interval_marked, standing, standing_marked};
@@ -93,6 +96,7 @@ fn push_word<A: Allocator>(bytes: &mut Vec<u8, A>, word: u32) -> Result<(), Allo
     ensures value { OnOk result (value bytes.new.items (length bytes.new.items) ≡
         4294967296 * value bytes.old.items (length bytes.old.items) + word) }
     ensures long { OnOk result (length bytes.new.items ≡ length bytes.old.items + 4) }
+    ensures full { OnErr result (vec_capacity bytes.old < vec_len bytes.old + 4) }
     ensures bytes_fit { OnOk result (AreBytes bytes.new.items) }
 {
     bytes.extend_from_slice(&word.to_be_bytes())?;
@@ -110,6 +114,7 @@ fn emit_word<A: Allocator>(bytes: &mut Vec<u8, A>, top: u64) -> Result<(), Alloc
     ensures value { OnOk result (value bytes.new.items (length bytes.new.items) ≡
         4294967296 * value bytes.old.items (length bytes.old.items) + top) }
     ensures long { OnOk result (length bytes.new.items ≡ length bytes.old.items + 4) }
+    ensures full { OnErr result (vec_capacity bytes.old < vec_len bytes.old + 4) }
     ensures bytes_fit { OnOk result (AreBytes bytes.new.items) }
 {
     if top < 4294967296 {
@@ -136,7 +141,9 @@ fn narrow_marked<A: Allocator>(
         narrow (interval_marked bytes.old.items marked.old.low marked.old.width) state bit) }
     ensures refused { OnErr result (
         (interval_marked bytes.old.items marked.old.low marked.old.width).count <
-        (narrow (interval_marked bytes.old.items marked.old.low marked.old.width) state bit).count) }
+        (narrow (interval_marked bytes.old.items marked.old.low marked.old.width) state
+        bit).count) }
+    ensures full { OnErr result (vec_capacity bytes.old < vec_len bytes.old + 4) }
     ensures marked { OnOk result (IsMarked bytes.new.items marked.new.low marked.new.width) }
     ensures few { OnOk result (held_in marked.new.low < 4) }
     ensures grown { OnOk result (length bytes.old.items ≤ length bytes.new.items) }
@@ -270,6 +277,7 @@ fn release<A: Allocator>(bytes: &mut Vec<u8, A>, holding: &mut Holding) -> Resul
     ensures holding { OnOk result (IsHolding bytes.new.items holding.new.low holding.new.width
         holding.new.held) }
     ensures less { OnOk result (holding.new.held + 1 ≡ holding.old.held) }
+    ensures full { OnErr result (vec_capacity bytes.old ≤ vec_len bytes.old) }
 {
     let Holding { low, width, held } = *holding;
     let places = 8 * held + 8;
@@ -433,6 +441,7 @@ impl<A: Allocator> RangeEncoder<A> {
         ensures held { AllHeld table.now states.new }
         ensures err { IfErr result (λ f. (f ≡ Fault.OutOfMemory) × IsTrue self.new.failed) }
         ensures kept { OnErr result (self.new.counts ≡ self.old.counts) }
+        ensures left { OnErr result (self.new ≡ refused_writing self.old) }
     {
         let mut span = Span {
             low: self.low,

@@ -183,6 +183,16 @@ pub(crate) fn sign_slot(exponent: u32) -> usize
     SIGN + 10
 }
 
+/// The place of the highest bit of a number.
+#[inline(always)]
+pub(crate) fn exponent(number: u32) -> u32
+    requires { 0 < number }
+    ensures value { result ≡ exponent number }
+    ensures most { result ≤ 31 }
+{
+    31 - number.leading_zeros()
+}
+
 /// How many bits of a number are 1, but for its highest.
 #[inline(always)]
 pub(crate) fn ones_below(number: u32) -> u32
@@ -190,6 +200,7 @@ pub(crate) fn ones_below(number: u32) -> u32
     requires small { number < 2 ^ 31 }
     ensures ones { result ≡ ones_in (mantissa_steps (exponent number) 0 number) }
     ensures few { result ≤ exponent number }
+    ensures most { result < 31 }
 {
     number.count_ones() - 1
 }

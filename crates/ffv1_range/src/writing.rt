@@ -7,12 +7,12 @@ ghost use Rattle.ffv1_range.specs.Symbols.{mantissa_steps, magnitude_steps, sign
 ghost use Rattle.ffv1_range.specs.Symbols.{unsigned_steps};
 ghost use Rattle.ffv1_range.specs.Counts.{ones_in, Counted};
 ghost use Rattle.ffv1_range.specs.Puts.{Puts, Grows, MayBeRefused};
-ghost use Rattle.ffv1_range.specs.Writing.{summed_writing};
+ghost use Rattle.ffv1_range.specs.Writing.{summed_writing, refused_writing, LeavesNothing};
 ghost use Rattle.ffv1_range.specs.Internal.Registers.{Writes, IsWriting, interval_from, standing};
 
 use crate::encoder::{RangeEncoder, Span, narrow_by};
 use crate::fault::Fault;
-use crate::reading::{EXPONENT, MANTISSA, ZERO, ones_below, sign_slot};
+use crate::reading::{EXPONENT, MANTISSA, ZERO, exponent, ones_below, sign_slot};
 use crate::table::StateTable;
 use crate::tally::Sums;
 use std::alloc::{AllocError, Allocator};
@@ -152,7 +152,7 @@ fn put_magnitude<A: Allocator>(
     ensures held { AreHeld table.now states.new }
 {
     put_slot(bytes, span, table, states, ZERO, false)?;
-    let exponent = 31 - number.leading_zeros();
+    let exponent = exponent(number);
     put_exponent(bytes, span, table, states, exponent)?;
     put_mantissa(bytes, span, table, states, exponent, number)?;
     Ok(())
@@ -213,7 +213,7 @@ fn put_number<A: Allocator>(
         return Ok(());
     }
     put_magnitude(bytes, span, table, states, number)?;
-    let slot = sign_slot(31 - number.leading_zeros());
+    let slot = sign_slot(exponent(number));
     put_slot(bytes, span, table, states, slot, value < 0)?;
     Ok(())
 }
@@ -239,6 +239,7 @@ impl<A: Allocator> RangeEncoder<A> {
         ensures held { AreHeld table.now states.new }
         ensures err { IfErr result (λ f. (f ≡ Fault.OutOfMemory) × IsTrue self.new.failed) }
         ensures kept { OnErr result (self.new.counts ≡ self.old.counts) }
+        ensures left { OnErr result (LeavesNothing self.old self.new) }
         ensures stays { IsTrue self.old.failed → IsErr result }
     {
         if self.failed {
@@ -266,6 +267,7 @@ impl<A: Allocator> RangeEncoder<A> {
         ensures held { AreHeld table.now states.new }
         ensures err { IfErr result (λ f. (f ≡ Fault.OutOfMemory) × IsTrue self.new.failed) }
         ensures kept { OnErr result (self.new.counts ≡ self.old.counts) }
+        ensures left { OnErr result (self.new ≡ refused_writing self.old) }
     {
         let mut sums = self.sums();
         self.sum_signed(&mut sums, table, states, value)?;
@@ -295,6 +297,7 @@ impl<A: Allocator> RangeEncoder<A> {
         ensures held { AreHeld table.now states.new }
         ensures err { IfErr result (λ f. (f ≡ Fault.OutOfMemory) × IsTrue self.new.failed) }
         ensures kept { OnErr result (self.new.counts ≡ self.old.counts) }
+        ensures left { OnErr result (self.new ≡ refused_writing self.old) }
     {
         let mut span = Span {
             low: self.low,
@@ -304,7 +307,7 @@ impl<A: Allocator> RangeEncoder<A> {
         self.low = span.low;
         self.width = span.width;
         let Ok(()) = done else {
-            self.failed = true;
+            self.fail();
             return Err(Fault::OutOfMemory);
         };
         let number = value.unsigned_abs();
@@ -312,7 +315,7 @@ impl<A: Allocator> RangeEncoder<A> {
             sums.count(1, 0);
             return Ok(());
         }
-        let exponent = 31 - number.leading_zeros();
+        let exponent = exponent(number);
         let ones = exponent + ones_below(number) + u32::from(value < 0);
         sums.count(ones, 2 * exponent + 3 - ones);
         Ok(())
@@ -336,6 +339,7 @@ impl<A: Allocator> RangeEncoder<A> {
         ensures held { AreHeld table.now states.new }
         ensures err { IfErr result (λ f. (f ≡ Fault.OutOfMemory) × IsTrue self.new.failed) }
         ensures kept { OnErr result (self.new.counts ≡ self.old.counts) }
+        ensures left { OnErr result (LeavesNothing self.old self.new) }
         ensures stays { IsTrue self.old.failed → IsErr result }
     {
         if self.failed {
@@ -349,14 +353,14 @@ impl<A: Allocator> RangeEncoder<A> {
         self.low = span.low;
         self.width = span.width;
         let Ok(()) = done else {
-            self.failed = true;
+            self.fail();
             return Err(Fault::OutOfMemory);
         };
         if number == 0 {
             self.count(1, 0);
             return Ok(());
         }
-        let exponent = 31 - number.leading_zeros();
+        let exponent = exponent(number);
         let ones = exponent + ones_below(number);
         self.count(ones, 2 * exponent + 2 - ones);
         Ok(())
@@ -383,6 +387,7 @@ impl<A: Allocator> RangeEncoder<A> {
         ensures held { AllHeld table.now states.new }
         ensures err { IfErr result (λ f. (f ≡ Fault.OutOfMemory) × IsTrue self.new.failed) }
         ensures kept { OnErr result (self.new.counts ≡ self.old.counts) }
+        ensures left { OnErr result (self.new ≡ refused_writing self.old) }
         ensures stays { IsTrue self.old.failed → IsErr result }
     {
         let base = row * 32;

@@ -6,8 +6,8 @@ ghost use Rattle.ffv1_rct.specs.Lines.{AreCoded};
 
 use std::simd::prelude::*;
 
-/// The transform of a place. Y is `floor((r + 2 g + b) / 4)`, which is `g + floor((b - g + r - g) /
-/// 4)`.
+/// The transform of a sample. Y is `floor((r + 2 g + b) / 4)`, which is `g + floor((b - g + r - g)
+/// / 4)`.
 #[inline(always)]
 fn coded_of(r: u8, g: u8, b: u8) -> (u16, u16, u16)
     ensures { IsCoded r g b result.0 result.1 result.2 }

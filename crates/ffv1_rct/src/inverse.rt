@@ -8,9 +8,9 @@ ghost use Rattle.ffv1_rct.specs.Lines.{AreOnlyColours, HasColourAt, IsKeptFrom};
 use crate::fault::NoColour;
 use std::simd::prelude::*;
 
-/// The colour of a place, or `None` where it has none. Sums and differences are taken modulo 65536,
-/// as lanes take them: where red, green and blue come out from 0 to 255, then Cb and Cr are below
-/// 512, and nothing was cut.
+/// The colour of a sample, or `None` where it has none. Sums and differences are taken modulo
+/// 65536, as lanes take them: where red, green and blue come out from 0 to 255, then Cb and Cr are
+/// below 512, and nothing was cut.
 #[inline(always)]
 fn colour_of(y: u16, cb: u16, cr: u16) -> Option<(u8, u8, u8)>
     ensures some { IfSome result (λ p. IsOnlyColour y cb cr p.0 p.1 p.2) }
@@ -109,7 +109,7 @@ fn inverse_rest(
 /// each place the only red, green and blue whose transform the place is. The six lines have one
 /// length, any.
 ///
-/// Refuses exactly where a place has no red, green and blue from 0 to 255, with the first such
+/// Refuses exactly where a sample has no red, green and blue from 0 to 255, with the first such
 /// place `x`: the places before `x` are filled then, `x` and all after it are as before.
 pub fn inverse_line(
     y: &[u16],

@@ -12,7 +12,7 @@ pub fn rounds_down()
     ensures most { (z : ℤ) → z <ℤ ((pos 4 *ℤ quarter_below z) +ℤ pos 4) }
 {}
 
-/// The transform of a place determines its red, green and blue, and they determine the transform.
+/// The transform of a sample determines its red, green and blue, and they determine the transform.
 pub fn only()
     ensures colour { (r g b s h d y cb cr : ℕ) → IsCoded r g b y cb cr → IsCoded s h d y cb cr →
         (s ≡ r) × (h ≡ g) × (d ≡ b) }
@@ -36,7 +36,7 @@ pub fn forward_of_inverse()
         → AreCoded n r g b y cb cr → AreCoded n r g b z db dr → (z ≡ y) × (db ≡ cb) × (dr ≡ cr) }
 {}
 
-/// The transform of a place whose red, green and blue lie from 0 to 255: Y lies from 0 to 255, Cb
+/// The transform of a sample whose red, green and blue lie from 0 to 255: Y lies from 0 to 255, Cb
 /// and Cr from 1 to 511.
 pub fn small()
     ensures luma { (r g b y cb cr : ℕ) → IsColour y cb cr r g b → y < 256 }
@@ -60,8 +60,8 @@ pub fn lists()
     ensures chroma_long { (v g : List ℕ) → length g ≡ length v → length (chromas v g) ≡ length v }
 {}
 
-/// At any depth the transform of a place determines its red, green and blue, and they determine the
-/// transform.
+/// At any depth the transform of a sample determines its red, green and blue, and they determine
+/// the transform.
 pub fn only_in()
     ensures colour { (depth r g b s h d y cb cr : ℕ) → IsCodedIn depth r g b y cb cr →
         IsCodedIn depth s h d y cb cr → (s ≡ r) × (h ≡ g) × (d ≡ b) }
@@ -69,8 +69,8 @@ pub fn only_in()
         IsCodedIn depth r g b z db dr → (z ≡ y) × (db ≡ cb) × (dr ≡ cr) }
 {}
 
-/// At any depth the inverse of a line's transform is the line itself, and so is the transform of its
-/// inverse.
+/// At any depth the inverse of a line's transform is the line itself, and so is the transform of
+/// its inverse.
 pub fn lines_in()
     ensures inverse { (depth n : ℕ) (r g b s h d y cb cr : List ℕ) → length r ≡ n →
         length g ≡ n → length b ≡ n → length s ≡ n → length h ≡ n → length d ≡ n
@@ -82,8 +82,8 @@ pub fn lines_in()
         → (z ≡ y) × (db ≡ cb) × (dr ≡ cr) }
 {}
 
-/// The transform of a place whose red, green and blue are below 2^depth: Y is below 2^depth, Cb and
-/// Cr lie from 1 to 2^(depth+1) - 1.
+/// The transform of a sample whose red, green and blue are below 2^depth: Y is below 2^depth, Cb
+/// and Cr lie from 1 to 2^(depth+1) - 1.
 pub fn small_in()
     ensures luma { (depth r g b y cb cr : ℕ) → IsColourIn depth y cb cr r g b → y < 2 ^ depth }
     ensures blue { (depth r g b y cb cr : ℕ) → IsColourIn depth y cb cr r g b →

@@ -4,8 +4,8 @@
 //!
 //! An encoder transforms lines of red, green and blue by [`forward_line`]. A decoder takes the
 //! lines that it read back by [`inverse_line`], and those of transparency by [`narrow_line`]; a
-//! place that is the transform of no colour is [`NoColour`]. Lines of more than 8 bits a sample have
-//! [`forward_words`], [`inverse_words`] and [`narrow_words`]. No call takes memory.
+//! place that is the transform of no colour is [`NoColour`]. Lines of more than 8 bits a sample
+//! have [`forward_words`], [`inverse_words`] and [`narrow_words`]. No call takes memory.
 //!
 //! ```text
 //! let (mut y, mut cb, mut cr) = ([0u16], [0u16], [0u16]);
@@ -20,10 +20,12 @@ pub mod forward;
 pub mod inverse;
 pub mod laws;
 pub mod narrow;
+pub mod wide;
 pub mod words;
 
 pub use fault::NoColour;
 pub use forward::forward_line;
 pub use inverse::inverse_line;
 pub use narrow::narrow_line;
+pub use wide::{CodedWide, forward_wide, inverse_wide, narrow_wide};
 pub use words::{CodedWords, forward_words, inverse_words, narrow_words};

@@ -54,7 +54,7 @@ fn narrow_rest(at: usize, a: &[u16], out: &mut [u8]) -> Result<(), NoColour>
 /// The samples of a coded transparency line, any, as bytes, unchanged. The two lines have one
 /// length, any.
 ///
-/// Refuses exactly where a place lies above 255, with the first such place `x`: the places before
+/// Refuses exactly where a sample lies above 255, with the first such place `x`: the places before
 /// `x` are filled then, `x` and all after it are as before.
 pub fn narrow_line(a: &[u16], out: &mut [u8]) -> Result<(), NoColour>
     requires { length out.old ≡ length a.now }

@@ -22,7 +22,7 @@ pub struct CodedWords<'a> {
     pub depth: u8,
 }
 
-/// The transform of a place of samples below `top`, a power of 2.
+/// The transform of a sample of colours below `top`, a power of 2.
 #[inline(always)]
 fn coded_word(r: u16, g: u16, b: u16, top: u32) -> (u16, u16, u16)
     requires few { top ≤ 32768 }
@@ -67,9 +67,9 @@ pub fn forward_words(first: &mut [u16], second: &mut [u16], third: &mut [u16], d
     }
 }
 
-/// The colour of a place, with samples below `2 * half`, a power of 2, or `None` where it has none.
-/// Differences are taken modulo 2^32: where red, green and blue come out below `2 * half`, nothing
-/// was cut.
+/// The colour of a sample, with colours below `2 * half`, a power of 2, or `None` where it has
+/// none. Differences are taken modulo 2^32: where red, green and blue come out below `2 * half`,
+/// nothing was cut.
 #[inline(always)]
 fn colour_word(y: u16, cb: u16, cr: u16, half: u32) -> Option<(u16, u16, u16)>
     requires some { 0 < half }
@@ -91,9 +91,9 @@ fn colour_word(y: u16, cb: u16, cr: u16, half: u32) -> Option<(u16, u16, u16)>
     Some((red as u16, green as u16, blue as u16))
 }
 
-/// A word at a place of a line of two bytes a sample, the low byte first.
+/// A word of a line of two bytes a sample, the low byte first.
 #[inline(always)]
-fn put_word(line: &mut [u8], x: usize, word: u16)
+pub(crate) fn put_word(line: &mut [u8], x: usize, word: u16)
     requires { 2 * x + 1 < length line.old }
     ensures { line.new ≡
         slice_set (slice_set line.old (2 * x) (word % 256)) (2 * x + 1) (word / 256) }
@@ -107,7 +107,7 @@ fn put_word(line: &mut [u8], x: usize, word: u16)
 /// each as two bytes, the low byte first. `depth` lies from 9 to 15; Y, Cb and Cr have one length,
 /// any, and each line of bytes has twice that.
 ///
-/// Refuses exactly where a place has no red, green and blue below `2^depth`, with the first such
+/// Refuses exactly where a sample has no red, green and blue below `2^depth`, with the first such
 /// place `x`: the places before `x` are filled then, `x` and all after it are as before.
 ///
 /// At 9 to 15 bits without transparency green and blue change places: then `g` takes blue, and `b`
@@ -157,7 +157,7 @@ pub fn inverse_words(
 /// The samples of a coded line, any, unchanged: each as two bytes, the low byte first. `depth` lies
 /// from 9 to 16, and `out` has twice the length of `a`, any.
 ///
-/// Refuses exactly where a place lies at `2^depth` or above, with the first such place `x`: the
+/// Refuses exactly where a sample lies at `2^depth` or above, with the first such place `x`: the
 /// places before `x` are filled then, `x` and all after it are as before.
 pub fn narrow_words(a: &[u16], out: &mut [u8], depth: u8) -> Result<(), NoColour>
     requires deep { 8 < depth }

@@ -72,8 +72,8 @@ pub fn pass<R: ByteIn>(input: &mut R, count: u64) -> Result<(), FileFault>
 /// The most bytes that room is made for beyond as many as were read.
 const ROOM: usize = 65536;
 
-/// Fills the bytes from a place on, and answers how many were read: fewer only where the input has
-/// ended.
+/// Fills the bytes from an offset on, and answers how many were read: fewer only where the input
+/// has ended.
 fn fill_from<R: ByteIn>(input: &mut R, done: usize, bytes: &mut [u8]) -> Result<usize, Failed>
     requires { done ≤ length bytes.old }
     ensures kept { take done bytes.new ≡ take done bytes.old }

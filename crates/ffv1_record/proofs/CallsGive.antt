@@ -23,7 +23,7 @@ use Rattle.ffv1_record.specs.declared.config.Coder.{Coder}
 use Rattle.ffv1_record.specs.declared.config.Coder.TheVariants as coder
 use Rattle.ffv1_record.proofs.Checks.{no_table}
 use Rattle.ffv1_record.specs.Internal.Given.{Source, Gives, GivesIn, IsRead}
-use Rattle.ffv1_record.proofs.ReadIsCoded.{not_both}
+use Rattle.ffv1_record.proofs.ReadIsCoded.{not_both, bind_ok}
 use Rattle.ffv1_record.proofs.DecoderSpots.{stands_on, stands_in}
 
 -- one value was read, and then the rest
@@ -254,6 +254,15 @@ read_first {view = view} {v = v} whole = record {
         | inl e ↦ (e.0, e.1, e.2)
         | inr e ↦ absurd (not_both (view v, there.0) e.0 e.2)
       ];
+}
+
+-- what is read first, of what is read
+pub read_front : {X Y : Type 0} {first : Reader X} {next : X → Reader Y} {a : Source} → IsRead (first >>= next) a → IsRead first a
+read_front {first = first} {next = next} whole = record {
+  read = λ bytes s st.
+      let all = whole.read bytes s st in
+      let parts = bind_ok first next bytes s all.0 all.1 all.2 in
+      (parts.0, parts.1, parts.2);
 }
 
 -- what holds of a fault holds of it handed on

@@ -5,6 +5,7 @@ pub mod DecoderSpots
 pub mod CallsGive
 pub mod ReadingLoops
 pub mod TableRuns
+pub mod FirstRun
 pub mod ReadIsCoded
 pub mod ReadIsRecord
 pub mod EncoderSteps

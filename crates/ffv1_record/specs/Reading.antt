@@ -135,6 +135,26 @@ before_sets most = do
   _ ← count_of
   number_within 0 1 8 fault.Sets
 
+-- the first run of the first table of a set, less 1
+abbrev pub first_run : Reader ℕ
+first_run = do
+  base ← next_table
+  number_within base 0 127 fault.Runs
+
+-- the same with the number of sets before it, and with all parameters up to there
+abbrev pub first_sets_run : Reader ℕ
+first_sets_run = do
+  _ ← number_within 0 1 8 fault.Sets
+  first_run
+
+abbrev pub up_to_run : ℕ → Reader ℕ
+up_to_run most = do
+  _ ← opening
+  _ ← planes most
+  _ ← count_of
+  _ ← count_of
+  first_sets_run
+
 -- a truth value that is coded as a number
 abbrev pub flag : RecordFault → Reader Bool
 flag f = do
@@ -207,3 +227,12 @@ pub record ReachesSets (most : ℕ) (bytes : List ℕ) : Type 0 where
   pub count : ℕ
   pub behind : Spot
   pub read : before_sets most (body_of bytes) beginning (Ok (count, behind))
+
+-- no fault stands before the first set, nor at the first run of it: from there on memory is taken
+pub record ReachesRun (most : ℕ) (bytes : List ℕ) : Type 0 where
+  pub long : 5 ≤ length bytes
+  pub whole : remainder_of bytes ≡ 0
+  pub start : value (body_of bytes) 2 < 65280
+  pub run : ℕ
+  pub behind : Spot
+  pub read : up_to_run most (body_of bytes) beginning (Ok (run, behind))

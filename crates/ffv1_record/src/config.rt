@@ -293,9 +293,9 @@ impl<A: Allocator> Config<A> {
     /// The configuration, checked in a profile, for samples of `depth` bits; it keeps both. `most`
     /// is the greatest depth that the profile `Wide` accepts. Refuses with the first of these that
     /// stands: `Size`, `Depth`, `Subsampling`, `ExtraPlane`, `Sets`, `StateTable`, `Grid`,
-    /// `ChromaEdge`; else accepts. `Depth` comes in `Strict` where the depth is not 8, and in `Wide`
-    /// where it is not 8, 9, 10, 12, 14 or 16, or is above `most`, or is 16 with RCT. It takes no
-    /// memory.
+    /// `ChromaEdge`; else accepts. `Depth` comes in `Strict` where the depth is not 8, and in
+    /// `Wide` where it is not 8, 9, 10, 12, 14 or 16, or is above `most`, or is 16 with RCT. It
+    /// takes no memory.
     pub fn check_in(
         self,
         profile: Profile,

@@ -71,7 +71,7 @@ pub fn one_configuration()
     ensures table { (c : Configuration) (t u : Table) → IsAccepted c t → IsAccepted c u → t ≡ u }
 {}
 
-/// A fault that stands before the first set is told whatever memory there is: the bytes are
+/// A fault that stands before the first set is answered whatever memory there is: the bytes are
 /// refused with it, and `read_record` answers `OutOfMemory` for no such bytes.
 pub fn before_sets()
     ensures refused { (most : ℕ) (bytes : List ℕ) (width height : ℕ) (f : RecordFault) →
@@ -132,7 +132,7 @@ pub fn accepted_parts()
         IsTableFor c.coder t × IsTable t.floor t.one × IsWritable c.coder }
 {}
 
-/// The first parameter that is not good, in the order of the record, is the fault that is told:
+/// The first parameter that is not good, in the order of the record, is the fault that is answered:
 /// where the bytes code good symbols of all parameters before it, and then symbols that are a fault
 /// in its place.
 pub fn first_bad_parameter()

@@ -11,6 +11,7 @@ ghost use Rattle.ffv1_record.specs.Reader.{truth, number_within};
 ghost use Rattle.ffv1_record.specs.Reading.{deltas_onto, opening, depth, colour_of, planes};
 ghost use Rattle.ffv1_record.specs.Reading.{count_of, table, set, sets_onto, uncoded, tables, flag};
 ghost use Rattle.ffv1_record.specs.Reading.{before_sets, parameters, IsRefused, ReachesSets};
+ghost use Rattle.ffv1_record.specs.Reading.{first_run, first_sets_run, up_to_run, ReachesRun};
 ghost use Rattle.ffv1_record.specs.Internal.Given.{Gives, IsRead};
 ghost use Rattle.ffv1_range.specs.Table.{Table};
 ghost use Rattle.ffv1_plane.specs.Quantisation.{is_filled, are_filled, contexts_of};
@@ -136,6 +137,7 @@ fn read_table<A: Allocator>(
     reader: &mut RecordReader<'_>,
 ) -> Result<Vec<u8, A>, RecordFault>
     ensures gives { Gives (λ v. v.items) table reader.old reader.new result }
+    ensures memory { IfErr result (λ f. f ≡ fault.OutOfMemory → IsRead first_run reader.old) }
     ensures filled { IfOk result (λ v. IsTrue (is_filled v.items)) }
 {
     let mut states = [128u8; 32];
@@ -180,7 +182,8 @@ fn read_set<A: Allocator + Copy>(
     alloc: A,
     reader: &mut RecordReader<'_>,
 ) -> Result<QuantSet<A>, RecordFault>
-    ensures { Gives (λ s. s) set reader.old reader.new result }
+    ensures gives { Gives (λ s. s) set reader.old reader.new result }
+    ensures memory { IfErr result (λ f. f ≡ fault.OutOfMemory → IsRead first_run reader.old) }
 {
     let first = read_table(alloc, reader)?;
     let second = read_table(alloc, reader)?;
@@ -197,7 +200,8 @@ fn read_sets<A: Allocator + Copy>(
     reader: &mut RecordReader<'_>,
     count: u32,
 ) -> Result<Sets<A>, RecordFault>
-    ensures { Gives (λ s. s) (sets_onto count []) reader.old reader.new result }
+    ensures gives { Gives (λ s. s) (sets_onto count []) reader.old reader.new result }
+    ensures memory { IfErr result (λ f. f ≡ fault.OutOfMemory → IsRead first_run reader.old) }
 {
     let mut sets = Sets::new(alloc);
     for _index in 0..count {
@@ -228,6 +232,7 @@ fn read_tables<A: Allocator + Copy>(
     ensures gives { Gives (λ s. s) tables reader.old reader.new result }
     ensures memory { IfErr result
         (λ f. f ≡ fault.OutOfMemory → IsRead (number_within 0 1 8 fault.Sets) reader.old) }
+    ensures run { IfErr result (λ f. f ≡ fault.OutOfMemory → IsRead first_sets_run reader.old) }
 {
     let count = reader.number_within(1, 8, RecordFault::Sets)?;
     let sets = read_sets(alloc, reader, count)?;
@@ -256,6 +261,7 @@ fn read_parameters<A: Allocator + Copy>(
         (parameters most width height) reader.old reader.new result }
     ensures memory { IfErr result
         (λ f. f ≡ fault.OutOfMemory → IsRead (before_sets most) reader.old) }
+    ensures run { IfErr result (λ f. f ≡ fault.OutOfMemory → IsRead (up_to_run most) reader.old) }
 {
     let coder = read_opening(reader)?;
     let planes = read_planes(reader, most)?;
@@ -303,6 +309,7 @@ pub fn read_record<A: Allocator + Copy>(
     ensures exact { IfErr result
         (λ f. (f ≡ fault.OutOfMemory) ⊎ IsRefused 8 bytes.now width height f) }
     ensures memory { IfErr result (λ f. f ≡ fault.OutOfMemory → ReachesSets 8 bytes.now) }
+    ensures run { IfErr result (λ f. f ≡ fault.OutOfMemory → ReachesRun 8 bytes.now) }
 {
     match read_record_in(alloc, bytes, width, height, Profile::Strict, 8) {
         Ok(checked) => Ok(checked),
@@ -321,9 +328,10 @@ pub fn read_record<A: Allocator + Copy>(
 /// their last; else with the first that `Config::check_in` finds. `Depth` comes in `Strict` where
 /// the bits of a sample are not 0 or 8, and in `Wide` where they are not 0, 8, 9, 10, 12, 14 or 16,
 /// or are above `most`, or are 16 with RCT. `OutOfMemory` where a growth was refused before another
-/// fault was met: no memory is taken before the first set, so a fault that stands before it is told
-/// first. Bytes between the parameters and the parity are ignored, and 0 bits of a sample mean 8.
-/// After a refusal the bytes are as they were, and may be read again.
+/// fault was met: no memory is taken before the first run of the first set was read, so a fault
+/// that stands before that comes first. Bytes between the parameters and the parity are ignored,
+/// and 0 bits of a sample mean 8. After a refusal the bytes are as they were, and may be read
+/// again.
 pub fn read_record_in<A: Allocator + Copy>(
     alloc: A,
     bytes: &[u8],
@@ -345,6 +353,8 @@ pub fn read_record_in<A: Allocator + Copy>(
         ⊎ IsRefused (deepest profile most) bytes.now width height f) }
     ensures memory { IfErr result
         (λ f. f ≡ fault.OutOfMemory → ReachesSets (deepest profile most) bytes.now) }
+    ensures run { IfErr result
+        (λ f. f ≡ fault.OutOfMemory → ReachesRun (deepest profile most) bytes.now) }
 {
     if bytes.len() < 5 {
         return Err(RecordFault::Short);

@@ -1,6 +1,6 @@
 //! The symbols of a record are read.
 
-ghost use Rattle.std.specs.Prelude.{◌≡◌, ◌⊎◌, ◌↔◌, ℕ, ◌+◌, ◌^◌, ◌≤◌, ◌<◌, IfOk, IfErr, IsErr};
+ghost use Rattle.std.specs.Prelude.{◌≡◌, ◌≢◌, ◌⊎◌, ◌↔◌, ℕ, ◌+◌, ◌^◌, ◌≤◌, ◌<◌, IfOk, IfErr, IsErr};
 ghost use Rattle.std.specs.Prelude.{length, unsigned_abs, nat_lt};
 ghost use Rattle.ffv1_range.specs.Codes.{value};
 ghost use Rattle.ffv1_range.specs.Standard.{standard};
@@ -87,6 +87,7 @@ impl<'a> RecordReader<'a> {
     fn number_in(&mut self, states: &mut [u8]) -> Result<u32, RecordFault>
         requires held { AreHeld standard states.old }
         ensures gives { GivesIn number self.old states.old self.new states.new result }
+        ensures refused { IfErr result (λ f. f ≡ RecordFault.SymbolTooLong) }
         ensures held { AreHeld standard states.new }
     {
         let Ok(number) = self.decoder.get_unsigned(&self.table, states) else {
@@ -119,6 +120,7 @@ impl<'a> RecordReader<'a> {
         requires held { AreHeld standard states.old }
         ensures gives { GivesIn (λ base. number_within base 0 most RecordFault.Runs) self.old
             states.old self.new states.new result }
+        ensures told { IfErr result (λ f. f ≢ RecordFault.OutOfMemory) }
         ensures most { IfOk result (λ n. n ≤ most) }
         ensures held { AreHeld standard states.new }
     {

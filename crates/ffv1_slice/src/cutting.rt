@@ -5,7 +5,7 @@ ghost use Rattle.std.specs.Prelude.{OnOk, OnErr, IfOk, IfErr, length, take, [], 
 ghost use Rattle.ffv1_record.specs.Configuration.{configuration_of};
 ghost use Rattle.ffv1_slice.specs.Footer.{foot_length};
 ghost use Rattle.ffv1_slice.specs.Cutting.{size_before, IsCutting, offsets_onto, first_damaged};
-ghost use Rattle.ffv1_slice.specs.Cutting.{cut_of, Cuts};
+ghost use Rattle.ffv1_slice.specs.Cutting.{cut_of, Cuts, IsRefused};
 ghost use Rattle.std.proofs.Common.{suc};
 
 use crate::fault::SliceFault;
@@ -173,6 +173,7 @@ pub fn cut<A: Allocator, B: Allocator>(
         (length spans.new.offsets
         ≡ suc (checked.now.configuration.columns * checked.now.configuration.rows)) }
     ensures only { (at : ℕ → ℕ) → Cuts checked.now.configuration payload.now at → OnErr result ⊥ }
+    ensures exact { IfErr result (IsRefused checked.now.configuration payload.now) }
 {
     // Both arms are written out, so that the clauses are proved by arm.
     match cut_from_end(checked, payload, spans) {

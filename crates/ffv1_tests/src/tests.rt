@@ -30,5 +30,6 @@ mod sum;
 mod trials;
 mod turns;
 mod unpacks;
+mod wide;
 mod wire;
 mod y4m;

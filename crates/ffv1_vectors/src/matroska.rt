@@ -109,7 +109,7 @@ fn is_read<R: ByteIn>(
     }
 }
 
-/// Changes the byte at a place by exclusive or.
+/// Changes the byte at an offset by exclusive or.
 fn change(file: &mut Vec<u8>, place: u32, bits: u32) {
     if let Some(byte) = file.get_mut(place as usize) {
         *byte ^= (bits % 256) as u8;

@@ -58,7 +58,7 @@ pub enum Order<'a> {
         container: ContainerChoice,
         /// Whether an output that exists is refused.
         no_clobber: bool,
-        /// Whether it is told how much of the video is read.
+        /// Whether to say how much of the video is read.
         progress: bool,
     },
     /// The video of a file, AVI or Matroska, is decoded.
@@ -69,23 +69,23 @@ pub enum Order<'a> {
         output: &'a str,
         /// Whether an output that exists is refused.
         no_clobber: bool,
-        /// Whether it is told how much of the file is read.
+        /// Whether to say how much of the file is read.
         progress: bool,
     },
-    /// The video of a file is decoded, and what its frames hold is told.
+    /// The video of a file is decoded, and what its frames hold is printed.
     Check {
         /// The path of the file.
         input: &'a str,
-        /// Whether the place of a fault is told too.
+        /// Whether to print the place of a fault too.
         place: bool,
-        /// Whether it is told how much of the file is read.
+        /// Whether to say how much of the file is read.
         progress: bool,
     },
-    /// The configuration of a file is told.
+    /// The configuration of a file is printed.
     Show {
         /// The path of the file.
         input: &'a str,
-        /// Whether the cost of its frames is told too.
+        /// Whether to print the cost of its frames too.
         cost: bool,
     },
     /// A mono picture of YUV4MPEG2 is coded and decoded.
@@ -116,8 +116,8 @@ fn is_matroska_name(path: &str) -> bool
 }
 
 impl ContainerChoice {
-    /// Whether an output of this name is Matroska: where that is chosen, or where neither is and the
-    /// name ends in `.mkv`. Standard output, `-`, is AVI where neither is chosen.
+    /// Whether an output of this name is Matroska: where that is chosen, or where neither is and
+    /// the name ends in `.mkv`. Standard output, `-`, is AVI where neither is chosen.
     pub fn is_matroska(self, output: &str) -> bool
         ensures { result ≡ is_matroska self output.now }
     {

@@ -26,14 +26,14 @@ without_both b [] ys h k = k
 without_both b (x ∷ xs) ys h k = (h.0, without_both b xs ys h.1 k)
 
 -- bytes that are digits
-abbrev AreDigits : List ℕ → Type 0
+abbrev pub AreDigits : List ℕ → Type 0
 AreDigits [] = Unit {0}
 AreDigits (c ∷ cs) = IsInRange 48 57 c × AreDigits cs
 
 digits_test : IsDigitsTest AreDigits
 digits_test = record { empty = tt; parts = λ c cs h. h; more = λ c cs h k. (h, k) }
 
-are_digits : (n : ℕ) → n < 2 ^ 32 → AreDigits (decimal n)
+pub are_digits : (n : ℕ) → n < 2 ^ 32 → AreDigits (decimal n)
 are_digits n small = digits_decimal (numerals_by_value AreDigits digits_test) n (omega (arith, small))
 
 low_without : (b : ℕ) (ds : List ℕ) → b < 48 → AreDigits ds → Without b ds

@@ -1,13 +1,16 @@
 -- Images and what they read as.
-use Rattle.std.proofs.Common.{◌≡◌, ℕ, ◌+◌, ◌-◌, ◌*◌, ◌^◌, ◌<◌, ◌≤◌, ◌==◌, ◌&&◌, ◌||◌, not, cond, nat_le, nat_lt, suc, Bool, true, false, Some, List, [], ◌∷◌, ◌++◌, length, drop, flat_map, codes, decimal, Ok, refl, ap, ◌∙◌, sym, subst, append_assoc, arith, length-append}
+use Rattle.std.proofs.Common.{◌≡◌, ℕ, ◌+◌, ◌-◌, ◌*◌, ◌^◌, ◌<◌, ◌≤◌, ◌==◌, ◌&&◌, ◌||◌, not, cond, nat_le, nat_lt, suc, Bool, true, false, Some, List, [], ◌∷◌, ◌++◌, length, drop, flat_map, codes, decimal, Ok, inl, inr, refl, ap, ◌∙◌, sym, subst, append_assoc, append-nil, arith, length-append, pow_mono}
 use Rattle.std.proofs.lemmas.Fmt.{length-decimal-le}
 use Rattle.std.proofs.Math.Seq.{take-append_seam, drop-append-add}
-use Rattle.std.proofs.lemmas.Bool.{eqb-true, false≢true, le-leb, leb-true}
+use Rattle.std.proofs.lemmas.Bool.{cases_lt, eqb-true, false≢true, le-leb, leb-true}
 use Rattle.std.specs.List.{position}
 use Rattle.ffv1_y4m.specs.declared.head.DeepHead.{DeepHead}
 use Rattle.ffv1_y4m.specs.Header.{line_end, line_read}
-use Rattle.ffv1_y4m.specs.Ppm.{all_in_depth, bytes_for, colours_read, depth_of_line, half_of, image_begun, image_head, image_header, image_header_text, image_read, interleaved, maximum_depth, maximum_read, maximum_room, parted, same_format, sizes_of}
-use Rattle.ffv1_y4m.specs.Images.{AreColours, AllColours, samples_text, image_text, IsImages, ReadsImages, ReadsFrom}
+use Rattle.ffv1_y4m.specs.Ppm.{all_in_depth, bytes_for, colours_read, depth_of_line, half_of, image_begun, image_head, image_header, image_header_text, image_read, interleaved, lined_header, maximum_depth, maximum_read, maximum_room, parted, same_format, sizes_of}
+use Rattle.ffv1_y4m.specs.Images.{AreColours, AllColours, AreSpelled, samples_text, image_text, IsHeader, IsImages, IsImagesIn, IsSpacedHeader, ReadsImages, ReadsFrom}
+use Rattle.ffv1_y4m.specs.Spaces.{IsGap, blank_room, is_blank, is_white}
+use Rattle.ffv1_y4m.proofs.PpmSteps.{header_is_lined, header_is_spaced, room_six}
+use Rattle.ffv1_y4m.proofs.SpacedHeaders.{spaced_is_read}
 use Rattle.ffv1_y4m.specs.VideoHead.{AreInDepth, IsNamed, IsSized, colour_head, has_depth_name}
 use Rattle.ffv1_y4m.specs.HeaderLine.{Without}
 use Rattle.ffv1_y4m.proofs.Lines.{position_found, taken_to}
@@ -127,7 +130,7 @@ third_found most depth rest s =
     rw (read, s.is) refl
 
 header_by : (most depth w h : ℕ) (line rest : List ℕ) → line_read 10 (line ++ 10 ∷ (decimal (2 ^ depth - 1) ++ 10 ∷ rest)) ≡ Ok (line, decimal (2 ^ depth - 1) ++ 10 ∷ rest) → maximum_read most (decimal (2 ^ depth - 1) ++ 10 ∷ rest) ≡ Ok (Some depth, rest) →
-    image_head (codes "P6") line (Some depth) ≡ Some (record { head = colour_head w h; depth = depth }) → image_header most (codes "P6\n" ++ (line ++ 10 ∷ (decimal (2 ^ depth - 1) ++ 10 ∷ rest))) ≡ Ok (record { head = colour_head w h; depth = depth }, rest)
+    image_head (codes "P6") line (Some depth) ≡ Some (record { head = colour_head w h; depth = depth }) → lined_header most (codes "P6\n" ++ (line ++ 10 ∷ (decimal (2 ^ depth - 1) ++ 10 ∷ rest))) ≡ Ok (record { head = colour_head w h; depth = depth }, rest)
 header_by most depth w h line rest second third head = rw second (rw third (rw head refl))
 
 pub header_parts : (depth w h : ℕ) (rest : List ℕ) → image_header_text depth w h ++ rest ≡ codes "P6\n" ++ ((decimal w ++ 32 ∷ decimal h) ++ 10 ∷ (decimal (2 ^ depth - 1) ++ 10 ∷ rest))
@@ -146,12 +149,45 @@ header_of_bytes w h =
     let front : List ℕ = codes "P6\n" ++ decimal w ++ codes " " ++ decimal h in
     ap (λ z. ((front ++ 10 ∷ []) ++ z) ++ 10 ∷ []) spelled_8 ∙ (append_assoc (front ++ 10 ∷ []) (codes "255") (10 ∷ []) ∙ append_assoc front (10 ∷ []) (codes "255\n"))
 
-header_line_found : (most depth w h : ℕ) (rest : List ℕ) → IsSized (colour_head w h) → Says most depth → image_header most (codes "P6\n" ++ ((decimal w ++ 32 ∷ decimal h) ++ 10 ∷ (decimal (2 ^ depth - 1) ++ 10 ∷ rest))) ≡ Ok (record { head = colour_head w h; depth = depth }, rest)
+header_line_found : (most depth w h : ℕ) (rest : List ℕ) → IsSized (colour_head w h) → Says most depth → lined_header most (codes "P6\n" ++ ((decimal w ++ 32 ∷ decimal h) ++ 10 ∷ (decimal (2 ^ depth - 1) ++ 10 ∷ rest))) ≡ Ok (record { head = colour_head w h; depth = depth }, rest)
 header_line_found most depth w h rest s m = header_by most depth w h (decimal w ++ 32 ∷ decimal h) rest (second_found w h (decimal (2 ^ depth - 1) ++ 10 ∷ rest) s) (third_found most depth rest m) (head_found depth w h s)
 
-pub image_header_found : (most depth w h : ℕ) (rest : List ℕ) → IsSized (colour_head w h) → Says most depth → image_header most (image_header_text depth w h ++ rest) ≡ Ok (record { head = colour_head w h; depth = depth }, rest)
-image_header_found most depth w h rest s m =
+lined_found : (most depth w h : ℕ) (rest : List ℕ) → IsSized (colour_head w h) → Says most depth → lined_header most (image_header_text depth w h ++ rest) ≡ Ok (record { head = colour_head w h; depth = depth }, rest)
+lined_found most depth w h rest s m =
     rw (header_parts depth w h rest) (header_line_found most depth w h rest s m)
+
+-- what is known of a header's sizes and of its depth
+pub record IsSaid (most depth w h : ℕ) : Type 0 where
+  pub sized : IsSized (colour_head w h)
+  pub few : depth ≤ 16
+  pub says : Says most depth
+
+small_top : (depth : ℕ) → depth ≤ 16 → 2 ^ depth - 1 < 2 ^ 32
+small_top depth few =
+    let top : 2 ^ depth ≤ 2 ^ 16 = pow_mono {i = depth} {j = 16} few in
+    omega (arith, top)
+
+pub image_header_found : (most depth w h : ℕ) (header rest : List ℕ) → IsSaid most depth w h → IsHeader most depth w h header → image_header most (header ++ rest) ≡ Ok (record { head = colour_head w h; depth = depth }, rest)
+image_header_found most depth w h header rest s is = elim (cases_lt 8 most) [
+  | inl deep ↦
+      let short : length (decimal (2 ^ depth - 1)) < 6 = rw (sym (room_six most (omega (arith, deep)))) s.says.short in
+      header_is_spaced most (header ++ rest) deep ∙ spaced_is_read most depth w h header rest (is.spaced deep) s.sized s.few s.says.is (omega (arith, short)) (small_top depth s.few)
+  | inr few ↦
+      let line : header ≡ image_header_text depth w h = is.lined few in
+      header_is_lined most (header ++ rest) few ∙ (rw line (lined_found most depth w h rest s.sized s.says))
+]
+
+-- such a header has a byte at least
+lined_some : (depth w h : ℕ) → 0 < length (image_header_text depth w h)
+lined_some depth w h =
+    let long = ap length (sym (append-nil (image_header_text depth w h)) ∙ header_parts depth w h []) in
+    omega (arith, long)
+
+header_some : (most depth w h : ℕ) (header : List ℕ) → IsHeader most depth w h header → 0 < length header
+header_some most depth w h header is = elim (cases_lt 8 most) [
+  | inl deep ↦ let long = ap length (is.spaced deep).whole in omega (arith, long)
+  | inr few ↦ let long = ap length (is.lined few) in omega (arith, long, lined_some depth w h)
+]
 
 same_found : (depth w h : ℕ) (rest : List ℕ) → same_format (record { head = colour_head w h; depth = depth }) (record { head = colour_head w h; depth = depth }) rest ≡ Ok (true, rest)
 same_found depth w h rest =
@@ -161,12 +197,16 @@ same_found depth w h rest =
     rw (wide, high, deep) refl
 
 -- a later image begins
-later_by : (most : ℕ) (said : DeepHead) (cs rest : List ℕ) → image_header most (80 ∷ cs) ≡ Ok (said, rest) → same_format said said rest ≡ Ok (true, rest) → image_begun most said (80 ∷ cs) ≡ Ok (true, rest)
-later_by most said cs rest h same = rw h same
+later_by : (most : ℕ) (said : DeepHead) (text rest : List ℕ) → 0 < length text → image_header most text ≡ Ok (said, rest) → same_format said said rest ≡ Ok (true, rest) → image_begun most said text ≡ Ok (true, rest)
+later_by most said [] rest some h same = absurd (omega (arith, some))
+later_by most said (c ∷ cs) rest some h same = rw h same
 
-begun_found : (most depth w h : ℕ) (rest : List ℕ) → IsSized (colour_head w h) → Says most depth → image_begun most (record { head = colour_head w h; depth = depth }) (image_header_text depth w h ++ rest) ≡ Ok (true, rest)
-begun_found most depth w h rest s m =
-    rw (header_parts depth w h rest) (later_by most (record { head = colour_head w h; depth = depth }) (54 ∷ 10 ∷ ((decimal w ++ 32 ∷ decimal h) ++ 10 ∷ (decimal (2 ^ depth - 1) ++ 10 ∷ rest))) rest (header_line_found most depth w h rest s m) (same_found depth w h rest))
+some_header : (header rest : List ℕ) → 0 < length header → 0 < length (header ++ rest)
+some_header header rest some = omega (arith, length-append header rest, some)
+
+begun_found : (most depth w h : ℕ) (header rest : List ℕ) → IsSaid most depth w h → IsHeader most depth w h header → image_begun most (record { head = colour_head w h; depth = depth }) (header ++ rest) ≡ Ok (true, rest)
+begun_found most depth w h header rest s is =
+    later_by most (record { head = colour_head w h; depth = depth }) (header ++ rest) rest (some_header header rest (header_some most depth w h header is)) (image_header_found most depth w h header rest s is) (same_found depth w h rest)
 
 -- the head of an image's header
 pub record IsColourHead (said : DeepHead) : Type 0 where
@@ -178,29 +218,77 @@ same_begun : (most : ℕ) (said : DeepHead) (text : List ℕ) → image_begun mo
 same_begun most said [] = refl
 same_begun most said (c ∷ cs) = refl
 
-pub begun_again : (most : ℕ) (said : DeepHead) (rest : List ℕ) → IsColourHead said → said.depth ≤ most → image_begun most said (image_header_text said.depth said.head.width said.head.height ++ rest) ≡ Ok (true, rest)
-begun_again most said rest is within =
+pub begun_again : (most : ℕ) (said : DeepHead) (header rest : List ℕ) → IsColourHead said → said.depth ≤ most → IsHeader most said.depth said.head.width said.head.height header → image_begun most said (header ++ rest) ≡ Ok (true, rest)
+begun_again most said header rest is within spelled =
     let w = said.head.width in
     let h = said.head.height in
     let sized : IsSized (colour_head said.head.width said.head.height) = record { some_wide = is.sized.some_wide; wide = is.sized.wide; some_high = is.sized.some_high; high = is.sized.high } in
     let named : IsNamed said.depth (colour_head said.head.width said.head.height) = subst (IsNamed said.depth) is.colour is.named in
-    same_begun most said (image_header_text said.depth w h ++ rest) ∙ begun_found most said.depth w h rest sized (depth_said most said.depth w h named within)
+    same_begun most said (header ++ rest) ∙ begun_found most said.depth w h header rest (record { sized = sized; few = named.most; says = depth_said most said.depth w h named within }) spelled
 
 first_found : (most depth w h : ℕ) (p : List (List ℕ)) (rest : List ℕ) → AreColours (bytes_for depth (w * h)) p → AreInDepth depth p → image_read most (record { head = colour_head w h; depth = depth }) true (samples_text depth p ++ rest) ≡ Ok (Some p, rest)
 first_found most depth w h p rest c small = rw (samples_found depth (bytes_for depth (w * h)) p rest (whole_samples depth (w * h)) c small) refl
 
-later_found : (most depth w h : ℕ) (p : List (List ℕ)) (rest : List ℕ) → IsSized (colour_head w h) → Says most depth → AreColours (bytes_for depth (w * h)) p → AreInDepth depth p → image_read most (record { head = colour_head w h; depth = depth }) false (image_text depth w h p ++ rest) ≡ Ok (Some p, rest)
-later_found most depth w h p rest s m c small =
-    rw (append_assoc (image_header_text depth w h) (samples_text depth p) rest) (rw (begun_found most depth w h (samples_text depth p ++ rest) s m) (rw (samples_found depth (bytes_for depth (w * h)) p rest (whole_samples depth (w * h)) c small) refl))
+later_found : (most depth w h : ℕ) (header : List ℕ) (p : List (List ℕ)) (rest : List ℕ) → IsSaid most depth w h → IsHeader most depth w h header → AreColours (bytes_for depth (w * h)) p → AreInDepth depth p → image_read most (record { head = colour_head w h; depth = depth }) false (header ++ (samples_text depth p ++ rest)) ≡ Ok (Some p, rest)
+later_found most depth w h header p rest s is c small =
+    rw (begun_found most depth w h header (samples_text depth p ++ rest) s is) (rw (samples_found depth (bytes_for depth (w * h)) p rest (whole_samples depth (w * h)) c small) refl)
 
-images_found : (most depth w h : ℕ) (ps : List (List (List ℕ))) → IsSized (colour_head w h) → Says most depth → AllColours depth (bytes_for depth (w * h)) ps → ReadsImages most (record { head = colour_head w h; depth = depth }) (flat_map (image_text depth w h) ps) ps
-images_found most depth w h [] s m fit = refl
-images_found most depth w h (p ∷ ps) s m fit = (flat_map (image_text depth w h) ps, later_found most depth w h p (flat_map (image_text depth w h) ps) s m fit.0.0 fit.0.1, images_found most depth w h ps s m fit.1)
+images_found : (most depth w h : ℕ) (text : List ℕ) (ps : List (List (List ℕ))) → IsSaid most depth w h → AreSpelled most depth w h text ps → AllColours depth (bytes_for depth (w * h)) ps → ReadsImages most (record { head = colour_head w h; depth = depth }) text ps
+images_found most depth w h text [] s spelled fit = rw spelled refl
+images_found most depth w h text (p ∷ ps) s (header, rest, is, whole, more) fit =
+    (rest, rw whole (later_found most depth w h header p rest s is fit.0.0 fit.0.1), images_found most depth w h rest ps s more fit.1)
+
+pub all_spelled_found : (text : List ℕ) (most depth w h : ℕ) (p : List (List ℕ)) (ps : List (List (List ℕ))) → IsImagesIn most text depth w h (p ∷ ps) → depth ≤ most →
+    (rest : List ℕ) × (image_header most text ≡ Ok (record { head = colour_head w h; depth = depth }, rest)) × ReadsFrom most (record { head = colour_head w h; depth = depth }) rest p ps
+all_spelled_found text most depth w h p ps t within =
+    by t.spelled
+  where
+    said : IsSaid most depth w h
+    said = record { sized = t.sized; few = t.named.most; says = depth_said most depth w h t.named within }
+
+    by : AreSpelled most depth w h text (p ∷ ps) → (rest : List ℕ) × (image_header most text ≡ Ok (record { head = colour_head w h; depth = depth }, rest)) × ReadsFrom most (record { head = colour_head w h; depth = depth }) rest p ps
+    by (header, rest, is, whole, more) =
+        (samples_text depth p ++ rest, rw whole (image_header_found most depth w h header (samples_text depth p ++ rest) said is), (rest, first_found most depth w h p rest t.fit.0.0 t.fit.0.1, images_found most depth w h rest ps said more t.fit.1))
+
+-- ---- a text of headers of three lines
+
+gap_of : (c : ℕ) → is_white c ≡ true → IsGap (c ∷ [])
+unfolding is_blank blank_room
+gap_of c white = record { first = c; more = []; is = refl; white = white; blank = refl; short = omega arith }
+
+lined_is_spaced : (depth w h : ℕ) → IsSpacedHeader depth w h (image_header_text depth w h)
+lined_is_spaced depth w h = record {
+  before_width = 10 ∷ [];
+  before_height = 32 ∷ [];
+  before_greatest = 10 ∷ [];
+  last = 10;
+  first = gap_of 10 refl;
+  second = gap_of 32 refl;
+  third = gap_of 10 refl;
+  white = refl;
+  whole = sym (append-nil (image_header_text depth w h)) ∙ (header_parts depth w h [] ∙ ap (λ z. codes "P6\n" ++ z) (append_assoc (decimal w) (32 ∷ decimal h) (10 ∷ (decimal (2 ^ depth - 1) ++ 10 ∷ []))));
+}
+
+lined_header_is : (most depth w h : ℕ) → IsHeader most depth w h (image_header_text depth w h)
+lined_header_is most depth w h = record { lined = λ few. refl; spaced = λ deep. lined_is_spaced depth w h }
+
+lined_spelled : (most depth w h : ℕ) (ps : List (List (List ℕ))) → AreSpelled most depth w h (flat_map (image_text depth w h) ps) ps
+lined_spelled most depth w h [] = refl
+lined_spelled most depth w h (p ∷ ps) =
+    (image_header_text depth w h, flat_map (image_text depth w h) ps, lined_header_is most depth w h, append_assoc (image_header_text depth w h) (samples_text depth p) (flat_map (image_text depth w h) ps), lined_spelled most depth w h ps)
+
+pub lined_images : (text : List ℕ) (most depth w h : ℕ) (ps : List (List (List ℕ))) → IsImages text depth w h ps → IsImagesIn most text depth w h ps
+lined_images text most depth w h ps t = record { sized = t.sized; named = t.named; spelled = rw t.whole (lined_spelled most depth w h ps); fit = t.fit }
 
 pub all_images_found : (text : List ℕ) (most depth w h : ℕ) (p : List (List ℕ)) (ps : List (List (List ℕ))) → IsImages text depth w h (p ∷ ps) → depth ≤ most →
     (rest : List ℕ) × (image_header most text ≡ Ok (record { head = colour_head w h; depth = depth }, rest)) × ReadsFrom most (record { head = colour_head w h; depth = depth }) rest p ps
-all_images_found text most depth w h p ps t within =
-    let more = flat_map (image_text depth w h) ps in
-    let m = depth_said most depth w h t.named within in
-    let whole : text ≡ image_header_text depth w h ++ (samples_text depth p ++ more) = t.whole ∙ append_assoc (image_header_text depth w h) (samples_text depth p) more in
-    (samples_text depth p ++ more, rw whole (image_header_found most depth w h (samples_text depth p ++ more) t.sized m), (more, first_found most depth w h p more t.fit.0.0 t.fit.0.1, images_found most depth w h ps t.sized m t.fit.1))
+all_images_found text most depth w h p ps t within = all_spelled_found text most depth w h p ps (lined_images text most depth w h (p ∷ ps) t) within
+
+-- where depths up to 8 are read, that is all
+spelled_lined : (most depth w h : ℕ) (text : List ℕ) (ps : List (List (List ℕ))) → most ≤ 8 → AreSpelled most depth w h text ps → text ≡ flat_map (image_text depth w h) ps
+spelled_lined most depth w h text [] few spelled = spelled
+spelled_lined most depth w h text (p ∷ ps) few (header, rest, is, whole, more) =
+    whole ∙ (rw (is.lined few, spelled_lined most depth w h rest ps few more) (sym (append_assoc (image_header_text depth w h) (samples_text depth p) (flat_map (image_text depth w h) ps))))
+
+pub images_lined : (text : List ℕ) (most depth w h : ℕ) (ps : List (List (List ℕ))) → most ≤ 8 → IsImagesIn most text depth w h ps → IsImages text depth w h ps
+images_lined text most depth w h ps few t = record { sized = t.sized; named = t.named; whole = spelled_lined most depth w h text ps few t.spelled; fit = t.fit }

@@ -71,7 +71,7 @@ rest_shortens said = begun_shortens (colours_read said.depth (image_bytes said))
 image_stays : (most : ℕ) (said : DeepHead) → IsColourHead said → Stays (image_begun most said) true
 image_stays most said is = λ bytes h behind.
     let t = begun_read most said bytes [] h in
-    rw (t.whole ∙ append-nil _) (begun_again most said behind is t.most_is)
+    rw (t.whole ∙ append-nil t.header) (begun_again most said t.header behind is t.most_is t.is)
 
 image_grows : (most : ℕ) (said : DeepHead) (xs ys : List ℕ) → Local (image_begun most said) xs true → ys ≡ [] → GrowsInImage most said false (xs ++ ys)
 image_grows most said xs ys a none = rw none (a [])

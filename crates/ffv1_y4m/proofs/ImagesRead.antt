@@ -1,6 +1,6 @@
 -- Images that were read are there.
-use Rattle.std.proofs.Common.{◌≡◌, ℕ, ◌+◌, ◌*◌, ◌-◌, ◌≤◌, ◌==◌, ◌&&◌, ◌^◌, nat_lt, nat_le, nat_eq, Bool, true, false, cond, Option, Some, None, List, [], ◌∷◌, ◌++◌, length, take, drop, flat_map, codes, decimal, Ok, Err, refl, ap, ◌∙◌, sym, subst, append_assoc, arith, length-take, take-append-drop}
-use Rattle.std.proofs.lemmas.Bool.{eqb-true, leb-true, true≢false, false≢true}
+use Rattle.std.proofs.Common.{◌≡◌, ℕ, ◌+◌, ◌*◌, ◌-◌, ◌≤◌, ◌<◌, ◌==◌, ◌&&◌, ◌^◌, nat_lt, nat_le, nat_eq, Bool, true, false, cond, Option, Some, None, List, [], ◌∷◌, ◌++◌, length, take, drop, codes, decimal, Ok, Err, inl, inr, refl, ap, ◌∙◌, sym, subst, arith, length-take, take-append-drop}
+use Rattle.std.proofs.lemmas.Bool.{cases_lt, eqb-true, leb-true, true≢false, false≢true}
 use Rattle.std.proofs.lemmas.List.{take_all}
 use Rattle.std.specs.Cmp.Lexicographic.{same_text}
 use Rattle.std.specs.List.{position}
@@ -12,14 +12,16 @@ use Rattle.ffv1_y4m.specs.declared.head.VideoHead.{VideoHead}
 use Rattle.ffv1_y4m.specs.declared.fault.Fault.TheVariants as fault
 use Rattle.ffv1_y4m.specs.Header.{is_text, within, number_of, size_of, line_read}
 use Rattle.ffv1_y4m.specs.Sequence.{Outcome, ◌then◌, give, refuse, where_begun}
-use Rattle.ffv1_y4m.specs.Ppm.{both_sizes, colours_read, depth_of_line, half_of, image_begun, image_bytes, image_head, image_header, image_header_text, image_read, image_rest, maximum_depth, maximum_read, maximum_room, parted, same_format, sized_head, sizes_at, sizes_of, some_head, third_of}
-use Rattle.ffv1_y4m.specs.Images.{AreColours, AllColours, samples_text, image_text, IsImages, ReadsImages, ReadsFrom}
+use Rattle.ffv1_y4m.specs.Ppm.{both_sizes, colours_read, depth_of_line, half_of, image_begun, image_bytes, image_head, image_header, image_header_text, image_read, image_rest, lined_header, maximum_depth, maximum_read, maximum_room, parted, same_format, sized_head, sizes_at, sizes_of, some_head, third_of}
+use Rattle.ffv1_y4m.specs.Images.{AreColours, AllColours, AreSpelled, samples_text, IsHeader, IsImages, IsImagesIn, ReadsImages, ReadsFrom}
 use Rattle.ffv1_y4m.specs.VideoHead.{AreInDepth, IsNamed, IsSized, colour_head}
 use Rattle.ffv1_y4m.proofs.AnswerParts.{value_in, rest_in, is_fault, is_some, some_in, parted_by}
 use Rattle.ffv1_y4m.proofs.Maxima.{spelled_8, spelled_9, spelled_10, spelled_12, spelled_14, spelled_16}
 use Rattle.ffv1_y4m.proofs.Lines.{line_parts, line_was}
 use Rattle.ffv1_y4m.proofs.DeepThirds.{interleaved-parted, length-third, whole_samples}
-use Rattle.ffv1_y4m.proofs.ImageTexts.{header_parts}
+use Rattle.ffv1_y4m.proofs.ImageTexts.{header_parts, images_lined}
+use Rattle.ffv1_y4m.proofs.PpmSteps.{header_is_lined, header_is_spaced}
+use Rattle.ffv1_y4m.proofs.SpacedHeaders.{PartsTold, header_behind, parts_told}
 use Rattle.ffv1_y4m.proofs.PpmHeads.{depth_is_named}
 use Rattle.ffv1_y4m.proofs.Colours.{told}
 
@@ -133,20 +135,20 @@ depth_read : (most : ℕ) (line : List ℕ) (depth : ℕ) → depth_of_line most
 unfolding depth_of_line
 depth_read most line depth h = maximum_spelled line depth (depth_by most (maximum_depth line) depth h)
 
-pub record HeaderTold (most : ℕ) (text : List ℕ) (said : DeepHead) (rest : List ℕ) : Type 0 where
-  pub sized : IsSized (colour_head said.head.width said.head.height)
-  pub named : IsNamed said.depth (colour_head said.head.width said.head.height)
-  pub most_is : said.depth ≤ most
-  pub whole : text ≡ image_header_text said.depth said.head.width said.head.height ++ rest
+record LinedTold (most : ℕ) (text : List ℕ) (said : DeepHead) (rest : List ℕ) : Type 0 where
+  sized : IsSized (colour_head said.head.width said.head.height)
+  named : IsNamed said.depth (colour_head said.head.width said.head.height)
+  most_is : said.depth ≤ most
+  whole : text ≡ image_header_text said.depth said.head.width said.head.height ++ rest
 
-header_with : (most : ℕ) (text one two rest magic line third : List ℕ) (depth : Option ℕ) (said : DeepHead) → text ≡ magic ++ 10 ∷ one → one ≡ line ++ 10 ∷ two → two ≡ third ++ 10 ∷ rest → depth_of_line most third ≡ depth → LinesTold magic line depth said → HeaderTold most text said rest
+header_with : (most : ℕ) (text one two rest magic line third : List ℕ) (depth : Option ℕ) (said : DeepHead) → text ≡ magic ++ 10 ∷ one → one ≡ line ++ 10 ∷ two → two ≡ third ++ 10 ∷ rest → depth_of_line most third ≡ depth → LinesTold magic line depth said → LinedTold most text said rest
 header_with most text one two rest magic line third depth said p q r is t =
     let s = t.sizes in
     let d = said.depth in
     let last : depth_of_line most third ≡ Some said.depth = is ∙ s.deep in
     let spelled : third ≡ decimal (2 ^ said.depth - 1) = depth_read most third d last in
     let named = depth_is_named most third d (sym last) in
-    let P : DeepHead → Type 0 = λ k. HeaderTold most text k rest in
+    let P : DeepHead → Type 0 = λ k. LinedTold most text k rest in
     let whole : text ≡ codes "P6\n" ++ ((decimal s.wide ++ 32 ∷ decimal s.high) ++ 10 ∷ (decimal (2 ^ said.depth - 1) ++ 10 ∷ rest)) = p ∙ (rw (t.first, q, s.spelled, r, spelled) refl) in
     subst P (sym s.is) (record { sized = s.sized; named = named.1 s.wide s.high; most_is = named.0; whole = whole ∙ sym (header_parts d s.wide s.high rest) })
 
@@ -161,8 +163,8 @@ maximum_told most text depth rest h =
     let same : t.mid ≡ rest = ap rest_in t.goes_on in
     record { line = t.value; read = t.begins ∙ ap (λ z. Ok (t.value, z)) same; is = ap (value_in depth) t.goes_on }
 
-pub header_read : (most : ℕ) (text : List ℕ) (said : DeepHead) (rest : List ℕ) → image_header most text ≡ Ok (said, rest) → HeaderTold most text said rest
-header_read most text said rest h =
+lined_read : (most : ℕ) (text : List ℕ) (said : DeepHead) (rest : List ℕ) → lined_header most text ≡ Ok (said, rest) → LinedTold most text said rest
+lined_read most text said rest h =
     let one = parted_by (line_read 3 text) (λ magic. line_read 10 then λ sizes. maximum_read most then λ depth. some_head (image_head magic sizes depth)) said rest h in
     let two = parted_by (line_read 10 one.mid) (λ sizes. maximum_read most then λ depth. some_head (image_head one.value sizes depth)) said rest one.goes_on in
     let three = parted_by (maximum_read most two.mid) (λ depth. some_head (image_head one.value two.value depth)) said rest two.goes_on in
@@ -170,6 +172,62 @@ header_read most text said rest h =
     let third = maximum_told most two.mid three.value three.mid three.begins in
     let r : two.mid ≡ third.line ++ 10 ∷ rest = (line_was (maximum_room most) two.mid third.line three.mid third.read).whole ∙ ap (λ z. third.line ++ 10 ∷ z) last.1 in
     header_with most text one.mid two.mid rest one.value two.value third.line three.value said (line_was 3 text one.value one.mid one.begins).whole (line_was 10 one.mid two.value two.mid two.begins).whole r third.is (lines_read one.value two.value three.value said last.0)
+
+-- a header that was read, of whatever kind
+pub record HeaderTold (most : ℕ) (text : List ℕ) (said : DeepHead) (rest : List ℕ) : Type 0 where
+  pub sized : IsSized (colour_head said.head.width said.head.height)
+  pub named : IsNamed said.depth (colour_head said.head.width said.head.height)
+  pub most_is : said.depth ≤ most
+  pub header : List ℕ
+  pub is : IsHeader most said.depth said.head.width said.head.height header
+  pub whole : text ≡ header ++ rest
+
+lined_told : (most : ℕ) (text : List ℕ) (said : DeepHead) (rest : List ℕ) → most ≤ 8 → LinedTold most text said rest → HeaderTold most text said rest
+lined_told most text said rest few t = record {
+  sized = t.sized;
+  named = t.named;
+  most_is = t.most_is;
+  header = image_header_text said.depth said.head.width said.head.height;
+  is = record { lined = λ again. refl; spaced = λ deep. absurd (omega (arith, few, deep)) };
+  whole = t.whole;
+}
+
+spaced_told : (most : ℕ) (text : List ℕ) (said : DeepHead) (rest : List ℕ) → 8 < most → PartsTold most text said rest → HeaderTold most text said rest
+spaced_told most text said rest deep t =
+    let one = size_read t.wide t.width t.is_width in
+    let two = size_read t.high t.height t.is_height in
+    let spelled : t.top ≡ decimal (2 ^ t.depth - 1) = depth_read most t.top t.depth t.is_depth in
+    let named = depth_is_named most t.top t.depth (sym t.is_depth) in
+    let last : List ℕ = t.last ∷ [] in
+    let header : List ℕ = codes "P6" ++ (t.before_width ++ (decimal t.width ++ (t.before_height ++ (decimal t.height ++ (t.before_greatest ++ (decimal (2 ^ t.depth - 1) ++ t.last ∷ [])))))) in
+    let P : DeepHead → Type 0 = λ k. HeaderTold most text k rest in
+    subst P (sym t.is) (record {
+      sized = record { some_wide = one.some; wide = one.most; some_high = two.some; high = two.most };
+      named = named.1 t.width t.height;
+      most_is = named.0;
+      header = header;
+      is = record {
+        lined = λ few. absurd (omega (arith, few, deep));
+        spaced = λ again. record {
+          before_width = t.before_width;
+          before_height = t.before_height;
+          before_greatest = t.before_greatest;
+          last = t.last;
+          first = t.first;
+          second = t.second;
+          third = t.third;
+          white = t.white;
+          whole = refl;
+        };
+      };
+      whole = t.whole ∙ (rw (one.spelled, two.spelled, spelled) (sym (header_behind (codes "P6") t.before_width (decimal t.width) t.before_height (decimal t.height) t.before_greatest (decimal (2 ^ t.depth - 1)) t.last rest)));
+    })
+
+pub header_read : (most : ℕ) (text : List ℕ) (said : DeepHead) (rest : List ℕ) → image_header most text ≡ Ok (said, rest) → HeaderTold most text said rest
+header_read most text said rest h = elim (cases_lt 8 most) [
+  | inl deep ↦ spaced_told most text said rest deep (parts_told most text said rest (sym (header_is_spaced most text deep) ∙ h))
+  | inr few ↦ lined_told most text said rest few (lined_read most text said rest (sym (header_is_lined most text few) ∙ h))
+]
 
 -- samples are their thirds
 record SamplesTold (depth n : ℕ) (text : List ℕ) (p : List (List ℕ)) (rest : List ℕ) : Type 0 where
@@ -227,11 +285,13 @@ same_by true true false said next text rest p q r h = absurd (true≢false (ap i
 same_by true true true said next text rest p q r h = record { wide = eqb-true _ _ p; high = eqb-true _ _ q; deep = eqb-true _ _ r; left = ap rest_in h }
 
 pub record LaterTold (most : ℕ) (said : DeepHead) (text rest : List ℕ) : Type 0 where
-  pub whole : text ≡ image_header_text said.depth said.head.width said.head.height ++ rest
+  pub header : List ℕ
+  pub is : IsHeader most said.depth said.head.width said.head.height header
+  pub whole : text ≡ header ++ rest
   pub most_is : said.depth ≤ most
 
 later_with : (most : ℕ) (said next : DeepHead) (text mid rest : List ℕ) → HeaderTold most text next mid → SameFormat said next mid rest → LaterTold most said text rest
-later_with most said next text mid rest t same = record { whole = t.whole ∙ (rw (same.wide, same.high, same.deep, same.left) refl); most_is = rw same.deep t.most_is }
+later_with most said next text mid rest t same = record { header = t.header; is = rw (same.wide, same.high, same.deep) t.is; whole = t.whole ∙ ap (λ z. t.header ++ z) same.left; most_is = rw same.deep t.most_is }
 
 later_by : (most : ℕ) (said : DeepHead) (text rest : List ℕ) → (image_header most then same_format said) text ≡ Ok (true, rest) → LaterTold most said text rest
 later_by most said text rest h =
@@ -257,23 +317,24 @@ ended_read most said (c ∷ cs) rest h =
     let t = parted_by (image_header most (c ∷ cs)) (same_format said) false rest h in
     absurd (not_same (said.head.width == t.value.head.width && (said.head.height == t.value.head.height && said.depth == t.value.depth)) t.mid rest t.goes_on)
 
-record ImageTold (said : DeepHead) (text : List ℕ) (p : List (List ℕ)) (rest : List ℕ) : Type 0 where
+record ImageTold (most : ℕ) (said : DeepHead) (text : List ℕ) (p : List (List ℕ)) (rest : List ℕ) : Type 0 where
   fits : AreColours (image_bytes said) p
   small : AreInDepth said.depth p
-  whole : text ≡ image_text said.depth said.head.width said.head.height p ++ rest
+  header : List ℕ
+  is : IsHeader most said.depth said.head.width said.head.height header
+  whole : text ≡ header ++ (samples_text said.depth p ++ rest)
 
 whole_image : (said : DeepHead) → half_of said.depth (image_bytes said) ≡ 0
 whole_image said = whole_samples said.depth (said.head.width * said.head.height)
 
-image_with : (most : ℕ) (said : DeepHead) (text mid : List ℕ) (p : List (List ℕ)) (rest : List ℕ) (b : Bool) → image_begun most said text ≡ Ok (b, mid) → image_rest said b mid ≡ Ok (Some p, rest) → ImageTold said text p rest
+image_with : (most : ℕ) (said : DeepHead) (text mid : List ℕ) (p : List (List ℕ)) (rest : List ℕ) (b : Bool) → image_begun most said text ≡ Ok (b, mid) → image_rest said b mid ≡ Ok (Some p, rest) → ImageTold most said text p rest
 image_with most said text mid p rest false begins h = absurd (false≢true (ap (λ r. is_some (value_in None r)) h))
 image_with most said text mid p rest true begins h =
     let a = begun_read most said text mid begins in
     let b = first_read said.depth (image_bytes said) mid p rest (whole_image said) h in
-    let front = image_header_text said.depth said.head.width said.head.height in
-    record { fits = b.fits; small = b.small; whole = a.whole ∙ (ap (λ z. front ++ z) b.whole ∙ sym (append_assoc front (samples_text said.depth p) rest)) }
+    record { fits = b.fits; small = b.small; header = a.header; is = a.is; whole = a.whole ∙ ap (λ z. a.header ++ z) b.whole }
 
-image_told : (most : ℕ) (said : DeepHead) (text : List ℕ) (p : List (List ℕ)) (rest : List ℕ) → image_read most said false text ≡ Ok (Some p, rest) → ImageTold said text p rest
+image_told : (most : ℕ) (said : DeepHead) (text : List ℕ) (p : List (List ℕ)) (rest : List ℕ) → image_read most said false text ≡ Ok (Some p, rest) → ImageTold most said text p rest
 image_told most said text p rest h =
     let t = parted_by (image_begun most said text) (image_rest said) (Some p) rest h in
     image_with most said text t.mid p rest t.value t.begins t.goes_on
@@ -289,33 +350,34 @@ end_told most said text rest h =
     let t = parted_by (image_begun most said text) (image_rest said) None rest h in
     end_with most said text t.mid rest t.value t.begins t.goes_on
 
-record ImagesTold (said : DeepHead) (text : List ℕ) (ps : List (List (List ℕ))) : Type 0 where
+record ImagesTold (most : ℕ) (said : DeepHead) (text : List ℕ) (ps : List (List (List ℕ))) : Type 0 where
   fit : AllColours said.depth (image_bytes said) ps
-  whole : text ≡ flat_map (image_text said.depth said.head.width said.head.height) ps
+  spelled : AreSpelled most said.depth said.head.width said.head.height text ps
 
-images_told : (most : ℕ) (said : DeepHead) (text : List ℕ) (ps : List (List (List ℕ))) → ReadsImages most said text ps → ImagesTold said text ps
-images_told most said text [] reads = record { fit = tt; whole = end_told most said text [] reads }
+images_told : (most : ℕ) (said : DeepHead) (text : List ℕ) (ps : List (List (List ℕ))) → ReadsImages most said text ps → ImagesTold most said text ps
+images_told most said text [] reads = record { fit = tt; spelled = end_told most said text [] reads }
 images_told most said text (p ∷ ps) reads =
     let a = image_told most said text p reads.0 reads.1 in
     let b = images_told most said reads.0 ps reads.2 in
-    record { fit = ((a.fits, a.small), b.fit); whole = a.whole ∙ ap (λ z. image_text said.depth said.head.width said.head.height p ++ z) b.whole }
+    record { fit = ((a.fits, a.small), b.fit); spelled = (a.header, reads.0, a.is, a.whole, b.spelled) }
 
 all_by : (most : ℕ) (text : List ℕ) (said : DeepHead) (rest : List ℕ) (p : List (List ℕ)) (ps : List (List (List ℕ))) → image_header most text ≡ Ok (said, rest) → ReadsFrom most said rest p ps →
-    IsImages text said.depth said.head.width said.head.height (p ∷ ps)
+    IsImagesIn most text said.depth said.head.width said.head.height (p ∷ ps)
 all_by most text said rest p ps h reads =
     let t = header_read most text said rest h in
     let a = first_read said.depth (image_bytes said) rest p reads.0 (whole_image said) reads.1 in
     let b = images_told most said reads.0 ps reads.2 in
-    let d = said.depth in
-    let front = image_header_text d said.head.width said.head.height in
-    let all = image_text d said.head.width said.head.height in
     record {
       sized = t.sized;
       named = t.named;
-      whole = t.whole ∙ (ap (λ z. front ++ z) (a.whole ∙ ap (λ z. samples_text d p ++ z) b.whole) ∙ sym (append_assoc front (samples_text d p) (flat_map all ps)));
+      spelled = (t.header, reads.0, t.is, t.whole ∙ ap (λ z. t.header ++ z) a.whole, b.spelled);
       fit = ((a.fits, a.small), b.fit);
     }
 
-pub all_images_read : (text : List ℕ) (most depth : ℕ) (head : VideoHead) (rest : List ℕ) (p : List (List ℕ)) (ps : List (List (List ℕ))) → image_header most text ≡ Ok (record { head = head; depth = depth }, rest) → ReadsFrom most (record { head = head; depth = depth }) rest p ps →
+pub all_spelled_read : (text : List ℕ) (most depth : ℕ) (head : VideoHead) (rest : List ℕ) (p : List (List ℕ)) (ps : List (List (List ℕ))) → image_header most text ≡ Ok (record { head = head; depth = depth }, rest) → ReadsFrom most (record { head = head; depth = depth }) rest p ps →
+    IsImagesIn most text depth head.width head.height (p ∷ ps)
+all_spelled_read text most depth head rest p ps h reads = all_by most text (record { head = head; depth = depth }) rest p ps h reads
+
+pub all_images_read : (text : List ℕ) (most depth : ℕ) (head : VideoHead) (rest : List ℕ) (p : List (List ℕ)) (ps : List (List (List ℕ))) → most ≤ 8 → image_header most text ≡ Ok (record { head = head; depth = depth }, rest) → ReadsFrom most (record { head = head; depth = depth }) rest p ps →
     IsImages text depth head.width head.height (p ∷ ps)
-all_images_read text most depth head rest p ps h reads = all_by most text (record { head = head; depth = depth }) rest p ps h reads
+all_images_read text most depth head rest p ps few h reads = images_lined text most depth head.width head.height (p ∷ ps) few (all_spelled_read text most depth head rest p ps h reads)

@@ -5,6 +5,9 @@ mod TextFaults
 mod Frames
 mod Sizes
 mod Sequences
+mod SpacesRead
+mod SpacedWords
+mod SpacedHeaders
 mod PpmSteps
 mod ImagesBegun
 mod Written

@@ -7,7 +7,7 @@ use Rattle.std.specs.Prelude.{IfSome}
 use Rattle.std.specs.Option.{option_and_then}
 use Rattle.ffv1_y4m.specs.declared.head.DeepHead.{DeepHead}
 use Rattle.ffv1_y4m.specs.Header.{size_of, is_text, within}
-use Rattle.ffv1_y4m.specs.Ppm.{both_sizes, depth_of_line, maximum_depth, sizes_at, sizes_of, sized_head, image_head}
+use Rattle.ffv1_y4m.specs.Ppm.{both_sizes, depth_of_line, maximum_depth, sizes_at, sizes_of, sized_head, spaced_head, image_head}
 use Rattle.ffv1_y4m.specs.VideoHead.{IsNamed, IsSized, colour_head}
 use Rattle.ffv1_y4m.proofs.Sizes.{IsSome, IsSize, size_is}
 
@@ -90,5 +90,24 @@ named_in most depth d is h =
 pub head_is_named : (most : ℕ) (magic line : List ℕ) (depth : Option ℕ) (h : DeepHead) → Some h ≡ image_head magic line depth → IfSome depth (IsLineDepth most) → IsNamed h.depth h.head × (h.depth ≤ most)
 head_is_named most magic line depth h is named =
     let t = head_is_colour magic line depth h is in
+    let d = named_in most depth h.depth t.deep named in
+    (subst (IsNamed h.depth) (sym t.colour) (d.1 h.head.width h.head.height), d.0)
+
+-- the same of a header whose parts were read one by one
+within_size : (n : Option ℕ) → IfSome n (λ k. (1 ≤ k) × (k ≤ 8192)) → IsSome IsSize n
+within_size None h = tt
+within_size (Some k) h = record { some = h.0; most = h.1 }
+
+spaced_by : (magic : Bool) (width height depth : Option ℕ) → IsSome IsSize width → IsSome IsSize height → IsSome (HeadSaid depth) (spaced_head magic width height depth)
+spaced_by true width height depth p q = both_head depth width height p q
+spaced_by false width height depth p q = tt
+
+pub spaced_is_colour : (magic : Bool) (width height depth : Option ℕ) (h : DeepHead) → IfSome width (λ k. (1 ≤ k) × (k ≤ 8192)) → IfSome height (λ k. (1 ≤ k) × (k ≤ 8192)) → Some h ≡ spaced_head magic width height depth → HeadSaid depth h
+spaced_is_colour magic width height depth h p q is =
+    let P : Option DeepHead → Type 0 = λ o. IsSome (HeadSaid depth) o in
+    subst P (sym is) (spaced_by magic width height depth (within_size width p) (within_size height q))
+
+pub spaced_is_named : (most : ℕ) (depth : Option ℕ) (h : DeepHead) → HeadSaid depth h → IfSome depth (IsLineDepth most) → IsNamed h.depth h.head × (h.depth ≤ most)
+spaced_is_named most depth h t named =
     let d = named_in most depth h.depth t.deep named in
     (subst (IsNamed h.depth) (sym t.colour) (d.1 h.head.width h.head.height), d.0)

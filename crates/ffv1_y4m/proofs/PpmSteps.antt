@@ -1,5 +1,5 @@
 -- The header of an image, read step by step.
-use Rattle.std.proofs.Common.{◌≡◌, ℕ, suc, ◌<◌, ◌≤◌, ◌==◌, ◌&&◌, nat_le, Bool, true, false, cond, Option, Some, None, List, [], ◌∷◌, ◌++◌, length, Result, Ok, Err, inl, inr, refl, ap, ◌∙◌, arith, length-append}
+use Rattle.std.proofs.Common.{◌≡◌, ℕ, suc, ◌<◌, ◌≤◌, ◌==◌, ◌&&◌, nat_le, Bool, true, false, cond, Option, Some, None, List, [], ◌∷◌, ◌++◌, length, Result, Ok, Err, inl, inr, refl, ap, sym, ◌∙◌, arith, length-append}
 use Rattle.std.proofs.lemmas.Grind.{common_steps}
 use Rattle.std.specs.Io.KnownBytes.{Consumes, IsAtEnd, Keeps}
 use Rattle.ffv1_wire.specs.Failures.{one_more}
@@ -8,12 +8,13 @@ use Rattle.ffv1_y4m.specs.declared.fault.Fault.TheVariants as fault
 use Rattle.ffv1_y4m.specs.declared.head.DeepHead.{DeepHead}
 use Rattle.ffv1_y4m.specs.Header.{line_end, line_to, line_read}
 use Rattle.ffv1_y4m.specs.Passage.{Passage, known_text}
-use Rattle.ffv1_y4m.specs.Ppm.{depth_of_line, image_begun, image_head, image_header, maximum_read, maximum_room, same_format, some_head}
+use Rattle.ffv1_y4m.specs.Ppm.{depth_of_line, image_begun, image_head, image_header, lined_header, maximum_read, maximum_room, same_format, some_head, spaced_header}
 use Rattle.ffv1_y4m.specs.Reads.{Decides, Nowhere, Says, Stands, Wants}
 use Rattle.ffv1_y4m.specs.Sequence.{Outcome, Reading, ◌>>=◌, ◌then◌, give, judge, left, refuse}
 use Rattle.ffv1_y4m.proofs.Lines.{line_stays, line_wants}
 use Rattle.ffv1_y4m.proofs.Sequences.{Shortens, Stays, consumes_none, consumes_kept, moved, shortens_then, stands_first, stands_given, stands_next, wants_first}
 use Rattle.ffv1_y4m.proofs.AnswerParts.{is_fault, rest_in, value_in}
+use Rattle.ffv1_y4m.proofs.SpacedHeaders.{spaced_one, spaced_wants}
 use Rattle.std.proofs.lemmas.Bool.{le-leb, lt-leb, true≢false}
 
 left_line : (most : ℕ) (text : List ℕ) (end : Option ℕ) → length (left (line_to most text end)) ≤ length text
@@ -52,13 +53,13 @@ one_shortens most magic = λ sizes text. shortens_then (maximum_read most) (behi
 pub none_shortens : (most : ℕ) → Shortens (behind_none most)
 none_shortens most = λ magic text. shortens_then (line_read 10) (behind_one most magic) text (line_shortens 10 text) (one_shortens most magic)
 
-pub header_wants : (most : ℕ) → Wants (image_header most) []
-header_wants most = wants_first (line_read 3) (behind_none most) [] (line_wants 3 [] tt (omega arith)) (none_shortens most)
+lined_wants : (most : ℕ) → Wants (lined_header most) []
+lined_wants most = wants_first (line_read 3) (behind_none most) [] (line_wants 3 [] tt (omega arith)) (none_shortens most)
 
-pub first_stops : (most : ℕ) (p : Passage) (f : Fault) → Stands (line_read 3) Nowhere p (Err f) → Stands (image_header most) Nowhere p (Err f)
+pub first_stops : (most : ℕ) (p : Passage) (f : Fault) → Stands (line_read 3) Nowhere p (Err f) → Stands (lined_header most) Nowhere p (Err f)
 first_stops most p f h = stands_first (line_read 3) (behind_none most) Nowhere Nowhere p f (none_shortens most) (λ xs k. k) h
 
-pub first_goes : (most : ℕ) (old mid new : Option (List ℕ)) (n m k : ℕ) (magic : List ℕ) (answer : Result DeepHead Fault) → Stands (line_read 3) Nowhere (moved old mid n m) (Ok magic) → Stands (behind_none most magic) Nowhere (moved mid new m k) answer → Stands (image_header most) Nowhere (moved old new n k) answer
+pub first_goes : (most : ℕ) (old mid new : Option (List ℕ)) (n m k : ℕ) (magic : List ℕ) (answer : Result DeepHead Fault) → Stands (line_read 3) Nowhere (moved old mid n m) (Ok magic) → Stands (behind_none most magic) Nowhere (moved mid new m k) answer → Stands (lined_header most) Nowhere (moved old new n k) answer
 first_goes most old mid new n m k magic answer h i = stands_next (line_read 3) (behind_none most) Nowhere Nowhere Nowhere old mid new n m k magic answer (line_stays 3 magic) (λ xs ys a b. b) h i
 
 pub second_stops : (most : ℕ) (magic : List ℕ) (p : Passage) (f : Fault) → Stands (line_read 10) Nowhere p (Err f) → Stands (behind_none most magic) Nowhere p (Err f)
@@ -107,6 +108,57 @@ head_given o head old n is = record { bytes = []; taken = consumes_none old; sai
 pub head_refused : (o : Option DeepHead) (old : Option (List ℕ)) (n : ℕ) → None ≡ o → Stands (some_head o) Nowhere (moved old old n n) (Err fault.Header)
 head_refused o old n is = record { bytes = []; taken = consumes_none old; said = (refl, inl (λ behind. rw (← is) refl)) }
 
+-- ---- the header, of three lines or as Netpbm writes it
+
+pub header_is_lined : (most : ℕ) (text : List ℕ) → most ≤ 8 → image_header most text ≡ lined_header most text
+unfolding image_header
+header_is_lined most text few =
+    let test : nat_le most 8 ≡ true = le-leb _ _ few in
+    rw test refl
+
+pub header_is_spaced : (most : ℕ) (text : List ℕ) → 8 < most → image_header most text ≡ spaced_header most text
+unfolding image_header
+header_is_spaced most text deep =
+    let test : nat_le most 8 ≡ false = lt-leb _ _ (omega (arith, deep)) in
+    rw test refl
+
+outcome_by : (b : Bool) (one two o : Outcome DeepHead) → one ≡ o → two ≡ o → cond b one two ≡ o
+outcome_by true one two o h k = h
+outcome_by false one two o h k = k
+
+either_outcome : (most : ℕ) (text : List ℕ) (o : Outcome DeepHead) → lined_header most text ≡ o → spaced_header most text ≡ o → image_header most text ≡ o
+unfolding image_header
+either_outcome most text o h k = outcome_by (nat_le most 8) (lined_header most text) (spaced_header most text) o h k
+
+left_by : (b : Bool) (one two : Outcome DeepHead) (n : ℕ) → length (left one) ≤ n → length (left two) ≤ n → length (left (cond b one two)) ≤ n
+left_by true one two n h k = h
+left_by false one two n h k = k
+
+pub header_wants : (most : ℕ) → Wants (image_header most) []
+unfolding image_header
+header_wants most = λ c behind. left_by (nat_le most 8) (lined_header most (c ∷ behind)) (spaced_header most (c ∷ behind)) (length behind) (lined_wants most c behind) (spaced_wants most c behind)
+
+-- a reading that is the same as another one
+decides_same : {X : Type 0} (r s : Reading X) (bytes : List ℕ) (new : Option (List ℕ)) (answer : Result X Fault) → ((text : List ℕ) → s text ≡ r text) → Decides r bytes new answer → Decides s bytes new answer
+decides_same r s bytes new answer e (inl k) = inl (λ behind. e (bytes ++ behind) ∙ k behind)
+decides_same r s bytes new answer e (inr k) = inr (k.0, e bytes ∙ k.1)
+
+pub stands_same : {X : Type 0} (r s : Reading X) (p : Passage) (answer : Result X Fault) → ((text : List ℕ) → s text ≡ r text) → Stands r Nowhere p answer → Stands s Nowhere p answer
+stands_same r s p (Ok x) e h = record { bytes = h.bytes; taken = h.taken; said = (h.said.0, decides_same r s h.bytes p.new (Ok x) e h.said.1) }
+stands_same r s p (Err f) e h = record { bytes = h.bytes; taken = h.taken; said = same f h.said }
+  where
+    same : (g : Fault) → Says r Nowhere h.bytes p (Err g) → Says s Nowhere h.bytes p (Err g)
+    same fault.Read k = (k.0, λ b behind. rw (e (h.bytes ++ b ∷ behind)) (k.1 b behind))
+    same fault.OutOfMemory k = k
+    same fault.Write k = k
+    same fault.Header k = (k.0, decides_same r s h.bytes p.new (Err fault.Header) e k.1)
+    same fault.Tag k = (k.0, decides_same r s h.bytes p.new (Err fault.Tag) e k.1)
+    same fault.Unsupported k = (k.0, decides_same r s h.bytes p.new (Err fault.Unsupported) e k.1)
+    same fault.FrameLine k = (k.0, decides_same r s h.bytes p.new (Err fault.FrameLine) e k.1)
+    same fault.FrameTruncated k = (k.0, decides_same r s h.bytes p.new (Err fault.FrameTruncated) e k.1)
+    same fault.SampleTooLarge k = (k.0, decides_same r s h.bytes p.new (Err fault.SampleTooLarge) e k.1)
+    same fault.FormatChanged k = (k.0, decides_same r s h.bytes p.new (Err fault.FormatChanged) e k.1)
+
 -- a later image: its header, and whether it has the sizes of the first
 left_same : (b : Bool) (text : List ℕ) → length (left (cond b (give true) (refuse fault.FormatChanged) text)) ≤ length text
 left_same true text = omega arith
@@ -141,12 +193,15 @@ record Started {X : Type 0} (reading : Reading X) (old new : Option (List ℕ)) 
   taken : Consumes old new bytes
   said : says bytes
 
-one_by : (most b : ℕ) (t : Bool) → (b == 10) ≡ t → image_header most (b ∷ []) ≡ Err (fault.Header, [])
+one_by : (most b : ℕ) (t : Bool) → (b == 10) ≡ t → lined_header most (b ∷ []) ≡ Err (fault.Header, [])
 one_by most b true test = rw test refl
 one_by most b false test = rw test refl
 
 one_byte : (most b : ℕ) → image_header most (b ∷ []) ≡ Err (fault.Header, [])
-one_byte most b = one_by most b (b == 10) refl
+one_byte most b = either_outcome most (b ∷ []) (Err (fault.Header, [])) (one_by most b (b == 10) refl) (spaced_one most b)
+
+no_byte : (most : ℕ) → image_header most [] ≡ Err (fault.Header, [])
+no_byte most = either_outcome most [] (Err (fault.Header, [])) refl refl
 
 from_byte : (old mid new : Option (List ℕ)) (byte : ℕ) (bytes : List ℕ) → Consumes old mid (byte ∷ []) → Consumes (known_text (Some byte) mid) new bytes → Consumes old new bytes
 from_byte None mid new byte bytes h k = tt
@@ -172,7 +227,7 @@ started_by most old mid new byte r [] h k (inl d) =
     let few : length (left (image_header most (0 ∷ []))) ≤ 0 = header_wants most 0 [] in
     let all : length (left (image_header most (0 ∷ []))) ≡ 1 = ap (λ z. length (left z)) (d (0 ∷ [])) ∙ ap length (left_judged r (0 ∷ [])) in
     absurd (omega (arith, few, all))
-started_by most old mid new byte r [] h k (inr d) = record { bytes = byte ∷ []; some = omega arith; taken = at_end old mid new byte h k d.0; said = inr (d.0, one_byte most byte ∙ d.1) }
+started_by most old mid new byte r [] h k (inr d) = record { bytes = byte ∷ []; some = omega arith; taken = at_end old mid new byte h k d.0; said = inr (d.0, one_byte most byte ∙ (sym (no_byte most) ∙ d.1)) }
 started_by most old mid new byte r (c ∷ cs) h k d = record { bytes = c ∷ cs; some = omega arith; taken = from_byte old mid new byte (c ∷ cs) h k; said = d }
 
 faulted : (most : ℕ) (said : DeepHead) (bytes : List ℕ) (new : Option (List ℕ)) (f : Fault) → 0 < length bytes → Decides (image_header most) bytes new (Err f) → Decides (image_begun most said) bytes new (Err f)

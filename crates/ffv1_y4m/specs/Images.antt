@@ -1,8 +1,9 @@
 -- The text of a stream of PPM: images of one size and one depth, one after the other.
-use Rattle.std.specs.Prelude.{◌≡◌, ℕ, zero, suc, take, drop, ◌*◌, true, false, List, [], ◌∷◌, ◌++◌}
-use Rattle.std.specs.Prelude.{length, flat_map, Some, None, Ok}
+use Rattle.std.specs.Prelude.{◌≡◌, ℕ, zero, suc, take, drop, ◌-◌, ◌*◌, ◌^◌, ◌≤◌, ◌<◌, true, false}
+use Rattle.std.specs.Prelude.{List, [], ◌∷◌, ◌++◌, length, flat_map, codes, decimal, Some, None, Ok}
 use Rattle.std.specs.List.{range_with_len}
 use Rattle.ffv1_y4m.specs.Ppm.{bytes_for, image_header_text, image_read, interleaved}
+use Rattle.ffv1_y4m.specs.Spaces.{IsGap, is_white}
 use Rattle.ffv1_wire.specs.Runs.{Line}
 use Rattle.ffv1_y4m.specs.Sink.{PpmSink, text_with, kept_behind, row_with}
 use Rattle.ffv1_y4m.specs.VideoHead.{AreInDepth, IsNamed, IsSized, colour_head}
@@ -42,6 +43,41 @@ pub record IsImages (text : List ℕ) (depth width height : ℕ)
   pub sized : IsSized (colour_head width height)
   pub named : IsNamed depth (colour_head width height)
   pub whole : text ≡ flat_map (image_text depth width height) images
+  pub fit : AllColours depth (bytes_for depth (width * height)) images
+
+-- the header of an image as Netpbm writes it: `P6`, the sizes and the greatest sample, with white
+-- space and comments before each of them, and a byte of white space at the end
+pub record IsSpacedHeader (depth width height : ℕ) (header : List ℕ) : Type 0 where
+  pub before_width : List ℕ
+  pub before_height : List ℕ
+  pub before_greatest : List ℕ
+  pub last : ℕ
+  pub first : IsGap before_width
+  pub second : IsGap before_height
+  pub third : IsGap before_greatest
+  pub white : is_white last ≡ true
+  pub whole : header ≡ codes "P6" ++ (before_width ++ (decimal width ++ (before_height
+      ++ (decimal height ++ (before_greatest ++ (decimal (2 ^ depth - 1) ++ last ∷ []))))))
+
+-- the header of an image: three lines where depths up to 8 are read, else as Netpbm writes it
+pub record IsHeader (most depth width height : ℕ) (header : List ℕ) : Type 0 where
+  pub lined : most ≤ 8 → header ≡ image_header_text depth width height
+  pub spaced : 8 < most → IsSpacedHeader depth width height header
+
+-- a text is these images, each after a header of its own
+abbrev pub AreSpelled : ℕ → ℕ → ℕ → ℕ → List ℕ → List (List (List ℕ)) → Type 0
+AreSpelled most depth width height text [] = text ≡ []
+AreSpelled most depth width height text (p ∷ ps) =
+    (header rest : List ℕ) × IsHeader most depth width height header
+    × (text ≡ header ++ (samples_text depth p ++ rest))
+    × AreSpelled most depth width height rest ps
+
+-- a text is these images of this depth and these sizes, as it is read where depths up to `most` are
+pub record IsImagesIn (most : ℕ) (text : List ℕ) (depth width height : ℕ)
+    (images : List (List (List ℕ))) : Type 0 where
+  pub sized : IsSized (colour_head width height)
+  pub named : IsNamed depth (colour_head width height)
+  pub spelled : AreSpelled most depth width height text images
   pub fit : AllColours depth (bytes_for depth (width * height)) images
 
 -- reading image after image gives these and then the end; depths up to `most` are read

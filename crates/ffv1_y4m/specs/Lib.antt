@@ -2,6 +2,7 @@ pub mod VideoHead
 pub mod Header
 pub mod Sequence
 pub mod Pictures
+pub mod Spaces
 pub mod Ppm
 pub mod State
 pub mod Sink

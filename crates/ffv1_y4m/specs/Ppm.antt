@@ -1,5 +1,5 @@
--- Binary PPM (Netpbm's P6, ppm(5)) of 8 to 16 bits: images, each a header of three lines and its
--- samples.
+-- Binary PPM (Netpbm's P6, ppm(5)) of 8 to 16 bits: images, each a header and its samples. Where
+-- depths up to 8 are read, the header is three lines; else it is as Netpbm writes it.
 use Rattle.std.specs.Prelude.{◌≡◌, ℕ, zero, suc, ◌+◌, ◌-◌, ◌*◌, ◌%◌, ◌^◌, ◌==◌, ◌&&◌, Bool, true}
 use Rattle.std.specs.Prelude.{false, if◌then◌else◌, nat_le, nat_lt, List, [], ◌∷◌, ◌++◌, take, drop}
 use Rattle.std.specs.Prelude.{length, codes, decimal, Option, Some, None, Ok, Err}
@@ -8,6 +8,7 @@ use Rattle.std.specs.Option.{option_and_then}
 use Rattle.ffv1_samples.specs.Samples.{are_in_depth}
 use Rattle.ffv1_y4m.specs.Header.{is_text, line_read, size_of, within}
 use Rattle.ffv1_y4m.specs.Sequence.{Reading, ◌then◌, give, refuse, where_begun}
+use Rattle.ffv1_y4m.specs.Spaces.{byte_read, spaced_word, word_read}
 use Rattle.ffv1_y4m.specs.VideoHead.{colour_head}
 use Rattle.ffv1_y4m.specs.declared.head.DeepHead.{DeepHead}
 use Rattle.ffv1_y4m.specs.declared.fault.Fault.TheVariants as fault
@@ -67,10 +68,40 @@ some_head (Some h) = give h
 
 -- the header of an image: `P6`, the sizes, the greatest sample, each on a line; depths up to `most`
 -- are read
-abbrev pub image_header : ℕ → Reading DeepHead
-image_header most =
+abbrev pub lined_header : ℕ → Reading DeepHead
+lined_header most =
     line_read 3 then λ magic. line_read 10 then λ sizes. maximum_read most then λ depth. some_head
     (image_head magic sizes depth)
+
+-- whether the first word is `P6`
+abbrev pub magic_read : Reading Bool
+magic_read =
+    (byte_read then λ p. word_read 2 (p ∷ [])) then λ word. give (is_text word (codes "P6"))
+
+-- a size, after white space and comments
+abbrev pub size_read : Reading (Option ℕ)
+size_read = spaced_word 4 then λ word. give (size_of word)
+
+-- the depth of the greatest sample, after white space and comments
+abbrev pub greatest_read : ℕ → Reading (Option ℕ)
+greatest_read most = spaced_word 5 then λ word. give (depth_of_line most word)
+
+-- the head and the depth of a first word, which is `P6` or not, of two sizes and of a depth
+abbrev pub spaced_head : Bool → Option ℕ → Option ℕ → Option ℕ → Option DeepHead
+spaced_head magic width height depth =
+    if magic then sized_head depth (both_sizes width height) else None
+
+-- the header of an image: `P6`, the sizes, the greatest sample, with white space and comments
+-- between them and one byte of white space at the end; depths up to `most` are read
+abbrev pub spaced_header : ℕ → Reading DeepHead
+spaced_header most =
+    magic_read then λ magic. size_read then λ width. size_read then λ height. greatest_read most
+    then λ depth. some_head (spaced_head magic width height depth)
+
+-- the header of an image: three lines, or above a depth of 8 as Netpbm writes it; depths up to
+-- `most` are read
+unfoldable pub image_header : ℕ → Reading DeepHead
+image_header most text = if nat_le most 8 then lined_header most text else spaced_header most text
 
 -- each third element, after the first so many
 abbrev pub each_third : {A : Type 0} → ℕ → List A → List A

@@ -10,7 +10,9 @@ ghost use Rattle.ffv1_y4m.specs.Canonical.{canonical_text, next_text};
 ghost use Rattle.ffv1_y4m.specs.VideoHead.{Fits, IsHead, IsNamed, colour_head, plane_bytes};
 ghost use Rattle.ffv1_y4m.specs.State.{HasRoom, samples_of};
 ghost use Rattle.std.specs.declared.vec.Vec.{Vec};
-ghost use Rattle.ffv1_y4m.specs.Images.{AtImage, image_lines, image_text, IsImages, ReadsFrom};
+ghost use Rattle.ffv1_y4m.specs.Images.{AtImage, image_lines, image_text, IsImages, IsImagesIn};
+ghost use Rattle.ffv1_y4m.specs.Images.{ReadsFrom};
+ghost use Rattle.ffv1_y4m.specs.Reads.{Wants};
 ghost use Rattle.ffv1_y4m.specs.Images.{image_places, text_of_lines};
 ghost use Rattle.ffv1_y4m.specs.Sink.{IsNext, PpmSink, Refuses, Takes, WritesPart, line_text};
 ghost use Rattle.ffv1_wire.specs.Failures.{one_more};
@@ -70,7 +72,8 @@ pub fn texts()
 {}
 
 /// A text of images is read as the head of its sizes, its depth and its images, where depths up to
-/// that one are read, and what is read so is such a text.
+/// that one are read, and what is read so is such a text: up to 8 bits with each header of three
+/// lines, above as Netpbm writes it. A header of three lines is one that Netpbm writes.
 pub fn images()
     ensures found { (text : List ℕ) (most depth width height : ℕ) (image : List (List ℕ))
         (images : List (List (List ℕ))) → IsImages text depth width height (image ∷ images) →
@@ -81,16 +84,38 @@ pub fn images()
         × ReadsFrom most (record { head = colour_head width height; depth = depth }) rest image
         images }
     ensures only { (text : List ℕ) (most depth : ℕ) (head : VideoHead) (rest : List ℕ)
-        (image : List (List ℕ)) (images : List (List (List ℕ))) →
+        (image : List (List ℕ)) (images : List (List (List ℕ))) → most ≤ 8 →
         image_header most text ≡ Ok (record { head = head; depth = depth }, rest) →
         ReadsFrom most (record { head = head; depth = depth }) rest image images →
         IsImages text depth head.width head.height (image ∷ images) }
+    ensures spelled { (text : List ℕ) (most depth width height : ℕ) (image : List (List ℕ))
+        (images : List (List (List ℕ))) →
+        IsImagesIn most text depth width height (image ∷ images) → depth ≤ most →
+        (rest : List ℕ)
+        × (image_header most text
+        ≡ Ok (record { head = colour_head width height; depth = depth }, rest))
+        × ReadsFrom most (record { head = colour_head width height; depth = depth }) rest image
+        images }
+    ensures told { (text : List ℕ) (most depth : ℕ) (head : VideoHead) (rest : List ℕ)
+        (image : List (List ℕ)) (images : List (List (List ℕ))) →
+        image_header most text ≡ Ok (record { head = head; depth = depth }, rest) →
+        ReadsFrom most (record { head = head; depth = depth }) rest image images →
+        IsImagesIn most text depth head.width head.height (image ∷ images) }
+    ensures same { (text : List ℕ) (most depth width height : ℕ) (images : List (List (List ℕ))) →
+        IsImages text depth width height images →
+        IsImagesIn most text depth width height images }
+    ensures lined { (text : List ℕ) (most depth width height : ℕ)
+        (images : List (List (List ℕ))) → most ≤ 8 →
+        IsImagesIn most text depth width height images →
+        IsImages text depth width height images }
 {}
 
-/// At 8 bits the third line of an image's header is 255.
+/// At 8 bits the third line of an image's header is 255. A header takes its first byte, whichever
+/// that is.
 pub fn image_headers()
     ensures eight { (width height : ℕ) → image_header_text 8 width height
         ≡ codes "P6\n" ++ decimal width ++ codes " " ++ decimal height ++ codes "\n255\n" }
+    ensures first { (most : ℕ) → Wants (image_header most) [] }
 {}
 
 /// A sink that has taken whole images and takes the lines of one more has written its text after

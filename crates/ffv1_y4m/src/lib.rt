@@ -27,6 +27,7 @@ mod pairs;
 mod planes;
 mod ppm_reader;
 mod ppm_reading;
+mod ppm_spaces;
 mod ppm_writer;
 mod reading;
 mod tags;

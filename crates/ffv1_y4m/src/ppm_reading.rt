@@ -5,7 +5,8 @@ ghost use Rattle.std.specs.Prelude.{false, length, map, IfOk, IfSome, OnOk};
 ghost use Rattle.ffv1_y4m.specs.Passage.{passage, passage_from};
 ghost use Rattle.ffv1_y4m.specs.Ppm.{GrowsInImage, all_in_depth, colours_read, depth_of_line};
 ghost use Rattle.ffv1_y4m.specs.Ppm.{each_third, half_of, image_begun, image_bytes, image_head};
-ghost use Rattle.ffv1_y4m.specs.Ppm.{image_header, image_read, maximum_depth, maximum_read, parted};
+ghost use Rattle.ffv1_y4m.specs.Ppm.{image_header, image_read, lined_header, maximum_depth};
+ghost use Rattle.ffv1_y4m.specs.Ppm.{maximum_read, parted};
 ghost use Rattle.ffv1_y4m.specs.Ppm.{sizes_of, third_of};
 ghost use Rattle.ffv1_y4m.specs.Reads.{Gathers, IsNone, Nowhere, Stands, seen};
 ghost use Rattle.ffv1_y4m.specs.State.{HasRoom, IsImageFault, IsLineFault, NoWant, OnFault};
@@ -17,6 +18,7 @@ use crate::fault::Fault;
 use crate::head::{DeepHead, VideoHead};
 use crate::pairs::part_pairs;
 use crate::planes::lend_planes;
+use crate::ppm_spaces::read_spaced_header;
 use crate::reading::read_line;
 use crate::values::{is_text, size, split_once};
 use ffv1_samples::{are_in_depth, sample_bytes};
@@ -67,7 +69,7 @@ fn maximum_depth(text: &[u8]) -> Option<u32>
 
 /// The depth of the line of the greatest sample, where depths up to `most` are read.
 #[tactic(auto, unfolding(crate::specs::Ppm::depth_of_line))]
-fn depth_of_line(most: u32, line: &[u8]) -> Option<u32>
+pub(crate) fn depth_of_line(most: u32, line: &[u8]) -> Option<u32>
     ensures value { result ≡ depth_of_line most line.now }
     ensures named { IfSome result (λ depth. (depth ≤ most)
         × ((width height : ℕ) → IsNamed depth (colour_head width height))) }
@@ -79,6 +81,26 @@ fn depth_of_line(most: u32, line: &[u8]) -> Option<u32>
         return None;
     }
     Some(depth)
+}
+
+/// The head of an image of these sizes, and its depth.
+pub(crate) fn sized_head(width: u32, height: u32, depth: u32) -> DeepHead
+    ensures { result ≡ record { head = colour_head width height; depth = depth } }
+{
+    let head = VideoHead {
+        width,
+        height,
+        rate: 0,
+        scale: 0,
+        structure: 0,
+        sar_num: 0,
+        sar_den: 0,
+        chroma_planes: true,
+        log2_h: 0,
+        log2_v: 0,
+        extra_plane: false,
+    };
+    DeepHead { head, depth }
 }
 
 /// The head of the first two lines of a header, and the depth of the third.
@@ -95,20 +117,7 @@ fn image_head(magic: &[u8], line: &[u8], depth: Option<u32>) -> Option<DeepHead>
     let Some((width, height)) = sizes(line) else {
         return None;
     };
-    let head = VideoHead {
-        width,
-        height,
-        rate: 0,
-        scale: 0,
-        structure: 0,
-        sar_num: 0,
-        sar_den: 0,
-        chroma_planes: true,
-        log2_h: 0,
-        log2_v: 0,
-        extra_plane: false,
-    };
-    Some(DeepHead { head, depth })
+    Some(sized_head(width, height, depth))
 }
 
 /// Reads the line of the greatest sample: its depth, where it has one of at most `most`.
@@ -129,14 +138,14 @@ fn read_maximum<R: ByteIn>(most: u32, input: &mut R) -> Result<Option<u32>, Faul
     Ok(depth_of_line(most, &line[..end]))
 }
 
-/// Reads the header of an image, of which the first byte may have been read before; depths up to
-/// `most` are read.
-pub(crate) fn read_image_header<R: ByteIn>(
+/// Reads the header of an image of three lines, of which the first byte may have been read before;
+/// depths up to `most` are read.
+fn read_lined_header<R: ByteIn>(
     most: u32,
     first: Option<u8>,
     input: &mut R,
 ) -> Result<DeepHead, Fault>
-    ensures answer { Stands (image_header most) Nowhere
+    ensures answer { Stands (lined_header most) Nowhere
         (passage_from first R.remaining R.failures input.old input.new) result }
     ensures own { OnFault IsLineFault result }
     ensures head { IfOk result (λ h. IsSized h.head
@@ -152,6 +161,26 @@ pub(crate) fn read_image_header<R: ByteIn>(
         Some(said) => Ok(said),
         None => Err(Fault::Header),
     }
+}
+
+/// Reads the header of an image, of which the first byte may have been read before: three lines, or
+/// above a depth of 8 as Netpbm writes it; depths up to `most` are read.
+pub(crate) fn read_image_header<R: ByteIn>(
+    most: u32,
+    first: Option<u8>,
+    input: &mut R,
+) -> Result<DeepHead, Fault>
+    ensures answer { Stands (image_header most) Nowhere
+        (passage_from first R.remaining R.failures input.old input.new) result }
+    ensures own { OnFault IsLineFault result }
+    ensures head { IfOk result (λ h. IsSized h.head
+        × (h.head ≡ colour_head h.head.width h.head.height)) }
+    ensures named { IfOk result (λ h. IsNamed h.depth h.head × (h.depth ≤ most)) }
+{
+    if most <= 8 {
+        return read_lined_header(most, first, input);
+    }
+    read_spaced_header(most, first, input)
 }
 
 /// Whether two images have the same sizes and the same depth.

@@ -44,7 +44,10 @@ fn head_of_line(most: u32, line: &[u8]) -> Result<DeepHead, Fault>
 }
 
 /// The byte that was read before, or else the next one.
-fn next_byte<R: ByteIn>(first: &mut Option<u8>, input: &mut R) -> Result<Option<u8>, Failed>
+pub(crate) fn next_byte<R: ByteIn>(
+    first: &mut Option<u8>,
+    input: &mut R,
+) -> Result<Option<u8>, Failed>
     ensures ok { IfOk result
         (λ b. GivesByte (known_text first.old (R.remaining input.old)) (R.remaining input.new) b) }
     ensures err { OnErr result (Keeps (known_text first.old (R.remaining input.old))

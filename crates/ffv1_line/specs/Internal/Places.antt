@@ -83,8 +83,8 @@ pub record ReadZerosBy {B : Type 0} (p : Places B) (size i : ℕ) (old : Reading
   pub by : (states : List ℕ) → size * 32 < length states → slice_index states (size * 32) ≡ state →
       ReadZeros p i old states cur k new (slice_set states (size * 32) after) row
 
--- from place i on zeros may be read by a state that is kept apart: the samples to the left and above
--- to the left are one, which comes again
+-- from place i on zeros may be read by a state that is kept apart: the samples to the left and
+-- above to the left are one, which comes again
 pub record MayComeAgain {B : Type 0} (p : Places B) (state : ℕ) (cur : List ℕ) (b : Behind)
     (i : ℕ) : Type 0 where
   pub places : ArePlaces p

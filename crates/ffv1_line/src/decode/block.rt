@@ -19,8 +19,8 @@ const CALM: u32 = 16;
 /// The places of a block from `start` on whose symbols are zeros, where the block before was calm:
 /// those that are flat in a set whose fourth and fifth tables have one level, else those that are
 /// even. `kept` is the same value in memory, for the call that is not inlined: a copy for each call
-/// costs more than one argument more. Answers the first place that is left, from `start` to the last
-/// one.
+/// costs more than one argument more. Answers the first place that is left, from `start` to the
+/// last one.
 #[inline(always)]
 fn decode_zeros<'a, B: Allocator, const WAS_CALM: bool>(
     decoder: &mut RangeDecoder<'_>,
@@ -46,7 +46,7 @@ fn decode_zeros<'a, B: Allocator, const WAS_CALM: bool>(
     if places.early.tl[start] != behind.l || places.early.t[start] != behind.l {
         return start;
     }
-    let mut other = decoder.clone().unwrap();
+    let mut other = decoder.take();
     let mut along = *behind;
     let left = decode_even(&mut other, kept, states, cur, &mut along, start);
     *decoder = other;
@@ -54,7 +54,7 @@ fn decode_zeros<'a, B: Allocator, const WAS_CALM: bool>(
     left
 }
 
-/// The places of a block, by a decoder that is no one else's. After a calm block, zeros at flat or
+/// The places of a block, by a decoder of its own. After a calm block, zeros at flat or
 /// even places are looked for first, which is faster where they are many. Answers whether this
 /// block is calm: whether few of its symbols are nonzero. `kept` is the same as `places`.
 #[inline(always)]
@@ -122,14 +122,14 @@ fn decode_calm<B: Allocator, const BITS: u8, const NEAR: bool>(
         states.old cur.old e.x decoder.new states.new cur.new) }
     ensures ready { IsReady places.now states.new cur.new }
 {
-    let mut local = decoder.clone().unwrap();
+    let mut local = decoder.take();
     let own = places.fixed::<BITS, NEAR>();
     let read = decode_block::<B, true>(&mut local, &own, places, states, cur);
     *decoder = local;
     read
 }
 
-/// The same after a block that was calm or not, by a decoder that is no one else's.
+/// The same after a block that was calm or not, by a decoder of its own.
 #[inline(always)]
 pub(crate) fn decode_block_by<B: Allocator, const BITS: u8, const NEAR: bool>(
     decoder: &mut RangeDecoder<'_>,
@@ -150,7 +150,7 @@ pub(crate) fn decode_block_by<B: Allocator, const BITS: u8, const NEAR: bool>(
     if !was_calm {
         return decode_block::<B, false>(decoder, places, places, states, cur);
     }
-    let mut other = decoder.clone().unwrap();
+    let mut other = decoder.take();
     let own = places.fixed::<BITS, NEAR>();
     let read = decode_calm::<B, BITS, NEAR>(&mut other, &own, states, cur);
     *decoder = other;

@@ -92,7 +92,7 @@ pub(crate) fn decode_even<B: Allocator>(
     }
     let slot = size as usize * 32;
     let mut state = states[slot];
-    let mut local = decoder.clone().unwrap();
+    let mut local = decoder.take();
     let left = take_even(&mut local, places, &mut state, cur, behind, start);
     states[slot] = state;
     *decoder = local;

@@ -18,9 +18,9 @@ use std::alloc::Allocator;
 /// The least state of the first context's zeros with which a row begins as after a calm block.
 const MOSTLY_ZEROS: u8 = 224;
 
-/// A row of a cell of 8 to 15 bits, by a body of its own for each kind of set, for 8 and for 9 bits,
-/// and one for all others, whose `BITS` is 0. `NEAR` may be said of a set whose fourth and fifth
-/// tables have one level.
+/// A row of a cell of 8 to 15 bits, by a body of its own for each kind of set, for 8 and for 9
+/// bits, and one for all others, whose `BITS` is 0. `NEAR` may be said of a set whose fourth and
+/// fifth tables have one level.
 #[inline(never)]
 pub(crate) fn decode_row<B: Allocator, const BITS: u8, const NEAR: bool>(
     decoder: &mut RangeDecoder<'_>,
@@ -47,7 +47,7 @@ pub(crate) fn decode_row<B: Allocator, const BITS: u8, const NEAR: bool>(
     let Coding { table, set, .. } = coding;
     let bits = fixed_bits::<BITS>(coding.bits);
     let Above { two, one } = above;
-    let mut local = decoder.clone().unwrap();
+    let mut local = decoder.take();
     let mut early = Early::new();
     let mut calm = states.first().is_some_and(|&state| state >= MOSTLY_ZEROS);
     let mut from = 0;

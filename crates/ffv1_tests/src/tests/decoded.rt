@@ -162,6 +162,27 @@ fn kept(alloc: Global) -> Result<(bool, bool, u64, u64), Fail> {
     Ok((taken, stand, keep.failures(), drop.failures()))
 }
 
+/// What a sink shows that keeps the second line of two alone, and what before it kept any.
+fn second_alone(alloc: Global) -> Result<(bool, bool), Fail> {
+    let checked = square(alloc)?;
+    let mut keep = KeepLines::new(alloc, &checked)?;
+    let none = keep.planes()[0].as_slice() == [0, 0, 0, 0].as_slice();
+    let mut late = KeepLines::new(alloc, &checked)?;
+    let taken = late.line(0, 1, &[3, 4]).is_ok();
+    Ok((
+        none,
+        taken && late.planes()[0].as_slice() == [0, 0, 3, 4].as_slice(),
+    ))
+}
+
+/// A line that is missing is zeros.
+#[test]
+fn missing_lines(rt: HostRuntime) -> Result<(), Fail> {
+    let got = second_alone(rt.alloc())?;
+    assert!(rt; got == (true, true));
+    Ok(())
+}
+
 #[test]
 fn sinks(rt: HostRuntime) -> Result<(), Fail> {
     let got = kept(rt.alloc())?;

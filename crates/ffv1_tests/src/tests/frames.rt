@@ -155,7 +155,7 @@ fn decoder_of(alloc: Global, kind: &Kind<'_>, before: u64) -> Option<(Came, bool
 fn kept<A: Allocator + Copy>(alloc: A) -> Option<Came> {
     let checked = pictures(alloc, &GUARDED)?;
     match KeepLines::new(alloc, &checked) {
-        Ok(sink) => {
+        Ok(mut sink) => {
             if sink.planes().len() == 1 {
                 Some(Came::Frame)
             } else {

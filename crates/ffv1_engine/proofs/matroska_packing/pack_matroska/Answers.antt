@@ -30,7 +30,7 @@ returns-in_err-finished-clause-err g c =
     let put = c.in_ok-packed.ensures.ok.put in
     let out = passage g.W.ByteOut.contents g.W.ByteOut.failures c.put_pictures.new.output c.finish.new.out in
     let finishes = c.in_err-finished.ensures.answer (ap (λ (x : Writing). x.failed) put.is) (subst (λ n. 0 < n) (put.frames_are ∙ sym (ap (λ (x : Writing). x.count) put.is)) many) in
-    rw (p.1, p.2) (finish_stops _ c.args.choice.now _ _ _ _ c.in_ok-reader.ensures.ok _ _ refl refl _ _ c.in_ok-packed.ensures.ok laws c.texts.ensures.only c.images.ensures.only out refl refl many c.in_err-finished.field-0.0 finishes)
+    rw (p.1, p.2) (finish_stops _ c.args.choice.now _ _ _ _ c.in_ok-reader.ensures.ok _ _ refl refl _ _ c.in_ok-packed.ensures.ok laws c.texts.ensures.only c.images.ensures.told out refl refl many c.in_err-finished.field-0.0 finishes)
 
 pub returns-in_err-finished-clause-own : goal.returns-in_err-finished-clause-own
 returns-in_err-finished-clause-own g c =
@@ -48,4 +48,4 @@ returns-clause-ok g c =
     let put = c.in_ok-packed.ensures.ok.put in
     let out = passage g.W.ByteOut.contents g.W.ByteOut.failures c.put_pictures.new.output c.finish.new.out in
     let finishes = c.in_ok-finished.ensures.answer (ap (λ (x : Writing). x.failed) put.is) (subst (λ n. 0 < n) (put.frames_are ∙ sym (ap (λ (x : Writing). x.count) put.is)) many) in
-    packs _ c.args.choice.now _ _ _ _ c.in_ok-reader.ensures.ok _ _ refl refl _ _ c.in_ok-packed.ensures.ok laws c.texts.ensures.only c.images.ensures.only out refl refl many c.in_ok-finished.finished finishes
+    packs _ c.args.choice.now _ _ _ _ c.in_ok-reader.ensures.ok _ _ refl refl _ _ c.in_ok-packed.ensures.ok laws c.texts.ensures.only c.images.ensures.told out refl refl many c.in_ok-finished.finished finishes

@@ -4,7 +4,7 @@ use Rattle.ffv1_wire.specs.Passage.{passage}
 use Rattle.ffv1_record.specs.Accepted.{Accepted}
 use Rattle.ffv1_codec.specs.Kept.{Keeps, KeepsNot}
 use Rattle.ffv1_codec.specs.Picture.{Planes, planes_of}
-use Rattle.ffv1_engine.specs.PicturesOut.{NextStopsBy, WritesPicture, said_in}
+use Rattle.ffv1_engine.specs.PicturesOut.{IsKeptFor, NextStopsBy, WritesPicture, said_in}
 use Rattle.ffv1_engine.specs.Faults.{cause_of}
 use Rattle.ffv1_engine.specs.Stream.{Frame}
 use Rattle.ffv1_engine.specs.Told.{PlaysFrame}
@@ -69,7 +69,8 @@ returns-in_ok-write_picture-in-Ok-Some-clause-kept g c =
     let answer = rw c.in-Ok-Some.field-0-is at c.in-Ok-Some.ensures.answer in
     let found = c.answered.ensures.found a c.play.new.player.payload.items c.args.kept.now c.play.new.sink c.play.new.player.decoder.tally c.in-Ok-Some.info c.requires.accepted answer.1 in
     let kept = c.kept_picture.ensures.picture a found.0 c.args.kept.now c.play.new.sink c.requires.accepted found.1.picture.fits c.requires.kept.grid c.requires.kept.planes found.2 in
-    record { grid = kept.1 ∙ c.requires.kept.grid; planes = c.planes.ensures.sizes }
+    let now : IsKeptFor a c.play.new.sink = record { grid = kept.1 ∙ c.requires.kept.grid; planes = c.planes.ensures.sizes } in
+    subst (IsKeptFor a) (sym c.planes.follows.holds-at-none) now
 
 pub returns-in-Err-Payload-clause-answer : goal.returns-in-Err-Payload-clause-answer
 returns-in-Err-Payload-clause-answer g c =

@@ -1,4 +1,5 @@
-use Rattle.std.proofs.Common.{refl}
+use Rattle.std.proofs.Common.{arith, refl}
+use Rattle.ffv1_engine.specs.Profiles.{greatest_depth}
 use Rattle.ffv1_engine.specs.declared.profile.Profile.{Profile}
 use Rattle.ffv1_engine.specs.declared.profile.Profile.TheVariants.{Strict, Wide}
 use Rattle.ffv1_files.specs.declared.container.Scope.TheVariants.{FirstMovi, Whole}
@@ -7,8 +8,8 @@ use Rattle.ffv1_matroska.specs.MatroskaFiles.{MatroskaFile}
 use Rattle.ffv1_engine.specs.MatroskaRoundTrip.{matroska_file}
 use Rattle.ffv1_engine.specs.Packing.{packed_file}
 use Rattle.ffv1_engine.specs.RoundTrip.{IsFileIn}
-use Rattle.ffv1_engine.proofs.MatroskaUnpacked.{MatroskaLaws, accepted_wide, begun_read, file_is, file_reads, given as of_matroska, read_wide, writable}
-use Rattle.ffv1_engine.proofs.PackedIsUnpacked.{FileLaws, accepted_in, avi_is, avi_reads, check_refused, given, holds, ppm_by, read_in, same_by, same_ppm, same_video, show_refused, unpack_refused, written}
+use Rattle.ffv1_engine.proofs.MatroskaUnpacked.{MatroskaLaws, accepted_wide, begun_read, file_is, file_reads, given as of_matroska, packed_so as matroska_so, read_wide, writable}
+use Rattle.ffv1_engine.proofs.PackedIsUnpacked.{FileLaws, accepted_in, avi_is, avi_reads, check_refused, given, holds, lined_by, packed_so, ppm_by, read_in, same_by, same_ppm, same_video, show_refused, unpack_refused, written}
 use Rattle.ffv1_engine.proofs.PackedText.{RecordLaws}
 use Rattle.ffv1_engine.proofs.round_trip.packed_is_unpacked.Goals as goal
 
@@ -54,7 +55,8 @@ record_laws c = record {
   one = c.one_configuration.ensures.one;
   table = c.one_configuration.ensures.table;
   none = c.one_refusal.ensures.none;
-  symbols = record { none = c.lengths.ensures.zero; some = c.lengths.ensures.unsigned; same = c.lengths.ensures.shifted };
+  symbols = record { none = c.lengths.ensures.zero; some = c.lengths.ensures.unsigned; least = c.exponents.ensures.least; same = c.lengths.ensures.shifted };
+  numbers = record { depth = c.accepted.ensures.depth; factors = c.accepted.ensures.factors; columns = c.accepted.ensures.columns; rows = c.accepted.ensures.rows };
 }
 
 matroska_laws : goal.After-written_is_record → MatroskaLaws
@@ -97,6 +99,12 @@ returns-clause-shown c = λ packing profile choice text w cost input output f re
 pub returns-clause-same : goal.returns-clause-same
 returns-clause-same c = same_video (file_laws Strict c)
 
+pub returns-clause-packed : goal.returns-clause-packed
+returns-clause-packed c = packed_so
+
+pub returns-clause-strict : goal.returns-clause-strict
+returns-clause-strict c = λ choice text w. lined_by c.images.ensures.lined 8 w.packs.video.ppm text w.packs.video.head w.packs.video.pictures (omega arith) (packed_so Strict choice text w)
+
 pub returns-clause-ppm : goal.returns-clause-ppm
 returns-clause-ppm c = same_ppm
 
@@ -126,10 +134,16 @@ returns-clause-matroska_shown c = λ packing choice text w cost input output f k
     (file_reads packing (frame_laws c) (record_laws c) (matroska_laws c) choice text w) input output known cost f stops
 
 pub returns-clause-matroska_same : goal.returns-clause-matroska_same
-returns-clause-matroska_same c = λ packing choice text w. same_by (file_laws Wide c) w.packs.video.ppm text w.packs.video.head w.packs.video.pictures (of_matroska packing choice text w).is
+returns-clause-matroska_same c = λ packing choice text w. same_by (file_laws Wide c) (greatest_depth packing) w.packs.video.ppm text w.packs.video.head w.packs.video.pictures (matroska_so packing choice text w)
+
+pub returns-clause-matroska_packed : goal.returns-clause-matroska_packed
+returns-clause-matroska_packed c = matroska_so
+
+pub returns-clause-matroska_strict : goal.returns-clause-matroska_strict
+returns-clause-matroska_strict c = λ choice text w. lined_by c.images.ensures.lined 8 w.packs.video.ppm text w.packs.video.head w.packs.video.pictures (omega arith) (matroska_so Strict choice text w)
 
 pub returns-clause-matroska_ppm : goal.returns-clause-matroska_ppm
-returns-clause-matroska_ppm c = λ packing choice text w. ppm_by w.packs.video.ppm text w.packs.video.head w.packs.video.pictures (of_matroska packing choice text w).is
+returns-clause-matroska_ppm c = λ packing choice text w is. ppm_by w.packs.video.ppm text w.packs.video.head w.packs.video.pictures is
 
 pub returns-clause-begun : goal.returns-clause-begun
 returns-clause-begun c = λ choice v a has some rated. begun_read (matroska_laws c) choice v a some (writable (frame_laws c) (record_laws c) choice v a has some rated)

@@ -1,8 +1,12 @@
-use Rattle.ffv1_range.proofs.Mantissa.{exponent_place}
+use Rattle.std.proofs.Common.{◌≡◌, ◌+◌, suc, arith}
+use Rattle.ffv1_range.specs.Symbols.{exponent}
+use Rattle.ffv1_range.proofs.Exponents.{exponent_place}
 use Rattle.ffv1_range.proofs.laws.exponents.Goals as goal
 
 pub returns-clause-least : goal.returns-clause-least
-returns-clause-least c = λ n some wide. (exponent_place n some wide).0
+returns-clause-least c = λ n some. (exponent_place n some).0
 
 pub returns-clause-most : goal.returns-clause-most
-returns-clause-most c = λ n some wide. (exponent_place n some wide).1
+returns-clause-most c = λ n some.
+    let next : exponent n + 1 ≡ suc (exponent n) = omega arith in
+    rw next (exponent_place n some).1

@@ -1,6 +1,6 @@
 use Rattle.std.proofs.Common.{arith}
 use Rattle.std.proofs.Math.Pow.{pow_pos}
-use Rattle.ffv1_range.proofs.Signed.{exponent_is}
+use Rattle.ffv1_range.proofs.Exponents.{exponent_is}
 use Rattle.ffv1_range.proofs.Steps.{reads_append}
 use Rattle.ffv1_range.proofs.magnitude.get_long.Goals as goal
 
@@ -13,10 +13,10 @@ returns-in-Ok-clause-reads c = λ first fresh reads.
 
 pub returns-in-Ok-clause-ones : goal.returns-in-Ok-clause-ones
 returns-in-Ok-clause-ones c =
-    let exponent = exponent_is c.in-Ok.exponent c.get_mantissa-number.result c.in-Ok.ensures.small c.get_mantissa-number.ensures.least c.get_mantissa-number.ensures.most in
+    let exponent = exponent_is c.in-Ok.exponent c.get_mantissa-number.result c.get_mantissa-number.ensures.least c.get_mantissa-number.ensures.most in
     rw exponent at c.ones_below-ones.ensures.ones
 
 pub returns-in-Ok-clause-few : goal.returns-in-Ok-clause-few
 returns-in-Ok-clause-few c =
-    let exponent = exponent_is c.in-Ok.exponent c.get_mantissa-number.result c.in-Ok.ensures.small c.get_mantissa-number.ensures.least c.get_mantissa-number.ensures.most in
+    let exponent = exponent_is c.in-Ok.exponent c.get_mantissa-number.result c.get_mantissa-number.ensures.least c.get_mantissa-number.ensures.most in
     rw exponent at c.ones_below-ones.ensures.few

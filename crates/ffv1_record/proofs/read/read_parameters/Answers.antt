@@ -1,5 +1,6 @@
 use Rattle.ffv1_record.specs.Configuration.{configuration_of, at_depth}
 use Rattle.ffv1_record.proofs.CallsGive.{and_then, handed, stop, gives_done, told, read_first, read_then}
+use Rattle.ffv1_record.proofs.FirstRun.{not_memory}
 use Rattle.ffv1_record.proofs.read.read_parameters.Goals as goal
 
 pub returns-in_err-coder-clause-gives : goal.returns-in_err-coder-clause-gives
@@ -37,3 +38,10 @@ returns-in_err-ec-clause-memory g c = told _ c.from_residual-in_err-ec.result c.
 pub returns-in_err-intra-clause-memory : goal.returns-in_err-intra-clause-memory
 returns-in_err-intra-clause-memory g c = told _ c.from_residual-in_err-intra.result c.from_residual-in_err-intra.ensures.1
     (λ memory. read_then c.in_ok-coder.ensures.gives (read_then c.in_ok-planes.ensures.gives (read_then c.in_ok-columns.ensures.gives (read_then c.in_ok-rows.ensures.gives (read_first c.in_ok-sets.ensures.gives)))))
+
+pub returns-in_err-sets-clause-run : goal.returns-in_err-sets-clause-run
+returns-in_err-sets-clause-run g c = told _ c.from_residual-in_err-sets.result c.from_residual-in_err-sets.ensures.1
+    (λ memory. read_then c.in_ok-coder.ensures.gives (read_then c.in_ok-planes.ensures.gives (read_then c.in_ok-columns.ensures.gives (read_then c.in_ok-rows.ensures.gives (c.in_err-sets.ensures.run memory)))))
+
+pub returns-in_err-ec-clause-run : goal.returns-in_err-ec-clause-run
+returns-in_err-ec-clause-run g c = told _ c.from_residual-in_err-ec.result c.from_residual-in_err-ec.ensures.1 (λ memory. absurd (not_memory _ c.in_err-ec.ensures.refused memory))

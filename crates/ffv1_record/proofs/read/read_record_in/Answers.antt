@@ -77,3 +77,14 @@ returns-in_err-read-clause-memory g c =
 
 pub returns-in-Err-clause-memory : goal.returns-in-Err-clause-memory
 returns-in-Err-clause-memory g c = λ memory. absurd (c.in-Err.ensures.memory memory)
+
+pub returns-in_err-read-clause-run : goal.returns-in_err-read-clause-run
+returns-in_err-read-clause-run g c =
+    let long : 5 ≤ length c.args.bytes.now = c.if-bytes-lt5.false in
+    let whole : remainder_of c.args.bytes.now ≡ 0 = (c.guarded.ensures.zero c.args.bytes.now (λ k. omega (arith, c.type_inv.bytes k))).0 (omega (arith, c.parity.ensures, c.if-parity-ne0.false)) in
+    told _ c.from_residual-in_err-read.result c.from_residual-in_err-read.ensures.1
+    (λ memory. let read = (rw c.deepest-greatest.ensures at (c.in_err-read.ensures.run memory)).read (body_of c.args.bytes.now) beginning c.in_ok-reader.ensures.ok in
+    record { long = long; whole = whole; start = c.in_ok-reader.ensures.start; run = read.0; behind = read.1; read = read.2 })
+
+pub returns-in-Err-clause-run : goal.returns-in-Err-clause-run
+returns-in-Err-clause-run g c = λ memory. absurd (c.in-Err.ensures.memory memory)

@@ -1,8 +1,9 @@
-use Rattle.std.proofs.Common.{◌≡◌, ◌-◌, ◌+◌, zero, arith, refl}
+use Rattle.std.proofs.Common.{◌≡◌, ◌-◌, ◌+◌, zero, arith, refl, inr}
 use Rattle.ffv1_range.specs.Standard.{standard}
 use Rattle.ffv1_range.proofs.Named.{fresh_held}
 use Rattle.ffv1_range.proofs.Standard.{standard as standard_table}
-use Rattle.ffv1_record.proofs.CallsGive.{handed}
+use Rattle.ffv1_record.proofs.CallsGive.{handed, told}
+use Rattle.ffv1_record.proofs.FirstRun.{none_begun, run_begins}
 use Rattle.ffv1_record.proofs.TableRuns.{table_begins, table_next_at, table_refuse_at, table_end, run_more, run_each, all_filled}
 use Rattle.ffv1_record.proofs.read.read_table.Goals as goal
 
@@ -12,6 +13,7 @@ loop-left-init g c = record {
   filled = rw c.new-runs.ensures.items (omega arith);
   each = rw c.new-runs.ensures.items refl;
   leads = rw c.new-runs.ensures.items (table_begins _);
+  begun = none_begun _;
 }
 
 pub returns-in_err-less-clause-gives : goal.returns-in_err-less-clause-gives
@@ -26,6 +28,7 @@ loop-left-preserved g c =
       filled = rw c.in_ok-push.ensures.items (run_more c.loop-left.runs.items _ c.loop-left.left _ c.loop-left.invariant.filled rest);
       each = rw c.in_ok-push.ensures.items (run_each c.loop-left.runs.items _ c.loop-left.invariant.each (omega arith));
       leads = rw c.in_ok-push.ensures.items (table_next_at c.loop-left.left c.in_ok-less.less _ _ _ _ _ _ _ _ (omega arith) rest refl c.loop-left.invariant.leads c.in_ok-less.ensures.gives);
+      begun = inr (run_begins _ _ _ _ _ _ _ c.loop-left.invariant.begun c.in_ok-less.ensures.gives);
     }
 
 pub returns-clause-gives : goal.returns-clause-gives
@@ -35,3 +38,6 @@ returns-clause-gives g c =
 
 pub returns-clause-filled : goal.returns-clause-filled
 returns-clause-filled g c = all_filled c.loop-left.runs.items c.loop-left.left c.loop-left.invariant.filled (omega arith) c.loop-left.invariant.each
+
+pub returns-in_err-push-clause-memory : goal.returns-in_err-push-clause-memory
+returns-in_err-push-clause-memory g c = told _ c.from_residual-in_err-push.result c.from_residual-in_err-push.ensures.1 (λ memory. run_begins _ _ _ _ _ _ _ c.loop-left.invariant.begun c.in_ok-less.ensures.gives)

@@ -46,7 +46,7 @@ fn reads(code: &[u8]) -> Result<(Result<i32, Fault>, u64, u64, Result<i32, Fault
     let table = StateTable::standard();
     let (mut fresh, mut rows) = ([128; 32], [128; 64]);
     let mut decoder = RangeDecoder::new(code)?;
-    let mut copy = decoder.clone().unwrap();
+    let mut copy = RangeDecoder::new(code)?;
     let alone = copy.get_signed(&table, &mut fresh);
     let in_row = decoder.get_signed_in_row(&table, &mut rows, 1);
     Ok((alone, copy.taken(), copy.tally().ones, in_row))
@@ -170,7 +170,7 @@ fn refuses(rt: &impl Abort, table: &StateTable, bytes: &[u8]) -> Result<(), Faul
 {
     let (mut fresh, mut other) = ([128; 32], [128; 32]);
     let mut decoder = RangeDecoder::new(bytes)?;
-    let mut copy = decoder.clone().unwrap();
+    let mut copy = RangeDecoder::new(bytes)?;
     let signed = decoder.get_signed(table, &mut fresh);
     let counts = (decoder.taken(), decoder.tally().ones);
     assert!(rt; (signed, counts) == (Err(Fault::SymbolTooLong), (32, 31)));

@@ -76,7 +76,7 @@ fn written(
 }
 
 /// The header of an image, and its depth or its fault.
-static HEADS: [(&[u8], Result<u32, Fault>); 17] = [
+static HEADS: [(&[u8], Result<u32, Fault>); 24] = [
     (b"P6\n1 1\n1\n", Err(Fault::Header)),
     (b"P6\n1 1\n127\n", Err(Fault::Header)),
     (b"P6\n1 1\n254\n", Err(Fault::Header)),
@@ -94,6 +94,13 @@ static HEADS: [(&[u8], Result<u32, Fault>); 17] = [
     (b"P6\n1 1\n65536\n", Err(Fault::Header)),
     (b"P6\n1 1\n01023\n", Err(Fault::Header)),
     (b"P6\n1 1\n1023", Err(Fault::Header)),
+    (b"P6 1\t1\r\n1023 ", Ok(10)),
+    (b"P6\n# a\n# b\r1 #P5\n8192 255\n", Ok(8)),
+    (b"P6#\n1 1\n255\n", Err(Fault::Header)),
+    (b"P6\n1#\n1 255\n", Err(Fault::Header)),
+    (b"P6\n1 1\n255#\n", Err(Fault::Header)),
+    (b"P6\n1\x0b1\n255\n", Err(Fault::Header)),
+    (b"P6\n#1 1 255", Err(Fault::Header)),
 ];
 
 #[test]
@@ -105,6 +112,8 @@ fn headers(rt: HostRuntime) {
     assert!(rt; strict(rt.alloc(), b"P6\n1 1\n511\n") == Err(Fault::Header));
     assert!(rt; strict(rt.alloc(), b"P6\n1 1\n1023\n") == Err(Fault::Header));
     assert!(rt; strict(rt.alloc(), b"P6\n1 1\n65535\n") == Err(Fault::Header));
+    assert!(rt; strict(rt.alloc(), b"P6 1 1\n255\n") == Err(Fault::Header));
+    assert!(rt; strict(rt.alloc(), b"P6\n#\n1 1\n255\n") == Err(Fault::Header));
 }
 
 #[test]

@@ -12,5 +12,5 @@ returns-clause-read g c =
     let fits : size * 32 < length c.args.states.now = omega (arith, c.late_context-size.ensures.below, c.requires.stands.ready.rows) in
     let first : IsEven p.set.now sum b.l b.ll size = record { each = λ tr tt early. c.late_context-size.ensures.size b.l tr tt early } in
     let next : IsEven p.set.now sum b.l b.l size = record { each = λ tr tt early. same ∙ c.late_context-next.ensures.size b.l tr tt early } in
-    let copy : c.unwrap-local.result ≡ c.args.decoder.now = search rules in
+    let copy : c.take-local.result ≡ c.args.decoder.now = search rules in
     rw copy at ((c.take_even-left.ensures.read size first next).by c.args.states.now fits refl)

@@ -4,7 +4,7 @@ use Rattle.ffv1_line.proofs.decode.row.decode_row.Goals as goal
 
 pub parts-init : goal.parts-init
 parts-init g c =
-    let copy : c.unwrap-local.result ≡ c.args.decoder.now = search rules in
+    let copy : c.take-local.result ≡ c.args.decoder.now = search rules in
     record {
       held = rw (← c.coding.view_is) at c.requires.held;
       rows = rw (← c.coding.view_is) at c.requires.rows;

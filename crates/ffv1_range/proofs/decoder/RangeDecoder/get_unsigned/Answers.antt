@@ -1,6 +1,7 @@
 use Rattle.std.proofs.Common.{◌<◌, refl, sym, arith}
 use Rattle.std.proofs.Math.Pow.{pow_pos}
-use Rattle.ffv1_range.proofs.Signed.{exponent_is, magnitude_reads, unsigned_is}
+use Rattle.ffv1_range.proofs.Exponents.{exponent_is}
+use Rattle.ffv1_range.proofs.Signed.{magnitude_reads, unsigned_is}
 use Rattle.ffv1_range.proofs.Steps.{reads_counted, reads_append}
 use Rattle.ffv1_range.proofs.Counting.{magnitude_ones, magnitude_length, too_long_ones, too_long_length}
 use Rattle.ffv1_range.proofs.decoder.RangeDecoder.get_unsigned.Goals as goal
@@ -20,7 +21,7 @@ pub returns-clause-follows : goal.returns-clause-follows
 returns-clause-follows c =
     let power = pow_pos c.in-Ok.exponent in
     let positive : 0 < c.get_mantissa-number.result = omega (arith, c.get_mantissa-number.ensures.least) in
-    let exponent = exponent_is c.in-Ok.exponent c.get_mantissa-number.result c.in-Ok.ensures.small c.get_mantissa-number.ensures.least c.get_mantissa-number.ensures.most in
+    let exponent = exponent_is c.in-Ok.exponent c.get_mantissa-number.result c.get_mantissa-number.ensures.least c.get_mantissa-number.ensures.most in
     let ones = magnitude_ones _ _ c.ones_below-ones.result exponent (rw exponent at c.ones_below-ones.ensures.ones) in
     let long = magnitude_length c.get_mantissa-number.result _ exponent in
     let few = rw exponent at c.ones_below-ones.ensures.few in
@@ -31,6 +32,6 @@ returns-clause-follows c =
 
 pub overflow_sub-exponent : goal.overflow_sub-exponent
 overflow_sub-exponent c =
-    let exponent = exponent_is c.in-Ok.exponent c.get_mantissa-number.result c.in-Ok.ensures.small c.get_mantissa-number.ensures.least c.get_mantissa-number.ensures.most in
+    let exponent = exponent_is c.in-Ok.exponent c.get_mantissa-number.result c.get_mantissa-number.ensures.least c.get_mantissa-number.ensures.most in
     let few = rw exponent at c.ones_below-ones.ensures.few in
     omega arith

@@ -5,7 +5,8 @@ use Rattle.std.proofs.lemmas.Int.{ints}
 use Rattle.std.specs.Int.{w32}
 use mir.Val.{to_z, of_z}
 use Rattle.std.proofs.Math.Pow.{pow_pos}
-use Rattle.ffv1_range.proofs.Signed.{exponent_is, sized_reads, positive_steps, negative_steps}
+use Rattle.ffv1_range.proofs.Exponents.{exponent_is}
+use Rattle.ffv1_range.proofs.Signed.{sized_reads, positive_steps, negative_steps}
 use Rattle.ffv1_range.proofs.Steps.{reads_summed, reads_append}
 use Rattle.ffv1_range.proofs.Counting.{symbol_ones, symbol_length, too_long_ones, too_long_length}
 use Rattle.ffv1_range.proofs.decoder.RangeDecoder.sum_signed.Goals as goal
@@ -26,7 +27,7 @@ returns-then-negative-clause-follows c =
     let is : to_z w32 (of_z w32 (pos 0 -ℤ to_z w32 c.get_mantissa-number.result)) ≡ pos 0 -ℤ pos c.get_mantissa-number.result = omega (arith, ints) in
     let power = pow_pos c.in-Ok.exponent in
     let positive : 0 < c.get_mantissa-number.result = omega (arith, c.get_mantissa-number.ensures.least) in
-    let exponent = exponent_is c.in-Ok.exponent c.get_mantissa-number.result c.in-Ok.ensures.small c.get_mantissa-number.ensures.least c.get_mantissa-number.ensures.most in
+    let exponent = exponent_is c.in-Ok.exponent c.get_mantissa-number.result c.get_mantissa-number.ensures.least c.get_mantissa-number.ensures.most in
     let sign = c.from.ensures ∙ bit_is c.choose_slot-negative.result ∙ ap one_if c.if-negative.true in
     let ones = symbol_ones _ _ c.ones_below-ones.result true exponent (rw exponent at c.ones_below-ones.ensures.ones) in
     let long = symbol_length c.get_mantissa-number.result _ true exponent in
@@ -42,7 +43,7 @@ returns-clause-follows c =
     let is : to_z w32 c.get_mantissa-number.result ≡ pos c.get_mantissa-number.result = omega (arith, ints) in
     let power = pow_pos c.in-Ok.exponent in
     let positive : 0 < c.get_mantissa-number.result = omega (arith, c.get_mantissa-number.ensures.least) in
-    let exponent = exponent_is c.in-Ok.exponent c.get_mantissa-number.result c.in-Ok.ensures.small c.get_mantissa-number.ensures.least c.get_mantissa-number.ensures.most in
+    let exponent = exponent_is c.in-Ok.exponent c.get_mantissa-number.result c.get_mantissa-number.ensures.least c.get_mantissa-number.ensures.most in
     let sign = c.from.ensures ∙ bit_is c.choose_slot-negative.result ∙ ap one_if c.if-negative.false in
     let ones = symbol_ones _ _ c.ones_below-ones.result false exponent (rw exponent at c.ones_below-ones.ensures.ones) in
     let long = symbol_length c.get_mantissa-number.result _ false exponent in
@@ -55,7 +56,7 @@ returns-clause-follows c =
 
 pub overflow_sub-exponent : goal.overflow_sub-exponent
 overflow_sub-exponent c =
-    let exponent = exponent_is c.in-Ok.exponent c.get_mantissa-number.result c.in-Ok.ensures.small c.get_mantissa-number.ensures.least c.get_mantissa-number.ensures.most in
+    let exponent = exponent_is c.in-Ok.exponent c.get_mantissa-number.result c.get_mantissa-number.ensures.least c.get_mantissa-number.ensures.most in
     let few = rw exponent at c.ones_below-ones.ensures.few in
     let sign = c.from.ensures ∙ bit_is c.choose_slot-negative.result in
     let most = one_if_most c.choose_slot-negative.result in

@@ -1,7 +1,8 @@
 use Rattle.std.proofs.Common.{◌<◌, Bool, arith}
 use Rattle.ffv1_range.proofs.Mantissa.{bit_is, one_if_most}
 use Rattle.std.proofs.Math.Pow.{pow_pos}
-use Rattle.ffv1_range.proofs.Signed.{exponent_is, sized_signed}
+use Rattle.ffv1_range.proofs.Exponents.{exponent_is}
+use Rattle.ffv1_range.proofs.Signed.{sized_signed}
 use Rattle.ffv1_range.proofs.Steps.{reads_append}
 use Rattle.ffv1_range.proofs.Counting.{symbol_ones, symbol_length}
 use Rattle.ffv1_range.proofs.Magnitudes.{zero_follows, nonzero_follows, refused_follows, symbol_reads}
@@ -20,7 +21,7 @@ returns-clause-follows c = λ n within.
     let negative : Bool = c.choose_slot-negative.result in
     let power = pow_pos m.exponent in
     let positive : 0 < m.number = omega (arith, c.in-Ok.ensures.least) in
-    let exponent = exponent_is m.exponent m.number c.in-Ok.ensures.small c.in-Ok.ensures.least c.in-Ok.ensures.most in
+    let exponent = exponent_is m.exponent m.number c.in-Ok.ensures.least c.in-Ok.ensures.most in
     let few = c.in-Ok.ensures.few in
     let sign = bit_is negative in
     let bit = one_if_most negative in

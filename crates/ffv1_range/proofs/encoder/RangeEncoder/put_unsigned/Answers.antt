@@ -19,6 +19,7 @@ pub returns-clause-ok : goal.returns-clause-ok
 returns-clause-ok g c =
     let positive : 0 < c.args.number = omega (arith, c.if-number-eq0.false) in
     let few = c.ones_below.ensures.few in
+    let place = c.exponent-exponent.ensures.value in
     let ones = magnitude_ones c.args.number (exponent c.args.number) c.ones_below.result refl c.ones_below.ensures.ones in
     let long = magnitude_length c.args.number (exponent c.args.number) refl in
     let same = unsigned_is c.args.number positive in

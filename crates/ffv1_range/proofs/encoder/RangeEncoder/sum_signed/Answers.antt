@@ -30,6 +30,7 @@ returns-clause-ok g c =
     let sign = (simp to_z-of_z at c.from.ensures) ∙ bit_is (lt_z c.args.value (pos 0)) in
     let most = one_if_most (lt_z c.args.value (pos 0)) in
     let few = c.ones_below.ensures.few in
+    let place = c.exponent-exponent.ensures.value in
     let ones = symbol_ones c.unsigned_abs-number.result (exponent c.unsigned_abs-number.result) c.ones_below.result (lt_z c.args.value (pos 0)) refl c.ones_below.ensures.ones in
     let long = symbol_length c.unsigned_abs-number.result (exponent c.unsigned_abs-number.result) (lt_z c.args.value (pos 0)) refl in
     let same = signed_is c.args.value c.unsigned_abs-number.result size c.if-number-eq0.false in
@@ -45,6 +46,7 @@ count-requires-2 g c =
     let is = exponent_of c.unsigned_abs-number.result (omega (arith, c.if-number-eq0.false)) small in
     let short : exponent c.unsigned_abs-number.result < 31 = is.small in
     let few = c.ones_below.ensures.few in
+    let place = c.exponent-exponent.ensures.value in
     let sign = (simp to_z-of_z at c.from.ensures) ∙ bit_is (lt_z c.args.value (pos 0)) in
     let most = one_if_most (lt_z c.args.value (pos 0)) in
     omega arith
@@ -57,6 +59,7 @@ returns-clause-few g c =
     let is = exponent_of c.unsigned_abs-number.result (omega (arith, c.if-number-eq0.false)) small in
     let short : exponent c.unsigned_abs-number.result < 31 = is.small in
     let few = c.ones_below.ensures.few in
+    let place = c.exponent-exponent.ensures.value in
     let sign = (simp to_z-of_z at c.from.ensures) ∙ bit_is (lt_z c.args.value (pos 0)) in
     let most = one_if_most (lt_z c.args.value (pos 0)) in
     rw c.count-2.ensures (omega arith)

@@ -1,0 +1,62 @@
+//! A row of samples of 17 bits is encoded.
+
+ghost use Rattle.std.specs.Prelude.{◌≡◌, ◌*◌, ◌<◌, OnOk, OnErr, IfErr, IsErr, IsTrue, length};
+ghost use Rattle.ffv1_range.specs.Symbols.{AllHeld};
+ghost use Rattle.ffv1_range.specs.declared.fault.Fault.TheVariants as fault;
+ghost use Rattle.ffv1_plane.specs.Quantisation.{contexts_of};
+ghost use Rattle.ffv1_line.specs.Encoded.{Written, MayBeRefusedRow};
+
+use crate::encode::plain::encode_plain;
+use crate::way::Way;
+use crate::wide::{WideAbove, WideCoding};
+use ffv1_range::{Fault, RangeEncoder};
+use std::alloc::Allocator;
+
+/// Codes one row of one cell of a plane of 17 bits, as `encode_line` does of up to 16: the folded
+/// residual of each sample as a symbol (RFC 9043, 3.1 to 3.8).
+///
+/// `above` has the cell's rows two and one above, all 0 above the cell; `cur` is the row, of at
+/// least one sample, and all three have one length. `states` are those of the plane's class, 32 for
+/// each context of the set, all held by the table.
+///
+/// `OutOfMemory` where the encoder was refused memory, now or before: it has failed for good, and
+/// the states are still held by the table. One that had failed before is left as it was, and the
+/// states too.
+#[inline(never)]
+pub fn encode_wide<A: Allocator, B: Allocator>(
+    encoder: &mut RangeEncoder<A>,
+    coding: &WideCoding<'_, B>,
+    states: &mut [u8],
+    above: &WideAbove<'_>,
+    cur: &[u32],
+) -> Result<(), Fault>
+    requires some { 0 < length cur.now }
+    requires one_long { length above.now.one ≡ length cur.now }
+    requires rows { length states.old ≡ contexts_of coding.now.set * 32 }
+    requires held { AllHeld coding.now.table states.old }
+    ensures ok { OnOk result (Written coding.now.table coding.now.set coding.now.bits encoder.old
+        states.old encoder.new states.new above.now.two above.now.one cur.now (length cur.now)) }
+    ensures refused { OnErr result (MayBeRefusedRow coding.now.table coding.now.set
+        coding.now.bits encoder.old states.old above.now.two above.now.one cur.now
+        (length cur.now)) }
+    ensures held { AllHeld coding.now.table states.new }
+    ensures err { IfErr result (λ f. (f ≡ fault.OutOfMemory) × IsTrue encoder.new.failed) }
+    ensures stays { IsTrue encoder.old.failed → IsErr result }
+    ensures unchanged { IsTrue encoder.old.failed →
+        (encoder.new ≡ encoder.old) × (states.new ≡ states.old) }
+{
+    if encoder.has_failed() {
+        return Err(Fault::OutOfMemory);
+    }
+    let WideCoding { table, set } = coding;
+    let WideAbove { two, one } = above;
+    let way = Way {
+        table,
+        set,
+        bits: 17,
+    };
+    if set.is_near() {
+        return encode_plain::<u32, A, B, true>(encoder, &way, states, two, one, cur);
+    }
+    encode_plain::<u32, A, B, false>(encoder, &way, states, two, one, cur)
+}
