@@ -26,7 +26,7 @@ _ffv1() {
                 words="$words --container --no-clobber --progress --help"
                 ;;
             unpack) words="--no-clobber --progress --help" ;;
-            check) words="--place --progress --help" ;;
+            check) words="--all --place --progress --help" ;;
             show) words="--cost --help" ;;
             trial) words="--help" ;;
         esac

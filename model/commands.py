@@ -7,6 +7,7 @@
 The words, the printed lines, the faults on standard error, the exit status and what is left in OUT
 are those of the program; the text of clap, for help and for a line that is refused, is not.
 """
+import math
 import os
 import re
 import stat
@@ -55,11 +56,12 @@ def one_of(*names):
 
 
 class Level:
-    """What a command takes: how many files, its options by their readings, with their defaults, and
-    its flags."""
+    """What a command takes: the least and the greatest number of files, its options by their
+    readings, with their defaults, and its flags."""
 
-    def __init__(self, files, options=None, flags=()):
+    def __init__(self, files, options=None, flags=(), most=None):
         self.files, self.options, self.flags = files, options or {}, flags
+        self.most = files if most is None else most
 
 
 COMMANDS = {
@@ -70,8 +72,8 @@ COMMANDS = {
         "container": (one_of("auto", "avi", "mkv"), "auto"),
     }, flags=["no-clobber", "progress"]),
     "unpack": Level(2, flags=["no-clobber", "progress"]),
-    "check": Level(1, flags=["place", "progress"]),
-    "show": Level(1, flags=["cost"]),
+    "check": Level(1, flags=["all", "place", "progress"], most=math.inf),
+    "show": Level(1, flags=["cost"], most=math.inf),
     "trial": Level(1),
 }
 STANDARD_OUTPUT = ["/dev/stdout", "/dev/fd/1", "/proc/self/fd/1"]
@@ -121,7 +123,7 @@ def taken(level, words):
             found[waiting], waiting = level.options[waiting][0](word), None
         elif ended or is_plain(word):
             paths.append(word)
-            if len(paths) > level.files:
+            if len(paths) > level.most:
                 raise Refused(word)
         elif word == "--":
             ended = True
@@ -143,8 +145,10 @@ def words(line):
         raise Refused(name)
     level = COMMANDS[name]
     paths, found = taken(level, rest)
-    if len(paths) == 2 and (paths[0] == paths[1] != "-" or paths[1] in STANDARD_OUTPUT):
+    if level.files == 2 and (paths[0] == paths[1] != "-" or paths[1] in STANDARD_OUTPUT):
         raise Refused(paths[1])
+    if level.most > 2 and paths.count("-") > 1:
+        raise Refused("-")
     choice = {name: default for name, (_, default) in level.options.items()}
     return Order(name, paths, {**choice, **dict.fromkeys(level.flags, False), **found})
 
@@ -315,25 +319,37 @@ def place_line(number, decoded):
             f"decisions {decoded.ones + decoded.zeros}\n")
 
 
-def check(source, out, place):
-    """A line for each frame; own: where a place is asked for, one more where decoding is refused,
-    whether or not that can be written."""
+def refuse(number, decoded, out, place):
+    """The end of a check at a frame that is refused, whether or not its place can be written."""
+    try:
+        out(place_line(number, decoded) if place else "")
+    except Fault:
+        pass
+    raise decoded.fault
+
+
+def check(source, out, place, every):
+    """A line for each frame; own: where a place is asked for, one more where decoding is refused.
+    Where every frame is asked for, it goes on then, and the first such fault ends it."""
     _, config, frames, _ = opened(source)
-    count = 0
+    count, faults = 0, []
     for payload in frames:
         decoded = ffv1.decode_frame(config, payload)
-        if decoded.fault:
-            try:
-                out(place_line(count, decoded) if place else "")
-            except Fault:
-                pass
-            raise decoded.fault
-        out(f"frame {count}: {len(payload)} bytes, {config.slices()} slices, "
-            f"{decoded.ones + decoded.zeros} decisions\n")
+        if not decoded.fault:
+            out(f"frame {count}: {len(payload)} bytes, {config.slices()} slices, "
+                f"{decoded.ones + decoded.zeros} decisions\n")
+        elif every:
+            out(f"frame {count}: fault {decoded.fault}\n")
+            out(place_line(count, decoded) if place else "")
+            faults.append(decoded.fault)
+        else:
+            refuse(count, decoded, out, place)
         count += 1
     if count == 0:
         raise Fault(70)
-    out(f"frames {count}\n")
+    out(f"frames {count} faults {len(faults)}\n" if every else f"frames {count}\n")
+    if faults:
+        raise faults[0]
 
 
 def held(config):
@@ -500,17 +516,17 @@ def make(order, source, descriptors, output):
     return ""
 
 
-def perform(order, output, standard_input):
-    """Does what a command line asks for, and prints by `output`: IN is opened, then OUT. It answers
-    what is printed on standard error."""
-    path, told = order.files[0], ""
+def perform(order, path, output, standard_input):
+    """Does what a command line asks for with this IN, and prints by `output`: IN is opened, then
+    OUT. It answers what is printed on standard error."""
+    told = ""
     descriptors = [os.dup(standard_input) if path == "-" else opened_file(path, os.O_RDONLY, 56)]
     try:
         source = files.Source(lambda count: os.read(descriptors[0], count))
         if order.command in ("pack", "unpack"):
             told = make(order, source, descriptors, output)
         elif order.command == "check":
-            check(source, output, order.choice["place"])
+            check(source, output, order.choice["place"], order.choice["all"])
         elif order.command == "show":
             show(source, output, order.choice["cost"])
         else:
@@ -521,10 +537,31 @@ def perform(order, output, standard_input):
     return told
 
 
-def run(line, output, standard_input=0):
-    """The exit status of a command line, and the line on standard error; none for clap's text."""
+def perform_each(order, output, standard_input):
+    """Does what a command line asks for with each of several files, up to a line that cannot be
+    printed. It answers the exit status, and what is printed on standard error."""
+    told, path = [], ""
     try:
-        return 0, perform(words(line), output, standard_input)
+        for path in order.files:
+            output(f"file {path}\n")
+            try:
+                perform(order, path, output, standard_input)
+            except Fault as fault:
+                if fault.number == 57:
+                    raise
+                told.append(f"ffv1: {path}: {fault}\n")
+    except Fault as fault:
+        told.append(f"ffv1: {path}: {fault}\n")
+    return 1 if told else 0, "".join(told)
+
+
+def run(line, output, standard_input=0):
+    """The exit status of a command line, and what is on standard error; none for clap's text."""
+    try:
+        order = words(line)
+        if COMMANDS[order.command].most > 2 and len(order.files) > 1:
+            return perform_each(order, output, standard_input)
+        return 0, perform(order, order.files[0], output, standard_input)
     except Refused:
         return 2, None
     except Kept as kept:

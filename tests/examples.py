@@ -26,16 +26,18 @@ def blocks_of_manual(text):
     return [block.strip("\n").replace("\\e", "\\") for block in blocks]
 
 
-# What the blocks print, as regular expressions of standard output and standard error together: how
-# many bytes a frame takes is FFmpeg's picture's, and pack's own count is checked elsewhere.
+# What the blocks print, as regular expressions of standard output and standard error together, with
+# status 0, or with status 1 where a file is refused: how many bytes a frame takes is FFmpeg's
+# picture's, and pack's own count is checked elsewhere.
 PACKED = r"frames 3 bytes \d+\n"
 CHECKED = r"(frame \d: \d+ bytes, \d+ slices, \d+ decisions\n){3}frames 3\n"
+BROKEN = r"ffv1: broken\.mkv: 52 Truncated\n"
 README = [
     PACKED + CHECKED + r"frames 3\n",
-    r"broken\.mkv\n",
+    BROKEN,
     r"samples 1024\ndecisions \d+\ncode [0-9A-F]+\nsame yes\n",
 ]
-MANUAL = [PACKED + CHECKED, r"frames 3\n", r"broken\.mkv\n"]
+MANUAL = [PACKED + CHECKED, r"frames 3\n", BROKEN]
 
 
 def run(folder, script):
@@ -58,7 +60,8 @@ def examples_of(name, blocks, wanted, program):
         yield told(f"{name}: number of examples", len(blocks) == len(wanted), blocks)
         for block, pattern in zip(blocks, wanted):
             status, printed = run(folder, block)
-            yield told(f"{name}: {block}", status == 0 and re.fullmatch(pattern, printed), printed)
+            right = status == (1 if pattern == BROKEN else 0)
+            yield told(f"{name}: {block}", right and re.fullmatch(pattern, printed), printed)
 
 
 def told(name, passed, printed):

@@ -303,7 +303,8 @@ def placed(dice, paths, groups):
 
 SOME_WORDS = [
     "in", "out", "in", "out", "no", ".", "./in", "/dev/full", "/dev/null", "", "--", "-", "-h",
-    "--help", "help", "--place", "--cost", "--ec", "--ec=0", "--columns", "2", "--deep", "-x", "-1",
+    "--help", "help", "--place", "--cost", "--all", "--ec", "--ec=0", "--columns", "2", "--deep",
+    "-x", "-1",
     "pack", "check", "--place=1", "---", "\u00e9", "in/x", "--progress", "--version", "-V",
     "--no-clobber", "--container", "--container=mkv", "out.mkv",
 ]
@@ -342,6 +343,10 @@ def file_line(dice):
     unpack = ["unpack", "in", dice.choice(OUTPUTS)]
     words = dice.choice([unpack, unpack, ["check", "in"], ["check", "--place", "in"],
                          ["check", "in", "--place"], ["show", "in"], ["show", "--cost", "in"]])
+    if words[0] != "unpack" and dice.random() < 0.2:
+        words = words + dice.choice([["in"], ["no", "in"], ["out", "in"], ["-"], ["./in", ""]])
+    if words[0] == "check" and dice.random() < 0.4:
+        words = [words[0], "--all", *words[1:]]
     if words[0] != "show" and dice.random() < 0.1:
         words = [words[0], "--progress", *words[1:]]
     if words[0] == "unpack" and dice.random() < 0.1:

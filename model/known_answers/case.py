@@ -17,12 +17,14 @@ def fault_of(action):
 
 class Step:
     """One command line: its standard output, and the fault on standard error; or status 2, and
-    clap's text there; or the count there, where standard output has what OUT would."""
+    clap's text there; or what is said there, as the count where standard output has what OUT
+    would."""
 
     def __init__(self, words, output="", fault="", status=None, errors=None):
         self.words, self.output = words, output
         self.status = status if status is not None else 1 if fault else 0
-        self.errors = f"ffv1: {fault}\n" if fault else ANY if status is not None else errors or ""
+        said = errors if errors is not None else ANY if status is not None else ""
+        self.errors = f"ffv1: {fault}\n" if fault else said
 
 
 def kept(words, why):

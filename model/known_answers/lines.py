@@ -1,6 +1,6 @@
 # SPDX-License-Identifier: MIT OR Apache-2.0
 """Command lines, taken and refused, and paths."""
-from known_answers.case import FRAME, MONO, RED, Case, Step, avi, helped, kept, one, y4m
+from known_answers.case import ANY, FRAME, MONO, RED, Case, Step, avi, helped, kept, one, y4m
 
 WITHOUT, WITH = "frames 1 bytes 5\n", "frames 1 bytes 10\n"     # without parity, and with it
 PACKS = [
@@ -39,10 +39,31 @@ def taken_lines():
         yield Case(line, given, [helped(line.split())], {"in": MONO, "out": None})
 
 
+def several_files():
+    """Each file after a line of its path, whatever became of those before it."""
+    given = {"a": avi(one(), [FRAME]), "b": avi(one(), [bytes(3), FRAME]), "c": b"no file"}
+    line, refused = "frame {}: 5 bytes, 1 slices, 11 decisions\n", "frame 0: fault 30 NotKey\n"
+    good, faults = line.format(0) + "frames 1\n", "ffv1: b: 30 NotKey\nffv1: no: 56 Read\n"
+    all_of_b = refused + line.format(1) + "frames 2 faults 1\n"
+    yield Case("several files", given, [
+        Step(["check", "a", "./a"], f"file a\n{good}file ./a\n{good}"),
+        Step(["check", "b", "no", "a"], f"file b\nfile no\nfile a\n{good}", status=1,
+             errors=faults),
+        Step(["check", "a", "b"], f"file a\n{good}file b\n", status=1,
+             errors="ffv1: b: 30 NotKey\n"),
+        Step(["check", "b", "--all", "c", "b"], f"file b\n{all_of_b}file c\nfile b\n{all_of_b}",
+             status=1, errors="ffv1: b: 30 NotKey\nffv1: c: 52 Truncated\nffv1: b: 30 NotKey\n"),
+        Step(["check", "a", "-"], f"file a\n{good}file -\n", status=1,
+             errors="ffv1: -: 52 Truncated\n"),
+        Step(["show", "c", "no"], "file c\nfile no\n", status=1,
+             errors="ffv1: c: 52 Truncated\nffv1: no: 56 Read\n"),
+        Step(["show", "a", "b"], ANY)], given)
+
+
 REFUSED = [
     "", "code", "pac in out", "-x", "pack --version", "help code", "help pack in", "-- pack in out",
     "--ec 0 pack in out", "pack", "pack in", "pack in out more", "unpack in", "unpack in out x",
-    "check", "check in out", "show", "show in out", "trial", "trial in out",
+    "check", "check --cost in out", "show", "show --all in out", "trial", "trial in out",
     "pack --deep in out", "pack -e 0 in out", "pack in out -1", "unpack --ec 0 in out",
     "check --cost in", "show --place in", "show --progress in", "trial --progress in",
     "--progress check in", "check --progress --progress in", "unpack --progress=1 in out",
@@ -62,11 +83,12 @@ REFUSED = [
     "check --place=true in", "show --cost=1 in", "pack --columns 99 --help",
     "pack --columns --help", "pack --help=1 in out", "pack in out x --help", "-x --help", "--help=",
 ]
-# one file twice, and standard output as OUT
+# one file twice, standard output as OUT, and standard input twice
 CONFLICTS = [
     "pack in in", "unpack in in", "pack in /dev/stdout", "pack in /dev/fd/1",
     "pack in /proc/self/fd/1", "unpack in /dev/stdout", "unpack in /dev/fd/1",
     "unpack in -- /proc/self/fd/1", "pack no no", "pack - /dev/stdout",
+    "check - -", "show - in -", "check in - -- -", "show --cost - -",
 ]
 
 
@@ -168,6 +190,6 @@ def trials():
 
 
 CASES = [
-    taken_lines, refused_lines, unopened_files, kept_files, rewritten_files, standard_streams,
-    faults_in_turn, trials,
+    taken_lines, several_files, refused_lines, unopened_files, kept_files, rewritten_files,
+    standard_streams, faults_in_turn, trials,
 ]

@@ -116,12 +116,36 @@ def later_frames():
     yield Case("a third frame", {"in": file}, [
         Step(["check", "--place", "in"], *at("30 NotKey", NOWHERE, 1, lines, 2)),
         Step(["check", "in"], lines, "30 NotKey")])
+    refused = "frame 2: fault 30 NotKey\n"
+    last, ended = "frame 3: 5 bytes, 1 slices, 11 decisions\n", "frames 4 faults 1\n"
+    place, fault = at("30 NotKey", NOWHERE, 1, refused, 2)
+    yield Case("the frames after one that is refused", {"in": file}, [
+        Step(["check", "--all", "in"], lines + refused + last + ended, fault),
+        Step(["check", "--place", "--all", "in"], lines + place + last + ended, fault)])
     yield Case("a chunk has no place", {"in": avi(one(), [FRAME, b""])},
                [Step(["check", "--place", "in"], "frame 0: 5 bytes, 1 slices, 11 decisions\n",
                      "54 EmptyFrame")])
     first = ffv1.encode_frame(one(), [[[9]]], [3, 5, 4])
     file = avi(one(), [first, ffv1.encode_frame(one(), [[[9]]], [3, 5, 3])])
     yield Case("another aspect is checked", {"in": file}, [Step(["check", "in"], ANY)])
+
+
+def all_frames():
+    """Frames that are judged one by one, whatever came before."""
+    good, line = avi(one(), [FRAME]), "frame {}: 5 bytes, 1 slices, 11 decisions\n"
+    yield Case("all of a good file", {"in": good},
+               [Step(["check", "--all", "in"], line.format(0) + "frames 1 faults 0\n")])
+    file = avi(one(), [b"\1", FRAME, bytes(3), b"\1\2"])
+    lines = ("frame 0: fault 35 Footer\n" + line.format(1) + "frame 2: fault 30 NotKey\n"
+             "frame 3: fault 35 Footer\nframes 4 faults 3\n")
+    yield Case("the first of several faults", {"in": file}, [
+        Step(["check", "--all", "in"], lines, "35 Footer"), Step(["check", "in"], "", "35 Footer")])
+    file = avi(one(), [bytes(3), FRAME, b""])
+    lines = "frame 0: fault 30 NotKey\n" + line.format(1)
+    yield Case("a fault of the file after one of a frame", {"in": file},
+               [Step(["check", "--all", "in"], lines, "54 EmptyFrame")])
+    yield Case("all of a file without frames", {"in": avi(one(), [])},
+               [Step(["check", "--all", "in"], "", "70 NoFrames")])
 
 
 def strange_payloads():
@@ -143,4 +167,4 @@ def strange_payloads():
 
 
 CASES = [flipped_bits, cut_payloads, damaged_payloads, unknown_aspects, columns_side_by_side,
-         later_frames, strange_payloads]
+         later_frames, all_frames, strange_payloads]

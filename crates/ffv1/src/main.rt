@@ -3,7 +3,8 @@
 //! `ffv1_engine`.
 #![tactic(auto)]
 
-ghost use Rattle.std.specs.Prelude.{◌≡◌, Err, IfErr, IsOk};
+ghost use Rattle.std.specs.Prelude.{◌≡◌, ◌↔◌, Err, IfErr, IsOk, IsTrue, None, Some};
+ghost use Rattle.ffv1.specs.declared.refusal.Refusal.{Refusal};
 ghost use Rattle.ffv1.specs.declared.refusal.Refusal.TheVariants as refusal;
 ghost use Rattle.ffv1_engine.specs.declared.fault.Fault.{Fault};
 ghost use Rattle.ffv1_engine.specs.declared.fault.Fault.TheVariants as fault;
@@ -15,7 +16,7 @@ mod refusal;
 
 use either::{Left, Right};
 use ffv1_engine::{
-    Fault, PackedMatroska, Profile, check, pack, pack_matroska, show, trial, unpack,
+    Fault, PackedMatroska, Profile, check, check_all, pack, pack_matroska, show, trial, unpack,
 };
 use ffv1_wire::{ByteIn, ToFile, ToWrite};
 use ffv1_words::{Choice, ContainerChoice, Order, is_hyphen, words};
@@ -127,17 +128,42 @@ fn run_unpack(
     print_count(rt, files.output, &count)
 }
 
-/// Decodes all frames of a file, and prints what each took, and with `place` where one is refused.
+/// What becomes of an order whose frames were all judged: the first fault of one that is refused is
+/// its own.
+fn judged(first: Option<Fault>) -> Result<(), Refusal>
+    ensures sound { first ≡ None → IsOk result }
+    ensures refused { (f : Fault) → first ≡ Some f → result ≡ Err (refusal.Fault f) }
+{
+    match first {
+        Some(fault) => Err(Refusal::Fault(fault)),
+        None => Ok(()),
+    }
+}
+
+/// How a file is checked.
+#[derive(Clone, Copy)]
+struct Checking {
+    all: bool,
+    place: bool,
+    progress: bool,
+}
+
+/// Decodes all frames of a file, and prints what each took, and with `place` where one is refused;
+/// with `all` also those after one that is refused.
 fn run_check(
     rt: &(impl Files + Input + Print + Eprint + Clock),
     alloc: Global,
     input: &str,
-    place: bool,
-    progress: bool,
+    checking: Checking,
 ) -> Result<(), Refusal> {
     let (source, metadata) = open_input(rt, input)?;
-    let mut reader = watched(rt, source, &metadata, progress);
+    let mut reader = watched(rt, source, &metadata, checking.progress);
     let mut writer = ToWrite::new(io::writer(rt));
+    let place = checking.place;
+    if checking.all {
+        let first = check_all(alloc, Profile::Wide, &mut reader, &mut writer, place)?;
+        return judged(first);
+    }
     check(alloc, Profile::Wide, &mut reader, &mut writer, place)?;
     Ok(())
 }
@@ -163,12 +189,120 @@ fn run_trial(rt: &(impl Files + Input + Print), alloc: Global, input: &str) -> R
     Ok(())
 }
 
-/// Does what an order asks for.
+/// The exit status of an order: 0 where it was done, 1 for a fault, 2 where its files are refused.
+fn status_of(done: Result<(), Refusal>) -> u8
+    ensures ok { IsOk done → result ≡ 0 }
+    ensures fault { (f : Fault) → done ≡ Err (refusal.Fault f) → result ≡ 1 }
+    ensures one_file { done ≡ Err refusal.OneFile → result ≡ 2 }
+    ensures exists { done ≡ Err refusal.Exists → result ≡ 2 }
+{
+    match done {
+        Ok(()) => 0,
+        Err(Refusal::Fault(_)) => 1,
+        Err(Refusal::OneFile | Refusal::Exists) => 2,
+    }
+}
+
+/// Says on standard error why an order is not done, in one line. Answers its exit status.
+fn tell(rt: &impl Eprint, done: Result<(), Refusal>) -> io::Result<u8> {
+    if let Err(refusal) = done {
+        eprintln!(rt; "ffv1: {refusal}")?;
+    }
+    Ok(status_of(done))
+}
+
+/// What is done with each file of an order.
+#[derive(Clone, Copy)]
+enum Looking {
+    Check(Checking),
+    Show { cost: bool },
+}
+
+/// Looks at one file.
+fn look(
+    rt: &(impl Files + Input + Print + Eprint + Clock),
+    alloc: Global,
+    path: &str,
+    looking: Looking,
+) -> Result<(), Refusal> {
+    match looking {
+        Looking::Check(checking) => run_check(rt, alloc, path, checking),
+        Looking::Show { cost } => run_show(rt, alloc, path, cost),
+    }
+}
+
+/// Prints which file is looked at, and looks at it.
+fn look_named(
+    rt: &(impl Files + Input + Print + Eprint + Clock),
+    alloc: Global,
+    path: &str,
+    looking: Looking,
+) -> Result<(), Refusal> {
+    if println!(rt; "file {path}").is_err() {
+        return Err(Refusal::Fault(Fault::Write));
+    }
+    look(rt, alloc, path, looking)
+}
+
+/// The exit status of several files after one more: 1 where any was refused.
+fn status_after(status: u8, done: Result<(), Refusal>) -> u8
+    ensures ok { IsOk done → result ≡ status }
+    ensures refused { (r : Refusal) → done ≡ Err r → result ≡ 1 }
+{
+    match done {
+        Ok(()) => status,
+        Err(_) => 1,
+    }
+}
+
+/// Whether no further file is looked at: a line could not be printed.
+fn is_unprinted(done: Result<(), Refusal>) -> bool
+    ensures { IsTrue result ↔ (done ≡ Err (refusal.Fault fault.Write)) }
+{
+    done == Err(Refusal::Fault(Fault::Write))
+}
+
+/// Looks at each of several files, after a line of its path; a fault is one line on standard error,
+/// with the path. Answers the exit status: 1 where any was refused, and else 0.
+fn look_each(
+    rt: &(impl Files + Input + Print + Eprint + Clock),
+    alloc: Global,
+    paths: &[&str],
+    looking: Looking,
+) -> io::Result<u8> {
+    let mut status = 0;
+    for path in paths {
+        let done = look_named(rt, alloc, path, looking);
+        if let Err(refusal) = done {
+            eprintln!(rt; "ffv1: {path}: {refusal}")?;
+        }
+        status = status_after(status, done);
+        if is_unprinted(done) {
+            break;
+        }
+    }
+    Ok(status)
+}
+
+/// Looks at one file, or at several. Answers the exit status.
+fn look_all(
+    rt: &(impl Files + Input + Print + Eprint + Clock),
+    alloc: Global,
+    paths: &[&str],
+    looking: Looking,
+) -> io::Result<u8> {
+    if paths.len() == 1 {
+        return tell(rt, look(rt, alloc, paths[0], looking));
+    }
+    look_each(rt, alloc, paths, looking)
+}
+
+/// Does what an order asks for. Answers the exit status.
 fn run(
     rt: &(impl Files + Input + Print + Eprint + Clock),
     alloc: Global,
     order: Order<'_>,
-) -> Result<(), Refusal> {
+) -> io::Result<u8> {
     match order {
         Order::Pack {
             input,
@@ -184,7 +318,7 @@ fn run(
                 no_clobber,
                 progress,
             };
-            run_pack(rt, alloc, &files, container, &choice)
+            tell(rt, run_pack(rt, alloc, &files, container, &choice))
         }
         Order::Unpack {
             input,
@@ -198,35 +332,29 @@ fn run(
                 no_clobber,
                 progress,
             };
-            run_unpack(rt, alloc, &files)
+            tell(rt, run_unpack(rt, alloc, &files))
         }
         Order::Check {
-            input,
+            inputs,
+            all,
             place,
             progress,
-        } => run_check(rt, alloc, input, place, progress),
-        Order::Show { input, cost } => run_show(rt, alloc, input, cost),
-        Order::Trial { input } => run_trial(rt, alloc, input),
-    }
-}
-
-/// The exit status of an order: 0 where it was done, 1 for a fault, 2 where its files are refused.
-fn status_of(done: Result<(), Refusal>) -> u8
-    ensures ok { IsOk done → result ≡ 0 }
-    ensures fault { (f : Fault) → done ≡ Err (refusal.Fault f) → result ≡ 1 }
-    ensures one_file { done ≡ Err refusal.OneFile → result ≡ 2 }
-    ensures exists { done ≡ Err refusal.Exists → result ≡ 2 }
-{
-    match done {
-        Ok(()) => 0,
-        Err(Refusal::Fault(_)) => 1,
-        Err(Refusal::OneFile | Refusal::Exists) => 2,
+        } => {
+            let checking = Checking {
+                all,
+                place,
+                progress,
+            };
+            look_all(rt, alloc, inputs, Looking::Check(checking))
+        }
+        Order::Show { inputs, cost } => look_all(rt, alloc, inputs, Looking::Show { cost }),
+        Order::Trial { input } => tell(rt, run_trial(rt, alloc, input)),
     }
 }
 
 /// Does what the words of the command line ask for: status 0 for success, 1 for a fault, which is
-/// one line on standard error, and 2 for a line or for files that are refused. All of clap's text
-/// goes to standard error, that of help too, which ends with status 0.
+/// one line on standard error, of each file that has one, and 2 for a line or for files that are
+/// refused. All of clap's text goes to standard error, that of help too, which ends with status 0.
 fn command(rt: &HostRuntime, alloc: Global, texts: &[&str]) -> io::Result<ExitCode> {
     match words(alloc, texts) {
         Err(error) => {
@@ -238,11 +366,8 @@ fn command(rt: &HostRuntime, alloc: Global, texts: &[&str]) -> io::Result<ExitCo
             })
         }
         Ok(order) => {
-            let done = run(rt, alloc, order);
-            if let Err(refusal) = done {
-                eprintln!(rt; "ffv1: {refusal}")?;
-            }
-            Ok(ExitCode::from(status_of(done)))
+            let status = run(rt, alloc, order)?;
+            Ok(ExitCode::from(status))
         }
     }
 }

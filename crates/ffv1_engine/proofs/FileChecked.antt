@@ -10,7 +10,7 @@ use Rattle.ffv1_files.specs.declared.container.Scope.TheVariants.{FirstMovi, Who
 use Rattle.ffv1_files.specs.Places.{Place}
 use Rattle.ffv1_avi.specs.Chunks.{AviFile}
 use Rattle.ffv1_files.specs.Whole.{IsWhole}
-use Rattle.ffv1_files.specs.Files.{file_read, frame_read, frames_read, more_frames}
+use Rattle.ffv1_files.specs.Files.{file_read, frame_read, frames_read, more_frames, open_read}
 use Rattle.ffv1_reads.specs.Head.{Head}
 use Rattle.ffv1_files.specs.Readers.{Standing}
 use Rattle.ffv1_reads.specs.Reads as avi
@@ -27,7 +27,7 @@ use Rattle.ffv1_engine.specs.FrameLines.{frame_lines}
 use Rattle.ffv1_engine.specs.Opens.{LacksOpeningBy, OpensKnown, OpensStream, stream_of}
 use Rattle.ffv1_engine.specs.Play.{BeginsSome, End, EndsKnown, Played}
 use Rattle.ffv1_engine.specs.Play.End.{File, Payload, Over}
-use Rattle.ffv1_engine.specs.Stream.{AreFrames, BeginsKnown, BeginsTo, Frame, IsRead, ReadsFile, ReadsFrames, Stream, payloads}
+use Rattle.ffv1_engine.specs.Stream.{AreFrames, BeginsKnown, BeginsTo, Frame, HoldsPayloads, ReadsFile, ReadsFrames, Stream, payloads}
 use Rattle.ffv1_engine.specs.Told.{EndsFrom, LineFails, PayloadStops, ReadsKnown, ReadsSome, TellingStops, TellingStopsBy, ToldAll, ToldSome, WritesFrame}
 use Rattle.ffv1_engine.proofs.FramesTold.{reads_some, take_past}
 
@@ -72,18 +72,27 @@ some_of_end from (Some text) (Some rest) frames e ends = (ends.0, ends.1, ends.2
 module _ (next : (place : Place) (text : List ℕ) → frames_read place text ≡ avi.read_on (frame_read place text) (more_frames frames_read))
     (is_file : (file : List ℕ) (head : Head) (frames : List (List ℕ)) (rest : List ℕ) → file_read FirstMovi file ≡ Ok ((head, frames), rest) → (is : AviFile file head frames) × (rest ≡ is.rest))
     (whole : (file : List ℕ) (head : Head) (frames : List (List ℕ)) (rest : List ℕ) → file_read Whole file ≡ Ok ((head, frames), rest) → IsWhole file head frames rest) where
-  all_read : (from : Place) (text : List ℕ) (frames : List Frame) (to : Place) (at rest : List ℕ) → ReadsFrames from text (payloads frames) to at → frame_read to at ≡ Ok (None, rest) →
-      frames_read from text ≡ Ok (payloads frames, rest)
+  all_read : (from : Place) (text : List ℕ) (held : List (List ℕ)) (to : Place) (at rest : List ℕ) → ReadsFrames from text held to at → frame_read to at ≡ Ok (None, rest) →
+      frames_read from text ≡ Ok (held, rest)
   all_read from text [] to at rest h over =
       let here : frame_read from text ≡ Ok (None, rest) = subst (λ l. frame_read l text ≡ Ok (None, rest)) h.0 (subst (λ t. frame_read to t ≡ Ok (None, rest)) h.1 over) in
       next from text ∙ ap (λ z. avi.read_on z (more_frames frames_read)) here
   all_read from text (f ∷ fs) to at rest h over =
       next from text ∙ ap (λ z. avi.read_on z (more_frames frames_read)) h.2
-      ∙ ap (λ z. avi.read_on z (λ frames. avi.given (f.payload ∷ frames))) (all_read h.0 h.1 fs to at rest h.3 over)
+      ∙ ap (λ z. avi.read_on z (λ frames. avi.given (f ∷ frames))) (all_read h.0 h.1 fs to at rest h.3 over)
 
-  whole_read : (profile : Profile) (file rest : List ℕ) (s : Stream) (frames : List Frame) → file_read (scope_in profile) file ≡ Ok ((s.head, payloads frames), rest) → IsRead profile file rest s frames
-  whole_read Strict file rest s frames read = is_file file s.head (payloads frames) rest read
-  whole_read Wide file rest s frames read = whole file s.head (payloads frames) rest read
+  whole_read : (profile : Profile) (file rest : List ℕ) (head : Head) (held : List (List ℕ)) → file_read (scope_in profile) file ≡ Ok ((head, held), rest) → HoldsPayloads profile file rest head held
+  whole_read Strict file rest head held read = is_file file head held rest read
+  whole_read Wide file rest head held read = whole file head held rest read
+
+  -- a file that is opened, and whose payloads are read to its end
+  pub holds_payloads : (profile : Profile) (file behind rest : List ℕ) (head : Head) (from to : Place) (at : List ℕ) (held : List (List ℕ)) → open_read (scope_in profile) file ≡ Ok ((head, from), behind) →
+      ReadsFrames from behind held to at → frame_read to at ≡ Ok (None, rest) → HoldsPayloads profile file rest head held
+  holds_payloads profile file behind rest head from to at held opens reads over =
+      let frames_are = all_read from behind held to at rest reads over in
+      whole_read profile file rest head held
+      (ap (λ z. avi.read_on z (λ (p : Head × Place) (text : List ℕ). avi.read_on (frames_read p.1 text) (λ frames. avi.given (p.0, frames)))) opens
+      ∙ ap (λ z. avi.read_on z (λ frames. avi.given (head, frames))) frames_are)
 
   pub reads_file : (profile : Profile) (old mid new : Option (List ℕ)) (s : Stream) (from : Place) (frames : List Frame) → OpensKnown profile old mid s.head from → EndsFrom from mid new frames Over →
       ReadsFile profile old new s frames
@@ -91,10 +100,7 @@ module _ (next : (place : Place) (text : List ℕ) → frames_read place text �
   reads_file profile (Some file) None new s from frames opens ends = absurd opens
   reads_file profile (Some file) (Some behind) None s from frames opens ends = absurd ends
   reads_file profile (Some file) (Some behind) (Some rest) s from frames opens ends =
-      let frames_are = all_read from behind frames ends.0 ends.1 rest ends.2 ends.3 in
-      whole_read profile file rest s frames
-      (ap (λ z. avi.read_on z (λ (p : Head × Place) (text : List ℕ). avi.read_on (frames_read p.1 text) (λ frames. avi.given (p.0, frames)))) opens
-      ∙ ap (λ z. avi.read_on z (λ frames. avi.given (s.head, frames))) frames_are)
+      holds_payloads profile file behind rest s.head from ends.0 ends.1 (payloads frames) opens ends.2 ends.3
 
 module _ (profile : Profile) (place : Bool) (i0 i1 i2 o0 o1 o2 : Option (List ℕ)) (ib im ia ob om oa : ℕ) where
   -- a file that is not opened

@@ -23,6 +23,8 @@ mod FramesTold
 mod Openings
 mod FrameDecoded
 mod FileChecked
+mod FramesJudged
+mod FileJudged
 mod PicturesWritten
 mod FileUnpacked
 mod ImageLines

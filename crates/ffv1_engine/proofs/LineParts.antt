@@ -1,11 +1,15 @@
 -- Parts of a line that are written one after the other.
-use Rattle.std.proofs.Common.{◌≡◌, ℕ, ◌+◌, ◌<◌, ◌≤◌, Option, Result, Ok, Err, List, ◌++◌, length, take, ap, sym, subst, ◌∙◌, arith, length-append}
+use Rattle.std.proofs.Common.{◌≡◌, ℕ, ◌+◌, ◌<◌, ◌≤◌, Option, Result, Ok, Err, List, ◌++◌, length, take, refl, true, true≢false, inl, inr, ap, sym, subst, ◌∙◌, arith, length-append}
 use Rattle.std.specs.Io.KnownBytes.{Appends}
+use Rattle.std.specs.Result.{is_err}
 use Rattle.std.proofs.KnownBytes.{Appends-trans}
 use Rattle.std.proofs.lemmas.List.{take-append-le}
 use Rattle.ffv1_wire.specs.Failures.{one_more}
 use Rattle.ffv1_wire.specs.Passage.{between}
+use Rattle.ffv1_engine.specs.declared.fault.Fault.{Fault}
+use Rattle.ffv1_engine.specs.declared.fault.Fault.TheVariants as fault
 use Rattle.ffv1_engine.specs.FrameLines.{WritesPart}
+use Rattle.ffv1_engine.specs.Told.{WritesFrame}
 use Rattle.ffv1_engine.proofs.FramesTold.{take_past}
 
 -- parts that were written one after the other
@@ -28,3 +32,16 @@ part_stops o n b a xs ys e h =
     let most : h.1.0 ≤ length xs = omega (arith, h.1.1) in
     let short : h.1.0 < length (xs ++ ys) = omega (arith, long, h.1.1) in
     (h.0, (h.1.0, short, subst (Appends o n) (sym (take-append-le h.1.0 xs ys most)) h.1.2))
+
+-- a frame's lines whose first part was not written whole, or lacked memory
+pub frame_stops : (o n : Option (List ℕ)) (b a : ℕ) (xs ys : List ℕ) (f : Fault) → WritesFrame xs (between o n b a) (Err f) → WritesFrame (xs ++ ys) (between o n b a) (Err f)
+frame_stops o n b a xs ys f h = elim h [
+  | inl write ↦ let part = part_stops o n b a xs ys f (write.1, write.2) in inl (write.0, part.0, part.1)
+  | inr none ↦ inr none
+]
+
+-- a line after those that were written was not written
+pub line_not_written : {E : Type 0} (o m n : Option (List ℕ)) (b c a : ℕ) (xs ys : List ℕ) (r : Result (Unit {0}) E) → is_err r ≡ true → (c ≡ b) × Appends o m xs → WritesPart ys (between m n c a) r →
+    WritesFrame (xs ++ ys) (between o n b a) (Err fault.Write)
+line_not_written o m n b c a xs ys (Ok done) failed first h = absurd (true≢false (sym failed))
+line_not_written o m n b c a xs ys (Err e) failed first h = let part = part_then o m n b c a xs ys (Err e) first h in inl (refl, part.0, part.1)

@@ -15,7 +15,9 @@ pub mod Encoding
 pub mod FrameLines
 pub mod Opens
 pub mod Told
+pub mod Judged
 pub mod Check
+pub mod CheckAll
 pub mod Unpacked
 pub mod Unpacking
 pub mod PicturesOut

@@ -112,13 +112,16 @@ abbrev pub BeginsKnown : Profile → Option (List ℕ) → Option (List ℕ) →
 BeginsKnown profile old new s frames = Known old new (λ file rest.
     (to : Place) × Begins profile file s frames to rest)
 
--- a file was read to its end, with this head and these frames, and this is left of it: an AVI by
+-- a file was read to its end, with this head and these payloads, and this is left of it: an AVI by
 -- its chunks, after whose first movi that stands; or one that was read whole, an AVI by the chunks
 -- of every RIFF, or a Matroska file by its elements
+abbrev pub HoldsPayloads : Profile → List ℕ → List ℕ → Head → List (List ℕ) → Type 0
+HoldsPayloads Strict file rest head held = (is : AviFile file head held) × (rest ≡ is.rest)
+HoldsPayloads Wide file rest head held = IsWhole file head held rest
+
+-- the same with the payloads of these frames
 abbrev pub IsRead : Profile → List ℕ → List ℕ → Stream → List Frame → Type 0
-IsRead Strict file rest s frames =
-    (is : AviFile file s.head (payloads frames)) × (rest ≡ is.rest)
-IsRead Wide file rest s frames = IsWhole file s.head (payloads frames) rest
+IsRead profile file rest s frames = HoldsPayloads profile file rest s.head (payloads frames)
 
 -- where the file is known, it was read so
 abbrev pub ReadsFile : Profile → Option (List ℕ) → Option (List ℕ) → Stream → List Frame → Type 0

@@ -251,8 +251,8 @@ WritesFrame line p (Err f) =
     ((f ≡ fault.Write) × (p.after ≡ one_more p.before) × AppendsBeginning p.old p.new line)
     ⊎ ((f ≡ fault.OutOfMemory) × (p.after ≡ p.before) × Keeps p.old p.new)
 
--- the faults that telling frames has, whatever the file: those of reading a frame, of decoding it, and
--- of writing its line
+-- the faults that telling frames has, whatever the file: those of reading a frame, of decoding it,
+-- and of writing its line
 abbrev pub is_telling_fault : Fault → Bool
 is_telling_fault fault.OutOfMemory = true
 is_telling_fault fault.Read = true
@@ -276,6 +276,11 @@ is_telling_fault fault.SliceParity = true
 is_telling_fault fault.SliceStatus = true
 is_telling_fault fault.InfoDiffers = true
 is_telling_fault f = false
+
+-- where a payload is refused, the file may be read on, as this says
+abbrev pub OnPayload : Type 0 → Stop → Type 0
+OnPayload P (stop.File f) = ⊤
+OnPayload P (stop.Payload f) = P
 
 -- with those of the container that the frames are in
 abbrev pub IsToldFault : Container → Fault → Type 0

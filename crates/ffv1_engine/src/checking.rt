@@ -1,12 +1,15 @@
 //! All frames of a file are decoded, and told.
 
-ghost use Rattle.std.specs.Prelude.{IfErr, OnOk};
+ghost use Rattle.std.specs.Prelude.{IfErr, IfOk, OnOk};
 ghost use Rattle.ffv1_wire.specs.Passage.{passage};
 ghost use Rattle.ffv1_engine.specs.Check.{CheckDone, CheckStops, IsCheckFault, count_line};
+ghost use Rattle.ffv1_engine.specs.CheckAll.{CheckAllDone, CheckAllStops};
+ghost use Rattle.ffv1_engine.specs.Judged.{counts_line};
 ghost use Rattle.ffv1_engine.specs.Told.{WritesFrame};
 
 use crate::fault::Fault;
-use crate::frame_line::{FrameLine, put_count};
+use crate::frame_line::{FrameLine, put_count, put_counts};
+use crate::judging::judge_frames;
 use crate::player::open_player;
 use crate::profile::Profile;
 use crate::telling::tell_frames;
@@ -42,15 +45,15 @@ fn write_count<W: ByteOut, A: Allocator + Copy>(
 /// Frames are counted from 0; a count of 64 bits stays at its greatest value. Beside what the
 /// decoder holds, one payload and one line are held.
 ///
-/// The first fault ends it, after the lines of the frames before: those of the file up to its
-/// first frame (`NotAvi`, `NoFfv1`, `Truncated`, `ChunkTooLong`), of its record, of the chunks of
-/// its frames (`EmptyFrame`, too), of a payload; `NoFrames` at the end where there was none;
-/// `Read`, `OutOfMemory` and `Write` as they come. At `Wide`, `Truncated` is also a file that ends
-/// inside a `RIFF`, or that has fewer frames than its `dmlh` says, and `NotAvi` one where something
-/// that is no `RIFF` comes after the last one; and a file that begins with the byte 1A is Matroska,
-/// with the faults that `MatroskaReader::open` and `MatroskaReader::next_frame` name in place of
-/// those of AVI. With `place`, where a payload is refused, and only there, one line more is written,
-/// and where that cannot be, the fault stays the payload's:
+/// The first fault ends it, after the lines of the frames before: those of the file up to its first
+/// frame (`NotAvi`, `NoFfv1`, `Truncated`, `ChunkTooLong`), of its record, of the chunks of its
+/// frames (`EmptyFrame`, too), of a payload; `NoFrames` at the end where there was none; `Read`,
+/// `OutOfMemory` and `Write` as they come. At `Wide`, `Truncated` is also a file that ends inside a
+/// `RIFF`, or that has fewer frames than its `dmlh` says, and `NotAvi` one where something that is
+/// no `RIFF` comes after the last one; and a file that begins with the byte 1A is Matroska, with
+/// the faults that `MatroskaReader::open` and `MatroskaReader::next_frame` name in place of those
+/// of AVI. With `place`, where a payload is refused, and only there, one line more is written, and
+/// where that cannot be, the fault stays the payload's:
 ///
 /// ```text
 /// fault frame {i} slice {s} plane {p} line {l} x {x} decisions {d}
@@ -79,4 +82,72 @@ pub fn check<R: ByteIn, W: ByteOut, A: Allocator + Copy>(
     }
     write_count(alloc, output, count)?;
     Ok(())
+}
+
+/// Writes how many frames there were, and how many of them are refused.
+fn write_counts<W: ByteOut, A: Allocator + Copy>(
+    alloc: A,
+    output: &mut W,
+    frames: u64,
+    faults: u64,
+) -> Result<(), Fault>
+    ensures { WritesFrame (counts_line frames faults)
+        (passage W.contents W.failures output.old output.new) result }
+{
+    let mut text = Vec::new(alloc);
+    put_counts(&mut text, frames, faults)?;
+    if write_all(output, &text).is_err() {
+        return Err(Fault::Write);
+    }
+    Ok(())
+}
+
+/// Decodes all frames of a file that the profile reads, and goes on after a payload that is
+/// refused. Writes a line of each frame as soon as it is judged, and at the end how many there were
+/// and how many of them are refused:
+///
+/// ```text
+/// frame {i}: {length} bytes, {slices} slices, {decisions} decisions
+/// frame {i}: fault {number} {name}
+/// frames {n} faults {m}
+/// ```
+///
+/// With `place` a frame that is refused has a line more, after its own:
+///
+/// ```text
+/// fault frame {i} slice {s} plane {p} line {l} x {x} decisions {d}
+/// ```
+///
+/// Answers the fault of the first payload that is refused, and None where none is. Frames are
+/// counted from 0; a count of 64 bits stays at its greatest value. Beside what the decoder holds,
+/// one payload and its lines are held.
+///
+/// All other faults end it as they end `check`, after the lines of the frames before: those of the
+/// file up to its first frame, of its record, and of the chunks of its frames (`EmptyFrame`, too);
+/// `NoFrames` at the end where there was none; `Read`, `OutOfMemory` and `Write` as they come,
+/// `Write` also where the line of a place is not written.
+pub fn check_all<R: ByteIn, W: ByteOut, A: Allocator + Copy>(
+    alloc: A,
+    profile: Profile,
+    input: &mut R,
+    output: &mut W,
+    place: bool,
+) -> Result<Option<Fault>, Fault>
+    ensures ok { IfOk result (CheckAllDone profile place
+        (passage R.remaining R.failures input.old input.new)
+        (passage W.contents W.failures output.old output.new)) }
+    ensures err { IfErr result (CheckAllStops profile place
+        (passage R.remaining R.failures input.old input.new)
+        (passage W.contents W.failures output.old output.new)) }
+    ensures own { IfErr result (IsCheckFault profile) }
+{
+    frames_in_turn();
+    read_is_file();
+    let mut player = open_player(alloc, profile, input)?;
+    let counts = judge_frames(alloc, &mut player, input, output, place)?;
+    if counts.frames == 0 {
+        return Err(Fault::NoFrames);
+    }
+    write_counts(alloc, output, counts.frames, counts.faults)?;
+    Ok(counts.first)
 }

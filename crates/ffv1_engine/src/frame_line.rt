@@ -4,9 +4,10 @@ ghost use Rattle.std.specs.Prelude.{◌≡◌, ◌++◌, ◌*◌, length, codes,
 ghost use Rattle.ffv1_engine.specs.Check.{count_line};
 ghost use Rattle.ffv1_engine.specs.FrameLines.{WritesPart, cost_line, part_of_frame, place_line};
 ghost use Rattle.ffv1_engine.specs.FrameLines.{sizes_line};
+ghost use Rattle.ffv1_engine.specs.Judged.{counts_line, fault_word, refused_line};
 ghost use Rattle.ffv1_wire.specs.Passage.{passage};
 
-use ffv1_codec::FrameFault;
+use ffv1_codec::{CodecFault, FrameFault};
 use ffv1_range::Tally;
 use ffv1_wire::{ByteOut, Failed, write_all};
 use itoa::Buffer;
@@ -112,6 +113,66 @@ pub(crate) fn write_place<W: ByteOut>(
     write_part(output, fault)?;
     write_number(output, b" decisions ", decisions)?;
     write_all(output, b"\n")?;
+    Ok(())
+}
+
+/// The number and the name of a fault of a payload, as it displays.
+#[tactic(auto, unfolding(crate::specs::Judged::fault_word))]
+fn fault_word(fault: CodecFault) -> &'static str
+    ensures { result.now ≡ fault_word fault }
+{
+    match fault {
+        CodecFault::OutOfMemory => "2 OutOfMemory",
+        CodecFault::BadStart => "3 BadStart",
+        CodecFault::SymbolTooLong => "4 SymbolTooLong",
+        CodecFault::Colour => "7 Colour",
+        CodecFault::Overread => "8 Overread",
+        CodecFault::NotKey => "30 NotKey",
+        CodecFault::Place => "31 Place",
+        CodecFault::SetIndex => "32 SetIndex",
+        CodecFault::Structure => "33 Structure",
+        CodecFault::Aspect => "34 Aspect",
+        CodecFault::Footer => "35 Footer",
+        CodecFault::Leftover => "36 Leftover",
+        CodecFault::SliceParity => "37 SliceParity",
+        CodecFault::SliceStatus => "38 SliceStatus",
+        CodecFault::SliceTooLong => "40 SliceTooLong",
+        CodecFault::InfoDiffers => "41 InfoDiffers",
+        CodecFault::Sink => "42 Sink",
+    }
+}
+
+/// The line of a frame that is refused, in place of what the text has.
+#[tactic(auto, unfolding(crate::specs::Judged::refused_line))]
+pub(crate) fn put_refused<A: Allocator>(
+    text: &mut Vec<u8, A>,
+    number: u64,
+    fault: CodecFault,
+) -> Result<(), AllocError>
+    ensures { OnOk result (text.new.items ≡ refused_line number fault) }
+{
+    text.clear();
+    push_number(text, b"frame ", number)?;
+    text.extend_from_slice(b": fault ")?;
+    text.extend_from_slice(fault_word(fault).as_bytes())?;
+    text.extend_from_slice(b"\n")?;
+    Ok(())
+}
+
+/// The line of how many frames there were, and how many of them are refused, in place of what the
+/// text has.
+#[tactic(auto, unfolding(crate::specs::Judged::counts_line))]
+pub(crate) fn put_counts<A: Allocator>(
+    text: &mut Vec<u8, A>,
+    frames: u64,
+    faults: u64,
+) -> Result<(), AllocError>
+    ensures { OnOk result (text.new.items ≡ counts_line frames faults) }
+{
+    text.clear();
+    push_number(text, b"frames ", frames)?;
+    push_number(text, b" faults ", faults)?;
+    text.extend_from_slice(b"\n")?;
     Ok(())
 }
 

@@ -4,11 +4,11 @@
 //!
 //! `words` reads a command line as an `Order`, of one of five commands; the call of the order's
 //! name does it, over a reader and a writer of `ffv1_wire`, and answers a `Fault` that displays as
-//! its number and name. `pack` codes a video into an AVI, and `pack_matroska` into Matroska, frame by
-//! frame; `unpack` decodes a file into a text again,
-//! `check` decodes all its frames, `show` tells what it says, and `trial` codes the first picture
-//! of a text and decodes it again; `code_plane` is its first half, over samples. The test
-//! `trials::example` of `ffv1_tests` runs these lines:
+//! its number and name. `pack` codes a video into an AVI, and `pack_matroska` into Matroska, frame
+//! by frame; `unpack` decodes a file into a text again, `check` decodes all its frames, `show`
+//! tells what it says, and `trial` codes the first picture of a text and decodes it again;
+//! `code_plane` is its first half, over samples. The test `trials::example` of `ffv1_tests` runs
+//! these lines:
 //!
 //! ```text
 //! if let Order::Trial { .. } = words(alloc, &["ffv1", "trial", "disc.y4m"])? {
@@ -23,6 +23,7 @@ mod encoding;
 mod fault;
 pub mod frame_line;
 mod images_out;
+mod judging;
 pub mod laws;
 mod matroska_packing;
 mod mono_trial;
@@ -40,7 +41,7 @@ mod telling;
 mod unpacking;
 mod video;
 
-pub use checking::check;
+pub use checking::{check, check_all};
 pub use fault::Fault;
 pub use ffv1_words::{Choice, CoderChoice, ContainerChoice, Order, words};
 pub use matroska_packing::{PackedMatroska, pack_matroska};

@@ -11,7 +11,7 @@ ghost use Rattle.ffv1_engine.specs.Containers.{is_profile_fault};
 ghost use Rattle.ffv1_engine.specs.Profiles.{greatest_depth};
 ghost use Rattle.ffv1_engine.specs.Opens.{OpensStream, LacksOpening, is_opening_fault};
 ghost use Rattle.ffv1_engine.specs.Stream.{IsStream};
-ghost use Rattle.ffv1_engine.specs.Told.{IsOwnStop, StepAnswers};
+ghost use Rattle.ffv1_engine.specs.Told.{IsOwnStop, OnPayload, StepAnswers};
 
 use crate::fault::Fault;
 use crate::profile::Profile;
@@ -154,6 +154,8 @@ pub(crate) fn play<R: ByteIn, S: LineSink, A: Allocator>(
     ensures container { container_of player.new.reader.place
         ≡ container_of player.old.reader.place }
     ensures own { IfErr result (IsOwnStop (container_of player.old.reader.place)) }
+    ensures goes_on { IfErr result (OnPayload ((player.new.reader.fault ≡ None)
+        × (amount player.new.reader.place < amount player.old.reader.place))) }
 {
     match player.reader.next_frame(input, &mut player.payload) {
         Ok(false) => Ok(None),

@@ -51,7 +51,7 @@ fn put_line<A: Allocator>(
 }
 
 /// Writes the line of the frame that was decoded last.
-fn write_line<W: ByteOut, A: Allocator>(
+pub(crate) fn write_line<W: ByteOut, A: Allocator>(
     output: &mut W,
     text: &mut Vec<u8, A>,
     kind: FrameLine,

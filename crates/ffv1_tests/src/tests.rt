@@ -8,6 +8,7 @@ mod ebml;
 mod encoded;
 mod faults;
 mod frames;
+mod judged;
 mod lanes;
 mod line;
 mod made;

@@ -2,3 +2,4 @@ mod TakenRows
 mod TakenOrder
 mod TakenNames
 mod TakenLine
+mod Hyphens

@@ -1,5 +1,5 @@
 -- A line that clap takes names an order.
-use Rattle.std.proofs.Common.{◌≡◌, ◌∙◌, ◌⊎◌, inl, inr, subst, ℕ, refl, sym, List, [], ◌∷◌, Bool, true, false, Some, true≢false, codes}
+use Rattle.std.proofs.Common.{◌≡◌, ◌∙◌, ◌⊎◌, inl, inr, subst, ℕ, refl, sym, ap, map, List, [], ◌∷◌, Bool, true, false, Some, true≢false, codes}
 use Rattle.std.specs.Prelude.{find}
 use Rattle.std.specs.List.{slice_index_or}
 use Rattle.std.specs.Str.{bytes_eq}
@@ -37,6 +37,13 @@ found_in p (x ∷ xs) s e = go (p x) refl (found_in p xs s)
 -- a text as a path, wherever it lies
 abbrev path : Text → Bor Text
 path t = record { ref_ptr = (0, 0); now = t }
+
+abbrev paths : List Text → Bor (List (Bor Text))
+paths ts = record { ref_ptr = (0, 0); now = map path ts }
+
+texts_of : (ts : List Text) → ts ≡ map (λ (p : Bor Text). p.now) (map path ts)
+texts_of [] = refl
+texts_of (t ∷ ts) = ap (λ z. t ∷ z) (texts_of ts)
 
 -- what passes as this command names an order
 abbrev NamesOrder : Shape → Type 0
@@ -133,11 +140,13 @@ module _ (contexts containers : Words) (are : AreContexts contexts) (are_contain
   unfolding clap_on_literals
   check_named rest e =
       let input = value_left check rest (rule_at check 0) refl refl (inl refl) refl e in
-      let place = value_left check rest (rule_at check 1) refl refl (inr (inl refl)) refl e in
+      let on = value_left check rest (rule_at check 1) refl refl (inr (inl refl)) refl e in
+      let all = flag_named (rows_after check.rules [] rest) (codes "all") on.text on.is on.passes in
+      let place = value_left check rest (rule_at check 2) refl refl (inr (inr (inl refl))) refl e in
       let flag = flag_named (rows_after check.rules [] rest) (codes "place") place.text place.is place.passes in
-      let told = value_left check rest (rule_at check 2) refl refl (inr (inr (inl refl))) refl e in
+      let told = value_left check rest (rule_at check 3) refl refl (inr (inr (inr (inl refl)))) refl e in
       let progress = flag_named (rows_after check.rules [] rest) (codes "progress") told.text told.is told.passes in
-      (order.Check (path input.text) flag.0 progress.0, (refl, input.is, flag.1, progress.1))
+      (order.Check (paths input.texts) all.0 flag.0 progress.0, (refl, input.all ∙ ap Some (texts_of input.texts), all.1, flag.1, progress.1))
 
   abbrev show : Shape
   show = command 3
@@ -148,7 +157,7 @@ module _ (contexts containers : Words) (are : AreContexts contexts) (are_contain
       let input = value_left show rest (rule_at show 0) refl refl (inl refl) refl e in
       let cost = value_left show rest (rule_at show 1) refl refl (inr (inl refl)) refl e in
       let flag = flag_named (rows_after show.rules [] rest) (codes "cost") cost.text cost.is cost.passes in
-      (order.Show (path input.text) flag.0, (refl, input.is, flag.1))
+      (order.Show (paths input.texts) flag.0, (refl, input.all ∙ ap Some (texts_of input.texts), flag.1))
 
   abbrev trial : Shape
   trial = command 4

@@ -10,13 +10,13 @@ use Rattle.std.proofs.lemmas.Bool.{eqb-true, leb-true, ltb-true}
 use Rattle.std.proofs.lemmas.Slice.Eq.{bytes_eq-Decides}
 use Rattle.clap.specs.Values.{is_request, read_as}
 use Rattle.clap.specs.Facts.{explicit_source, unwrap_or_range}
-use Rattle.clap.specs.Walk.{Held, Names, Outcome, Row, Rule, Step, Text, Waiting, Walk, action_of, after_flag, after_step, arg_by_id, arg_by_index, arg_by_long, arg_by_short, at_row, attached_value, bundle, bundle_met, bundle_step, default_rows, finished, flag_met, has_row, first_of, is_empty, is_pending, long_met, long_or_other, more_values, most_values, nothing_held, option_met, option_word, plain_word, positional_held, reacted, reading_by, rows_after, settled, settled_rows, short_met, short_or_plain, subcommand_met, subcommand_or_other, takes_several, takes_values, to_positional, used, used_by_id, values_or_missing, walk, walk_from, walked, walked_from, with_default, with_values, without, word_met, one_of}
+use Rattle.clap.specs.Walk.{Held, Names, Outcome, Row, Rule, Step, Text, Waiting, Walk, action_of, after_flag, after_step, arg_by_id, arg_by_index, arg_by_long, arg_by_short, at_row, attached_value, bundle, bundle_met, bundle_step, default_rows, finished, flag_met, has_row, first_of, is_empty, is_pending, all_of, long_met, long_or_other, more_values, most_values, nothing_held, option_met, option_word, plain_word, positional_held, reacted, reading_by, rows_after, settled, settled_rows, short_met, short_or_plain, subcommand_met, subcommand_or_other, takes_several, takes_values, to_positional, used, used_by_id, values_or_missing, walk, walk_from, walked, walked_from, with_default, with_values, without, word_met, one_of}
 use Rattle.clap.specs.Walk.Outcome.{done, waits, plain, refused}
 use Rattle.clap.specs.Walk.Step.{next, trailing, subcommand, value}
 use Rattle.clap.specs.Walk.Waiting.{idle, option, positional}
 use Rattle.clap.specs.Lexer.{long_of, short_of}
 use Rattle.clap.specs.declared.builder.action.ArgAction.{ArgAction}
-use Rattle.clap.specs.declared.builder.action.ArgAction.TheVariants.{Set, SetTrue, Help}
+use Rattle.clap.specs.declared.builder.action.ArgAction.TheVariants.{Set, SetTrue, Help, Append}
 use Rattle.clap.specs.declared.parser.matches.ValueSource.{ValueSource}
 use Rattle.clap.specs.declared.parser.matches.ValueSource.TheVariants.{DefaultValue, CommandLine}
 use Rattle.clap.specs.declared.builder.value_parser.Reading.{Reading}
@@ -68,6 +68,7 @@ module _ (id : Text) (a : Rule) where
     pub own : bytes_eq b.id id ≡ true → b ≡ a
     pub kind : ((action_of b ≡ Set) × (0 < (unwrap_or_range b.range).start_inclusive))
         ⊎ ((action_of b ≡ SetTrue) × (0 < length b.missing)) ⊎ (action_of b ≡ Help)
+        ⊎ ((action_of b ≡ Append) × (0 < (unwrap_or_range b.range).start_inclusive))
 
   all_more : (xs ys : List Row) → AllFine xs → AllFine ys → AllFine (xs ++ ys)
   all_more [] ys h k = k
@@ -139,7 +140,11 @@ module _ (id : Text) (a : Rule) where
         | inr (inl k) ↦
             let here = rw k.0 at action in
             rw k.0 (set_fine again b (values_or_missing b vs) rows u (missing_some b vs k.1) here h)
-        | inr (inr k) ↦ rw k h
+        | inr (inr (inl k)) ↦ rw k h
+        | inr (inr (inr k)) ↦
+            let some = enough _ _ k.1 least in
+            let here = rw k.0 at action in
+            rw k.0 (values_fine b.id (reading_by b) CommandLine (values_or_missing b vs) rows (own_values b (values_or_missing b vs) u (rw (given b vs some) some) here) h)
       ]
 
   -- ---- the walk
@@ -333,6 +338,8 @@ module _ (id : Text) (a : Rule) where
     pub is : first_of id rows ≡ Some text
     pub reads : one_of id rows ≡ Some (read_as (reading_by a) text)
     pub passes : value_passes a text ≡ true
+    pub texts : List Text
+    pub all : all_of id rows ≡ Some texts
 
   first_value : (vs : List Text) → 0 < length vs → values_pass a vs ≡ true → (v : Text) × (slice_get vs 0 ≡ Some v) × (value_passes a v ≡ true)
   first_value [] some e = absurd (omega arith)
@@ -351,10 +358,12 @@ module _ (id : Text) (a : Rule) where
             is = rw t v.1;
             reads = rw t (ap (option_map (read_as r.reading)) v.1 ∙ ap (λ how. Some (read_as how v.0)) fine.2);
             passes = v.2;
+            texts = r.values;
+            all = rw t refl;
           }
       go false t more =
           let rest = more (rw t at e) in
-          record { text = rest.text; is = rw t rest.is; reads = rw t rest.reads; passes = rest.passes }
+          record { text = rest.text; is = rw t rest.is; reads = rw t rest.reads; passes = rest.passes; texts = rest.texts; all = rw t rest.all }
 
   given_row : (rows : List Row) → is_given id rows ≡ true → HasRow rows
   given_row [] e = absurd (true≢false (sym e))
@@ -472,6 +481,7 @@ abbrev gives_value : ArgAction → Rule → Bool
 gives_value Set b = nat_lt 0 (unwrap_or_range b.range).start_inclusive
 gives_value SetTrue b = nat_lt 0 (length b.missing)
 gives_value Help b = true
+gives_value Append b = nat_lt 0 (unwrap_or_range b.range).start_inclusive
 gives_value _ b = false
 
 abbrev pub are_usual : List Rule → Bool
@@ -516,9 +526,11 @@ by_id (x ∷ xs) a b e (inr here) (inr there) same = by_id xs a b (both _ (has_d
 
 kind_of_use : (x : ArgAction) (b : Rule) → gives_value x b ≡ true
     → ((x ≡ Set) × (0 < (unwrap_or_range b.range).start_inclusive)) ⊎ ((x ≡ SetTrue) × (0 < length b.missing)) ⊎ (x ≡ Help)
+    ⊎ ((x ≡ Append) × (0 < (unwrap_or_range b.range).start_inclusive))
 kind_of_use Set b e = inl (refl, ltb-true _ _ e)
 kind_of_use SetTrue b e = inr (inl (refl, ltb-true _ _ e))
-kind_of_use Help b e = inr (inr refl)
+kind_of_use Help b e = inr (inr (inl refl))
+kind_of_use Append b e = inr (inr (inr (refl, ltb-true _ _ e)))
 kind_of_use _ b e = absurd (true≢false (sym e))
 
 usual_in : (bs : List Rule) (a b : Rule) → are_usual bs ≡ true → IsIn a bs → IsIn b bs → Usual a.id a b

@@ -2,12 +2,16 @@
 use Rattle.std.specs.Prelude.{◌≡◌, ℕ, pos, true, codes, Some, List, [], ◌∷◌, map}
 use Rattle.std.specs.Borrow.{Bor}
 use Rattle.clap.specs.Words.{App, Rule, Text, new_app, new_rule, with_rule, with_subcommand}
-use Rattle.clap.specs.declared.builder.action.ArgAction.TheVariants.{SetTrue}
+use Rattle.clap.specs.declared.builder.action.ArgAction.TheVariants.{Append, SetTrue}
 use Rattle.clap.specs.declared.builder.value_parser.ValueParser.TheVariants as parser
 
 -- a required positional
 abbrev pub file_rule : Text → Rule
 file_rule id = record (new_rule id) { required = true }
+
+-- one that takes a file and more
+abbrev pub files_rule : Text → Rule
+files_rule id = record (file_rule id) { action = Some Append }
 
 -- an option of a number from low to high, and its default
 abbrev pub number_rule : Text → ℕ → ℕ → Text → Rule
@@ -40,6 +44,10 @@ one_file name = with_rule (new_app name) (file_rule (codes "IN"))
 -- a command of two files
 abbrev pub two_files : Text → App
 two_files name = with_rule (one_file name) (file_rule (codes "OUT"))
+
+-- a command of some files
+abbrev pub some_files : Text → App
+some_files name = with_rule (new_app name) (files_rule (codes "IN"))
 
 -- what is coded: the state transition table and the quantisation set
 abbrev pub with_model : Words → App → App
@@ -79,10 +87,11 @@ abbrev pub unpack_app : App
 unpack_app = with_progress (with_no_clobber (two_files (codes "unpack")))
 
 abbrev pub check_app : App
-check_app = with_progress (with_rule (one_file (codes "check")) (flag_rule (codes "place")))
+check_app = with_progress (with_rule (with_rule (some_files (codes "check"))
+    (flag_rule (codes "all"))) (flag_rule (codes "place")))
 
 abbrev pub show_app : App
-show_app = with_rule (one_file (codes "show")) (flag_rule (codes "cost"))
+show_app = with_rule (some_files (codes "show")) (flag_rule (codes "cost"))
 
 -- the program, which has a version, wants a command, and answers with its help where there are no
 -- words

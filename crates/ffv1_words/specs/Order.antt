@@ -1,10 +1,12 @@
 -- What an order names of a command line, and when its files are in conflict.
 use Rattle.std.specs.Prelude.{◌≡◌, ◌≤◌, ◌⊎◌, ◌||◌, ◌&&◌, ◌==◌, ℕ, Bool, true, false, not, codes}
-use Rattle.std.specs.Prelude.{List, Option, Some, None}
+use Rattle.std.specs.Prelude.{List, [], ◌∷◌, ◌+◌, map, nat_lt, Option, Some, None}
 use Rattle.std.specs.List.{ends_with}
+use Rattle.std.specs.Option.{option_map}
+use Rattle.std.specs.Borrow.{Bor}
 use Rattle.std.specs.Str.{bytes_eq}
 use Rattle.std.specs.Str.Parse.{IsNumeral, digits_value, without_leading_plus}
-use Rattle.clap.specs.Words.{App, HasKind, Row, Text, fault_of, first_of, one_of, subcommand_of}
+use Rattle.clap.specs.Words.{App, HasKind, Row, Text, all_of, fault_of, first_of, one_of, subcommand_of}
 use Rattle.clap.specs.Words.{kind_of, takes}
 use Rattle.clap.specs.declared.error.Error.{Error}
 use Rattle.clap.specs.declared.error.kind.ErrorKind.TheVariants as kind
@@ -20,6 +22,13 @@ use Rattle.ffv1_words.specs.declared.order.Order.TheVariants as order
 
 abbrev pub NamesFile : List Row → Text → Text → Type 0
 NamesFile rows id path = first_of id rows ≡ Some path
+
+abbrev pub NamesFiles : List Row → Text → List Text → Type 0
+NamesFiles rows id paths = all_of id rows ≡ Some paths
+
+-- these references are what an argument has, or it has none
+abbrev pub ArePaths : Option (Bor (List (Bor Text))) → Option (List Text) → Type 0
+ArePaths paths found = option_map (λ p. map (λ i. i.now) p.now) paths ≡ found
 
 -- the option's text is a decimal numeral of n, and n is in its range
 abbrev pub NamesNumber : List Row → Text → ℕ → ℕ → ℕ → Type 0
@@ -72,11 +81,11 @@ Names (order.Pack i w c holder no_clobber progress) (Some p) = (p.0 ≡ codes "p
 Names (order.Unpack i w no_clobber progress) (Some p) = (p.0 ≡ codes "unpack")
     × NamesFile p.1 (codes "IN") i.now × NamesFile p.1 (codes "OUT") w.now
     × NamesFlag p.1 (codes "no-clobber") no_clobber × NamesFlag p.1 (codes "progress") progress
-Names (order.Check i place progress) (Some p) = (p.0 ≡ codes "check")
-    × NamesFile p.1 (codes "IN") i.now × NamesFlag p.1 (codes "place") place
-    × NamesFlag p.1 (codes "progress") progress
-Names (order.Show i cost) (Some p) = (p.0 ≡ codes "show") × NamesFile p.1 (codes "IN") i.now
-    × NamesFlag p.1 (codes "cost") cost
+Names (order.Check is all place progress) (Some p) = (p.0 ≡ codes "check")
+    × NamesFiles p.1 (codes "IN") (map (λ i. i.now) is.now) × NamesFlag p.1 (codes "all") all
+    × NamesFlag p.1 (codes "place") place × NamesFlag p.1 (codes "progress") progress
+Names (order.Show is cost) (Some p) = (p.0 ≡ codes "show")
+    × NamesFiles p.1 (codes "IN") (map (λ i. i.now) is.now) × NamesFlag p.1 (codes "cost") cost
 Names (order.Trial i) (Some p) = (p.0 ≡ codes "trial") × NamesFile p.1 (codes "IN") i.now
 
 -- no order is
@@ -109,11 +118,20 @@ abbrev pub is_conflict : Text → Text → Bool
 is_conflict input output =
     (bytes_eq input output && not (is_hyphen output)) || is_standard_output output
 
+-- how many of these are standard input
+abbrev pub hyphens : List Text → ℕ
+hyphens [] = 0
+hyphens (path ∷ paths) = bit_number (is_hyphen path) + hyphens paths
+
+-- standard input is read once
+abbrev pub are_in_conflict : List Text → Bool
+are_in_conflict paths = nat_lt 1 (hyphens paths)
+
 abbrev pub is_in_conflict : Order → Bool
 is_in_conflict (order.Pack i w c holder no_clobber progress) = is_conflict i.now w.now
 is_in_conflict (order.Unpack i w no_clobber progress) = is_conflict i.now w.now
-is_in_conflict (order.Check i place progress) = false
-is_in_conflict (order.Show i cost) = false
+is_in_conflict (order.Check is all place progress) = are_in_conflict (map (λ i. i.now) is.now)
+is_in_conflict (order.Show is cost) = are_in_conflict (map (λ i. i.now) is.now)
 is_in_conflict (order.Trial i) = false
 
 -- ---- what is answered to the words of a line

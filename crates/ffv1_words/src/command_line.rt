@@ -4,15 +4,15 @@ ghost use Rattle.std.specs.Prelude.{◌≡◌, ◌⊎◌, IfOk, IfErr, map, code
 ghost use Rattle.clap.specs.Words.{app_of, rule_of, kind_of, new_app};
 ghost use Rattle.clap.specs.declared.builder.command.Command.TheViews.{out-Command as fields_of};
 ghost use Rattle.clap.specs.declared.error.kind.ErrorKind.TheVariants as kind;
-ghost use Rattle.ffv1_words.specs.CommandLine.{file_rule, flag_rule, number_rule, word_rule};
-ghost use Rattle.ffv1_words.specs.CommandLine.{one_file, two_files, with_model, with_no_clobber};
+ghost use Rattle.ffv1_words.specs.CommandLine.{file_rule, files_rule, flag_rule, number_rule, word_rule};
+ghost use Rattle.ffv1_words.specs.CommandLine.{one_file, some_files, two_files, with_model, with_no_clobber};
 ghost use Rattle.ffv1_words.specs.CommandLine.{with_container, with_pace, with_progress, with_slices};
 ghost use Rattle.ffv1_words.specs.CommandLine.{pack_app, unpack_app, check_app, show_app, top_app};
 ghost use Rattle.ffv1_words.specs.CommandLine.{files_app, line_app, AreContainers, AreContexts};
 ghost use Rattle.ffv1_words.specs.CommandLine.{OnLine};
 ghost use Rattle.ffv1_words.specs.Order.{IsOrder, IsRefused, IsRefusedIfTaken, is_in_conflict};
 
-use crate::matched::order_of;
+use crate::matched::{order_of, paths};
 use crate::order::Order;
 use clap::error::ErrorKind;
 use clap::{Arg, ArgAction, Command, Error, value_parser};
@@ -29,6 +29,8 @@ pub const VERSION: &str = "0.1.0";
 
 const CODED_FILE: &str = "The AVI or Matroska file, or - for standard input";
 
+const CODED_FILES: &str = "The AVI or Matroska files, or - for standard input";
+
 const STATUSES: &str = "Exit status: 0 all done, 1 a fault, told by its number, 2 a line refused";
 
 fn file_arg<'a>(alloc: Global, id: &'a str, help: &'a str) -> Arg<'a>
@@ -36,6 +38,13 @@ fn file_arg<'a>(alloc: Global, id: &'a str, help: &'a str) -> Arg<'a>
     ensures own { result.global ≡ false }
 {
     Arg::new(alloc, id).required(true).help(help)
+}
+
+fn files_arg<'a>(alloc: Global, id: &'a str, help: &'a str) -> Arg<'a>
+    ensures rule { rule_of result ≡ files_rule id.entry.now }
+    ensures own { result.global ≡ false }
+{
+    file_arg(alloc, id, help).action(ArgAction::Append)
 }
 
 fn flag_arg<'a>(alloc: Global, id: &'a str, help: &'a str) -> Arg<'a>
@@ -129,6 +138,17 @@ fn one_file_command<'a>(
         (app_of c ≡ one_file name.entry.now) × ((fields_of c).has_globals ≡ false)) }
 {
     new_command(alloc, name, about).arg(file_arg(alloc, "IN", input))
+}
+
+fn some_files_command<'a>(
+    alloc: Global,
+    name: &'a str,
+    about: &'a str,
+) -> Result<Command<'a>, AllocError>
+    ensures { IfOk result (λ c.
+        (app_of c ≡ some_files name.entry.now) × ((fields_of c).has_globals ≡ false)) }
+{
+    new_command(alloc, name, about).arg(files_arg(alloc, "IN", CODED_FILES))
 }
 
 fn two_files_command<'a>(
@@ -231,9 +251,11 @@ fn check_command<'a>(alloc: Global) -> Result<Command<'a>, AllocError>
     ensures { IfOk result (λ c.
         (app_of c ≡ check_app) × ((fields_of c).has_globals ≡ false)) }
 {
-    let about = "Decode all frames of a file, and tell of each what it takes";
+    let about = "Decode all frames of files, and tell of each what it takes";
+    let all = "Go on after a frame that is refused, and count those";
     let place = "Tell where a frame is refused: slice, plane, line and column";
-    one_file_command(alloc, "check", about, CODED_FILE)?
+    some_files_command(alloc, "check", about)?
+        .arg(flag_arg(alloc, "all", all))?
         .arg(flag_arg(alloc, "place", place))?
         .arg(progress_arg(alloc))
 }
@@ -242,9 +264,9 @@ fn show_command<'a>(alloc: Global) -> Result<Command<'a>, AllocError>
     ensures { IfOk result (λ c.
         (app_of c ≡ show_app) × ((fields_of c).has_globals ≡ false)) }
 {
-    let about = "Tell what a file says of its pictures, and how much a decoder of it holds";
+    let about = "Tell what files say of their pictures, and how much a decoder of them holds";
     let cost = "Decode all frames then, and tell what each costs";
-    one_file_command(alloc, "show", about, CODED_FILE)?.arg(flag_arg(alloc, "cost", cost))
+    some_files_command(alloc, "show", about)?.arg(flag_arg(alloc, "cost", cost))
 }
 
 fn trial_command<'a>(alloc: Global) -> Result<Command<'a>, AllocError>
@@ -336,7 +358,8 @@ fn read<'a>(
 {
     let matches = line_command(alloc, contexts, containers)?.try_get_matches_from(words)?;
     if let Some((name, rows)) = matches.subcommand() {
-        if let Some(order) = order_of(name, rows) {
+        let inputs = paths(alloc, rows, "IN")?;
+        if let Some(order) = order_of(name, rows, inputs) {
             return without_conflict(alloc, order);
         }
     }
@@ -350,8 +373,10 @@ fn read<'a>(
 /// The error is clap's own, whose text says why, of a kind that clap's meaning of the line gives;
 /// or the line names no order; or it is an `ArgumentConflict`, where `pack` or `unpack` has one
 /// text for both its files other than `-`, or writes to `/dev/stdout`, `/dev/fd/1` or
-/// `/proc/self/fd/1`; or memory was refused. A line that clap takes names an order, and fails for want of memory and for such a
-/// conflict alone.
+/// `/proc/self/fd/1`, or `check` or `show` have `-` more than once; or memory was refused. A line
+/// that clap takes names an order, and fails for want of memory and for such a conflict alone.
+///
+/// The list of the files of `check` and `show` is kept until the program ends.
 pub fn words<'a>(alloc: Global, words: &'a [&'a str]) -> Result<Order<'a>, Error>
     ensures ok { IfOk result (λ o.
         OnLine (λ line. IsOrder line (map (λ w. w.now) words.entry.now) o)) }

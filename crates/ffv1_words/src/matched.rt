@@ -1,21 +1,38 @@
 //! The order that the matches of a subcommand name.
 
-ghost use Rattle.std.specs.Prelude.{◌≡◌, IfSome, IsNone, ℕ, Bool, Some, codes};
+ghost use Rattle.std.specs.Prelude.{◌≡◌, IfOk, IfSome, IsNone, ℕ, Bool, Some, codes};
 ghost use Rattle.std.specs.Option.{option_map};
-ghost use Rattle.clap.specs.Words.{found_of, first_of, rows_of};
+ghost use Rattle.clap.specs.Words.{all_of, found_of, first_of, rows_of};
 ghost use Rattle.ffv1_words.specs.declared.order.Choice.{Choice};
 ghost use Rattle.ffv1_words.specs.declared.order.CoderChoice.{CoderChoice};
 ghost use Rattle.ffv1_words.specs.declared.order.ContainerChoice.{ContainerChoice};
-ghost use Rattle.ffv1_words.specs.Order.{Names, NamesChoice, NamesFlag, NamesNone, NamesNumber};
+ghost use Rattle.ffv1_words.specs.Order.{ArePaths, Names, NamesChoice, NamesFlag, NamesNone, NamesNumber};
 ghost use Rattle.ffv1_words.specs.Order.{bit_number, coder_number, container_word, contexts_word};
 
 use crate::order::{Choice, CoderChoice, ContainerChoice, Order};
 use clap::ArgMatches;
+use std::alloc::{AllocError, Global};
 
 fn path<'a>(rows: &ArgMatches<'a>, id: &str) -> Option<&'a str>
     ensures { option_map (λ t. t.now) result ≡ first_of id.now (rows_of (found_of rows.now)) }
 {
     rows.get_str(id)
+}
+
+/// The paths of an argument of several files. Their list is kept until the program ends.
+pub fn paths<'a>(
+    alloc: Global,
+    rows: &ArgMatches<'a>,
+    id: &str,
+) -> Result<Option<&'a [&'a str]>, AllocError>
+    ensures { IfOk result (λ found.
+        ArePaths found (all_of id.now (rows_of (found_of rows.now)))) }
+{
+    let Some(found) = rows.get_strs(id) else {
+        return Ok(None);
+    };
+    let kept = Vec::from_slice(alloc, found)?;
+    Ok(Some(kept.leak()))
 }
 
 fn number(rows: &ArgMatches<'_>, id: &str, low: u32, high: u32) -> Option<u32>
@@ -162,29 +179,33 @@ fn unpack_order<'a>(rows: &ArgMatches<'a>) -> Option<Order<'a>>
     })
 }
 
-fn check_order<'a>(rows: &ArgMatches<'a>) -> Option<Order<'a>>
+fn check_order<'a>(rows: &ArgMatches<'a>, inputs: Option<&'a [&'a str]>) -> Option<Order<'a>>
+    requires { ArePaths inputs (all_of (codes "IN") (rows_of (found_of rows.now))) }
     ensures some { IfSome result (λ o.
         Names o (Some (codes "check", rows_of (found_of rows.now)))) }
     ensures none { IsNone result → NamesNone (Some (codes "check", rows_of (found_of rows.now))) }
 {
-    let input = path(rows, "IN")?;
+    let inputs = inputs?;
+    let all = flag(rows, "all")?;
     let place = flag(rows, "place")?;
     let progress = flag(rows, "progress")?;
     Some(Order::Check {
-        input,
+        inputs,
+        all,
         place,
         progress,
     })
 }
 
-fn show_order<'a>(rows: &ArgMatches<'a>) -> Option<Order<'a>>
+fn show_order<'a>(rows: &ArgMatches<'a>, inputs: Option<&'a [&'a str]>) -> Option<Order<'a>>
+    requires { ArePaths inputs (all_of (codes "IN") (rows_of (found_of rows.now))) }
     ensures some { IfSome result (λ o.
         Names o (Some (codes "show", rows_of (found_of rows.now)))) }
     ensures none { IsNone result → NamesNone (Some (codes "show", rows_of (found_of rows.now))) }
 {
-    let input = path(rows, "IN")?;
+    let inputs = inputs?;
     let cost = flag(rows, "cost")?;
-    Some(Order::Show { input, cost })
+    Some(Order::Show { inputs, cost })
 }
 
 fn trial_order<'a>(rows: &ArgMatches<'a>) -> Option<Order<'a>>
@@ -196,8 +217,13 @@ fn trial_order<'a>(rows: &ArgMatches<'a>) -> Option<Order<'a>>
     Some(Order::Trial { input })
 }
 
-/// The order that a subcommand's name and its matches name.
-pub fn order_of<'a>(name: &str, rows: &ArgMatches<'a>) -> Option<Order<'a>>
+/// The order that a subcommand's name and its matches name, with the paths of the argument IN.
+pub fn order_of<'a>(
+    name: &str,
+    rows: &ArgMatches<'a>,
+    inputs: Option<&'a [&'a str]>,
+) -> Option<Order<'a>>
+    requires { ArePaths inputs (all_of (codes "IN") (rows_of (found_of rows.now))) }
     ensures some { IfSome result (λ o. Names o (Some (name.now, rows_of (found_of rows.now)))) }
     ensures none { IsNone result → NamesNone (Some (name.now, rows_of (found_of rows.now))) }
 {
@@ -206,9 +232,9 @@ pub fn order_of<'a>(name: &str, rows: &ArgMatches<'a>) -> Option<Order<'a>>
     } else if name == "unpack" {
         unpack_order(rows)
     } else if name == "check" {
-        check_order(rows)
+        check_order(rows, inputs)
     } else if name == "show" {
-        show_order(rows)
+        show_order(rows, inputs)
     } else if name == "trial" {
         trial_order(rows)
     } else {

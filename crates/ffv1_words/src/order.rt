@@ -1,7 +1,7 @@
 //! What a command line asks for, and which files of it are in conflict.
 
-ghost use Rattle.std.specs.Prelude.{◌≡◌, is_some};
-ghost use Rattle.ffv1_words.specs.Order.{is_conflict, is_hyphen, is_in_conflict};
+ghost use Rattle.std.specs.Prelude.{◌≡◌, is_some, map};
+ghost use Rattle.ffv1_words.specs.Order.{are_in_conflict, is_conflict, is_hyphen, is_in_conflict};
 ghost use Rattle.ffv1_words.specs.Order.{is_matroska, is_matroska_name, is_standard_output};
 
 /// Which state transition table `pack` codes with.
@@ -72,19 +72,21 @@ pub enum Order<'a> {
         /// Whether to say how much of the file is read.
         progress: bool,
     },
-    /// The video of a file is decoded, and what its frames hold is printed.
+    /// The video of each file is decoded, and what its frames hold is printed.
     Check {
-        /// The path of the file.
-        input: &'a str,
+        /// The paths of the files.
+        inputs: &'a [&'a str],
+        /// Whether it goes on after a frame that is refused.
+        all: bool,
         /// Whether to print the place of a fault too.
         place: bool,
         /// Whether to say how much of the file is read.
         progress: bool,
     },
-    /// The configuration of a file is printed.
+    /// The configuration of each file is printed.
     Show {
-        /// The path of the file.
-        input: &'a str,
+        /// The paths of the files.
+        inputs: &'a [&'a str],
         /// Whether to print the cost of its frames too.
         cost: bool,
     },
@@ -141,6 +143,22 @@ fn conflict_of(input: &str, output: &str) -> Option<&'static str>
     None
 }
 
+/// Whether more than one of these paths is a hyphen alone.
+fn has_hyphens(paths: &[&str]) -> bool
+    ensures { result ≡ are_in_conflict (map (λ p. p.now) paths.now) }
+{
+    let mut seen = false;
+    for path in paths {
+        if is_hyphen(path) {
+            if seen {
+                return true;
+            }
+            seen = true;
+        }
+    }
+    false
+}
+
 impl<'a> Order<'a> {
     /// Why its files are in conflict, where they are.
     pub(crate) fn conflict(self) -> Option<&'static str>
@@ -150,7 +168,13 @@ impl<'a> Order<'a> {
             Order::Pack { input, output, .. } | Order::Unpack { input, output, .. } => {
                 conflict_of(input, output)
             }
-            Order::Check { .. } | Order::Show { .. } | Order::Trial { .. } => None,
+            Order::Check { inputs, .. } | Order::Show { inputs, .. } => {
+                if has_hyphens(inputs) {
+                    return Some("standard input, -, is read once");
+                }
+                None
+            }
+            Order::Trial { .. } => None,
         }
     }
 }

@@ -53,7 +53,8 @@ static COMMANDS: [(&[&str], Order<'static>); 5] = [
     (
         &["ffv1", "check", "a"],
         Order::Check {
-            input: "a",
+            inputs: &["a"],
+            all: false,
             place: false,
             progress: false,
         },
@@ -61,7 +62,7 @@ static COMMANDS: [(&[&str], Order<'static>); 5] = [
     (
         &["ffv1", "show", "a"],
         Order::Show {
-            input: "a",
+            inputs: &["a"],
             cost: false,
         },
     ),
@@ -118,7 +119,8 @@ static FLAGS: [(&[&str], Order<'static>); 10] = [
     (
         &["ffv1", "check", "a", "--place"],
         Order::Check {
-            input: "a",
+            inputs: &["a"],
+            all: false,
             place: true,
             progress: false,
         },
@@ -126,15 +128,26 @@ static FLAGS: [(&[&str], Order<'static>); 10] = [
     (
         &["ffv1", "check", "--progress", "a"],
         Order::Check {
-            input: "a",
+            inputs: &["a"],
+            all: false,
             place: false,
             progress: true,
         },
     ),
     (
-        &["ffv1", "check", "--progress", "--place", "a"],
+        &[
+            "ffv1",
+            "check",
+            "--progress",
+            "b",
+            "--all",
+            "--place",
+            "a",
+            "-",
+        ],
         Order::Check {
-            input: "a",
+            inputs: &["b", "a", "-"],
+            all: true,
             place: true,
             progress: true,
         },
@@ -142,14 +155,15 @@ static FLAGS: [(&[&str], Order<'static>); 10] = [
     (
         &["ffv1", "show", "--cost", "a"],
         Order::Show {
-            input: "a",
+            inputs: &["a"],
             cost: true,
         },
     ),
     (
         &["ffv1", "check", "--", "--place"],
         Order::Check {
-            input: "--place",
+            inputs: &["--place"],
+            all: false,
             place: false,
             progress: false,
         },

@@ -72,9 +72,7 @@ fn words_missing(rt: HostRuntime) {
 }
 
 /// Files too many, options that a command does not have, and no options.
-static UNKNOWN: [&[&str]; 13] = [
-    &["ffv1", "check", "a", "b"],
-    &["ffv1", "show", "a", "b"],
+static UNKNOWN: [&[&str]; 11] = [
     &["ffv1", "trial", "a", "b"],
     &["ffv1", "pack", "a", "b", "c"],
     &["ffv1", "unpack", "a", "b", "c"],

@@ -9,7 +9,7 @@ use Rattle.ffv1_words.specs.Order.{IsOrder, IsRefused, IsRefusedIfTaken, Names, 
 use Rattle.ffv1_words.specs.declared.order.Order.{Order}
 use Rattle.ffv1_words.proofs.TakenLine.{taken_names}
 use Rattle.ffv1_words.proofs.command_line.read.Goals as goal
-use Rattle.ffv1_words.proofs.command_line.read.Goals.{in-Some+in_default-order_of, in_default}
+use Rattle.ffv1_words.proofs.command_line.read.Goals.{in-Some+in_ok-inputs+in_default-order_of, in_default}
 
 simple : (contexts containers : Words) → is_simple (line_app contexts containers) ≡ true
 unfolding clap_on_literals
@@ -45,7 +45,7 @@ returns-in_err-matches-clause-taken c =
     rw (p.1, p.2) (λ taken. inl (c.in_err-matches.ensures.passes (ap (λ a. takes a texts) c.in_ok-line_command.ensures.0 ∙ taken)))
 
 -- the order that was found is what the line names
-named : (c : goal.Joined-matches) → Names c.in-Some-order_of.order (subcommand_of (line_app c.args.contexts c.args.containers) (map (λ w. w.now) c.args.words.now))
+named : (c : goal.Joined-matches-2) → Names c.in-Some-order_of.order (subcommand_of (line_app c.args.contexts c.args.containers) (map (λ w. w.now) c.args.words.now))
 named c =
     let app = c.in_ok-line_command.ensures.0 in
     let m = c.in_ok-matches.ensures.matches (ap is_simple app ∙ simple c.args.contexts c.args.containers) in
@@ -87,13 +87,13 @@ returns-in-Some-order_of-clause-taken c =
     c.without_conflict.ensures.err
 
 -- where no order was found, the line names none
-no_order : (c : goal.Joined-matches-3) → NamesNone (subcommand_of (line_app c.args.contexts c.args.containers) (map (λ w. w.now) c.args.words.now))
+no_order : (c : goal.Joined-matches-4) → NamesNone (subcommand_of (line_app c.args.contexts c.args.containers) (map (λ w. w.now) c.args.words.now))
 no_order c =
     let app = c.in_ok-line_command.ensures.0 in
     let m = c.in_ok-matches.ensures.matches (ap is_simple app ∙ simple c.args.contexts c.args.containers) in
     let texts : List Text = map (λ w. w.now) c.args.words.now in
     elim c.match-subcommand.branch [
-      | in-Some+in_default-order_of w ↦
+      | in-Some+in_ok-inputs+in_default-order_of w ↦
           let told = both_told _ _ _ _ w.in-Some.ensures.name w.in-Some.ensures.rows in
           let line : ◌≡◌ {A = Option (Text × List Row)} (Some (w.in-Some.name.now, rows_of (found_of w.in-Some.rows.now))) (subcommand_of (line_app c.args.contexts c.args.containers) texts) =
           sym told ∙ m.1 ∙ ap (λ a. subcommand_of a texts) app in

@@ -1,0 +1,87 @@
+use Rattle.std.proofs.Common.{Some, ap, ◌∙◌}
+use Rattle.std.proofs.lemmas.Result.{err_from_is_err_and}
+use Rattle.ffv1_wire.specs.Passage.{passage}
+use Rattle.ffv1_record.specs.Accepted.{Accepted}
+use Rattle.ffv1_slice.specs.Grid.{division_of}
+use Rattle.ffv1_codec.specs.Kept.{Dropped, Drops, DropsNot}
+use Rattle.ffv1_engine.specs.Judged.{one_counted}
+use Rattle.ffv1_engine.specs.Judged.Judged.{Decoded, Refused}
+use Rattle.ffv1_engine.specs.Stream.{Frame}
+use Rattle.ffv1_engine.proofs.FrameDecoded.{is_decided, is_faulty}
+use Rattle.ffv1_engine.proofs.FramesJudged.{lines_fail}
+use Rattle.ffv1_engine.proofs.judging.judge_frame.Goals as goal
+
+pub returns-in_err-write_line-in-Ok-Some-clause-answer :
+    goal.returns-in_err-write_line-in-Ok-Some-clause-answer
+returns-in_err-write_line-in-Ok-Some-clause-answer g c =
+    let p = err_from_is_err_and c.from_residual.result c.from_residual.ensures.1 in
+    let a = c.args.player.now.decoder.accepted in
+    let payload = c.play.new.player.payload.items in
+    let tally = c.play.new.player.decoder.tally in
+    let info = c.in-Ok-Some._info in
+    let answer = rw c.in-Ok-Some.field-0-is at c.in-Ok-Some.ensures.answer in
+    let found = c.answered.ensures.found a payload c.new-sink.result c.play.new.sink tally info c.requires.accepted answer.1 in
+    let frame : Frame = record { payload = payload; planes = found.0; said = info; tally = tally } in
+    let decided = is_decided Drops DropsNot a payload c.new-sink.result c.play.new.sink tally info answer.1 in
+    rw (p.1, p.2)
+    (lines_fail c.args.place a c.args.counts.now.frames c.args.player.now.reader.place c.play.new.player.reader.place
+    (passage g.R.ByteIn.remaining g.R.ByteIn.failures c.args.input.now c.play.new.input)
+    (passage g.W.ByteOut.contents g.W.ByteOut.failures c.args.output.now c.write_line.new.output) (Decoded frame) c.in_err-write_line-in-Ok-Some.field-0.0
+    (record { codes = found.1; decided = decided }) answer.0
+    (rw (c.play.ensures.same, c.deref.ensures.value) at c.in_err-write_line-in-Ok-Some.ensures))
+
+pub returns-in_ok-write_line-in-Ok-Some-clause-answer :
+    goal.returns-in_ok-write_line-in-Ok-Some-clause-answer
+returns-in_ok-write_line-in-Ok-Some-clause-answer g c =
+    let a = c.args.player.now.decoder.accepted in
+    let payload = c.play.new.player.payload.items in
+    let tally = c.play.new.player.decoder.tally in
+    let info = c.in-Ok-Some._info in
+    let answer = rw c.in-Ok-Some.field-0-is at c.in-Ok-Some.ensures.answer in
+    let found = c.answered.ensures.found a payload c.new-sink.result c.play.new.sink tally info c.requires.accepted answer.1 in
+    let frame : Frame = record { payload = payload; planes = found.0; said = info; tally = tally } in
+    let decided = is_decided Drops DropsNot a payload c.new-sink.result c.play.new.sink tally info answer.1 in
+    let writes = rw (c.play.ensures.same, c.deref.ensures.value) at c.in_ok-write_line-in-Ok-Some.ensures in (
+      Decoded frame,
+      record { is = record { codes = found.1; decided = decided }; reads = answer.0; written = writes.0; writes = writes.1 },
+      c.count.ensures,
+    )
+
+pub returns-in_err-write_refusal-in-Err-Payload-clause-answer :
+    goal.returns-in_err-write_refusal-in-Err-Payload-clause-answer
+returns-in_err-write_refusal-in-Err-Payload-clause-answer g c =
+    let p = err_from_is_err_and c.from_residual-in_err-write_refusal-in-Err-Payload.result c.from_residual-in_err-write_refusal-in-Err-Payload.ensures.1 in
+    let a = c.args.player.now.decoder.accepted in
+    let payload = c.play.new.player.payload.items in
+    let tally = c.play.new.player.decoder.tally in
+    let f = c.in-Err-Payload.fault in
+    let answer = rw c.in-Err-Payload.field-0-is at c.in-Err-Payload.ensures.answer in
+    let grid = ap (λ (z : Dropped). z.grid) c.new-sink.ensures ∙ ap (λ (z : Accepted). division_of z.configuration) c.config.ensures in
+    let own = c.taken_lines.ensures.dropped a payload c.new-sink.result c.play.new.sink tally f c.requires.accepted answer.1 grid in
+    rw (p.1, p.2)
+    (lines_fail c.args.place a c.args.counts.now.frames c.args.player.now.reader.place c.play.new.player.reader.place
+    (passage g.R.ByteIn.remaining g.R.ByteIn.failures c.args.input.now c.play.new.input)
+    (passage g.W.ByteOut.contents g.W.ByteOut.failures c.args.output.now c.write_refusal.new.output) (Refused payload f tally) c.in_err-write_refusal-in-Err-Payload.field-0.0
+    (is_faulty Drops DropsNot a payload c.new-sink.result c.play.new.sink tally f own answer.1) answer.0
+    c.in_err-write_refusal-in-Err-Payload.ensures)
+
+pub returns-in_ok-write_refusal-in-Err-Payload-clause-answer :
+    goal.returns-in_ok-write_refusal-in-Err-Payload-clause-answer
+returns-in_ok-write_refusal-in-Err-Payload-clause-answer g c =
+    let a = c.args.player.now.decoder.accepted in
+    let payload = c.play.new.player.payload.items in
+    let tally = c.play.new.player.decoder.tally in
+    let f = c.in-Err-Payload.fault in
+    let answer = rw c.in-Err-Payload.field-0-is at c.in-Err-Payload.ensures.answer in
+    let grid = ap (λ (z : Dropped). z.grid) c.new-sink.ensures ∙ ap (λ (z : Accepted). division_of z.configuration) c.config.ensures in
+    let own = c.taken_lines.ensures.dropped a payload c.new-sink.result c.play.new.sink tally f c.requires.accepted answer.1 grid in
+    let writes = c.in_ok-write_refusal-in-Err-Payload.ensures in (
+      Refused payload f tally,
+      record {
+        is = is_faulty Drops DropsNot a payload c.new-sink.result c.play.new.sink tally f own answer.1;
+        reads = answer.0;
+        written = writes.0;
+        writes = writes.1;
+      },
+      c.count-in-Err-Payload.ensures ∙ ap (λ z. one_counted c.args.counts.now (Some z)) c.from-in-Err-Payload.ensures,
+    )
