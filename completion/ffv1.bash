@@ -19,8 +19,8 @@ _ffv1() {
     esac
     if [ -z "$words" ]; then
         case "$command" in
-            "") words="pack unpack check show trial help --help --version" ;;
-            help) words="pack unpack check show trial" ;;
+            "") words="pack unpack check show framemd5 trial help --help --version" ;;
+            help) words="pack unpack check show framemd5 trial" ;;
             pack)
                 words="--coder --contexts --columns --rows --ec --rate --scale"
                 words="$words --container --no-clobber --progress --help"
@@ -28,7 +28,7 @@ _ffv1() {
             unpack) words="--no-clobber --progress --help" ;;
             check) words="--all --place --progress --help" ;;
             show) words="--cost --help" ;;
-            trial) words="--help" ;;
+            framemd5 | trial) words="--help" ;;
         esac
         case "$command $word" in
             " "* | "help "* | *" -"*) ;;

@@ -1,6 +1,6 @@
 # Completion of ffv1 for fish.
 
-set -l commands pack unpack check show trial help
+set -l commands pack unpack check show framemd5 trial help
 complete -c ffv1 -n "not __fish_seen_subcommand_from $commands" -f
 complete -c ffv1 -n "not __fish_seen_subcommand_from $commands" -l version -d "Tell the version"
 complete -c ffv1 -l help -d "Tell what it takes"
@@ -9,9 +9,10 @@ complete -c ffv1 -n "not __fish_seen_subcommand_from $commands" -a pack -d "Code
 complete -c ffv1 -n "not __fish_seen_subcommand_from $commands" -a unpack -d "Decode a file into a video"
 complete -c ffv1 -n "not __fish_seen_subcommand_from $commands" -a check -d "Decode all frames of files"
 complete -c ffv1 -n "not __fish_seen_subcommand_from $commands" -a show -d "Tell what files say"
+complete -c ffv1 -n "not __fish_seen_subcommand_from $commands" -a framemd5 -d "Write the MD5 of each picture"
 complete -c ffv1 -n "not __fish_seen_subcommand_from $commands" -a trial -d "Code and decode a picture"
 complete -c ffv1 -n "not __fish_seen_subcommand_from $commands" -a help -d "Tell what a command takes"
-complete -c ffv1 -n "__fish_seen_subcommand_from help" -f -a "pack unpack check show trial"
+complete -c ffv1 -n "__fish_seen_subcommand_from help" -f -a "pack unpack check show framemd5 trial"
 
 complete -c ffv1 -n "__fish_seen_subcommand_from pack" -l coder -x -a "1 2" -d "State transition table"
 complete -c ffv1 -n "__fish_seen_subcommand_from pack" -l contexts -x -a "small large" -d "Contexts"

@@ -24,7 +24,7 @@ class DeepKind(Kind):
 
 
 def kinds():
-    """Each format that FFmpeg 5.1 has in FFV1, but RGB of 16 bits."""
+    """Each format that FFmpeg 5.1 has in FFV1."""
     for depth in [9, 10, 12, 16]:
         yield DeepKind(f"gray{depth}le", f"mono{depth}", depth)
     chroma = [("420", (1, 1)), ("422", (1, 0)), ("444", (0, 0))]
@@ -34,9 +34,9 @@ def kinds():
         yield DeepKind(f"yuv440p{depth}le", None, depth, (0, 1))
     for depth, (name, log2) in itertools.product([9, 10, 16], chroma):
         yield DeepKind(f"yuva{name}p{depth}le", None, depth, log2, True)
-    for depth in [9, 10, 12, 14]:
+    for depth in [9, 10, 12, 14, 16]:
         yield DeepKind(f"gbrp{depth}le", f"{2 ** depth - 1}", depth, (0, 0))
-    for depth in [10, 12]:
+    for depth in [10, 12, 16]:
         yield DeepKind(f"gbrap{depth}le", None, depth, (0, 0), True)
 
 
@@ -146,4 +146,38 @@ def write_depths(results):
                 write_one(results, kind, samples, coder, grid, container)
 
 
-PARTS = [read_depths, write_depths]
+# planes of RGB, and the same sample after sample, which FFmpeg codes alike
+INTERLEAVED = [(DeepKind("gbrp16le", "65535", 16, (0, 0)), "rgb48le"),
+               (DeepKind("gbrap16le", None, 16, (0, 0), True), "rgba64le")]
+
+
+def read_interleaved(results):
+    """FFmpeg's files of RGB of 16 bits whose pictures came sample after sample."""
+    for kind, pixels in INTERLEAVED:
+        samples = made(kind)
+        for coder in ["range_def", "range_tab"]:
+            file = theirs(kind, samples, "theirs.mkv", "-pix_fmt", pixels, "-coder", coder)
+            results.same(f"{pixels} {coder}: check", ffv1("check", file)[::2], (0, ""))
+            results.same(f"{pixels} {coder}: FFmpeg's samples", decoded(file, kind.name)[0] == samples, True)
+            save("theirs.out", b"")
+            status, _, errors = ffv1("unpack", file, "theirs.out")
+            if kind.tag is None:
+                results.same(f"{pixels} {coder}: unpack", (status, errors), (1, "ffv1: 73 NoPpm\n"))
+            else:
+                results.same(f"{pixels} {coder}: unpack", (status, errors), (0, ""))
+                results.same(f"{pixels} {coder}: samples", load("theirs.out") == images(kind, samples), True)
+
+
+def exchange_images(results):
+    """PPM of 16 bits as FFmpeg writes it is packed, and FFmpeg reads ours as the same samples."""
+    kind = INTERLEAVED[0][0]
+    samples = made(kind)
+    ffmpeg("-f", "rawvideo", "-pix_fmt", kind.name, "-s", "%dx%d" % SIZE, "-i", "-", "-pix_fmt", "rgb48be",
+           "-c:v", "ppm", "-f", "image2pipe", "theirs.ppm", given=samples)
+    results.same("PPM of 16 bits: pack", ffv1("pack", "theirs.ppm", "ours.mkv")[::2], (0, ""))
+    results.same("PPM of 16 bits: FFmpeg's samples", decoded("ours.mkv", kind.name)[0] == samples, True)
+    results.same("PPM of 16 bits: unpack", ffv1("unpack", "ours.mkv", "ours.ppm")[::2], (0, ""))
+    results.same("PPM of 16 bits: the same text", load("ours.ppm") == load("theirs.ppm"), True)
+
+
+PARTS = [read_depths, write_depths, read_interleaved, exchange_images]

@@ -256,7 +256,6 @@ OUTSIDE = [
     ("version 0", ["-level", "0"], "yuv420p", "15 Short"),
     ("version 2", ["-level", "2", "-strict", "-2"], "yuv420p", "17 Version"),
     ("version 4", ["-level", "4", "-strict", "-2"], "yuv420p", "17 Version"),
-    ("RGB of 16 bits", [], "gbrp16", "21 Depth"),
     ("Golomb-Rice coding", ["-coder", "rice"], "yuv420p", "19 Coder"),
     ("another codec", ["-c:v", "mpeg4"], "yuv420p", "51 NoFfv1"),
 ]

@@ -7,6 +7,7 @@
 The words, the printed lines, the faults on standard error, the exit status and what is left in OUT
 are those of the program; the text of clap, for help and for a line that is refused, is not.
 """
+import hashlib
 import math
 import os
 import re
@@ -67,13 +68,14 @@ class Level:
 COMMANDS = {
     "pack": Level(2, {
         "coder": (number(1, 2), 1), "contexts": (one_of("small", "large"), "small"),
-        "columns": (number(1, 32), 1), "rows": (number(1, 32), 1), "ec": (number(0, 1), 1),
+        "columns": (number(1, 32), None), "rows": (number(1, 32), None), "ec": (number(0, 1), 1),
         "rate": (number(1, 2 ** 32 - 1), 25), "scale": (number(1, 2 ** 32 - 1), 1),
         "container": (one_of("auto", "avi", "mkv"), "auto"),
     }, flags=["no-clobber", "progress"]),
     "unpack": Level(2, flags=["no-clobber", "progress"]),
     "check": Level(1, flags=["all", "place", "progress"], most=math.inf),
     "show": Level(1, flags=["cost"], most=math.inf),
+    "framemd5": Level(1, most=math.inf),
     "trial": Level(1),
 }
 STANDARD_OUTPUT = ["/dev/stdout", "/dev/fd/1", "/proc/self/fd/1"]
@@ -155,16 +157,51 @@ def words(line):
 
 # --------------------------------------------------------------------------------------------- pack
 
-def config_of(head, choice):
-    """The configuration of pictures with this head. Own: one set, and intra 1."""
+def config_of(head, choice, grid):
+    """The configuration of pictures with this head and grid. Own: one set, and intra 1."""
     return ffv1.Config(
         head.width, head.height, coder=choice["coder"], rct=head.rct, chroma=head.chroma,
-        log2_h=head.log2_h, log2_v=head.log2_v, extra=head.extra, columns=choice["columns"],
-        rows=choice["rows"], sets=[ffv1.LARGE if choice["contexts"] == "large" else ffv1.SMALL],
+        log2_h=head.log2_h, log2_v=head.log2_v, extra=head.extra, columns=grid[0], rows=grid[1],
+        sets=[ffv1.LARGE if choice["contexts"] == "large" else ffv1.SMALL],
         ec=choice["ec"], intra=1, depth=head.depth, wide=True)
 
 
-def video_of(source, choice):
+def raw_slice(head, columns, rows):
+    """How many bytes the samples of the greatest slice have."""
+    part = files.VideoHead(-(-head.width // columns), -(-head.height // rows),
+                           planes=(head.chroma, head.log2_h, head.log2_v, head.extra))
+    samples = sum(width * height for width, height in part.sizes())
+    return samples * (1 if head.depth == 8 else 2)
+
+
+def is_accepted(config):
+    try:
+        ffv1.check(config)
+    except Fault:
+        return False
+    return True
+
+
+def default_grid(head, choice):
+    """Section 5 wants at least 4 slices for more than 101376 pixels. Own: the grid of fewest slices,
+    and of these of fewest columns, that the picture has and whose greatest slice has less than
+    12 MiB of samples; else one slice."""
+    if head.width * head.height <= 101376:
+        return 1, 1
+    grids = ((columns, slices // columns) for slices in range(4, 1025) for columns in range(1, 33)
+             if slices % columns == 0 and slices // columns <= 32)
+    return next((grid for grid in grids if is_accepted(config_of(head, choice, grid))
+                 and raw_slice(head, *grid) < 12 * 2 ** 20), (1, 1))
+
+
+def grid_of(head, choice, by_default):
+    """The grid that is asked for; where none is, that of the default, or one slice."""
+    if by_default and choice["columns"] is None and choice["rows"] is None:
+        return default_grid(head, choice)
+    return choice["columns"] or 1, choice["rows"] or 1
+
+
+def video_of(source, choice, by_default=False):
     """The head of a text, the configuration of its pictures, and what encodes them one by one."""
     first = source.some(1)
     if first == b"P":
@@ -172,7 +209,7 @@ def video_of(source, choice):
         head.rate, head.scale = choice["rate"], choice["scale"]
     else:
         head, pictures = files.open_y4m(source, first), files.y4m_pictures
-    config = config_of(head, choice)
+    config = config_of(head, choice, grid_of(head, choice, by_default))
     ffv1.check(config)
     info = [head.structure, *head.aspect]
     frames = (ffv1.encode_frame(config, planes, info) for planes in pictures(source, head))
@@ -204,7 +241,7 @@ def is_matroska(container, path):
 def pack_matroska(source, out, over, choice):
     """A text of pictures becomes Matroska, and each frame is written as soon as it is encoded. At
     the end the opening is written over, which does nothing where OUT is no regular file."""
-    head, config, frames = video_of(source, choice)
+    head, config, frames = video_of(source, choice, by_default=True)
     matroska.timed(head.rate, head.scale)
     track = matroska.Head(1, head.width, head.height, head.rate, head.scale,
                           ffv1.write_record(config))
@@ -393,6 +430,74 @@ def show(source, out, cost):
             f"renormalisations {decoded.renormalisations}\n")
 
 
+# ----------------------------------------------------------------------------------------- framemd5
+
+def raw_bytes(planes, rct, depth):
+    """The bytes of a picture whose MD5 is told: as FFmpeg has it as rawvideo, of RGB of 8 bits as
+    rgb24 or rgba, a sample of each colour at a time, and of more bits as planes of green, blue and
+    red. Samples of more than 8 bits have two bytes, the low one first."""
+    if rct and depth == 8:
+        rows = zip(*planes)
+        return bytes(sample for row in rows for place in zip(*row) for sample in place)
+    if rct:
+        red, green, blue, *extra = planes
+        planes = [green, blue, red, *extra]
+    return b"".join(files.bytes_of(line, depth, "little") for plane in planes for line in plane)
+
+
+def md5_header(head, aspect):
+    """The lines before those of the frames. The rate is in lowest terms, as FFmpeg has it. Own: where
+    none is known it is 25, as FFmpeg has it, and where no aspect is known it is 0/1."""
+    common = math.gcd(head.rate, head.scale) or 1
+    rate, scale = (head.rate // common, head.scale // common) if head.rate else (25, 1)
+    num, den = aspect if aspect[0] else (0, 1)
+    return (f"#format: frame checksums\n#version: 2\n#hash: MD5\n#software: ffv1\n"
+            f"#tb 0: {scale}/{rate}\n#media_type 0: video\n#codec_id 0: rawvideo\n"
+            f"#dimensions 0: {head.width}x{head.height}\n#sar 0: {num}/{den}\n"
+            "#stream#, dts,        pts, duration,     size, hash\n")
+
+
+def md5_line(number, data):
+    """The line of a picture."""
+    return (f"0, {number:10}, {number:10}, {1:8}, {len(data):8}, "
+            f"{hashlib.md5(data).hexdigest()}\n")
+
+
+def told_pictures(source):
+    """The head of a file or of a text, and its pictures, each with its aspect."""
+    first = source.some(1)
+    read = files.Source(after(first, source.read))
+    if first in (b"P", b"Y") and first:
+        open_text, pictures = (files.open_ppm, files.ppm_pictures) if first == b"P" else \
+            (files.open_y4m, files.y4m_pictures)
+        head = open_text(read, read.some(1))
+        return head, head.rct, head.depth, ((p, head.aspect) for p in pictures(read, head))
+    head, config, frames, _ = opened(read)
+    return head, config.rct, config.depth, decoded_pictures(config, frames)
+
+
+def decoded_pictures(config, frames):
+    """The pictures of frames, each with its aspect, up to the first that is at fault."""
+    for payload in frames:
+        decoded = ffv1.decode_frame(config, payload)
+        if decoded.fault:
+            raise decoded.fault
+        yield planes_of(config, decoded.lines), decoded.info[1:]
+
+
+def framemd5(source, out):
+    """A line for each picture, with its MD5, as FFmpeg's framemd5 writes them."""
+    head, rct, depth, pictures = told_pictures(source)
+    count = 0
+    for planes, aspect in pictures:
+        if count == 0:
+            out(md5_header(head, aspect))
+        out(md5_line(count, raw_bytes(planes, rct, depth)))
+        count += 1
+    if count == 0:
+        raise Fault(70)
+
+
 # -------------------------------------------------------------------------------------------- trial
 
 def code_of(config, plane):
@@ -529,6 +634,8 @@ def perform(order, path, output, standard_input):
             check(source, output, order.choice["place"], order.choice["all"])
         elif order.command == "show":
             show(source, output, order.choice["cost"])
+        elif order.command == "framemd5":
+            framemd5(source, output)
         else:
             trial(source, output)
     finally:

@@ -247,9 +247,9 @@ def edge(k, size, count):
     return k * size // count
 
 
-def depths_of(rct, wide):
-    """4.2.7, own: the bits of a sample that are accepted; the 17 of Cb and Cr of 16 are not."""
-    return [depth for depth in DEPTHS if depth == 8 or wide and not (rct and depth == 16)]
+def depths_of(wide):
+    """4.2.7, own: the bits of a sample that are accepted."""
+    return DEPTHS if wide else [8]
 
 
 def check(config):
@@ -257,7 +257,7 @@ def check(config):
     c = config
     if not (1 <= c.width <= 8192 and 1 <= c.height <= 8192):
         raise Fault(10)
-    if c.depth not in depths_of(c.rct, c.wide):
+    if c.depth not in depths_of(c.wide):
         raise Fault(21)
     plain = c.log2_h == 0 and c.log2_v == 0
     if c.log2_h > 2 or c.log2_v > 2 or (c.rct and not c.chroma) or \
@@ -361,7 +361,7 @@ def read_record(data, width, height, wide=False):
     if deltas:
         table_of(deltas)
     rct = get_judged(d, [0, 1], 20) == 1
-    depth = get_judged(d, [0, *depths_of(rct, wide)], 21) or 8
+    depth = get_judged(d, [0, *depths_of(wide)], 21) or 8
     chroma = d.get(("record", 0)) == 1
     log2_h, log2_v = get_number(d, "record"), get_number(d, "record")
     extra = d.get(("record", 0)) == 1

@@ -17,6 +17,7 @@ import ffv1
 import files
 import matroska
 from known_answers import avi_files
+from known_answers import depths as known_depths
 from known_answers import frames as known_frames
 from known_answers import matroska_others
 from known_answers import matroska_written as known_written
@@ -25,6 +26,7 @@ from known_answers.frames import counts_of
 from known_answers.matroska import files as known_files
 from known_answers.matroska_tracks import file_of, files as known_tracks
 from known_answers.slices import cut_answer, head_answer
+import random_rows
 from random_matroska import RATES, made, written
 
 DATA = os.path.join(os.path.dirname(os.path.abspath(__file__)), "..", "crates", "ffv1_vectors", "data")
@@ -220,12 +222,23 @@ def frames(random, count):
     are known, and so many"""
     known = [frame_line(config, planes, info, bytes.fromhex(payload))
              for _, config, info, planes, payload, *_ in known_frames.ENCODED]
-    return known + [frame_line(*picture) for picture in pictures(random, count)]
+    return known + [frame_line(*picture) for picture in pictures(random, count)] + [
+        frame_line(*picture) for picture in random_rows.pictures(random, count // 5, 8)]
+
+
+def known_deep_frames():
+    """The same of pictures of 9 to 16 bits that are known."""
+    lines = []
+    for _, config, planes, payload, _ in known_depths.PICTURES:
+        config.wide = True
+        lines.append(frame_line(config, planes, known_frames.NOTHING, bytes.fromhex(payload)))
+    return lines
 
 
 def deep_frames(random, count, depth):
     """The same of so many pictures of a depth."""
-    return [frame_line(*picture) for picture in pictures(random, count, (depth,))]
+    return [frame_line(*picture) for picture in pictures(random, count, (depth,))] + [
+        frame_line(*picture) for picture in random_rows.pictures(random, count // 15, depth)]
 
 
 def sealed(config, slices):
@@ -336,8 +349,14 @@ def decoded(random, count, depths=(8,)):
 
 
 def deep_decoded(random, count, depth):
-    """The same of so many pictures of a depth."""
-    return decoded(random, count, (depth,))
+    """The same of so many pictures of a depth, and of long rows."""
+    return decoded(random, count, (depth,)) + long_rows(random, count // 3, depth)
+
+
+def long_rows(random, count, depth):
+    """The same of so many payloads of long rows, of residuals of any size."""
+    return [decoded_in(config, payload, known_frames.ALL)
+            for config, payload in random_rows.payloads(random, count, depth)]
 
 
 def known_aspects(is_wide):
@@ -474,8 +493,9 @@ if __name__ == "__main__":
     write("heads.txt", heads(random.Random(9043), 400))
     write("payloads.txt", payloads(random.Random(9044), 2000))
     write("frames.txt", frames(random.Random(9045), 300))
-    write("decoded.txt", known_decoded() + decoded(random.Random(9046), 300))
-    write("deep_frames.txt", by_depth(deep_frames, random.Random(9047), 300))
+    write("decoded.txt", known_decoded() + decoded(random.Random(9046), 300)
+          + long_rows(random.Random(9049), 60, 8))
+    write("deep_frames.txt", known_deep_frames() + by_depth(deep_frames, random.Random(9047), 300))
     write("deep_decoded.txt", by_depth(deep_decoded, random.Random(9048), 60))
     write("wide.txt", known_aspects(True))
     write("avi.txt", files_of_avi())

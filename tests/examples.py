@@ -37,7 +37,7 @@ README = [
     BROKEN,
     r"samples 1024\ndecisions \d+\ncode [0-9A-F]+\nsame yes\n",
 ]
-MANUAL = [PACKED + CHECKED, r"frames 3\n", BROKEN]
+MANUAL = [PACKED + CHECKED, r"frames 3\n", BROKEN, ""]
 
 
 def run(folder, script):

@@ -309,7 +309,7 @@ SOME_WORDS = [
     "--no-clobber", "--container", "--container=mkv", "out.mkv",
 ]
 OUTPUTS = ["out"] * 24 + ["out.mkv"] * 16 + ["in", "./in", "no/out", "/dev/full", "-", *commands.STANDARD_OUTPUT]
-NAMES = ["pack", "unpack", "check", "show", "trial"]
+NAMES = ["pack", "unpack", "check", "show", "framemd5", "trial"]
 
 
 def any_line(dice):
@@ -342,12 +342,13 @@ def file_line(dice):
     """A command line on a file."""
     unpack = ["unpack", "in", dice.choice(OUTPUTS)]
     words = dice.choice([unpack, unpack, ["check", "in"], ["check", "--place", "in"],
-                         ["check", "in", "--place"], ["show", "in"], ["show", "--cost", "in"]])
+                         ["check", "in", "--place"], ["show", "in"], ["show", "--cost", "in"],
+                         ["framemd5", "in"]])
     if words[0] != "unpack" and dice.random() < 0.2:
         words = words + dice.choice([["in"], ["no", "in"], ["out", "in"], ["-"], ["./in", ""]])
     if words[0] == "check" and dice.random() < 0.4:
         words = [words[0], "--all", *words[1:]]
-    if words[0] != "show" and dice.random() < 0.1:
+    if words[0] in ("unpack", "check") and dice.random() < 0.1:
         words = [words[0], "--progress", *words[1:]]
     if words[0] == "unpack" and dice.random() < 0.1:
         words = [words[0], "--no-clobber", *words[1:]]
@@ -365,5 +366,7 @@ def random_case(seed, number):
         return RandomCase(file_line(dice), {"in": file_of(dice), **given})
     if kind < 0.87:
         return RandomCase(["trial", "in"], {"in": text_of(dice)})
+    if kind < 0.92:
+        return RandomCase(["framemd5", "in"], {"in": text_of(dice)})
     data = dice.choice([text_of, file_of])(dice)
     return RandomCase(any_line(dice), {"in": data, **given})

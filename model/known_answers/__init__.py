@@ -3,12 +3,12 @@
 the formats. `check.py` asks them of the model, and `tests/commands` of the built program.
 """
 from known_answers import containers, depths, lines, matroska_commands, payloads, riffs, shown
-from known_answers import texts, unpacking
+from known_answers import sums, texts, unpacking
 
 
 def cases():
     """All of them."""
     for subject in [texts, payloads, unpacking, containers, riffs, shown, lines,
-                    matroska_commands, depths]:
+                    matroska_commands, depths, sums]:
         for group in subject.CASES:
             yield from group()

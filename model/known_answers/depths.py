@@ -51,6 +51,12 @@ PICTURES = [
      "FE7ABD3D80000005", 35),
     ("red of 10 bits with transparency", one(rct=True, chroma=True, extra=True, depth=10),
      [[[1023]], [[0]], [[0]], [[1023]]], "FEA524F834B0CD5B4EA800000A", 75),
+    ("red of 16 bits", one(rct=True, chroma=True, depth=16), [[[65535]], [[0]], [[0]]],
+     "FE7AFCC7EED7F247068100000A", 77),
+    ("green of 16 bits", one(rct=True, chroma=True, depth=16), [[[0]], [[65535]], [[1]]],
+     "FE7AFE06F946000006", 49),
+    ("red of 16 bits with transparency", one(rct=True, chroma=True, extra=True, depth=16),
+     [[[65535]], [[0]], [[0]], [[65535]]], "FEA57DCEF447F69904B67F677CB000000E", 111),
     ("RGB of 10 bits", one(width=2, height=2, rct=True, chroma=True, depth=10),
      [sampled(10, 2, [1, 2, 3, 4]), sampled(10, 2, [500, 501, 502, 503]),
       sampled(10, 2, [1023, 0, 1023, 0])],
@@ -104,6 +110,7 @@ RESIDUALS = [(512, 512, 31), (-512, 512, 31), (1024, 0, 33), (1023, 1023, 31), (
 # name, configuration, residuals of one place: no colour
 COLOURS = [
     ("a colour of 10 bits", one(rct=True, chroma=True, depth=10), [1023, 1, 0]),
+    ("a colour of 16 bits", one(rct=True, chroma=True, depth=16), [65535, 1, 0]),
     ("a transparency of 10 bits", one(rct=True, chroma=True, extra=True, depth=10), [0, 1024, 0, -1]),
 ]
 
@@ -145,6 +152,8 @@ HELD = [
     ("held of RGB", one(width=352, height=2, rct=True, chroma=True, columns=4, depth=10,
                         sets=[ffv1.LARGE]),
      "held states 4259328 samples 3168 output 2112 columns 4 offsets 1025"),
+    ("held of RGB of 16 bits", one(width=352, height=2, rct=True, chroma=True, columns=4, depth=16),
+     "held states 170496 samples 3168 output 2112 columns 4 offsets 1025"),
 ]
 
 
@@ -208,12 +217,11 @@ def images():
     yield refused("images of 1023 and 255", text + image(255, bytes(3)), "71 FormatChanged")
     for maximum in [1, 127, 254, 256, 1000, 2047, 8191, 32767, 65536]:
         yield refused(f"an image of {maximum}", image(maximum, bytes(6)), "60 Header")
-    for maximum in [511, 1023, 4095, 16383]:
+    for maximum in [511, 1023, 4095, 16383, 65535]:
         text = image(maximum, bytes(6))
         yield Case(f"an image of {maximum}", {"in": text},
                    [Step(["pack", "in", "out"], None), Step(["unpack", "out", "back"], "frames 1\n")],
                    {"back": text})
-    yield refused("an image of 65535", image(65535, bytes(6)), "21 Depth")
 
 
 # depth, the record of a mono picture of 1 by 1 with parity
@@ -240,7 +248,7 @@ def checks():
     for depth, record in RECORDS:
         yield f"a record of {depth} bits", ffv1.write_record(ffv1.Config(1, 1, depth=depth)).hex().upper(), record
     for bits, rct in itertools.product(BITS, [False, True]):
-        wanted = None if bits in TAKEN and not (bits == 16 and rct) else 21
+        wanted = None if bits in TAKEN else 21
         yield f"{bits} bits are read", record_fault(bits, rct, True), wanted
         strict = None if bits in (0, 8) else 21
         yield f"{bits} bits are read strictly", record_fault(bits, rct, False), strict

@@ -21,7 +21,7 @@ CHECKS = [
 ]
 HELPS = [
     "-h", "--help", "help", "-hx", "help pack", "help unpack", "help check", "help show",
-    "help trial", "pack --help", "pack -h", "unpack in --help", "check --help out in", "show -h",
+    "help framemd5", "help trial", "framemd5 -h", "pack --help", "pack -h", "unpack in --help", "check --help out in", "show -h",
     "trial --help", "pack --ec 0 in out -h", "pack in in --help", "--help pack in out",
     "--version", "-V", "-Vx", "--version pack in out",
 ]
@@ -57,13 +57,16 @@ def several_files():
              errors="ffv1: -: 52 Truncated\n"),
         Step(["show", "c", "no"], "file c\nfile no\n", status=1,
              errors="ffv1: c: 52 Truncated\nffv1: no: 56 Read\n"),
-        Step(["show", "a", "b"], ANY)], given)
+        Step(["show", "a", "b"], ANY),
+        Step(["framemd5", "c", "b", "no"], "file c\nfile b\nfile no\n", status=1,
+             errors="ffv1: c: 52 Truncated\nffv1: b: 30 NotKey\nffv1: no: 56 Read\n")], given)
 
 
 REFUSED = [
     "", "code", "pac in out", "-x", "pack --version", "help code", "help pack in", "-- pack in out",
     "--ec 0 pack in out", "pack", "pack in", "pack in out more", "unpack in", "unpack in out x",
-    "check", "check --cost in out", "show", "show --all in out", "trial", "trial in out",
+    "check", "check --cost in out", "framemd5", "framemd5 --cost in", "framemd5 --progress in",
+    "framemd5 --all in out", "show", "show --all in out", "trial", "trial in out",
     "pack --deep in out", "pack -e 0 in out", "pack in out -1", "unpack --ec 0 in out",
     "check --cost in", "show --place in", "show --progress in", "trial --progress in",
     "--progress check in", "check --progress --progress in", "unpack --progress=1 in out",
@@ -88,7 +91,7 @@ CONFLICTS = [
     "pack in in", "unpack in in", "pack in /dev/stdout", "pack in /dev/fd/1",
     "pack in /proc/self/fd/1", "unpack in /dev/stdout", "unpack in /dev/fd/1",
     "unpack in -- /proc/self/fd/1", "pack no no", "pack - /dev/stdout",
-    "check - -", "show - in -", "check in - -- -", "show --cost - -",
+    "check - -", "show - in -", "check in - -- -", "show --cost - -", "framemd5 - in -",
 ]
 
 
@@ -106,7 +109,8 @@ UNOPENED = [
     ("show no", "56 Read"), ("trial no", "56 Read"), ("pack no no/out", "56 Read"),
     ("pack in no/out", "57 Write"), ("pack in .", "57 Write"), ("unpack in /", "57 Write"),
     ("check .", "56 Read"), ("show .", "56 Read"), ("pack in /dev/full", "57 Write"),
-    ("check /dev/null", "52 Truncated"),
+    ("check /dev/null", "52 Truncated"), ("framemd5 no", "56 Read"), ("framemd5 .", "56 Read"),
+    ("framemd5 /dev/null", "52 Truncated"),
 ]
 
 

@@ -102,7 +102,8 @@ def spaced_images():
     both = b"P6 1 1 255\n\xff\0\0" + b"P6\n#\n1\n1 255 \0\xff\n"
     yield round_trip("two images of other headers", both, "", RED + ppm(1, 1, b"\0\xff\n"), 2)
     deep = b"P6 # deep\n1 1\n65535\n" + bytes(6)
-    yield refused("RGB of 16 bits with a comment", deep, "21 Depth")
+    spelled = b"P6\n1 1\n65535\n" + bytes(6)
+    yield round_trip("RGB of 16 bits with a comment", deep, "", spelled)
     far = b"P6" + b" " * 65537 + b"1 1 255\n\xff\0\0"
     yield refused("65536 bytes behind the first of white space", far, "60 Header")
     yield refused("another size behind a comment", RED + b"P6 #\n2 1 255\n" + bytes(6),

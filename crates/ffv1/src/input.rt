@@ -1,12 +1,13 @@
 //! Where bytes are read from: a file, or standard input.
 
-ghost use Rattle.std.specs.Prelude.{◌≡◌, IfErr};
+ghost use Rattle.std.specs.Prelude.{◌≡◌, IfErr, option_to_list};
+ghost use Rattle.std.specs.Io.KnownBytes.{prepend_known};
 ghost use Rattle.ffv1_engine.specs.declared.fault.Fault.TheVariants as fault;
 
 use crate::progress::Watched;
 use either::{Either, Left, Right};
 use ffv1_engine::Fault;
-use ffv1_wire::FromRead;
+use ffv1_wire::{ByteIn, Failed, FromRead};
 use ffv1_words::is_hyphen;
 use std::fs;
 use std::fs::{Metadata, OpenFile};
@@ -48,4 +49,40 @@ pub fn watched<'a, H: Files + Input + Eprint + Clock>(
         _ => None,
     };
     Watched::new(rt, source, size, progress)
+}
+
+/// A reader that gives a byte once more, which was read of another one, and then the bytes and the
+/// failures of that one.
+#[derive(Drop)]
+pub struct Again<R> {
+    first: Option<u8>,
+    inner: R,
+}
+
+impl<R> Again<R> {
+    /// Wraps a reader of which this byte was read; of none the input has ended.
+    pub fn new(first: Option<u8>, inner: R) -> Again<R>
+        ensures first { result.first ≡ first }
+        ensures inner { result.inner ≡ inner }
+    {
+        Again { first, inner }
+    }
+}
+
+impl<R: ByteIn> ByteIn for Again<R> {
+    ghost remaining = { λ s. prepend_known (option_to_list s.first) (R.remaining s.inner) };
+
+    ghost failures = { λ s. R.failures s.inner };
+
+    fn read(&mut self, buf: &mut [u8]) -> Result<usize, Failed> {
+        let Some(byte) = self.first else {
+            return self.inner.read(buf);
+        };
+        if buf.is_empty() {
+            return Ok(0);
+        }
+        buf[0] = byte;
+        self.first = None;
+        Ok(1)
+    }
 }

@@ -3,9 +3,13 @@
 //! `ffv1_engine`.
 #![tactic(auto)]
 
-ghost use Rattle.std.specs.Prelude.{◌≡◌, ◌↔◌, Err, IfErr, IsOk, IsTrue, None, Some};
+ghost use Rattle.std.specs.Prelude.{◌≡◌, ◌≢◌, ◌⊎◌, ◌↔◌, Err, IfErr, IfOk, IsOk, IsTrue, None};
+ghost use Rattle.std.specs.Prelude.{Some};
+ghost use Rattle.clap.specs.Words.{kind_of};
+ghost use Rattle.clap.specs.declared.error.kind.ErrorKind.TheVariants as kind;
 ghost use Rattle.ffv1.specs.declared.refusal.Refusal.{Refusal};
 ghost use Rattle.ffv1.specs.declared.refusal.Refusal.TheVariants as refusal;
+ghost use Rattle.ffv1.specs.Statuses.{status_of};
 ghost use Rattle.ffv1_engine.specs.declared.fault.Fault.{Fault};
 ghost use Rattle.ffv1_engine.specs.declared.fault.Fault.TheVariants as fault;
 
@@ -14,13 +18,15 @@ mod output;
 mod progress;
 mod refusal;
 
+use clap::Error;
 use either::{Left, Right};
 use ffv1_engine::{
-    Fault, PackedMatroska, Profile, check, check_all, pack, pack_matroska, show, trial, unpack,
+    Fault, PackedMatroska, Profile, check, check_all, framemd5, framemd5_text, pack, pack_matroska,
+    show, trial, unpack,
 };
-use ffv1_wire::{ByteIn, ToFile, ToWrite};
+use ffv1_wire::{ByteIn, ToFile, ToWrite, read_byte};
 use ffv1_words::{Choice, ContainerChoice, Order, is_hyphen, words};
-use input::{open_input, watched};
+use input::{Again, open_input, watched};
 use output::{Target, open_output};
 use refusal::Refusal;
 use std::alloc::Global;
@@ -181,6 +187,26 @@ fn run_show(
     Ok(())
 }
 
+/// Prints the MD5 of each picture of a file, or of a text, which begins with `P` or `Y`.
+fn run_framemd5(
+    rt: &(impl Files + Input + Print),
+    alloc: Global,
+    input: &str,
+) -> Result<(), Refusal> {
+    let (mut source, _) = open_input(rt, input)?;
+    let Ok(first) = read_byte(&mut source) else {
+        return Err(Refusal::Fault(Fault::Read));
+    };
+    let mut reader = Again::new(first, source);
+    let mut writer = ToWrite::new(io::writer(rt));
+    if first == Some(b'P') || first == Some(b'Y') {
+        framemd5_text(alloc, Profile::Wide, &mut reader, &mut writer)?;
+    } else {
+        framemd5(alloc, Profile::Wide, &mut reader, &mut writer)?;
+    }
+    Ok(())
+}
+
 /// Codes and decodes the mono picture of a file, and prints what it found.
 fn run_trial(rt: &(impl Files + Input + Print), alloc: Global, input: &str) -> Result<(), Refusal> {
     let (mut reader, _) = open_input(rt, input)?;
@@ -195,6 +221,7 @@ fn status_of(done: Result<(), Refusal>) -> u8
     ensures fault { (f : Fault) → done ≡ Err (refusal.Fault f) → result ≡ 1 }
     ensures one_file { done ≡ Err refusal.OneFile → result ≡ 2 }
     ensures exists { done ≡ Err refusal.Exists → result ≡ 2 }
+    ensures value { result ≡ status_of done }
 {
     match done {
         Ok(()) => 0,
@@ -204,7 +231,9 @@ fn status_of(done: Result<(), Refusal>) -> u8
 }
 
 /// Says on standard error why an order is not done, in one line. Answers its exit status.
-fn tell(rt: &impl Eprint, done: Result<(), Refusal>) -> io::Result<u8> {
+fn tell(rt: &impl Eprint, done: Result<(), Refusal>) -> io::Result<u8>
+    ensures { IfOk result (λ status. status ≡ status_of done) }
+{
     if let Err(refusal) = done {
         eprintln!(rt; "ffv1: {refusal}")?;
     }
@@ -216,6 +245,7 @@ fn tell(rt: &impl Eprint, done: Result<(), Refusal>) -> io::Result<u8> {
 enum Looking {
     Check(Checking),
     Show { cost: bool },
+    FrameMd5,
 }
 
 /// Looks at one file.
@@ -228,6 +258,7 @@ fn look(
     match looking {
         Looking::Check(checking) => run_check(rt, alloc, path, checking),
         Looking::Show { cost } => run_show(rt, alloc, path, cost),
+        Looking::FrameMd5 => run_framemd5(rt, alloc, path),
     }
 }
 
@@ -348,8 +379,19 @@ fn run(
             look_all(rt, alloc, inputs, Looking::Check(checking))
         }
         Order::Show { inputs, cost } => look_all(rt, alloc, inputs, Looking::Show { cost }),
+        Order::FrameMd5 { inputs } => look_all(rt, alloc, inputs, Looking::FrameMd5),
         Order::Trial { input } => tell(rt, run_trial(rt, alloc, input)),
     }
+}
+
+/// The exit status of a line that is refused: 0 where it asks for help or for the version.
+fn line_status(error: &Error) -> u8
+    ensures asked { (kind_of error.now ≡ kind.DisplayHelp)
+        ⊎ (kind_of error.now ≡ kind.DisplayVersion) → result ≡ 0 }
+    ensures refused { kind_of error.now ≢ kind.DisplayHelp →
+        kind_of error.now ≢ kind.DisplayVersion → result ≡ 2 }
+{
+    if error.use_stderr() { 2 } else { 0 }
 }
 
 /// Does what the words of the command line ask for: status 0 for success, 1 for a fault, which is
@@ -359,11 +401,7 @@ fn command(rt: &HostRuntime, alloc: Global, texts: &[&str]) -> io::Result<ExitCo
     match words(alloc, texts) {
         Err(error) => {
             eprint!(rt; "{error}")?;
-            Ok(if error.use_stderr() {
-                ExitCode::from(2)
-            } else {
-                ExitCode::SUCCESS
-            })
+            Ok(ExitCode::from(line_status(&error)))
         }
         Ok(order) => {
             let status = run(rt, alloc, order)?;

@@ -266,7 +266,7 @@ pub local_movi_found : (stream left : ℕ) → Local (movi_found stream left)
 unfolding movi_found
 local_movi_found stream left = local_then (walk (visit_movi stream) left tt) (λ p. given p.1) (local_walk (visit_movi stream) (local_movi stream) left tt) (λ p. local_given p.1)
 
--- a place where the first movi alone is read has nothing left of the input
+-- a position where the first movi alone is read has nothing left of the input
 first_input : (place : Place) → extent_of place ≡ FirstMovi → place.input ≡ 0
 first_input place first = on_input (place.input == 0) refl
   where

@@ -88,7 +88,7 @@ walk_early {S = S} {Y = Y} visit T local complete left s t c is fits takes a b p
     on_first (Ok (None, rest)) w k = absurd (ok_is_no_err {X = S × Option Y} ((s, None), rest) (Short w) k)
     on_first (Ok (Some e, rest)) w k = ap (λ z. read_on z (λ p. resumed (walk visit e.left) p.0 p.1)) k
 
--- the frames of a place whose movi ends early
+-- the frames of a position whose movi ends early
 found_early : (place : Place) (a : List ℕ) → EndsEarly (movi_found place.stream place.movi) a → EndsEarly (frames_read place) a
 found_early place a h =
     let found : frame_found place a ≡ Err (Short h.0) = frame_step place a ∙ ap (λ z. read_on z (found_or_on frame_found place)) h.1 in

@@ -190,7 +190,7 @@ frames_on (Some p) = frames_read p
 abbrev pub frames_after : Place → Reading (List (List ℕ))
 frames_after place = moved place >>= frames_on
 
--- a place where movi has so many bytes left, and so many frames are owed
+-- a position where movi has so many bytes left, and so many frames are owed
 abbrev pub placed : Place → ℕ → ℕ → Place
 placed place movi owed = record { input = place.input; riff = place.riff; movi = movi; stream = place.stream; owed = owed }
 
@@ -331,7 +331,7 @@ movi_part_up_to : (most : ℕ) (place : Place) (text : List ℕ) (w : List (List
 movi_part_up_to zero place text w enough h = part_step place text w (λ p more v less k. absurd (omega (arith, enough, less))) h
 movi_part_up_to (suc most) place text w enough h = part_step place text w (λ p more v less k. movi_part_up_to most p more v (omega (arith, enough, less)) k) h
 
--- the frames of a place are those of its movi, and those after it
+-- the frames of a position are those of its movi, and those after it
 pub movi_part : (place : Place) (text : List ℕ) (w : List (List ℕ) × List ℕ) → frames_read place text ≡ Ok w → MoviPart place text w.0 w.1
 movi_part place text w h = movi_part_up_to place.movi place text w (omega arith) h
 
@@ -370,7 +370,7 @@ movi_there stream c more rest is list named short some =
     regrouped : (a b c d e : List ℕ) → (((a ++ b) ++ c) ++ d) ++ e ≡ (a ++ b) ++ ((c ++ d) ++ e)
     regrouped a b c d e = simp append_assoc
 
--- at a place whose movi begins with such a chunk
+-- at a position whose movi begins with such a chunk
 pub frames_passed : (place : Place) (c : Chunk) (more : ℕ) (rest : List ℕ) → IsChunk c → is_named (codes "LIST") c ≡ false → is_named (frame_name place.stream) c ≡ false →
     frame_found (placed place (length (chunk_text c) + more) place.owed) (chunk_text c ++ rest) ≡ frame_found (placed place more place.owed) rest
 frames_passed place c more rest is list named =

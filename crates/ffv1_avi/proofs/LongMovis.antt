@@ -77,7 +77,7 @@ pub after_long_at : (place : Place) (chunks : List Chunk) (left : ℕ) (name siz
     frame_read place (chunks_text chunks ++ ((name ++ size) ++ rest)) ≡ Err (Met fault.Truncated rest)
 after_long_at place chunks left name size rest every none room each movis passes = ap (λ z. read_on z found_read) (found_long place chunks left name size rest none every room each movis passes)
 
--- the next RIFF is sought by three of a place's numbers
+-- the next RIFF is sought by three of a position's numbers
 begun_in : (place : Place) (text : List ℕ) → riff_begun place text ≡ riff_begun (in_riff place.input place.stream 0 place.owed) text
 unfolding riff_begun
 begun_in place text = on_name (name_or_end place.owed text)

@@ -123,7 +123,7 @@ begun_less place next text rest h =
     on_name None more k = absurd (no_some next (sym (ap (λ (z : Option Place × List ℕ). z.0) (ok_is (None, more) (Some next, rest) k))))
     on_name (Some name) more k = on_riff name more (is_name name (codes "RIFF")) refl k
 
--- the extent of a place, by what it has left of the input
+-- the extent of a position, by what it has left of the input
 pub extent_first : (place : Place) → place.input ≡ 0 → extent_of place ≡ FirstMovi
 extent_first place none = rw none refl
 

@@ -1,4 +1,4 @@
--- Beginnings of files, up to a place in one of the lists before movi: RIFF, hdrl, and the first
+-- Beginnings of files, up to a position in one of the lists before movi: RIFF, hdrl, and the first
 -- strl.
 use Rattle.std.specs.Prelude.{◌≡◌, ℕ, ◌+◌, ◌≤◌, List, [], ◌∷◌, ◌++◌, length, codes, flat_map}
 use Rattle.std.specs.Prelude.{Some}
@@ -39,7 +39,7 @@ pub record ListBegins (text : List ℕ) (room : ℕ) (own : List ℕ) (chunks : 
   pub fits : 8 + padded (little_number 4 size) ≤ room
   pub each : AreChunks chunks
 
--- a file up to a place in hdrl, after parts of RIFF and chunks of hdrl
+-- a file up to a position in hdrl, after parts of RIFF and chunks of hdrl
 pub record HeaderBegins (file : List ℕ) (parts : List Part) (chunks : List Chunk) (left : ℕ)
     (rest : List ℕ) : Type 0 where
   pub room : ℕ
@@ -47,7 +47,7 @@ pub record HeaderBegins (file : List ℕ) (parts : List Part) (chunks : List Chu
   pub riff : RiffBegins file parts room text
   pub header : ListBegins text room (codes "hdrl") chunks left rest
 
--- a file up to a place in strl, after chunks of it
+-- a file up to a position in strl, after chunks of it
 pub record StreamBegins (file : List ℕ) (parts : List Part) (chunks fields : List Chunk)
     (left : ℕ) (rest : List ℕ) : Type 0 where
   pub room : ℕ

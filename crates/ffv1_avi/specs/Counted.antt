@@ -19,7 +19,7 @@ abbrev pub HasExtended : List Chunk → Type 0
 HasExtended chunks =
     (inners : List (List Chunk)) × AreExtended (those (is_list (codes "odml")) chunks) inners
 
--- a file up to a place in odml, after chunks of it
+-- a file up to a position in odml, after chunks of it
 pub record ExtendedBegins (file : List ℕ) (parts : List Part) (chunks inner : List Chunk)
     (left : ℕ) (rest : List ℕ) : Type 0 where
   pub room : ℕ

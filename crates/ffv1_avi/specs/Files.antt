@@ -253,7 +253,7 @@ unfoldable pub frames_up_to : ℕ → Place → Reading (List (List ℕ))
 frames_up_to zero place = given []
 frames_up_to (suc most) place = frame_read place >>= more_frames (frames_up_to most)
 
--- all frames from a place on
+-- all frames from a position on
 abbrev pub frames_read : Place → Reading (List (List ℕ))
 frames_read place = frames_up_to (amount place) place
 

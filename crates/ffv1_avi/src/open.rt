@@ -1,15 +1,18 @@
 //! A file up to its first movi.
 
 ghost use Rattle.std.specs.Prelude.{◌≡◌, ◌+◌, ◌<◌, ◌≤◌, ℕ, List, Option, None, Some, codes, true};
+ghost use Rattle.std.specs.Prelude.{OnOk};
+ghost use Rattle.std.specs.Vec.{vec_capacity};
 ghost use Rattle.ffv1_avi.specs.Files.{extended_read, extended_visited, header_list, header_read};
 ghost use Rattle.ffv1_avi.specs.Files.{movi_reached, open_read, owed};
 ghost use Rattle.ffv1_avi.specs.Files.{stream_known, stream_visited, top_read, total_read};
 ghost use Rattle.ffv1_avi.specs.Files.{visit_extended, visit_header, visit_top};
-ghost use Rattle.ffv1_reads.specs.First.{passage_with};
+ghost use Rattle.ffv1_reads.specs.First.{bytes_with, passage_with};
 ghost use Rattle.ffv1_reads.specs.Head.{Head};
 ghost use Rattle.ffv1_avi.specs.Places.{first_place};
 ghost use Rattle.ffv1_wire.specs.Passage.{at_rest, passage};
 ghost use Rattle.ffv1_reads.specs.Reads.{Answers, taken};
+ghost use Rattle.ffv1_reads.specs.Room.{RoomRead};
 ghost use Rattle.ffv1_avi.specs.Walk.{is_name};
 ghost use Rattle.ffv1_avi.specs.Internal.Views.{found_with, head_with, headers_next, headers_with};
 ghost use Rattle.ffv1_avi.specs.Internal.Views.{top_with};
@@ -47,7 +50,8 @@ fn stream_found(found: Found, sizes: Option<Sizes>) -> Found
     requires none { found.sizes ≡ None }
     requires few { found.passed < 100 }
     ensures { (bytes : List ℕ) →
-        headers_with result bytes ≡ stream_known (headers_with found bytes) (found_with sizes bytes) }
+        headers_with result bytes
+        ≡ stream_known (headers_with found bytes) (found_with sizes bytes) }
 {
     let mut found = found;
     if sizes.is_none() {
@@ -66,10 +70,12 @@ fn visit_stream<R: ByteIn, A: Allocator>(
     config: &mut Vec<u8, A>,
 ) -> Result<Found, FileFault>
     requires { 4 ≤ size }
-    ensures { Answers (λ (f : Found). headers_next f config.new.items)
+    ensures answer { Answers (λ (f : Found). headers_next f config.new.items)
         (stream_visited extent (headers_with found config.old.items) size
         (found_with found.sizes config.old.items))
         (passage R.remaining R.failures input.old input.new) result }
+    ensures grown { OnOk result (RoomRead (R.remaining input.old) (R.remaining input.new)
+        (vec_capacity config.old) (vec_capacity config.new)) }
 {
     if found.sizes.is_some() {
         pass(input, padded(size) - 4)?;
@@ -174,9 +180,11 @@ fn visit_header_list<R: ByteIn, A: Allocator>(
     config: &mut Vec<u8, A>,
 ) -> Result<Found, FileFault>
     requires { 4 ≤ size }
-    ensures { Answers (λ (f : Found). headers_next f config.new.items)
+    ensures answer { Answers (λ (f : Found). headers_next f config.new.items)
         (header_list extent (headers_with found config.old.items) size)
         (passage R.remaining R.failures input.old input.new) result }
+    ensures grown { OnOk result (RoomRead (R.remaining input.old) (R.remaining input.new)
+        (vec_capacity config.old) (vec_capacity config.new)) }
 {
     let own = own_name(input)?;
     if is_name(&own, b"strl") {
@@ -199,9 +207,11 @@ fn visit_header<R: ByteIn, A: Allocator>(
     config: &mut Vec<u8, A>,
 ) -> Result<Found, FileFault>
     requires { is_name entry.name (codes "LIST") ≡ true → 4 ≤ entry.size }
-    ensures { Answers (λ (f : Found). headers_next f config.new.items)
+    ensures answer { Answers (λ (f : Found). headers_next f config.new.items)
         (visit_header extent (headers_with found config.old.items) entry)
         (passage R.remaining R.failures input.old input.new) result }
+    ensures grown { OnOk result (RoomRead (R.remaining input.old) (R.remaining input.new)
+        (vec_capacity config.old) (vec_capacity config.new)) }
 {
     if is_name(&entry.name, b"LIST") {
         return visit_header_list(input, extent, found, entry.size, config);
@@ -220,9 +230,11 @@ fn read_header<R: ByteIn, A: Allocator>(
     config: &mut Vec<u8, A>,
 ) -> Result<Found, FileFault>
     requires { 4 ≤ size }
-    ensures { Answers (λ (f : Found). headers_with f config.new.items)
+    ensures answer { Answers (λ (f : Found). headers_with f config.new.items)
         (header_read extent (headers_with found config.old.items) size)
         (passage R.remaining R.failures input.old input.new) result }
+    ensures grown { OnOk result (RoomRead (R.remaining input.old) (R.remaining input.new)
+        (vec_capacity config.old) (vec_capacity config.new)) }
 {
     let mut found = found;
     let mut left = size - 4;
@@ -288,9 +300,11 @@ fn visit_top<R: ByteIn, A: Allocator>(
     config: &mut Vec<u8, A>,
 ) -> Result<Top, FileFault>
     requires { is_name entry.name (codes "LIST") ≡ true → 4 ≤ entry.size }
-    ensures { Answers (λ (t : Top). top_with t config.new.items)
+    ensures answer { Answers (λ (t : Top). top_with t config.new.items)
         (visit_top extent (headers_with found config.old.items) entry)
         (passage R.remaining R.failures input.old input.new) result }
+    ensures grown { OnOk result (RoomRead (R.remaining input.old) (R.remaining input.new)
+        (vec_capacity config.old) (vec_capacity config.new)) }
 {
     if !is_name(&entry.name, b"LIST") {
         pass(input, padded(entry.size))?;
@@ -316,8 +330,10 @@ fn read_top<R: ByteIn, A: Allocator>(
     room: u32,
     config: &mut Vec<u8, A>,
 ) -> Result<(Sizes, Place), FileFault>
-    ensures { Answers (λ (p : Sizes × Place). (head_with p.0 config.new.items, p.1))
+    ensures answer { Answers (λ (p : Sizes × Place). (head_with p.0 config.new.items, p.1))
         (top_read extent room) (passage R.remaining R.failures input.old input.new) result }
+    ensures grown { OnOk result (RoomRead (R.remaining input.old) (R.remaining input.new)
+        (vec_capacity config.old) (vec_capacity config.new)) }
 {
     let mut found = Found {
         passed: 0,
@@ -335,8 +351,9 @@ fn read_top<R: ByteIn, A: Allocator>(
     Err(FileFault::NotAvi)
 }
 
-/// A file, whose first byte may have been read, up to the first movi: its sizes, its record in place of what the vector has, and where
-/// movi stands.
+/// A file, whose first byte may have been read, up to the first movi: its sizes, its record in
+/// place of what the vector has, and where movi stands. The vector's room grows by at most as many
+/// bytes as are read.
 #[tactic(auto, unfolding(crate::specs::Files::open_read))]
 pub(crate) fn read_opening<R: ByteIn, A: Allocator>(
     first: Option<u8>,
@@ -344,8 +361,10 @@ pub(crate) fn read_opening<R: ByteIn, A: Allocator>(
     extent: Extent,
     config: &mut Vec<u8, A>,
 ) -> Result<(Sizes, Place), FileFault>
-    ensures { Answers (λ (p : Sizes × Place). (head_with p.0 config.new.items, p.1))
+    ensures answer { Answers (λ (p : Sizes × Place). (head_with p.0 config.new.items, p.1))
         (open_read extent) (passage_with first R.remaining R.failures input.old input.new) result }
+    ensures grown { OnOk result (RoomRead (bytes_with first (R.remaining input.old))
+        (R.remaining input.new) (vec_capacity config.old) (vec_capacity config.new)) }
 {
     let mut head = [0u8; 12];
     take_after(first, input, &mut head)?;

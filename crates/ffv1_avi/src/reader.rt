@@ -7,13 +7,13 @@ ghost use Rattle.std.specs.Vec.{vec_capacity};
 ghost use Rattle.ffv1_avi.specs.Extents.{AnswersFrom};
 ghost use Rattle.ffv1_avi.specs.Files.{frame_found, frame_name, frame_read, movi_found};
 ghost use Rattle.ffv1_avi.specs.Files.{open_read, visit_movi};
-ghost use Rattle.ffv1_reads.specs.First.{passage_with};
+ghost use Rattle.ffv1_reads.specs.First.{bytes_with, passage_with};
 ghost use Rattle.ffv1_reads.specs.Head.{Head, head_of};
 ghost use Rattle.ffv1_wire.specs.Passage.{passage};
 ghost use Rattle.ffv1_avi.specs.Internal.Ending.{AnswersOrNone};
 ghost use Rattle.ffv1_avi.specs.Places.{amount, ended, extent_of, frame_at};
 ghost use Rattle.ffv1_reads.specs.Reads.{Answers};
-ghost use Rattle.ffv1_reads.specs.Room.{HasRoom};
+ghost use Rattle.ffv1_reads.specs.Room.{HasRoom, RoomRead};
 ghost use Rattle.ffv1_avi.specs.Readers.{is_frame_fault, is_opening_fault};
 ghost use Rattle.ffv1_avi.specs.Readers.{Leaves, Standing, StandsAfter, frame_with, next_of};
 ghost use Rattle.ffv1_avi.specs.Readers.{next_with, opened_at};
@@ -153,12 +153,17 @@ pub struct AviReader<A: Allocator = Global> {
 impl<A: Allocator> Model for AviReader<A> {
     ghost Value = { Standing };
 
-    ghost view = { λ r. record { head = head_of r.head; place = r.place; fault = r.fault } };
+    ghost view = { λ r. record {
+      head = head_of r.head;
+      place = r.place;
+      fault = r.fault;
+      room = vec_capacity r.head.config_record;
+    } };
 }
 
 impl<A: Allocator> AviReader<A> {
     /// Reads a file up to its first `movi`, the frames of which are then read, and takes memory for
-    /// its configuration record alone.
+    /// its configuration record alone, with room for at most as many bytes as were read.
     ///
     /// `Truncated` where a chunk does not fit in its list or the input ends inside it; `NotAvi`
     /// where the file does not begin as an AVI, a list has no room for its own name, there is no
@@ -170,13 +175,16 @@ impl<A: Allocator> AviReader<A> {
             (passage R.remaining R.failures input.old input.new) result }
         ensures sound { IfOk result (λ r. r.fault ≡ None) }
         ensures own { IfErr result (λ f. is_opening_fault f ≡ true) }
+        ensures room { IfOk result (λ r. RoomRead (R.remaining input.old)
+            (R.remaining input.new) 0 r.room) }
     {
         open_at(alloc, Extent::FirstMovi, None, input)
     }
 
     /// Reads a file up to its first `movi`, to read then the frames of every `movi` of every RIFF:
     /// of the first, `AVI `, and of the `AVIX` after it (OpenDML AVI File Format Extensions). It
-    /// takes memory for the configuration record alone.
+    /// takes memory for the configuration record alone, with room for at most as many bytes as were
+    /// read.
     ///
     /// The first `strl` that is FFV1 video counts, of the first 100. The record ends where the
     /// first number of its format says, where that lies inside it. `Truncated` where a chunk does
@@ -189,6 +197,8 @@ impl<A: Allocator> AviReader<A> {
             (passage R.remaining R.failures input.old input.new) result }
         ensures sound { IfOk result (λ r. r.fault ≡ None) }
         ensures own { IfErr result (λ f. is_opening_fault f ≡ true) }
+        ensures room { IfOk result (λ r. RoomRead (R.remaining input.old)
+            (R.remaining input.new) 0 r.room) }
     {
         open_at(alloc, Extent::EveryRiff, None, input)
     }
@@ -203,13 +213,16 @@ impl<A: Allocator> AviReader<A> {
             (passage_with first R.remaining R.failures input.old input.new) result }
         ensures sound { IfOk result (λ r. r.fault ≡ None) }
         ensures own { IfErr result (λ f. is_opening_fault f ≡ true) }
+        ensures room { IfOk result (λ r. RoomRead (bytes_with first (R.remaining input.old))
+            (R.remaining input.new) 0 r.room) }
     {
         open_at(alloc, Extent::EveryRiff, first, input)
     }
 
     /// The head of the file.
     pub fn head(&self) -> &FileHead<A>
-        ensures { head_of result.now ≡ self.now.head }
+        ensures value { head_of result.now ≡ self.now.head }
+        ensures room { vec_capacity result.now.config_record ≡ self.now.room }
     {
         &self.head
     }
@@ -253,6 +266,7 @@ impl<A: Allocator> AviReader<A> {
             × (input.new ≡ input.old) }
         ensures again { (f : FileFault) → self.old.fault ≡ Some f → (result ≡ Err f)
             × (self.new ≡ self.old) × (frame.new.items ≡ []) × (input.new ≡ input.old) }
+        ensures kept { self.new.room ≡ self.old.room }
     {
         frame.clear();
         if let Some(fault) = self.fault {
@@ -290,6 +304,8 @@ fn open_at<R: ByteIn, A: Allocator>(
         (passage_with first R.remaining R.failures input.old input.new) result }
     ensures sound { IfOk result (λ r. r.fault ≡ None) }
     ensures own { IfErr result (λ f. is_opening_fault f ≡ true) }
+    ensures room { IfOk result (λ r. RoomRead (bytes_with first (R.remaining input.old))
+        (R.remaining input.new) 0 r.room) }
 {
     let mut config = Vec::new(alloc);
     let (sizes, place) = read_opening(first, input, extent, &mut config)?;

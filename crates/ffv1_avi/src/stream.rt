@@ -1,14 +1,16 @@
 //! A stream, by the chunks of its list.
 
 ghost use Rattle.std.specs.Prelude.{◌≡◌, ◌+◌, ◌*◌, ◌<◌, ◌≤◌, ℕ, List, Option, None, Some, length};
+ghost use Rattle.std.specs.Prelude.{OnOk};
 ghost use Rattle.std.specs.Vec.{vec_capacity};
 ghost use Rattle.ffv1_avi.specs.Streams.{no_video, record_end};
 ghost use Rattle.ffv1_wire.specs.Passage.{at_rest, passage};
 ghost use Rattle.ffv1_reads.specs.Reads.{Answers};
-ghost use Rattle.ffv1_reads.specs.Room.{HasRoom};
+ghost use Rattle.ffv1_reads.specs.Room.{HasRoom, RoomRead};
 ghost use Rattle.ffv1_avi.specs.Streams.{format_in, format_read, rates_in, rates_read};
 ghost use Rattle.ffv1_avi.specs.Streams.{stream_judged, stream_read, visit_field};
-ghost use Rattle.ffv1_avi.specs.Internal.Views.{came_with, format_with, found_with, known_next, known_with};
+ghost use Rattle.ffv1_avi.specs.Internal.Views.{came_with, format_with, found_with, known_next};
+ghost use Rattle.ffv1_avi.specs.Internal.Views.{known_with};
 
 use crate::chunk::{Entry, is_name, next_entry, padded};
 use crate::place::Extent;
@@ -82,6 +84,8 @@ fn read_format<R: ByteIn, A: Allocator>(
         (format_in extent size) (passage R.remaining R.failures input.old input.new) result }
     ensures room { HasRoom (vec_capacity config.old) (vec_capacity config.new)
         (length config.new.items) result }
+    ensures grown { OnOk result (RoomRead (R.remaining input.old) (R.remaining input.new)
+        (vec_capacity config.old) (vec_capacity config.new)) }
 {
     if size < 40 {
         pass(input, padded(size))?;
@@ -117,7 +121,8 @@ fn visit_rates<R: ByteIn>(input: &mut R, fields: Fields, size: u32) -> Result<Fi
     Ok(fields)
 }
 
-/// A format of a stream: the first one counts, and is not read where it is too long.
+/// A format of a stream: the first one counts, and is not read where it is too long. The vector's
+/// room grows by at most as many bytes as are read.
 fn visit_format<R: ByteIn, A: Allocator>(
     input: &mut R,
     extent: Extent,
@@ -125,10 +130,12 @@ fn visit_format<R: ByteIn, A: Allocator>(
     size: u32,
     config: &mut Vec<u8, A>,
 ) -> Result<Fields, FileFault>
-    ensures { Answers (λ (k : Fields). known_next k config.new.items)
+    ensures answer { Answers (λ (k : Fields). known_next k config.new.items)
         (format_read extent (known_with fields config.old.items) size
         (came_with fields.format config.old.items))
         (passage R.remaining R.failures input.old input.new) result }
+    ensures grown { OnOk result (RoomRead (R.remaining input.old) (R.remaining input.new)
+        (vec_capacity config.old) (vec_capacity config.new)) }
 {
     let mut fields = fields;
     if fields.format.is_some() {
@@ -151,9 +158,11 @@ fn visit_field<R: ByteIn, A: Allocator>(
     entry: Entry,
     config: &mut Vec<u8, A>,
 ) -> Result<Fields, FileFault>
-    ensures { Answers (λ (k : Fields). known_next k config.new.items)
+    ensures answer { Answers (λ (k : Fields). known_next k config.new.items)
         (visit_field extent (known_with fields config.old.items) entry)
         (passage R.remaining R.failures input.old input.new) result }
+    ensures grown { OnOk result (RoomRead (R.remaining input.old) (R.remaining input.new)
+        (vec_capacity config.old) (vec_capacity config.new)) }
 {
     if is_name(&entry.name, b"strh") {
         return visit_rates(input, fields, entry.size);
@@ -208,8 +217,10 @@ pub(crate) fn read_stream<R: ByteIn, A: Allocator>(
     room: u32,
     config: &mut Vec<u8, A>,
 ) -> Result<Option<Sizes>, FileFault>
-    ensures { Answers (λ (s : Option Sizes). found_with s config.new.items)
+    ensures answer { Answers (λ (s : Option Sizes). found_with s config.new.items)
         (stream_read extent room) (passage R.remaining R.failures input.old input.new) result }
+    ensures grown { OnOk result (RoomRead (R.remaining input.old) (R.remaining input.new)
+        (vec_capacity config.old) (vec_capacity config.new)) }
 {
     let mut fields = Fields {
         rates: None,

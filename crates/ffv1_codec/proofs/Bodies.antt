@@ -75,23 +75,23 @@ pub plain_at : (c : Configuration) (planes : Planes) (p u v : ℕ) → is_rct c.
 plain_at c planes p u v plain = ap (λ k. if k then transformed_at c planes p u v else sample_at c planes p u v) plain
 
 -- at a cell's top
-pub rolled_top : {A : Type 0} (c : Cell) (width : ℕ) (rows : RollingRows (Vec ℕ A)) → ((d : Cell) → Above d 0 (replicate d.width 0) (replicate d.width 0)) → width ≡ c.width →
-    rows.two.items ≡ replicate width 0 → rows.one.items ≡ replicate width 0 → rows.cur.items ≡ replicate width 0 → Rolled c 0 rows
-rolled_top c width rows top wide two one cur = record {
+pub rolled_top : {W A : Type 0} (samples : List W → List ℕ) (c : Cell) (width : ℕ) (rows : RollingRows (Vec W A)) → ((d : Cell) → Above d 0 (replicate d.width 0) (replicate d.width 0)) → width ≡ c.width →
+    samples rows.two.items ≡ replicate width 0 → samples rows.one.items ≡ replicate width 0 → samples rows.cur.items ≡ replicate width 0 → Rolled samples c 0 rows
+rolled_top samples c width rows top wide two one cur = record {
   above = rw (two, one, wide) (top c);
   two_long = ap length two ∙ length-replicate {A = ℕ} width 0 ∙ wide;
   cur_long = ap length cur ∙ length-replicate {A = ℕ} width 0 ∙ wide;
 }
 
 -- from a row to the next
-pub rolled_next : {A : Type 0} (c : Cell) (y : ℕ) (old new : RollingRows (Vec ℕ A)) →
+pub rolled_next : {W A : Type 0} (samples : List W → List ℕ) (c : Cell) (y : ℕ) (old new : RollingRows (Vec W A)) →
     ((d : Cell) (z : ℕ) (two one cur : List ℕ) → Above d z two one → length cur ≡ d.width → Shows d (z + 2) cur d.width → Above d (z + 1) one cur) →
-    Loaded c y old → new.two ≡ old.one → new.one ≡ old.cur → new.cur ≡ old.two → Rolled c (y + 1) new
-rolled_next c y old new next loaded two one cur =
+    Loaded samples c y old → new.two ≡ old.one → new.one ≡ old.cur → new.cur ≡ old.two → Rolled samples c (y + 1) new
+rolled_next samples c y old new next loaded two one cur =
     let more : suc (suc y) ≡ y + 2 = omega arith in
-    let shows : Shows c (y + 2) old.cur.items c.width = subst (λ k. Shows c k old.cur.items c.width) more loaded.shows in
+    let shows : Shows c (y + 2) (samples old.cur.items) c.width = subst (λ k. Shows c k (samples old.cur.items) c.width) more loaded.shows in
     rw (two, one, cur) (record {
-      above = next c y old.two.items old.one.items old.cur.items loaded.above loaded.cur_long shows;
+      above = next c y (samples old.two.items) (samples old.one.items) (samples old.cur.items) loaded.above loaded.cur_long shows;
       two_long = loaded.above.wide;
       cur_long = loaded.two_long;
     })

@@ -40,7 +40,7 @@ down_alike c alike p =
     let side : ℕ → Side = λ log2. record { size = c.height; count = c.rows; log2 = log2 } in
     ap (λ n. side (factor_of n p)) alike.v ∙ ap side (factor_zero p)
 
--- a place of a part is a place of the side
+-- a sample of a part is a sample of the side
 pub inside_side : (s : Side) → Tiles s → (k x : ℕ) → k < s.count → x < length_of s k → begin_of s k + x < whole_of s
 inside_side s tiles k x here small =
     let rest = parts_from s tiles (suc k) (s.count - suc k) (omega (arith, here)) in
@@ -84,7 +84,7 @@ module _ (c : Configuration) (planes : Planes) where
     abbrev pub IsThere : Line → Type 0
     IsThere l = (k : ℕ) → k < c.columns → suc l.y * width_in c l.plane k ≤ length (plane (slice k).cells l.plane)
 
-    -- a place of the slices' line
+    -- a position of the slices' line
     pub joined_at : (y p k x : ℕ) → ((k : ℕ) → k < c.columns → suc y * width_in c p k ≤ length (plane (slice k).cells p)) → k < c.columns → x < width_in c p k →
         get_or (joined_line c slice y p) (left_of c p k + x) 0 ≡ get_or (plane (slice k).cells p) (y * width_in c p k + x) 0
     joined_at y p k x there inside small =
@@ -92,7 +92,7 @@ module _ (c : Configuration) (planes : Planes) where
         (λ k inside. row_long (width_in c p k) y (plane (slice k).cells p) (there k inside)) k x inside small
         ∙ row_at (width_in c p k) y x (plane (slice k).cells p) small
 
-    -- a place of the picture's line
+    -- a position of the picture's line
     picture_at : (y p k x : ℕ) → k < c.columns → x < width_in c p k → get_or (sample_row c planes y p) (left_of c p k + x) 0 ≡ sample_at c planes p (left_of c p k + x) y
     picture_at y p k x inside small = row_at (plane_width c p) y (left_of c p k + x) (plane_samples c planes p) (inside_side (across (division_of c) p) (tiles p) k x inside small)
 

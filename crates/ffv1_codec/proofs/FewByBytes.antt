@@ -26,7 +26,7 @@ use Rattle.ffv1_codec.proofs.FewDecisions.{StepLaws, line_few, stop_few, reason_
 use Rattle.ffv1_codec.proofs.FewInFrame.{SliceLaws, few_in, frame_reached}
 
 -- a size over a factor is no greater
-reduced_less : (log2 n : ℕ) → reduced log2 n ≤ n
+pub reduced_less : (log2 n : ℕ) → reduced log2 n ≤ n
 unfolding reduced
 reduced_less log2 n =
     let d = 2 ^ log2 in

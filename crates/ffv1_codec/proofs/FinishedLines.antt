@@ -127,7 +127,7 @@ module _ (w : ℕ) (read coded alpha : List ℕ) (is : read ≡ coded ++ alpha) 
           (window_back (3 * w) w three out (sym three_long) (sym long) ∙ out_is ∙ fourth, λ x h. subst (λ z. z < 2 ^ depth) (same_fourth x) (small x));
     }
 
-    -- colours everywhere, and a place without transparency
+    -- colours everywhere, and a sample without transparency
     pub alpha_end : (three : List ℕ) (x : ℕ) → AreMade (plain depth w green blue) coded three → x < length alpha → ((y : ℕ) → y < x → slice_index alpha y < 2 ^ depth) → 2 ^ depth ≤ slice_index alpha x →
         IsFirstWithout (full depth w green blue) read x
     alpha_end three x made inside before above = record {
@@ -141,7 +141,7 @@ module _ (w : ℕ) (read coded alpha : List ℕ) (is : read ≡ coded ++ alpha) 
       none = λ both. let less = both.1 refl in let same = same_fourth x in absurd (omega (arith, less, same, above));
     }
 
-    -- a place without colours, and transparency before it
+    -- a sample without colours, and transparency before it
     pub colour_end : (x : ℕ) → IsFirstWithout (plain depth w green blue) coded x → ((y : ℕ) → y < x → slice_index alpha y < 2 ^ depth) → IsFirstWithout (full depth w green blue) read x
     colour_end x end before = record {
       inside = end.inside;
@@ -149,7 +149,7 @@ module _ (w : ℕ) (read coded alpha : List ℕ) (is : read ≡ coded ++ alpha) 
       none = λ both. end.none (has_back x both);
     }
 
-    -- a place without transparency before one without colours
+    -- a sample without transparency before one without colours
     pub sooner_end : (x y : ℕ) → IsFirstWithout (plain depth w green blue) coded x → y < x → ((z : ℕ) → z < y → slice_index alpha z < 2 ^ depth) → 2 ^ depth ≤ slice_index alpha y →
         IsFirstWithout (full depth w green blue) read y
     sooner_end x y end less before above = record {

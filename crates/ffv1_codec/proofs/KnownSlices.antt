@@ -26,7 +26,7 @@ use Rattle.ffv1_codec.proofs.FromCoded.{row_and_column}
 use Rattle.ffv1_codec.proofs.Totals.{total, total_is, total_append}
 
 -- a beginning of two lists is one of the first, or goes on into the second
-parts_of : {E : Type 0} (xs ys before after : List E) → xs ++ ys ≡ before ++ after →
+pub parts_of : {E : Type 0} (xs ys before after : List E) → xs ++ ys ≡ before ++ after →
     ((rest : List E) × (xs ≡ before ++ rest)) ⊎ ((more : List E) × (before ≡ xs ++ more) × (ys ≡ more ++ after))
 parts_of [] ys before after e = inr (before, refl, e)
 parts_of (x ∷ xs) ys [] after e = inl (x ∷ xs, refl)
@@ -44,7 +44,7 @@ last_of e (m ∷ []) [] parts = inr refl
 last_of e (m ∷ []) (b ∷ after) parts = cc
 last_of e (m ∷ (n ∷ more)) after parts = cc
 
-beginning_of : {E : Type 0} (f : ℕ → E) (from count : ℕ) (before rest : List E) → map f (range_with_len from count) ≡ before ++ rest →
+pub beginning_of : {E : Type 0} (f : ℕ → E) (from count : ℕ) (before rest : List E) → map f (range_with_len from count) ≡ before ++ rest →
     (few : ℕ) × (few ≤ count) × (before ≡ map f (range_with_len from few))
 beginning_of f from count [] rest e = (0, omega arith, refl)
 beginning_of f from zero (b ∷ before) rest e = cc
@@ -55,7 +55,7 @@ beginning_of f from (suc count) (b ∷ before) rest e =
     (suc more.0, omega (arith, more.1), ap (λ z. z ∷ before) (sym here) ∙ ap (λ z. f from ∷ z) more.2)
 
 module _ (a : Accepted) (coded : ℕ → List ℕ) (laws : PictureLaws a) where
-  codes_read : (r k : ℕ) (ls : List Line) (q : Slice) → k < a.configuration.columns → HasRead a coded r k ls q → CodesRead a coded (slice_number a.configuration r k) q ls
+  pub codes_read : (r k : ℕ) (ls : List Line) (q : Slice) → k < a.configuration.columns → HasRead a coded r k ls q → CodesRead a coded (slice_number a.configuration r k) q ls
   codes_read r k ls q inside has =
       let c = a.configuration in
       let place = row_and_column r k c.columns inside in
@@ -68,7 +68,7 @@ module _ (a : Accepted) (coded : ℕ → List ℕ) (laws : PictureLaws a) where
         within = has.within;
       }
 
-  list_is : (r k : ℕ) → k < a.configuration.columns → lines_in a.configuration (slice_number a.configuration r k) ≡ row_lines a.configuration r
+  pub list_is : (r k : ℕ) → k < a.configuration.columns → lines_in a.configuration (slice_number a.configuration r k) ≡ row_lines a.configuration r
   list_is r k inside = ap (row_lines a.configuration) (row_and_column r k a.configuration.columns inside).0
 
   -- what is known of a slice of row r in a column
@@ -76,7 +76,7 @@ module _ (a : Accepted) (coded : ℕ → List ℕ) (laws : PictureLaws a) where
   InColumn r k q = (q ≡ unread) ⊎ ((read : List Line) × (more : List Line) × (row_lines a.configuration r ≡ read ++ more) × HasRead a coded r k read q)
 
   -- the slices of the rows above row r are whole
-  record Above (r : ℕ) (s : State) : Type 0 where
+  pub record Above (r : ℕ) (s : State) : Type 0 where
     pub long : length s.done ≡ r * a.configuration.columns
     pub whole : (n : ℕ) → n < r * a.configuration.columns → CodesRead a coded n (get_or s.done n unread) (lines_in a.configuration n)
 
@@ -114,7 +114,7 @@ module _ (a : Accepted) (coded : ℕ → List ℕ) (laws : PictureLaws a) where
             ]
       ]
 
-  done_kept : (r : ℕ) (es : List Event) (s t : State) → Each (IsOfRow a.configuration r) es → Runs (StepsBy a coded) s es t → t.done ≡ s.done
+  pub done_kept : (r : ℕ) (es : List Event) (s t : State) → Each (IsOfRow a.configuration r) es → Runs (StepsBy a coded) s es t → t.done ≡ s.done
   done_kept r [] s t all f = ap (λ (z : State). z.done) f
   done_kept r (Open j k ∷ es) s t all f = absurd all.0
   done_kept r (Read j k p y ∷ es) s t all f = done_kept r es f.0 t all.1 f.2 ∙ ap (λ (z : State). z.done) f.1.3
@@ -122,7 +122,7 @@ module _ (a : Accepted) (coded : ℕ → List ℕ) (laws : PictureLaws a) where
   done_kept r (Hand j i p y ∷ es) s t all f = done_kept r es f.0 t all.1 f.2 ∙ ap (λ (z : State). z.done) f.1
   done_kept r (Close ∷ es) s t all f = absurd all.0
 
-  above_same : (r : ℕ) (s t : State) → t.done ≡ s.done → Above r s → Above r t
+  pub above_same : (r : ℕ) (s t : State) → t.done ≡ s.done → Above r s → Above r t
   above_same r s t same above = record {
     long = ap (λ qs. length qs) same ∙ above.long;
     whole = λ n inside. subst (λ qs. CodesRead a coded n (get_or qs n unread) (lines_in a.configuration n)) (sym same) (above.whole n inside);
@@ -139,20 +139,20 @@ module _ (a : Accepted) (coded : ℕ → List ℕ) (laws : PictureLaws a) where
   fresh_at (suc n) zero = refl
   fresh_at (suc n) (suc k) = fresh_at n k
 
-  record RowStart (r : ℕ) (s : State) : Type 0 where
+  pub record RowStart (r : ℕ) (s : State) : Type 0 where
     pub above : Above r s
     pub fresh : s.columns ≡ replicate a.configuration.columns unread
 
-  start_long : (r : ℕ) (s : State) → RowStart r s → length s.columns ≡ a.configuration.columns
+  pub start_long : (r : ℕ) (s : State) → RowStart r s → length s.columns ≡ a.configuration.columns
   start_long r s start = ap (λ qs. length qs) start.fresh ∙ length-replicate {A = Slice} a.configuration.columns unread
 
   -- the row is opened
-  record RowOpen (r : ℕ) (o : State) : Type 0 where
+  pub record RowOpen (r : ℕ) (o : State) : Type 0 where
     pub above : Above r o
     pub long : length o.columns ≡ a.configuration.columns
     pub have : AllHave a coded r laws.cells (some_wide a laws) [] o
 
-  row_open : (r : ℕ) (s o : State) → RowStart r s → Runs (StepsBy a coded) s (map (Open r) (range_with_len 0 a.configuration.columns)) o → RowOpen r o
+  pub row_open : (r : ℕ) (s o : State) → RowStart r s → Runs (StepsBy a coded) s (map (Open r) (range_with_len 0 a.configuration.columns)) o → RowOpen r o
   row_open r s o start f =
       let c = a.configuration in
       let long = start_long r s start in
@@ -180,7 +180,7 @@ module _ (a : Accepted) (coded : ℕ → List ℕ) (laws : PictureLaws a) where
       )
 
   -- a row that is whole
-  row_closed : (r : ℕ) (s t : State) → RowStart r s → Runs (StepsBy a coded) s (row_events a.configuration r) t → RowStart (suc r) t
+  pub row_closed : (r : ℕ) (s t : State) → RowStart r s → Runs (StepsBy a coded) s (row_events a.configuration r) t → RowStart (suc r) t
   row_closed r s t start f =
       let c = a.configuration in
       let lines = flat_map (series_events c r) (series_of c r) in
@@ -288,7 +288,7 @@ module _ (a : Accepted) (coded : ℕ → List ℕ) (laws : PictureLaws a) where
             rows_known (from + 1) count later.0 after split.0 t (subst (λ n. RowStart n split.0) next (row_closed from s split.0 start split.1)) later.2 split.2
       ]
 
-  first_start : RowStart 0 (at_first a.configuration)
+  pub first_start : RowStart 0 (at_first a.configuration)
   first_start = record { above = record { long = omega arith; whole = λ n inside. absurd (omega (arith, inside)) }; fresh = refl }
 
   pub known_before : (before after : List Event) (s : State) → events_of a.configuration ≡ before ++ after → Runs (StepsBy a coded) (at_first a.configuration) before s → KnownAt s

@@ -1,5 +1,10 @@
 pub mod CodedSamples
 pub mod Lines
+pub mod PlacesOnce
+pub mod HandedLines
+pub mod HandedAnswers
+pub mod FrameCost
+pub mod OneOutcome
 pub mod RowsShown
 pub mod Windows
 pub mod Classes
@@ -12,6 +17,8 @@ pub mod Aspects
 mod Words
 mod Sizes
 mod WrittenParts
+mod WordLines
+mod WideLines
 mod ByNumber
 mod ClassRoom
 mod SegmentReads

@@ -23,7 +23,7 @@ use Rattle.ffv1_codec.proofs.CellsShown.{down_alike}
 use Rattle.ffv1_codec.proofs.LineFinished.{reduced_none}
 
 module _ (c : Configuration) where
-  -- the line of a picture at a place
+  -- the line of a picture at a sample
   abbrev pub line_at : Planes → ℕ × ℕ → Line
   line_at planes k = line_in c planes k.1 k.0
 

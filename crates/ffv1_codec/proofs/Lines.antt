@@ -31,7 +31,7 @@ plane_of [] p v inside is = absurd (omega (arith, inside))
 plane_of (w ∷ ws) zero v inside is = ap (λ (u : Vec ℕ _). u.items) (sym is)
 plane_of (w ∷ ws) (suc p) v inside is = plane_of ws p v (omega (arith, inside)) is
 
--- so many samples of bytes from a place on
+-- so many samples of bytes from a position on
 part_long : (b start wide long : ℕ) → b * (start + wide) ≤ long → b * start + b * wide ≤ long
 part_long b start wide long fits = omega (arith, fits)
 

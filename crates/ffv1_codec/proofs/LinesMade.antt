@@ -61,7 +61,7 @@ module _ (c : Configuration) (r : ℕ) where
   pub reads_of_row : (g : Group) → IsGroup c r g → Each (IsOfRow c r) (flat_map (column_events r g.planes g.y) (range_with_len 0 c.columns))
   reads_of_row g is = each_range (IsOfRow c r) (column_events r g.planes g.y) 0 c.columns (λ k least most. column_of_row g.planes k g.y (omega (arith, most)) is.inside)
 
-  group_of_row : (g : Group) → IsGroup c r g → Each (IsOfRow c r) (group_events c r g)
+  pub group_of_row : (g : Group) → IsGroup c r g → Each (IsOfRow c r) (group_events c r g)
   group_of_row g is =
       each_append (IsOfRow c r) (flat_map (column_events r g.planes g.y) (range_with_len 0 c.columns)) (Finish r g.planes g.y ∷ hand_events r g.planes g.y)
       (reads_of_row g is)
@@ -103,7 +103,7 @@ module _ (a : Accepted) (coded : ℕ → List ℕ) (r : ℕ) where
     pub columns : t.columns ≡ middle.columns
     pub lines : t.lines ≡ s.lines ++ map (handed a.configuration r g.y out) (numbered 0 g.planes)
 
-  hands_made : (y : ℕ) (ips : List (ℕ × ℕ)) (s t : State) → Runs (StepsBy a coded) s (map (λ (ip : ℕ × ℕ). Hand r ip.0 ip.1 y) ips) t →
+  pub hands_made : (y : ℕ) (ips : List (ℕ × ℕ)) (s t : State) → Runs (StepsBy a coded) s (map (λ (ip : ℕ × ℕ). Hand r ip.0 ip.1 y) ips) t →
       (t.columns ≡ s.columns) × (t.lines ≡ s.lines ++ map (handed a.configuration r y s.out) ips)
   hands_made y [] s t f = (ap (λ (z : State). z.columns) f, ap (λ (z : State). z.lines) f ∙ sym (append-nil s.lines))
   hands_made y (ip ∷ ips) s t f =
@@ -113,7 +113,7 @@ module _ (a : Accepted) (coded : ℕ → List ℕ) (r : ℕ) where
         rest.1 ∙ ap (λ (z : State). z.lines ++ map (handed a.configuration r y z.out) ips) f.1 ∙ append_assoc s.lines (here ∷ []) (map (handed a.configuration r y s.out) ips),
       )
 
-  reads_keep : (es : List Event) (s t : State) → Each IsReading es → Runs (StepsBy a coded) s es t → t.lines ≡ s.lines
+  pub reads_keep : (es : List Event) (s t : State) → Each IsReading es → Runs (StepsBy a coded) s es t → t.lines ≡ s.lines
   reads_keep [] s t all f = ap (λ (z : State). z.lines) f
   reads_keep (Read j k p y ∷ es) s t all f = reads_keep es f.0 t all.1 f.2 ∙ ap (λ (z : State). z.lines) f.1.3
   reads_keep (Open j k ∷ es) s t all f = absurd all.0

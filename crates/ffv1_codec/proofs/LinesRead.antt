@@ -44,7 +44,7 @@ column_reads r k j y (p ∷ planes) false e =
     ap (λ b. (if b then record { plane = p; y = y } ∷ [] else []) ++ reads_of k (column_events r planes y j)) e
     ∙ column_reads r k j y planes false e
 
-hands_read : (r k y : ℕ) (ips : List (ℕ × ℕ)) → reads_of k (map (λ (ip : ℕ × ℕ). Hand r ip.0 ip.1 y) ips) ≡ []
+pub hands_read : (r k y : ℕ) (ips : List (ℕ × ℕ)) → reads_of k (map (λ (ip : ℕ × ℕ). Hand r ip.0 ip.1 y) ips) ≡ []
 hands_read r k y [] = refl
 hands_read r k y (ip ∷ ips) = hands_read r k y ips
 

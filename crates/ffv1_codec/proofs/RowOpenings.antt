@@ -46,7 +46,7 @@ module _ (a : Accepted) (coded : ℕ → List ℕ) (payload : List ℕ) (r : ℕ
     column_other : (j : ℕ) → j ≢ n → column_at (slice_set columns n column) j ≡ column_at columns j
     column_other j other = get_or-set_other columns n j column no_column other
 
-    -- what is told when the slice of this column becomes another one
+    -- what is counted when the slice of this column becomes another one
     told_with : (m : State) → m.columns ≡ before.state.columns → (q : Slice) → told_by column.parked ≡ tally_behind a.table q.past → AreTold a.table (slice_set columns n column) (put_slice m n q)
     told_with m same q here = record {
       long = length-set m.columns n q ∙ ap (λ (z : List Slice). length z) same ∙ before.told.long ∙ sym (length-set columns n column);

@@ -78,7 +78,7 @@ coded_here c planes p u v rct = ap (λ k. if k then transformed_at c planes p u 
 three : {X : Type 0} (f : ℕ → ℕ → ℕ → X) (a b d k l m : ℕ) → a ≡ k → b ≡ l → d ≡ m → f a b d ≡ f k l m
 three f a b d k l m p q r = ap (λ z. f z b d) p ∙ ap (λ z. f k z d) q ∙ ap (λ z. f k l z) r
 
--- what is coded of plane p at a place of its cell
+-- what is coded of plane p at a sample of its cell
 coded_cell : (c : Configuration) (planes : Planes) (n p x y : ℕ) → is_rct c.colour ≡ true → c.log2_h ≡ 0 → c.log2_v ≡ 0 →
     transformed_at c planes p (left_of c n 0 + x) (top_of c n 0 + y) ≡ (cell_in c planes n p).at x y
 coded_cell c planes n p x y rct flat_h flat_v =

@@ -174,3 +174,12 @@ pub all_pairs : (row bytes : List ℕ) (x : ℕ) → length bytes ≡ 2 * length
 all_pairs row bytes x long past same =
     let few : length (numbers_of_pairs bytes) ≡ length row = length_numbers (length row) bytes long in
     sym (take_all x row past) ∙ same ∙ take_all x (numbers_of_pairs bytes) (omega (arith, few, past))
+
+-- one number more is that of another list, and all of them
+pub more_same : (row xs : List ℕ) (x value : ℕ) → length xs ≡ length row → x < length row → value ≡ get_or xs x 0 → take x row ≡ take x xs → take (suc x) (set row x value) ≡ take (suc x) xs
+more_same row xs x value long inside is before =
+    take-suc-set row x value inside ∙ ap (λ ys. ys ++ (value ∷ [])) before ∙ ap (λ n. take x xs ++ (n ∷ [])) is
+    ∙ sym (take-suc xs x 0 (omega (arith, long, inside)))
+
+pub all_same : (row xs : List ℕ) (x : ℕ) → length xs ≡ length row → length row ≤ x → take x row ≡ take x xs → row ≡ xs
+all_same row xs x long past same = sym (take_all x row past) ∙ same ∙ take_all x xs (omega (arith, long, past))

@@ -25,43 +25,45 @@ pub record IsLine (c : Configuration) (planes : Planes) (n p y : ℕ) (line : Li
       sample_at c planes p (begin_of (across (division_of c) p) (n % c.columns) + x)
       (begin_of (down (division_of c) p) (n / c.columns) + y)
 
--- the rows two and one above row y of a cell, and room for that row
-pub record Rolled {A : Type 0} (c : Cell) (y : ℕ) (rows : RollingRows (Vec ℕ A)) : Type 0 where
-  pub above : Above c y rows.two.items rows.one.items
-  pub two_long : length rows.two.items ≡ c.width
-  pub cur_long : length rows.cur.items ≡ c.width
+-- the rows two and one above row y of a cell, and room for that row, in words that show samples
+pub record Rolled {W A : Type 0} (samples : List W → List ℕ) (c : Cell) (y : ℕ)
+    (rows : RollingRows (Vec W A)) : Type 0 where
+  pub above : Above c y (samples rows.two.items) (samples rows.one.items)
+  pub two_long : length (samples rows.two.items) ≡ c.width
+  pub cur_long : length (samples rows.cur.items) ≡ c.width
 
 -- the same, and row y itself
-pub record Loaded {A : Type 0} (c : Cell) (y : ℕ) (rows : RollingRows (Vec ℕ A)) : Type 0 where
-  pub above : Above c y rows.two.items rows.one.items
-  pub two_long : length rows.two.items ≡ c.width
-  pub cur_long : length rows.cur.items ≡ c.width
-  pub shows : Shows c (suc (suc y)) rows.cur.items c.width
+pub record Loaded {W A : Type 0} (samples : List W → List ℕ) (c : Cell) (y : ℕ)
+    (rows : RollingRows (Vec W A)) : Type 0 where
+  pub above : Above c y (samples rows.two.items) (samples rows.one.items)
+  pub two_long : length (samples rows.two.items) ≡ c.width
+  pub cur_long : length (samples rows.cur.items) ≡ c.width
+  pub shows : Shows c (suc (suc y)) (samples rows.cur.items) c.width
 
 -- the same of each plane that there is in RCT
-pub record AllRolled {A : Type 0} (c : Configuration) (planes : Planes) (n y : ℕ)
-    (rows : PlaneRows A) : Type 0 where
-  pub first : Rolled (cell_in c planes n 0) y rows.first
-  pub second : Rolled (cell_in c planes n 1) y rows.second
-  pub third : Rolled (cell_in c planes n 2) y rows.third
-  pub fourth : c.extra_plane ≡ true → Rolled (cell_in c planes n 3) y rows.fourth
+pub record AllRolled {W A : Type 0} (samples : List W → List ℕ) (c : Configuration)
+    (planes : Planes) (n y : ℕ) (rows : PlaneRows W A) : Type 0 where
+  pub first : Rolled samples (cell_in c planes n 0) y rows.first
+  pub second : Rolled samples (cell_in c planes n 1) y rows.second
+  pub third : Rolled samples (cell_in c planes n 2) y rows.third
+  pub fourth : c.extra_plane ≡ true → Rolled samples (cell_in c planes n 3) y rows.fourth
 
-pub record AllLoaded {A : Type 0} (c : Configuration) (planes : Planes) (n y : ℕ)
-    (rows : PlaneRows A) : Type 0 where
-  pub first : Loaded (cell_in c planes n 0) y rows.first
-  pub second : Loaded (cell_in c planes n 1) y rows.second
-  pub third : Loaded (cell_in c planes n 2) y rows.third
-  pub fourth : c.extra_plane ≡ true → Loaded (cell_in c planes n 3) y rows.fourth
+pub record AllLoaded {W A : Type 0} (samples : List W → List ℕ) (c : Configuration)
+    (planes : Planes) (n y : ℕ) (rows : PlaneRows W A) : Type 0 where
+  pub first : Loaded samples (cell_in c planes n 0) y rows.first
+  pub second : Loaded samples (cell_in c planes n 1) y rows.second
+  pub third : Loaded samples (cell_in c planes n 2) y rows.third
+  pub fourth : c.extra_plane ≡ true → Loaded samples (cell_in c planes n 3) y rows.fourth
 
 -- the same of the planes of red, green and blue alone
-pub record ColoursRolled {A : Type 0} (c : Configuration) (planes : Planes) (n y : ℕ)
-    (first second third : RollingRows (Vec ℕ A)) : Type 0 where
-  pub luma : Rolled (cell_in c planes n 0) y first
-  pub blue : Rolled (cell_in c planes n 1) y second
-  pub red : Rolled (cell_in c planes n 2) y third
+pub record ColoursRolled {W A : Type 0} (samples : List W → List ℕ) (c : Configuration)
+    (planes : Planes) (n y : ℕ) (first second third : RollingRows (Vec W A)) : Type 0 where
+  pub luma : Rolled samples (cell_in c planes n 0) y first
+  pub blue : Rolled samples (cell_in c planes n 1) y second
+  pub red : Rolled samples (cell_in c planes n 2) y third
 
-pub record ColoursLoaded {A : Type 0} (c : Configuration) (planes : Planes) (n y : ℕ)
-    (first second third : RollingRows (Vec ℕ A)) : Type 0 where
-  pub luma : Loaded (cell_in c planes n 0) y first
-  pub blue : Loaded (cell_in c planes n 1) y second
-  pub red : Loaded (cell_in c planes n 2) y third
+pub record ColoursLoaded {W A : Type 0} (samples : List W → List ℕ) (c : Configuration)
+    (planes : Planes) (n y : ℕ) (first second third : RollingRows (Vec W A)) : Type 0 where
+  pub luma : Loaded samples (cell_in c planes n 0) y first
+  pub blue : Loaded samples (cell_in c planes n 1) y second
+  pub red : Loaded samples (cell_in c planes n 2) y third

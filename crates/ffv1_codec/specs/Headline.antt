@@ -1,11 +1,13 @@
 -- What a call of the decoder is for, whatever the payload and the sink.
-use Rattle.std.specs.Prelude.{◌≡◌, ℕ, ◌<◌, ◌≤◌, ◌==◌, Result, Ok, MatchResult, List, map, length}
+use Rattle.std.specs.Prelude.{◌≡◌, ℕ, ◌<◌, ◌≤◌, ◌==◌, Result, Ok, MatchResult, List, [], ◌∷◌}
+use Rattle.std.specs.Prelude.{map, length}
 use Rattle.std.specs.List.{filter, range_with_len}
 use Rattle.ffv1_wire.specs.Runs.{LineStep, Line, Grows}
 use Rattle.ffv1_wire.specs.Runs as wire
 use Rattle.ffv1_range.specs.declared.tally.Tally.{Tally}
 use Rattle.ffv1_range.specs.Standard.{standard}
 use Rattle.ffv1_range.specs.Renormalising.{decisions_a_byte}
+use Rattle.ffv1_record.specs.Configuration.{Configuration}
 use Rattle.ffv1_record.specs.Accepted.{Accepted}
 use Rattle.ffv1_record.specs.Held.{held_of}
 use Rattle.ffv1_record.specs.declared.config.Profile.TheVariants as profile
@@ -15,7 +17,7 @@ use Rattle.ffv1_codec.specs.declared.fault.FrameFault.{FrameFault}
 use Rattle.ffv1_codec.specs.Picture.{Planes, IsPicture, plane_count, plane_height}
 use Rattle.ffv1_codec.specs.SliceList.{Said}
 use Rattle.ffv1_codec.specs.Frame.{IsSaid, CodesPicture, HasLongSlice, frame_of}
-use Rattle.ffv1_codec.specs.Lines.{lines_of}
+use Rattle.ffv1_codec.specs.Lines.{line_in, lines_of}
 use Rattle.ffv1_codec.specs.Length.{frame_most}
 use Rattle.ffv1_codec.specs.Bounds.{most_decisions, most_by_bytes, most_by_standard}
 use Rattle.ffv1_codec.specs.Answer.{decided_by}
@@ -27,6 +29,18 @@ StandsOnce a planes =
     map (λ (l : Line). l.row)
     (filter (λ (l : Line). l.plane == p) (lines_of a.configuration planes))
     ≡ range_with_len 0 (plane_height a.configuration p)
+
+-- the lines in row y of plane p
+abbrev pub lines_at : ℕ → ℕ → List Line → List Line
+lines_at p y lines = filter (λ (l : Line). l.row == y) (filter (λ (l : Line). l.plane == p) lines)
+
+-- among the lines of a picture there is at each place of its planes that line of it, once, and at
+-- no other place any
+pub record StandsAtEachPlace (c : Configuration) (planes : Planes) : Type 0 where
+  pub inside : (p y : ℕ) → p < plane_count c → y < plane_height c p →
+      lines_at p y (lines_of c planes) ≡ line_in c planes y p ∷ []
+  pub plane : (p y : ℕ) → plane_count c ≤ p → lines_at p y (lines_of c planes) ≡ []
+  pub row : (p y : ℕ) → plane_height c p ≤ y → lines_at p y (lines_of c planes) ≡ []
 
 -- the frames that an encoder writes are short: 2 n + 1 bytes for a residual of n binary digits, and
 -- for a slice 109, 6 more with transparency, 2 with more than 16 columns, and 2 with more than 16

@@ -22,9 +22,12 @@ pub mod Opened
 pub mod Tallies
 pub mod Rows
 pub mod Bounds
+pub mod Cost
+pub mod Outcome
 pub mod Buffers
 pub mod Headline
 pub mod Known
+pub mod Handed
 pub mod Sides
 pub mod Damage
 pub mod DecodeFaults

@@ -13,7 +13,7 @@ pub record Tiles (s : Side) : Type 0 where
   pub last : begin_of s s.count ≡ whole_of s
   pub some : (k : ℕ) → k < s.count → 0 < length_of s k
 
--- a place lies in some part
+-- a position lies in some part
 pub record HasPart (s : Side) (x : ℕ) : Type 0 where
   pub part : ℕ
   pub lies : Lies s x part

@@ -1,6 +1,7 @@
 //! What a decoder of frames holds, and what of it its parts are lent.
 
 use crate::column::Column;
+use ffv1_line::Word;
 use std::alloc::Allocator;
 
 /// The slices of a row, one in each column.
@@ -12,22 +13,31 @@ pub struct Slices<A: Allocator> {
     pub states: Vec<u8, A>,
 }
 
+/// Lines of samples, in words of 16 bits or of 32.
+#[derive(Drop)]
+pub enum Lines<A: Allocator> {
+    /// Of up to 16 bits a sample.
+    Narrow(Vec<u16, A>),
+    /// Of 17 bits a sample.
+    Wide(Vec<u32, A>),
+}
+
 /// What a frame is decoded in, whatever its height.
 #[derive(Drop)]
 pub struct Buffers<A: Allocator> {
     /// The slices of a row.
     pub slices: Slices<A>,
     /// Three lines of the planes that are coded together: two that were read, and one that is.
-    pub lines: Vec<u16, A>,
+    pub lines: Lines<A>,
     /// A line as it is handed over.
     pub out: Vec<u8, A>,
 }
 
 /// The two lines above one that is read.
 #[derive(Clone, Copy)]
-pub struct Above<'a> {
+pub struct Above<'a, W: Word> {
     /// The upper one.
-    pub two: &'a [u16],
+    pub two: &'a [W],
     /// The lower one.
-    pub one: &'a [u16],
+    pub one: &'a [W],
 }

@@ -1,34 +1,37 @@
 //! The rows of a slice's cells, read from its picture.
 
+ghost use Rattle.std.specs.Prelude.{vec_capacity};
 ghost use Rattle.std.specs.Prelude.{◌≡◌, ◌+◌, ◌*◌, ◌^◌, ◌<◌, ◌≤◌, ℕ, length, replicate, OnOk, true};
 ghost use Rattle.ffv1_samples.specs.Samples.{AreBelow, numbers_of_pairs, sample_bytes, samples_of};
 ghost use Rattle.ffv1_rct.specs.Lines.{AreCoded, AreCodedIn};
 ghost use Rattle.ffv1_record.specs.Configuration.{Configuration, is_rct};
 ghost use Rattle.ffv1_codec.specs.Picture.{Planes, plane_count, cell_in, cell_height, coded_at};
 ghost use Rattle.ffv1_codec.specs.Picture.{sample_at};
+ghost use Rattle.ffv1_codec.specs.SliceList.{bits_of};
 ghost use Rattle.ffv1_codec.specs.CellRows.{Rolled, Loaded, AllRolled, AllLoaded};
 ghost use Rattle.ffv1_codec.specs.CellRows.{ColoursRolled, ColoursLoaded};
 
+use crate::line_word::LineWord;
 use crate::places_of_colours::{blue_of, green_of};
 use crate::slice::Slice;
-use ffv1_line::RollingRows;
 use ffv1_line::laws::rolling;
-use ffv1_rct::{forward_line, forward_words};
+use ffv1_line::{RollingRows, Word};
+use ffv1_rct::{forward_line, forward_wide, forward_words};
 use ffv1_record::laws::{accepted, accepted_parts};
 use std::alloc::{AllocError, Allocator};
 
 /// The rolling rows of the planes that are coded line by line together: one plane after the other
 /// in the first of them, and in RCT Y, Cb, Cr and transparency each in its own.
 #[derive(Drop)]
-pub(crate) struct PlaneRows<A: Allocator> {
-    pub(crate) first: RollingRows<Vec<u16, A>>,
-    pub(crate) second: RollingRows<Vec<u16, A>>,
-    pub(crate) third: RollingRows<Vec<u16, A>>,
-    pub(crate) fourth: RollingRows<Vec<u16, A>>,
+pub(crate) struct PlaneRows<W: Word, A: Allocator> {
+    pub(crate) first: RollingRows<Vec<W, A>>,
+    pub(crate) second: RollingRows<Vec<W, A>>,
+    pub(crate) third: RollingRows<Vec<W, A>>,
+    pub(crate) fourth: RollingRows<Vec<W, A>>,
 }
 
 /// Rows of no width. They take no memory.
-fn no_rows<A: Allocator + Copy>(alloc: A) -> RollingRows<Vec<u16, A>> {
+fn no_rows<W: Word, A: Allocator + Copy>(alloc: A) -> RollingRows<Vec<W, A>> {
     RollingRows {
         two: Vec::new(alloc),
         one: Vec::new(alloc),
@@ -36,11 +39,12 @@ fn no_rows<A: Allocator + Copy>(alloc: A) -> RollingRows<Vec<u16, A>> {
     }
 }
 
-impl<A: Allocator> PlaneRows<A> {
+impl<W: Word, A: Allocator> PlaneRows<W, A> {
     /// Goes on to the next row of each plane.
     pub(crate) fn turn(&mut self)
         ensures { (c : Configuration) (planes : Planes) (n y : ℕ) →
-            AllLoaded c planes n y self.old → AllRolled c planes n (y + 1) self.new }
+            AllLoaded W.samples c planes n y self.old →
+            AllRolled W.samples c planes n (y + 1) self.new }
     {
         rolling();
         self.first.turn();
@@ -50,9 +54,9 @@ impl<A: Allocator> PlaneRows<A> {
     }
 }
 
-impl<A: Allocator + Copy> PlaneRows<A> {
+impl<W: Word, A: Allocator + Copy> PlaneRows<W, A> {
     /// Rows of no width. They take no memory.
-    pub(crate) fn new(alloc: A) -> PlaneRows<A> {
+    pub(crate) fn new(alloc: A) -> PlaneRows<W, A> {
         PlaneRows {
             first: no_rows(alloc),
             second: no_rows(alloc),
@@ -62,37 +66,31 @@ impl<A: Allocator + Copy> PlaneRows<A> {
     }
 }
 
-/// So many zeros, in the memory that a row has where they find room in it.
-fn clear<A: Allocator>(row: &mut Vec<u16, A>, width: usize) -> Result<(), AllocError>
-    ensures { OnOk result (row.new.items ≡ replicate width 0) }
-{
-    row.resize(width, 0)?;
-    row.fill(0);
-    Ok(())
-}
-
 /// The rows above the first of a cell, which are zeros (RFC 9043, 3.1), and room for it.
-pub(crate) fn restart<A: Allocator>(
-    rows: &mut RollingRows<Vec<u16, A>>,
+pub(crate) fn restart<W: LineWord, A: Allocator>(
+    rows: &mut RollingRows<Vec<W, A>>,
     width: usize,
 ) -> Result<(), AllocError>
-    ensures two { OnOk result (rows.new.two.items ≡ replicate width 0) }
-    ensures one { OnOk result (rows.new.one.items ≡ replicate width 0) }
-    ensures cur { OnOk result (rows.new.cur.items ≡ replicate width 0) }
+    ensures two { OnOk result (W.samples rows.new.two.items ≡ replicate width 0) }
+    ensures one { OnOk result (W.samples rows.new.one.items ≡ replicate width 0) }
+    ensures cur { OnOk result (W.samples rows.new.cur.items ≡ replicate width 0) }
+    ensures two_room { vec_capacity rows.old.two ≤ vec_capacity rows.new.two }
+    ensures one_room { vec_capacity rows.old.one ≤ vec_capacity rows.new.one }
+    ensures cur_room { vec_capacity rows.old.cur ≤ vec_capacity rows.new.cur }
 {
-    clear(&mut rows.two, width)?;
-    clear(&mut rows.one, width)?;
-    clear(&mut rows.cur, width)?;
+    W::renew(&mut rows.two, width)?;
+    W::renew(&mut rows.one, width)?;
+    W::renew(&mut rows.cur, width)?;
     Ok(())
 }
 
 /// The same of transparency, where there is such a plane.
-fn restart_transparency<R: Allocator, A: Allocator, B: Allocator>(
-    rows: &mut RollingRows<Vec<u16, R>>,
+fn restart_transparency<W: LineWord, R: Allocator, A: Allocator, B: Allocator>(
+    rows: &mut RollingRows<Vec<W, R>>,
     slice: &Slice<'_, A, B>,
 ) -> Result<(), AllocError>
     ensures { OnOk result (slice.now.checked.now.configuration.extra_plane ≡ true →
-        Rolled (cell_in slice.now.checked.now.configuration slice.now.picture.now
+        Rolled W.samples (cell_in slice.now.checked.now.configuration slice.now.picture.now
         slice.now.number 3) 0 rows.new) }
 {
     rolling();
@@ -103,12 +101,12 @@ fn restart_transparency<R: Allocator, A: Allocator, B: Allocator>(
 }
 
 /// The rows above the first of each plane's cell in RCT, and room for it.
-pub(crate) fn restart_all<R: Allocator, A: Allocator, B: Allocator>(
-    rows: &mut PlaneRows<R>,
+pub(crate) fn restart_all<W: LineWord, R: Allocator, A: Allocator, B: Allocator>(
+    rows: &mut PlaneRows<W, R>,
     slice: &Slice<'_, A, B>,
 ) -> Result<(), AllocError>
-    ensures { OnOk result (AllRolled slice.now.checked.now.configuration slice.now.picture.now
-        slice.now.number 0 rows.new) }
+    ensures { OnOk result (AllRolled W.samples slice.now.checked.now.configuration
+        slice.now.picture.now slice.now.number 0 rows.new) }
 {
     rolling();
     restart(&mut rows.first, slice.cell(0).width as usize)?;
@@ -119,29 +117,33 @@ pub(crate) fn restart_all<R: Allocator, A: Allocator, B: Allocator>(
 }
 
 /// Samples of 8 bits as they are coded.
-fn widen(samples: &[u8], row: &mut [u16])
+fn widen<W: LineWord>(samples: &[u8], row: &mut [W])
     requires { length samples.now ≡ length row.old }
-    ensures { row.new ≡ samples.now }
+    ensures { W.samples row.new ≡ samples.now }
 {
     for x in 0..row.len() {
-        row[x] = u16::from(samples[x]);
+        W::write(row, x, u32::from(samples[x]));
     }
 }
 
 /// Samples of more than 8 bits, each of two bytes, the low byte first.
-fn widen_pairs(samples: &[u8], row: &mut [u16])
+fn widen_pairs<W: LineWord>(samples: &[u8], row: &mut [W])
     requires { length samples.now ≡ 2 * length row.old }
-    ensures { row.new ≡ numbers_of_pairs samples.now }
+    ensures { W.samples row.new ≡ numbers_of_pairs samples.now }
 {
     for x in 0..row.len() {
-        row[x] = u16::from(samples[2 * x]) + 256 * u16::from(samples[2 * x + 1]);
+        W::write(
+            row,
+            x,
+            u32::from(samples[2 * x]) + 256 * u32::from(samples[2 * x + 1]),
+        );
     }
 }
 
 /// Samples of a depth as they are coded.
-fn widen_to(depth: u32, samples: &[u8], row: &mut [u16])
+fn widen_to<W: LineWord>(depth: u32, samples: &[u8], row: &mut [W])
     requires { length samples.now ≡ sample_bytes depth * length row.old }
-    ensures { row.new ≡ samples_of depth samples.now }
+    ensures { W.samples row.new ≡ samples_of depth samples.now }
 {
     if depth == 8 {
         return widen(samples, row);
@@ -150,9 +152,9 @@ fn widen_to(depth: u32, samples: &[u8], row: &mut [u16])
 }
 
 /// The same into a row that is kept.
-fn fill<R: Allocator>(depth: u32, samples: &[u8], row: &mut Vec<u16, R>)
+fn fill<W: LineWord, R: Allocator>(depth: u32, samples: &[u8], row: &mut Vec<W, R>)
     requires { length samples.now ≡ sample_bytes depth * length row.old.items }
-    ensures { row.new.items ≡ samples_of depth samples.now }
+    ensures { W.samples row.new.items ≡ samples_of depth samples.now }
 {
     widen_to(depth, samples, row.as_mut_slice());
 }
@@ -187,36 +189,81 @@ fn transform<R: Allocator>(
     );
 }
 
-/// The transform of lines of red, green and blue of more than 8 bits, in rows that are kept.
-fn transform_words<R: Allocator>(
-    depth: u32,
-    first: &mut Vec<u16, R>,
-    second: &mut Vec<u16, R>,
-    third: &mut Vec<u16, R>,
-)
-    requires depth { depth ≤ 15 }
-    requires second { length second.old.items ≡ length first.old.items }
-    requires third { length third.old.items ≡ length first.old.items }
-    requires red { AreBelow (2 ^ depth) first.old.items }
-    requires green { AreBelow (2 ^ depth) second.old.items }
-    requires blue { AreBelow (2 ^ depth) third.old.items }
-    ensures coded { AreCodedIn depth (length first.old.items) first.old.items second.old.items
-        third.old.items first.new.items second.new.items third.new.items }
-    ensures y { length first.new.items ≡ length first.old.items }
-    ensures cb { length second.new.items ≡ length first.old.items }
-    ensures cr { length third.new.items ≡ length first.old.items }
+/// The transform of lines of red, green and blue of 16 bits, in place.
+fn transform_wide(depth: u32, first: &mut [u32], second: &mut [u32], third: &mut [u32])
+    requires depth { depth ≡ 16 }
+    requires second { length second.old ≡ length first.old }
+    requires third { length third.old ≡ length first.old }
+    requires red { AreBelow (2 ^ depth) first.old }
+    requires green { AreBelow (2 ^ depth) second.old }
+    requires blue { AreBelow (2 ^ depth) third.old }
+    ensures { AreCodedIn depth (length first.old) first.old second.old third.old first.new
+        second.new third.new }
 {
-    forward_words(
+    forward_wide(first, second, third);
+}
+
+/// Words in whose lines samples of more than 8 bits are transformed.
+pub(crate) trait RowWord: LineWord {
+    /// The transform of lines of red, green and blue of more than 8 bits, in place.
+    fn transform(depth: u32, first: &mut [Self], second: &mut [Self], third: &mut [Self])
+        requires bits { Self.holds (depth + 1) }
+        requires second { length (Self.samples second.old) ≡ length (Self.samples first.old) }
+        requires third { length (Self.samples third.old) ≡ length (Self.samples first.old) }
+        requires red { AreBelow (2 ^ depth) (Self.samples first.old) }
+        requires green { AreBelow (2 ^ depth) (Self.samples second.old) }
+        requires blue { AreBelow (2 ^ depth) (Self.samples third.old) }
+        ensures coded { AreCodedIn depth (length (Self.samples first.old))
+            (Self.samples first.old) (Self.samples second.old) (Self.samples third.old)
+            (Self.samples first.new) (Self.samples second.new) (Self.samples third.new) }
+        ensures y { length (Self.samples first.new) ≡ length (Self.samples first.old) }
+        ensures cb { length (Self.samples second.new) ≡ length (Self.samples first.old) }
+        ensures cr { length (Self.samples third.new) ≡ length (Self.samples first.old) };
+}
+
+impl RowWord for u16 {
+    fn transform(depth: u32, first: &mut [u16], second: &mut [u16], third: &mut [u16]) {
+        forward_words(first, second, third, depth as u8);
+    }
+}
+
+impl RowWord for u32 {
+    fn transform(depth: u32, first: &mut [u32], second: &mut [u32], third: &mut [u32]) {
+        transform_wide(depth, first, second, third);
+    }
+}
+
+/// The same in rows that are kept.
+fn transform_words<W: RowWord, R: Allocator>(
+    depth: u32,
+    first: &mut Vec<W, R>,
+    second: &mut Vec<W, R>,
+    third: &mut Vec<W, R>,
+)
+    requires bits { W.holds (depth + 1) }
+    requires second { length (W.samples second.old.items) ≡ length (W.samples first.old.items) }
+    requires third { length (W.samples third.old.items) ≡ length (W.samples first.old.items) }
+    requires red { AreBelow (2 ^ depth) (W.samples first.old.items) }
+    requires green { AreBelow (2 ^ depth) (W.samples second.old.items) }
+    requires blue { AreBelow (2 ^ depth) (W.samples third.old.items) }
+    ensures coded { AreCodedIn depth (length (W.samples first.old.items))
+        (W.samples first.old.items) (W.samples second.old.items) (W.samples third.old.items)
+        (W.samples first.new.items) (W.samples second.new.items) (W.samples third.new.items) }
+    ensures y { length (W.samples first.new.items) ≡ length (W.samples first.old.items) }
+    ensures cb { length (W.samples second.new.items) ≡ length (W.samples first.old.items) }
+    ensures cr { length (W.samples third.new.items) ≡ length (W.samples first.old.items) }
+{
+    W::transform(
+        depth,
         first.as_mut_slice(),
         second.as_mut_slice(),
         third.as_mut_slice(),
-        depth as u8,
     );
 }
 
 /// Row y of a plane whose samples are coded as they are.
-pub(crate) fn load<R: Allocator, A: Allocator, B: Allocator>(
-    rows: &mut RollingRows<Vec<u16, R>>,
+pub(crate) fn load<W: LineWord, R: Allocator, A: Allocator, B: Allocator>(
+    rows: &mut RollingRows<Vec<W, R>>,
     slice: &Slice<'_, A, B>,
     plane: u32,
     y: u32,
@@ -226,10 +273,10 @@ pub(crate) fn load<R: Allocator, A: Allocator, B: Allocator>(
     requires plain { (u v : ℕ) →
         coded_at slice.now.checked.now.configuration slice.now.picture.now plane u v
         ≡ sample_at slice.now.checked.now.configuration slice.now.picture.now plane u v }
-    requires rolled { Rolled
+    requires rolled { Rolled W.samples
         (cell_in slice.now.checked.now.configuration slice.now.picture.now slice.now.number plane) y
         rows.old }
-    ensures { Loaded
+    ensures { Loaded W.samples
         (cell_in slice.now.checked.now.configuration slice.now.picture.now slice.now.number plane) y
         rows.new }
 {
@@ -237,17 +284,17 @@ pub(crate) fn load<R: Allocator, A: Allocator, B: Allocator>(
 }
 
 /// Row y of transparency in RCT, where there is such a plane.
-fn load_transparency<R: Allocator, A: Allocator, B: Allocator>(
-    rows: &mut RollingRows<Vec<u16, R>>,
+fn load_transparency<W: LineWord, R: Allocator, A: Allocator, B: Allocator>(
+    rows: &mut RollingRows<Vec<W, R>>,
     slice: &Slice<'_, A, B>,
     y: u32,
 )
     requires inside { y < cell_height slice.now.checked.now.configuration slice.now.number 0 }
     requires rolled { slice.now.checked.now.configuration.extra_plane ≡ true →
-        Rolled (cell_in slice.now.checked.now.configuration slice.now.picture.now
+        Rolled W.samples (cell_in slice.now.checked.now.configuration slice.now.picture.now
         slice.now.number 3) y rows.old }
     ensures { slice.now.checked.now.configuration.extra_plane ≡ true →
-        Loaded (cell_in slice.now.checked.now.configuration slice.now.picture.now
+        Loaded W.samples (cell_in slice.now.checked.now.configuration slice.now.picture.now
         slice.now.number 3) y rows.new }
 {
     if slice.checked.config().extra_plane {
@@ -266,10 +313,11 @@ fn load_bytes<R: Allocator, A: Allocator, B: Allocator>(
     requires depth { slice.now.checked.now.configuration.depth ≡ 8 }
     requires rct { is_rct slice.now.checked.now.configuration.colour ≡ true }
     requires inside { y < cell_height slice.now.checked.now.configuration slice.now.number 0 }
-    requires rolled { ColoursRolled slice.now.checked.now.configuration slice.now.picture.now
-        slice.now.number y first.old second.old third.old }
-    ensures { ColoursLoaded slice.now.checked.now.configuration slice.now.picture.now
-        slice.now.number y first.new second.new third.new }
+    requires rolled { ColoursRolled ⟦<u16 as Word>⟧.samples
+        slice.now.checked.now.configuration slice.now.picture.now slice.now.number y first.old
+        second.old third.old }
+    ensures { ColoursLoaded ⟦<u16 as Word>⟧.samples slice.now.checked.now.configuration
+        slice.now.picture.now slice.now.number y first.new second.new third.new }
 {
     accepted_parts();
     let _config = slice.checked.config();
@@ -284,18 +332,19 @@ fn load_bytes<R: Allocator, A: Allocator, B: Allocator>(
 }
 
 /// The same of samples of more than 8 bits.
-fn load_words<R: Allocator, A: Allocator, B: Allocator>(
-    first: &mut RollingRows<Vec<u16, R>>,
-    second: &mut RollingRows<Vec<u16, R>>,
-    third: &mut RollingRows<Vec<u16, R>>,
+fn load_words<W: RowWord, R: Allocator, A: Allocator, B: Allocator>(
+    first: &mut RollingRows<Vec<W, R>>,
+    second: &mut RollingRows<Vec<W, R>>,
+    third: &mut RollingRows<Vec<W, R>>,
     slice: &Slice<'_, A, B>,
     y: u32,
 )
+    requires bits { W.holds (bits_of slice.now.checked.now.configuration) }
     requires rct { is_rct slice.now.checked.now.configuration.colour ≡ true }
     requires inside { y < cell_height slice.now.checked.now.configuration slice.now.number 0 }
-    requires rolled { ColoursRolled slice.now.checked.now.configuration slice.now.picture.now
-        slice.now.number y first.old second.old third.old }
-    ensures { ColoursLoaded slice.now.checked.now.configuration slice.now.picture.now
+    requires rolled { ColoursRolled W.samples slice.now.checked.now.configuration
+        slice.now.picture.now slice.now.number y first.old second.old third.old }
+    ensures { ColoursLoaded W.samples slice.now.checked.now.configuration slice.now.picture.now
         slice.now.number y first.new second.new third.new }
 {
     accepted_parts();
@@ -309,40 +358,66 @@ fn load_words<R: Allocator, A: Allocator, B: Allocator>(
     transform_words(depth, &mut first.cur, &mut second.cur, &mut third.cur);
 }
 
-/// Row y of Y, Cb and Cr in RCT.
-fn load_colours<R: Allocator, A: Allocator, B: Allocator>(
-    first: &mut RollingRows<Vec<u16, R>>,
-    second: &mut RollingRows<Vec<u16, R>>,
-    third: &mut RollingRows<Vec<u16, R>>,
-    slice: &Slice<'_, A, B>,
-    y: u32,
-)
-    requires rct { is_rct slice.now.checked.now.configuration.colour ≡ true }
-    requires inside { y < cell_height slice.now.checked.now.configuration slice.now.number 0 }
-    requires rolled { ColoursRolled slice.now.checked.now.configuration slice.now.picture.now
-        slice.now.number y first.old second.old third.old }
-    ensures { ColoursLoaded slice.now.checked.now.configuration slice.now.picture.now
-        slice.now.number y first.new second.new third.new }
-{
-    if slice.checked.depth() == 8 {
-        return load_bytes(first, second, third, slice, y);
+/// Words in whose lines the colours of a line are transformed.
+pub(crate) trait ColourWord: RowWord {
+    /// Row y of Y, Cb and Cr in RCT.
+    fn load_colours<R: Allocator, A: Allocator, B: Allocator>(
+        first: &mut RollingRows<Vec<Self, R>>,
+        second: &mut RollingRows<Vec<Self, R>>,
+        third: &mut RollingRows<Vec<Self, R>>,
+        slice: &Slice<'_, A, B>,
+        y: u32,
+    )
+        requires bits { Self.holds (bits_of slice.now.checked.now.configuration) }
+        requires rct { is_rct slice.now.checked.now.configuration.colour ≡ true }
+        requires inside { y < cell_height slice.now.checked.now.configuration slice.now.number 0 }
+        requires rolled { ColoursRolled Self.samples slice.now.checked.now.configuration
+            slice.now.picture.now slice.now.number y first.old second.old third.old }
+        ensures { ColoursLoaded Self.samples slice.now.checked.now.configuration
+            slice.now.picture.now slice.now.number y first.new second.new third.new };
+}
+
+impl ColourWord for u16 {
+    fn load_colours<R: Allocator, A: Allocator, B: Allocator>(
+        first: &mut RollingRows<Vec<u16, R>>,
+        second: &mut RollingRows<Vec<u16, R>>,
+        third: &mut RollingRows<Vec<u16, R>>,
+        slice: &Slice<'_, A, B>,
+        y: u32,
+    ) {
+        if slice.checked.depth() == 8 {
+            return load_bytes(first, second, third, slice, y);
+        }
+        load_words(first, second, third, slice, y)
     }
-    load_words(first, second, third, slice, y)
+}
+
+impl ColourWord for u32 {
+    fn load_colours<R: Allocator, A: Allocator, B: Allocator>(
+        first: &mut RollingRows<Vec<u32, R>>,
+        second: &mut RollingRows<Vec<u32, R>>,
+        third: &mut RollingRows<Vec<u32, R>>,
+        slice: &Slice<'_, A, B>,
+        y: u32,
+    ) {
+        load_words(first, second, third, slice, y)
+    }
 }
 
 /// Row y of Y, Cb and Cr in RCT, and of transparency where there is such a plane.
-pub(crate) fn load_all<R: Allocator, A: Allocator, B: Allocator>(
-    rows: &mut PlaneRows<R>,
+pub(crate) fn load_all<W: ColourWord, R: Allocator, A: Allocator, B: Allocator>(
+    rows: &mut PlaneRows<W, R>,
     slice: &Slice<'_, A, B>,
     y: u32,
 )
+    requires bits { W.holds (bits_of slice.now.checked.now.configuration) }
     requires rct { is_rct slice.now.checked.now.configuration.colour ≡ true }
     requires inside { y < cell_height slice.now.checked.now.configuration slice.now.number 0 }
-    requires rolled { AllRolled slice.now.checked.now.configuration slice.now.picture.now
+    requires rolled { AllRolled W.samples slice.now.checked.now.configuration slice.now.picture.now
         slice.now.number y rows.old }
-    ensures { AllLoaded slice.now.checked.now.configuration slice.now.picture.now
+    ensures { AllLoaded W.samples slice.now.checked.now.configuration slice.now.picture.now
         slice.now.number y rows.new }
 {
-    load_colours(&mut rows.first, &mut rows.second, &mut rows.third, slice, y);
+    W::load_colours(&mut rows.first, &mut rows.second, &mut rows.third, slice, y);
     load_transparency(&mut rows.fourth, slice, y);
 }

@@ -7,15 +7,18 @@ ghost use Rattle.ffv1_slice.specs.declared.cutting.CutFault.{CutFault};
 ghost use Rattle.ffv1_codec.specs.declared.fault.CodecFault.TheVariants as fault;
 ghost use Rattle.ffv1_codec.specs.Answer.{Decoder, Answers, AnswersCoded, cut_fault, no_tally};
 ghost use Rattle.ffv1_codec.specs.Answer.{decided_by};
-ghost use Rattle.ffv1_codec.specs.Buffers.{KeepsLengths};
+ghost use Rattle.ffv1_codec.specs.Cost.{HasCost};
+ghost use Rattle.ffv1_codec.specs.Handed.{HandsFinishes};
+ghost use Rattle.ffv1_codec.specs.Buffers.{HoldBits, KeepsLengths, length_of_lines};
+ghost use Rattle.ffv1_codec.specs.SliceList.{bits_of};
 ghost use Rattle.ffv1_codec.specs.Headline.{Headline};
 ghost use Rattle.ffv1_codec.specs.Damage.{IsDamaged};
 ghost use Rattle.ffv1_codec.specs.Decoding.{in_slice};
 ghost use Rattle.ffv1_codec.specs.Progress.{CountsSink, IsOwn};
 ghost use Rattle.ffv1_codec.specs.Opened.{IsCutOf, coded_by};
 
-use crate::answer_laws::{damaged, headline};
-use crate::buffers::{Buffers, Slices};
+use crate::answer_laws::{cost_of_frame, damaged, handed_lines, headline};
+use crate::buffers::{Buffers, Lines, Slices};
 use crate::column::Column;
 use crate::columns::{add_up, close};
 use crate::fault::{CodecFault, FrameFault};
@@ -24,6 +27,7 @@ use crate::info::Info;
 use crate::laws::frame_lengths;
 use crate::opening::codec_fault;
 use crate::rows::decode_row;
+use crate::segment::bits_of;
 use ffv1_range::Tally;
 use ffv1_range::laws::counts;
 use ffv1_record::Checked;
@@ -49,6 +53,8 @@ impl<A: Allocator> Model for FrameDecoder<A> {
     ghost use Rattle.std.specs.Prelude.{◌≡◌, length};
     ghost use Rattle.ffv1_record.specs.Held.{held_of};
     ghost use Rattle.ffv1_codec.specs.Answer.{Decoder};
+    ghost use Rattle.ffv1_codec.specs.Buffers.{HoldBits, length_of_lines};
+    ghost use Rattle.ffv1_codec.specs.SliceList.{bits_of};
 
     ghost Value = { Decoder };
 
@@ -57,20 +63,20 @@ impl<A: Allocator> Model for FrameDecoder<A> {
       tally = d.tally;
       held = record {
         states = length d.buffers.slices.states.items;
-        samples = length d.buffers.lines.items;
+        samples = length_of_lines d.buffers.lines;
         output = length d.buffers.out.items;
         columns = length d.buffers.slices.columns.items;
         offsets = d.spans.room;
       };
     } };
 
-    ghost invariant = { λ d. held_of d.checked.configuration ≡ record {
+    ghost invariant = { λ d. (held_of d.checked.configuration ≡ record {
       states = length d.buffers.slices.states.items;
-      samples = length d.buffers.lines.items;
+      samples = length_of_lines d.buffers.lines;
       output = length d.buffers.out.items;
       columns = length d.buffers.slices.columns.items;
       offsets = d.spans.room;
-    } };
+    }) × HoldBits d.buffers.lines (bits_of d.checked.configuration) };
 }
 
 /// Columns of which none is open.
@@ -87,6 +93,24 @@ fn fresh_columns<A: Allocator>(alloc: A, count: usize) -> Result<Vec<Column, A>,
         })?;
     }
     Ok(columns)
+}
+
+/// Lines of so many samples, for pictures of a configuration: in words of 32 bits where a coded
+/// sample has 17, else of 16.
+fn fresh_lines<A: Allocator, B: Allocator>(
+    alloc: A,
+    checked: &Checked<B>,
+    samples: usize,
+) -> Result<Lines<A>, AllocError>
+    ensures long { IfOk result (λ v. length_of_lines v ≡ samples) }
+    ensures bits { IfOk result (λ v. HoldBits v (bits_of checked.now.configuration)) }
+{
+    if bits_of(checked) == 17 {
+        let wide = vec![in alloc; 0u32; samples]?;
+        return Ok(Lines::Wide(wide));
+    }
+    let narrow = vec![in alloc; 0u16; samples]?;
+    Ok(Lines::Narrow(narrow))
 }
 
 /// Nothing was decided.
@@ -111,11 +135,12 @@ fn decode_rows<A: Allocator, B: Allocator, S: LineSink>(
 ) -> Result<Info, FrameFault>
     requires held { held_of checked.now.configuration ≡ record {
       states = length buffers.old.slices.states.items;
-      samples = length buffers.old.lines.items;
+      samples = length_of_lines buffers.old.lines;
       output = length buffers.old.out.items;
       columns = length buffers.old.slices.columns.items;
       offsets = spans.now.room;
     } }
+    requires bits { HoldBits buffers.old.lines (bits_of checked.now.configuration) }
     requires cut { IsCutOf checked.now payload.now spans.now }
     requires tally { tally.old ≡ no_tally }
     ensures exact { AnswersCoded S.takes S.refuses checked.now
@@ -176,7 +201,7 @@ impl<A: Allocator + Copy> FrameDecoder<A> {
     {
         let held = checked.held();
         let states = vec![in alloc; 128u8; held.states]?;
-        let lines = vec![in alloc; 0u16; held.samples]?;
+        let lines = fresh_lines(alloc, &checked, held.samples)?;
         let out = vec![in alloc; 0u8; held.output]?;
         let columns = fresh_columns(alloc, held.columns)?;
         let Ok(spans) = Spans::new(alloc) else {
@@ -263,6 +288,13 @@ impl<A: Allocator> FrameDecoder<A> {
     ///
     /// With parity, a payload that differs from a good one within 32 neighbouring bits of one
     /// slice, its slice_size aside, is `SliceParity` in that slice, before any line.
+    ///
+    /// Also before a fault, the sink is handed nothing but lines that are made of what the bytes of
+    /// the slices code.
+    ///
+    /// What `tally` shows afterwards is what the decisions cost: with `floor` the least state of
+    /// the table, the slices renormalised little more often than the weight of their decisions asks
+    /// for, by a factor of at most `(floor + 1) / floor` for each 1, and little less.
     pub fn decode<S: LineSink>(&mut self, payload: &[u8], sink: &mut S) -> Result<Info, FrameFault>
         ensures headline { Headline S.takes S.refuses self.old.accepted sink.old sink.new result
             payload.now self.new.tally self.new.held }
@@ -274,10 +306,15 @@ impl<A: Allocator> FrameDecoder<A> {
             (result ≡ Err (in_slice fault.SliceParity slice)) × (self.new.tally ≡ no_tally)
             × (sink.new ≡ sink.old) }
         ensures same { self.new ≡ record self.old { tally = self.new.tally } }
+        ensures cost { HasCost self.old.accepted self.new.tally }
+        ensures handed { HandsFinishes S.takes S.refuses self.old.accepted payload.now sink.old
+            sink.new }
     {
         headline::<S>();
         frame_lengths();
         damaged::<S>();
+        cost_of_frame::<S>();
+        handed_lines::<S>();
         let _table = self.checked.table();
         self.decode_held(payload, sink)
     }

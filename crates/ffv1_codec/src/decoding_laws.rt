@@ -1,9 +1,9 @@
 //! Laws of decoding, each the contract of a function that does nothing.
 
-ghost use Rattle.std.specs.Prelude.{◌≡◌, ◌⊎◌, ℕ, ◌*◌, ◌<◌, ◌≤◌, ◌++◌, ◌∷◌, List, length};
+ghost use Rattle.std.specs.Prelude.{◌≡◌, ◌⊎◌, ℕ, ◌*◌, ◌<◌, ◌≤◌, ◌++◌, ◌∷◌, List, [], length};
 ghost use Rattle.std.specs.Prelude.{Some};
 ghost use Rattle.std.proofs.Common.{get_or};
-ghost use Rattle.std.specs.List.{sum_by, range_with_len};
+ghost use Rattle.std.specs.List.{All, sum_by, range_with_len};
 ghost use Rattle.ffv1_range.specs.Codes.{AreBytes};
 ghost use Rattle.ffv1_record.specs.Accepted.{Accepted, IsAccepted};
 ghost use Rattle.ffv1_codec.specs.declared.fault.FrameFault.{FrameFault};
@@ -13,9 +13,10 @@ ghost use Rattle.ffv1_codec.specs.Picture.{Planes};
 ghost use Rattle.ffv1_codec.specs.SliceList.{Said, Line, lines_in};
 ghost use Rattle.ffv1_codec.specs.Answer.{slices_in, decisions_in};
 ghost use Rattle.ffv1_codec.specs.Known.{CodesRead, IsBegun, ShowSame, cells_of};
+ghost use Rattle.ffv1_codec.specs.Handed.{IsFinishOf, offered, slice_of};
 ghost use Rattle.ffv1_codec.specs.Frame.{CodesPicture};
 ghost use Rattle.ffv1_codec.specs.Lines.{lines_of};
-ghost use Rattle.ffv1_codec.specs.Decoding.{State, StepsBy, FaultsWith, Decodes, Refuses};
+ghost use Rattle.ffv1_codec.specs.Decoding.{State, StepsBy, FaultsWith, Decodes, Refuses, Offers};
 ghost use Rattle.ffv1_codec.specs.Decoding.{Slice, at_first, unread};
 ghost use Rattle.ffv1_codec.specs.Order.{Event, events_of};
 ghost use Rattle.ffv1_codec.specs.Runs.{Runs};
@@ -144,5 +145,30 @@ pub fn only_read()
     named_states();
     two_parts();
     accepted();
+    sides();
+}
+
+/// Wherever decoding stands, at its end, before its first fault or at a line that is handed over
+/// next, each line that was handed over, and that next one, is the finish of a line that the bytes
+/// of its slices code: it is made of that line of each slice of its row, and the bytes of the slice
+/// code it.
+pub fn handed()
+    ensures reached { (a : Accepted) (coded : ℕ → List ℕ) (before after : List Event) (s : State) →
+        IsAccepted a.configuration a.table → events_of a.configuration ≡ before ++ after →
+        Runs (StepsBy a coded) (at_first a.configuration) before s →
+        All (IsFinishOf a coded (slice_of s)) s.lines }
+    ensures end { (a : Accepted) (coded : ℕ → List ℕ) (t : State) →
+        IsAccepted a.configuration a.table → Decodes a coded t →
+        All (IsFinishOf a coded (slice_of t)) t.lines }
+    ensures fault { (a : Accepted) (coded : ℕ → List ℕ) (f : FrameFault) (t : State) →
+        IsAccepted a.configuration a.table → Refuses a coded f t →
+        (s : State) × (t.lines ≡ s.lines) × All (IsFinishOf a coded (slice_of s)) s.lines }
+    ensures offered { (a : Accepted) (coded : ℕ → List ℕ) (r i p y : ℕ) (t : State) →
+        IsAccepted a.configuration a.table → Offers a coded r i p y t →
+        All (IsFinishOf a coded (slice_of t))
+        (t.lines ++ (offered a.configuration r i p y t ∷ [])) }
+{
+    agreeing_cells();
+    suiting_rows();
     sides();
 }

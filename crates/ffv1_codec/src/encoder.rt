@@ -1,7 +1,7 @@
 //! Pictures are encoded.
 
 ghost use Rattle.std.specs.Prelude.{◌≡◌, ◌⊎◌, ◌+◌, ◌*◌, ◌<◌, ◌≤◌, ◌++◌, ℕ, IfOk, IfErr, OnOk};
-ghost use Rattle.std.specs.Prelude.{OnErr, [], length};
+ghost use Rattle.std.specs.Prelude.{OnErr, Err, [], length, vec_capacity};
 ghost use Rattle.ffv1_slice.specs.Footer.{footer_of, foot_length};
 ghost use Rattle.ffv1_codec.specs.declared.fault.CodecFault.TheVariants as fault;
 ghost use Rattle.ffv1_codec.specs.Picture.{Fits};
@@ -34,6 +34,7 @@ fn append<A: Allocator>(
     ensures few { OnOk result (length coded.now ≤ 16777215) }
     ensures err { IfErr result (λ f. (f ≡ fault.OutOfMemory)
         ⊎ ((f ≡ fault.SliceTooLong) × (16777215 < length coded.now))) }
+    ensures too_long { 16777215 < length coded.now → result ≡ Err fault.SliceTooLong }
 {
     match footer(alloc, coded, ec) {
         Ok(footer) => {
@@ -63,6 +64,7 @@ fn add_slice<R: Allocator + Copy, A: Allocator, B: Allocator>(
     ensures err { IfErr result (λ f. (f ≡ fault.OutOfMemory)
         ⊎ ((f ≡ fault.SliceTooLong) × (16777215 < length (slice_bytes slice.now.checked.now
         slice.now.picture.now slice.now.info slice.now.number)))) }
+    ensures room { vec_capacity scratch.old.states ≤ vec_capacity scratch.new.states }
 {
     let coded = code_slice(alloc, scratch, slice)?;
     let bytes = coded.bytes.as_slice();
@@ -89,6 +91,7 @@ fn put_slices<R: Allocator + Copy, A: Allocator, B: Allocator>(
     ensures counts { IfOk result (λ k. k ≡ frame_counts checked.now picture.now info) }
     ensures err { IfErr result (λ f. (f ≡ fault.OutOfMemory)
         ⊎ ((f ≡ fault.SliceTooLong) × HasLongSlice checked.now picture.now info)) }
+    ensures room { vec_capacity scratch.old.states ≤ vec_capacity scratch.new.states }
 {
     slice_lengths();
     let _table = checked.table();

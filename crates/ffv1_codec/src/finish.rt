@@ -13,13 +13,16 @@ ghost use Rattle.ffv1_codec.specs.Progress.{IsOwn};
 ghost use Rattle.ffv1_codec.specs.Finished.{AreMade, IsFirstWithout, IsTogether, StandRead};
 ghost use Rattle.ffv1_codec.specs.Finished.{IsNoColour, Finished, colouring_of};
 ghost use Rattle.ffv1_codec.specs.Picture.{plane_count, width_bytes};
+ghost use Rattle.ffv1_codec.specs.SliceList.{bits_of};
 ghost use Rattle.ffv1_samples.specs.Samples.{samples_of};
 
 use crate::colours::{Words, are_bytes, byte_colours, copy_to, word_colours};
 use crate::fault::{CodecFault, FrameFault};
 use crate::frame::{CodedLine, Frame};
+use crate::line_word::LineWord;
 use crate::places::places;
 use crate::places_of_colours::swaps;
+use crate::wide_colours::wide_colours;
 use ffv1_record::Colour;
 use ffv1_record::laws::{accepted, accepted_parts};
 use std::alloc::Allocator;
@@ -73,6 +76,7 @@ fn finish_colours<A: Allocator>(
 ) -> Result<(), usize>
     requires frame { IsFrame frame.now }
     requires rct { is_rct frame.now.checked.now.configuration.colour ≡ true }
+    requires shallow { frame.now.checked.now.configuration.depth ≤ 15 }
     requires samples { length samples.now ≡ plane_count frame.now.checked.now.configuration
         * frame.now.checked.now.configuration.width }
     requires out { length out.old ≡ plane_count frame.now.checked.now.configuration
@@ -100,13 +104,14 @@ fn finish_colours<A: Allocator>(
 }
 
 /// Makes a line of what was read: the samples as they are, or for RCT the colours.
-pub(crate) fn finish<A: Allocator>(
+fn finish<A: Allocator>(
     frame: &Frame<'_, A>,
     line: &CodedLine,
     samples: &[u16],
     out: &mut [u8],
 ) -> Result<(), FrameFault>
     requires frame { IsFrame frame.now }
+    requires bits { bits_of frame.now.checked.now.configuration ≤ 16 }
     requires row { line.now.row < frame.now.checked.now.configuration.rows }
     requires together { IsTogether frame.now.checked.now.configuration line.now.first
         line.now.count }
@@ -143,5 +148,122 @@ pub(crate) fn finish<A: Allocator>(
                 Err(x) => Err(colourless(frame, line, x)),
             }
         }
+    }
+}
+
+/// The colours of a line for RCT of 16 bits a sample.
+fn finish_wide_colours<A: Allocator>(
+    frame: &Frame<'_, A>,
+    samples: &[u32],
+    out: &mut [u8],
+) -> Result<(), usize>
+    requires frame { IsFrame frame.now }
+    requires rct { is_rct frame.now.checked.now.configuration.colour ≡ true }
+    requires deep { frame.now.checked.now.configuration.depth ≡ 16 }
+    requires samples { length samples.now ≡ plane_count frame.now.checked.now.configuration
+        * frame.now.checked.now.configuration.width }
+    requires out { length out.old ≡ plane_count frame.now.checked.now.configuration
+        * width_bytes frame.now.checked.now.configuration }
+    ensures ok { OnOk result (AreMade (colouring_of frame.now.checked.now.configuration)
+        samples.now (samples_of frame.now.checked.now.configuration.depth out.new)) }
+    ensures err { IfErr result (IsFirstWithout
+        (colouring_of frame.now.checked.now.configuration) samples.now) }
+{
+    accepted();
+    accepted_parts();
+    let config = frame.checked.config();
+    wide_colours(config.extra_plane, config.width as usize, samples, out)
+}
+
+/// Makes the colours of a line of RCT of 16 bits a sample.
+fn finish_wide<A: Allocator>(
+    frame: &Frame<'_, A>,
+    line: &CodedLine,
+    samples: &[u32],
+    out: &mut [u8],
+) -> Result<(), FrameFault>
+    requires frame { IsFrame frame.now }
+    requires bits { bits_of frame.now.checked.now.configuration ≡ 17 }
+    requires row { line.now.row < frame.now.checked.now.configuration.rows }
+    requires together { IsTogether frame.now.checked.now.configuration line.now.first
+        line.now.count }
+    requires y { line.now.y < lines_down frame.now.checked.now.configuration line.now.first
+        line.now.row }
+    requires samples { length samples.now ≡ line.now.count
+        * frame.now.checked.now.configuration.width }
+    requires out { length out.old ≡ line.now.count
+        * width_bytes frame.now.checked.now.configuration }
+    ensures exact { (coded : ℕ → List ℕ) (s : State) →
+        let a = frame.now.checked.now in
+        StandRead a.configuration line.now.first line.now.count line.now.y samples.now s →
+        MatchResult result
+        (λ _. Finished a.configuration line.now.first line.now.count line.now.y out.new s)
+        (λ f. FaultsWith a coded s
+        (Finish line.now.row (range_with_len line.now.first line.now.count) line.now.y) f s) }
+    ensures own { IfErr result IsOwn }
+{
+    accepted();
+    accepted_parts();
+    match finish_wide_colours(frame, samples, out) {
+        Ok(()) => {
+            are_bytes(out);
+            Ok(())
+        }
+        Err(x) => Err(colourless(frame, line, x)),
+    }
+}
+
+/// Words of whose lines is made what is handed over.
+pub(crate) trait FinishedWord: LineWord {
+    /// Makes a line of what was read: the samples as they are, or for RCT the colours.
+    fn finish<A: Allocator>(
+        frame: &Frame<'_, A>,
+        line: &CodedLine,
+        samples: &[Self],
+        out: &mut [u8],
+    ) -> Result<(), FrameFault>
+        requires frame { IsFrame frame.now }
+        requires bits { Self.holds (bits_of frame.now.checked.now.configuration) }
+        requires row { line.now.row < frame.now.checked.now.configuration.rows }
+        requires together { IsTogether frame.now.checked.now.configuration line.now.first
+            line.now.count }
+        requires y { line.now.y < lines_down frame.now.checked.now.configuration line.now.first
+            line.now.row }
+        requires samples { length samples.now ≡ line.now.count
+            * frame.now.checked.now.configuration.width }
+        requires out { length out.old ≡ line.now.count
+            * width_bytes frame.now.checked.now.configuration }
+        ensures exact { (coded : ℕ → List ℕ) (s : State) →
+            let a = frame.now.checked.now in
+            StandRead a.configuration line.now.first line.now.count line.now.y
+            (Self.samples samples.now) s →
+            MatchResult result
+            (λ _. Finished a.configuration line.now.first line.now.count line.now.y out.new s)
+            (λ f. FaultsWith a coded s
+            (Finish line.now.row (range_with_len line.now.first line.now.count) line.now.y) f s) }
+        ensures own { IfErr result IsOwn };
+}
+
+impl FinishedWord for u16 {
+    #[inline(always)]
+    fn finish<A: Allocator>(
+        frame: &Frame<'_, A>,
+        line: &CodedLine,
+        samples: &[u16],
+        out: &mut [u8],
+    ) -> Result<(), FrameFault> {
+        finish(frame, line, samples, out)
+    }
+}
+
+impl FinishedWord for u32 {
+    #[inline(always)]
+    fn finish<A: Allocator>(
+        frame: &Frame<'_, A>,
+        line: &CodedLine,
+        samples: &[u32],
+        out: &mut [u8],
+    ) -> Result<(), FrameFault> {
+        finish_wide(frame, line, samples, out)
     }
 }

@@ -43,6 +43,7 @@ mod frame;
 mod hand;
 pub mod info;
 pub mod laws;
+mod line_word;
 mod opening;
 mod overread;
 pub mod picture;
@@ -57,6 +58,7 @@ pub mod sinks;
 mod slice;
 mod slice_code;
 mod slice_encoder;
+mod wide_colours;
 
 pub use counts::FrameCounts;
 pub use decoder::FrameDecoder;

@@ -4,30 +4,33 @@ ghost use Rattle.std.specs.Prelude.{◌≡◌, ℕ, ◌+◌, ◌*◌, ◌≤◌,
 ghost use Rattle.std.specs.List.{flat_map, range_with_len};
 ghost use Rattle.ffv1_range.specs.Symbols.{AllHeld};
 ghost use Rattle.ffv1_codec.specs.Picture.{plane_count};
+ghost use Rattle.ffv1_codec.specs.SliceList.{bits_of};
 ghost use Rattle.ffv1_codec.specs.Progress.{IsOwn};
 ghost use Rattle.ffv1_codec.specs.Order.{lines_down, column_events};
 ghost use Rattle.ffv1_codec.specs.Decoding.{State};
 ghost use Rattle.ffv1_codec.specs.Tied.{IsFrame, AreOpen, slots_in, TiedColumns, TiedPlanes};
 ghost use Rattle.ffv1_codec.specs.Tied.{PlanesRead, Stopped};
 
+use crate::buffers::Above;
 use crate::column::Column;
 use crate::fault::FrameFault;
 use crate::frame::{CodedLine, Frame, Segment};
+use crate::line_word::LineWord;
 use crate::places::places;
 use crate::segment::read_at;
 use std::alloc::Allocator;
 
 /// Reads a line: in each column, from the left, the segment of each plane.
-pub(crate) fn read_planes<A: Allocator>(
+pub(crate) fn read_planes<W: LineWord, A: Allocator>(
     frame: &Frame<'_, A>,
     line: &CodedLine,
     columns: &mut [Column],
     states: &mut [u8],
-    two: &[u16],
-    one: &[u16],
-    cur: &mut [u16],
+    above: &Above<'_, W>,
+    cur: &mut [W],
 ) -> Result<(), FrameFault>
     requires frame { IsFrame frame.now }
+    requires bits { W.holds (bits_of frame.now.checked.now.configuration) }
     requires row { line.now.row < frame.now.checked.now.configuration.rows }
     requires planes { line.now.first + line.now.count
         ≤ plane_count frame.now.checked.now.configuration }
@@ -39,9 +42,9 @@ pub(crate) fn read_planes<A: Allocator>(
     requires open { AreOpen frame.now.payload.now frame.now.checked.now.configuration.sets
         columns.old }
     requires two_long { line.now.count * frame.now.checked.now.configuration.width
-        ≤ length two.now }
+        ≤ length above.now.two.now }
     requires one_long { line.now.count * frame.now.checked.now.configuration.width
-        ≤ length one.now }
+        ≤ length above.now.one.now }
     requires cur_long { line.now.count * frame.now.checked.now.configuration.width
         ≤ length cur.old }
     requires room { length states.old ≡ frame.now.checked.now.configuration.columns
@@ -51,12 +54,12 @@ pub(crate) fn read_planes<A: Allocator>(
         let a = frame.now.checked.now in
         line.now.first + line.now.count ≤ next →
         TiedColumns a coded line.now.row next frame.now.payload.now columns.old states.old s →
-        TiedPlanes a.configuration line.now.first line.now.count 0 0 line.now.y two.now one.now
-        cur.old s →
+        TiedPlanes a.configuration line.now.first line.now.count 0 0 line.now.y
+        (W.samples above.now.two.now) (W.samples above.now.one.now) (W.samples cur.old) s →
         MatchResult result
         (λ _. PlanesRead a coded line.now.row next frame.now.payload.now line.now.first
-        line.now.count line.now.y a.configuration.columns 0 columns.new states.new two.now one.now
-        cur.new s)
+        line.now.count line.now.y a.configuration.columns 0 columns.new states.new
+        (W.samples above.now.two.now) (W.samples above.now.one.now) (W.samples cur.new) s)
         (λ f. Stopped a coded columns.new
         (flat_map (column_events line.now.row (range_with_len line.now.first line.now.count)
         line.now.y) (range_with_len 0 a.configuration.columns)) f s) }
@@ -76,7 +79,7 @@ pub(crate) fn read_planes<A: Allocator>(
                 index,
                 y: line.y,
             };
-            read_at(frame, &segment, columns, states, two, one, cur)?;
+            read_at(frame, &segment, columns, states, above, cur)?;
         }
     }
     Ok(())

@@ -1,26 +1,27 @@
 //! A row of slices is decoded.
 
 ghost use Rattle.std.specs.Prelude.{◌≡◌, ℕ, ◌+◌, ◌*◌, ◌≤◌, ◌<◌, List, None, IsSome, MatchResult};
-ghost use Rattle.std.specs.Prelude.{OnOk, length, replicate};
+ghost use Rattle.std.specs.Prelude.{OnOk, length};
 ghost use Rattle.std.specs.List.{flat_map, range_with_len};
 ghost use Rattle.ffv1_range.specs.Symbols.{AllHeld};
 ghost use Rattle.ffv1_wire.specs.Runs.{Grows};
 ghost use Rattle.ffv1_record.specs.Held.{planes_of};
 ghost use Rattle.ffv1_codec.specs.Picture.{plane_count, width_bytes};
+ghost use Rattle.ffv1_codec.specs.SliceList.{bits_of};
 ghost use Rattle.ffv1_codec.specs.Order.{lines_down, line_events, series_of, series_events};
 ghost use Rattle.ffv1_codec.specs.Decoding.{State};
 ghost use Rattle.ffv1_codec.specs.Tied.{IsFrame, AreOpen, column_at, slots_in, TiedColumns};
 ghost use Rattle.ffv1_codec.specs.Tied.{TiedPlanes};
 ghost use Rattle.ffv1_codec.specs.Opened.{IsCutOf, coded_by};
-ghost use Rattle.ffv1_codec.specs.Buffers.{KeepsSlices, KeepsLengths};
+ghost use Rattle.ffv1_codec.specs.Buffers.{HoldBits, KeepsSlices, KeepsLengths, length_of_lines};
 ghost use Rattle.ffv1_codec.specs.Finished.{IsTogether};
 ghost use Rattle.ffv1_codec.specs.Progress.{CountsSink, FailsIn, LineDecoded, SeriesDecoded};
 ghost use Rattle.ffv1_codec.specs.Progress.{series_at, Decoded};
 ghost use Rattle.ffv1_codec.specs.Rows.{IsBetween, RowDecoded, open_events};
 
-use crate::buffers::{Above, Buffers, Slices};
+use crate::buffers::{Above, Buffers, Lines, Slices};
 use crate::fault::FrameFault;
-use crate::finish::finish;
+use crate::finish::FinishedWord;
 use crate::frame::{CodedLine, CodedPlanes, Frame};
 use crate::hand::hand_lines;
 use crate::info::Info;
@@ -37,16 +38,17 @@ use ffv1_wire::LineSink;
 use std::alloc::Allocator;
 
 /// Decodes a line: reads it, makes of it what is handed over, and hands it over.
-fn decode_whole_line<A: Allocator, S: LineSink>(
+fn decode_whole_line<W: FinishedWord, A: Allocator, S: LineSink>(
     frame: &Frame<'_, A>,
     line: &CodedLine,
     slices: &mut Slices<A>,
-    above: &Above<'_>,
-    cur: &mut [u16],
+    above: &Above<'_, W>,
+    cur: &mut [W],
     out: &mut [u8],
     sink: &mut S,
 ) -> Result<(), FrameFault>
     requires frame { IsFrame frame.now }
+    requires bits { W.holds (bits_of frame.now.checked.now.configuration) }
     requires row { line.now.row < frame.now.checked.now.configuration.rows }
     requires together { IsTogether frame.now.checked.now.configuration line.now.first
         line.now.count }
@@ -76,14 +78,13 @@ fn decode_whole_line<A: Allocator, S: LineSink>(
         line.now.first + line.now.count ≤ next →
         TiedColumns a coded line.now.row next frame.now.payload.now slices.old.columns.items
         slices.old.states.items s →
-        TiedPlanes a.configuration line.now.first line.now.count 0 0 line.now.y above.now.two.now
-        above.now.one.now
-        cur.old s →
+        TiedPlanes a.configuration line.now.first line.now.count 0 0 line.now.y
+        (W.samples above.now.two.now) (W.samples above.now.one.now) (W.samples cur.old) s →
         Grows S.takes initial s.lines sink.old →
         MatchResult result
         (λ _. LineDecoded S.takes S.refuses a coded initial line.now.row next frame.now.payload.now
         line.now.first line.now.count line.now.y slices.new.columns.items slices.new.states.items
-        above.now.one.now cur.new sink.new s)
+        (W.samples above.now.one.now) (W.samples cur.new) sink.new s)
         (λ f. FailsIn S.takes S.refuses a coded initial line.now.row slices.new.columns.items
         (line_events a.configuration line.now.row (range_with_len line.now.first line.now.count)
         line.now.y) f sink.new s) }
@@ -96,37 +97,29 @@ fn decode_whole_line<A: Allocator, S: LineSink>(
     places();
     accepted();
     counted_from_nothing();
-    let Above { two, one } = *above;
     read_planes(
         frame,
         line,
         &mut slices.columns,
         &mut slices.states,
-        two,
-        one,
+        above,
         cur,
     )?;
-    finish(frame, line, cur, out)?;
+    W::finish(frame, line, cur, out)?;
     hand_lines(frame, line, out, sink)
 }
 
-/// Sets each sample of some lines to 0, as above a slice.
-fn clear(lines: &mut [u16])
-    ensures { lines.new ≡ replicate (length lines.old) 0 }
-{
-    lines.fill(0);
-}
-
 /// Decodes the lines of planes that are coded together.
-fn decode_series<A: Allocator, S: LineSink>(
+fn decode_series<W: FinishedWord, A: Allocator, S: LineSink>(
     frame: &Frame<'_, A>,
     planes: &CodedPlanes,
     slices: &mut Slices<A>,
-    lines: &mut [u16],
+    lines: &mut [W],
     out: &mut [u8],
     sink: &mut S,
 ) -> Result<(), FrameFault>
     requires frame { IsFrame frame.now }
+    requires bits { W.holds (bits_of frame.now.checked.now.configuration) }
     requires row { planes.now.row < frame.now.checked.now.configuration.rows }
     requires together { IsTogether frame.now.checked.now.configuration planes.now.first
         planes.now.count }
@@ -167,7 +160,7 @@ fn decode_series<A: Allocator, S: LineSink>(
     accepted();
     accepted_parts();
     cell_is_read();
-    clear(lines);
+    W::clear(lines);
     let size = planes.count as usize * frame.checked.config().width as usize;
     let (mut two, rest) = lines.split_at_mut(size);
     let (mut one, mut cur) = rest.split_at_mut(size);
@@ -192,15 +185,16 @@ fn decode_series<A: Allocator, S: LineSink>(
 }
 
 /// Decodes the planes of a row, one after the other, or for RCT together.
-fn decode_planes<A: Allocator, S: LineSink>(
+fn decode_planes<W: FinishedWord, A: Allocator, S: LineSink>(
     frame: &Frame<'_, A>,
     row: u32,
     slices: &mut Slices<A>,
-    lines: &mut [u16],
+    lines: &mut [W],
     out: &mut [u8],
     sink: &mut S,
 ) -> Result<(), FrameFault>
     requires frame { IsFrame frame.now }
+    requires bits { W.holds (bits_of frame.now.checked.now.configuration) }
     requires row { row < frame.now.checked.now.configuration.rows }
     requires many { length slices.old.columns.items ≡ frame.now.checked.now.configuration.columns }
     requires open { AreOpen frame.now.payload.now frame.now.checked.now.configuration.sets
@@ -256,6 +250,55 @@ fn decode_planes<A: Allocator, S: LineSink>(
     }
 }
 
+/// The same in lines of either words.
+fn decode_lines<A: Allocator, S: LineSink>(
+    frame: &Frame<'_, A>,
+    row: u32,
+    slices: &mut Slices<A>,
+    lines: &mut Lines<A>,
+    out: &mut [u8],
+    sink: &mut S,
+) -> Result<(), FrameFault>
+    requires frame { IsFrame frame.now }
+    requires bits { HoldBits lines.old (bits_of frame.now.checked.now.configuration) }
+    requires row { row < frame.now.checked.now.configuration.rows }
+    requires many { length slices.old.columns.items ≡ frame.now.checked.now.configuration.columns }
+    requires open { AreOpen frame.now.payload.now frame.now.checked.now.configuration.sets
+        slices.old.columns.items }
+    requires lines_long { length_of_lines lines.old
+        ≡ 3 * (planes_of frame.now.checked.now.configuration.colour
+        frame.now.checked.now.configuration.extra_plane
+        * frame.now.checked.now.configuration.width) }
+    requires out_long { length out.old
+        ≡ planes_of frame.now.checked.now.configuration.colour
+        frame.now.checked.now.configuration.extra_plane
+        * width_bytes frame.now.checked.now.configuration }
+    requires room { length slices.old.states.items ≡ frame.now.checked.now.configuration.columns
+        * slots_in frame.now.checked.now.configuration }
+    requires held { AllHeld frame.now.checked.now.table slices.old.states.items }
+    ensures exact { (coded : ℕ → List ℕ) (initial : S) (s : State) →
+        let a = frame.now.checked.now in
+        let events = flat_map (series_events a.configuration row)
+        (series_of a.configuration row) in
+        TiedColumns a coded row 0 frame.now.payload.now slices.old.columns.items
+        slices.old.states.items s →
+        Grows S.takes initial s.lines sink.old →
+        MatchResult result
+        (λ _. Decoded S.takes S.refuses a coded initial row (plane_count a.configuration)
+        frame.now.payload.now events slices.new.columns.items slices.new.states.items sink.new s)
+        (λ f. FailsIn S.takes S.refuses a coded initial row slices.new.columns.items events f
+        sink.new s) }
+    ensures counted { CountsSink (S.failures sink.old) (S.failures sink.new) result }
+    ensures same { KeepsSlices slices.old slices.new }
+    ensures long { length_of_lines lines.new ≡ length_of_lines lines.old }
+    ensures words { (bits : ℕ) → HoldBits lines.old bits → HoldBits lines.new bits }
+{
+    match lines {
+        Lines::Narrow(lines) => decode_planes(frame, row, slices, lines, out, sink),
+        Lines::Wide(lines) => decode_planes(frame, row, slices, lines, out, sink),
+    }
+}
+
 /// Decodes a row of slices.
 pub(crate) fn decode_row<A: Allocator, B: Allocator, S: LineSink>(
     frame: &Frame<'_, A>,
@@ -272,7 +315,8 @@ pub(crate) fn decode_row<A: Allocator, B: Allocator, S: LineSink>(
     requires cut { IsCutOf frame.now.checked.now frame.now.payload.now spans.now }
     requires closed { (k : ℕ) → k < length buffers.old.slices.columns.items → (column_at
         buffers.old.slices.columns.items k).parked ≡ None }
-    requires lines_long { length buffers.old.lines.items
+    requires bits { HoldBits buffers.old.lines (bits_of frame.now.checked.now.configuration) }
+    requires lines_long { length_of_lines buffers.old.lines
         ≡ 3 * (planes_of frame.now.checked.now.configuration.colour
         frame.now.checked.now.configuration.extra_plane
         * frame.now.checked.now.configuration.width) }
@@ -302,5 +346,5 @@ pub(crate) fn decode_row<A: Allocator, B: Allocator, S: LineSink>(
     reset(&mut buffers.slices.states);
     open_row(frame, spans, row, &mut buffers.slices.columns, first)?;
     let Buffers { slices, lines, out } = buffers;
-    decode_planes(frame, row, slices, lines, out, sink)
+    decode_lines(frame, row, slices, lines, out, sink)
 }

@@ -16,13 +16,15 @@ ghost use Rattle.ffv1_codec.specs.Tied.{IsFrame, IsOpen, AreOpen, bytes_in, slot
 ghost use Rattle.ffv1_codec.specs.Tied.{TiedColumns, TiedLine, SegmentMade, StepMade, Stopped};
 ghost use Rattle.ffv1_codec.specs.Tied.{overread_in};
 
+use crate::buffers::Above;
 use crate::column::Column;
 use crate::fault::{CodecFault, FrameFault};
 use crate::frame::{Frame, Segment};
+use crate::line_word::{LineCoding, LineWord};
 use crate::overread::is_overread;
 use crate::places::places;
+use ffv1_line::TooLong;
 use ffv1_line::laws::{cell_is_read, samples_below, slots};
-use ffv1_line::{Above, Coding, TooLong, decode_line};
 use ffv1_range::laws::{
     counted_from_nothing, counted_in_parts, kept_states, read_is_coded, two_parts,
 };
@@ -33,34 +35,38 @@ use std::alloc::Allocator;
 
 /// Reads a segment: wakes a decoder on the bytes of its slice, decodes a row by the states of its
 /// class, and parks.
-fn read_segment<B: Allocator>(
+fn read_segment<W: LineWord, B: Allocator>(
     parked: &mut Option<Parked>,
     bytes: &[u8],
-    coding: &Coding<'_, B>,
+    coding: &LineCoding<'_, B>,
     states: &mut [u8],
-    above: &Above<'_>,
-    cur: &mut [u16],
+    above: &Above<'_, W>,
+    cur: &mut [W],
 ) -> Result<(), TooLong>
     requires open { IsSome parked.old }
+    requires bits { W.holds coding.now.bits }
+    requires few { coding.now.bits ≤ 17 }
     requires some { 0 < length cur.old }
-    requires one_long { length above.now.one ≡ length cur.old }
-    requires rows { length states.old ≡ contexts_of coding.now.set * 32 }
-    requires held { AllHeld coding.now.table states.old }
+    requires two_long { length above.now.two.now ≡ length cur.old }
+    requires one_long { length above.now.one.now ≡ length cur.old }
+    requires rows { length states.old ≡ contexts_of coding.now.set.now * 32 }
+    requires held { AllHeld coding.now.table.now states.old }
     ensures exact { (past : List Step) (base : ℕ) (samples : List ℕ) (y : ℕ) →
-        let table = coding.now.table in
-        let set = coding.now.set in
+        let table = coding.now.table.now in
+        let set = coding.now.set.now in
+        let row = W.samples cur.new in
         Stands bytes.now table base parked.old states.old past →
-        Rolls (length cur.new) samples above.now.two above.now.one y →
+        Rolls (length row) samples (W.samples above.now.two.now) (W.samples above.now.one.now) y →
         MatchResult result
         (λ _. SegmentRead bytes.now table base base set coding.now.bits past samples
-        (length cur.new) y parked.new states.new cur.new)
+        (length row) y parked.new states.new row)
         (λ e. SegmentRefused bytes.now table base base set coding.now.bits past samples
-        (length cur.new) y parked.new (take e.x cur.new) e.x) }
-    ensures small { OnOk result ((x : ℕ) → x < length cur.new →
-        slice_index cur.new x < 2 ^ coding.now.bits) }
-    ensures inside { IfErr result (λ e. e.x < length cur.new) }
+        (length row) y parked.new (take e.x row) e.x) }
+    ensures small { OnOk result ((x : ℕ) → x < length (W.samples cur.new) →
+        slice_index (W.samples cur.new) x < 2 ^ coding.now.bits) }
+    ensures inside { IfErr result (λ e. e.x < length (W.samples cur.new)) }
     ensures open { IsSome parked.new }
-    ensures held { AllHeld coding.now.table states.new }
+    ensures held { AllHeld coding.now.table.now states.new }
 {
     kept_states();
     two_parts();
@@ -73,7 +79,7 @@ fn read_segment<B: Allocator>(
     let set = coding.set;
     set.bounded();
     let mut decoder = parked.take().unwrap().wake(bytes);
-    let read = decode_line(&mut decoder, coding, states, above, cur);
+    let read = W::decode(&mut decoder, coding, states, above, cur);
     *parked = Some(decoder.park());
     read
 }
@@ -92,13 +98,12 @@ fn class_of(plane: u8) -> usize
 }
 
 /// The bits of a coded sample.
-fn bits_of<A: Allocator>(checked: &Checked<A>) -> u8
+pub(crate) fn bits_of<A: Allocator>(checked: &Checked<A>) -> u8
     ensures value { result ≡ bits_of checked.now.configuration }
     ensures least { 8 ≤ result }
-    ensures most { result ≤ 16 }
+    ensures most { result ≤ 17 }
 {
     accepted();
-    accepted_parts();
     let depth = checked.depth() as u8;
     match checked.config().colour {
         Colour::YCbCr => depth,
@@ -107,22 +112,22 @@ fn bits_of<A: Allocator>(checked: &Checked<A>) -> u8
 }
 
 /// Reads a segment of a plane, by the states of its slice.
-fn read_column<A: Allocator>(
+fn read_column<W: LineWord, A: Allocator>(
     frame: &Frame<'_, A>,
     plane: u8,
     column: &mut Column,
     states: &mut [u8],
-    two: &[u16],
-    one: &[u16],
-    cur: &mut [u16],
+    above: &Above<'_, W>,
+    cur: &mut [W],
 ) -> Result<(), TooLong>
     requires frame { IsFrame frame.now }
+    requires bits { W.holds (bits_of frame.now.checked.now.configuration) }
     requires plane { plane < plane_count frame.now.checked.now.configuration }
     requires open { IsOpen frame.now.payload.now frame.now.checked.now.configuration.sets
         column.old }
     requires some { 0 < length cur.old }
-    requires two_long { length two.now ≡ length cur.old }
-    requires one_long { length one.now ≡ length cur.old }
+    requires two_long { length above.now.two.now ≡ length cur.old }
+    requires one_long { length above.now.one.now ≡ length cur.old }
     requires rows { length states.old ≡ slots_in frame.now.checked.now.configuration }
     requires held { AllHeld frame.now.checked.now.table states.old }
     ensures exact { (past : List Step) (samples : List ℕ) (y : ℕ) →
@@ -130,16 +135,17 @@ fn read_column<A: Allocator>(
         let set = set_at a.configuration.sets (slice_index column.old.indexes (class_of plane)) in
         let bytes = bytes_in frame.now.payload.now column.old in
         let base = base_of a.configuration plane in
+        let row = W.samples cur.new in
         Stands bytes a.table 33 column.old.parked states.old past →
-        Rolls (length cur.new) samples two.now one.now y →
+        Rolls (length row) samples (W.samples above.now.two.now) (W.samples above.now.one.now) y →
         MatchResult result
         (λ _. SegmentRead bytes a.table base 33 set (bits_of a.configuration) past samples
-        (length cur.new) y column.new.parked states.new cur.new)
+        (length row) y column.new.parked states.new row)
         (λ e. SegmentRefused bytes a.table base 33 set (bits_of a.configuration) past samples
-        (length cur.new) y column.new.parked (take e.x cur.new) e.x) }
-    ensures small { OnOk result ((x : ℕ) → x < length cur.new →
-        slice_index cur.new x < 2 ^ bits_of frame.now.checked.now.configuration) }
-    ensures inside { IfErr result (λ e. e.x < length cur.new) }
+        (length row) y column.new.parked (take e.x row) e.x) }
+    ensures small { OnOk result ((x : ℕ) → x < length (W.samples cur.new) →
+        slice_index (W.samples cur.new) x < 2 ^ bits_of frame.now.checked.now.configuration) }
+    ensures inside { IfErr result (λ e. e.x < length (W.samples cur.new)) }
     ensures open { IsSome column.new.parked }
     ensures same { column.new ≡ record column.old { parked = column.new.parked } }
     ensures held { AllHeld frame.now.checked.now.table states.new }
@@ -152,7 +158,7 @@ fn read_column<A: Allocator>(
     let at = class * frame.most * 32;
     let end = at + set.contexts() as usize * 32;
     let bytes = &frame.payload[column.first..column.last];
-    let coding = Coding {
+    let coding = LineCoding {
         table: frame.checked.table(),
         set,
         bits: bits_of(frame.checked),
@@ -162,7 +168,7 @@ fn read_column<A: Allocator>(
         bytes,
         &coding,
         &mut states[at..end],
-        &Above { two, one },
+        above,
         cur,
     )
 }
@@ -223,16 +229,16 @@ fn refusal<A: Allocator>(frame: &Frame<'_, A>, segment: &Segment, x: usize) -> F
 }
 
 /// Reads a segment into its place of a line. How far its slice was read is not looked at.
-fn read_on<A: Allocator>(
+fn read_on<W: LineWord, A: Allocator>(
     frame: &Frame<'_, A>,
     segment: &Segment,
     columns: &mut [Column],
     states: &mut [u8],
-    two: &[u16],
-    one: &[u16],
-    cur: &mut [u16],
+    above: &Above<'_, W>,
+    cur: &mut [W],
 ) -> Result<(), FrameFault>
     requires frame { IsFrame frame.now }
+    requires bits { W.holds (bits_of frame.now.checked.now.configuration) }
     requires row { segment.now.row < frame.now.checked.now.configuration.rows }
     requires column { segment.now.column < frame.now.checked.now.configuration.columns }
     requires plane { segment.now.plane < plane_count frame.now.checked.now.configuration }
@@ -243,9 +249,9 @@ fn read_on<A: Allocator>(
     requires open { AreOpen frame.now.payload.now frame.now.checked.now.configuration.sets
         columns.old }
     requires two_long { segment.now.index * frame.now.checked.now.configuration.width
-        + frame.now.checked.now.configuration.width ≤ length two.now }
+        + frame.now.checked.now.configuration.width ≤ length above.now.two.now }
     requires one_long { segment.now.index * frame.now.checked.now.configuration.width
-        + frame.now.checked.now.configuration.width ≤ length one.now }
+        + frame.now.checked.now.configuration.width ≤ length above.now.one.now }
     requires cur_long { segment.now.index * frame.now.checked.now.configuration.width
         + frame.now.checked.now.configuration.width ≤ length cur.old }
     requires room { length states.old ≡ frame.now.checked.now.configuration.columns
@@ -256,18 +262,19 @@ fn read_on<A: Allocator>(
         let offset = segment.now.index * a.configuration.width in
         segment.now.plane < next →
         TiedColumns a coded segment.now.row next frame.now.payload.now columns.old states.old s →
-        TiedLine a.configuration segment.now.plane offset segment.now.column segment.now.y two.now
-        one.now cur.old s →
+        TiedLine a.configuration segment.now.plane offset segment.now.column segment.now.y
+        (W.samples above.now.two.now) (W.samples above.now.one.now) (W.samples cur.old) s →
         MatchResult result
-        (λ _. SegmentMade a coded segment.now.row next frame.now.payload.now segment.now.plane offset
-        segment.now.y segment.now.column columns.new states.new two.now one.now cur.new s)
+        (λ _. SegmentMade a coded segment.now.row next frame.now.payload.now segment.now.plane
+        offset segment.now.y segment.now.column columns.new states.new
+        (W.samples above.now.two.now) (W.samples above.now.one.now) (W.samples cur.new) s)
         (λ f. Stopped a coded columns.new
         (Read segment.now.row segment.now.column segment.now.plane segment.now.y ∷ []) f s) }
-    ensures beside { (b n : ℕ) → b + n ≤ length cur.old →
+    ensures beside { (b n : ℕ) → b + n ≤ length (W.samples cur.old) →
         (b + n ≤ segment.now.index * frame.now.checked.now.configuration.width)
         ⊎ (segment.now.index * frame.now.checked.now.configuration.width
         + frame.now.checked.now.configuration.width ≤ b) →
-        window b n cur.new ≡ window b n cur.old }
+        window b n (W.samples cur.new) ≡ window b n (W.samples cur.old) }
     ensures own { IfErr result IsOwn }
     ensures open { AreOpen frame.now.payload.now frame.now.checked.now.configuration.sets
         columns.new }
@@ -281,13 +288,16 @@ fn read_on<A: Allocator>(
     let (left, right) = extent(frame, segment);
     let k = segment.column;
     let at = k * frame.slots;
+    let above = Above {
+        two: &above.two[left..right],
+        one: &above.one[left..right],
+    };
     match read_column(
         frame,
         segment.plane,
         &mut columns[k],
         &mut states[at..at + frame.slots],
-        &two[left..right],
-        &one[left..right],
+        &above,
         &mut cur[left..right],
     ) {
         Ok(()) => Ok(()),
@@ -319,16 +329,16 @@ fn overread<A: Allocator>(frame: &Frame<'_, A>, segment: &Segment) -> FrameFault
 }
 
 /// Reads a segment into its place of a line, and looks at how far its slice was read.
-pub(crate) fn read_at<A: Allocator>(
+pub(crate) fn read_at<W: LineWord, A: Allocator>(
     frame: &Frame<'_, A>,
     segment: &Segment,
     columns: &mut [Column],
     states: &mut [u8],
-    two: &[u16],
-    one: &[u16],
-    cur: &mut [u16],
+    above: &Above<'_, W>,
+    cur: &mut [W],
 ) -> Result<(), FrameFault>
     requires frame { IsFrame frame.now }
+    requires bits { W.holds (bits_of frame.now.checked.now.configuration) }
     requires row { segment.now.row < frame.now.checked.now.configuration.rows }
     requires column { segment.now.column < frame.now.checked.now.configuration.columns }
     requires plane { segment.now.plane < plane_count frame.now.checked.now.configuration }
@@ -339,9 +349,9 @@ pub(crate) fn read_at<A: Allocator>(
     requires open { AreOpen frame.now.payload.now frame.now.checked.now.configuration.sets
         columns.old }
     requires two_long { segment.now.index * frame.now.checked.now.configuration.width
-        + frame.now.checked.now.configuration.width ≤ length two.now }
+        + frame.now.checked.now.configuration.width ≤ length above.now.two.now }
     requires one_long { segment.now.index * frame.now.checked.now.configuration.width
-        + frame.now.checked.now.configuration.width ≤ length one.now }
+        + frame.now.checked.now.configuration.width ≤ length above.now.one.now }
     requires cur_long { segment.now.index * frame.now.checked.now.configuration.width
         + frame.now.checked.now.configuration.width ≤ length cur.old }
     requires room { length states.old ≡ frame.now.checked.now.configuration.columns
@@ -352,25 +362,26 @@ pub(crate) fn read_at<A: Allocator>(
         let offset = segment.now.index * a.configuration.width in
         segment.now.plane < next →
         TiedColumns a coded segment.now.row next frame.now.payload.now columns.old states.old s →
-        TiedLine a.configuration segment.now.plane offset segment.now.column segment.now.y two.now
-        one.now cur.old s →
+        TiedLine a.configuration segment.now.plane offset segment.now.column segment.now.y
+        (W.samples above.now.two.now) (W.samples above.now.one.now) (W.samples cur.old) s →
         MatchResult result
         (λ _. StepMade a coded segment.now.row next frame.now.payload.now segment.now.plane offset
-        segment.now.y segment.now.column columns.new states.new two.now one.now cur.new s)
+        segment.now.y segment.now.column columns.new states.new (W.samples above.now.two.now)
+        (W.samples above.now.one.now) (W.samples cur.new) s)
         (λ f. Stopped a coded columns.new
         (Read segment.now.row segment.now.column segment.now.plane segment.now.y ∷ []) f s) }
-    ensures beside { (b n : ℕ) → b + n ≤ length cur.old →
+    ensures beside { (b n : ℕ) → b + n ≤ length (W.samples cur.old) →
         (b + n ≤ segment.now.index * frame.now.checked.now.configuration.width)
         ⊎ (segment.now.index * frame.now.checked.now.configuration.width
         + frame.now.checked.now.configuration.width ≤ b) →
-        window b n cur.new ≡ window b n cur.old }
+        window b n (W.samples cur.new) ≡ window b n (W.samples cur.old) }
     ensures own { IfErr result IsOwn }
     ensures open { AreOpen frame.now.payload.now frame.now.checked.now.configuration.sets
         columns.new }
     ensures held { AllHeld frame.now.checked.now.table states.new }
 {
     counted_from_nothing();
-    read_on(frame, segment, columns, states, two, one, cur)?;
+    read_on(frame, segment, columns, states, above, cur)?;
     if is_overread(frame, &columns[segment.column]) {
         return Err(overread(frame, segment));
     }

@@ -1,7 +1,7 @@
 //! The coded bytes of a slice.
 
 ghost use Rattle.std.specs.Prelude.{◌≡◌, ◌+◌, ◌^◌, ◌<◌, ◌≤◌, ◌++◌, ℕ, IfOk, IfErr, OnOk, length};
-ghost use Rattle.std.specs.Prelude.{replicate};
+ghost use Rattle.std.specs.Prelude.{OnErr, replicate, vec_capacity};
 ghost use Rattle.ffv1_range.specs.Writing.{unwritten};
 ghost use Rattle.ffv1_line.specs.Length.{row_decisions};
 ghost use Rattle.ffv1_record.specs.Held.{classes_of};
@@ -16,7 +16,7 @@ use crate::cell_rows::PlaneRows;
 use crate::fault::CodecFault;
 use crate::laws::slice_lengths;
 use crate::slice::Slice;
-use crate::slice_encoder::put_body;
+use crate::slice_encoder::{SliceRows, put_body};
 use ffv1_range::RangeEncoder;
 use ffv1_range::laws::{
     counted_from_nothing, counted_in_parts, kept_states, named_states, slots, two_parts,
@@ -30,7 +30,7 @@ use std::alloc::{AllocError, Allocator};
 #[derive(Drop)]
 pub(crate) struct Scratch<A: Allocator> {
     pub(crate) states: Vec<u8, A>,
-    pub(crate) rows: PlaneRows<A>,
+    pub(crate) rows: SliceRows<A>,
 }
 
 impl<A: Allocator + Copy> Scratch<A> {
@@ -38,7 +38,10 @@ impl<A: Allocator + Copy> Scratch<A> {
     pub(crate) fn new(alloc: A) -> Scratch<A> {
         Scratch {
             states: Vec::new(alloc),
-            rows: PlaneRows::new(alloc),
+            rows: SliceRows {
+                narrow: PlaneRows::new(alloc),
+                wide: PlaneRows::new(alloc),
+            },
         }
     }
 }
@@ -76,9 +79,11 @@ fn states_in<A: Allocator>(checked: &Checked<A>) -> usize
 }
 
 /// So many fresh states (RFC 9043, 3.8.1.3), in the memory that there is where they find room in
-/// it.
+/// it. None of it is given back.
 fn renew<A: Allocator>(states: &mut Vec<u8, A>, count: usize) -> Result<(), AllocError>
-    ensures { OnOk result (states.new.items ≡ replicate count 128) }
+    ensures fresh { OnOk result (states.new.items ≡ replicate count 128) }
+    ensures room { vec_capacity states.old ≤ vec_capacity states.new }
+    ensures full { OnErr result (vec_capacity states.old < count) }
 {
     states.resize(count, 128)?;
     states.fill(128);
@@ -116,7 +121,7 @@ fn put_beginning<R: Allocator, A: Allocator, B: Allocator>(
 fn put_slice<R: Allocator, A: Allocator, B: Allocator>(
     encoder: &mut RangeEncoder<R>,
     states: &mut [u8],
-    rows: &mut PlaneRows<R>,
+    rows: &mut SliceRows<R>,
     slice: &Slice<'_, A, B>,
 ) -> Result<u64, CodecFault>
     requires new { encoder.old ≡ unwritten }
@@ -155,6 +160,7 @@ pub(crate) fn code_slice<R: Allocator + Copy, A: Allocator, B: Allocator>(
         slice.now.checked.now.configuration slice.now.picture.now slice.now.info
         slice.now.number)) }
     ensures err { IfErr result (λ f. f ≡ fault.OutOfMemory) }
+    ensures room { vec_capacity scratch.old.states ≤ vec_capacity scratch.new.states }
 {
     renew(&mut scratch.states, states_in(slice.checked))?;
     let mut encoder = RangeEncoder::new(alloc);

@@ -17,16 +17,18 @@ ghost use Rattle.ffv1_codec.specs.CellRows.{Loaded, AllRolled, AllLoaded};
 ghost use Rattle.ffv1_codec.specs.Behind.{states_in};
 ghost use Rattle.ffv1_codec.specs.CellRows.{fourth_line};
 
-use crate::cell_rows::{PlaneRows, load, load_all, restart, restart_all};
+use crate::buffers::Above;
+use crate::cell_rows::{ColourWord, PlaneRows, load, load_all, restart, restart_all};
 use crate::fault::CodecFault;
+use crate::line_word::{LineCoding, LineWord};
+use crate::segment::bits_of;
 use crate::slice::{Slice, index_of};
+use ffv1_line::RollingRows;
 use ffv1_line::laws::{rolling, slots};
-use ffv1_line::{Above, Coding, RollingRows, encode_line};
-use ffv1_plane::QuantSet;
+use ffv1_range::RangeEncoder;
 use ffv1_range::laws::{counted_in_parts, kept_states, two_parts};
-use ffv1_range::{RangeEncoder, StateTable};
+use ffv1_record::Colour;
 use ffv1_record::laws::{accepted, accepted_parts};
-use ffv1_record::{Checked, Colour};
 use ffv1_slice::Grid;
 use std::alloc::Allocator;
 
@@ -52,77 +54,64 @@ fn is_rct(colour: Colour) -> bool
     }
 }
 
-/// How many bits a coded sample has.
-fn bits_of<A: Allocator>(checked: &Checked<A>) -> u8
-    ensures value { result ≡ bits_of checked.now.configuration }
-    ensures least { 8 ≤ result }
-    ensures most { result ≤ 16 }
-{
-    accepted();
-    accepted_parts();
-    let depth = checked.depth() as u8;
-    match checked.config().colour {
-        Colour::YCbCr => depth,
-        Colour::Rct => depth + 1,
-    }
-}
-
 /// A row of a cell is coded, by the states of its class, which begin at this offset of all states.
-fn put_row<R: Allocator, A: Allocator>(
+fn put_row<W: LineWord, R: Allocator, A: Allocator>(
     encoder: &mut RangeEncoder<R>,
-    table: &StateTable,
-    set: &QuantSet<A>,
+    coding: &LineCoding<'_, A>,
     states: &mut [u8],
     at: usize,
-    rows: &RollingRows<Vec<u16, R>>,
-    bits: u8,
+    rows: &RollingRows<Vec<W, R>>,
 ) -> Result<(), CodecFault>
-    requires least { 8 ≤ bits }
-    requires most { bits ≤ 16 }
-    requires some { 0 < length rows.now.cur.items }
-    requires two_long { length rows.now.two.items ≡ length rows.now.cur.items }
-    requires one_long { length rows.now.one.items ≡ length rows.now.cur.items }
-    requires fits { at + contexts_of set.now * 32 ≤ length states.old }
-    requires held { AllHeld table.now states.old }
-    ensures ok { OnOk result ((cell : Cell) (y : ℕ) → Loaded cell y rows.now →
-        PutsBehind table.now encoder.old states.old encoder.new states.new
-        (shifted (33 + at) (row_steps set.now cell y 0
-        (chosen_row set.now bits cell y cell.width)))) }
-    ensures held { OnOk result (AllHeld table.now states.new) }
+    requires bits { W.holds coding.now.bits }
+    requires some { 0 < length (W.samples rows.now.cur.items) }
+    requires two_long { length (W.samples rows.now.two.items)
+        ≡ length (W.samples rows.now.cur.items) }
+    requires one_long { length (W.samples rows.now.one.items)
+        ≡ length (W.samples rows.now.cur.items) }
+    requires fits { at + contexts_of coding.now.set.now * 32 ≤ length states.old }
+    requires held { AllHeld coding.now.table.now states.old }
+    ensures ok { OnOk result ((cell : Cell) (y : ℕ) → Loaded W.samples cell y rows.now →
+        PutsBehind coding.now.table.now encoder.old states.old encoder.new states.new
+        (shifted (33 + at) (row_steps coding.now.set.now cell y 0
+        (chosen_row coding.now.set.now coding.now.bits cell y cell.width)))) }
+    ensures held { OnOk result (AllHeld coding.now.table.now states.new) }
     ensures err { IfErr result (λ f. f ≡ fault.OutOfMemory) }
 {
     kept_states();
     two_parts();
     counted_in_parts();
     slots();
+    let set = coding.set;
     set.bounded();
     let end = at + set.contexts() as usize * 32;
-    let coding = Coding { table, set, bits };
     let above = Above {
         two: &rows.two,
         one: &rows.one,
     };
-    let Ok(()) = encode_line(encoder, &coding, &mut states[at..end], &above, &rows.cur) else {
+    let Ok(()) = W::encode(encoder, coding, &mut states[at..end], &above, &rows.cur) else {
         return Err(CodecFault::OutOfMemory);
     };
     Ok(())
 }
 
 /// A row of a plane is coded, by the set and the states of the plane's class.
-fn put_line<R: Allocator, A: Allocator, B: Allocator>(
+fn put_line<W: LineWord, R: Allocator, A: Allocator, B: Allocator>(
     encoder: &mut RangeEncoder<R>,
     states: &mut [u8],
-    rows: &RollingRows<Vec<u16, R>>,
+    rows: &RollingRows<Vec<W, R>>,
     slice: &Slice<'_, A, B>,
     plane: u32,
 ) -> Result<(), CodecFault>
+    requires bits { W.holds (bits_of slice.now.checked.now.configuration) }
     requires plane { plane < plane_count slice.now.checked.now.configuration }
-    requires some { 0 < length rows.now.cur.items }
-    requires two_long { length rows.now.two.items ≡ length rows.now.cur.items }
-    requires one_long { length rows.now.one.items ≡ length rows.now.cur.items }
+    requires some { 0 < length (W.samples rows.now.cur.items) }
+    requires two_long { length (W.samples rows.now.two.items)
+        ≡ length (W.samples rows.now.cur.items) }
+    requires one_long { length (W.samples rows.now.one.items)
+        ≡ length (W.samples rows.now.cur.items) }
     requires room { length states.old ≡ states_in slice.now.checked.now.configuration }
     requires held { AllHeld slice.now.checked.now.table states.old }
-    ensures ok { OnOk result ((cell : ℕ → Cell) (y : ℕ) → Loaded (cell plane) y rows.now →
+    ensures ok { OnOk result ((cell : ℕ → Cell) (y : ℕ) → Loaded W.samples (cell plane) y rows.now →
         PutsBehind slice.now.checked.now.table encoder.old states.old encoder.new states.new
         (chosen_line slice.now.checked.now.configuration
         (chosen_head slice.now.checked.now.configuration slice.now.info) cell
@@ -137,18 +126,20 @@ fn put_line<R: Allocator, A: Allocator, B: Allocator>(
     let at = 32 * (config.sets.most_contexts() as usize * class);
     let table = slice.checked.table();
     let bits = bits_of(slice.checked);
-    put_row(encoder, table, set, states, at, rows, bits)?;
+    let coding = LineCoding { table, set, bits };
+    put_row(encoder, &coding, states, at, rows)?;
     Ok(())
 }
 
 /// The lines of a plane are coded, one after the other.
-fn put_plane<R: Allocator, A: Allocator, B: Allocator>(
+fn put_plane<W: LineWord, R: Allocator, A: Allocator, B: Allocator>(
     encoder: &mut RangeEncoder<R>,
     states: &mut [u8],
-    rows: &mut RollingRows<Vec<u16, R>>,
+    rows: &mut RollingRows<Vec<W, R>>,
     slice: &Slice<'_, A, B>,
     plane: u32,
 ) -> Result<(), CodecFault>
+    requires bits { W.holds (bits_of slice.now.checked.now.configuration) }
     requires plain { is_rct slice.now.checked.now.configuration.colour ≡ false }
     requires plane { plane < plane_count slice.now.checked.now.configuration }
     requires room { length states.old ≡ states_in slice.now.checked.now.configuration }
@@ -174,12 +165,13 @@ fn put_plane<R: Allocator, A: Allocator, B: Allocator>(
 }
 
 /// The planes of YCbCr are coded, one after the other (RFC 9043, 4.7).
-fn put_planes<R: Allocator, A: Allocator, B: Allocator>(
+fn put_planes<W: LineWord, R: Allocator, A: Allocator, B: Allocator>(
     encoder: &mut RangeEncoder<R>,
     states: &mut [u8],
-    rows: &mut RollingRows<Vec<u16, R>>,
+    rows: &mut RollingRows<Vec<W, R>>,
     slice: &Slice<'_, A, B>,
 ) -> Result<(), CodecFault>
+    requires bits { W.holds (bits_of slice.now.checked.now.configuration) }
     requires plain { is_rct slice.now.checked.now.configuration.colour ≡ false }
     requires room { length states.old ≡ states_in slice.now.checked.now.configuration }
     requires held { AllHeld slice.now.checked.now.table states.old }
@@ -197,14 +189,15 @@ fn put_planes<R: Allocator, A: Allocator, B: Allocator>(
 }
 
 /// Where there is a plane of transparency, a row of it is coded.
-fn put_transparency<R: Allocator, A: Allocator, B: Allocator>(
+fn put_transparency<W: LineWord, R: Allocator, A: Allocator, B: Allocator>(
     encoder: &mut RangeEncoder<R>,
     states: &mut [u8],
-    rows: &PlaneRows<R>,
+    rows: &PlaneRows<W, R>,
     slice: &Slice<'_, A, B>,
     y: u32,
 ) -> Result<(), CodecFault>
-    requires loaded { AllLoaded slice.now.checked.now.configuration slice.now.picture.now
+    requires bits { W.holds (bits_of slice.now.checked.now.configuration) }
+    requires loaded { AllLoaded W.samples slice.now.checked.now.configuration slice.now.picture.now
         slice.now.number y rows.now }
     requires room { length states.old ≡ states_in slice.now.checked.now.configuration }
     requires held { AllHeld slice.now.checked.now.table states.old }
@@ -225,20 +218,21 @@ fn put_transparency<R: Allocator, A: Allocator, B: Allocator>(
 }
 
 /// Line y of Y, Cb, Cr and transparency is coded.
-fn put_colours<R: Allocator, A: Allocator, B: Allocator>(
+fn put_colours<W: ColourWord, R: Allocator, A: Allocator, B: Allocator>(
     encoder: &mut RangeEncoder<R>,
     states: &mut [u8],
-    rows: &mut PlaneRows<R>,
+    rows: &mut PlaneRows<W, R>,
     slice: &Slice<'_, A, B>,
     y: u32,
 ) -> Result<(), CodecFault>
+    requires bits { W.holds (bits_of slice.now.checked.now.configuration) }
     requires rct { is_rct slice.now.checked.now.configuration.colour ≡ true }
     requires inside { y < cell_height slice.now.checked.now.configuration slice.now.number 0 }
-    requires rolled { AllRolled slice.now.checked.now.configuration slice.now.picture.now
+    requires rolled { AllRolled W.samples slice.now.checked.now.configuration slice.now.picture.now
         slice.now.number y rows.old }
     requires room { length states.old ≡ states_in slice.now.checked.now.configuration }
     requires held { AllHeld slice.now.checked.now.table states.old }
-    ensures rolled { OnOk result (AllRolled slice.now.checked.now.configuration
+    ensures rolled { OnOk result (AllRolled W.samples slice.now.checked.now.configuration
         slice.now.picture.now slice.now.number (y + 1) rows.new) }
     ensures ok { OnOk result (PutsBehind slice.now.checked.now.table encoder.old states.old
         encoder.new states.new (chosen_body slice.now.checked.now.configuration
@@ -261,12 +255,13 @@ fn put_colours<R: Allocator, A: Allocator, B: Allocator>(
 }
 
 /// The lines of RCT are coded, one after the other, each plane by plane (RFC 9043, 4.7).
-fn put_lines<R: Allocator, A: Allocator, B: Allocator>(
+fn put_lines<W: ColourWord, R: Allocator, A: Allocator, B: Allocator>(
     encoder: &mut RangeEncoder<R>,
     states: &mut [u8],
-    rows: &mut PlaneRows<R>,
+    rows: &mut PlaneRows<W, R>,
     slice: &Slice<'_, A, B>,
 ) -> Result<(), CodecFault>
+    requires bits { W.holds (bits_of slice.now.checked.now.configuration) }
     requires rct { is_rct slice.now.checked.now.configuration.colour ≡ true }
     requires room { length states.old ≡ states_in slice.now.checked.now.configuration }
     requires held { AllHeld slice.now.checked.now.table states.old }
@@ -284,11 +279,45 @@ fn put_lines<R: Allocator, A: Allocator, B: Allocator>(
     Ok(())
 }
 
+/// The rows of either words. Those that are not used take no memory.
+#[derive(Drop)]
+pub(crate) struct SliceRows<A: Allocator> {
+    /// Of up to 16 bits a coded sample.
+    pub(crate) narrow: PlaneRows<u16, A>,
+    /// Of 17 bits.
+    pub(crate) wide: PlaneRows<u32, A>,
+}
+
+/// The lines of RCT are coded, in rows of the words that hold them.
+fn put_transformed<R: Allocator, A: Allocator, B: Allocator>(
+    encoder: &mut RangeEncoder<R>,
+    states: &mut [u8],
+    rows: &mut SliceRows<R>,
+    slice: &Slice<'_, A, B>,
+) -> Result<(), CodecFault>
+    requires rct { is_rct slice.now.checked.now.configuration.colour ≡ true }
+    requires room { length states.old ≡ states_in slice.now.checked.now.configuration }
+    requires held { AllHeld slice.now.checked.now.table states.old }
+    ensures ok { OnOk result (PutsBehind slice.now.checked.now.table encoder.old states.old
+        encoder.new states.new (chosen_body slice.now.checked.now.configuration
+        (chosen_head slice.now.checked.now.configuration slice.now.info)
+        (cell_in slice.now.checked.now.configuration slice.now.picture.now slice.now.number)
+        (lines_in slice.now.checked.now.configuration slice.now.number))) }
+    ensures err { IfErr result (λ f. f ≡ fault.OutOfMemory) }
+{
+    if bits_of(slice.checked) == 17 {
+        put_lines(encoder, states, &mut rows.wide, slice)?;
+        return Ok(());
+    }
+    put_lines(encoder, states, &mut rows.narrow, slice)?;
+    Ok(())
+}
+
 /// The samples of a slice are coded.
 pub(crate) fn put_body<R: Allocator, A: Allocator, B: Allocator>(
     encoder: &mut RangeEncoder<R>,
     states: &mut [u8],
-    rows: &mut PlaneRows<R>,
+    rows: &mut SliceRows<R>,
     slice: &Slice<'_, A, B>,
 ) -> Result<(), CodecFault>
     requires room { length states.old ≡ states_in slice.now.checked.now.configuration }
@@ -301,9 +330,10 @@ pub(crate) fn put_body<R: Allocator, A: Allocator, B: Allocator>(
     ensures err { IfErr result (λ f. f ≡ fault.OutOfMemory) }
 {
     if is_rct(slice.checked.config().colour) {
-        put_lines(encoder, states, rows, slice)?;
+        put_transformed(encoder, states, rows, slice)?;
         return Ok(());
     }
-    put_planes(encoder, states, &mut rows.first, slice)?;
+    accepted();
+    put_planes(encoder, states, &mut rows.narrow.first, slice)?;
     Ok(())
 }

@@ -1,4 +1,4 @@
--- What is passed of content that is known, against what is told of it in memory.
+-- What is passed of content that is known, against what is answered of it in memory.
 use Rattle.std.proofs.Common.{◌≡◌, ◌≤◌, ◌+◌, ◌-◌, ◌==◌, ◌&&◌, ◌∙◌, ◌++◌, ◌∷◌, [], ℕ, List, Bool, true, false, not, inl, inr, nat_lt, if◌then◌else◌, Option, Some, None, Result, Ok, Err, length, take, drop, slice_index, fold, bit_xor, refl, sym, ap, subst, arith, length-append, length-drop, length-take}
 use Rattle.std.proofs.lemmas.Bool.{cases_eq, cases_lt, eqb-true, le-ltb, ltb-false}
 use Rattle.std.proofs.lemmas.List.{drop_all, take_all}

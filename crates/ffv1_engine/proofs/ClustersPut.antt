@@ -21,7 +21,7 @@ use Rattle.ffv1_engine.specs.declared.fault.Fault.{Fault}
 use Rattle.ffv1_engine.specs.declared.fault.Fault.TheVariants as fault
 use Rattle.ffv1_engine.specs.declared.packing.Packed.{Packed}
 use Rattle.ffv1_engine.specs.Clusters.{AreClusters, EndsFar, EndsLong, EndsPutting, PutAll, PutsAll, PutsSome, StopsPutting, StopsPuttingBy, begun_for}
-use Rattle.ffv1_engine.specs.Encoding.{Encoded, EncodesOne, EndsAt, EndsKnown, PicturesKnown, StopsBy, StopsNext}
+use Rattle.ffv1_engine.specs.Encoding.{Encoded, EncodesOne, EndsAt, EndsKnown, StopsBy, StopsNext}
 use Rattle.ffv1_engine.specs.Faults.{Cause, cause_of, of_avi}
 use Rattle.ffv1_engine.specs.Faults.Cause.{Reading, Writing, Memory, Content}
 use Rattle.ffv1_engine.specs.PackMatroska.{is_matroska_pack_fault}
@@ -32,7 +32,8 @@ use Rattle.ffv1_engine.specs.Video.{ReadsPictures, at_first, picture_next}
 use Rattle.ffv1_engine.specs.VideoReads.{PictureLacks, PictureWants, VideoReading}
 use Rattle.ffv1_engine.proofs.FramesTold.{take_past}
 use Rattle.ffv1_engine.proofs.PicturesEncoded.{encoded_after}
-use Rattle.ffv1_engine.proofs.PicturesSoFar.{all_frames, encoded_all, encoded_more, ends_after, joined, known_after, known_next, lacks_after, memory_kept, wants_after}
+use Rattle.ffv1_engine.proofs.PicturesRead.{joined, memory_kept, read_none}
+use Rattle.ffv1_engine.proofs.PicturesSoFar.{all_frames, encoded_all, encoded_more, ends_after, known_after, known_next, lacks_after, wants_after}
 
 -- ---- what is known of the faults
 
@@ -169,14 +170,10 @@ module _ (laws : MorePieces) (w v u : Writer) (frames : List (List ℕ)) (frame 
 
 -- ---- pictures that are encoded and put, one after the other
 
-known_none : (o : Option (List ℕ)) (r : VideoReading) → PicturesKnown o o r []
-known_none None r = tt
-known_none (Some text) r = refl
-
 pub encoded_none : (o : Option (List ℕ)) (n : ℕ) (a : Accepted) (r : VideoReading) → r.failed ≡ None → r.begun ≡ true → Encoded (record { old = o; new = o; before = n; after = n }) a r r []
 encoded_none o n a r working begun = record {
   pictures = [];
-  known = known_none o r;
+  known = (read_none o n r working begun).known;
   kept = refl;
   short = tt;
   are = refl;

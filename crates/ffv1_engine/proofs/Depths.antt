@@ -5,19 +5,19 @@ use Rattle.std.proofs.lemmas.Bool.Decides.{nat_tests}
 use Rattle.ffv1_samples.specs.Samples.{sample_bytes}
 use Rattle.ffv1_y4m.specs.Ppm.{bytes_for}
 use Rattle.ffv1_record.specs.Accepted.{IsFirst, IsFirstUpTo, IsFirstWhere, checks, has_depth, is_depth}
-use Rattle.ffv1_record.specs.Configuration.{Configuration, is_rct}
+use Rattle.ffv1_record.specs.Configuration.{Configuration}
 use Rattle.ffv1_record.specs.declared.fault.RecordFault.{RecordFault}
 use Rattle.ffv1_record.specs.declared.fault.RecordFault.TheVariants as record_fault
 use Rattle.ffv1_engine.specs.declared.profile.Profile.{Profile}
 use Rattle.ffv1_engine.specs.declared.profile.Profile.TheVariants.{Strict, Wide}
 use Rattle.ffv1_engine.specs.Profiles.{greatest_depth}
 
-within : (most : ℕ) (rct : Bool) (n : ℕ) → IsTrue (is_depth most rct n) → n ≤ most
-within most rct n h = grind (arith, nat_tests)
+within : (most n : ℕ) → IsTrue (is_depth most n) → n ≤ most
+within most n h = grind (arith, nat_tests)
 
 -- a configuration has at most the greatest depth
 pub depth_within : (most : ℕ) (c : Configuration) → IsTrue (has_depth most c) → c.depth ≤ most
-depth_within most c h = within most (is_rct c.colour) c.depth h
+depth_within most c h = within most c.depth h
 
 -- 16 is the greatest depth of all
 pub all_within : (profile : Profile) (n : ℕ) → n ≤ greatest_depth profile → n ≤ 16
@@ -41,7 +41,7 @@ first_or_depth most c f h = first_where (has_depth most c) c f h
 -- at 8 bits it is no depth that is refused
 pub first_of_eight : (c : Configuration) (f : RecordFault) → c.depth ≡ 8 → IsFirstUpTo 8 c f → IsFirst checks c f
 first_of_eight c f deep h =
-    let has : has_depth 8 c ≡ true = ap (λ n. is_depth 8 (is_rct c.colour) n) deep in
+    let has : has_depth 8 c ≡ true = ap (λ n. is_depth 8 n) deep in
     subst (λ b. IsFirstWhere b c f) has h
 
 -- the bytes of so many samples

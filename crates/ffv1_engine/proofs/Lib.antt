@@ -11,6 +11,7 @@ mod VideoPictures
 mod VideoFits
 mod VideoChecks
 mod PicturesEncoded
+mod PicturesRead
 mod PicturesSoFar
 mod ClustersPut
 mod VideoEncoded
@@ -43,3 +44,11 @@ mod PackedFrames
 mod PackedText
 mod PackedIsUnpacked
 mod MatroskaUnpacked
+mod PixelsHashed
+mod EvenPlanes
+mod SmallDigits
+mod Md5sSoFar
+mod FileMd5
+mod TextLines
+mod GridLists
+mod GridsPass

@@ -31,13 +31,14 @@ use Rattle.ffv1_engine.specs.Clusters.{AreClusters, EndsPutting, PutAll, PutsAll
 use Rattle.ffv1_engine.specs.Encoding.{AllKnown, PicturesKnown}
 use Rattle.ffv1_engine.specs.Faults.{Cause, cause_of, of_avi, of_record}
 use Rattle.ffv1_engine.specs.Faults.Cause.{Reading, Writing, Memory, Content}
+use Rattle.ffv1_engine.specs.Grids.{choice_for}
 use Rattle.ffv1_engine.specs.PackMatroska.{EndsClusters, FaultsBefore, FinishFails, HasClusters, LacksMatroska, LacksMatroskaBy, OpensMatroska, PacksMatroska, PacksSome, RefusesMatroska, RefusesMatroskaBy, StandsAfterHead, begun_file, is_matroska_pack_fault, shown_for, whole_file}
 use Rattle.ffv1_engine.specs.Packing.{AreReadable, IsFor, bytes_in, configuration_for, frames_for, head_for}
 use Rattle.ffv1_engine.specs.Video.{Begins, ReadsPictures, ReadsVideo, SaidHead, Video, at_first, is_ppm, video_head}
 use Rattle.ffv1_engine.specs.VideoReads.{HeadKnown, HeadRead, HeadRefused, HeadRefusedBy, IsHeadOf, LacksKnown, PictureLacks, PictureWants, VideoReading}
 use Rattle.ffv1_engine.proofs.KnownTexts.{known_map, known_taken}
 use Rattle.ffv1_engine.proofs.MatroskaFinished.{EndLaws, cut_cues, finished, finished_some, with_cues}
-use Rattle.ffv1_engine.proofs.PicturesSoFar.{joined}
+use Rattle.ffv1_engine.proofs.PicturesRead.{joined}
 use Rattle.ffv1_engine.proofs.VideoEncoded.{content_check, has_head, next_up_to, reads_up_to, video_of}
 use Rattle.ffv1_engine.proofs.VideoEnds.{reads_video, some_pictures}
 
@@ -65,7 +66,7 @@ no_head_by most Content choice p f h = (h.0, lacks_before most p.old p.new choic
 pub no_head : (most : ℕ) (choice : Choice) (p : Passage) (f : Fault) → HeadRefused most p f → LacksMatroska most choice p f
 no_head most choice p f h = no_head_by most (cause_of f) choice p f h
 
-rejected_before : (most : ℕ) (old new : Option (List ℕ)) (choice : Choice) (r : VideoReading) (g : RecordFault) → HeadKnown most old new r.ppm r.head → IsFirstUpTo most (configuration_for choice r.ppm r.head) g →
+rejected_before : (most : ℕ) (old new : Option (List ℕ)) (choice : Choice) (r : VideoReading) (g : RecordFault) → HeadKnown most old new r.ppm r.head → IsFirstUpTo most (configuration_for (choice_for choice r.head) r.ppm r.head) g →
     FaultsBefore most choice old new (of_record g)
 rejected_before most None new choice r g k i = tt
 rejected_before most (Some text) None choice r g k i = k
@@ -73,7 +74,7 @@ rejected_before most (Some text) (Some rest) choice r g k i = inr (inl (record {
   head = r.head;
   read = k.1;
   refusal = g;
-  first = subst (λ b. IsFirstUpTo most (configuration_for choice b r.head) g) k.0 i;
+  first = subst (λ b. IsFirstUpTo most (configuration_for (choice_for choice r.head) b r.head) g) k.0 i;
   is = refl;
 }))
 
@@ -83,13 +84,13 @@ after_head most old new r k = known_map old new (λ text rest. (r.ppm ≡ is_ppm
 pub no_memory : (most : ℕ) (choice : Choice) (p : Passage) (r : VideoReading) (f : Fault) → HeadRead most p r → f ≡ fault.OutOfMemory → LacksMatroska most choice p f
 no_memory most choice p r f h e = rw e (h.kept, has_head most p.old p.new r h.known, after_head most p.old p.new r h.known)
 
-pub not_accepted : (most : ℕ) (choice : Choice) (p : Passage) (r : VideoReading) (f : Fault) → HeadRead most p r → (f ≡ fault.OutOfMemory) ⊎ ((g : RecordFault) × IsFirstUpTo most (configuration_for choice r.ppm r.head) g × (f ≡ of_record g)) →
+pub not_accepted : (most : ℕ) (choice : Choice) (p : Passage) (r : VideoReading) (f : Fault) → HeadRead most p r → (f ≡ fault.OutOfMemory) ⊎ ((g : RecordFault) × IsFirstUpTo most (configuration_for (choice_for choice r.head) r.ppm r.head) g × (f ≡ of_record g)) →
     LacksMatroska most choice p f
 not_accepted most choice p r f h (inl e) = no_memory most choice p r f h e
 not_accepted most choice p r f h (inr (g, i, e)) =
-    subst (λ x. LacksMatroska most choice p x) (sym e) (subst (λ c. LacksMatroskaBy most c choice p (of_record g)) (sym (content_check most (configuration_for choice r.ppm r.head) g i)) (h.kept, rejected_before most p.old p.new choice r g h.known i))
+    subst (λ x. LacksMatroska most choice p x) (sym e) (subst (λ c. LacksMatroskaBy most c choice p (of_record g)) (sym (content_check most (configuration_for (choice_for choice r.head) r.ppm r.head) g i)) (h.kept, rejected_before most p.old p.new choice r g h.known i))
 
-untimed_before : (most : ℕ) (old new : Option (List ℕ)) (choice : Choice) (r : VideoReading) (a : Accepted) → HeadKnown most old new r.ppm r.head → IsFor choice r.ppm r.head a →
+untimed_before : (most : ℕ) (old new : Option (List ℕ)) (choice : Choice) (r : VideoReading) (a : Accepted) → HeadKnown most old new r.ppm r.head → IsFor (choice_for choice r.head) r.ppm r.head a →
     (IsTimed (rate_in (head_for choice r.ppm r.head a.configuration)) → ⊥) → FaultsBefore most choice old new fault.Rate
 untimed_before most None new choice r a k for untimed = tt
 untimed_before most (Some text) None choice r a k for untimed = k
@@ -97,13 +98,13 @@ untimed_before most (Some text) (Some rest) choice r a k for untimed = inr (inr 
   head = r.head;
   read = k.1;
   accepted = a;
-  for = subst (λ b. IsFor choice b r.head a) k.0 for;
+  for = subst (λ b. IsFor (choice_for choice r.head) b r.head a) k.0 for;
   untimed = subst (λ b. IsTimed (rate_in (head_for choice b r.head a.configuration)) → ⊥) k.0 untimed;
   is = refl;
 }))
 
 -- a writer that is not made
-pub not_made : (most : ℕ) (choice : Choice) (p : Passage) (r : VideoReading) (a : Accepted) (head : Head) (shown : Shown) (f : FileFault) → HeadRead most p r → IsFor choice r.ppm r.head a →
+pub not_made : (most : ℕ) (choice : Choice) (p : Passage) (r : VideoReading) (a : Accepted) (head : Head) (shown : Shown) (f : FileFault) → HeadRead most p r → IsFor (choice_for choice r.head) r.ppm r.head a →
     head ≡ head_for choice r.ppm r.head a.configuration → Makes head shown (Err f) → LacksMatroska most choice p (of_avi f) × (is_matroska_pack_fault (of_avi f) ≡ true)
 not_made most choice p r a head shown file_fault.Rate h for same makes =
     ((h.kept, untimed_before most p.old p.new choice r a h.known for (subst (λ k. IsTimed (rate_in k) → ⊥) same makes)), refl)
@@ -124,7 +125,7 @@ not_made most choice p r a head shown file_fault.Laced h for same makes = absurd
 not_made most choice p r a head shown file_fault.Checksum h for same makes = absurd makes
 
 -- a writer that is made
-pub made : (most : ℕ) (choice : Choice) (p : Passage) (r : VideoReading) (a : Accepted) (head : Head) (shown : Shown) (w : Writer) → HeadRead most p r → IsHeadOf r → IsFor choice r.ppm r.head a →
+pub made : (most : ℕ) (choice : Choice) (p : Passage) (r : VideoReading) (a : Accepted) (head : Head) (shown : Shown) (w : Writer) → HeadRead most p r → IsHeadOf r → IsFor (choice_for choice r.head) r.ppm r.head a →
     head ≡ head_for choice r.ppm r.head a.configuration → shown ≡ shown_for r.head → Makes head shown (Ok w) → OpensMatroska most choice p r a w
 made most choice p r a head shown w read is for same how makes = record {
   read = read;
@@ -148,16 +149,16 @@ lacks most choice p o n f h = lacks_by most (cause_of f) choice p o n f h
 -- ---- Clusters were written
 
 -- YUV4MPEG2 does not ask which depths a header may say
-wants_up_to : (ppm : Bool) (n most : ℕ) (h : SaidHead) (ps : List Planes) (left rest : List ℕ) → (ppm ≡ true → n ≡ most) → PictureWants ppm n h ps left rest → PictureWants ppm most h ps left rest
+pub wants_up_to : (ppm : Bool) (n most : ℕ) (h : SaidHead) (ps : List Planes) (left rest : List ℕ) → (ppm ≡ true → n ≡ most) → PictureWants ppm n h ps left rest → PictureWants ppm most h ps left rest
 wants_up_to true n most h ps left rest e is = subst (λ k. PictureWants true k h ps left rest) (e refl) is
 wants_up_to false n most h ps left rest e is = is
 
-lacks_up_to : (ppm : Bool) (n most : ℕ) (h : SaidHead) (ps : List Planes) (left rest : List ℕ) → (ppm ≡ true → n ≡ most) → PictureLacks ppm n h ps left rest → PictureLacks ppm most h ps left rest
+pub lacks_up_to : (ppm : Bool) (n most : ℕ) (h : SaidHead) (ps : List Planes) (left rest : List ℕ) → (ppm ≡ true → n ≡ most) → PictureLacks ppm n h ps left rest → PictureLacks ppm most h ps left rest
 lacks_up_to true n most h ps left rest e is = subst (λ k. PictureLacks true k h ps left rest) (e refl) is
 lacks_up_to false n most h ps left rest e is = is
 
 -- after its head these pictures of a text were read, and then so much
-video_then : (most : ℕ) (old mid new : Option (List ℕ)) (r : VideoReading) (ps : List Planes) (P Q : List ℕ → List ℕ → Type 0) → ((left rest : List ℕ) → P left rest → Q left rest) → (r.ppm ≡ true → r.most ≡ most) → HeadKnown most old mid r.ppm r.head →
+pub video_then : (most : ℕ) (old mid new : Option (List ℕ)) (r : VideoReading) (ps : List Planes) (P Q : List ℕ → List ℕ → Type 0) → ((left rest : List ℕ) → P left rest → Q left rest) → (r.ppm ≡ true → r.most ≡ most) → HeadKnown most old mid r.ppm r.head →
     Known mid new (λ text rest. (left : List ℕ) × ReadsPictures r.ppm r.most r.head true text ps left × P left rest) → Known old new (λ text rest. (left : List ℕ) × Begins most text (video_of r ps) left × Q left rest)
 video_then most None mid new r ps P Q f later h k = tt
 video_then most (Some text) None new r ps P Q f later h k = absurd h
@@ -166,7 +167,7 @@ video_then most (Some text) (Some behind) (Some rest) r ps P Q f later h (left, 
     (left, record { kind = h.0; behind = behind; head = h.1; pictures = reads_up_to r.ppm r.most most r.head true behind ps left later reads }, f left rest is)
 
 -- and nothing after them
-video_known : (most : ℕ) (old mid new : Option (List ℕ)) (r : VideoReading) (ps : List Planes) → (r.ppm ≡ true → r.most ≡ most) → HeadKnown most old mid r.ppm r.head → PicturesKnown mid new r ps → Known old new (λ text rest. Begins most text (video_of r ps) rest)
+pub video_known : (most : ℕ) (old mid new : Option (List ℕ)) (r : VideoReading) (ps : List Planes) → (r.ppm ≡ true → r.most ≡ most) → HeadKnown most old mid r.ppm r.head → PicturesKnown mid new r ps → Known old new (λ text rest. Begins most text (video_of r ps) rest)
 video_known most None mid new r ps later h k = tt
 video_known most (Some text) None new r ps later h k = absurd h
 video_known most (Some text) (Some behind) None r ps later h k = k

@@ -25,6 +25,7 @@ use Rattle.ffv1_matroska.proofs.WrittenLengths.{checked_long}
 use Rattle.ffv1_y4m.specs.VideoHead.{IsRatio}
 use Rattle.ffv1_words.specs.declared.order.Choice.{Choice}
 use Rattle.ffv1_engine.specs.MatroskaRoundTrip.{WasPackedMatroska, matroska_file, matroska_video}
+use Rattle.ffv1_engine.specs.Grids.{choice_for}
 use Rattle.ffv1_engine.specs.PackMatroska.{HasClusters, begun_file, shown_for, whole_file}
 use Rattle.ffv1_engine.specs.Packing.{AreReadable, packed_frames, packed_head, said_for}
 use Rattle.ffv1_engine.specs.RoundTrip.{IsReadIn}
@@ -149,7 +150,7 @@ writable frame_laws records choice v a has some rated =
       timed = has.timed;
       record_is = all_bytes (record_of a.configuration) (record_are_bytes a.configuration);
       short = tracks_short (packed_head choice v a) (shown_for v.head)
-          (subst (λ c. length (record_of c) ≤ 2568) (sym has.for.configuration) (record_most records.symbols choice v.ppm v.head (subst HasLowNumbers has.for.configuration (low_numbers records.numbers a.configuration a.table has.for.accepted))));
+          (subst (λ c. length (record_of c) ≤ 2568) (sym has.for.configuration) (record_most records.symbols (choice_for choice v.head) v.ppm v.head (subst HasLowNumbers has.for.configuration (low_numbers records.numbers a.configuration a.table has.for.accepted))));
       written = are_written frame_laws a has.for.accepted (said_for v.head) v.pictures has.readable;
       near = has.near some;
     }
@@ -215,7 +216,7 @@ accepted_wide w = record { configuration = w.packs.accepted.configuration; table
 pub packed_so : (packing : Profile) (choice : Choice) (text : List ℕ) (w : WasPackedMatroska packing choice text) → IsReadVideo (greatest_depth packing) text (matroska_video w)
 packed_so packing choice text w = reads_is (greatest_depth packing) text w.input.old w.input.new w.packs.video w.known w.packs.reads
 
-pub given : (packing : Profile) (choice : Choice) (text : List ℕ) (w : WasPackedMatroska packing choice text) → Given choice text (matroska_video w) (accepted_wide w)
+pub given : (packing : Profile) (choice : Choice) (text : List ℕ) (w : WasPackedMatroska packing choice text) → Given (choice_for choice w.packs.video.head) text (matroska_video w) (accepted_wide w)
 given packing choice text w = record {
   most = greatest_depth packing;
   is = reads_is (greatest_depth packing) text w.input.old w.input.new w.packs.video w.known w.packs.reads;

@@ -19,7 +19,7 @@ use Rattle.ffv1_engine.specs.Packing.{AllShort, IsFor, configuration_for, frames
 use Rattle.ffv1_engine.specs.Video.{ReadsPictures, Video, at_first, picture_next}
 use Rattle.ffv1_engine.specs.VideoReads.{HeadKnown, HeadRead, HeadRefused, HeadRefusedBy, LacksKnown, VideoReading}
 use Rattle.ffv1_engine.proofs.Depths.{first_or_depth}
-use Rattle.ffv1_engine.proofs.PicturesSoFar.{joined}
+use Rattle.ffv1_engine.proofs.PicturesRead.{joined}
 
 -- the faults of a configuration are no want of memory
 first_content : (c : Configuration) (g : RecordFault) → IsFirst checks c g → cause_of (of_record g) ≡ Content

@@ -23,7 +23,7 @@ use Rattle.ffv1_engine.specs.Pack.{EncodesVideo, EndsVideo}
 use Rattle.ffv1_engine.specs.Packing.{IsFor, frames_for, head_for}
 use Rattle.ffv1_engine.specs.Video.{IsReadVideoBy, ReadsPictures, ReadsVideo, at_first, is_ppm, picture_next, seen_as, video_head}
 use Rattle.ffv1_engine.specs.VideoReads.{HeadKnown, HeadRead, IsHeadBy, IsHeadOf, VideoReading}
-use Rattle.ffv1_engine.proofs.PicturesSoFar.{joined}
+use Rattle.ffv1_engine.proofs.PicturesRead.{joined}
 use Rattle.ffv1_engine.proofs.VideoEncoded.{next_up_to, reads_up_to, video_of}
 
 -- an outcome is no false, unless it is a fault

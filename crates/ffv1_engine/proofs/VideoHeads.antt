@@ -9,7 +9,7 @@ use Rattle.ffv1_y4m.specs.Passage.{known_text}
 use Rattle.ffv1_y4m.specs.Reads.{ReadsAs, Refused, Nowhere, Wants}
 use Rattle.ffv1_y4m.specs.Header.{head_of_line, header_of, line_end, line_read, line_to}
 use Rattle.ffv1_y4m.specs.Ppm.{image_header}
-use Rattle.ffv1_y4m.specs.Sequence.{◌>>=◌, ◌then◌, Outcome, Reading, give, judge, left}
+use Rattle.ffv1_y4m.specs.Sequence.{◌>>=◌, Outcome, Reading, judge, left}
 use Rattle.ffv1_y4m.specs.declared.fault.Fault.{Fault as Y4mFault}
 use Rattle.ffv1_y4m.specs.declared.fault.Fault.TheVariants as fault
 use Rattle.ffv1_y4m.specs.declared.head.VideoHead.{VideoHead}

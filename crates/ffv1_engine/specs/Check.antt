@@ -57,7 +57,7 @@ module _ (profile : Profile) (place : Bool) (input output : Passage) where
     pub writes : Appends output.old output.new
         (frame_lines line.Sizes stream.accepted.configuration frames)
 
-  -- the same up to a place where this stands
+  -- the same up to where this holds
   pub record ChecksTo (stream : Stream) (frames : List Frame) (to : Place) (at : Option (List ℕ))
       : Type 0 where
     pub played : Played profile stream frames
@@ -164,8 +164,8 @@ module _ (profile : Profile) (place : Bool) (input output : Passage) where
   abbrev pub CheckStops : Fault → Type 0
   CheckStops f = CheckPayload f ⊎ CheckStopsBy f (cause_of f)
 
--- the faults that a check has, whatever the file: those of opening it and of telling its frames, and
--- that there is none
+-- the faults that a check has, whatever the file: those of opening it and of telling its frames,
+-- and that there is none
 abbrev pub IsCheckFault : Profile → Fault → Type 0
 IsCheckFault profile f =
     (is_opening_fault f ≡ true) ⊎ (is_telling_fault f ≡ true) ⊎ (f ≡ fault.NoFrames)

@@ -28,8 +28,8 @@ abbrev pub check_all_text : Bool → Configuration → List Judged → List ℕ
 check_all_text place c js = judged_lines place c js
     ++ counts_line (saturated (length js)) (saturated (length (refusals js)))
 
--- a file has this head and these payloads; and then comes a place where this stands of what is left
--- before and after
+-- a file has this head and these payloads; and then comes a position where this holds of what is
+-- left before and after
 abbrev pub FileThen : Profile → Head → List (List ℕ) → (Place → List ℕ → List ℕ → Type 0) →
     List ℕ → List ℕ → Type 0
 FileThen profile head payloads Next file rest =
@@ -79,7 +79,8 @@ module _ (profile : Profile) (place : Bool) (input output : Passage) where
     pub stream : Stream
     pub judged : List Judged
     pub over : CheckAllOver stream judged
-    pub lines : WritesJudged (FileThen profile stream.head) place stream.accepted input output judged
+    pub lines : WritesJudged (FileThen profile stream.head) place stream.accepted input output
+        judged
 
   -- there is no frame, and nothing was written
   pub record CheckAllNone : Type 0 where
@@ -98,7 +99,8 @@ module _ (profile : Profile) (place : Bool) (input output : Passage) where
   pub record CheckAllGoes (f : Fault) (why : Cause) : Type 0 where
     pub stream : Stream
     pub is : IsStream profile stream
-    pub stops : JudgingStopsBy (FileThen profile stream.head) place stream.accepted input output f why
+    pub stops : JudgingStopsBy (FileThen profile stream.head) place stream.accepted input output f
+        why
 
   -- why it is refused: the file was not opened, with nothing written; or it has no further frame
   -- that is judged, which no fault of a payload is a reason for; or the line after all frames is

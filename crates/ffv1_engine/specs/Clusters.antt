@@ -105,8 +105,8 @@ pub record PutsBeginning (a : Accepted) (r : VideoReading) (w : Writer) (input o
   pub writes : WritesUpTo output.old output.new (length (begun_for a r w pictures))
       (begun_for a r w (pictures ++ next ∷ []))
 
--- why not all have Clusters that were written: a read of the next picture failed, which was counted;
--- a write of its Cluster did; memory was refused for it; or it has a fault, or no Cluster
+-- why not all have Clusters that were written: a read of the next picture failed, which was
+-- counted; a write of its Cluster did; memory was refused for it; or it has a fault, or no Cluster
 abbrev pub StopsPuttingBy : Cause → Accepted → VideoReading → Writer → Passage → Passage → Fault →
     Type 0
 StopsPuttingBy Reading a r w input output f =

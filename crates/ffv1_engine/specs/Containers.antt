@@ -18,7 +18,7 @@ abbrev pub is_profile_fault : Profile → Fault → Bool
 is_profile_fault Strict f = false
 is_profile_fault Wide f = is_matroska_fault f
 
--- a place in a file that a profile reads
+-- a position in a file that a profile reads
 abbrev pub IsWithin : Profile → Place → Type 0
 IsWithin Strict place = container_of place ≡ container.Avi
 IsWithin Wide place = ⊤

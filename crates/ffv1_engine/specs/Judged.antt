@@ -137,8 +137,8 @@ one_counted c (Some f) = record {
 
 -- ---- what comes after them
 
--- from this place of a file this text begins with these payloads; and then comes a place where this
--- stands of what is left before and after
+-- from this place of a file this text begins with these payloads; and then comes a position where
+-- this stands of what is left before and after
 abbrev pub HasThen : Place → List (List ℕ) → (Place → List ℕ → List ℕ → Type 0) → List ℕ →
     List ℕ → Type 0
 HasThen from payloads Next text rest =

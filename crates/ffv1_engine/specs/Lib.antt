@@ -6,7 +6,9 @@ pub mod Plane
 pub mod Report
 pub mod Trial
 pub mod Video
+pub mod Grids
 pub mod Packing
+pub mod GridChecks
 pub mod Pack
 pub mod Stream
 pub mod Play
@@ -24,8 +26,13 @@ pub mod PicturesOut
 pub mod Unpack
 pub mod ImagesOut
 pub mod StreamLines
+pub mod RawPicture
+pub mod Md5Text
+pub mod Md5Frames
+pub mod FrameMd5
 pub mod Show
 pub mod Clusters
 pub mod PackMatroska
+pub mod TextMd5
 pub mod RoundTrip
 pub mod MatroskaRoundTrip

@@ -31,7 +31,8 @@ abbrev pub stream_of : Standing → Accepted → Stream
 stream_of r a = record { head = r.head; accepted = a }
 
 -- a file was opened
-pub record OpensStream (profile : Profile) (r : Standing) (a : Accepted) (p : Passage) : Type 0 where
+pub record OpensStream (profile : Profile) (r : Standing) (a : Accepted) (p : Passage)
+    : Type 0 where
   pub stream : IsStream profile (stream_of r a)
   pub known : OpensKnown profile p.old p.new r.head r.place
   pub within : IsWithin profile r.place

@@ -146,7 +146,7 @@ is_pack_fault fault.NoFrames = true
 is_pack_fault fault.FormatChanged = true
 is_pack_fault f = false
 
--- with the one of a depth that is read and not packed: RCT of 16 bits
+-- with the one of a depth that is read and not accepted
 abbrev pub IsPackFault : Profile → Fault → Type 0
 IsPackFault profile f = (is_pack_fault f ≡ true) ⊎ ((profile ≡ Wide) × (f ≡ fault.Depth))
 

@@ -5,14 +5,16 @@ use Rattle.std.specs.Io.KnownBytes.{Appends, Keeps}
 use Rattle.ffv1_wire.specs.Failures.{one_more}
 use Rattle.ffv1_wire.specs.Passage.{Passage}
 use Rattle.ffv1_wire.specs.Patches.{PatchesBeginning}
-use Rattle.ffv1_record.specs.Accepted.{Accepted}
+use Rattle.ffv1_record.specs.Accepted.{Accepted, IsFirstUpTo}
+use Rattle.ffv1_record.specs.declared.fault.RecordFault.{RecordFault}
 use Rattle.ffv1_codec.specs.Picture.{Planes}
 use Rattle.ffv1_codec.specs.Frame.{frame_of, HasLongSlice}
 use Rattle.ffv1_reads.specs.Known.{Known}
 use Rattle.ffv1_avi.specs.Streams.{limit}
 use Rattle.ffv1_matroska.specs.Rates.{IsTimed}
 use Rattle.ffv1_matroska.specs.Writers.{Writing as Writer, rate_in, writing_of}
-use Rattle.ffv1_matroska.specs.Written.{begun_of, end_place, finish_of, finished_of, open_of, opening}
+use Rattle.ffv1_matroska.specs.Written.{begun_of, end_place, finish_of, finished_of, open_of}
+use Rattle.ffv1_matroska.specs.Written.{opening}
 use Rattle.ffv1_matroska.specs.WrittenPlaces.{cluster_bytes, last_place}
 use Rattle.ffv1_matroska.specs.declared.shown.Shown.{Shown}
 use Rattle.ffv1_y4m.specs.Reads.{Wants}
@@ -24,10 +26,12 @@ use Rattle.ffv1_engine.specs.declared.profile.Profile.TheVariants.{Wide}
 use Rattle.ffv1_engine.specs.declared.fault.Fault.{Fault}
 use Rattle.ffv1_engine.specs.declared.fault.Fault.TheVariants as fault
 use Rattle.ffv1_engine.specs.declared.matroska_packing.PackedMatroska.{PackedMatroska}
-use Rattle.ffv1_engine.specs.Faults.{Cause, cause_of, of_y4m}
+use Rattle.ffv1_engine.specs.Faults.{Cause, cause_of, of_record, of_y4m}
 use Rattle.ffv1_engine.specs.Faults.Cause.{Reading, Writing, Memory, Content}
-use Rattle.ffv1_engine.specs.Pack.{HasHead, IsRejected, LacksHead, is_pack_fault}
-use Rattle.ffv1_engine.specs.Packing.{AllShort, AreReadable, IsFor, bytes_in, head_for}
+use Rattle.ffv1_engine.specs.Grids.{choice_for}
+use Rattle.ffv1_engine.specs.Pack.{HasHead, LacksHead, is_pack_fault}
+use Rattle.ffv1_engine.specs.Packing.{AllShort, AreReadable, IsFor, bytes_in, configuration_for}
+use Rattle.ffv1_engine.specs.Packing.{head_for}
 use Rattle.ffv1_engine.specs.Packing.{packed_frames, packed_head, said_for}
 use Rattle.ffv1_engine.specs.Play.{WritesUpTo}
 use Rattle.ffv1_engine.specs.Video.{Begins, ReadsVideo, Video, at_first, is_ppm, picture_next}
@@ -70,11 +74,12 @@ abbrev pub clusters_end : Choice → Video → Accepted → ℕ
 clusters_end choice v a =
     end_place (packed_head choice v a) (shown_for v.head) (packed_frames v a)
 
--- a video whose pictures have Clusters: whole nanoseconds say its rate, no slice is too long, no
--- frame is too long to be read, and the last Cluster does not end too far
+-- a video whose pictures have Clusters: its configuration has the grid of the choice, or the
+-- default one; whole nanoseconds say its rate, no slice is too long, no frame is too long to be
+-- read, and the last Cluster does not end too far
 pub record HasClusters (choice : Choice) (v : Video) (a : Accepted) : Type 0 where
   pub head : IsHeadBy v.ppm v.head.head
-  pub for : IsFor choice v.ppm v.head a
+  pub for : IsFor (choice_for choice v.head) v.ppm v.head a
   pub timed : IsTimed (rate_in (packed_head choice v a))
   pub short : AllShort a v.head v.pictures
   pub readable : AreReadable (packed_frames v a)
@@ -95,19 +100,29 @@ pub record PacksMatroska (most : ℕ) (choice : Choice) (input output : Passage)
   pub read : input.after ≡ input.before
   pub written : output.after ≡ output.before
 
+-- its head asks for a configuration that is not accepted
+pub record HasRejected (most : ℕ) (choice : Choice) (text rest : List ℕ) (f : Fault)
+    : Type 0 where
+  pub head : SaidHead
+  pub read : video_head most text ≡ Ok (head, rest)
+  pub refusal : RecordFault
+  pub first : IsFirstUpTo most
+      (configuration_for (choice_for choice head) (is_ppm text) head) refusal
+  pub is : f ≡ of_record refusal
+
 -- its head asks for a configuration that is accepted, and says a rate that no whole nanoseconds say
 pub record IsUntimed (most : ℕ) (choice : Choice) (text rest : List ℕ) (f : Fault) : Type 0 where
   pub head : SaidHead
   pub read : video_head most text ≡ Ok (head, rest)
   pub accepted : Accepted
-  pub for : IsFor choice (is_ppm text) head accepted
+  pub for : IsFor (choice_for choice head) (is_ppm text) head accepted
   pub untimed : IsTimed (rate_in (head_for choice (is_ppm text) head accepted.configuration)) → ⊥
   pub is : f ≡ fault.Rate
 
 -- the first fault of a text before its pictures, where it is known
 abbrev pub FaultsBefore : ℕ → Choice → Option (List ℕ) → Option (List ℕ) → Fault → Type 0
 FaultsBefore most choice old new f = Known old new (λ text rest.
-    LacksHead most text rest f ⊎ IsRejected most choice text rest f
+    LacksHead most text rest f ⊎ HasRejected most choice text rest f
     ⊎ IsUntimed most choice text rest f)
 
 -- the next picture has no Cluster: a slice of it is too long, or its frame is too long to be read,
@@ -234,7 +249,7 @@ is_matroska_pack_fault fault.Rate = true
 is_matroska_pack_fault fault.ChunkTooLong = true
 is_matroska_pack_fault f = is_pack_fault f
 
--- with the one of a depth that is read and not packed: RCT of 16 bits
+-- with the one of a depth that is read and not accepted
 abbrev pub IsMatroskaPackFault : Profile → Fault → Type 0
 IsMatroskaPackFault profile f =
     (is_matroska_pack_fault f ≡ true) ⊎ ((profile ≡ Wide) × (f ≡ fault.Depth))
@@ -245,7 +260,7 @@ pub record OpensMatroska (most : ℕ) (choice : Choice) (p : Passage) (r : Video
     (a : Accepted) (w : Writer) : Type 0 where
   pub read : HeadRead most p r
   pub head : IsHeadOf r
-  pub for : IsFor choice r.ppm r.head a
+  pub for : IsFor (choice_for choice r.head) r.ppm r.head a
   pub timed : IsTimed (rate_in (head_for choice r.ppm r.head a.configuration))
   pub fresh : w
       ≡ writing_of (head_for choice r.ppm r.head a.configuration) (shown_for r.head) []

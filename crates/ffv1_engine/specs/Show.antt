@@ -105,7 +105,7 @@ module _ (profile : Profile) (input output : Passage) where
     pub writes : Appends output.old output.new
         (cost_text (container_of comes.place) stream frames)
 
-  -- the same up to a place where this stands
+  -- the same up to where this holds
   pub record CostsTo (stream : Stream) (frames : List Frame) (to : Place) (at : Option (List ℕ))
       : Type 0 where
     pub played : Played profile stream frames
@@ -168,8 +168,8 @@ module _ (profile : Profile) (input output : Passage) where
     pub is : f ≡ of_codec fault.fault
     pub content : cause_of f ≡ Content
 
-  -- why what the frames cost is told no further, but for a payload's fault, by the cause: a write
-  -- failed, which was counted; a read failed, which was counted; memory was refused, for the
+  -- why what the frames cost is not printed further, but for a payload's fault, by the cause: a
+  -- write failed, which was counted; a read failed, which was counted; memory was refused, for the
   -- decoder, where nothing but the stream was shown, or for a frame; or the file has this fault
   abbrev pub CostStopsBy : Fault → Cause → Type 0
   CostStopsBy f Writing = CostFails

@@ -51,8 +51,8 @@ unfoldable pub contexts_line : List Set → List ℕ
 contexts_line sets =
     codes "contexts" ++ flat_map (λ set. codes " " ++ decimal (contexts_of set)) sets ++ codes "\n"
 
--- a set that FFmpeg refuses, as do programs that decode by it: its tables' numbers of values, each of
--- them odd, make a product above 32768
+-- a set that FFmpeg refuses, as do programs that decode by it: its tables' numbers of values, each
+-- of them odd, make a product above 32768
 abbrev pub is_wide : Set → Bool
 is_wide set = nat_lt 16384 (contexts_of set)
 

@@ -58,7 +58,7 @@ FileStopsBy ends reading p f Content =
 abbrev pub FileStops : {X : Type 0} → Bool → avi.Reading X → Passage → Fault → Type 0
 FileStops ends reading p f = FileStopsBy ends reading p f (cause_of f)
 
--- the same of the next frame from a place on
+-- the same of the next frame from a position on
 abbrev pub StopsFrom : Place → Passage → Fault → Type 0
 StopsFrom from p f = FileStops (may_end from) (frame_read from) p f
 
@@ -143,7 +143,7 @@ module _ (kind : FrameLine) (place : Bool) (a : Accepted) (from : Place)
     pub written : output.after ≡ output.before
     pub writes : Appends output.old output.new (frame_lines kind a.configuration frames)
 
-  -- after these frames, which are read up to a place where this stands, nothing was written
+  -- after these frames, which are read up to where this holds, nothing was written
   pub record ToldSome (frames : List Frame) (to : Place) (at : Option (List ℕ)) : Type 0 where
     pub are : AreFrames a frames
     pub read : ReadsKnown from input.old at frames to

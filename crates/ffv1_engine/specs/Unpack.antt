@@ -145,7 +145,7 @@ module _ (profile : Profile) (input output : Passage) where
     pub written : output.after ≡ output.before
     pub writes : Appends output.old output.new (text_of stream frames)
 
-  -- the file begins with these frames up to a place where this stands, and their text was written
+  -- the file begins with these frames up to where this holds, and their text was written
   pub record UnpacksTo (stream : Stream) (frames : List Frame) (to : Place)
       (at : Option (List ℕ)) : Type 0 where
     pub text : HasText stream
@@ -194,8 +194,8 @@ module _ (profile : Profile) (input output : Passage) where
   abbrev pub UnpackStops : Fault → Type 0
   UnpackStops f = UnpackStopsBy f (cause_of f)
 
--- the faults that unpacking has, whatever the file: those of opening it, of reading and decoding its
--- frames and of writing, and its own four
+-- the faults that unpacking has, whatever the file: those of opening it, of reading and decoding
+-- its frames and of writing, and its own four
 abbrev pub IsUnpackFault : Fault → Type 0
 IsUnpackFault f =
     (is_opening_fault f ≡ true) ⊎ (is_telling_fault f ≡ true) ⊎ (f ≡ fault.NoFrames)

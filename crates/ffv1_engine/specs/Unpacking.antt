@@ -25,7 +25,8 @@ use Rattle.ffv1_engine.specs.Unpacked.{AreAlike, is_ppm_stream, lines_before, ro
 use Rattle.std.specs.Prelude.{true}
 
 -- decoding of a payload came to a line that is handed over next, after these
-pub record HandsOver (s : Stream) (payload : List ℕ) (lines : List Line) (next : Line) : Type 0 where
+pub record HandsOver (s : Stream) (payload : List ℕ) (lines : List Line) (next : Line)
+    : Type 0 where
   pub offsets : List ℕ
   pub cut : cut_of s.accepted.configuration payload ≡ Ok offsets
   pub state : State
@@ -70,7 +71,7 @@ module _ (s : Stream) (from : Place) (input output : Passage) where
     pub written : output.after ≡ output.before
     pub writes : Appends output.old output.new (text_of s frames)
 
-  -- the same up to a place where this stands
+  -- the same up to where this holds
   pub record UnpackedTo (frames : List Frame) (to : Place) (at : Option (List ℕ)) : Type 0 where
     pub are : AreFrames s.accepted frames
     pub alike : AreAlike s frames

@@ -125,7 +125,7 @@ fn write_counts<W: ByteOut, A: Allocator + Copy>(
 /// All other faults end it as they end `check`, after the lines of the frames before: those of the
 /// file up to its first frame, of its record, and of the chunks of its frames (`EmptyFrame`, too);
 /// `NoFrames` at the end where there was none; `Read`, `OutOfMemory` and `Write` as they come,
-/// `Write` also where the line of a place is not written.
+/// `Write` also where the line of a position is not written.
 pub fn check_all<R: ByteIn, W: ByteOut, A: Allocator + Copy>(
     alloc: A,
     profile: Profile,

@@ -11,7 +11,7 @@ ghost use Rattle.ffv1_engine.specs.Plane.{plane_residuals, plane_code, StandsBef
 
 use crate::fault::Fault;
 use crate::laws::code_comes_back;
-use crate::plane::fresh_states;
+use crate::plane::{MonoPlane, fresh_states};
 use ffv1_line::laws::{cell_comes_back, rolling};
 use ffv1_line::{Above, Coding, RollingRows, decode_line};
 use ffv1_plane::QuantSet;
@@ -90,23 +90,22 @@ fn decode_rows<A: Allocator + Copy>(
     table: &StateTable,
     set: &QuantSet<A>,
     states: &mut [u8],
-    width: usize,
-    height: usize,
-    samples: &[u8],
+    plane: &MonoPlane<'_>,
 ) -> Result<bool, AllocError>
-    requires some { 0 < width }
-    requires whole { length samples.now ≡ width * height }
+    requires some { 0 < plane.now.width }
+    requires whole { length plane.now.samples.now ≡ plane.now.width * plane.now.height }
     requires rows { length states.old ≡ contexts_of set.now * 32 }
     requires held { AllHeld table.now states.old }
-    requires stands { StandsBefore table.now states.old set.now (cell_of width samples.now)
-        (plane_residuals set.now width height samples.now) 0 decoder.old states.old
-        (replicate width 0) (replicate width 0) }
+    requires stands { StandsBefore table.now states.old set.now
+        (cell_of plane.now.width plane.now.samples.now)
+        (plane_residuals set.now plane.now.width plane.now.height plane.now.samples.now) 0
+        decoder.old states.old (replicate plane.now.width 0) (replicate plane.now.width 0) }
     ensures same { IfOk result (λ same. same ≡ true) }
 {
-    let mut rows = RollingRows::new(alloc, width)?;
-    for y in 0..height {
-        let start = y * width;
-        let row = &samples[start..start + width];
+    let mut rows = RollingRows::new(alloc, plane.width)?;
+    for y in 0..plane.height {
+        let start = y * plane.width;
+        let row = &plane.samples[start..start + plane.width];
         if !decode_row(decoder, table, set, states, &mut rows, row) {
             return Ok(false);
         }
@@ -142,15 +141,18 @@ pub(crate) fn decodes_to<A: Allocator + Copy>(
     let Ok(mut decoder) = RangeDecoder::new(code) else {
         return Ok(false);
     };
+    let plane = MonoPlane {
+        width: width as usize,
+        height: height as usize,
+        samples,
+    };
     let same = decode_rows(
         alloc,
         &mut decoder,
         &table,
         &set,
         states.as_mut_slice(),
-        width as usize,
-        height as usize,
-        samples,
+        &plane,
     )?;
     Ok(same)
 }

@@ -72,7 +72,7 @@ pub enum Fault {
     #[error("20 ColourSpace")]
     ColourSpace,
     /// The bits of a sample are none that the profile reads: 0, which means 8, and 8, and at `Wide`
-    /// also 9, 10, 12, 14 and, but for RCT, 16.
+    /// also 9, 10, 12, 14 and 16.
     #[error("21 Depth")]
     Depth,
     /// The initial states of a set are coded.

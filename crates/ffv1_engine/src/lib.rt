@@ -2,13 +2,13 @@
 //! The commands of the codec, as calls over any reader and writer of bytes: what the program `ffv1`
 //! does besides opening files, printing and its exit status.
 //!
-//! `words` reads a command line as an `Order`, of one of five commands; the call of the order's
-//! name does it, over a reader and a writer of `ffv1_wire`, and answers a `Fault` that displays as
-//! its number and name. `pack` codes a video into an AVI, and `pack_matroska` into Matroska, frame
-//! by frame; `unpack` decodes a file into a text again, `check` decodes all its frames, `show`
-//! tells what it says, and `trial` codes the first picture of a text and decodes it again;
-//! `code_plane` is its first half, over samples. The test `trials::example` of `ffv1_tests` runs
-//! these lines:
+//! `words` reads a command line as an `Order`, of one of six commands; the call of the order's name
+//! does it, over a reader and a writer of `ffv1_wire`, and answers a `Fault` that displays as its
+//! number and name. `pack` codes a video into an AVI, and `pack_matroska` into Matroska, frame by
+//! frame; `unpack` decodes a file into a text again, `check` decodes all its frames, `framemd5`
+//! writes the MD5 of each picture as FFmpeg does, and `framemd5_text` of a text, `show` tells what
+//! it says, and `trial` codes the first picture of a text and decodes it again; `code_plane` is its
+//! first half, over samples. The test `trials::example` of `ffv1_tests` runs these lines:
 //!
 //! ```text
 //! if let Order::Trial { .. } = words(alloc, &["ffv1", "trial", "disc.y4m"])? {
@@ -19,16 +19,20 @@
 
 mod checking;
 mod comparison;
+mod default_grid;
 mod encoding;
 mod fault;
 pub mod frame_line;
+mod hashing;
 mod images_out;
 mod judging;
 pub mod laws;
 mod matroska_packing;
+mod md5_lines;
 mod mono_trial;
 mod packing;
 mod picture;
+mod picture_md5;
 mod pictures_out;
 mod plane;
 pub mod player;
@@ -38,16 +42,19 @@ pub mod round_trip;
 mod showing;
 mod stream_lines;
 mod telling;
+mod text_md5;
 mod unpacking;
 mod video;
 
 pub use checking::{check, check_all};
 pub use fault::Fault;
 pub use ffv1_words::{Choice, CoderChoice, ContainerChoice, Order, words};
+pub use hashing::framemd5;
 pub use matroska_packing::{PackedMatroska, pack_matroska};
 pub use mono_trial::trial;
 pub use packing::{Packed, pack};
 pub use plane::{Coded, code_plane};
 pub use profile::Profile;
 pub use showing::show;
+pub use text_md5::framemd5_text;
 pub use unpacking::unpack;

@@ -1,17 +1,24 @@
 //! A video is packed into Matroska, picture by picture.
 
-ghost use Rattle.std.specs.Prelude.{◌≡◌, [], Bool, IfOk, IfErr, None, Ok, Some, true};
+ghost use Rattle.std.specs.Prelude.{◌≡◌, ◌⊎◌, ◌≤◌, [], Bool, IfOk, IfErr, None, Ok, Some, true};
 ghost use Rattle.ffv1_wire.specs.Passage.{passage};
 ghost use Rattle.ffv1_matroska.specs.Writers.{writing_of};
 ghost use Rattle.ffv1_engine.specs.Clusters.{PutsAll, StopsPutting};
 ghost use Rattle.ffv1_engine.specs.PackMatroska.{LacksMatroska, OpensMatroska, PacksMatroska};
 ghost use Rattle.ffv1_engine.specs.PackMatroska.{RefusesMatroska};
+ghost use Rattle.ffv1_record.specs.Accepted.{IsFirstUpTo};
+ghost use Rattle.ffv1_record.specs.declared.fault.RecordFault.{RecordFault};
+ghost use Rattle.ffv1_engine.specs.declared.fault.Fault.TheVariants as fault;
+ghost use Rattle.ffv1_engine.specs.Faults.{of_record};
+ghost use Rattle.ffv1_engine.specs.Grids.{choice_for};
+ghost use Rattle.ffv1_engine.specs.Pack.{IsPackFault};
 ghost use Rattle.ffv1_engine.specs.PackMatroska.{IsMatroskaPackFault, is_matroska_pack_fault};
 ghost use Rattle.ffv1_engine.specs.PackMatroska.{shown_for};
-ghost use Rattle.ffv1_engine.specs.Packing.{IsFor};
+ghost use Rattle.ffv1_engine.specs.Packing.{IsFor, configuration_for};
 ghost use Rattle.ffv1_engine.specs.Profiles.{greatest_depth};
 ghost use Rattle.ffv1_engine.specs.VideoReads.{reading_of};
 
+use crate::default_grid::grid_for;
 use crate::encoding::{checked_for, encode_picture, file_head};
 use crate::fault::Fault;
 use crate::packing::Packed;
@@ -20,6 +27,7 @@ use crate::video::VideoReader;
 use ffv1_codec::FrameEncoder;
 use ffv1_matroska::written_laws::pieces;
 use ffv1_matroska::{MatroskaWriter, Shown};
+use ffv1_record::Checked;
 use ffv1_wire::{ByteIn, ByteOut, PatchOut};
 use ffv1_words::Choice;
 use ffv1_y4m::laws::{images, texts};
@@ -60,6 +68,38 @@ fn shown_for<A: Allocator + Copy>(reader: &VideoReader<A>) -> Shown
     }
 }
 
+/// The choice with the grid of a video, its own or the default one.
+fn choice_for<A: Allocator + Copy>(choice: &Choice, reader: &VideoReader<A>) -> Choice
+    ensures { result ≡ choice_for choice.now (reading_of reader.now).head }
+{
+    let (columns, rows) = grid_for(choice, reader);
+    Choice {
+        columns,
+        rows,
+        ..*choice
+    }
+}
+
+/// The configuration of a video with that grid, checked in a profile, which reads its depth.
+fn checked_in_grid<A: Allocator + Copy>(
+    alloc: A,
+    profile: Profile,
+    choice: &Choice,
+    reader: &VideoReader<A>,
+) -> Result<Checked<A>, Fault>
+    requires { (reading_of reader.now).head.depth ≤ greatest_depth profile }
+    ensures ok { IfOk result (IsFor (choice_for choice.now (reading_of reader.now).head)
+        (reading_of reader.now).ppm (reading_of reader.now).head) }
+    ensures err { IfErr result (λ f. (f ≡ fault.OutOfMemory)
+        ⊎ ((g : RecordFault) × IsFirstUpTo (greatest_depth profile)
+        (configuration_for (choice_for choice.now (reading_of reader.now).head)
+        (reading_of reader.now).ppm (reading_of reader.now).head) g × (f ≡ of_record g))) }
+    ensures own { IfErr result (IsPackFault profile) }
+{
+    let chosen = choice_for(choice, reader);
+    checked_for(alloc, profile, &chosen, reader)
+}
+
 /// Reads the head of a video, and makes what encodes and writes its pictures.
 fn open_video<R: ByteIn, A: Allocator + Copy>(
     alloc: A,
@@ -75,7 +115,7 @@ fn open_video<R: ByteIn, A: Allocator + Copy>(
     ensures own { IfErr result (IsMatroskaPackFault profile) }
 {
     let reader = VideoReader::open(alloc, profile, input)?;
-    let checked = checked_for(alloc, profile, choice, &reader)?;
+    let checked = checked_in_grid(alloc, profile, choice, &reader)?;
     let head = file_head(alloc, choice, &reader, &checked)?;
     let writer = MatroskaWriter::new(alloc, &head, shown_for(&reader))?;
     Ok(Opened {
@@ -85,8 +125,8 @@ fn open_video<R: ByteIn, A: Allocator + Copy>(
     })
 }
 
-/// Encodes all pictures, and writes the Cluster of each at once. What is encoded is held until it is
-/// written, and no longer.
+/// Encodes all pictures, and writes the Cluster of each at once. What is encoded is held until it
+/// is written, and no longer.
 fn put_pictures<R: ByteIn, W: ByteOut, A: Allocator + Copy>(
     alloc: A,
     reader: &mut VideoReader<A>,
@@ -131,17 +171,21 @@ fn put_pictures<R: ByteIn, W: ByteOut, A: Allocator + Copy>(
 /// 5.1.3, with FFV1 as RFC 9043, 4.3.3, has it).
 ///
 /// The configuration and the frames are those of `pack`, and so are the depths that are read, rate
-/// and scale. Before the first Cluster comes all that stands before the Clusters, of a Segment of
-/// unknown size; after the last one come Cues, and then what stands before Tracks is written over,
-/// so that the file is finished. Where the output cannot be written over, the Segment's size stays
-/// unknown, and all else is there. One picture, its frame and the places of at most 8192 Clusters
-/// are held, however many pictures there are.
+/// and scale; but where the choice asks for `default_grid`, and not for columns and rows, a picture
+/// of more than 101376 pixels has at least 4 slices, as RFC 9043, section 5, wants it: the fewest,
+/// and of these those of fewest columns, that its sizes have, with fewer bytes of samples than 12
+/// MiB in the greatest; and one slice where it can have none such. Before the first Cluster comes
+/// all that stands before the Clusters, of a Segment of unknown size; after the last one come Cues,
+/// and then what stands before Tracks is written over, so that the file is finished. Where the
+/// output cannot be written over, the Segment's size stays unknown, and all else is there. One
+/// picture, its frame and the places of at most 8192 Clusters are held, however many pictures there
+/// are.
 ///
 /// The first fault is answered in this order. `Header`, `Tag` and `Unsupported` where the text has
-/// no head of a depth that is read; `Depth` where it is PPM of 16 bits; `Grid` and `ChromaEdge`
-/// where the choice does not suit its sizes; `Rate` where no whole nanoseconds a frame say its
-/// rate, as `ffv1_matroska::rate_of` reads them; nothing is written then. For each picture
-/// `FrameLine`, `FrameTruncated`, `SampleTooLarge`, for a later image `Header` and `FormatChanged`,
+/// no head of a depth that is read; `Grid` and `ChromaEdge` where the grid that is chosen does not
+/// suit its sizes; `Rate` where no whole nanoseconds a frame say its rate, as
+/// `ffv1_matroska::rate_of` reads them; nothing is written then. For each picture `FrameLine`,
+/// `FrameTruncated`, `SampleTooLarge`, for a later image `Header` and `FormatChanged`,
 /// `SliceTooLong` where a slice takes more than 16777215 bytes, `ChunkTooLong` where its frame
 /// takes more than 67108864 bytes, which no reader here takes, and `TooLarge` where its Cluster
 /// would end more than 2^56 - 2^20 bytes after the first byte of the Segment's content; `NoFrames`
@@ -150,11 +194,11 @@ fn put_pictures<R: ByteIn, W: ByteOut, A: Allocator + Copy>(
 ///
 /// No picture is read before the Clusters of those before it are written. `Read` where a read
 /// failed: nothing is written where the head wants one more byte; else the Clusters of exactly the
-/// pictures that were read whole are, and the next picture wants one more byte. `OutOfMemory`, which
-/// comes after the head alone: so, too, or the next picture was read whole, and memory for its frame
-/// was refused. `Write` where a write failed: a beginning of the file is then written, which ends in
-/// the Cluster of the last picture that was read, or in Cues; or the file whose Segment has no size,
-/// with a beginning of what it is written over by.
+/// pictures that were read whole are, and the next picture wants one more byte. `OutOfMemory`,
+/// which comes after the head alone: so, too, or the next picture was read whole, and memory for
+/// its frame was refused. `Write` where a write failed: a beginning of the file is then written,
+/// which ends in the Cluster of the last picture that was read, or in Cues; or the file whose
+/// Segment has no size, with a beginning of what it is written over by.
 pub fn pack_matroska<R: ByteIn, W: PatchOut, A: Allocator + Copy>(
     alloc: A,
     profile: Profile,

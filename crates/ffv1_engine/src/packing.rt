@@ -88,13 +88,13 @@ fn bytes_in<A: Allocator>(frames: &[Vec<u8, A>]) -> u64
 /// depth in a text; of what both read, the same is written.
 ///
 /// The first fault is answered in this order. `Header`, `Tag` and `Unsupported` where the text has
-/// no head of a depth that is read; `Depth` where it is PPM of 16 bits; `Grid` and `ChromaEdge`
-/// where the choice does not suit its sizes; for each picture `FrameLine`, `FrameTruncated`,
-/// `SampleTooLarge` where a sample is 2^depth or more, for a later image `Header` and
-/// `FormatChanged`, and `SliceTooLong` where a slice takes more than 16777215 bytes; `NoFrames`
-/// where there is no picture; `TooLarge` where the size of RIFF would pass 2147483647. `Read` where
-/// a read failed, and `OutOfMemory`, which comes after the head alone. Nothing is written then.
-/// `Write` where a write failed: a beginning of the file is then written, and not all of it.
+/// no head of a depth that is read; `Grid` and `ChromaEdge` where the choice does not suit its
+/// sizes; for each picture `FrameLine`, `FrameTruncated`, `SampleTooLarge` where a sample is
+/// 2^depth or more, for a later image `Header` and `FormatChanged`, and `SliceTooLong` where a
+/// slice takes more than 16777215 bytes; `NoFrames` where there is no picture; `TooLarge` where the
+/// size of RIFF would pass 2147483647. `Read` where a read failed, and `OutOfMemory`, which comes
+/// after the head alone. Nothing is written then. `Write` where a write failed: a beginning of the
+/// file is then written, and not all of it.
 pub fn pack<R: ByteIn, W: ByteOut, A: Allocator + Copy>(
     alloc: A,
     profile: Profile,

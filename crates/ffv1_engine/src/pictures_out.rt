@@ -1,6 +1,7 @@
 //! The pictures of a file are written as YUV4MPEG2, each when it is decoded.
 
-ghost use Rattle.std.specs.Prelude.{◌≡◌, ◌<◌, ℕ, IfErr, IfOk, List, None, OnOk, false, length, true};
+ghost use Rattle.std.specs.Prelude.{◌≡◌, ◌<◌, ℕ, IfErr, IfOk, List, None, OnOk, false, length};
+ghost use Rattle.std.specs.Prelude.{true};
 ghost use Rattle.ffv1_wire.specs.Passage.{passage};
 ghost use Rattle.ffv1_range.specs.Counts.{saturated};
 ghost use Rattle.ffv1_record.specs.Accepted.{IsAccepted};

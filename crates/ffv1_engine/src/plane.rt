@@ -27,6 +27,17 @@ pub struct Coded<A: Allocator = Global> {
     pub code: Vec<u8, A>,
 }
 
+/// A mono plane: its samples of 8 bits, row by row.
+#[derive(Clone, Copy)]
+pub(crate) struct MonoPlane<'a> {
+    /// Samples of a row.
+    pub(crate) width: usize,
+    /// Rows.
+    pub(crate) height: usize,
+    /// All samples.
+    pub(crate) samples: &'a [u8],
+}
+
 /// Fresh states, so many.
 pub(crate) fn fresh_states<A: Allocator>(alloc: A, count: usize) -> Result<Vec<u8, A>, AllocError>
     ensures { IfOk result (λ v. v.items ≡ replicate count 128) }
@@ -59,28 +70,26 @@ fn encode_rows<A: Allocator + Copy>(
     table: &StateTable,
     set: &QuantSet<A>,
     states: &mut [u8],
-    width: usize,
-    height: usize,
-    samples: &[u8],
+    plane: &MonoPlane<'_>,
 ) -> Result<(), Fault>
-    requires some { 0 < width }
-    requires whole { length samples.now ≡ width * height }
+    requires some { 0 < plane.now.width }
+    requires whole { length plane.now.samples.now ≡ plane.now.width * plane.now.height }
     requires rows { length states.old ≡ contexts_of set.now * 32 }
     requires held { AllHeld table.now states.old }
     ensures ok { OnOk result (Puts table.now encoder.old states.old encoder.new states.new
-        (cell_steps set.now (cell_of width samples.now) 0
-        (chosen_rows set.now 8 (cell_of width samples.now) height))) }
+        (cell_steps set.now (cell_of plane.now.width plane.now.samples.now) 0
+        (chosen_rows set.now 8 (cell_of plane.now.width plane.now.samples.now) plane.now.height))) }
     ensures err { IfErr result (λ f. f ≡ fault.OutOfMemory) }
 {
-    let mut rows = RollingRows::new(alloc, width)?;
+    let mut rows = RollingRows::new(alloc, plane.width)?;
     let coding = Coding {
         table,
         set,
         bits: 8,
     };
-    for y in 0..height {
-        let start = y * width;
-        load(&samples[start..start + width], &mut rows.cur);
+    for y in 0..plane.height {
+        let start = y * plane.width;
+        load(&plane.samples[start..start + plane.width], &mut rows.cur);
         let above = Above {
             two: &rows.two,
             one: &rows.one,
@@ -97,38 +106,29 @@ fn code_rows<A: Allocator + Copy>(
     table: &StateTable,
     set: &QuantSet<A>,
     states: &mut [u8],
-    width: usize,
-    height: usize,
-    samples: &[u8],
+    plane: &MonoPlane<'_>,
 ) -> Result<Coded<A>, Fault>
-    requires some { 0 < width }
-    requires whole { length samples.now ≡ width * height }
-    requires few { width * height ≤ 2 ^ 26 }
+    requires some { 0 < plane.now.width }
+    requires whole { length plane.now.samples.now ≡ plane.now.width * plane.now.height }
+    requires few { plane.now.width * plane.now.height ≤ 2 ^ 26 }
     requires fresh { states.old ≡ replicate (contexts_of set.now * 32) 128 }
     requires held { AllHeld table.now states.old }
-    ensures code { IfOk result (λ c. c.code.items ≡ plane_code table.now set.now width height
-        samples.now) }
-    ensures decisions { IfOk result (λ c. c.decisions ≡ length (plane_steps set.now width height
-        samples.now)) }
+    ensures code { IfOk result (λ c. c.code.items ≡ plane_code table.now set.now plane.now.width
+        plane.now.height plane.now.samples.now) }
+    ensures decisions { IfOk result (λ c. c.decisions ≡ length (plane_steps set.now plane.now.width
+        plane.now.height plane.now.samples.now)) }
     ensures residuals { IfOk result
-        (λ c. c.decisions ≡ cell_decisions (plane_residuals set.now width height samples.now)) }
+        (λ c. c.decisions ≡ cell_decisions (plane_residuals set.now plane.now.width plane.now.height
+        plane.now.samples.now)) }
     ensures long { IfOk result
         (λ c. length c.code.items + 1
-        ≡ (plane_end table.now set.now width height samples.now).count) }
+        ≡ (plane_end table.now set.now plane.now.width plane.now.height
+        plane.now.samples.now).count) }
     ensures err { IfErr result (λ f. f ≡ fault.OutOfMemory) }
 {
     set.bounded();
     let mut encoder = RangeEncoder::new(alloc);
-    encode_rows(
-        alloc,
-        &mut encoder,
-        table,
-        set,
-        states,
-        width,
-        height,
-        samples,
-    )?;
+    encode_rows(alloc, &mut encoder, table, set, states, plane)?;
     let decisions = encoder.decisions();
     let code = encoder.finish_sentinel()?;
     Ok(Coded { decisions, code })
@@ -165,13 +165,10 @@ pub fn code_plane<A: Allocator + Copy>(
     let table = StateTable::standard();
     let set = QuantSet::small(alloc)?;
     let mut states = fresh_states(alloc, set.contexts() as usize * 32)?;
-    code_rows(
-        alloc,
-        &table,
-        &set,
-        states.as_mut_slice(),
-        width as usize,
-        height as usize,
+    let plane = MonoPlane {
+        width: width as usize,
+        height: height as usize,
         samples,
-    )
+    };
+    code_rows(alloc, &table, &set, states.as_mut_slice(), &plane)
 }

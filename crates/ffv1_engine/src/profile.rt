@@ -16,7 +16,7 @@ pub enum Profile {
     /// All of an AVI, each `RIFF` of it: its frames are those of the first FFV1 video among its
     /// streams, whose record ends where `biSize` says. And Matroska: its frames are those of the
     /// first track that is FFV1 video. A sample aspect of which just one number is 0 is unknown, as
-    /// 0:0 is. A sample has 8, 9, 10, 12, 14 or, but for RCT, 16 bits.
+    /// 0:0 is. A sample has 8, 9, 10, 12, 14 or 16 bits.
     Wide,
 }
 

@@ -33,7 +33,7 @@ fn push_line<A: Allocator>(
 
 /// Appends a line of a name and two numbers, with a sign between them.
 #[tactic(auto, unfolding(crate::specs::StreamLines::pair_line))]
-fn push_pair<A: Allocator>(
+pub(crate) fn push_pair<A: Allocator>(
     text: &mut Vec<u8, A>,
     name: &[u8],
     first: u32,

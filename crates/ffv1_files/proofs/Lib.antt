@@ -3,3 +3,4 @@ pub mod FirstByte
 pub mod FileLaws
 pub mod Openings
 pub mod Nexts
+mod OpenedRooms

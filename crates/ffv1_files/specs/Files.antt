@@ -1,5 +1,6 @@
 -- What a file reads as, of either container.
-use Rattle.std.specs.Prelude.{ℕ, ◌==◌, Bool, false, if◌then◌else◌, List, [], ◌∷◌, Option, Some, None}
+use Rattle.std.specs.Prelude.{ℕ, ◌==◌, Bool, false, if◌then◌else◌, List, [], ◌∷◌, Option, Some}
+use Rattle.std.specs.Prelude.{None}
 use Rattle.ffv1_reads.specs.Head.{Head}
 use Rattle.ffv1_reads.specs.Reads.{Reading, given, ◌>>=◌}
 use Rattle.ffv1_avi.specs.declared.place.Extent.{Extent}
@@ -51,7 +52,7 @@ frame_read (InAvi place) = avi.frame_read place >>= λ o. given (avi_place o)
 frame_read (InMatroska segment track place) =
     matroska.frame_read track place >>= λ o. given (matroska_place segment track o)
 
--- all frames from a place on
+-- all frames from a position on
 unfoldable pub frames_read : Place → Reading (List (List ℕ))
 frames_read (InAvi place) = avi.frames_read place
 frames_read (InMatroska segment track place) = matroska.frames_read track place

@@ -11,11 +11,13 @@ use Rattle.ffv1_files.specs.declared.reader.Inner.{Inner}
 use Rattle.ffv1_files.specs.declared.reader.Inner.TheVariants as inner
 use Rattle.ffv1_files.specs.Places.{InAvi, InMatroska, Place}
 
--- the head of its file, where it stands in that, and the fault that it has met
+-- the head of its file, where it stands in that, the fault that it has met, and for how many bytes
+-- its record has room
 pub record Standing : Type 0 where
   pub head : Head
   pub place : Place
   pub fault : Option FileFault
+  pub room : ℕ
 
 abbrev pub opened_at : Standing → Head × Place
 opened_at r = (r.head, r.place)
@@ -43,9 +45,15 @@ is_frame_fault (InMatroska segment track place) f = matroska.is_frame_fault f
 
 -- by the reader of its container
 abbrev pub standing_of : {A : Type 0} → Inner A → Standing
-standing_of (inner.Avi r) = record { head = r.head; place = InAvi r.place; fault = r.fault }
+standing_of (inner.Avi r) = record {
+  head = r.head;
+  place = InAvi r.place;
+  fault = r.fault;
+  room = r.room;
+}
 standing_of (inner.Matroska r) = record {
   head = r.track.head;
   place = InMatroska r.segment r.track.number r.place;
   fault = r.fault;
+  room = r.room;
 }

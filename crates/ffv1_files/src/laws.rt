@@ -1,5 +1,5 @@
-//! Laws of files: what is read is a file, by its chunks or its elements, such a file is read, and so
-//! is an AVI that was written.
+//! Laws of files: what is read is a file, by its chunks or its elements, such a file is read, and
+//! so is an AVI that was written.
 
 ghost use Rattle.std.specs.Prelude.{◌≡◌, ℕ, List, [], Ok};
 ghost use Rattle.ffv1_avi.specs.Chunks.{AviFile, IsWritable};
@@ -24,8 +24,8 @@ pub fn frames_in_turn()
     matroska::frames_in_turn();
 }
 
-/// What is read is a file of that head and those frames: up to the end of the first `movi` an AVI by
-/// its chunks, after which this is left; and all of it an AVI by the chunks of every RIFF, after
+/// What is read is a file of that head and those frames: up to the end of the first `movi` an AVI
+/// by its chunks, after which this is left; and all of it an AVI by the chunks of every RIFF, after
 /// which nothing is left, or a Matroska file by its elements, after whose Segment this is left.
 pub fn read_is_file()
     ensures first { (file : List ℕ) (head : Head) (frames : List (List ℕ)) (rest : List ℕ) →

@@ -5,7 +5,7 @@ ghost use Rattle.std.specs.Prelude.{IfErr, IfOk, OnErr, Ok, Err, length};
 ghost use Rattle.std.specs.Vec.{vec_capacity};
 ghost use Rattle.ffv1_wire.specs.Passage.{passage};
 ghost use Rattle.ffv1_reads.specs.Head.{head_of};
-ghost use Rattle.ffv1_reads.specs.Room.{HasRoom};
+ghost use Rattle.ffv1_reads.specs.Room.{HasRoom, RoomRead};
 ghost use Rattle.ffv1_reads.specs.declared.fault.FileFault.{FileFault};
 ghost use Rattle.ffv1_files.specs.declared.container.Container.TheVariants as container;
 ghost use Rattle.ffv1_files.specs.declared.container.Scope.TheVariants.{FirstMovi, Whole};
@@ -52,7 +52,8 @@ impl<A: Allocator + Copy> FileReader<A> {
     /// and all else as AVI; up to its first `movi` a file is read as AVI alone.
     ///
     /// The faults are those of `AviReader::open`, and where all of a file is read those of
-    /// `AviReader::open_all` or of `MatroskaReader::open`.
+    /// `AviReader::open_all` or of `MatroskaReader::open`. The record that it keeps has room for at
+    /// most as many bytes as were read.
     pub fn open<R: ByteIn>(
         alloc: A,
         scope: Scope,
@@ -64,6 +65,8 @@ impl<A: Allocator + Copy> FileReader<A> {
         ensures avi { scope ≡ FirstMovi →
             IfOk result (λ r. container_of r.place ≡ container.Avi) }
         ensures own { IfErr result (λ f. is_opening_fault scope f ≡ true) }
+        ensures room { IfOk result (λ r. RoomRead (R.remaining input.old) (R.remaining input.new) 0
+            r.room) }
     {
         // All arms are written out, so that the clauses are proved by arm.
         match scope {
@@ -90,6 +93,8 @@ fn open_whole<R: ByteIn, A: Allocator + Copy>(
         (passage R.remaining R.failures input.old input.new) result }
     ensures sound { IfOk result (λ r. r.fault ≡ None) }
     ensures own { IfErr result (λ f. is_opening_fault Whole f ≡ true) }
+    ensures room { IfOk result (λ r. RoomRead (R.remaining input.old) (R.remaining input.new) 0
+        r.room) }
 {
     let Ok(first) = read_byte(input) else {
         return Err(FileFault::Read);
@@ -113,7 +118,8 @@ fn open_whole<R: ByteIn, A: Allocator + Copy>(
 impl<A: Allocator> FileReader<A> {
     /// The head of the file.
     pub fn head(&self) -> &FileHead<A>
-        ensures { head_of result.now ≡ self.now.head }
+        ensures value { head_of result.now ≡ self.now.head }
+        ensures room { vec_capacity result.now.config_record ≡ self.now.room }
     {
         match &self.inner {
             Inner::Avi(reader) => reader.head(),
@@ -157,6 +163,7 @@ impl<A: Allocator> FileReader<A> {
             (length frame.new.items) result }
         ensures again { (f : FileFault) → self.old.fault ≡ Some f → (result ≡ Err f)
             × (self.new ≡ self.old) × (frame.new.items ≡ []) × (input.new ≡ input.old) }
+        ensures kept { self.new.room ≡ self.old.room }
     {
         match &mut self.inner {
             Inner::Avi(reader) => reader.next_frame(input, frame),

@@ -1,4 +1,4 @@
--- The neighbours of a place by the row are those of the cell, and blocks of places make a row.
+-- The neighbours of a sample by the row are those of the cell, and blocks of places make a row.
 use Rattle.std.proofs.Common.{inl, inr, ◌≡◌, refl, ℕ, zero, suc, ◌+◌, ◌-◌, ◌*◌, ◌<◌, ◌≤◌, min, List, [], ◌∷◌, ◌++◌, length, get_or, arith, ap, sym, subst, ◌≢◌, slice_set, get_or-set_same, get_or-set_other, below_more, ◌∙◌, append_assoc, Bool, append-nil, ℤ}
 use Rattle.std.proofs.lemmas.Bool.{cases_lt}
 use Rattle.ffv1_range.specs.Table.{Table}
@@ -7,6 +7,8 @@ use Rattle.ffv1_range.specs.History.{AreBelow}
 use Rattle.ffv1_range.specs.Listed.{of_nine_bits}
 use Rattle.ffv1_range.specs.Writing.{Writing}
 use Rattle.ffv1_range.specs.Puts.{Puts, MayBeRefused}
+use Rattle.ffv1_range.specs.Counts.{Counts, Counted}
+use Rattle.ffv1_range.proofs.Counting.{counted_none, counted_append}
 use Rattle.ffv1_range.proofs.Steps.{puts_append}
 use Rattle.ffv1_range.proofs.Growth.{refused_first, refused_second}
 use Rattle.ffv1_range.proofs.Windows.{signed_below}
@@ -20,9 +22,9 @@ use Rattle.ffv1_line.specs.Cell.{Cell, seen, around, Shows, Above}
 use Rattle.ffv1_line.specs.Internal.Along.{Left}
 use Rattle.ffv1_line.specs.Internal.Block.{IsBlock}
 use Rattle.ffv1_line.specs.Row.{chosen_at, chosen_row, row_steps, sample_steps}
-use Rattle.ffv1_line.specs.Encoded.{Written, MayBeRefusedRow}
+use Rattle.ffv1_line.specs.Encoded.{Written, MayBeRefusedRow, CountsFirst}
 use Rattle.ffv1_line.specs.Beside.{before, two_before, beside, chosen_beside, place_steps, places_steps}
-use Rattle.ffv1_line.proofs.Rows.{around_is, scalars, seen_border, seen_far, row_steps-append, chosen-more, length-chosen}
+use Rattle.ffv1_line.proofs.Rows.{around_is, scalars, seen_border, seen_far, row_steps-append, chosen-more, length-chosen, written_none}
 
 -- ---- neighbours
 
@@ -112,6 +114,29 @@ refused_block t set bits old states mid between two one cur from n inside same w
       rw (all, whole) (refused_first t old states (row_steps set c y 0 (chosen_row set bits c y (from + n))) (places_steps set bits two one cur (from + n) rest) here);
 }
 
+-- the counters after a row up to a block, and the block's first places
+pub counts_block : (t : Table) (set : Set) (bits : ℕ) (old : Writing) (states : List ℕ) (mid : Writing) (between : List ℕ) (new : Counts) (two one cur : List ℕ) (from n : ℕ) →
+    from + n < length cur → length one ≡ length cur → Written t set bits old states mid between two one cur from → Counted mid.counts (places_steps set bits two one cur from n) new →
+    CountsFirst set bits old.counts new two one cur
+counts_block t set bits old states mid between new two one cur from n inside same written counted = record {
+  first = from + n;
+  few = inside;
+  counted = λ c y above shows.
+      rw (row_joined set bits c y two one cur from n (omega (arith, inside, same)) above shows)
+      (counted_append old.counts mid.counts new (row_steps set c y 0 (chosen_row set bits c y from)) (places_steps set bits two one cur from n)
+      (written.puts c y above (shows_fewer c (suc (suc y)) from (from + n) cur (omega arith) shows)).counts counted);
+}
+
+-- none of its places
+pub counts_no_places : (set : Set) (bits : ℕ) (two one cur : List ℕ) (from : ℕ) (old new : Counts) → new ≡ old → Counted old (places_steps set bits two one cur from 0) new
+counts_no_places set bits two one cur from old new same = subst (λ k. Counted old (places_steps set bits two one cur from 0) k) (sym same) (rw (places-none set bits two one cur from) (counted_none old))
+
+-- and none of a row
+pub counts_nothing : (t : Table) (set : Set) (bits : ℕ) (old : Writing) (states : List ℕ) (new : Counts) (two one cur : List ℕ) → 0 < length cur → length one ≡ length cur → new ≡ old.counts →
+    CountsFirst set bits old.counts new two one cur
+counts_nothing t set bits old states new two one cur some same kept =
+    counts_block t set bits old states old states new two one cur 0 0 (omega (arith, some)) same (written_none t set bits old states two one cur) (counts_no_places set bits two one cur 0 old.counts new kept)
+
 -- ---- slots
 
 AreBelow-append : (xs ys : List Step) (count : ℕ) → AreBelow xs count → AreBelow ys count → AreBelow (xs ++ ys) count
@@ -139,7 +164,7 @@ below_next count context residual done before few below steps =
     rw steps (AreBelow-append before (shifted (context * 32) (signed_steps (of_nine_bits residual))) (count * 32) below
     (shifted_below (context * 32) 32 (count * 32) (signed_steps (of_nine_bits residual)) (omega arith) (signed_below (of_nine_bits residual))))
 
--- ---- a place more of a block
+-- ---- a sample more of a block
 
 pub beside_by : (two one cur : List ℕ) (x last ll l tl tr : ℕ) → last ≡ length one - 1 → ll ≡ two_before one cur x → l ≡ before one cur x → tl ≡ before two one x → tr ≡ get_or one (min (x + 1) last) 0 →
     scalars l (get_or one x 0) tl tr ll (get_or two x 0) ≡ beside two one cur x
@@ -193,7 +218,7 @@ places_begin set bits two one cur from n (suc m) inside = elim (cases_lt m n) [
       )
 ]
 
--- a refusal at a place is one of its block
+-- a refusal at a sample is one of its block
 pub refused_place : (t : Table) (a b : Writing) (states after : List ℕ) (set : Set) (bits : ℕ) (two one cur : List ℕ) (from k n : ℕ) → k < n →
     Puts t a states b after (places_steps set bits two one cur from k) → MayBeRefused t b after (place_steps set bits two one cur (from + k)) →
     MayBeRefused t a states (places_steps set bits two one cur from n)
@@ -203,7 +228,7 @@ refused_place t a b states after set bits two one cur from k n inside puts refus
     (refused_first t a states (places_steps set bits two one cur from k ++ place_steps set bits two one cur (from + k)) all.0
     (refused_second t a b states after (places_steps set bits two one cur from k) (place_steps set bits two one cur (from + k)) puts refused))
 
--- the symbol of a place of a block
+-- the symbol of a sample of a block
 pub place_is : (set : Set) (bits : ℕ) (two one cur : List ℕ) (from n k : ℕ) (xs ys : List ℕ) (v : ℤ) → IsBlock set bits two one cur from n xs ys → k < n → v ≡ of_nine_bits (get_or ys k 0) →
     shifted (get_or xs k 0 * 32) (signed_steps v) ≡ place_steps set bits two one cur (from + k)
 place_is set bits two one cur from n k xs ys v is inside value =
@@ -217,19 +242,19 @@ one_place set bits two one cur x =
     let same : x + 0 ≡ x = omega arith in
     places-more set bits two one cur x 0 ∙ ap (λ l. l ++ place_steps set bits two one cur (x + 0)) (places-none set bits two one cur x) ∙ ap (place_steps set bits two one cur) same
 
--- the symbol of a place by its neighbours
+-- the symbol of a sample by its neighbours
 pub placed : (set : Set) (bits : ℕ) (two one cur : List ℕ) (x context : ℕ) (a : Around) (q : ℤ) → a ≡ beside two one cur x → context ≡ size_of set a →
     q ≡ chosen_of bits (predicted_in bits a) (flip_of set a) (get_or cur x 0) → shifted (context * 32) (signed_steps q) ≡ place_steps set bits two one cur x
 placed set bits two one cur x context a q is size chosen =
     rw (size, chosen) (ap (λ (a : Around). sample_steps set a (chosen_of bits (predicted_in bits a) (flip_of set a) (get_or cur x 0))) is)
 
--- a place more of a row is written
+-- a sample more of a row is written
 pub written_place : (t : Table) (set : Set) (bits : ℕ) (old : Writing) (states : List ℕ) (mid : Writing) (between : List ℕ) (new : Writing) (after two one cur : List ℕ) (x : ℕ) →
     x < length one → Written t set bits old states mid between two one cur x → Puts t mid between new after (place_steps set bits two one cur x) → Written t set bits old states new after two one cur (x + 1)
 written_place t set bits old states mid between new after two one cur x inside written puts =
     written_block t set bits old states mid between new after two one cur x 1 (omega arith) written (rw (one_place set bits two one cur x) puts)
 
--- a place that may be refused, in a row
+-- a sample that may be refused, in a row
 pub refused_after : (t : Table) (set : Set) (bits : ℕ) (old : Writing) (states : List ℕ) (mid : Writing) (between two one cur : List ℕ) (x : ℕ) →
     x < length cur → length one ≡ length cur → Written t set bits old states mid between two one cur x → MayBeRefused t mid between (place_steps set bits two one cur x) →
     MayBeRefusedRow t set bits old states two one cur (length cur)

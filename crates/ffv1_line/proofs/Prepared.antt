@@ -42,7 +42,7 @@ behind_stands two one cur x ll l tl t stands = record {
   l_is = λ c y above shows. (stands.each c y above shows).l_is;
 }
 
--- by the samples that stand before a place
+-- by the samples that stand before one
 pub behind_here : (two one cur : List ℕ) (x : ℕ) → 0 < length one → IsBehind two one cur x (two_before one cur x) (before one cur x)
 behind_here two one cur x some = record {
   ll_is = λ c y above shows. two_before_seen c (suc y) one cur x x (omega arith) (omega (arith, above.wide)) shows above.first;

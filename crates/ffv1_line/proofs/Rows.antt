@@ -162,7 +162,7 @@ written_none t set bits w states two one cur = record {
   puts = λ c y above shows. rw (chosen-none set bits c y) (puts_none t w states);
 }
 
--- a write at a place leaves those after it
+-- a write at a sample leaves those after it
 pub same_from_start : (cur : List ℕ) → SameFrom 0 cur cur
 same_from_start cur = record { each = λ k h. refl }
 

@@ -110,7 +110,7 @@ twins c y d z two one some in_c in_d =
       first = λ x. seen_in c (suc y) one x some_c in_c.first ∙ ap (λ w. get_or one (min x (w - 1)) 0) same ∙ sym (seen_in d (suc z) one x some_d in_d.first);
     }
 
--- the row's own samples up to a place, and those to the left of the cell
+-- the row's own samples up to a sample, and those to the left of the cell
 own : (c : Cell) (y : ℕ) (d : Cell) (z n x : ℕ) → Twins c y d z → AreSame c y d z n → x < suc (suc n) → seen c x (suc (suc y)) ≡ seen d x (suc (suc z))
 unfolding seen
 own c y d z n zero twin same h = refl

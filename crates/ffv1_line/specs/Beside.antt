@@ -1,4 +1,4 @@
--- The neighbours of a place of a row, from the row and the rows above it (RFC 9043, 3.1 and 3.2).
+-- The neighbours of a sample of a row, from the row and the rows above it (RFC 9043, 3.1 and 3.2).
 use Rattle.std.specs.Prelude.{ℕ, ◌+◌, ◌-◌, min, List, [], ◌++◌, length, slice_index, ℤ}
 use Rattle.std.proofs.Common.{zero, suc}
 use Rattle.ffv1_range.specs.Symbols.{Step}
@@ -9,7 +9,7 @@ use Rattle.ffv1_plane.specs.Context.{flip_of}
 use Rattle.ffv1_plane.specs.Residual.{chosen_of}
 use Rattle.ffv1_line.specs.Row.{sample_steps}
 
--- the sample before a place of a row: before the first stands the one above it
+-- the sample before another one of a row: before the first stands the one above it
 abbrev pub before : List ℕ → List ℕ → ℕ → ℕ
 before above row zero = slice_index above 0
 before above row (suc x) = slice_index row x

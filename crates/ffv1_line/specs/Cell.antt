@@ -1,4 +1,4 @@
--- What is seen at a place of a cell.
+-- What is seen at a sample of a cell.
 use Rattle.std.specs.Prelude.{ℕ, ◌≡◌, ◌+◌, ◌-◌, ◌*◌, ◌<◌, min, List, length, slice_index}
 use Rattle.std.proofs.Common.{zero, suc}
 use Rattle.ffv1_plane.specs.declared.prediction.Around.{Around}
@@ -18,7 +18,7 @@ seen c (suc (suc x)) zero = 0
 seen c (suc (suc x)) (suc zero) = 0
 seen c (suc (suc x)) (suc (suc y)) = c.at (min x (c.width - 1)) y
 
--- the neighbours of a place of the cell
+-- the neighbours of a sample of the cell
 abbrev pub around : Cell → ℕ → ℕ → Around
 around c x y = record {
   l = seen c (suc x) (suc (suc y));

@@ -17,8 +17,8 @@ sample_steps set a q = shifted (size_of set a * 32) (signed_steps q)
 abbrev pub refused_steps : Set → Around → List Step
 refused_steps set a = shifted (size_of set a * 32) too_long
 
--- a residual suits a sample at a place: with the place's prediction it makes the sample (RFC 9043,
--- 3.8)
+-- a residual suits a sample at its position: with the place's prediction it makes the sample (RFC
+-- 9043, 3.8)
 abbrev pub SuitsAt : Set → ℕ → Around → ℕ → ℤ → Type 0
 SuitsAt set bits a s q = IsSuiting bits (predicted_in bits a) (flip_of set a) s q
 

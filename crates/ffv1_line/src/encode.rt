@@ -7,8 +7,8 @@ ghost use Rattle.ffv1_range.specs.Puts.{Puts, MayBeRefused};
 ghost use Rattle.ffv1_range.specs.declared.fault.Fault.TheVariants as fault;
 ghost use Rattle.ffv1_plane.specs.Quantisation.{contexts_of, IsNear};
 ghost use Rattle.ffv1_range.specs.Listed.{of_nine_bits};
-ghost use Rattle.ffv1_line.specs.Internal.Parts.{IsPart, IsBlockOf, part_steps};
-ghost use Rattle.ffv1_line.specs.Encoded.{Written, MayBeRefusedRow};
+ghost use Rattle.ffv1_line.specs.Internal.Parts.{IsPart, IsBlockOf, CountsPart, part_steps};
+ghost use Rattle.ffv1_line.specs.Encoded.{Written, MayBeRefusedRow, CountsFirst};
 
 mod deep;
 mod plain;
@@ -70,6 +70,7 @@ fn put_residual<A: Allocator>(
         (shifted (context * 32) (signed_steps (of_nine_bits residual)))) }
     ensures held { AllHeld table.now states.new }
     ensures err { IfErr result (λ f. (f ≡ fault.OutOfMemory) × IsTrue encoder.new.failed) }
+    ensures kept { OnErr result (encoder.new.counts ≡ encoder.old.counts) }
 {
     let value = residual_of_nine(residual);
     encoder.put_signed_in_row(table, states, context, value)?;
@@ -95,6 +96,7 @@ fn put_calm<A: Allocator>(
         (shifted (context * 32) (signed_steps (of_nine_bits residual)))) }
     ensures held { AllHeld table.now states.new }
     ensures err { IfErr result (λ f. (f ≡ fault.OutOfMemory) × IsTrue encoder.new.failed) }
+    ensures kept { OnErr result (encoder.new.counts ≡ encoder.old.counts) }
 {
     if residual > 0 {
         put_residual(encoder, table, states, context, residual)?;
@@ -124,6 +126,7 @@ fn put_places<A: Allocator, B: Allocator>(
         (part_steps part.now part.now.count)) }
     ensures held { AllHeld table.now states.new }
     ensures err { IfErr result (λ f. (f ≡ fault.OutOfMemory) × IsTrue encoder.new.failed) }
+    ensures kept { OnErr result (CountsPart part.now encoder.old.counts encoder.new.counts) }
 {
     let _contexts = part.set.contexts();
     for k in 0..part.count {
@@ -153,6 +156,7 @@ fn encode_block<A: Allocator, B: Allocator>(
         (part_steps part.now part.now.count)) }
     ensures held { AllHeld table.now states.new }
     ensures err { IfErr result (λ f. (f ≡ fault.OutOfMemory) × IsTrue encoder.new.failed) }
+    ensures kept { OnErr result (CountsPart part.now encoder.old.counts encoder.new.counts) }
 {
     prepare(block, part);
     if are_calm(&block.residuals[..part.count]) {
@@ -190,6 +194,8 @@ fn encode_row<A: Allocator, B: Allocator, const BITS: u8, const NEAR: bool>(
         (length cur.now)) }
     ensures held { AllHeld coding.now.table states.new }
     ensures err { IfErr result (λ f. (f ≡ fault.OutOfMemory) × IsTrue encoder.new.failed) }
+    ensures kept { OnErr result (CountsFirst coding.now.set coding.now.bits encoder.old.counts
+        encoder.new.counts above.now.two above.now.one cur.now) }
 {
     let Coding { table, set, .. } = coding;
     let Above { two, one } = above;
@@ -225,9 +231,9 @@ fn encode_row<A: Allocator, B: Allocator, const BITS: u8, const NEAR: bool>(
 /// each context of the set, all held by the table. What is put is what the definition takes for any
 /// cell of which these are rows, by the neighbours' coordinates.
 ///
-/// `OutOfMemory` where the encoder was refused memory, now or before: it has failed for good, and
-/// the states are still held by the table. One that had failed before is left as it was, and the
-/// states too.
+/// `OutOfMemory` where the encoder was refused memory, now or before: it has failed for good, its
+/// counts are those after some first samples of the row, and the states are still held by the
+/// table. One that had failed before is left as it was, and the states too.
 #[inline(never)]
 pub fn encode_line<A: Allocator, B: Allocator>(
     encoder: &mut RangeEncoder<A>,
@@ -250,6 +256,8 @@ pub fn encode_line<A: Allocator, B: Allocator>(
     ensures stays { IsTrue encoder.old.failed → IsErr result }
     ensures unchanged { IsTrue encoder.old.failed →
         (encoder.new ≡ encoder.old) × (states.new ≡ states.old) }
+    ensures kept { OnErr result (CountsFirst coding.now.set coding.now.bits encoder.old.counts
+        encoder.new.counts above.now.two above.now.one cur.now) }
 {
     if encoder.has_failed() {
         return Err(Fault::OutOfMemory);

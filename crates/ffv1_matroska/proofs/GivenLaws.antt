@@ -141,7 +141,7 @@ begun_run (suc most) track base n text fits =
         let less : LeavesNext n (Some e) = (header_leaves place).only text rest (Some e) is in
         on_ident again e (omega (arith, less, fits)) rest (e.ident == cluster) refl
 
--- a file is read up to a place in its Segment, after these frames
+-- a file is read up to a position in its Segment, after these frames
 pub record Reaches (file : List ℕ) (track : Track) (frames : List (List ℕ)) (place : Place) (rest : List ℕ) : Type 0 where
   pub size : Option ℕ
   pub begun : Result ((Track × Place) × List ℕ) Stop

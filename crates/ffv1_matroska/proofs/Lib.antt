@@ -54,3 +54,4 @@ pub mod BeginningLaws
 pub mod LongFields
 pub mod GivenLaws
 pub mod KnownFiles
+mod KeptRooms

@@ -140,7 +140,7 @@ entry_bad (suc most) (g ∷ gs) f more others is named h fits =
     ∙ ap (λ z. z >>? part_or_on (track_up_to most)) (field_first g (fields_text gs ++ tail) others.0)
     ∙ rw differ (entry_bad most gs f more others.2 is named h (omega (arith, fits)))
 
--- content that begins with a field is told, or its CRC-32 is wrong
+-- content that begins with a field is answered, or its CRC-32 is wrong
 field_told : (content : List ℕ) (f : Field) (more : List ℕ) → IsField f → content ≡ ((f.ident ++ f.size) ++ f.content) ++ more → IsNotWrong content → content_told content ≡ Ok tt
 field_told content f more is whole sound = on_test (is_crc (number_of f.ident) (length f.content) && not (low_number f.content == crc_of more)) refl
   where

@@ -48,7 +48,7 @@ group_refused track base left s ident size rest p =
     let test : nat_lt 0 left ≡ true = lt-ltb _ _ (passes_some left ident size p) in
     run_turn track (group_at base left s) ((ident ++ size) ++ rest) ∙ rw (test, header_passes left s ident size rest p) refl
 
--- a file is read up to a place in its Segment
+-- a file is read up to a position in its Segment
 pub record ReachesSegment (file : List ℕ) (track : Track) (frames : List (List ℕ)) (left : ℕ) (rest : List ℕ) (size : Option ℕ) : Type 0 where
   pub base : Place
   pub base_is : base ≡ (segment_start size).base

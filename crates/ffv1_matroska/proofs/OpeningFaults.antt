@@ -22,7 +22,7 @@ use Rattle.ffv1_matroska.proofs.ReadingFaults.{Basic, Meets, of_both, of_content
 basic : Basic is_opening_fault
 basic = record { truncated = refl; bad = refl; checksum = refl }
 
--- what is told in memory
+-- what is answered in memory
 told_own : (f : FileFault) → is_told f ≡ true → is_opening_fault f ≡ true
 told_own fault.NoFfv1 is = refl
 told_own fault.Truncated is = refl

@@ -126,7 +126,7 @@ group_less track place = gives_then (Leaves place.group) P (element_read place.g
     child ident now None less = gives_refused P fault.BadElement
     child ident now (Some n) less = within_less (amount now) (amount place) (group_child track ident now (Some n)) less (gives_if (Within (amount now)) (ident == block) (block_read track n now) (passed_on n now) (block_within track n now) (passed_within n now))
 
--- an element of a Cluster, in a place that has left what stands after it
+-- an element of a Cluster, in a position that has left what stands after it
 child_within : (track ident size n : ℕ) (place : Place) → place.group ≡ 0 → size + amount place ≤ n → Gives (Within n) (cluster_child track ident size place)
 unfolding cluster_child
 child_within track ident size n place none fits =

@@ -127,7 +127,7 @@ turn_takes track place text o rest some past h = elim (cases_lt 0 place.group) [
   | inr no_group ↦ takes_cluster track place text o rest (omega (arith, no_group)) (omega (arith, some, no_group)) past h
 ]
 
--- a place in a Cluster after its CRC-32
+-- a position in a Cluster after its CRC-32
 pub record Inside (base : Place) (stated : ℕ) (content rest : List ℕ) (place : Place) (text : List ℕ) : Type 0 where
   pub seen : List ℕ
   pub left : List ℕ

@@ -35,7 +35,7 @@ pub record Passes (left : ℕ) (ident size : List ℕ) : Type 0 where
   pub header : length (ident ++ size) ≤ left
   pub passes : left < length (ident ++ size) + long
 
--- a file up to a place in its Segment, after the first Tracks and parts: the Segment has so many
+-- a file up to a position in its Segment, after the first Tracks and parts: the Segment has so many
 -- bytes left, and these stand next
 pub record SegmentBegins (file : List ℕ) (track : Track) (left : ℕ) (rest : List ℕ) : Type 0 where
   pub size : Option ℕ
@@ -51,7 +51,7 @@ pub record SegmentBegins (file : List ℕ) (track : Track) (left : ℕ) (rest : 
   pub tracks_is : IsTracks tracks track
   pub parts_are : AreParts track.number parts
 
--- a file up to a place in a Cluster of known size, after elements of it: the Cluster has so many
+-- a file up to a position in a Cluster of known size, after elements of it: the Cluster has so many
 -- bytes left
 pub record ClusterBegins (file : List ℕ) (track : Track) (left : ℕ) (rest : List ℕ) : Type 0 where
   pub ident : List ℕ
@@ -65,7 +65,7 @@ pub record ClusterBegins (file : List ℕ) (track : Track) (left : ℕ) (rest : 
   pub sized : SaysSize size (Some (length (pieces_text pieces) + left))
   pub are : ArePieces track.number pieces
 
--- a file up to a place in a Cluster of unknown size, after elements of it: the Segment has so
+-- a file up to a position in a Cluster of unknown size, after elements of it: the Segment has so
 -- many bytes left
 pub record LooseBegins (file : List ℕ) (track : Track) (left : ℕ) (rest : List ℕ) : Type 0 where
   pub ident : List ℕ

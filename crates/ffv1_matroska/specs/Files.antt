@@ -47,8 +47,9 @@ more_frames on (Some p) = on p.1 >>= λ frames. given (p.0 ∷ frames)
 
 unfoldable pub frames_up_to : ℕ → ℕ → Place → Reading (List (List ℕ))
 frames_up_to zero track place = given []
-frames_up_to (suc most) track place = frame_read track place >>= more_frames (frames_up_to most track)
+frames_up_to (suc most) track place =
+    frame_read track place >>= more_frames (frames_up_to most track)
 
--- all frames of a track from a place on
+-- all frames of a track from a position on
 abbrev pub frames_read : ℕ → Place → Reading (List (List ℕ))
 frames_read track place = frames_up_to (suc (amount place)) track place

@@ -6,7 +6,7 @@ use Rattle.ffv1_matroska.specs.Files.{frame_read}
 use Rattle.ffv1_matroska.specs.Opened.{Opened, open_read}
 use Rattle.ffv1_matroska.specs.declared.place.Place.{Place}
 
--- from a place on these frames are given, one by one, up to another place, where these bytes
+-- from a position on these frames are given, one by one, up to another place, where these bytes
 -- stand next
 abbrev pub GivesTo : ℕ → Place → List ℕ → List (List ℕ) → Place → List ℕ → Type 0
 GivesTo track place text [] after rest = (place ≡ after) × (text ≡ rest)
@@ -14,7 +14,7 @@ GivesTo track place text (f ∷ fs) after rest =
     (next : Place) × (more : List ℕ) × (frame_read track place text ≡ Ok (Some (f, next), more))
     × GivesTo track next more fs after rest
 
--- a Cluster of known size that was entered from a place is read to its end: nothing is left of
+-- a Cluster of known size that was entered from a position is read to its end: nothing is left of
 -- it, or more of the Segment was read, or there are no more frames
 abbrev pub ReadsToEnd : ℕ → Place → Place → List ℕ → Type 0
 ReadsToEnd track place after left =
@@ -22,7 +22,7 @@ ReadsToEnd track place after left =
     ⊎ ((after.segment < place.segment)
     ⊎ ((more : List ℕ) × (frame_read track after left ≡ Ok (None, more))))
 
--- from a place on these frames are given, one by one, and then reading stops so
+-- from a position on these frames are given, one by one, and then reading stops so
 abbrev pub FramesThen : ℕ → Place → List ℕ → List (List ℕ) → Stop → Type 0
 FramesThen track place text [] why = frame_read track place text ≡ Err why
 FramesThen track place text (f ∷ fs) why =

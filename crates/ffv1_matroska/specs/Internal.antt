@@ -63,6 +63,6 @@ abbrev pub found_kept : Option Numbers → List ℕ → Option Track
 found_kept None bytes = None
 found_kept (Some n) bytes = Some (track_kept n bytes)
 
--- a file whose frames begin at a place
+-- a file whose frames begin at a position
 abbrev pub opened_kept : Option ℕ × Numbers × Place → List ℕ → Opened
 opened_kept p bytes = record { track = track_kept p.1 bytes; segment = p.0; place = p.2 }

@@ -1,5 +1,5 @@
--- What stands before the frames: the header of EBML, and the elements of the Segment up to its first
--- Cluster, of which the first Tracks say which frames are read (RFC 9559, 5.1).
+-- What stands before the frames: the header of EBML, and the elements of the Segment up to its
+-- first Cluster, of which the first Tracks say which frames are read (RFC 9559, 5.1).
 use Rattle.std.specs.Prelude.{ℕ, suc, zero, ◌==◌, true, false, if◌then◌else◌, List, Option, Some}
 use Rattle.std.specs.Prelude.{None, Result, Ok, Err}
 use Rattle.ffv1_reads.specs.Head.{Head}
@@ -32,7 +32,7 @@ told (Err f) = refused f
 unfoldable pub tracks_read : Option ℕ → Reading Track
 tracks_read size = content_kept size >>= λ content. told (track_in content)
 
--- the frames of a track begin at a place; there is none where no Tracks were before it
+-- the frames of a track begin at a position; there is none where no Tracks were before it
 unfoldable pub begun_at : Option Track → Place → Reading (Track × Place)
 begun_at None place = refused fault.NoTracks
 begun_at (Some track) place = given (track, place)

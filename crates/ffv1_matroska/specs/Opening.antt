@@ -1,6 +1,7 @@
 -- The beginning of a file: the header of EBML (RFC 8794, 11.2), and that of the Segment (RFC 9559,
 -- 5.1).
-use Rattle.std.specs.Prelude.{ℕ, ◌-◌, ◌==◌, true, false, if◌then◌else◌, nat_lt, List, Option, Some, None}
+use Rattle.std.specs.Prelude.{ℕ, ◌-◌, ◌==◌, true, false, if◌then◌else◌, nat_lt, List, Option, Some}
+use Rattle.std.specs.Prelude.{None}
 use Rattle.std.specs.Prelude.{codes, Result, Ok, Err}
 use Rattle.ffv1_reads.specs.Reads.{Kept, Reading, given, refused, taken, wanted, ◌>>=◌}
 use Rattle.ffv1_reads.specs.declared.fault.FileFault.{FileFault}

@@ -68,7 +68,7 @@ group_at place left sum =
 abbrev pub summed_at : Place → Sum → Place
 summed_at place sum = group_at place place.group sum
 
--- what was read on to: a place, before a frame of so many bytes or before the next element
+-- what was read on to: a position, before a frame of so many bytes or before the next element
 abbrev pub step_to : Place → Step
 step_to place = record { frame = None; place = place }
 

@@ -53,7 +53,8 @@ by_frames times scale None other = other
 by_frames times scale (Some frames) other = record { rate = times * frames; scale = scale }
 
 -- the rate that a duration of a frame says, in nanoseconds: of whole frames in a second, of
--- thousands in 1001 seconds, of whole frames in two seconds, or else as it stands; none where it is 0
+-- thousands in 1001 seconds, of whole frames in two seconds, or else as it stands; none where it is
+-- 0
 unfoldable pub rate_of : ℕ → Rate
 rate_of duration =
     if duration == 0 then unknown

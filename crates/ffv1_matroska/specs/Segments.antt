@@ -1,5 +1,5 @@
--- Elements of a Segment (RFC 9559, 5.1), of a Cluster (5.1.3) and of a BlockGroup (5.1.3.5): each is
--- a step, up to the next element, or up to a frame.
+-- Elements of a Segment (RFC 9559, 5.1), of a Cluster (5.1.3) and of a BlockGroup (5.1.3.5): each
+-- is a step, up to the next element, or up to a frame.
 use Rattle.std.specs.Prelude.{ℕ, ◌==◌, ◌||◌, ◌&&◌, Bool, true, false, if◌then◌else◌, nat_lt}
 use Rattle.std.specs.Prelude.{Option, Some, None}
 use Rattle.ffv1_reads.specs.Reads.{Reading, given, refused, taken, ◌>>=◌}
@@ -98,7 +98,8 @@ cluster_read track place = element_read place.cluster place.sum >>= cluster_rest
 unfoldable pub other_read : ℕ → ℕ → Place → Reading (Option Step)
 other_read ident size place =
     if is_section ident
-    then (content_passed size >>= λ _. given (Some (step_to (segment_at place false place.segment))))
+    then (content_passed size >>= λ _.
+    given (Some (step_to (segment_at place false place.segment))))
     else if is_filler ident then passed_on size place
     else refused fault.BadElement
 

@@ -6,7 +6,8 @@ use lib.Pointwise.{pointwise}
 use Rattle.ffv1_reads.specs.Head.{Head}
 use Rattle.ffv1_reads.specs.declared.fault.FileFault.{FileFault}
 use Rattle.ffv1_reads.specs.declared.fault.FileFault.TheVariants as fault
-use Rattle.ffv1_ebml.specs.Contents.{Found, Part, content_told, first_part, found, number_in, text_in}
+use Rattle.ffv1_ebml.specs.Contents.{Found, Part, content_told, first_part, found, number_in}
+use Rattle.ffv1_ebml.specs.Contents.{text_in}
 use Rattle.ffv1_matroska.specs.Rates.{greatest, rate_of}
 
 -- the IDs of TrackEntry and of what is looked for in it

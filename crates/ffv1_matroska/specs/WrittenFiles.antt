@@ -27,6 +27,6 @@ pub record IsWritable (head : Head) (shown : Shown) (frames : List (List ℕ)) :
   pub written : AreWritten frames
   pub near : end_place head shown frames ≤ last_place
 
--- these bytes stand in a file from a place on
+-- these bytes stand in a file from a position on
 abbrev pub StandsAt : List ℕ → ℕ → List ℕ → Type 0
 StandsAt file place bytes = take (length bytes) (drop place file) ≡ bytes

@@ -4,9 +4,9 @@ ghost use Rattle.std.specs.Prelude.{◌≡◌, ◌≤◌, ◌<◌, ◌+◌, ◌+
 ghost use Rattle.std.specs.Vec.{vec_capacity};
 ghost use Rattle.ffv1_wire.specs.Passage.{passage};
 ghost use Rattle.ffv1_reads.specs.Ends.{AnswersOrFaults};
-ghost use Rattle.ffv1_reads.specs.First.{passage_with};
+ghost use Rattle.ffv1_reads.specs.First.{bytes_with, passage_with};
 ghost use Rattle.ffv1_reads.specs.Reads.{Answers, Kept, wanted};
-ghost use Rattle.ffv1_reads.specs.Room.{HasRoom};
+ghost use Rattle.ffv1_reads.specs.Room.{HasRoom, RoomRead};
 ghost use Rattle.ffv1_reads.specs.declared.fault.FileFault.TheVariants as fault;
 ghost use Rattle.ffv1_matroska.specs.Internal.{found_kept, opened_kept, track_kept};
 ghost use Rattle.ffv1_matroska.specs.Opened.{begin_read, element_passed, in_cluster, open_read};
@@ -121,6 +121,8 @@ fn read_tracks<R: ByteIn, A: Allocator>(
         (passage R.remaining R.failures input.old input.new) result }
     ensures room { HasRoom (vec_capacity config.old) (vec_capacity config.new)
         (length content.new.items) result }
+    ensures grown { OnOk result (RoomRead (R.remaining input.old) (R.remaining input.new)
+        (vec_capacity config.old) (vec_capacity config.new)) }
 {
     keep_tracks(input, size, content, config)?;
     let track = read_track(content.as_slice())?;
@@ -162,9 +164,11 @@ fn visit<R: ByteIn, A: Allocator>(
     content: &mut Vec<u8, A>,
     config: &mut Vec<u8, A>,
 ) -> Result<Option<Numbers>, FileFault>
-    ensures { Answers (λ (n : Option Numbers). found_kept n config.new.items)
+    ensures answer { Answers (λ (n : Option Numbers). found_kept n config.new.items)
         (tracks_or_passed (found_kept found config.old.items) element.ident element.size)
         (passage R.remaining R.failures input.old input.new) result }
+    ensures grown { OnOk result (RoomRead (R.remaining input.old) (R.remaining input.new)
+        (vec_capacity config.old) (vec_capacity config.new)) }
 {
     if found.is_none() && element.ident == TRACKS {
         let numbers = read_tracks(input, element.size, content, config)?;
@@ -184,7 +188,7 @@ fn in_cluster(place: Place, size: Option<u64>) -> Place
     }
 }
 
-/// Reads the elements of a Segment from a place on, up to where its frames begin: what its track
+/// Reads the elements of a Segment from a position on, up to where its frames begin: what its track
 /// says, with the record in place of what the vector `config` has, and the place.
 ///
 /// `NoTracks` where no Tracks come before the first Cluster, or the end of the Segment; faults of
@@ -195,9 +199,11 @@ fn read_beginning<R: ByteIn, A: Allocator>(
     content: &mut Vec<u8, A>,
     config: &mut Vec<u8, A>,
 ) -> Result<(Numbers, Place), FileFault>
-    ensures { AnswersOrFaults fault.NoTracks (λ (p : Track × Place). p.1 ≡ ended)
+    ensures answer { AnswersOrFaults fault.NoTracks (λ (p : Track × Place). p.1 ≡ ended)
         (λ (p : Numbers × Place). (track_kept p.0 config.new.items, p.1)) (begin_read place)
         (passage R.remaining R.failures input.old input.new) result }
+    ensures grown { OnOk result (RoomRead (R.remaining input.old) (R.remaining input.new)
+        (vec_capacity config.old) (vec_capacity config.new)) }
 {
     let mut found = None;
     let mut here = place;
@@ -220,7 +226,7 @@ fn read_beginning<R: ByteIn, A: Allocator>(
 
 /// Reads a file, whose first byte may have been read, up to where its frames begin: the size of its
 /// Segment, what its track says, with the record in place of what the vector `config` has, and the
-/// place.
+/// place. The room of that vector grows by at most as many bytes as are read.
 #[tactic(auto, unfolding(crate::specs::Opened::open_read))]
 pub(crate) fn read_opening<R: ByteIn, A: Allocator>(
     first: Option<u8>,
@@ -228,9 +234,11 @@ pub(crate) fn read_opening<R: ByteIn, A: Allocator>(
     content: &mut Vec<u8, A>,
     config: &mut Vec<u8, A>,
 ) -> Result<(Option<u64>, Numbers, Place), FileFault>
-    ensures { AnswersOrFaults fault.NoTracks HasEnded
+    ensures answer { AnswersOrFaults fault.NoTracks HasEnded
         (λ (p : Option ℕ × Numbers × Place). opened_kept p config.new.items) open_read
         (passage_with first R.remaining R.failures input.old input.new) result }
+    ensures grown { OnOk result (RoomRead (bytes_with first (R.remaining input.old))
+        (R.remaining input.new) (vec_capacity config.old) (vec_capacity config.new)) }
 {
     read_ebml(first, input, content)?;
     let size = enter_segment(input)?;

@@ -80,7 +80,8 @@ fn judge_header(content: &[u8]) -> Result<(), FileFault>
     Ok(())
 }
 
-/// Four bytes that are this ID, of which the first may have been read. `NotMatroska` where they are not.
+/// Four bytes that are this ID, of which the first may have been read. `NotMatroska` where they are
+/// not.
 #[tactic(auto, unfolding(crate::specs::Opening::ident_read))]
 fn read_ident<R: ByteIn>(first: Option<u8>, input: &mut R, ident: u32) -> Result<(), FileFault>
     ensures { Answers (λ (_ : Unit {0}). tt) (ident_read ident)
@@ -127,8 +128,8 @@ fn keep_content<R: ByteIn, A: Allocator>(
     fill(input, size as usize, content)
 }
 
-/// Reads the header of EBML, of which the first byte may have been read; it is kept in place of what
-/// the vector has.
+/// Reads the header of EBML, of which the first byte may have been read; it is kept in place of
+/// what the vector has.
 ///
 /// `NotMatroska` where the file begins otherwise, then as `read_top_size`, `keep_content` and
 /// `judge_header`.

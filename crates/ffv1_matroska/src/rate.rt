@@ -71,8 +71,9 @@ fn reduced(duration: u64) -> (u32, u32)
 /// 5.1.4.1.13), as a rate and its scale: frames a second are `rate / scale`.
 ///
 /// It is the first of these that the frames fill up to less than a nanosecond a frame: whole frames
-/// a second, thousands of them in 1001 seconds, whole frames in two seconds; else 1000000000 and the
-/// duration in lowest terms. Both are 0 where the duration is 0 or the scale would pass 4294967295.
+/// a second, thousands of them in 1001 seconds, whole frames in two seconds; else 1000000000 and
+/// the duration in lowest terms. Both are 0 where the duration is 0 or the scale would pass
+/// 4294967295.
 #[tactic(auto, unfolding(crate::specs::Rates::rate_of))]
 pub fn rate_of(duration: u64) -> (u32, u32)
     ensures { rate_with result ≡ rate_of duration }

@@ -5,9 +5,9 @@ ghost use Rattle.std.specs.Prelude.{IfErr, IfOk, OnErr, Ok, Err, length};
 ghost use Rattle.std.specs.Vec.{vec_capacity};
 ghost use Rattle.ffv1_wire.specs.Passage.{passage};
 ghost use Rattle.ffv1_reads.specs.Ends.{AnswersOrEnds, AnswersOrFaults};
-ghost use Rattle.ffv1_reads.specs.First.{passage_with};
+ghost use Rattle.ffv1_reads.specs.First.{bytes_with, passage_with};
 ghost use Rattle.ffv1_reads.specs.Head.{head_of};
-ghost use Rattle.ffv1_reads.specs.Room.{HasRoom};
+ghost use Rattle.ffv1_reads.specs.Room.{HasRoom, RoomRead};
 ghost use Rattle.ffv1_reads.specs.declared.fault.FileFault.{FileFault};
 ghost use Rattle.ffv1_reads.specs.declared.fault.FileFault.TheVariants as fault;
 ghost use Rattle.ffv1_matroska.specs.Files.{frame_read};
@@ -46,6 +46,7 @@ impl<A: Allocator> Model for MatroskaReader<A> {
       segment = r.segment;
       place = r.place;
       fault = r.fault;
+      room = vec_capacity r.head.config_record;
     } };
 }
 
@@ -53,7 +54,8 @@ impl<A: Allocator + Copy> MatroskaReader<A> {
     /// Reads a file up to where its frames begin: the header of EBML, and the elements of the
     /// Segment up to its first Cluster, or its end. The first Tracks say which frames are read:
     /// those of their first track that is FFV1 video. Memory is taken for the header of EBML and
-    /// for Tracks, which is given back, and room as large as Tracks for the configuration record.
+    /// for Tracks, which is given back, and room as large as Tracks for the configuration record,
+    /// so for at most as many bytes as were read.
     ///
     /// `NotMatroska` where the file does not begin with a header of EBML that says Matroska of a
     /// version that is read, and a Segment; `Truncated` where an element does not fit in what it
@@ -70,6 +72,8 @@ impl<A: Allocator + Copy> MatroskaReader<A> {
             (passage R.remaining R.failures input.old input.new) result }
         ensures sound { IfOk result (λ r. r.fault ≡ None) }
         ensures own { IfErr result (λ f. is_opening_fault f ≡ true) }
+        ensures room { IfOk result (λ r. RoomRead (R.remaining input.old)
+            (R.remaining input.new) 0 r.room) }
     {
         MatroskaReader::open_after(alloc, None, input)
     }
@@ -84,6 +88,8 @@ impl<A: Allocator + Copy> MatroskaReader<A> {
             (passage_with first R.remaining R.failures input.old input.new) result }
         ensures sound { IfOk result (λ r. r.fault ≡ None) }
         ensures own { IfErr result (λ f. is_opening_fault f ≡ true) }
+        ensures room { IfOk result (λ r. RoomRead (bytes_with first (R.remaining input.old))
+            (R.remaining input.new) 0 r.room) }
     {
         let mut content = Vec::new(alloc);
         let mut config_record = Vec::new(alloc);
@@ -112,7 +118,8 @@ impl<A: Allocator + Copy> MatroskaReader<A> {
 impl<A: Allocator> MatroskaReader<A> {
     /// The head of the file.
     pub fn head(&self) -> &FileHead<A>
-        ensures { head_of result.now ≡ self.now.track.head }
+        ensures value { head_of result.now ≡ self.now.track.head }
+        ensures room { vec_capacity result.now.config_record ≡ self.now.room }
     {
         &self.head
     }
@@ -165,6 +172,7 @@ impl<A: Allocator> MatroskaReader<A> {
             × (input.new ≡ input.old) }
         ensures again { (f : FileFault) → self.old.fault ≡ Some f → (result ≡ Err f)
             × (self.new ≡ self.old) × (frame.new.items ≡ []) × (input.new ≡ input.old) }
+        ensures kept { self.new.room ≡ self.old.room }
     {
         frame.clear();
         if let Some(fault) = self.fault {

@@ -1,6 +1,7 @@
 //! Elements of a Segment, of a Cluster and of a BlockGroup, each a step.
 
-ghost use Rattle.std.specs.Prelude.{◌≡◌, ◌<◌, ◌≤◌, ◌+◌, ◌-◌, ◌&&◌, ℕ, Option, None, Some, IfOk, IfSome};
+ghost use Rattle.std.specs.Prelude.{◌≡◌, ◌<◌, ◌≤◌, ◌+◌, ◌-◌, ◌&&◌, ℕ, Option, None, Some, IfOk};
+ghost use Rattle.std.specs.Prelude.{IfSome};
 ghost use Rattle.ffv1_wire.specs.Passage.{passage};
 ghost use Rattle.ffv1_ebml.specs.Elements.{IsWithin};
 ghost use Rattle.ffv1_ebml.specs.declared.element.Element.{Element};
@@ -160,7 +161,8 @@ fn read_crc<R: ByteIn>(input: &mut R, place: Place) -> Result<Option<Step>, File
     closed(summed_at(place, sum))
 }
 
-/// The first element of a Cluster, of so many bytes, after its header: its CRC-32, or there is none.
+/// The first element of a Cluster, of so many bytes, after its header: its CRC-32, or there is
+/// none.
 #[tactic(auto, unfolding(crate::specs::Segments::first_child))]
 fn first_child<R: ByteIn>(
     input: &mut R,

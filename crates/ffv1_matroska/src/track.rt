@@ -162,10 +162,10 @@ fn track_at<'a>(child: &Child<'a>) -> Result<Option<Track<'a>>, FileFault>
 
 /// The track that the content of Tracks says: its first entry of FFV1 video.
 ///
-/// Where its CRC-32 differs, `Checksum`; where no entry is FFV1 video, `NoFfv1`; `Encoded` where the
-/// one that counts has ContentEncodings. `Truncated` and `BadElement` where an element that is looked
-/// at can't be read: those of the content up to the entry that counts, and of an entry those up to
-/// the last of the fields that are looked for, in the order TrackType, CodecID, CodecPrivate,
+/// Where its CRC-32 differs, `Checksum`; where no entry is FFV1 video, `NoFfv1`; `Encoded` where
+/// the one that counts has ContentEncodings. `Truncated` and `BadElement` where an element that is
+/// looked at can't be read: those of the content up to the entry that counts, and of an entry those
+/// up to the last of the fields that are looked for, in the order TrackType, CodecID, CodecPrivate,
 /// ContentEncodings, TrackNumber, DefaultDuration, Video, and in that PixelWidth and PixelHeight. A
 /// field is looked for only while the entry may be one of FFV1 video.
 #[tactic(auto, unfolding(crate::specs::Tracks::track_in))]

@@ -1,4 +1,4 @@
--- The context of a place between equal samples.
+-- The context of a sample between equal samples.
 use Rattle.std.proofs.Common.{◌≡◌, ap, ◌∙◌, ℕ, ◌-◌, ◌*◌, ◌<◌, ◌≤◌, List, [], ◌∷◌, length, take, sum, get_or, unsigned_abs, true, arith, ℤ, pos, ◌+ℤ◌}
 use Rattle.std.proofs.lemmas.Int.{ints}
 use Rattle.ffv1_plane.specs.declared.prediction.Around.{Around}

@@ -1,4 +1,4 @@
--- Predictions and residuals of a place, as lanes have them.
+-- Predictions and residuals of a sample, as lanes have them.
 use Rattle.std.proofs.Common.{◌≡◌, refl, ap, ◌∙◌, sym, ℕ, ◌+◌, ◌-◌, ◌*◌, ◌/◌, ◌%◌, ◌<◌, ◌≤◌, ◌⊎◌, unsigned_abs, arith, ℤ, pos, ◌-ℤ◌, nat_lt, cond, Bool, true, false, inl, inr, min, max}
 use Rattle.std.proofs.lemmas.Int.{ints, int_min_is, int_max_is}
 use Rattle.std.proofs.lemmas.Bool.{cases_lt, lt-ltb, le-ltb}

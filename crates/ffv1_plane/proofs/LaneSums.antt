@@ -1,4 +1,4 @@
--- The sums of the look-ups of a place, as lanes have them.
+-- The sums of the look-ups of a sample, as lanes have them.
 use Rattle.std.proofs.Common.{◌≡◌, ap, ◌∙◌, sym, List, ℕ, ◌+◌, ◌-◌, ◌*◌, ◌%◌, ◌<◌, ◌≤◌, arith, pos, ◌+ℤ◌, ◌-ℤ◌}
 use Rattle.std.proofs.lemmas.Int.{ints}
 use Rattle.std.specs.Prelude.{replicate}
@@ -52,7 +52,7 @@ bounded r1 r2 r3 r4 r5 h1 h2 h3 h4 h5 half a b c d e s = omega arith
 ordered : (r1 r2 r3 r4 r5 : ℕ) → r1 + (r4 + (r2 + r3 + r5)) ≡ r1 + (r2 + r3) + (r4 + r5)
 ordered r1 r2 r3 r4 r5 = omega arith
 
--- the sum of the look-ups of a place
+-- the sum of the look-ups of a sample
 pub record IsSum (set : Set) (half : ℕ) (a : Around) (sum : ℕ) : Type 0 where
   pub is : raised_sum set a ≡ sum
   pub context : context_of set a ≡ pos sum -ℤ pos half

@@ -52,7 +52,7 @@ part_of_sum (r ∷ rs) (suc k) =
     let whole = sum_by-cons (λ (x : ℕ). x) r rs in
     omega arith
 
--- whether a size lies above a place
+-- whether a size lies above a sample
 abbrev pub over : ℕ → ℕ → ℕ
 over size place = min (size - place) 1
 

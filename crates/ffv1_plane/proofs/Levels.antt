@@ -42,7 +42,7 @@ filled_from runs h =
       some = some_runs runs total;
     }
 
--- the run that a place lies in
+-- the run that a position lies in
 pub runs_below-at : (runs : List ℕ) (v k : ℕ) → v < length runs → sum (take v runs) ≤ k → k < sum (take (v + 1) runs) → runs_below runs k ≡ v
 runs_below-at [] v k h a b = absurd (omega arith)
 runs_below-at (r ∷ rs) zero k h a b =
@@ -57,7 +57,7 @@ runs_below-at (r ∷ rs) (suc v) k h a b =
     let rest = runs_below-at rs v (k - r) (omega arith) (omega arith) (rw add-one (omega arith)) in
     rw (le-leb r k before) (ap suc rest)
 
--- a place of the table lies in some run
+-- a position of the table lies in some run
 pub runs_below-low : (runs : List ℕ) (k : ℕ) → k < sum runs → runs_below runs k < length runs
 runs_below-low [] k h = absurd (omega arith)
 runs_below-low (r ∷ rs) k h = elim (cases_lt k r) [
@@ -77,7 +77,7 @@ half_room scale (suc m) some room =
     let r = rw e at room in
     rw f (omega arith)
 
--- a place and the run that it lies in
+-- a position and the run that it lies in
 pub record Stands (runs : List ℕ) (scale k run end level : ℕ) : Type 0 where
   pub inside : run < length runs
   pub before : sum (take run runs) ≤ k

@@ -1,4 +1,4 @@
--- The context of a place.
+-- The context of a sample.
 use Rattle.std.specs.Prelude.{ℕ, ◌+◌, ◌*◌, ◌%◌, Bool, true, false, ℤ, pos, negsuc, ◌+ℤ◌}
 use Rattle.std.specs.Prelude.{unsigned_abs}
 use Rattle.ffv1_plane.specs.declared.prediction.Around.{Around}
@@ -18,10 +18,10 @@ abbrev pub is_negative : ℤ → Bool
 is_negative (pos n) = false
 is_negative (negsuc n) = true
 
--- the number of a place's context
+-- the number of a sample's context
 unfoldable pub size_of : Set → Around → ℕ
 size_of set a = unsigned_abs (context_of set a)
 
--- whether the sign of a place's difference is flipped
+-- whether the sign of a sample's difference is flipped
 unfoldable pub flip_of : Set → Around → Bool
 flip_of set a = is_negative (context_of set a)

@@ -1,4 +1,4 @@
--- What the rows above decide of a place, before the samples to its left are known.
+-- What the rows above decide of a sample, before the samples to its left are known.
 use Rattle.std.specs.Prelude.{ℕ, ◌≡◌, ◌+◌, ◌-◌, ◌*◌, ◌<◌, min, max, List, [], length, take}
 use Rattle.std.specs.Prelude.{slice_index, slice_index_or, pos, ◌+ℤ◌}
 use Rattle.std.proofs.Common.{zero, suc}
@@ -33,13 +33,13 @@ pub record IsEarlySomewhere (set : Set) (tl sum : ℕ) : Type 0 where
   pub tt : ℕ
   pub early : IsEarly set tl t tr tt sum
 
--- the same of the first n places from a place on
+-- the same of the first n places from a position on
 pub record AreEarly (set : Set) (two one : List ℕ) (from : ℕ) (sum : List ℕ) (n : ℕ) : Type 0 where
   pub each : (i : ℕ) → i < n → IsEarly set (left_above two one (from + i))
       (slice_index one (from + i)) (right_above one (from + i)) (slice_index two (from + i))
       (slice_index sum i)
 
--- the samples above to the left and above of the first n places from a place on
+-- the samples above to the left and above of the first n places from a position on
 pub record AreAbove (two one : List ℕ) (from : ℕ) (tl t : List ℕ) (n : ℕ) : Type 0 where
   pub tl_is : (i : ℕ) → i < n → slice_index tl i ≡ left_above two one (from + i)
   pub t_is : (i : ℕ) → i < n → slice_index t i ≡ slice_index one (from + i)

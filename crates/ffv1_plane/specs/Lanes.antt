@@ -1,5 +1,6 @@
 -- Sixteen places at once.
-use Rattle.std.specs.Prelude.{ℕ, ◌≡◌, ◌+◌, ◌*◌, ◌/◌, ◌%◌, ◌==◌, ◌<◌, ◌^◌, if◌then◌else◌, ℤ, pos, unsigned_abs}
+use Rattle.std.specs.Prelude.{ℕ, ◌≡◌, ◌+◌, ◌*◌, ◌/◌, ◌%◌, ◌==◌, ◌<◌, ◌^◌, if◌then◌else◌, ℤ, pos}
+use Rattle.std.specs.Prelude.{unsigned_abs}
 use Rattle.std.specs.Prelude.{List, map}
 use Rattle.std.specs.Int.{int_rem_euclid}
 use Rattle.ffv1_plane.specs.declared.prediction.Around.{Around}

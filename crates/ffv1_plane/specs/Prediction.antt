@@ -1,4 +1,4 @@
--- The prediction of a place.
+-- The prediction of a sample.
 use Rattle.std.specs.Prelude.{ℕ, ◌+◌, ◌==◌, nat_lt, if◌then◌else◌, ℤ, pos, ◌+ℤ◌, ◌-ℤ◌}
 use Rattle.std.specs.Int.{int_min, int_max}
 use Rattle.ffv1_plane.specs.declared.prediction.Around.{Around}

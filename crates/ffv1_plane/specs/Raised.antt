@@ -1,12 +1,14 @@
 -- A quantisation table whose entries are raised by the greatest.
 use Rattle.std.specs.Prelude.{ℕ, ◌≡◌, ◌+◌, ◌-◌, ◌*◌, ◌<◌, ◌≤◌, IsTrue, List, [], ◌∷◌, length}
-use Rattle.std.specs.Prelude.{slice_index, slice_index_or, pos, ◌+ℤ◌, unsigned_abs, if◌then◌else◌, nat_lt, sum, take, replicate}
+use Rattle.std.specs.Prelude.{slice_index, slice_index_or, pos, ◌+ℤ◌, unsigned_abs, if◌then◌else◌}
+use Rattle.std.specs.Prelude.{nat_lt, sum, take, replicate}
 use Rattle.ffv1_plane.specs.declared.prediction.Around.{Around}
 use Rattle.ffv1_plane.specs.declared.table.Steps.{Steps}
 use Rattle.ffv1_plane.specs.declared.table.TableLanes.{TableLanes}
 use Rattle.ffv1_plane.specs.declared.quantisation.SetLanes.{SetLanes}
 use Rattle.ffv1_plane.specs.Context.{context_of}
-use Rattle.ffv1_plane.specs.Quantisation.{Set, is_filled, entry_of, scale_behind, contexts_of, IsSet}
+use Rattle.ffv1_plane.specs.Quantisation.{Set, is_filled, entry_of, scale_behind, contexts_of}
+use Rattle.ffv1_plane.specs.Quantisation.{IsSet}
 
 -- a table of a set, by its runs and its scale
 pub record RaisedTable : Type 0 where
@@ -73,8 +75,8 @@ pub record AreRaised (first second third fourth fifth : RaisedTable) (half : ℕ
 abbrev pub table_at : Set → ℕ → RaisedTable
 table_at set i = table_of (slice_index_or set i []) (scale_behind 1 (take i set))
 
--- the lanes of each table of a set, and in 16 lanes what the early part of a sum is raised by beside
--- them, and the sum of the greatest entries
+-- the lanes of each table of a set, and in 16 lanes what the early part of a sum is raised by
+-- beside them, and the sum of the greatest entries
 pub record AreSetLanes (set : Set) (l : SetLanes) : Type 0 where
   pub first : AreTableLanes (table_at set 0) l.first
   pub second : AreTableLanes (table_at set 1) l.second
@@ -84,6 +86,6 @@ pub record AreSetLanes (set : Set) (l : SetLanes) : Type 0 where
   pub raise : l.raise ≡ replicate 16 (32769 - contexts_of set)
   pub half : l.half ≡ replicate 16 (contexts_of set - 1)
 
--- the sum of the look-ups of a place, each raised by the greatest entry
+-- the sum of the look-ups of a sample, each raised by the greatest entry
 unfoldable pub raised_sum : Set → Around → ℕ
 raised_sum set a = unsigned_abs (context_of set a +ℤ pos (contexts_of set - 1))

@@ -1,4 +1,4 @@
--- The samples around a place, of more than 16 bits.
+-- The samples around a sample, of more than 16 bits.
 use Rattle.ffv1_plane.specs.declared.prediction.Around.{Around}
 use Rattle.ffv1_plane.specs.declared.wide.WideAround.{WideAround}
 

@@ -27,9 +27,9 @@ fn fold_deep(difference: i32, bits: u8) -> i32
     lowest_bits(difference.wrapping_add(half), bits) as i32 - half
 }
 
-/// The residual that an encoder takes for a sample of `bits` bits, as `residual_of` has it for 8 and
-/// 9: the difference to the prediction, its sign flipped where `flip` holds (RFC 9043, 3.5), then
-/// folded (3.8), for every `pred` and `sample`. `bits` lies from 1 to 16.
+/// The residual that an encoder takes for a sample of `bits` bits, as `residual_of` has it for 8
+/// and 9: the difference to the prediction, its sign flipped where `flip` holds (RFC 9043, 3.5),
+/// then folded (3.8), for every `pred` and `sample`. `bits` lies from 1 to 16.
 #[inline(always)]
 pub fn deep_residual(pred: i32, flip: bool, sample: u16, bits: u8) -> i32
     requires some { 0 < bits }

@@ -93,7 +93,8 @@ fn sum_places<A: Allocator>(
     requires within { from + end ≤ length one.now }
     requires room { end ≤ length sum.old }
     requires tl_room { end ≤ length tl.now }
-    requires left { (i : ℕ) → i < end → slice_index tl.now i ≡ left_above two.now one.now (from + i) }
+    requires left { (i : ℕ) → i < end →
+        slice_index tl.now i ≡ left_above two.now one.now (from + i) }
     requires done { AreEarly set.now two.now one.now from sum.old start }
     ensures { AreEarly set.now two.now one.now from sum.new end }
 {
@@ -104,8 +105,8 @@ fn sum_places<A: Allocator>(
     }
 }
 
-/// The early sums of 16 places of a block from `at` on, none of which is a border of the row, by the
-/// set's lanes.
+/// The early sums of 16 places of a block from `at` on, none of which is a border of the row, by
+/// the set's lanes.
 #[inline(always)]
 fn sum_lanes<A: Allocator>(
     set: &QuantSet<A>,
@@ -136,9 +137,9 @@ fn sum_lanes<A: Allocator>(
         .copy_to_slice(&mut sum[at..]);
 }
 
-/// The early sums, from place `from` on: those inside the row 16 at once, in a set whose tables have
-/// few levels, and the last of these again where fewer than 16 are left. `near` may be said of a set
-/// whose fourth and fifth tables have one level.
+/// The early sums, from place `from` on: those inside the row 16 at once, in a set whose tables
+/// have few levels, and the last of these again where fewer than 16 are left. `near` may be said of
+/// a set whose fourth and fifth tables have one level.
 #[inline(always)]
 fn fill_sums<A: Allocator>(
     set: &QuantSet<A>,

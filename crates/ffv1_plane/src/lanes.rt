@@ -1,6 +1,7 @@
 //! Contexts and residuals of 16 places at once.
 
-ghost use Rattle.std.specs.Prelude.{◌≡◌, ℕ, ◌+◌, ◌*◌, ◌/◌, ◌%◌, ◌^◌, ◌<◌, ◌⊎◌, IsTrue, List, length};
+ghost use Rattle.std.specs.Prelude.{◌≡◌, ℕ, ◌+◌, ◌*◌, ◌/◌, ◌%◌, ◌^◌, ◌<◌, ◌⊎◌, IsTrue, List};
+ghost use Rattle.std.specs.Prelude.{length};
 ghost use Rattle.std.specs.Prelude.{map, unsigned_abs};
 ghost use Rattle.ffv1_plane.specs.Quantisation.{IsNear, HasFewLevels};
 ghost use Rattle.ffv1_plane.specs.Context.{size_of, flip_of};
@@ -56,11 +57,11 @@ fn fold_lanes(differences: u16x16, bits: u8) -> u16x16
     differences & u16x16::splat(511)
 }
 
-/// The numbers of the contexts of 16 places (RFC 9043, 3.5), and the residuals that an encoder takes
-/// for their samples (3.8), modulo 512, each as `context`, `predict` and `residual_of` have it. The
-/// set's tables have at most eleven levels each (`has_few_levels`), and `lanes` are those of the set
-/// (`QuantSet::lanes`). `bits` is 8 or 9; `near` may be said of a set whose fourth and fifth tables
-/// have one level.
+/// The numbers of the contexts of 16 places (RFC 9043, 3.5), and the residuals that an encoder
+/// takes for their samples (3.8), modulo 512, each as `context`, `predict` and `residual_of` have
+/// it. The set's tables have at most eleven levels each (`has_few_levels`), and `lanes` are those
+/// of the set (`QuantSet::lanes`). `bits` is 8 or 9; `near` may be said of a set whose fourth and
+/// fifth tables have one level.
 #[inline(always)]
 pub fn choose_lanes<A: Allocator>(
     set: &QuantSet<A>,

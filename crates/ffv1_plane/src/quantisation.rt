@@ -1,7 +1,9 @@
 //! Quantisation table sets, and the contexts of places by them.
 
-ghost use Rattle.std.specs.Prelude.{◌≡◌, ℕ, ◌+◌, ◌-◌, ◌*◌, ◌^◌, ◌<◌, ◌≤◌, ◌↔◌, IfOk, IsErrOf, IsOkUnless};
-ghost use Rattle.std.specs.Prelude.{IsTrue, IsFalse, length, map, slice_index_or, [], ◌∷◌, pos, ◌-ℤ◌, List};
+ghost use Rattle.std.specs.Prelude.{◌≡◌, ℕ, ◌+◌, ◌-◌, ◌*◌, ◌^◌, ◌<◌, ◌≤◌, ◌↔◌, IfOk, IsErrOf};
+ghost use Rattle.std.specs.Prelude.{IsOkUnless};
+ghost use Rattle.std.specs.Prelude.{IsTrue, IsFalse, length, map, slice_index_or, [], ◌∷◌, pos};
+ghost use Rattle.std.specs.Prelude.{◌-ℤ◌, List};
 ghost use Rattle.ffv1_plane.specs.declared.prediction.Around.{Around};
 ghost use Rattle.ffv1_plane.specs.Quantisation.{Set, IsSet, are_filled, contexts_of, small_set};
 ghost use Rattle.ffv1_plane.specs.Quantisation.{large_set, IsNear, HasFewLevels};

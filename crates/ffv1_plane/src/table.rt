@@ -4,7 +4,8 @@ ghost use Rattle.std.specs.Prelude.{◌≡◌, ℕ, ◌+◌, ◌-◌, ◌*◌, �
 ghost use Rattle.std.specs.Prelude.{IsTrue, IfOk, List, map, min, replicate, if◌then◌else◌, nat_lt};
 ghost use Rattle.ffv1_plane.specs.Quantisation.{is_filled, entry_of};
 ghost use Rattle.ffv1_plane.specs.Context.{low};
-ghost use Rattle.ffv1_plane.specs.Raised.{RaisedTable, IsRaised, half_of, raised_entry, AreLastPlaces, AreSteps};
+ghost use Rattle.ffv1_plane.specs.Raised.{RaisedTable, IsRaised, half_of, raised_entry};
+ghost use Rattle.ffv1_plane.specs.Raised.{AreLastPlaces, AreSteps};
 ghost use Rattle.ffv1_plane.specs.Raised.{AreTableLanes};
 
 use std::alloc::{AllocError, Allocator};

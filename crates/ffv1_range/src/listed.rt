@@ -1,7 +1,8 @@
 //! Decisions of a list are written.
 
 ghost use Rattle.std.specs.Prelude.{◌≡◌, ℕ, ◌+◌, ◌*◌, ◌/◌, ◌^◌, ◌≤◌, ◌<◌, [], ◌∷◌, OnOk, OnErr};
-ghost use Rattle.std.specs.Prelude.{IfOk, IfErr, IsTrue, length, false, List, ◌++◌, take, drop, map};
+ghost use Rattle.std.specs.Prelude.{IfOk, IfErr, IsTrue, length, false, List, ◌++◌, take, drop};
+ghost use Rattle.std.specs.Prelude.{map};
 ghost use Rattle.std.specs.Prelude.{slice_index};
 ghost use Rattle.std.specs.Vec.{vec_capacity, vec_len};
 ghost use Rattle.ffv1_range.specs.Interval.{narrow, part, renormalised};

@@ -34,7 +34,7 @@ pub other_are : (at : ℕ) (c y cb cr : List ℕ) → at + 16 ≤ length c → a
 other_are at c y cb cr lc ly lb lr =
     zipped at 16 plus _ _ _ _ (loaded at 16 c lc) (zipped at 16 minus _ _ _ _ (green_are at y cb cr ly lb lr) (splat at 16 256))
 
--- red, green and blue of a place lie from 0 to 255
+-- red, green and blue of a sample lie from 0 to 255
 pub record AreBytesAt (y cb cr : List ℕ) (k : ℕ) : Type 0 where
   pub red : other_at cr y cb cr k < 256
   pub green : green_at y cb cr k < 256

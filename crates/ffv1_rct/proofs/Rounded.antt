@@ -1,4 +1,4 @@
--- The transform of a place by the rules of 16 bits.
+-- The transform of a sample by the rules of 16 bits.
 use Rattle.std.proofs.Common.{◌≡◌, refl, ap, ◌∙◌, sym, ℕ, ◌+◌, ◌-◌, ◌*◌, ◌/◌, ◌%◌, ◌^◌, ◌<◌, arith}
 use Rattle.ffv1_rct.specs.Transform.{IsCoded, IsOnlyColour}
 use Rattle.ffv1_rct.proofs.Places.{coded_if_summed, only_colour}

@@ -43,7 +43,8 @@ abbrev pub lumas : List ℕ → List ℕ → List ℕ → List ℕ
 lumas (r ∷ rs) (g ∷ gs) (b ∷ bs) = unsigned_abs (luma_of r g b) ∷ lumas rs gs bs
 lumas _ _ _ = []
 
--- Cb at each place, from lines of blue and green of so many bits, or Cr, from lines of red and green
+-- Cb at each place, from lines of blue and green of so many bits, or Cr, from lines of red and
+-- green
 abbrev pub chromas_in : ℕ → List ℕ → List ℕ → List ℕ
 chromas_in depth (v ∷ vs) (g ∷ gs) = unsigned_abs (chroma_in depth v g) ∷ chromas_in depth vs gs
 chromas_in depth _ _ = []

@@ -10,8 +10,8 @@ quarter_below z = int_div_euclid z (pos 4)
 abbrev pub luma_of : ℕ → ℕ → ℕ → ℤ
 luma_of r g b = pos g +ℤ quarter_below ((pos b -ℤ pos g) +ℤ (pos r -ℤ pos g))
 
--- Cb of blue and green, or Cr of red and green, of samples of so many bits: their difference, raised
--- by 2^depth
+-- Cb of blue and green, or Cr of red and green, of samples of so many bits: their difference,
+-- raised by 2^depth
 abbrev pub chroma_in : ℕ → ℕ → ℕ → ℤ
 chroma_in depth v g = (pos v -ℤ pos g) +ℤ pos (2 ^ depth)
 

@@ -1,6 +1,7 @@
 //! Lines of samples of more than 8 bits, in words of 16 bits.
 
-ghost use Rattle.std.specs.Prelude.{◌≡◌, ℕ, ◌+◌, ◌*◌, ◌/◌, ◌%◌, ◌^◌, ◌≤◌, ◌<◌, ◌↔◌, length, slice_index};
+ghost use Rattle.std.specs.Prelude.{◌≡◌, ℕ, ◌+◌, ◌*◌, ◌/◌, ◌%◌, ◌^◌, ◌≤◌, ◌<◌, ◌↔◌, length};
+ghost use Rattle.std.specs.Prelude.{slice_index};
 ghost use Rattle.std.specs.Prelude.{slice_set, OnOk, IfErr, IsErr, IfSome, IsNone};
 ghost use Rattle.ffv1_samples.specs.Samples.{samples_of, bytes_of};
 ghost use Rattle.ffv1_rct.specs.Transform.{IsCodedIn, HasColourIn, IsOnlyColourIn};
@@ -163,7 +164,8 @@ pub fn narrow_words(a: &[u16], out: &mut [u8], depth: u8) -> Result<(), NoColour
     requires deep { 8 < depth }
     requires few { depth ≤ 16 }
     requires out { length out.old ≡ 2 * length a.now }
-    ensures exact { IsErr result ↔ ((x : ℕ) × (x < length a.now) × (2 ^ depth ≤ slice_index a.now x)) }
+    ensures exact { IsErr result ↔ ((x : ℕ) × (x < length a.now)
+        × (2 ^ depth ≤ slice_index a.now x)) }
     ensures ok { OnOk result (out.new ≡ bytes_of depth a.now) }
     ensures inside { IfErr result (λ c. c.x < length a.now) }
     ensures above { IfErr result (λ c. 2 ^ depth ≤ slice_index a.now c.x) }

@@ -7,3 +7,4 @@ pub mod KnownLaws
 pub mod EndReadings
 pub mod EndFaults
 pub mod Writing
+pub mod Rooms

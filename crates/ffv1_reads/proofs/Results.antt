@@ -1,6 +1,7 @@
 -- Outcomes of readings, and beginnings of bytes.
 use Rattle.std.proofs.Common.{◌≡◌, ℕ, Some, Result, Ok, Err, List, ◌++◌, length, take, drop, refl}
 use Rattle.std.proofs.Math.Seq.{drop-append_seam, take-append_seam}
+use Rattle.std.specs.Prelude.{OnOk}
 use Rattle.ffv1_reads.specs.Reads.{Reading, Stop, read_on, ◌>>=◌}
 
 -- readings in a row
@@ -25,3 +26,8 @@ cut_front n xs ys long = rw (← long) (take-append_seam xs ys)
 
 pub cut_back : (n : ℕ) (xs ys : List ℕ) → length xs ≡ n → drop n (xs ++ ys) ≡ ys
 cut_back n xs ys long = rw (← long) (drop-append_seam xs ys)
+
+-- a fact that holds whatever is answered
+pub on_ok : {A E P : Type 0} (r : Result A E) → P → OnOk r P
+on_ok (Ok x) p = p
+on_ok (Err f) p = tt

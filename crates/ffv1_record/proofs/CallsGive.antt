@@ -179,11 +179,11 @@ pub stop : {X Y V W : Type 0} {first : Reader X} {next : X → Reader Y} {view :
 stop {first = first} {next = next} {view = view} {seen = seen} {a = a} {b = b} {c = c} {f = f} one = gives_stop first next view seen a b c f one
 
 -- bits_per_raw_sample
-pub gives_depth : (most : ℕ) (rct : Bool) (a b : Source) (n : ℕ) → Gives (λ x. x) (number 0) a b (Ok n) → IsTrue (is_depth most rct (depth_of n)) → Gives (λ x. x) (depth most rct) a b (Ok (depth_of n))
-gives_depth most rct a b n one good = and_then one (gives_required (is_depth most rct (depth_of n)) fault.Depth (λ _. done (depth_of n)) (λ x. x) b b (Ok (depth_of n)) good (gives_done (λ x. x) b (depth_of n)))
+pub gives_depth : (most : ℕ) (a b : Source) (n : ℕ) → Gives (λ x. x) (number 0) a b (Ok n) → IsTrue (is_depth most (depth_of n)) → Gives (λ x. x) (depth most) a b (Ok (depth_of n))
+gives_depth most a b n one good = and_then one (gives_required (is_depth most (depth_of n)) fault.Depth (λ _. done (depth_of n)) (λ x. x) b b (Ok (depth_of n)) good (gives_done (λ x. x) b (depth_of n)))
 
-pub refuses_depth : (most : ℕ) (rct : Bool) (a b : Source) (n : ℕ) → Gives (λ x. x) (number 0) a b (Ok n) → IsFalse (is_depth most rct (depth_of n)) → Gives {Y = ℕ} (λ x. x) (depth most rct) a b (Err fault.Depth)
-refuses_depth most rct a b n one bad = and_then one (gives_refused (is_depth most rct (depth_of n)) fault.Depth (λ _. done (depth_of n)) (λ x. x) b b bad)
+pub refuses_depth : (most : ℕ) (a b : Source) (n : ℕ) → Gives (λ x. x) (number 0) a b (Ok n) → IsFalse (is_depth most (depth_of n)) → Gives {Y = ℕ} (λ x. x) (depth most) a b (Err fault.Depth)
+refuses_depth most a b n one bad = and_then one (gives_refused (is_depth most (depth_of n)) fault.Depth (λ _. done (depth_of n)) (λ x. x) b b bad)
 
 -- a run of a table
 pub gives_run : (a b : Source) (states after : List ℕ) (n most : ℕ) → GivesIn number a states b after (Ok n) → n ≤ most → GivesIn (λ base. number_within base 0 most fault.Runs) a states b after (Ok n)

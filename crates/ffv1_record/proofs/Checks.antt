@@ -43,25 +43,25 @@ sized c h =
     }
 
 -- a depth is from 8 to 16, and 16 is without RCT
-pub depth_bounds : (most : ℕ) (rct : Bool) (n : ℕ) → IsTrue (is_depth most rct n) → (8 ≤ n) × (n ≤ 16) × (n ≤ most)
-depth_bounds most rct n h =
-    let parts = both (nat_le n most) ((n == 8) || (n == 9) || (n == 10) || (n == 12) || (n == 14) || ((n == 16) && not rct)) h in
-    (least rct n parts.1, greatest rct n parts.1, leb-true n most parts.0)
+pub depth_bounds : (most : ℕ) (n : ℕ) → IsTrue (is_depth most n) → (8 ≤ n) × (n ≤ 16) × (n ≤ most)
+depth_bounds most n h =
+    let parts = both (nat_le n most) ((n == 8) || (n == 9) || (n == 10) || (n == 12) || (n == 14) || (n == 16)) h in
+    (least n parts.1, greatest n parts.1, leb-true n most parts.0)
   where
-    least : (rct : Bool) (n : ℕ) → IsTrue ((n == 8) || (n == 9) || (n == 10) || (n == 12) || (n == 14) || ((n == 16) && not rct)) → 8 ≤ n
-    least rct n h = grind (arith, nat_tests)
+    least : (n : ℕ) → IsTrue ((n == 8) || (n == 9) || (n == 10) || (n == 12) || (n == 14) || (n == 16)) → 8 ≤ n
+    least n h = grind (arith, nat_tests)
 
-    greatest : (rct : Bool) (n : ℕ) → IsTrue ((n == 8) || (n == 9) || (n == 10) || (n == 12) || (n == 14) || ((n == 16) && not rct)) → n ≤ 16
-    greatest rct n h = grind (arith, nat_tests)
+    greatest : (n : ℕ) → IsTrue ((n == 8) || (n == 9) || (n == 10) || (n == 12) || (n == 14) || (n == 16)) → n ≤ 16
+    greatest n h = grind (arith, nat_tests)
 
 -- a depth is one up to each greatest one that it does not pass
-pub depth_up_to : (most other : ℕ) (rct : Bool) (n : ℕ) → IsTrue (is_depth most rct n) → n ≤ other → IsTrue (is_depth other rct n)
-depth_up_to most other rct n h low = rw (le-leb n other low) (both (nat_le n most) ((n == 8) || (n == 9) || (n == 10) || (n == 12) || (n == 14) || ((n == 16) && not rct)) h).1
+pub depth_up_to : (most other : ℕ) (n : ℕ) → IsTrue (is_depth most n) → n ≤ other → IsTrue (is_depth other n)
+depth_up_to most other n h low = rw (le-leb n other low) (both (nat_le n most) ((n == 8) || (n == 9) || (n == 10) || (n == 12) || (n == 14) || (n == 16)) h).1
 
 -- a depth of a profile is at most the greatest one that the profile has
-pub deepest_few : (p : Profile) (most : ℕ) (rct : Bool) (n : ℕ) → IsTrue (is_depth (deepest p most) rct n) → n ≤ deepest p 16
-deepest_few profile.Strict most rct n h = (depth_bounds 8 rct n h).2
-deepest_few profile.Wide most rct n h = (depth_bounds most rct n h).1
+pub deepest_few : (p : Profile) (most : ℕ) (n : ℕ) → IsTrue (is_depth (deepest p most) n) → n ≤ deepest p 16
+deepest_few profile.Strict most n h = (depth_bounds 8 n h).2
+deepest_few profile.Wide most n h = (depth_bounds most n h).1
 
 -- the bits of a depth, and the depth of bits
 pub depth_known : (bits depth : ℕ) → depth_of bits ≡ depth → (bits ≡ depth) ⊎ ((bits ≡ 0) × (depth ≡ 8))

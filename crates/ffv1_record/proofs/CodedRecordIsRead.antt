@@ -66,14 +66,14 @@ module _ (b : List ℕ) (are : AreBytes b) where
       (forced_kind v c t is writable)))
       refl (ap (λ p. spot_of p s.fresh) (append_assoc (s.past ++ number_steps 0 3) (number_steps 0 4) (coder_steps c) ∙ append_assoc s.past (number_steps 0 3) (number_steps 0 4 ++ coder_steps c) ∙ ap (λ q. s.past ++ q) (sym (append_assoc (number_steps 0 3) (number_steps 0 4) (coder_steps c)))))
 
-  pub forced_depth : (most : ℕ) (rct : Bool) (s : Spot) (bits : ℕ) → IsTrue (is_depth most rct (depth_of bits)) → Forces (depth most rct) b s (depth_of bits) (behind s (number_steps 0 bits))
-  forced_depth most rct s bits deep =
+  pub forced_depth : (most : ℕ) (s : Spot) (bits : ℕ) → IsTrue (is_depth most (depth_of bits)) → Forces (depth most) b s (depth_of bits) (behind s (number_steps 0 bits))
+  forced_depth most s bits deep =
       let t = behind s (number_steps 0 bits) in
-      let bounds = (depth_bounds most rct (depth_of bits) deep).1 in
+      let bounds = (depth_bounds most (depth_of bits) deep).1 in
       let few = bits_few bits in
       let small : bits < 2 ^ 31 = omega (arith, few, bounds) in
-      forced_then b are (number 0) (λ n. require (is_depth most rct (depth_of n)) fault.Depth >>= λ _. done (depth_of n)) s t t bits (depth_of bits) [] (sym (append-nil t.past)) (forced_number b are 0 s bits small)
-      (forced_then b are (require (is_depth most rct (depth_of bits)) fault.Depth) (λ _. done (depth_of bits)) t t t true (depth_of bits) [] (sym (append-nil t.past)) (forced_require b t (is_depth most rct (depth_of bits)) fault.Depth deep) (forced_done b t (depth_of bits)))
+      forced_then b are (number 0) (λ n. require (is_depth most (depth_of n)) fault.Depth >>= λ _. done (depth_of n)) s t t bits (depth_of bits) [] (sym (append-nil t.past)) (forced_number b are 0 s bits small)
+      (forced_then b are (require (is_depth most (depth_of bits)) fault.Depth) (λ _. done (depth_of bits)) t t t true (depth_of bits) [] (sym (append-nil t.past)) (forced_require b t (is_depth most (depth_of bits)) fault.Depth deep) (forced_done b t (depth_of bits)))
 
   forced_count : (s : Spot) (n : ℕ) → 1 ≤ n → n ≤ 32 → Forces count_of b s n (behind s (number_steps 0 (n - 1)))
   forced_count s n some few =
@@ -159,7 +159,7 @@ filled_sum rs h =
     let parts = both (list_all (λ r. nat_lt 0 r) rs) (sum rs == 128) h in
     (parts.0, eqb-true (sum rs) 128 parts.1)
 
--- a place after a table
+-- a position after a table
 abbrev pub behind_table : Spot → List Step → Spot
 behind_table s steps = record { past = s.past ++ steps; fresh = s.fresh + 32 }
 
@@ -290,12 +290,12 @@ module _ (b : List ℕ) (are : AreBytes b) where
       let four = behind three h_steps in
       let five = behind four v_steps in
       let six = behind five e_steps in
-      let here : IsTrue (is_depth most (is_rct (colour_of kind)) (depth_of bits)) = subst (λ n. IsTrue (is_depth most (is_rct (colour_of kind)) n)) (sym known) (subst (λ (z : Colour). IsTrue (is_depth most (is_rct z) c.depth)) (sym (colour_back c.colour)) deep) in
+      let here : IsTrue (is_depth most (depth_of bits)) = subst (λ n. IsTrue (is_depth most n)) (sym known) deep in
       let read : Planes = record { colour = colour_of kind; depth = depth_of bits; chroma_planes = c.chroma_planes; extra_plane = c.extra_plane; log2_h = c.log2_h; log2_v = c.log2_v } in
       forced_as (planes most) b s six (behind s (planes_steps bits c)) read (planes_in c)
       (forced_then b are (number_within 0 0 1 fault.ColourSpace) _ s one six kind read (d_steps ++ c_steps ++ h_steps ++ v_steps ++ e_steps) (five_tail one.past d_steps c_steps h_steps v_steps e_steps)
       (forced_within b are 0 0 1 fault.ColourSpace s kind kind_small (omega arith) tiny)
-      (forced_then b are (depth most (is_rct (colour_of kind))) _ one two six (depth_of bits) read (c_steps ++ h_steps ++ v_steps ++ e_steps) (four_tail two.past c_steps h_steps v_steps e_steps) (forced_depth b are most (is_rct (colour_of kind)) one bits here)
+      (forced_then b are (depth most) _ one two six (depth_of bits) read (c_steps ++ h_steps ++ v_steps ++ e_steps) (four_tail two.past c_steps h_steps v_steps e_steps) (forced_depth b are most one bits here)
       (forced_then b are truth _ two three six c.chroma_planes read (h_steps ++ v_steps ++ e_steps) (three_tail three.past h_steps v_steps e_steps) (forced_truth b are two c.chroma_planes)
       (forced_then b are (number 0) _ three four six c.log2_h read (v_steps ++ e_steps) (append_assoc four.past v_steps e_steps) (forced_number b are 0 three c.log2_h h_small)
       (forced_then b are (number 0) _ four five six c.log2_v read e_steps refl (forced_number b are 0 four c.log2_v v_small)
@@ -352,7 +352,7 @@ module _ (b : List ℕ) (are : AreBytes b) where
       let six = behind five e in
       let seven = behind six i in
       forced_then b are opening _ beginning one seven c.coder c (q ++ l ++ r ++ x ++ e ++ i) (whole_tail o q l r x e i) (forced_opening b are beginning c.coder t is.table writable)
-      (forced_then b are (planes most) _ one two seven (planes_in c) c (l ++ r ++ x ++ e ++ i) (five_tail two.past l r x e i) (forced_planes b are most one bits c known (depth_up_to 16 most (is_rct c.colour) c.depth is.depth low) factors.log2_h factors.log2_v passes.1.1.0)
+      (forced_then b are (planes most) _ one two seven (planes_in c) c (l ++ r ++ x ++ e ++ i) (five_tail two.past l r x e i) (forced_planes b are most one bits c known (depth_up_to 16 most c.depth is.depth low) factors.log2_h factors.log2_v passes.1.1.0)
       (forced_then b are count_of _ two three seven c.columns c (r ++ x ++ e ++ i) (four_tail three.past r x e i) (forced_count b are two c.columns grid.some_columns grid.columns)
       (forced_then b are count_of _ three four seven c.rows c (x ++ e ++ i) (three_tail four.past x e i) (forced_count b are three c.rows grid.some_rows grid.rows)
       (forced_then b are tables _ four five seven c.sets c (e ++ i) (append_assoc five.past e i) (forced_tables b are four c.sets is.sets some.0 some.1)

@@ -17,7 +17,7 @@ pub divided-zero : (n : ℕ) → divided 0 n ≡ n
 unfolding divided
 divided-zero n = refl
 
--- ---- a place that is 1 or 0
+-- ---- a coefficient that is 1 or 0
 
 pub struck_one : (place n : ℕ) → bit_at n (32 + place) ≡ 1 → struck place n ≡ bit_xor n (generator * 2 ^ place)
 struck_one place n one = rw one refl

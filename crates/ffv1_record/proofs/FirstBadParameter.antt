@@ -22,7 +22,7 @@ use Rattle.ffv1_record.specs.Reading.{colour_of, deltas_onto, coder_of, opening,
 use Rattle.ffv1_record.specs.Order.{Parameter, FirstBad, IsTooLong, IsBadNumber, AreBadDeltas, IsBadTable, IsBadSet, version, micro_version, coder_type, colorspace_type, bits_per_raw_sample, chroma_planes, log2_h_chroma_subsample, log2_v_chroma_subsample, extra_plane, num_h_slices, num_v_slices, quant_table_set_count, quant_table_sets, states_coded, ec, intra, in_order}
 use Rattle.ffv1_record.proofs.Checks.{both}
 use Rattle.ffv1_record.proofs.CodedIsRead.{coded_front, forced_number, forced_signed, forced_truth, forced_within, spot_of}
-use Rattle.ffv1_record.proofs.CodedRecordIsRead.{forced_kind, forced_depth, forced_deltas, forced_flag, forced_uncoded, forced_set, forced_sets, forced_table, behind_table, sum_cons, colour_few, colour_back}
+use Rattle.ffv1_record.proofs.CodedRecordIsRead.{forced_kind, forced_depth, forced_deltas, forced_flag, forced_uncoded, forced_set, forced_sets, forced_table, behind_table, sum_cons, colour_few}
 
 -- ---- readings joined
 
@@ -73,12 +73,12 @@ module _ (b : List ℕ) (are : AreBytes b) where
   good_within : (base least most : ℕ) (wrong : RecordFault) (s : Spot) (n : ℕ) → n < 2 ^ 31 → least ≤ n → n ≤ most → IsCoded b (s.past ++ number_steps base n) → number_within base least most wrong b s (Ok (n, behind s (number_steps base n)))
   good_within base least most wrong s n small low high coded = (forced_within b are base least most wrong s n small low high).reads coded
 
-  bad_depth : (most : ℕ) (rct : Bool) (s : Spot) (steps : List Step) (f : RecordFault) → IsBadNumber 0 (λ n. IsTrue (is_depth most rct (depth_of n))) fault.Depth steps f → IsCoded b (s.past ++ steps) → depth most rct b s (Err f)
-  bad_depth most rct s steps f bad coded = elim bad [
+  bad_depth : (most : ℕ) (s : Spot) (steps : List Step) (f : RecordFault) → IsBadNumber 0 (λ n. IsTrue (is_depth most (depth_of n))) fault.Depth steps f → IsCoded b (s.past ++ steps) → depth most b s (Err f)
+  bad_depth most s steps f bad coded = elim bad [
     | inl e ↦
         let here = subst (λ x. IsCoded b (s.past ++ x)) e.3 coded in
-        subst (λ g. depth most rct b s (Err g)) (sym e.4)
-        (then_ok (number 0) _ b s e.0 (behind s (number_steps 0 e.0)) (Err fault.Depth) (some_number 0 s e.0 e.1 here) (then_err (require (is_depth most rct (depth_of e.0)) fault.Depth) _ b (behind s (number_steps 0 e.0)) fault.Depth (require_err (is_depth most rct (depth_of e.0)) fault.Depth b (behind s (number_steps 0 e.0)) (untrue (is_depth most rct (depth_of e.0)) e.2))))
+        subst (λ g. depth most b s (Err g)) (sym e.4)
+        (then_ok (number 0) _ b s e.0 (behind s (number_steps 0 e.0)) (Err fault.Depth) (some_number 0 s e.0 e.1 here) (then_err (require (is_depth most (depth_of e.0)) fault.Depth) _ b (behind s (number_steps 0 e.0)) fault.Depth (require_err (is_depth most (depth_of e.0)) fault.Depth b (behind s (number_steps 0 e.0)) (untrue (is_depth most (depth_of e.0)) e.2))))
     | inr e ↦ then_err (number 0) _ b s f (long_number 0 s steps f e coded)
   ]
     where
@@ -321,8 +321,6 @@ module _ (b : List ℕ) (are : AreBytes b) where
     unfolding planes_end extra_read
     in_planes most ps s h =
         let kind = one_if (is_rct c.colour) in
-        let rct = is_rct (colour_of kind) in
-        let same : is_rct c.colour ≡ rct = ap is_rct (sym (colour_back c.colour)) in
         let tiny = colour_few c.colour in
         let one = behind s (number_steps 0 kind) in
         let two = behind one (number_steps 0 bits) in
@@ -333,10 +331,10 @@ module _ (b : List ℕ) (are : AreBytes b) where
         join (number_within 0 0 1 fault.ColourSpace) _ s kind one planes_read end (bits_per_raw_sample most ∷ chroma_planes ∷ log2_h_chroma_subsample ∷ log2_v_chroma_subsample ∷ extra_plane ∷ ps) ps
         (step colorspace_type (bits_per_raw_sample most ∷ chroma_planes ∷ log2_h_chroma_subsample ∷ log2_v_chroma_subsample ∷ extra_plane ∷ ps) (number_within 0 0 1 fault.ColourSpace) s kind one refl
         (λ steps e coded. bad_within 0 0 1 fault.ColourSpace s steps f e coded) (λ e coded. good_within 0 0 1 fault.ColourSpace s kind (omega (arith, tiny)) (omega arith) tiny coded) h)
-        (λ h. join (depth most rct) _ one (depth_of bits) two planes_read end (chroma_planes ∷ log2_h_chroma_subsample ∷ log2_v_chroma_subsample ∷ extra_plane ∷ ps) ps
-        (step (bits_per_raw_sample most) (chroma_planes ∷ log2_h_chroma_subsample ∷ log2_v_chroma_subsample ∷ extra_plane ∷ ps) (depth most rct) one (depth_of bits) two refl
-        (λ steps e coded. subst (λ r. depth most r b one (Err f)) same (bad_depth most (is_rct c.colour) one steps f e coded))
-        (λ e coded. subst (λ r. depth most r b one (Ok (depth_of bits, two))) same ((forced_depth b are most (is_rct c.colour) one bits e).reads coded)) h)
+        (λ h. join (depth most) _ one (depth_of bits) two planes_read end (chroma_planes ∷ log2_h_chroma_subsample ∷ log2_v_chroma_subsample ∷ extra_plane ∷ ps) ps
+        (step (bits_per_raw_sample most) (chroma_planes ∷ log2_h_chroma_subsample ∷ log2_v_chroma_subsample ∷ extra_plane ∷ ps) (depth most) one (depth_of bits) two refl
+        (λ steps e coded. bad_depth most one steps f e coded)
+        (λ e coded. (forced_depth b are most one bits e).reads coded) h)
         (λ h. join truth _ two c.chroma_planes three planes_read end (log2_h_chroma_subsample ∷ log2_v_chroma_subsample ∷ extra_plane ∷ ps) ps
         (step chroma_planes (log2_h_chroma_subsample ∷ log2_v_chroma_subsample ∷ extra_plane ∷ ps) truth two c.chroma_planes three refl (λ steps e coded. absurd e) (λ e coded. (forced_truth b are two c.chroma_planes).reads coded) h)
         (λ h. join (number 0) _ three c.log2_h four planes_read end (log2_v_chroma_subsample ∷ extra_plane ∷ ps) ps

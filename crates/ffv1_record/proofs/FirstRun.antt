@@ -1,8 +1,8 @@
 -- The first run of the first table that is read.
-use Rattle.std.proofs.Common.{◌≡◌, refl, ℕ, suc, ◌+◌, ◌-◌, ◌<◌, inl, inr, List, [], replicate, ◌⊎◌, arith, Ok, subst, Bool, true, false, ap, sym, ◌∙◌, rules}
+use Rattle.std.proofs.Common.{◌≡◌, refl, ℕ, suc, ◌+◌, ◌-◌, inl, inr, List, [], replicate, ◌⊎◌, arith, Ok, subst, Bool, true, false, ap, sym, ◌∙◌, rules}
 use Rattle.ffv1_record.specs.declared.fault.RecordFault.{RecordFault}
 use Rattle.ffv1_record.specs.declared.fault.RecordFault.TheVariants as fault
-use Rattle.ffv1_record.specs.Reader.{Spot, ◌>>=◌, next_table, number_within}
+use Rattle.ffv1_record.specs.Reader.{Spot, next_table, number_within}
 use Rattle.ffv1_record.specs.Reading.{runs_onto, table, set, first_run}
 use Rattle.ffv1_record.specs.Internal.Given.{Source, Stands, StandsIn, Gives, GivesIn, IsRead}
 use Rattle.ffv1_record.proofs.CallsGive.{read_one, read_front}

@@ -8,11 +8,11 @@ use Rattle.ffv1_record.specs.declared.fault.RecordFault.{RecordFault}
 use Rattle.ffv1_record.specs.declared.fault.RecordFault.TheVariants as fault
 use Rattle.ffv1_record.specs.declared.config.Coder.{Coder}
 use Rattle.ffv1_record.specs.declared.config.Coder.TheVariants as coder
-use Rattle.ffv1_record.specs.Configuration.{Configuration, is_rct}
+use Rattle.ffv1_record.specs.Configuration.{Configuration}
 use Rattle.ffv1_record.specs.Accepted.{IsFirst, IsAccepted, is_depth, checks}
 use Rattle.ffv1_record.specs.Record.{IsCoded, IsRecord, body_of, depth_of, number_steps}
 use Rattle.ffv1_record.specs.Reader.{Reader, Spot, ◌>>=◌, done, require, next_table, number, signed_number, truth, number_within, makes_table}
-use Rattle.ffv1_record.specs.Reading.{deltas_onto, coder_of, opening, colour_of, depth, planes, count_of, runs_onto, table, set, sets_onto, uncoded, tables, flag, before_sets, parameters, beginning, IsMet, IsRefused}
+use Rattle.ffv1_record.specs.Reading.{deltas_onto, coder_of, opening, depth, planes, count_of, runs_onto, table, set, sets_onto, uncoded, tables, flag, before_sets, parameters, beginning, IsMet, IsRefused}
 use Rattle.ffv1_record.proofs.ReadIsCoded.{ok_same, not_both}
 use Rattle.ffv1_record.proofs.CodedIsRead.{coded_front, forced_number, forced_signed, forced_truth}
 use Rattle.ffv1_record.proofs.RecordIsRead.{none_stands, good_start, read_so}
@@ -114,13 +114,13 @@ module _ (b : List ℕ) (are : AreBytes b) where
       decides_then b (number_within 0 4 4 fault.MicroVersion) _ (decides_within 0 4 4 fault.MicroVersion) (λ _.
       decides_then b (number_within 0 1 2 fault.Coder) coder_of (decides_within 0 1 2 fault.Coder) decides_coder))
 
-  decides_depth : (most : ℕ) (rct : Bool) → Decides b (depth most rct)
-  decides_depth most rct = decides_then b (number 0) _ (decides_number 0) (λ n. decides_then b (require (is_depth most rct (depth_of n)) fault.Depth) _ (decides_require b (is_depth most rct (depth_of n)) fault.Depth) (λ _. decides_done b (depth_of n)))
+  decides_depth : (most : ℕ) → Decides b (depth most)
+  decides_depth most = decides_then b (number 0) _ (decides_number 0) (λ n. decides_then b (require (is_depth most (depth_of n)) fault.Depth) _ (decides_require b (is_depth most (depth_of n)) fault.Depth) (λ _. decides_done b (depth_of n)))
 
   decides_planes : (most : ℕ) → Decides b (planes most)
   decides_planes most =
       decides_then b (number_within 0 0 1 fault.ColourSpace) _ (decides_within 0 0 1 fault.ColourSpace) (λ kind.
-      decides_then b (depth most (is_rct (colour_of kind))) _ (decides_depth most (is_rct (colour_of kind))) (λ _.
+      decides_then b (depth most) _ (decides_depth most) (λ _.
       decides_then b truth _ decides_truth (λ chroma.
       decides_then b (number 0) _ (decides_number 0) (λ log2_h.
       decides_then b (number 0) _ (decides_number 0) (λ log2_v.

@@ -1,6 +1,6 @@
 -- What holds of the planes and sets of a configuration that was checked.
-use Rattle.std.proofs.Common.{◌≡◌, refl, ℕ, zero, suc, ◌<◌, ◌≤◌, Bool, true, false, not, nat_le, ◌&&◌, ◌||◌, ◌==◌, IsTrue, List, [], ◌∷◌, length, get_or, rules, arith}
-use Rattle.std.proofs.lemmas.Bool.{eqb-true}
+use Rattle.std.proofs.Common.{◌≡◌, ◌⊎◌, inl, inr, refl, ℕ, zero, suc, ◌<◌, ◌≤◌, Bool, true, false, not, nat_le, ◌&&◌, ◌||◌, ◌==◌, IsTrue, List, [], ◌∷◌, length, get_or, rules, arith}
+use Rattle.std.proofs.lemmas.Bool.{eqb-true, cases_eq}
 use Rattle.std.proofs.lemmas.Bool.Decides.{nat_tests}
 use Rattle.ffv1_plane.specs.Quantisation.{Set, IsSet}
 use Rattle.ffv1_record.specs.declared.config.Colour.{Colour}
@@ -30,10 +30,13 @@ pub rct_parts : (h v : ℕ) (chroma : Bool) (c : Colour) → IsTrue (suits h v c
 rct_parts h v chroma colour.Rct test is = with_rct h v chroma test
 rct_parts h v chroma colour.YCbCr test is = absurd (search rules)
 
--- RCT has at most 14 bits a sample
-pub rct_depth : (most n : ℕ) (c : Colour) → IsTrue (is_depth most (is_rct c) n) → c ≡ colour.Rct → n ≤ 14
-rct_depth most n colour.Rct test is = grind (arith, nat_tests)
-rct_depth most n colour.YCbCr test is = absurd (search rules)
+-- there is no depth of 15 bits
+pub shallow_or_full : (most n : ℕ) → IsTrue (is_depth most n) → (n ≤ 14) ⊎ (n ≡ 16)
+shallow_or_full most n test =
+    elim (cases_eq n 16) [
+      | inl full ↦ inr full
+      | inr other ↦ inl (grind (arith, nat_tests))
+    ]
 
 with_luma : (h v : ℕ) (c : Colour) → IsTrue (suits h v false (is_rct c)) → (c ≡ colour.YCbCr) × (h ≡ 0) × (v ≡ 0)
 with_luma h v colour.YCbCr test =

@@ -178,22 +178,22 @@ one_of_colour (suc zero) few = refl
 one_of_colour (suc (suc kind)) few = absurd (omega arith)
 
 -- bits_per_raw_sample is of a depth
-pub record Deep (most : ℕ) (rct : Bool) (s : Spot) (n : ℕ) (t : Spot) : Type 0 where
+pub record Deep (most : ℕ) (s : Spot) (n : ℕ) (t : Spot) : Type 0 where
   pub bits : ℕ
   pub known : depth_of bits ≡ n
-  pub deep : IsTrue (is_depth most rct n)
+  pub deep : IsTrue (is_depth most n)
   pub after : After s (number_steps 0 bits) t 0
 
-depth_ok : (most : ℕ) (rct : Bool) (b : List ℕ) (s : Spot) (n : ℕ) (t : Spot) → depth most rct b s (Ok (n, t)) → Deep most rct s n t
-depth_ok most rct b s n t h =
-    let one = bind_ok (number 0) (λ n. require (is_depth most rct (depth_of n)) fault.Depth >>= λ _. done (depth_of n)) b s n t h in
-    let two = bind_ok (require (is_depth most rct (depth_of one.0)) fault.Depth) (λ _. done (depth_of one.0)) b one.1 n t one.3 in
-    let good = required_ok (is_depth most rct (depth_of one.0)) fault.Depth b one.1 two.0 two.1 two.2 in
+depth_ok : (most : ℕ) (b : List ℕ) (s : Spot) (n : ℕ) (t : Spot) → depth most b s (Ok (n, t)) → Deep most s n t
+depth_ok most b s n t h =
+    let one = bind_ok (number 0) (λ n. require (is_depth most (depth_of n)) fault.Depth >>= λ _. done (depth_of n)) b s n t h in
+    let two = bind_ok (require (is_depth most (depth_of one.0)) fault.Depth) (λ _. done (depth_of one.0)) b one.1 n t one.3 in
+    let good = required_ok (is_depth most (depth_of one.0)) fault.Depth b one.1 two.0 two.1 two.2 in
     let end = done_ok (depth_of one.0) b two.1 n t two.3 in
     record {
       bits = one.0;
       known = sym end.0;
-      deep = subst (λ k. IsTrue (is_depth most rct k)) (sym end.0) good.0;
+      deep = subst (λ k. IsTrue (is_depth most k)) (sym end.0) good.0;
       after = after_same s one.1 t (number_steps 0 one.0) 0 (number_ok 0 b s one.0 one.1 one.2) (end.1 ∙ good.1);
     }
 
@@ -205,13 +205,13 @@ planes_read bits p =
 pub record Seen (most : ℕ) (s : Spot) (p : Planes) (t : Spot) : Type 0 where
   pub bits : ℕ
   pub known : depth_of bits ≡ p.depth
-  pub deep : IsTrue (is_depth most (is_rct p.colour) p.depth)
+  pub deep : IsTrue (is_depth most p.depth)
   pub after : After s (planes_read bits p) t 0
 
 planes_ok : (most : ℕ) (b : List ℕ) (s : Spot) (p : Planes) (t : Spot) → planes most b s (Ok (p, t)) → Seen most s p t
 planes_ok most b s p t h =
     let one = bind_ok (number_within 0 0 1 fault.ColourSpace) _ b s p t h in
-    let two = bind_ok (depth most (is_rct (colour_of one.0))) _ b one.1 p t one.3 in
+    let two = bind_ok (depth most) _ b one.1 p t one.3 in
     let three = bind_ok truth _ b two.1 p t two.3 in
     let four = bind_ok (number 0) _ b three.1 p t three.3 in
     let five = bind_ok (number 0) _ b four.1 p t four.3 in
@@ -221,7 +221,7 @@ planes_ok most b s p t h =
     let read : Planes = record { colour = colour_of one.0; depth = two.0; chroma_planes = three.0; extra_plane = six.0; log2_h = four.0; log2_v = five.0 } in
     let end = done_ok read b seven.1 p t seven.3 in
     let kind = within_ok 0 0 1 fault.ColourSpace b s one.0 one.1 one.2 in
-    let deep = depth_ok most (is_rct (colour_of one.0)) b one.1 two.0 two.1 two.2 in
+    let deep = depth_ok most b one.1 two.0 two.1 two.2 in
     let colour = one_of_colour one.0 kind.most in
     let a = after_then s one.1 two.1 (number_steps 0 one.0) (number_steps 0 deep.bits) 0 0 kind.after deep.after in
     let c = after_then s two.1 three.1 (number_steps 0 one.0 ++ number_steps 0 deep.bits) (truth_steps three.0) 0 0 a (truth_ok b two.1 three.0 three.1 three.2) in
@@ -232,7 +232,7 @@ planes_ok most b s p t h =
     record {
       bits = deep.bits;
       known = deep.known ∙ ap (λ (q : Planes). q.depth) (sym end.0);
-      deep = subst (λ (q : Planes). IsTrue (is_depth most (is_rct q.colour) q.depth)) (sym end.0) deep.deep;
+      deep = subst (λ (q : Planes). IsTrue (is_depth most q.depth)) (sym end.0) deep.deep;
       after = subst (λ (q : Planes). After s (planes_read deep.bits q) t 0) (sym end.0) (subst (λ k. After s (number_steps 0 k ++ number_steps 0 deep.bits ++ truth_steps three.0 ++ number_steps 0 four.0 ++ number_steps 0 five.0 ++ truth_steps six.0) t 0) (sym colour) whole);
     }
 

@@ -7,7 +7,7 @@ use Rattle.ffv1_range.specs.Codes.{AreBytes, value}
 use Rattle.ffv1_range.specs.Table.{Table}
 use Rattle.ffv1_record.specs.declared.fault.RecordFault.{RecordFault}
 use Rattle.ffv1_record.specs.declared.fault.RecordFault.TheVariants as fault
-use Rattle.ffv1_record.specs.Configuration.{Configuration, is_rct}
+use Rattle.ffv1_record.specs.Configuration.{Configuration}
 use Rattle.ffv1_record.specs.Accepted.{IsAccepted, IsFirst, Passes, PassesAll}
 use Rattle.ffv1_record.specs.Record.{IsRecord, IsCoded, body_of, record_steps}
 use Rattle.ffv1_record.specs.Reader.{Spot}
@@ -61,7 +61,7 @@ module _ (bytes : List ℕ) (are : AreBytes (body_of bytes)) (c : Configuration)
       absurd (omega arith)
 
   pub read_so : (out : Result (Configuration × Spot) RecordFault) → parameters most c.width c.height (body_of bytes) beginning out → out ≡ Ok (c, ending_of stored.bits c)
-  read_so out h = (forced_parameters (body_of bytes) are most stored.bits c t (known_depth stored.bits c.depth stored.known (depth_bounds 16 (is_rct c.colour) c.depth is.depth).0) low is is.writable).forces (subst (IsCoded (body_of bytes)) (sym (ending_past stored.bits c)) stored.coded) out h
+  read_so out h = (forced_parameters (body_of bytes) are most stored.bits c t (known_depth stored.bits c.depth stored.known (depth_bounds 16 c.depth is.depth).0) low is is.writable).forces (subst (IsCoded (body_of bytes)) (sym (ending_past stored.bits c)) stored.coded) out h
 
   module _ (width height : ℕ) (wide : c.width ≡ width) (high : c.height ≡ height) (a b : Source) (begun : Stands a (body_of bytes) beginning) where
     pub read_is : (x : Configuration) → Gives (λ z. z) (parameters most width height) a b (Ok x) → x ≡ c

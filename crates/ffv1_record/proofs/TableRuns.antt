@@ -64,7 +64,7 @@ pub five_filled : (a b c d e : List ℕ) → IsTrue (is_filled a) → IsTrue (is
     IsTrue (are_filled (a ∷ b ∷ c ∷ d ∷ e ∷ []))
 five_filled a b c d e pa pb pc pd pe = rw (pa, pb, pc, pd, pe) refl
 
--- the same where the number of entries left is told otherwise
+-- the same where the number of entries left is stated otherwise
 pub table_next_at : (left less rest run : ℕ) (runs : List ℕ) (a c d : Source) (states after : List ℕ) → 0 < left → rest + (less + 1) ≡ left → run ≡ less + 1 → LeadsTable left runs a c states →
     GivesIn (λ base. number_within base 0 (left - 1) fault.Runs) c states d after (Ok less) → LeadsTable rest (runs ++ (run ∷ [])) a d after
 table_next_at (suc left) less rest run runs a c d states after some sum is lead one =

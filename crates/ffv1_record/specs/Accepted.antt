@@ -20,16 +20,16 @@ abbrev pub is_sized : Configuration → Bool
 is_sized c = (nat_le 1 c.width && nat_le c.width 8192)
     && (nat_le 1 c.height && nat_le c.height 8192)
 
--- RFC 9043, 4.2.7: the depths up to `most`, in bits a sample; at 16 bits there is no RCT
-abbrev pub is_depth : ℕ → Bool → ℕ → Bool
-is_depth most rct depth =
+-- RFC 9043, 4.2.7: the depths up to `most`, in bits a sample
+abbrev pub is_depth : ℕ → ℕ → Bool
+is_depth most depth =
     nat_le depth most
     && ((depth == 8) || (depth == 9) || (depth == 10) || (depth == 12) || (depth == 14)
-    || ((depth == 16) && not rct))
+    || (depth == 16))
 
 -- a configuration has one of them
 abbrev pub has_depth : ℕ → Configuration → Bool
-has_depth most c = is_depth most (is_rct c.colour) c.depth
+has_depth most c = is_depth most c.depth
 
 -- the greatest depth of a profile, where `Wide` goes up to `most`
 abbrev pub deepest : Profile → ℕ → ℕ

@@ -82,10 +82,10 @@ colorspace_type = record {
 -- bits_per_raw_sample, which is a depth up to `most`, or 0 for 8
 abbrev pub bits_per_raw_sample : ℕ → Parameter
 bits_per_raw_sample most = record {
-  IsGood = λ bits c. IsTrue (is_depth most (is_rct c.colour) (depth_of bits));
+  IsGood = λ bits c. IsTrue (is_depth most (depth_of bits));
   steps = λ bits c. number_steps 0 bits;
   Fails = λ c.
-      IsBadNumber 0 (λ n. IsTrue (is_depth most (is_rct c.colour) (depth_of n))) fault.Depth;
+      IsBadNumber 0 (λ n. IsTrue (is_depth most (depth_of n))) fault.Depth;
 }
 
 -- chroma_planes, any truth value

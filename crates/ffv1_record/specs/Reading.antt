@@ -13,7 +13,7 @@ use Rattle.ffv1_record.specs.declared.config.Colour.{Colour}
 use Rattle.ffv1_record.specs.declared.config.Colour.TheVariants as colour
 use Rattle.ffv1_record.specs.declared.planes.Planes.{Planes}
 use Rattle.ffv1_record.specs.Parity.{remainder_of}
-use Rattle.ffv1_record.specs.Configuration.{Configuration, is_rct}
+use Rattle.ffv1_record.specs.Configuration.{Configuration}
 use Rattle.ffv1_record.specs.Accepted.{IsFirst, checks, is_depth}
 use Rattle.ffv1_record.specs.Record.{body_of, depth_of}
 use Rattle.ffv1_record.specs.Reader.{Reader, Spot, ◌>>=◌, done, require, next_table, number}
@@ -45,17 +45,17 @@ abbrev pub colour_of : ℕ → Colour
 colour_of zero = colour.YCbCr
 colour_of (suc n) = colour.Rct
 
--- bits_per_raw_sample: a depth, with or without RCT, up to a greatest one
-abbrev pub depth : ℕ → Bool → Reader ℕ
-depth most rct = do
+-- bits_per_raw_sample: a depth up to a greatest one
+abbrev pub depth : ℕ → Reader ℕ
+depth most = do
   n ← number 0
-  _ ← require (is_depth most rct (depth_of n)) fault.Depth
+  _ ← require (is_depth most (depth_of n)) fault.Depth
   done (depth_of n)
 
 abbrev pub planes : ℕ → Reader Planes
 planes most = do
   kind ← number_within 0 0 1 fault.ColourSpace
-  bits ← depth most (is_rct (colour_of kind))
+  bits ← depth most
   chroma ← truth
   log2_h ← number 0
   log2_v ← number 0
@@ -209,7 +209,7 @@ IsRefused most bytes width height f =
     ⊎ ((5 ≤ length bytes) × (remainder_of bytes ≡ 0) × IsMet most bytes width height f)
 
 -- the bytes are no record with a depth up to `most`, and this fault stands before the first set: it
--- is told whatever memory there is
+-- is answered whatever memory there is
 abbrev pub IsRefusedBeforeSets : ℕ → List ℕ → RecordFault → Type 0
 IsRefusedBeforeSets most bytes f =
     ((length bytes < 5) × (f ≡ fault.Short))

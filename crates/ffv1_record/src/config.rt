@@ -147,18 +147,13 @@ fn are_multiples(size: u32, count: u32, log2: u32) -> bool
     true
 }
 
-/// Whether a depth is accepted, in bits a sample, with or without RCT: 8, 9, 10, 12, 14 or 16 where
-/// it is not above `most`, but 16 without RCT alone.
-pub(crate) fn is_depth(most: u32, rct: bool, depth: u32) -> bool
-    ensures { result ≡ is_depth most rct depth }
+/// Whether a depth is accepted, in bits a sample: 8, 9, 10, 12, 14 or 16 where it is not above
+/// `most`.
+pub(crate) fn is_depth(most: u32, depth: u32) -> bool
+    ensures { result ≡ is_depth most depth }
 {
     depth <= most
-        && (depth == 8
-            || depth == 9
-            || depth == 10
-            || depth == 12
-            || depth == 14
-            || (depth == 16 && !rct))
+        && (depth == 8 || depth == 9 || depth == 10 || depth == 12 || depth == 14 || depth == 16)
 }
 
 /// The greatest depth of a profile: 8 in `Strict`, and `most` in `Wide`.
@@ -250,7 +245,7 @@ impl<A: Allocator> Config<A> {
         if !self.is_sized() {
             return Err(RecordFault::Size);
         }
-        if !is_depth(most, is_rct(self.colour), depth) {
+        if !is_depth(most, depth) {
             return Err(RecordFault::Depth);
         }
         if !self.is_subsampled() {
@@ -294,8 +289,7 @@ impl<A: Allocator> Config<A> {
     /// is the greatest depth that the profile `Wide` accepts. Refuses with the first of these that
     /// stands: `Size`, `Depth`, `Subsampling`, `ExtraPlane`, `Sets`, `StateTable`, `Grid`,
     /// `ChromaEdge`; else accepts. `Depth` comes in `Strict` where the depth is not 8, and in
-    /// `Wide` where it is not 8, 9, 10, 12, 14 or 16, or is above `most`, or is 16 with RCT. It
-    /// takes no memory.
+    /// `Wide` where it is not 8, 9, 10, 12, 14 or 16, or is above `most`. It takes no memory.
     pub fn check_in(
         self,
         profile: Profile,

@@ -64,7 +64,7 @@ pub enum RecordFault {
     #[error("20 ColourSpace")]
     ColourSpace,
     /// The bits of a sample are none of the profile's: 8, and in `Wide` also 9, 10, 12, 14 and 16
-    /// up to a greatest one, but 16 without RCT alone; in a record also 0, which means 8.
+    /// up to a greatest one; in a record also 0, which means 8.
     #[error("21 Depth")]
     Depth,
     /// The initial states of a set are coded.

@@ -1,7 +1,7 @@
 //! Laws of the definitions, each the contract of a function that does nothing.
 
 ghost use Rattle.std.specs.Prelude.{Err, true, false, [], slice_index_or, ◌≡◌, ◌↔◌, ℕ, ◌*◌, ◌^◌};
-ghost use Rattle.std.specs.Prelude.{◌<◌, ◌≤◌, ◌++◌, List, length, bit_xor};
+ghost use Rattle.std.specs.Prelude.{◌<◌, ◌≤◌, ◌⊎◌, ◌++◌, List, length, bit_xor};
 ghost use Rattle.std.specs.List.{Contains};
 ghost use Rattle.ffv1_range.specs.Codes.{AreBytes, value, digits};
 ghost use Rattle.ffv1_record.specs.Configuration.{Configuration};
@@ -121,7 +121,9 @@ pub fn accepted()
 /// What holds of the planes, sets and table of a configuration that was checked.
 pub fn accepted_parts()
     ensures rct { (c : Configuration) (t : Table) → IsAccepted c t → c.colour ≡ colour.Rct →
-        (c.chroma_planes ≡ true) × (c.log2_h ≡ 0) × (c.log2_v ≡ 0) × (c.depth ≤ 14) }
+        (c.chroma_planes ≡ true) × (c.log2_h ≡ 0) × (c.log2_v ≡ 0) }
+    ensures depth { (c : Configuration) (t : Table) → IsAccepted c t →
+        (c.depth ≤ 14) ⊎ (c.depth ≡ 16) }
     ensures luma { (c : Configuration) (t : Table) → IsAccepted c t → c.chroma_planes ≡ false →
         (c.colour ≡ colour.YCbCr) × (c.log2_h ≡ 0) × (c.log2_v ≡ 0) × (c.extra_plane ≡ false) }
     ensures set { (c : Configuration) (t : Table) (k : ℕ) → IsAccepted c t → k < length c.sets →

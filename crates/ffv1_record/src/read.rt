@@ -68,13 +68,13 @@ fn depth_of(bits: u32) -> u32
     bits
 }
 
-/// The bits of a sample, up to `most`, with or without RCT.
-fn read_depth(reader: &mut RecordReader<'_>, most: u32, rct: bool) -> Result<u32, RecordFault>
-    ensures gives { Gives (λ n. n) (depth most rct) reader.old reader.new result }
+/// The bits of a sample, up to `most`.
+fn read_depth(reader: &mut RecordReader<'_>, most: u32) -> Result<u32, RecordFault>
+    ensures gives { Gives (λ n. n) (depth most) reader.old reader.new result }
     ensures told { IfErr result (λ f. f ≢ fault.OutOfMemory) }
 {
     let bits = reader.number()?;
-    if is_depth(most, rct, depth_of(bits)) {
+    if is_depth(most, depth_of(bits)) {
         return Ok(depth_of(bits));
     }
     Err(RecordFault::Depth)
@@ -104,7 +104,7 @@ fn read_planes(reader: &mut RecordReader<'_>, most: u32) -> Result<Planes, Recor
 {
     let kind = reader.number_within(0, 1, RecordFault::ColourSpace)?;
     let colour = colour_of(kind);
-    let depth = read_depth(reader, most, is_rct(colour))?;
+    let depth = read_depth(reader, most)?;
     let chroma_planes = reader.truth();
     let log2_h = reader.number()?;
     let log2_v = reader.number()?;
@@ -327,11 +327,10 @@ pub fn read_record<A: Allocator + Copy>(
 /// `Runs`, `Contexts` and `Sets`, each judged where its symbol has been read, the deltas after
 /// their last; else with the first that `Config::check_in` finds. `Depth` comes in `Strict` where
 /// the bits of a sample are not 0 or 8, and in `Wide` where they are not 0, 8, 9, 10, 12, 14 or 16,
-/// or are above `most`, or are 16 with RCT. `OutOfMemory` where a growth was refused before another
-/// fault was met: no memory is taken before the first run of the first set was read, so a fault
-/// that stands before that comes first. Bytes between the parameters and the parity are ignored,
-/// and 0 bits of a sample mean 8. After a refusal the bytes are as they were, and may be read
-/// again.
+/// or are above `most`. `OutOfMemory` where a growth was refused before another fault was met: no
+/// memory is taken before the first run of the first set was read, so a fault that stands before
+/// that comes first. Bytes between the parameters and the parity are ignored, and 0 bits of a
+/// sample mean 8. After a refusal the bytes are as they were, and may be read again.
 pub fn read_record_in<A: Allocator + Copy>(
     alloc: A,
     bytes: &[u8],

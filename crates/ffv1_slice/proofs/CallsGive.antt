@@ -141,7 +141,7 @@ handed view result err one =
     let p = err_from_is_err_and result err in
     rw (p.1, p.2) one
 
--- a value of a place
+-- a value of a position
 pub gives_placed : (t : Table) (k : ℕ) (a b : Reading) (ss ts : List ℕ) (v : ℕ) → v ≡ k → v < 2 ^ 31 → Follows t a ss b ts (unsigned_steps v) → Gives t (placed k ∷ []) a ss b ts (Ok (k ∷ []))
 gives_placed t k a b ss ts v same small follows =
     subst (λ n. Gives t (placed k ∷ []) a ss b ts (Ok (n ∷ []))) same (gives_value t (placed k) a b ss ts v small (λ before. eq-eqb v k same) follows)

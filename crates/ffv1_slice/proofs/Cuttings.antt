@@ -20,7 +20,7 @@ one_cutting payload foot count xs ys f g (suc d) s e =
     let gs = g.each s (omega (arith, e)) in
     omega (arith, next, size, fs, gs)
 
--- what stands at a place of a list, and after it
+-- what stands at a position of a list, and after it
 drop_first : (k x : ℕ) (xs os : List ℕ) → drop k os ≡ x ∷ xs → get_or os k 0 ≡ x
 drop_first zero x xs [] h = cc
 drop_first zero x xs (o ∷ os) h = cc

@@ -70,7 +70,7 @@ whole_length ec (bytes ∷ more) =
 three : (n : ℕ) → n < 16777216 → 65536 * (n / 256 / 256 % 256) + 256 * (n / 256 % 256) + n % 256 ≡ n
 three n small = omega (arith, small)
 
--- a place after two lists
+-- a position after two lists
 at_place : (before bytes ys : List ℕ) (k : ℕ) → get_or (before ++ (bytes ++ ys)) (length before + length bytes + k) 0 ≡ get_or ys k 0
 at_place before bytes ys k =
     let sum : length before + length bytes + k ≡ length before + (length bytes + k) = omega arith in

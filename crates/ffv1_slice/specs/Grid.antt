@@ -98,7 +98,7 @@ pub record IsDivision (d : Division) : Type 0 where
 abbrev pub slices_in : Division → ℕ
 slices_in d = d.columns * d.rows
 
--- a place lies in a part
+-- a position lies in a part
 pub record Lies (s : Side) (x k : ℕ) : Type 0 where
   pub inside : k < s.count
   pub least : begin_of s k ≤ x

@@ -16,8 +16,8 @@ fn number(words: &mut Args, name: &'static str) -> Result<u32> {
     Ok(words.next().context(name)?.parse::<u32>()?)
 }
 
-/// The configuration of a format: `mono`, `420`, `422`, `444` or `rgb`, of 8 bits, or `422p10` or
-/// `rgbp10`, of 10 bits.
+/// The configuration of a format: `mono`, `420`, `422`, `444` or `rgb`, of 8 bits, `422p10` or
+/// `rgbp10`, of 10, or `rgbp16`, of 16.
 fn configuration(alloc: Global, format: &str, sizes: [u32; 4]) -> Result<Checked> {
     let [width, height, columns, rows] = sizes;
     let (colour, chroma_planes, log2_h, log2_v, depth) = match format {
@@ -28,6 +28,7 @@ fn configuration(alloc: Global, format: &str, sizes: [u32; 4]) -> Result<Checked
         "444" => (Colour::YCbCr, true, 0, 0, 8),
         "rgb" => (Colour::Rct, true, 0, 0, 8),
         "rgbp10" => (Colour::Rct, true, 0, 0, 10),
+        "rgbp16" => (Colour::Rct, true, 0, 0, 16),
         _ => bail!("no such format"),
     };
     let mut sets = Sets::new(alloc);

@@ -6,8 +6,9 @@
 //! timed. With `park` the decoder is parked and woken between any two rows.
 //!
 //! `ffv1_speed frame PATH FORMAT WIDTH HEIGHT COLUMNS ROWS TIMES`: a raw picture, its planes one
-//! after the other, of the format `mono`, `420`, `422`, `444` or `rgb`, or of 10 bits `422p10` or
-//! `rgbp10` (two bytes a sample, low byte first), encoded as a frame with parity, and decoded.
+//! after the other, of the format `mono`, `420`, `422`, `444` or `rgb`, or of more bits `422p10`,
+//! `rgbp10` or `rgbp16` (two bytes a sample, low byte first), encoded as a frame with parity, and
+//! decoded.
 #![tactic(auto)]
 
 mod frames;

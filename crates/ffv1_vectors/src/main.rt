@@ -1,7 +1,7 @@
 // SPDX-License-Identifier: MIT OR Apache-2.0
 //! Asks the crates what `model/ffv1.py`, `model/files.py` and `model/matroska.py` answered, and
-//! reads two files made by FFmpeg: each line of the text files in `data/` is one case. It prints how
-//! many cases of each agree.
+//! reads two files made by FFmpeg: each line of the text files in `data/` is one case. It prints
+//! how many cases of each agree.
 #![tactic(auto)]
 
 mod avi;

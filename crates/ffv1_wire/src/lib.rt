@@ -4,10 +4,10 @@
 //!
 //! `FromRead` makes a `ByteIn` of a reader of std's, and `ToWrite` a `ByteOut` of a writer;
 //! `read_byte`, `read_full`, `skip` and `write_all` are loops over them that stop at the first
-//! failure and try nothing again. A `PatchOut` can be written over before its end: `ToFile` of a file
-//! that can be sought in, `ToMemory` of bytes in memory. A `LineSink` takes the lines of a picture, and `hand_over` gives
-//! it some in order. `laws` joins calls in a row into one. The test `end_of_input` of `ffv1_tests`
-//! runs this:
+//! failure and try nothing again. A `PatchOut` can be written over before its end: `ToFile` of a
+//! file that can be sought in, `ToMemory` of bytes in memory. A `LineSink` takes the lines of a
+//! picture, and `hand_over` gives it some in order. `laws` joins calls in a row into one. The test
+//! `end_of_input` of `ffv1_tests` runs this:
 //!
 //! ```text
 //! let mut input = FromRead::new(b"abcde".as_slice());

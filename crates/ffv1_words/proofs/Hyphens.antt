@@ -8,7 +8,7 @@ use Rattle.ffv1_words.specs.Order.{bit_number, hyphens, is_hyphen}
 abbrev none : Bor Text
 none = record { ref_ptr = (0, 0); now = [] }
 
--- from a place on
+-- from a position on
 unfoldable pub hyphens_from : ℕ → List (Bor Text) → ℕ
 hyphens_from k ps = hyphens (map (λ p. p.now) (drop k ps))
 

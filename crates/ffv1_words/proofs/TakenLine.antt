@@ -10,7 +10,7 @@ use Rattle.clap.specs.Walk.{Rule, Text, answers_to, nothing_held, rows_after}
 use Rattle.clap.specs.Simple.{Shape, built, label_of, new_rule, subcommand_of}
 use Rattle.clap.specs.Takes.{level_passes, takes}
 use Rattle.ffv1_words.specs.CommandLine.{AreContainers, AreContexts, Words, line_app}
-use Rattle.ffv1_words.specs.Order.{Names, NamesChoice}
+use Rattle.ffv1_words.specs.Order.{Names, NamesChoice, names_no_grid}
 use Rattle.ffv1_words.specs.declared.order.Choice.{Choice}
 use Rattle.ffv1_words.specs.declared.order.Order.{Order}
 use Rattle.ffv1_words.specs.declared.order.Order.TheVariants as order
@@ -86,6 +86,7 @@ module _ (contexts containers : Words) (are : AreContexts contexts) (are_contain
           large = large.0;
           columns = columns_is.0;
           rows = rows_is.0;
+          default_grid = names_no_grid rows;
           ec = ec_of.0;
           rate = rate_is.0;
           scale = scale_is.0;
@@ -95,6 +96,7 @@ module _ (contexts containers : Words) (are : AreContexts contexts) (are_contain
           contexts = large.1;
           columns = columns_is.1;
           slice_rows = rows_is.1;
+          default_grid = refl;
           ec = ec_of.1;
           rate = rate_is.1;
           scale = scale_is.1;
@@ -159,8 +161,17 @@ module _ (contexts containers : Words) (are : AreContexts contexts) (are_contain
       let flag = flag_named (rows_after show.rules [] rest) (codes "cost") cost.text cost.is cost.passes in
       (order.Show (paths input.texts) flag.0, (refl, input.all ∙ ap Some (texts_of input.texts), flag.1))
 
+  abbrev framemd5 : Shape
+  framemd5 = command 4
+
+  framemd5_named : NamesOrder framemd5
+  unfolding clap_on_literals
+  framemd5_named rest e =
+      let input = value_left framemd5 rest (rule_at framemd5 0) refl refl (inl refl) refl e in
+      (order.FrameMd5 (paths input.texts), (refl, input.all ∙ ap Some (texts_of input.texts)))
+
   abbrev trial : Shape
-  trial = command 4
+  trial = command 5
 
   trial_named : NamesOrder trial
   unfolding clap_on_literals
@@ -171,7 +182,7 @@ module _ (contexts containers : Words) (are : AreContexts contexts) (are_contain
   -- ---- the line
 
   abbrev help : Shape
-  help = command 5
+  help = command 6
 
   help_asked : (word : Text) → answers_to word (label_of help) ≡ true → bytes_eq word (codes "help") ≡ true
   unfolding clap_on_literals
@@ -185,10 +196,11 @@ module _ (contexts containers : Words) (are : AreContexts contexts) (are_contain
   named s word (inr (inl is)) met no_help = subst NamesOrder is unpack_named
   named s word (inr (inr (inl is))) met no_help = subst NamesOrder is check_named
   named s word (inr (inr (inr (inl is)))) met no_help = subst NamesOrder is show_named
-  named s word (inr (inr (inr (inr (inl is))))) met no_help = subst NamesOrder is trial_named
-  named s word (inr (inr (inr (inr (inr (inl is)))))) met no_help =
+  named s word (inr (inr (inr (inr (inl is))))) met no_help = subst NamesOrder is framemd5_named
+  named s word (inr (inr (inr (inr (inr (inl is)))))) met no_help = subst NamesOrder is trial_named
+  named s word (inr (inr (inr (inr (inr (inr (inl is))))))) met no_help =
       absurd (true≢false (sym (help_asked word (subst (λ (x : Shape). answers_to word (label_of x) ≡ true) (sym is) met)) ∙ no_help))
-  named s word (inr (inr (inr (inr (inr (inr none)))))) met no_help = absurd none
+  named s word (inr (inr (inr (inr (inr (inr (inr none))))))) met no_help = absurd none
 
   -- a line that clap takes names an order
   pub taken_names : (words : List Text) → takes (line_app contexts containers) words ≡ true → (o : Order) × Names o (subcommand_of (line_app contexts containers) words)

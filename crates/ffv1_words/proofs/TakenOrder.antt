@@ -13,7 +13,7 @@ use Rattle.clap.specs.Simple.{App, Shape, argument_words, built, entered, is_sim
 use Rattle.clap.specs.Takes.{built_takes, default_passes, entered_passes, is_given, is_valid, level_passes, other_passes, settle_passes, step_passes, takes, turn_passes, walk_passes, word_passes}
 use Rattle.ffv1_words.proofs.TakenRows.{both}
 
--- a step, and a place where a walk stopped, that is no call for help
+-- a step, and a position where a walk stopped, that is no call for help
 abbrev IsNoHelp : Step → Type 0
 IsNoHelp (subcommand name) = bytes_eq name (codes "help") ≡ false
 IsNoHelp _ = Unit {0}

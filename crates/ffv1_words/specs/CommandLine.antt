@@ -70,7 +70,7 @@ with_pace a = with_rule (with_rule a (number_rule (codes "rate") 1 4294967295 (c
 abbrev pub with_container : Words → App → App
 with_container words a = with_rule a (word_rule (codes "container") words (codes "auto"))
 
--- how much is read is told
+-- the program says how much is read
 abbrev pub with_progress : App → App
 with_progress a = with_rule a (flag_rule (codes "progress"))
 
@@ -109,12 +109,16 @@ abbrev pub files_app : Words → Words → App
 files_app contexts containers =
     with_subcommand (with_subcommand top_app (pack_app contexts containers).top) unpack_app.top
 
+-- and with those that look at some
+abbrev pub looks_app : Words → Words → App
+looks_app contexts containers =
+    with_subcommand (with_subcommand (files_app contexts containers) check_app.top) show_app.top
+
 -- the whole line, by the words that `--contexts` and `--container` take
 abbrev pub line_app : Words → Words → App
 line_app contexts containers =
-    with_subcommand (with_subcommand (with_subcommand (files_app contexts containers)
-    check_app.top) show_app.top)
-    (one_file (codes "trial")).top
+    with_subcommand (with_subcommand (looks_app contexts containers)
+    (some_files (codes "framemd5")).top) (one_file (codes "trial")).top
 
 -- the words that `--contexts` takes
 abbrev pub AreContexts : Words → Type 0

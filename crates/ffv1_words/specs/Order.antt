@@ -1,15 +1,18 @@
 -- What an order names of a command line, and when its files are in conflict.
 use Rattle.std.specs.Prelude.{◌≡◌, ◌≤◌, ◌⊎◌, ◌||◌, ◌&&◌, ◌==◌, ℕ, Bool, true, false, not, codes}
-use Rattle.std.specs.Prelude.{List, [], ◌∷◌, ◌+◌, map, nat_lt, Option, Some, None}
+use Rattle.std.specs.Prelude.{List, [], ◌∷◌, ◌+◌, find, map, nat_lt, Option, Some, None}
 use Rattle.std.specs.List.{ends_with}
-use Rattle.std.specs.Option.{option_map}
+use Rattle.std.specs.Option.{option_and_then, option_map}
 use Rattle.std.specs.Borrow.{Bor}
 use Rattle.std.specs.Str.{bytes_eq}
 use Rattle.std.specs.Str.Parse.{IsNumeral, digits_value, without_leading_plus}
-use Rattle.clap.specs.Words.{App, HasKind, Row, Text, all_of, fault_of, first_of, one_of, subcommand_of}
+use Rattle.clap.specs.Words.{App, HasKind, Row, Text, all_of, fault_of, first_of, one_of}
+use Rattle.clap.specs.Words.{subcommand_of}
 use Rattle.clap.specs.Words.{kind_of, takes}
 use Rattle.clap.specs.declared.error.Error.{Error}
 use Rattle.clap.specs.declared.error.kind.ErrorKind.TheVariants as kind
+use Rattle.clap.specs.declared.parser.matches.ValueSource.{ValueSource}
+use Rattle.clap.specs.declared.parser.matches.ValueSource.TheVariants as source
 use Rattle.ffv1_words.specs.declared.order.Choice.{Choice}
 use Rattle.ffv1_words.specs.declared.order.CoderChoice.{CoderChoice}
 use Rattle.ffv1_words.specs.declared.order.CoderChoice.TheVariants as coder
@@ -60,11 +63,26 @@ container_word container.Auto = codes "auto"
 container_word container.Avi = codes "avi"
 container_word container.Matroska = codes "mkv"
 
+abbrev pub is_of_words : Option ValueSource → Bool
+is_of_words None = false
+is_of_words (Some source.DefaultValue) = false
+is_of_words (Some source.CommandLine) = true
+
+-- whether the words give an option, and not its default alone
+abbrev pub is_given : List Row → Text → Bool
+is_given rows id =
+    is_of_words (option_and_then (λ r. r.source) (find (λ r. bytes_eq r.id id) rows))
+
+-- whether they give neither columns nor rows of slices
+abbrev pub names_no_grid : List Row → Bool
+names_no_grid rows = not (is_given rows (codes "columns")) && not (is_given rows (codes "rows"))
+
 pub record NamesChoice (rows : List Row) (c : Choice) : Type 0 where
   pub coder : NamesNumber rows (codes "coder") 1 2 (coder_number c.coder)
   pub contexts : first_of (codes "contexts") rows ≡ Some (contexts_word c.large)
   pub columns : NamesNumber rows (codes "columns") 1 32 c.columns
   pub slice_rows : NamesNumber rows (codes "rows") 1 32 c.rows
+  pub default_grid : c.default_grid ≡ names_no_grid rows
   pub ec : NamesNumber rows (codes "ec") 0 1 (bit_number c.ec)
   pub rate : NamesNumber rows (codes "rate") 1 4294967295 c.rate
   pub scale : NamesNumber rows (codes "scale") 1 4294967295 c.scale
@@ -86,6 +104,8 @@ Names (order.Check is all place progress) (Some p) = (p.0 ≡ codes "check")
     × NamesFlag p.1 (codes "place") place × NamesFlag p.1 (codes "progress") progress
 Names (order.Show is cost) (Some p) = (p.0 ≡ codes "show")
     × NamesFiles p.1 (codes "IN") (map (λ i. i.now) is.now) × NamesFlag p.1 (codes "cost") cost
+Names (order.FrameMd5 is) (Some p) = (p.0 ≡ codes "framemd5")
+    × NamesFiles p.1 (codes "IN") (map (λ i. i.now) is.now)
 Names (order.Trial i) (Some p) = (p.0 ≡ codes "trial") × NamesFile p.1 (codes "IN") i.now
 
 -- no order is
@@ -132,6 +152,7 @@ is_in_conflict (order.Pack i w c holder no_clobber progress) = is_conflict i.now
 is_in_conflict (order.Unpack i w no_clobber progress) = is_conflict i.now w.now
 is_in_conflict (order.Check is all place progress) = are_in_conflict (map (λ i. i.now) is.now)
 is_in_conflict (order.Show is cost) = are_in_conflict (map (λ i. i.now) is.now)
+is_in_conflict (order.FrameMd5 is) = are_in_conflict (map (λ i. i.now) is.now)
 is_in_conflict (order.Trial i) = false
 
 -- ---- what is answered to the words of a line
@@ -145,11 +166,15 @@ abbrev pub TellsConflict : App → List Text → Error → Type 0
 TellsConflict line words e = (kind_of e ≡ kind.ArgumentConflict)
     × (o : Order) × Names o (subcommand_of line words) × (is_in_conflict o ≡ true)
 
+-- the error says that the words name no order
+abbrev pub TellsNone : App → List Text → Error → Type 0
+TellsNone line words e = (kind_of e ≡ kind.InvalidValue) × NamesNone (subcommand_of line words)
+
 -- why a line is refused: memory was, or it is of a kind that clap's meaning of the line gives; or
--- the line names no order; or it names one in conflict
+-- clap refuses no such line, and it names no order, or one in conflict
 abbrev pub IsRefused : App → List Text → Error → Type 0
 IsRefused line words e = HasKind (fault_of line words) e
-    ⊎ (NamesNone (subcommand_of line words) ⊎ TellsConflict line words e)
+    ⊎ ((fault_of line words ≡ []) × (TellsNone line words e ⊎ TellsConflict line words e))
 
 -- a line that clap takes fails for want of memory, and where its order is in conflict
 abbrev pub IsRefusedIfTaken : App → List Text → Error → Type 0

@@ -4,11 +4,15 @@ ghost use Rattle.std.specs.Prelude.{◌≡◌, ◌⊎◌, IfOk, IfErr, map, code
 ghost use Rattle.clap.specs.Words.{app_of, rule_of, kind_of, new_app};
 ghost use Rattle.clap.specs.declared.builder.command.Command.TheViews.{out-Command as fields_of};
 ghost use Rattle.clap.specs.declared.error.kind.ErrorKind.TheVariants as kind;
-ghost use Rattle.ffv1_words.specs.CommandLine.{file_rule, files_rule, flag_rule, number_rule, word_rule};
-ghost use Rattle.ffv1_words.specs.CommandLine.{one_file, some_files, two_files, with_model, with_no_clobber};
-ghost use Rattle.ffv1_words.specs.CommandLine.{with_container, with_pace, with_progress, with_slices};
+ghost use Rattle.ffv1_words.specs.CommandLine.{file_rule, files_rule, flag_rule, number_rule};
+ghost use Rattle.ffv1_words.specs.CommandLine.{word_rule};
+ghost use Rattle.ffv1_words.specs.CommandLine.{one_file, some_files, two_files, with_model};
+ghost use Rattle.ffv1_words.specs.CommandLine.{with_no_clobber};
+ghost use Rattle.ffv1_words.specs.CommandLine.{with_container, with_pace, with_progress};
+ghost use Rattle.ffv1_words.specs.CommandLine.{with_slices};
 ghost use Rattle.ffv1_words.specs.CommandLine.{pack_app, unpack_app, check_app, show_app, top_app};
-ghost use Rattle.ffv1_words.specs.CommandLine.{files_app, line_app, AreContainers, AreContexts};
+ghost use Rattle.ffv1_words.specs.CommandLine.{files_app, looks_app, line_app, AreContainers};
+ghost use Rattle.ffv1_words.specs.CommandLine.{AreContexts};
 ghost use Rattle.ffv1_words.specs.CommandLine.{OnLine};
 ghost use Rattle.ffv1_words.specs.Order.{IsOrder, IsRefused, IsRefusedIfTaken, is_in_conflict};
 
@@ -30,6 +34,9 @@ pub const VERSION: &str = "0.1.0";
 const CODED_FILE: &str = "The AVI or Matroska file, or - for standard input";
 
 const CODED_FILES: &str = "The AVI or Matroska files, or - for standard input";
+
+const PICTURE_FILES: &str =
+    "The files, or - for standard input: video as for pack where it begins with P or Y";
 
 const STATUSES: &str = "Exit status: 0 all done, 1 a fault, told by its number, 2 a line refused";
 
@@ -144,11 +151,12 @@ fn some_files_command<'a>(
     alloc: Global,
     name: &'a str,
     about: &'a str,
+    inputs: &'a str,
 ) -> Result<Command<'a>, AllocError>
     ensures { IfOk result (λ c.
         (app_of c ≡ some_files name.entry.now) × ((fields_of c).has_globals ≡ false)) }
 {
-    new_command(alloc, name, about).arg(files_arg(alloc, "IN", CODED_FILES))
+    new_command(alloc, name, about).arg(files_arg(alloc, "IN", inputs))
 }
 
 fn two_files_command<'a>(
@@ -183,8 +191,8 @@ fn add_slices<'a>(alloc: Global, command: Command<'a>) -> Result<Command<'a>, Al
     ensures { IfOk result (λ c.
         (app_of c ≡ with_slices (app_of command.entry)) × ((fields_of c).has_globals ≡ false)) }
 {
-    let columns = "Columns of slices, 1 to 32";
-    let rows = "Rows of slices, 1 to 32";
+    let columns = "Columns of slices, 1 to 32; in Matroska, without both, by the picture's size";
+    let rows = "Rows of slices, 1 to 32; in Matroska, without both, by the picture's size";
     let ec = "1 where each slice carries its parity, 0 where none does";
     command
         .arg(number_arg(alloc, "columns", 1, 32, "1", columns))?
@@ -254,7 +262,7 @@ fn check_command<'a>(alloc: Global) -> Result<Command<'a>, AllocError>
     let about = "Decode all frames of files, and tell of each what it takes";
     let all = "Go on after a frame that is refused, and count those";
     let place = "Tell where a frame is refused: slice, plane, line and column";
-    some_files_command(alloc, "check", about)?
+    some_files_command(alloc, "check", about, CODED_FILES)?
         .arg(flag_arg(alloc, "all", all))?
         .arg(flag_arg(alloc, "place", place))?
         .arg(progress_arg(alloc))
@@ -266,7 +274,15 @@ fn show_command<'a>(alloc: Global) -> Result<Command<'a>, AllocError>
 {
     let about = "Tell what files say of their pictures, and how much a decoder of them holds";
     let cost = "Decode all frames then, and tell what each costs";
-    some_files_command(alloc, "show", about)?.arg(flag_arg(alloc, "cost", cost))
+    some_files_command(alloc, "show", about, CODED_FILES)?.arg(flag_arg(alloc, "cost", cost))
+}
+
+fn framemd5_command<'a>(alloc: Global) -> Result<Command<'a>, AllocError>
+    ensures { IfOk result (λ c.
+        (app_of c ≡ some_files (codes "framemd5")) × ((fields_of c).has_globals ≡ false)) }
+{
+    let about = "Write the MD5 of each picture of files, as FFmpeg's framemd5 does";
+    some_files_command(alloc, "framemd5", about, PICTURE_FILES)
 }
 
 fn trial_command<'a>(alloc: Global) -> Result<Command<'a>, AllocError>
@@ -309,6 +325,19 @@ fn files_command<'a>(
         .subcommand(unpack_command(alloc)?)
 }
 
+fn looks_command<'a>(
+    alloc: Global,
+    contexts: &'a [&'a str],
+    containers: &'a [&'a str],
+) -> Result<Command<'a>, AllocError>
+    ensures { IfOk result (λ c. (app_of c ≡ looks_app contexts.entry containers.entry)
+        × ((fields_of c).has_globals ≡ false)) }
+{
+    files_command(alloc, contexts, containers)?
+        .subcommand(check_command(alloc)?)?
+        .subcommand(show_command(alloc)?)
+}
+
 fn line_command<'a>(
     alloc: Global,
     contexts: &'a [&'a str],
@@ -317,9 +346,8 @@ fn line_command<'a>(
     ensures { IfOk result (λ c. (app_of c ≡ line_app contexts.entry containers.entry)
         × ((fields_of c).has_globals ≡ false)) }
 {
-    files_command(alloc, contexts, containers)?
-        .subcommand(check_command(alloc)?)?
-        .subcommand(show_command(alloc)?)?
+    looks_command(alloc, contexts, containers)?
+        .subcommand(framemd5_command(alloc)?)?
         .subcommand(trial_command(alloc)?)
 }
 
@@ -370,13 +398,15 @@ fn read<'a>(
 /// clap's meaning of it, each option that is left out by its default, and its files are not in
 /// conflict. A path `-` is standard input or standard output.
 ///
-/// The error is clap's own, whose text says why, of a kind that clap's meaning of the line gives;
-/// or the line names no order; or it is an `ArgumentConflict`, where `pack` or `unpack` has one
+/// The error is clap's own, whose text says why: of a line that clap refuses it is of a kind that
+/// clap's meaning of the line gives. Of any other it is an `InvalidValue`, where the line names no
+/// order, which none does; or an `ArgumentConflict`, where `pack` or `unpack` has one
 /// text for both its files other than `-`, or writes to `/dev/stdout`, `/dev/fd/1` or
-/// `/proc/self/fd/1`, or `check` or `show` have `-` more than once; or memory was refused. A line
-/// that clap takes names an order, and fails for want of memory and for such a conflict alone.
+/// `/proc/self/fd/1`, or `check`, `show` or `framemd5` have `-` more than once; or memory was
+/// refused. A line that clap takes names an order, and fails for want of memory and for such a
+/// conflict alone.
 ///
-/// The list of the files of `check` and `show` is kept until the program ends.
+/// The list of the files of `check`, `show` and `framemd5` is kept until the program ends.
 pub fn words<'a>(alloc: Global, words: &'a [&'a str]) -> Result<Order<'a>, Error>
     ensures ok { IfOk result (λ o.
         OnLine (λ line. IsOrder line (map (λ w. w.now) words.entry.now) o)) }

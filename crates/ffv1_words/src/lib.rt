@@ -2,8 +2,8 @@
 //! The words of a command line, read as an order: what the program `ffv1` is asked for.
 //!
 //! `words` reads a line as an `Order`, by `clap`'s meaning of it. An `Order` has the paths and
-//! switches of one command, `Choice` how `pack` codes, and `ContainerChoice` what it writes. The test `trials::example` of
-//! `ffv1_tests` runs this:
+//! switches of one command, `Choice` how `pack` codes, and `ContainerChoice` what it writes. The
+//! test `trials::example` of `ffv1_tests` runs this:
 //!
 //! ```text
 //! if let Order::Trial { input } = words(alloc, &["ffv1", "trial", "disc.y4m"])? { .. }

@@ -6,11 +6,14 @@ ghost use Rattle.clap.specs.Words.{all_of, found_of, first_of, rows_of};
 ghost use Rattle.ffv1_words.specs.declared.order.Choice.{Choice};
 ghost use Rattle.ffv1_words.specs.declared.order.CoderChoice.{CoderChoice};
 ghost use Rattle.ffv1_words.specs.declared.order.ContainerChoice.{ContainerChoice};
-ghost use Rattle.ffv1_words.specs.Order.{ArePaths, Names, NamesChoice, NamesFlag, NamesNone, NamesNumber};
+ghost use Rattle.ffv1_words.specs.Order.{ArePaths, Names, NamesChoice, NamesFlag, NamesNone};
+ghost use Rattle.ffv1_words.specs.Order.{NamesNumber};
 ghost use Rattle.ffv1_words.specs.Order.{bit_number, coder_number, container_word, contexts_word};
+ghost use Rattle.ffv1_words.specs.Order.{is_given, is_of_words, names_no_grid};
 
 use crate::order::{Choice, CoderChoice, ContainerChoice, Order};
 use clap::ArgMatches;
+use clap::parser::ValueSource;
 use std::alloc::{AllocError, Global};
 
 fn path<'a>(rows: &ArgMatches<'a>, id: &str) -> Option<&'a str>
@@ -118,6 +121,32 @@ fn container(rows: &ArgMatches<'_>) -> Option<ContainerChoice>
     }
 }
 
+fn is_of_words(source: ValueSource) -> bool
+    ensures { result ≡ is_of_words (Some source) }
+{
+    match source {
+        ValueSource::CommandLine => true,
+        ValueSource::DefaultValue => false,
+    }
+}
+
+/// Whether the words give an option, and not its default alone.
+fn is_given(rows: &ArgMatches<'_>, id: &str) -> bool
+    ensures { result ≡ is_given (rows_of (found_of rows.now)) id.now }
+{
+    match rows.value_source(id) {
+        Some(source) => is_of_words(source),
+        None => false,
+    }
+}
+
+/// Whether the words give neither columns nor rows of slices.
+fn names_no_grid(rows: &ArgMatches<'_>) -> bool
+    ensures { result ≡ names_no_grid (rows_of (found_of rows.now)) }
+{
+    !is_given(rows, "columns") && !is_given(rows, "rows")
+}
+
 fn choice(matches: &ArgMatches<'_>) -> Option<Choice>
     ensures some { IfSome result (λ c. NamesChoice (rows_of (found_of matches.now)) c) }
     ensures none { IsNone result
@@ -135,6 +164,7 @@ fn choice(matches: &ArgMatches<'_>) -> Option<Choice>
         large,
         columns,
         rows,
+        default_grid: names_no_grid(matches),
         ec,
         rate,
         scale,
@@ -208,6 +238,17 @@ fn show_order<'a>(rows: &ArgMatches<'a>, inputs: Option<&'a [&'a str]>) -> Optio
     Some(Order::Show { inputs, cost })
 }
 
+fn framemd5_order<'a>(rows: &ArgMatches<'a>, inputs: Option<&'a [&'a str]>) -> Option<Order<'a>>
+    requires { ArePaths inputs (all_of (codes "IN") (rows_of (found_of rows.now))) }
+    ensures some { IfSome result (λ o.
+        Names o (Some (codes "framemd5", rows_of (found_of rows.now)))) }
+    ensures none { IsNone result →
+        NamesNone (Some (codes "framemd5", rows_of (found_of rows.now))) }
+{
+    let inputs = inputs?;
+    Some(Order::FrameMd5 { inputs })
+}
+
 fn trial_order<'a>(rows: &ArgMatches<'a>) -> Option<Order<'a>>
     ensures some { IfSome result (λ o.
         Names o (Some (codes "trial", rows_of (found_of rows.now)))) }
@@ -235,6 +276,8 @@ pub fn order_of<'a>(
         check_order(rows, inputs)
     } else if name == "show" {
         show_order(rows, inputs)
+    } else if name == "framemd5" {
+        framemd5_order(rows, inputs)
     } else if name == "trial" {
         trial_order(rows)
     } else {

@@ -35,6 +35,9 @@ pub struct Choice {
     pub columns: u32,
     /// How many slices stand one below another, from 1 to 32.
     pub rows: u32,
+    /// Whether the line gives neither of them: the grid of Matroska is then one for the picture's
+    /// size, and not that of `columns` and `rows`, which are 1.
+    pub default_grid: bool,
     /// Whether each slice carries its parity.
     pub ec: bool,
     /// Frames in `scale` seconds, at least 1: of a picture whose format does not tell.
@@ -89,6 +92,11 @@ pub enum Order<'a> {
         inputs: &'a [&'a str],
         /// Whether to print the cost of its frames too.
         cost: bool,
+    },
+    /// The MD5 of each picture of each file is printed.
+    FrameMd5 {
+        /// The paths of the files, or of texts of pictures.
+        inputs: &'a [&'a str],
     },
     /// A mono picture of YUV4MPEG2 is coded and decoded.
     Trial {
@@ -168,12 +176,13 @@ impl<'a> Order<'a> {
             Order::Pack { input, output, .. } | Order::Unpack { input, output, .. } => {
                 conflict_of(input, output)
             }
-            Order::Check { inputs, .. } | Order::Show { inputs, .. } => {
-                if has_hyphens(inputs) {
-                    return Some("standard input, -, is read once");
+            Order::Check { inputs, .. } | Order::Show { inputs, .. } | Order::FrameMd5 { inputs } =>
+                {
+                    if has_hyphens(inputs) {
+                        return Some("standard input, -, is read once");
+                    }
+                    None
                 }
-                None
-            }
             Order::Trial { .. } => None,
         }
     }

@@ -121,7 +121,7 @@ frame_is bytes h = sym (append-nil bytes) ∙ (frame_only (bytes ++ []) [] (h []
 pub frame_stays : Stays frame_begun true
 frame_stays = λ bytes h. rw (frame_only bytes [] h ∙ append-nil frame_line) frame_found
 
--- the answers at a place of the line
+-- the answers at a position of the line
 pub frame_failed : (a b c : Option (List ℕ)) (n before after : ℕ) → n < 6 → Consumes a b (take n frame_line) → Keeps b c → after ≡ one_more before →
     Stands frame_begun Nowhere (moved a c before after) (Err fault.Read)
 unfolding frame_begun

@@ -121,7 +121,8 @@ pub(crate) fn lend_planes<A: Allocator + Copy>(
 ) -> Result<(), AllocError>
     ensures many { OnOk result (length planes.new.items ≡ count) }
     ensures room { count ≤ length planes.old.items → OnErr result ⊥ }
-    ensures kept { count ≤ length planes.old.items → planes.new.items ≡ take count planes.old.items }
+    ensures kept { count ≤ length planes.old.items →
+        planes.new.items ≡ take count planes.old.items }
 {
     planes.truncate(count);
     while planes.len() < count {

@@ -5,8 +5,8 @@ ghost use Rattle.ffv1_y4m.specs.Passage.{passage, passage_from};
 ghost use Rattle.ffv1_y4m.specs.Ppm.{GrowsInImage, image_header, image_read};
 ghost use Rattle.ffv1_y4m.specs.Reads.{Answers, Nowhere};
 ghost use Rattle.ffv1_y4m.specs.State.{HasRoom, IsImageFault, IsLineFault, Lent, NextAnswers};
-ghost use Rattle.ffv1_y4m.specs.State.{NoWant, OnFault, PpmReading, failing, image_said, samples_of};
-ghost use Rattle.ffv1_y4m.specs.State.{shown};
+ghost use Rattle.ffv1_y4m.specs.State.{NoWant, OnFault, PpmReading, failing, image_said};
+ghost use Rattle.ffv1_y4m.specs.State.{samples_of, shown};
 ghost use Rattle.ffv1_y4m.specs.VideoHead.{AreInDepth, Fits, IsNamed, IsSized, colour_head};
 ghost use Rattle.ffv1_y4m.specs.VideoHead.{plane_bytes};
 

@@ -19,9 +19,9 @@ use std::marker::Model;
 /// A sink of lines that writes them as binary PPM, one image after the other. It owns its writer.
 ///
 /// Samples of 8 bits are one byte each, others two: in lines the low byte first, in the text the
-/// high one. Lines come as red, green, blue of each row, the rows from the top. The lines of red and green
-/// are kept until the row's blue one comes, which writes the row, and before the first row of an
-/// image its header.
+/// high one. Lines come as red, green, blue of each row, the rows from the top. The lines of red
+/// and green are kept until the row's blue one comes, which writes the row, and before the first
+/// row of an image its header.
 #[derive(Drop)]
 pub struct PpmWriter<W, A: Allocator = Global> {
     out: W,
@@ -232,7 +232,8 @@ fn lines<A: Allocator + Copy>(
 impl<W: ByteOut, A: Allocator> LineSink for PpmWriter<W, A> {
     ghost takes = { λ s plane row samples t. Takes W.contents W.failures s plane row samples t };
 
-    ghost refuses = { λ s plane row samples t. Refuses W.contents W.failures s plane row samples t };
+    ghost refuses = { λ s plane row samples t.
+        Refuses W.contents W.failures s plane row samples t };
 
     ghost failures = { λ s. s.failures };
 

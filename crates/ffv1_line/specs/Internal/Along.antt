@@ -29,7 +29,7 @@ pub record IsBehind (two one cur : List ℕ) (x ll l : ℕ) : Type 0 where
   pub l_is : (c : Cell) (y : ℕ) → Above c y two one → Shows c (suc (suc y)) cur x →
       l ≡ seen c (suc x) (suc (suc y))
 
--- what the rows above decide of the first n places from a place on
+-- what the rows above decide of the first n places from a position on
 pub record IsFilled (set : Set) (two one : List ℕ) (from : ℕ) (e : Early) (n : ℕ) : Type 0 where
   pub above : AreAbove two one from e.tl e.t n
   pub bounds : AreBounds e.tl e.t e.least e.most n
@@ -47,7 +47,7 @@ pub record IsPreparedSomehow (set : Set) (e : Early) (i : ℕ) : Type 0 where
   pub tt : ℕ
   pub prepared : IsPrepared set e i tr tt
 
--- where the samples above, above to the left and to the left are l, a place of this early sum has
+-- where the samples above, above to the left and to the left are l, a sample of this early sum has
 -- this context, whatever stands above to the right and two above
 pub record IsEven (set : Set) (sum l ll size : ℕ) : Type 0 where
   pub each : (tr tt : ℕ) → IsEarly set l l tr tt sum → size ≡ size_of set (record {
@@ -59,7 +59,7 @@ pub record IsEven (set : Set) (sum l ll size : ℕ) : Type 0 where
     tt = tt;
   })
 
--- where those samples and the one above to the right are one, a place has the first context
+-- where those samples and the one above to the right are one, a sample has the first context
 pub record IsFlat (set : Set) : Type 0 where
   pub each : (a : Around) → a.t ≡ a.l → a.tl ≡ a.l → a.tr ≡ a.l → size_of set a ≡ 0
 

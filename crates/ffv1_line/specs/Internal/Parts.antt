@@ -1,6 +1,7 @@
 -- Places of a row that are encoded at once.
 use Rattle.std.specs.Prelude.{ℕ, ◌≡◌, ◌+◌, ◌≤◌, ◌<◌, ◌⊎◌, IsTrue, List, length}
 use Rattle.ffv1_range.specs.Symbols.{Step}
+use Rattle.ffv1_range.specs.Counts.{Counts, Counted}
 use Rattle.ffv1_plane.specs.Quantisation.{IsNear}
 use Rattle.ffv1_line.specs.declared.part.Part.{Part}
 use Rattle.ffv1_line.specs.declared.block.Block.{Block}
@@ -29,3 +30,9 @@ IsBlockOf p n b = ArePrepared p n b.contexts b.residuals
 -- the decisions of the first n of them
 abbrev pub part_steps : {A : Type 0} → Part A → ℕ → List Step
 part_steps p n = places_steps p.set.now p.bits p.two.now p.one.now p.cur.now p.from n
+
+-- the counters went on by the decisions of its first places, and not of all where it has some
+pub record CountsPart {A : Type 0} (p : Part A) (old new : Counts) : Type 0 where
+  pub first : ℕ
+  pub few : 0 < p.count → first < p.count
+  pub counted : Counted old (part_steps p first) new

@@ -31,8 +31,8 @@ pub(crate) struct Places<'a, B: Allocator> {
 }
 
 impl<'a, B: Allocator> Places<'a, B> {
-    /// The same, with the bits and the kind of the set as constants; where `BITS` is 0, the bits are
-    /// no constant.
+    /// The same, with the bits and the kind of the set as constants; where `BITS` is 0, the bits
+    /// are no constant.
     #[inline(always)]
     pub(crate) fn fixed<const BITS: u8, const NEAR: bool>(&self) -> Places<'a, B>
         requires bits { (BITS ≡ 0) ⊎ (self.now.bits ≡ BITS) }

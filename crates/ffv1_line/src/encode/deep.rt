@@ -4,7 +4,7 @@ ghost use Rattle.std.specs.Prelude.{◌≡◌, ◌*◌, ◌<◌, OnOk, OnErr, If
 ghost use Rattle.ffv1_range.specs.Symbols.{AllHeld};
 ghost use Rattle.ffv1_range.specs.declared.fault.Fault.TheVariants as fault;
 ghost use Rattle.ffv1_plane.specs.Quantisation.{contexts_of, IsNear};
-ghost use Rattle.ffv1_line.specs.Encoded.{Written, MayBeRefusedRow};
+ghost use Rattle.ffv1_line.specs.Encoded.{Written, MayBeRefusedRow, CountsFirst};
 
 use crate::above::Above;
 use crate::coding::Coding;
@@ -36,6 +36,8 @@ pub(crate) fn encode_deep<A: Allocator, B: Allocator, const NEAR: bool>(
         (length cur.now)) }
     ensures held { AllHeld coding.now.table states.new }
     ensures err { IfErr result (λ f. (f ≡ fault.OutOfMemory) × IsTrue encoder.new.failed) }
+    ensures kept { OnErr result (CountsFirst coding.now.set coding.now.bits encoder.old.counts
+        encoder.new.counts above.now.two above.now.one cur.now) }
 {
     let Coding { table, set, bits } = coding;
     let Above { two, one } = above;

@@ -1,6 +1,7 @@
 //! A row is encoded place by place, in a line of any words.
 
-ghost use Rattle.std.specs.Prelude.{◌≡◌, ◌*◌, ◌≤◌, ◌<◌, ◌^◌, OnOk, OnErr, IfErr, IsTrue, length, false};
+ghost use Rattle.std.specs.Prelude.{◌≡◌, ◌*◌, ◌≤◌, ◌<◌, ◌^◌, OnOk, OnErr, IfErr, IsTrue, length};
+ghost use Rattle.std.specs.Prelude.{false};
 ghost use Rattle.std.specs.Prelude.{unsigned_abs};
 ghost use Rattle.ffv1_range.specs.Symbols.{AllHeld};
 ghost use Rattle.ffv1_range.specs.declared.fault.Fault.TheVariants as fault;
@@ -9,7 +10,7 @@ ghost use Rattle.ffv1_plane.specs.Context.{size_of, flip_of};
 ghost use Rattle.ffv1_plane.specs.Prediction.{predicted_in};
 ghost use Rattle.ffv1_plane.specs.Residual.{chosen_of};
 ghost use Rattle.ffv1_plane.specs.Wide.{around_of};
-ghost use Rattle.ffv1_line.specs.Encoded.{Written, MayBeRefusedRow};
+ghost use Rattle.ffv1_line.specs.Encoded.{Written, MayBeRefusedRow, CountsFirst};
 
 use crate::neighbours::{context_by, word_right_above};
 use crate::way::Way;
@@ -73,6 +74,8 @@ pub(crate) fn encode_plain<W: Word, A: Allocator, B: Allocator, const NEAR: bool
         (W.samples cur.now) (length cur.now)) }
     ensures held { AllHeld way.now.table.now states.new }
     ensures err { IfErr result (λ f. (f ≡ fault.OutOfMemory) × IsTrue encoder.new.failed) }
+    ensures kept { OnErr result (CountsFirst way.now.set.now way.now.bits encoder.old.counts
+        encoder.new.counts (W.samples two.now) (W.samples one.now) (W.samples cur.now)) }
 {
     let Way { table, set, bits } = way;
     let last = cur.len() - 1;

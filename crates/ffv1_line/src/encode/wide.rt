@@ -4,7 +4,7 @@ ghost use Rattle.std.specs.Prelude.{◌≡◌, ◌*◌, ◌<◌, OnOk, OnErr, If
 ghost use Rattle.ffv1_range.specs.Symbols.{AllHeld};
 ghost use Rattle.ffv1_range.specs.declared.fault.Fault.TheVariants as fault;
 ghost use Rattle.ffv1_plane.specs.Quantisation.{contexts_of};
-ghost use Rattle.ffv1_line.specs.Encoded.{Written, MayBeRefusedRow};
+ghost use Rattle.ffv1_line.specs.Encoded.{Written, MayBeRefusedRow, CountsFirst};
 
 use crate::encode::plain::encode_plain;
 use crate::way::Way;
@@ -19,9 +19,9 @@ use std::alloc::Allocator;
 /// least one sample, and all three have one length. `states` are those of the plane's class, 32 for
 /// each context of the set, all held by the table.
 ///
-/// `OutOfMemory` where the encoder was refused memory, now or before: it has failed for good, and
-/// the states are still held by the table. One that had failed before is left as it was, and the
-/// states too.
+/// `OutOfMemory` where the encoder was refused memory, now or before: it has failed for good, its
+/// counts are those after some first samples of the row, and the states are still held by the
+/// table. One that had failed before is left as it was, and the states too.
 #[inline(never)]
 pub fn encode_wide<A: Allocator, B: Allocator>(
     encoder: &mut RangeEncoder<A>,
@@ -44,6 +44,8 @@ pub fn encode_wide<A: Allocator, B: Allocator>(
     ensures stays { IsTrue encoder.old.failed → IsErr result }
     ensures unchanged { IsTrue encoder.old.failed →
         (encoder.new ≡ encoder.old) × (states.new ≡ states.old) }
+    ensures kept { OnErr result (CountsFirst coding.now.set coding.now.bits encoder.old.counts
+        encoder.new.counts above.now.two above.now.one cur.now) }
 {
     if encoder.has_failed() {
         return Err(Fault::OutOfMemory);

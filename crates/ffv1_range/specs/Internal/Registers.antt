@@ -120,8 +120,8 @@ pub record IsHoldingPart (bytes : List ℕ) (low width held : ℕ) : Type 0 wher
   pub room : 65536 * (256 ^ held * value bytes (length bytes)) + low + width ≤
       65536 * (256 ^ held * 256 ^ length bytes)
 
--- A low end is marked where one bit more stands above it, eight places further up for each byte that
--- is held back. How many those are, of four at most:
+-- A low end is marked where one bit more stands above it, eight places further up for each byte
+-- that is held back. How many those are, of four at most:
 unfoldable pub held_in : ℕ → ℕ
 held_in marked = min (marked / 2 ^ 39) 1 + min (marked / 2 ^ 47) 1 + min (marked / 2 ^ 55) 1 +
     min (marked / 2 ^ 63) 1

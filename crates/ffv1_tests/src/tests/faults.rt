@@ -1,5 +1,5 @@
-//! The texts of faults, of each crate all of them: the number and the name that stand for a fault on
-//! standard error.
+//! The texts of faults, of each crate all of them: the number and the name that stand for a fault
+//! on standard error.
 
 use super::made::shows;
 use ffv1_codec::CodecFault;

@@ -12,6 +12,7 @@ const DEFAULTS: Choice = Choice {
     large: false,
     columns: 1,
     rows: 1,
+    default_grid: true,
     ec: true,
     rate: 25,
     scale: 1,
@@ -29,7 +30,7 @@ fn names_each<'a>(rt: &impl Abort, alloc: Global, rows: &'a [(&'a [&'a str], Ord
 }
 
 /// Each command.
-static COMMANDS: [(&[&str], Order<'static>); 5] = [
+static COMMANDS: [(&[&str], Order<'static>); 6] = [
     (
         &["ffv1", "pack", "a", "b"],
         Order::Pack {
@@ -65,6 +66,10 @@ static COMMANDS: [(&[&str], Order<'static>); 5] = [
             inputs: &["a"],
             cost: false,
         },
+    ),
+    (
+        &["ffv1", "framemd5", "a"],
+        Order::FrameMd5 { inputs: &["a"] },
     ),
     (&["ffv1", "trial", "a"], Order::Trial { input: "a" }),
 ];
@@ -223,6 +228,7 @@ static OPTIONS: [(&str, &str, Choice); 11] = [
         "32",
         Choice {
             columns: 32,
+            default_grid: false,
             ..DEFAULTS
         },
     ),
@@ -231,6 +237,7 @@ static OPTIONS: [(&str, &str, Choice); 11] = [
         "+4",
         Choice {
             columns: 4,
+            default_grid: false,
             ..DEFAULTS
         },
     ),
@@ -239,6 +246,7 @@ static OPTIONS: [(&str, &str, Choice); 11] = [
         "32",
         Choice {
             rows: 32,
+            default_grid: false,
             ..DEFAULTS
         },
     ),
@@ -300,6 +308,7 @@ static MORE: [(&[&str], Order<'static>); 4] = [
                 large: true,
                 columns: 3,
                 rows: 2,
+                default_grid: false,
                 ec: false,
                 rate: 30000,
                 scale: 1001,

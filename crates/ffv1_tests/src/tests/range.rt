@@ -1,5 +1,5 @@
-//! The range coder, by values from outside the program: worked by hand and by another implementation
-//! over numbers without a limit.
+//! The range coder, by values from outside the program: worked by hand and by another
+//! implementation over numbers without a limit.
 
 mod coder;
 mod definition;

@@ -1,5 +1,5 @@
-//! Configuration records, by values from outside the program: records of an independent model and of
-//! FFmpeg, and records made by hand.
+//! Configuration records, by values from outside the program: records of an independent model and
+//! of FFmpeg, and records made by hand.
 
 mod checks;
 mod depths;

@@ -12,6 +12,7 @@ fn file(alloc: Global) -> Result<Vec<u8>, Fault> {
         large: false,
         columns: 1,
         rows: 1,
+        default_grid: false,
         ec: true,
         rate: 25,
         scale: 1,

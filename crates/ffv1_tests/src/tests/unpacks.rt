@@ -16,6 +16,7 @@ const PLAIN: Choice = Choice {
     large: false,
     columns: 1,
     rows: 1,
+    default_grid: false,
     ec: false,
     rate: 25,
     scale: 1,

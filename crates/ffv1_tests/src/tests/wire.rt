@@ -1,5 +1,6 @@
 //! Readers, writers and sinks.
 
 mod bytes;
+mod calls;
 mod patches;
 mod sinks;

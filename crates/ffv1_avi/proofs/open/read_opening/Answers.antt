@@ -15,6 +15,7 @@ use Rattle.ffv1_avi.specs.Walk.{is_name}
 use Rattle.ffv1_avi.proofs.Contents.{number_taken}
 use Rattle.ffv1_reads.proofs.WantedBytes.{wanted_sound}
 use Rattle.ffv1_reads.proofs.Reading.{faults_here, goes_fault, goes_last, goes_none, goes_read, goes_same}
+use Rattle.ffv1_reads.proofs.Rooms.{room_after}
 use Rattle.ffv1_avi.proofs.open.read_opening.Goals as goal
 use Rattle.ffv1_avi.proofs.open.read_opening.Goals.{then-not-is_name-via-then-not-is_name, then-not-is_name-via-else-not-is_name+then-not-is_name-2, then-not-is_name-via-else-not-is_name+else-not-is_name-2+then-size-lt4}
 
@@ -43,8 +44,8 @@ no_second a b c p q = rw (p, q) refl
 no_third : (a b c : Bool) → a ≡ true → b ≡ true → c ≡ false → ((a && b) && c) ≡ false
 no_third a b c p q r = rw (p, q, r) refl
 
-pub returns-then-not-is_name : goal.returns-then-not-is_name
-returns-then-not-is_name g c =
+pub returns-then-not-is_name-clause-answer : goal.returns-then-not-is_name-clause-answer
+returns-then-not-is_name-clause-answer g c =
     let head = c.take_after.new.buf in
     let long : length head ≡ 12 = (wanted_sound Looked 12 (c.in_ok-take_after.ensures.1.bytes ++ []) (head, []) (c.in_ok-take_after.ensures.1.is [])).1 in
     let form : take 4 (drop 8 head) ≡ drop 8 head = take_all 4 (drop 8 head) (omega (arith, long, length-drop 8 head)) in
@@ -57,8 +58,8 @@ returns-then-not-is_name g c =
     let here = goes_same _ (refused fault.NotAvi) (not_begun c.args.extent head other) (goes_read (taken 12) (behind c.args.extent) _ _ head start c.in_ok-take_after.ensures) in
     goes_fault fault.NotAvi here (refl, faults_here (Head × Place) fault.NotAvi _)
 
-pub returns : goal.returns
-returns g c =
+pub returns-clause-answer : goal.returns-clause-answer
+returns-clause-answer g c =
     let head = c.take_after.new.buf in
     let long : length head ≡ 12 = (wanted_sound Looked 12 (c.in_ok-take_after.ensures.1.bytes ++ []) (head, []) (c.in_ok-take_after.ensures.1.is [])).1 in
     let form : take 4 (drop 8 head) ≡ drop 8 head = take_all 4 (drop 8 head) (omega (arith, long, length-drop 8 head)) in
@@ -67,4 +68,7 @@ returns g c =
     let here : begins head ≡ true = all_three _ _ _ (sym c.if-not-is_name.ensures) (ap (λ y. is_name y (codes "AVI ")) (sym form) ∙ sym c.if-not-is_name-2.ensures) enough in
     let start = goes_same _ (taken 12 >>= behind c.args.extent) (opened c.args.extent) (goes_none (open_read c.args.extent) (bytes_with c.args.first (g.R.ByteIn.remaining c.args.input.now)) (g.R.ByteIn.failures c.args.input.now)) in
     let next = goes_same _ (top_read c.args.extent (little_number 4 (drop 4 head) - 4)) (begun c.args.extent head here) (goes_read (taken 12) (behind c.args.extent) _ _ head start c.in_ok-take_after.ensures) in
-    goes_last (top_read c.args.extent (little_number 4 (drop 4 head) - 4)) (λ (p : Sizes × Place). (head_with p.0 c.read_top.new.config.items, p.1)) _ _ c.read_top.result next (rw size at c.read_top.ensures)
+    goes_last (top_read c.args.extent (little_number 4 (drop 4 head) - 4)) (λ (p : Sizes × Place). (head_with p.0 c.read_top.new.config.items, p.1)) _ _ c.read_top.result next (rw size at c.read_top.ensures.answer)
+
+pub returns-clause-grown : goal.returns-clause-grown
+returns-clause-grown g c = room_after _ _ _ c.read_top.result c.in_ok-take_after.ensures.1 c.read_top.ensures.grown

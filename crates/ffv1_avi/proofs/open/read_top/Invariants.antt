@@ -5,6 +5,8 @@ use Rattle.ffv1_avi.specs.declared.place.Place.{Place}
 use Rattle.ffv1_reads.specs.Reads.{Reading, ◌>>=◌}
 use Rattle.ffv1_avi.specs.Internal.Views.{headers_with}
 use Rattle.ffv1_avi.specs.Walk.{walk}
+use Rattle.std.specs.Vec.{vec_capacity}
+use Rattle.ffv1_reads.specs.Room.{RoomRead}
 use Rattle.ffv1_reads.proofs.Reading.{Goes}
 use Rattle.ffv1_avi.proofs.open.read_top.Given as goal
 
@@ -13,8 +15,9 @@ ended p = opened p.1
 
 abbrev pub invariant-loop-entry : goal.invariant-loop-entry
 invariant-loop-entry g l =
-    Goes (top_read l.fn.extent l.fn.room) (g.R.ByteIn.remaining l.initial.input) (g.R.ByteIn.failures l.initial.input)
-    (walk (visit_top l.fn.extent) l.left (headers_with l.found l.config.items) >>= ended) (g.R.ByteIn.remaining l.input) (g.R.ByteIn.failures l.input)
+    (Goes (top_read l.fn.extent l.fn.room) (g.R.ByteIn.remaining l.initial.input) (g.R.ByteIn.failures l.initial.input)
+    (walk (visit_top l.fn.extent) l.left (headers_with l.found l.config.items) >>= ended) (g.R.ByteIn.remaining l.input) (g.R.ByteIn.failures l.input))
+    × RoomRead (g.R.ByteIn.remaining l.initial.input) (g.R.ByteIn.remaining l.input) (vec_capacity l.initial.config) (vec_capacity l.config)
 
 abbrev pub decreases-loop-entry : goal.decreases-loop-entry
 decreases-loop-entry g l = l.left

@@ -7,6 +7,7 @@ use Rattle.ffv1_avi.specs.Padding.{padded}
 use Rattle.ffv1_avi.specs.Streams.{format_behind, format_in, format_rest, record_end}
 use Rattle.ffv1_avi.proofs.Contents.{format_long, format_right, format_short, format_wrong, number_taken, record_rest}
 use Rattle.ffv1_reads.proofs.Reading.{goes_given, goes_none, goes_read, goes_refused, goes_same}
+use Rattle.ffv1_reads.proofs.Rooms.{room_filled, room_kept, room_then}
 use Rattle.ffv1_avi.proofs.stream.read_format.Goals as goal
 
 pub returns-in_err-pass-clause-answer : goal.returns-in_err-pass-clause-answer
@@ -131,3 +132,9 @@ returns-in_err-pass-3-clause-room g c =
 
 pub returns-clause-room : goal.returns-clause-room
 returns-clause-room g c = grind (arith, common_steps)
+
+pub returns-then-not-is_name-clause-grown : goal.returns-then-not-is_name-clause-grown
+returns-then-not-is_name-clause-grown g c = room_then (room_kept _ c.in_ok-take.ensures.1) (room_kept _ c.in_ok-pass-2.ensures.1)
+
+pub returns-clause-grown : goal.returns-clause-grown
+returns-clause-grown g c = room_then (room_kept _ c.in_ok-take.ensures.1) (room_then (room_filled Kept _ _ _ c.in_ok-fill.ensures.answer.1 c.in_ok-fill.ensures.room) (room_kept _ c.in_ok-pass-3.ensures.1))

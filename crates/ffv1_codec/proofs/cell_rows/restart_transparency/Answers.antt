@@ -10,7 +10,7 @@ neither b off on = cc
 pub returns-in_ok-restart : goal.returns-in_ok-restart
 returns-in_ok-restart g c = λ _.
     let slice = c.args.slice.now in
-    rolled_top (cell_in slice.checked.now.configuration slice.picture.now slice.number 3) c.cell.result.width c.restart.new.rows c.rolling.ensures.top c.cell.ensures.width
+    rolled_top g.W.Word.samples (cell_in slice.checked.now.configuration slice.picture.now slice.number 3) c.cell.result.width c.restart.new.rows c.rolling.ensures.top c.cell.ensures.width
     c.in_ok-restart.ensures.two c.in_ok-restart.ensures.one c.in_ok-restart.ensures.cur
 
 pub returns-else-config : goal.returns-else-config

@@ -38,6 +38,7 @@ loop-row-preserved g c =
       same = record {
         slices = record { columns = c.in_ok-decoded.ensures.same.slices.columns ∙ ap length closed ∙ c.close.auto.columns ∙ ap length c.deref_mut.ensures.value ∙ c.loop-row.invariant.same.slices.columns; states = c.in_ok-decoded.ensures.same.slices.states ∙ c.loop-row.invariant.same.slices.states };
         lines = c.in_ok-decoded.ensures.same.lines ∙ c.loop-row.invariant.same.lines;
+        words = λ bits holds. c.in_ok-decoded.ensures.same.words bits (c.loop-row.invariant.same.words bits holds);
         out = c.in_ok-decoded.ensures.same.out ∙ c.loop-row.invariant.same.out;
       };
       known = λ h. c.in_ok-decoded.ensures.known;

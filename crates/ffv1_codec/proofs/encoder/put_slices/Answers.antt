@@ -19,6 +19,7 @@ loop-number-init g c = record {
   renormalisations = refl;
   decisions_few = omega arith;
   renormalisations_few = omega arith;
+  room = omega arith;
 }
 
 pub returns-in_err-counts-clause-err : goal.returns-in_err-counts-clause-err
@@ -61,6 +62,7 @@ loop-number-preserved g c =
       renormalisations = sum_next (slice_renormalisations a planes c.args.info) n _ _ c.loop-number.invariant.renormalisations renormalisations;
       decisions_few = omega (arith, c.loop-number.invariant.decisions_few, decisions, small);
       renormalisations_few = omega (arith, c.loop-number.invariant.renormalisations_few, told.short);
+      room = omega (arith, c.loop-number.invariant.room, c.add_slice.ensures.room);
     }
 
 pub returns-clause-ok : goal.returns-clause-ok

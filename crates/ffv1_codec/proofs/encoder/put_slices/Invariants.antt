@@ -1,5 +1,5 @@
 use Rattle.std.proofs.Common.{◌≡◌, ℕ, ◌*◌, ◌^◌, ◌<◌, ◌≤◌, length, map}
-use Rattle.std.specs.Prelude.{sum}
+use Rattle.std.specs.Prelude.{sum, vec_capacity}
 use Rattle.std.specs.List.{flat_map, range_with_len}
 use Rattle.ffv1_line.specs.Length.{row_decisions}
 use Rattle.ffv1_slice.specs.Cutting.{joined_of}
@@ -18,4 +18,5 @@ invariant-loop-number g l =
       renormalisations : l.renormalisations ≡ sum (map (slice_renormalisations a l.picture l.info) (range_with_len 0 l.number));
       decisions_few : l.decisions ≤ l.number * 2 ^ 40;
       renormalisations_few : l.renormalisations ≤ l.number * 16777215;
+      room : vec_capacity l.fn.scratch.states ≤ vec_capacity l.scratch.states;
     }

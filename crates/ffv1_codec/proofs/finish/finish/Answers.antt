@@ -6,6 +6,7 @@ use Rattle.ffv1_slice.specs.Grid.{Division}
 use Rattle.ffv1_record.specs.Configuration.{Configuration, is_rct}
 use Rattle.ffv1_codec.specs.Picture.{plane_width, width_bytes}
 use Rattle.ffv1_codec.proofs.LineFinished.{together_one, together_all, rct_is, wide_none, all_small, samples_finished, colours_missing, colours_finished}
+use Rattle.ffv1_codec.proofs.WideLines.{rct_bits}
 use Rattle.ffv1_codec.proofs.finish.finish.Goals as goal
 
 room : (b s w width long count : ℕ) → b ≡ s → w ≤ width → count ≡ 1 → long ≡ count * (s * width) → b * w ≤ long
@@ -83,6 +84,13 @@ returns-in-YCbCr-clause-exact g c = λ coded s stand.
     let small = all_small conf line.first line.count line.y c.args.samples.now s stand no one.0 wide wide_is fits in
     let copied = c.copy_to.ensures (λ x h. subst (λ d. slice_index (take wide c.args.samples.now) x < 2 ^ d) (sym d_is) (small x h)) ∙ ap (λ d. bytes_of d (take wide c.args.samples.now)) d_is in
     samples_finished conf line.first line.count line.y c.args.samples.now s stand no one.0 wide wide_is fits c.copy_to.new.out (drop (c.sample_bytes.result * wide) c.args.out.now) copied
+
+pub finish_colours-requires-clause-shallow : goal.finish_colours-requires-clause-shallow
+finish_colours-requires-clause-shallow g c =
+    let conf = c.args.frame.now.checked.now.configuration in
+    let yes : is_rct conf.colour ≡ true = ap (λ (z : Configuration). is_rct z.colour) c.config.ensures.value ∙ ap is_rct c.in-Rct.is in
+    let bits = rct_bits conf yes in
+    omega (arith, bits, c.requires.bits)
 
 pub colourless-requires-clause-x : goal.colourless-requires-clause-x
 colourless-requires-clause-x g c =

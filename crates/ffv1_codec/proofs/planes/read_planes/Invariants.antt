@@ -10,8 +10,8 @@ invariant-columns g l = record {
   held : AllHeld l.frame.checked.now.table l.states;
   line : (coded : ℕ → List ℕ) (next : ℕ) (s : State) → l.line.first + l.line.count ≤ next →
       TiedColumns l.frame.checked.now coded l.line.row next l.frame.payload.now l.fn.columns l.fn.states s →
-      TiedPlanes l.frame.checked.now.configuration l.line.first l.line.count 0 0 l.line.y l.two l.one l.fn.cur s →
-      PlanesRead l.frame.checked.now coded l.line.row next l.frame.payload.now l.line.first l.line.count l.line.y l.column 0 l.columns l.states l.two l.one l.cur s;
+      TiedPlanes l.frame.checked.now.configuration l.line.first l.line.count 0 0 l.line.y (g.W.Word.samples l.above.two.now) (g.W.Word.samples l.above.one.now) (g.W.Word.samples l.fn.cur) s →
+      PlanesRead l.frame.checked.now coded l.line.row next l.frame.payload.now l.line.first l.line.count l.line.y l.column 0 l.columns l.states (g.W.Word.samples l.above.two.now) (g.W.Word.samples l.above.one.now) (g.W.Word.samples l.cur) s;
 }
 
 abbrev pub invariant-planes : goal.invariant-planes
@@ -20,6 +20,6 @@ invariant-planes g l = record {
   held : AllHeld l.frame.checked.now.table l.states;
   line : (coded : ℕ → List ℕ) (next : ℕ) (s : State) → l.line.first + l.line.count ≤ next →
       TiedColumns l.frame.checked.now coded l.line.row next l.frame.payload.now l.fn.columns l.fn.states s →
-      TiedPlanes l.frame.checked.now.configuration l.line.first l.line.count 0 0 l.line.y l.two l.one l.fn.cur s →
-      PlanesRead l.frame.checked.now coded l.line.row next l.frame.payload.now l.line.first l.line.count l.line.y l.column l.index l.columns l.states l.two l.one l.cur s;
+      TiedPlanes l.frame.checked.now.configuration l.line.first l.line.count 0 0 l.line.y (g.W.Word.samples l.above.two.now) (g.W.Word.samples l.above.one.now) (g.W.Word.samples l.fn.cur) s →
+      PlanesRead l.frame.checked.now coded l.line.row next l.frame.payload.now l.line.first l.line.count l.line.y l.column l.index l.columns l.states (g.W.Word.samples l.above.two.now) (g.W.Word.samples l.above.one.now) (g.W.Word.samples l.cur) s;
 }

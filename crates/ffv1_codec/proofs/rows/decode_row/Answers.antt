@@ -39,8 +39,8 @@ returns-clause-exact g c = λ initial s between grows.
     let tied = subst (λ z. TiedColumns a coded c.args.row 0 payload (take c.args.buffers.now.slices.columns.len (c.open_row.new.columns ++ drop (length c.open_row.new.columns) c.args.buffers.now.slices.columns.items)) z opened.state) (sym states_back)
     (subst (λ z. TiedColumns a coded c.args.row 0 payload z c.reset.new.states opened.state) (sym columns_back) tied) in
     let grown = opened_grows takes refuses a coded initial c.args.row payload s c.open_row.new.first c.open_row.new.columns opened c.args.sink.now grows in
-    let made = c.decode_planes.ensures.exact coded initial opened.state tied grown in
-    let long_after = c.decode_planes.ensures.same.columns ∙ ap length columns_back ∙ long in
-    MatchResult-weaker c.decode_planes.result made
-    (λ u done. row_decoded takes refuses a coded initial c.args.row payload s c.open_row.new.first c.open_row.new.columns opened c.counted_from_nothing.ensures c.decode_planes.new.slices.columns.items c.decode_planes.new.slices.states.items c.decode_planes.new.sink long_after done)
-    (λ f stopped. lines_fail takes refuses a coded initial c.args.row payload s c.open_row.new.first c.open_row.new.columns opened c.decode_planes.new.slices.columns.items f c.decode_planes.new.sink stopped)
+    let made = c.decode_lines.ensures.exact coded initial opened.state tied grown in
+    let long_after = c.decode_lines.ensures.same.columns ∙ ap length columns_back ∙ long in
+    MatchResult-weaker c.decode_lines.result made
+    (λ u done. row_decoded takes refuses a coded initial c.args.row payload s c.open_row.new.first c.open_row.new.columns opened c.counted_from_nothing.ensures c.decode_lines.new.slices.columns.items c.decode_lines.new.slices.states.items c.decode_lines.new.sink long_after done)
+    (λ f stopped. lines_fail takes refuses a coded initial c.args.row payload s c.open_row.new.first c.open_row.new.columns opened c.decode_lines.new.slices.columns.items f c.decode_lines.new.sink stopped)

@@ -32,9 +32,13 @@ loop-y-init g c =
     let size_is : size ≡ c.args.planes.now.count * conf.width = ap (λ (z : Configuration). c.args.planes.now.count * z.width) (sym c.config.ensures.value) in
     let all = length c.args.lines.now in
     let long : all ≡ 3 * size = c.requires.lines_long ∙ ap (λ n. 3 * n) (sym size_is) in
-    let two_is : c.split_at_mut-two.result.0.now ≡ replicate size 0 = c.split_at_mut-two.ensures.front ∙ ap (take size) c.clear.ensures ∙ take-replicate size all 0 (omega (arith, long)) in
-    let rest_is : c.split_at_mut-two.result.1.now ≡ replicate (all - size) 0 = c.split_at_mut-two.ensures.back ∙ ap (drop size) c.clear.ensures ∙ drop-replicate size all 0 in
-    let one_is : c.split_at_mut-one.result.0.now ≡ replicate size 0 = c.split_at_mut-one.ensures.front ∙ ap (take size) rest_is ∙ take-replicate size (all - size) 0 (omega (arith, long)) in
+    let samples = g.W.Word.samples in
+    let law = g.met.W.Word in
+    let two = samples c.split_at_mut-two.result.0.now in
+    let one = samples c.split_at_mut-one.result.0.now in
+    let two_is : two ≡ replicate size 0 = ap samples c.split_at_mut-two.ensures.front ∙ law.takes size _ ∙ ap (take size) c.clear.ensures ∙ take-replicate size all 0 (omega (arith, long)) in
+    let rest_is : samples c.split_at_mut-two.result.1.now ≡ replicate (all - size) 0 = ap samples c.split_at_mut-two.ensures.back ∙ law.drops size _ ∙ ap (drop size) c.clear.ensures ∙ drop-replicate size all 0 in
+    let one_is : one ≡ replicate size 0 = ap samples c.split_at_mut-one.ensures.front ∙ law.takes size _ ∙ ap (take size) rest_is ∙ take-replicate size (all - size) 0 (omega (arith, long)) in
     record {
       two_long = c.split_at_mut-two.ensures.front_len ∙ size_is;
       one_long = c.split_at_mut-one.ensures.front_len ∙ size_is;
@@ -44,7 +48,7 @@ loop-y-init g c =
       held = c.requires.held;
       counted = refl;
       lines = λ coded initial s tied grows.
-          none_decoded takes refuses a coded initial c.args.planes.now.row payload p c.args.planes.now.count s c.args.slices.now.columns.items c.args.slices.now.states.items size c.split_at_mut-two.result.0.now c.split_at_mut-one.result.0.now c.args.sink.now
+          none_decoded takes refuses a coded initial c.args.planes.now.row payload p c.args.planes.now.count s c.args.slices.now.columns.items c.args.slices.now.states.items size two one c.args.sink.now
           c.cell_is_read.ensures.top (λ q. c.places.ensures.across conf a.table q c.requires.frame.accepted) two_is one_is size_is tied grows;
     }
 
@@ -73,6 +77,9 @@ returns-in_err-decode_whole_line-clause-exact g c = λ coded initial s tied grow
     let conf = a.configuration in
     let p = c.args.planes.now.first in
     let payload = c.args.frame.now.payload.now in
+    let two = g.W.Word.samples c.loop-y.two.now in
+    let one = g.W.Word.samples c.loop-y.one.now in
+    let cur = g.W.Word.samples c.loop-y.cur.now in
     let takes = g.S.LineSink.takes in
     let refuses = g.S.LineSink.refuses in
     let are = c.places.ensures.down conf c.args.frame.now.checked.now.table p c.requires.frame.accepted in
@@ -82,11 +89,11 @@ returns-in_err-decode_whole_line-clause-exact g c = λ coded initial s tied grow
     let next = are.next c.args.planes.now.row c.requires.row in
     let height : c.top-bottom.result - c.top-top.result ≡ lines_down conf p c.args.planes.now.row = omega (arith, top, bottom, next) in
     let before = c.loop-y.invariant.lines coded initial s tied grows in
-    let planes = planes_any conf p c.args.planes.now.count c.loop-y.y c.loop-y.two.now c.loop-y.one.now c.loop-y.one.now c.loop-y.cur.now before.state before.planes_are in
+    let planes = planes_any conf p c.args.planes.now.count c.loop-y.y two one one cur before.state before.planes_are in
     let made = c.in_err-decode_whole_line.ensures.exact coded (p + c.args.planes.now.count) initial before.state (omega arith) before.columns_are planes before.grows in
     let inside : c.loop-y.y < lines_down conf p c.args.planes.now.row = omega (arith, height) in
     let stop = err_from_is_err_and c.from_residual.result c.from_residual.ensures.1 in
-    rw (stop.1, stop.2) (one_fails takes refuses a coded initial c.args.planes.now.row payload p c.args.planes.now.count s c.loop-y.y c.loop-y.slices.columns.items c.loop-y.slices.states.items c.loop-y.two.now c.loop-y.one.now c.loop-y.sink before (lines_down conf p c.args.planes.now.row) c.decode_whole_line.new.slices.columns.items c.in_err-decode_whole_line.field-0.0 c.decode_whole_line.new.sink inside made)
+    rw (stop.1, stop.2) (one_fails takes refuses a coded initial c.args.planes.now.row payload p c.args.planes.now.count s c.loop-y.y c.loop-y.slices.columns.items c.loop-y.slices.states.items two one c.loop-y.sink before (lines_down conf p c.args.planes.now.row) c.decode_whole_line.new.slices.columns.items c.in_err-decode_whole_line.field-0.0 c.decode_whole_line.new.sink inside made)
 
 pub loop-y-preserved : goal.loop-y-preserved
 loop-y-preserved g c =
@@ -94,6 +101,9 @@ loop-y-preserved g c =
     let conf = a.configuration in
     let p = c.args.planes.now.first in
     let payload = c.args.frame.now.payload.now in
+    let two = g.W.Word.samples c.loop-y.two.now in
+    let one = g.W.Word.samples c.loop-y.one.now in
+    let cur = g.W.Word.samples c.loop-y.cur.now in
     let takes = g.S.LineSink.takes in
     let refuses = g.S.LineSink.refuses in
     record {
@@ -106,11 +116,11 @@ loop-y-preserved g c =
       counted = c.in_ok-decode_whole_line.ensures.counted ∙ c.loop-y.invariant.counted;
       lines = λ coded initial s tied grows.
           let before = c.loop-y.invariant.lines coded initial s tied grows in
-          let planes = planes_any conf p c.args.planes.now.count c.loop-y.y c.loop-y.two.now c.loop-y.one.now c.loop-y.one.now c.loop-y.cur.now before.state before.planes_are in
+          let planes = planes_any conf p c.args.planes.now.count c.loop-y.y two one one cur before.state before.planes_are in
           let made = c.in_ok-decode_whole_line.ensures.exact coded (p + c.args.planes.now.count) initial before.state (omega arith) before.columns_are planes before.grows in
           let next : suc c.loop-y.y ≡ c.loop-y.y + 1 = omega arith in
-          subst (λ n. LinesDecoded takes refuses a coded initial c.args.planes.now.row (p + c.args.planes.now.count) payload p c.args.planes.now.count n c.decode_whole_line.new.slices.columns.items c.decode_whole_line.new.slices.states.items c.loop-y.one.now c.decode_whole_line.new.cur c.decode_whole_line.new.sink s) next
-          (one_decoded takes refuses a coded initial c.args.planes.now.row payload p c.args.planes.now.count s c.loop-y.y c.loop-y.slices.columns.items c.loop-y.slices.states.items c.loop-y.two.now c.loop-y.one.now c.loop-y.sink before c.decode_whole_line.new.slices.columns.items c.decode_whole_line.new.slices.states.items c.decode_whole_line.new.cur c.decode_whole_line.new.sink made);
+          subst (λ n. LinesDecoded takes refuses a coded initial c.args.planes.now.row (p + c.args.planes.now.count) payload p c.args.planes.now.count n c.decode_whole_line.new.slices.columns.items c.decode_whole_line.new.slices.states.items one (g.W.Word.samples c.decode_whole_line.new.cur) c.decode_whole_line.new.sink s) next
+          (one_decoded takes refuses a coded initial c.args.planes.now.row payload p c.args.planes.now.count s c.loop-y.y c.loop-y.slices.columns.items c.loop-y.slices.states.items two one c.loop-y.sink before c.decode_whole_line.new.slices.columns.items c.decode_whole_line.new.slices.states.items (g.W.Word.samples c.decode_whole_line.new.cur) c.decode_whole_line.new.sink made);
     }
 
 pub returns-clause-exact : goal.returns-clause-exact
@@ -119,6 +129,8 @@ returns-clause-exact g c = λ coded initial s tied grows.
     let conf = a.configuration in
     let p = c.args.planes.now.first in
     let payload = c.args.frame.now.payload.now in
+    let two = g.W.Word.samples c.loop-y.two.now in
+    let one = g.W.Word.samples c.loop-y.one.now in
     let takes = g.S.LineSink.takes in
     let refuses = g.S.LineSink.refuses in
     let are = c.places.ensures.down conf c.args.frame.now.checked.now.table p c.requires.frame.accepted in
@@ -129,4 +141,4 @@ returns-clause-exact g c = λ coded initial s tied grows.
     let height : c.top-bottom.result - c.top-top.result ≡ lines_down conf p c.args.planes.now.row = omega (arith, top, bottom, next) in
     let before = c.loop-y.invariant.lines coded initial s tied grows in
     let all : c.loop-y.y ≡ lines_down conf p c.args.planes.now.row = omega (arith, height) in
-    all_decoded takes refuses a coded initial c.args.planes.now.row payload p c.args.planes.now.count s c.loop-y.y c.loop-y.slices.columns.items c.loop-y.slices.states.items c.loop-y.two.now c.loop-y.one.now c.loop-y.sink before all
+    all_decoded takes refuses a coded initial c.args.planes.now.row payload p c.args.planes.now.count s c.loop-y.y c.loop-y.slices.columns.items c.loop-y.slices.states.items two one c.loop-y.sink before all

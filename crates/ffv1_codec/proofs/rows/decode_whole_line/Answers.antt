@@ -21,6 +21,9 @@ returns-in_err-read_planes-clause-exact g c = λ coded next initial s less tied 
     let a = c.args.frame.now.checked.now in
     let line = c.args.line.now in
     let payload = c.args.frame.now.payload.now in
+    let two = g.W.Word.samples c.args.above.now.two.now in
+    let one = g.W.Word.samples c.args.above.now.one.now in
+    let cur = g.W.Word.samples c.read_planes.new.cur in
     let takes = g.S.LineSink.takes in
     let refuses = g.S.LineSink.refuses in
     let columns_back : take c.args.slices.now.columns.len (c.read_planes.new.columns ++ drop (length c.read_planes.new.columns) c.args.slices.now.columns.items) ≡ c.read_planes.new.columns =
@@ -39,6 +42,9 @@ returns-in_err-finish-clause-exact g c = λ coded next initial s less tied plane
     let a = c.args.frame.now.checked.now in
     let line = c.args.line.now in
     let payload = c.args.frame.now.payload.now in
+    let two = g.W.Word.samples c.args.above.now.two.now in
+    let one = g.W.Word.samples c.args.above.now.one.now in
+    let cur = g.W.Word.samples c.read_planes.new.cur in
     let takes = g.S.LineSink.takes in
     let refuses = g.S.LineSink.refuses in
     let columns_back : take c.args.slices.now.columns.len (c.read_planes.new.columns ++ drop (length c.read_planes.new.columns) c.args.slices.now.columns.items) ≡ c.read_planes.new.columns =
@@ -53,16 +59,19 @@ returns-in_err-finish-clause-exact g c = λ coded next initial s less tied plane
     let long : length c.read_planes.new.columns ≡ a.configuration.columns = c.read_planes.auto.columns ∙ ap length c.deref_mut.ensures.value ∙ c.requires.many in
     let told = tied_told a coded line.row next payload c.read_planes.new.columns c.read_planes.new.states read.state read.columns_are c.counted_from_nothing.ensures long in
     let columns = c.accepted.ensures.columns a.configuration a.table c.requires.frame.accepted in
-    let stand = stand_read a coded line.row next payload c.read_planes.new.columns c.read_planes.new.states c.args.above.now.two.now c.args.above.now.one.now c.read_planes.new.cur line.first line.count line.y read.state read.columns_are (omega (arith, columns)) read.planes_are
+    let stand = stand_read a coded line.row next payload c.read_planes.new.columns c.read_planes.new.states two one cur line.first line.count line.y read.state read.columns_are (omega (arith, columns)) read.planes_are
     (λ p. c.places.ensures.across a.configuration a.table p c.requires.frame.accepted) in
     let p = err_from_is_err_and c.from_residual-in_err-finish.result c.from_residual-in_err-finish.ensures.1 in
-    rw (p.1, p.2) (subst (λ z. FailsIn takes refuses a coded initial line.row z (line_events a.configuration line.row (range_with_len line.first line.count) line.y) c.in_err-finish.field-0.0 c.args.sink.now s) (sym columns_back) (inl (finish_fails takes refuses a coded initial line.row next payload line.first line.count line.y s c.read_planes.new.columns c.read_planes.new.states c.args.above.now.two.now c.args.above.now.one.now c.read_planes.new.cur c.args.sink.now grows read told c.in_err-finish.field-0.0 (c.in_err-finish.ensures.exact coded read.state stand))))
+    rw (p.1, p.2) (subst (λ z. FailsIn takes refuses a coded initial line.row z (line_events a.configuration line.row (range_with_len line.first line.count) line.y) c.in_err-finish.field-0.0 c.args.sink.now s) (sym columns_back) (inl (finish_fails takes refuses a coded initial line.row next payload line.first line.count line.y s c.read_planes.new.columns c.read_planes.new.states two one cur c.args.sink.now grows read told c.in_err-finish.field-0.0 (c.in_err-finish.ensures.exact coded read.state stand))))
 
 pub returns-clause-exact : goal.returns-clause-exact
 returns-clause-exact g c = λ coded next initial s less tied planes grows.
     let a = c.args.frame.now.checked.now in
     let line = c.args.line.now in
     let payload = c.args.frame.now.payload.now in
+    let two = g.W.Word.samples c.args.above.now.two.now in
+    let one = g.W.Word.samples c.args.above.now.one.now in
+    let cur = g.W.Word.samples c.read_planes.new.cur in
     let takes = g.S.LineSink.takes in
     let refuses = g.S.LineSink.refuses in
     let columns_back : take c.args.slices.now.columns.len (c.read_planes.new.columns ++ drop (length c.read_planes.new.columns) c.args.slices.now.columns.items) ≡ c.read_planes.new.columns =
@@ -77,11 +86,11 @@ returns-clause-exact g c = λ coded next initial s less tied planes grows.
     let long : length c.read_planes.new.columns ≡ a.configuration.columns = c.read_planes.auto.columns ∙ ap length c.deref_mut.ensures.value ∙ c.requires.many in
     let told = tied_told a coded line.row next payload c.read_planes.new.columns c.read_planes.new.states read.state read.columns_are c.counted_from_nothing.ensures long in
     let columns = c.accepted.ensures.columns a.configuration a.table c.requires.frame.accepted in
-    let stand = stand_read a coded line.row next payload c.read_planes.new.columns c.read_planes.new.states c.args.above.now.two.now c.args.above.now.one.now c.read_planes.new.cur line.first line.count line.y read.state read.columns_are (omega (arith, columns)) read.planes_are
+    let stand = stand_read a coded line.row next payload c.read_planes.new.columns c.read_planes.new.states two one cur line.first line.count line.y read.state read.columns_are (omega (arith, columns)) read.planes_are
     (λ p. c.places.ensures.across a.configuration a.table p c.requires.frame.accepted) in
     let made = c.in_ok-finish.ensures.exact coded read.state stand in
-    let handed = c.hand_lines.ensures.exact coded initial c.read_planes.new.columns (finished takes refuses a coded initial line.row next payload line.first line.count line.y s c.read_planes.new.columns c.read_planes.new.states c.args.above.now.two.now c.args.above.now.one.now c.read_planes.new.cur c.args.sink.now grows read told c.finish.new.out made) (grows_finished takes refuses a coded initial line.row next payload line.first line.count line.y s c.read_planes.new.columns c.read_planes.new.states c.args.above.now.two.now c.args.above.now.one.now c.read_planes.new.cur c.args.sink.now grows read told c.finish.new.out made) (finished_told takes refuses a coded initial line.row next payload line.first line.count line.y s c.read_planes.new.columns c.read_planes.new.states c.args.above.now.two.now c.args.above.now.one.now c.read_planes.new.cur c.args.sink.now grows read told c.finish.new.out made) made.stands in
+    let handed = c.hand_lines.ensures.exact coded initial c.read_planes.new.columns (finished takes refuses a coded initial line.row next payload line.first line.count line.y s c.read_planes.new.columns c.read_planes.new.states two one cur c.args.sink.now grows read told c.finish.new.out made) (grows_finished takes refuses a coded initial line.row next payload line.first line.count line.y s c.read_planes.new.columns c.read_planes.new.states two one cur c.args.sink.now grows read told c.finish.new.out made) (finished_told takes refuses a coded initial line.row next payload line.first line.count line.y s c.read_planes.new.columns c.read_planes.new.states two one cur c.args.sink.now grows read told c.finish.new.out made) made.stands in
     MatchResult-weaker c.hand_lines.result handed
-    (λ u done. subst (λ z. LineDecoded takes refuses a coded initial line.row next payload line.first line.count line.y (take c.args.slices.now.columns.len (c.read_planes.new.columns ++ drop (length c.read_planes.new.columns) c.args.slices.now.columns.items)) z c.args.above.now.one.now c.read_planes.new.cur c.hand_lines.new.sink s) (sym states_back)
-    (subst (λ z. LineDecoded takes refuses a coded initial line.row next payload line.first line.count line.y z c.read_planes.new.states c.args.above.now.one.now c.read_planes.new.cur c.hand_lines.new.sink s) (sym columns_back) (line_decoded takes refuses a coded initial line.row next payload line.first line.count line.y s c.read_planes.new.columns c.read_planes.new.states c.args.above.now.two.now c.args.above.now.one.now c.read_planes.new.cur c.args.sink.now grows read told c.finish.new.out made (λ p. c.places.ensures.across a.configuration a.table p c.requires.frame.accepted) c.hand_lines.new.sink done)))
-    (λ f stopped. subst (λ z. FailsIn takes refuses a coded initial line.row z (line_events a.configuration line.row (range_with_len line.first line.count) line.y) f c.hand_lines.new.sink s) (sym columns_back) (inr (hand_fails takes refuses a coded initial line.row next payload line.first line.count line.y s c.read_planes.new.columns c.read_planes.new.states c.args.above.now.two.now c.args.above.now.one.now c.read_planes.new.cur c.args.sink.now grows read told c.finish.new.out made f c.hand_lines.new.sink stopped)))
+    (λ u done. subst (λ z. LineDecoded takes refuses a coded initial line.row next payload line.first line.count line.y (take c.args.slices.now.columns.len (c.read_planes.new.columns ++ drop (length c.read_planes.new.columns) c.args.slices.now.columns.items)) z one cur c.hand_lines.new.sink s) (sym states_back)
+    (subst (λ z. LineDecoded takes refuses a coded initial line.row next payload line.first line.count line.y z c.read_planes.new.states one cur c.hand_lines.new.sink s) (sym columns_back) (line_decoded takes refuses a coded initial line.row next payload line.first line.count line.y s c.read_planes.new.columns c.read_planes.new.states two one cur c.args.sink.now grows read told c.finish.new.out made (λ p. c.places.ensures.across a.configuration a.table p c.requires.frame.accepted) c.hand_lines.new.sink done)))
+    (λ f stopped. subst (λ z. FailsIn takes refuses a coded initial line.row z (line_events a.configuration line.row (range_with_len line.first line.count) line.y) f c.hand_lines.new.sink s) (sym columns_back) (inr (hand_fails takes refuses a coded initial line.row next payload line.first line.count line.y s c.read_planes.new.columns c.read_planes.new.states two one cur c.args.sink.now grows read told c.finish.new.out made f c.hand_lines.new.sink stopped)))

@@ -1,5 +1,4 @@
-use Rattle.std.proofs.Common.{rules, ◌≡◌, Some, ap}
-use Rattle.ffv1_line.specs.Coding.{RowCoding}
+use Rattle.std.proofs.Common.{rules, ◌≡◌, Some}
 use Rattle.ffv1_codec.proofs.Outcomes.{both_outcomes}
 use Rattle.ffv1_codec.proofs.SegmentReads.{Laws, segment_read, segment_refused}
 use Rattle.ffv1_codec.proofs.segment.read_segment.Goals as goal
@@ -20,13 +19,15 @@ returns-clause-exact g c = λ past base samples y stands rolls.
       below_more = c.slots-2.ensures.more;
       below_row = c.slots.ensures;
     } in
-    let set : c.coding.inside.set.now ≡ c.args.coding.now.set = ap (λ (v : RowCoding). v.set) c.coding.view_is in
-    let below = rw set at c.bounded.ensures.below in
+    let below = c.bounded.ensures.below in
+    let two = g.W.Word.samples c.args.above.now.two.now in
+    let one = g.W.Word.samples c.args.above.now.one.now in
+    let row = g.W.Word.samples c.decode-read.new.cur in
     let is : c.args.parked.now ≡ Some c.unwrap.result = search rules in
-    let lined = rw c.wake-decoder.ensures at c.decode_line-read.ensures.ok in
-    let refused = rw c.wake-decoder.ensures at c.decode_line-read.ensures.refused in
-    rw c.park.ensures (both_outcomes c.decode_line-read.result lined c.decode_line-read.ensures.inside refused
-    (λ u line. segment_read laws c.args.bytes.now c.args.coding.now.table base c.args.coding.now.set c.args.coding.now.bits past c.args.states.now c.decode_line-read.new.states c.unwrap.result c.args.parked.now c.decode_line-read.new.decoder
-    c.args.above.now.two c.args.above.now.one c.decode_line-read.new.cur samples y below c.requires.rows is stands rolls line)
-    (λ e inside stop. segment_refused laws c.args.bytes.now c.args.coding.now.table base c.args.coding.now.set c.args.coding.now.bits past c.args.states.now c.decode_line-read.new.states c.unwrap.result c.args.parked.now c.decode_line-read.new.decoder
-    c.args.above.now.two c.args.above.now.one c.decode_line-read.new.cur samples y below c.requires.rows is stands rolls e.x inside stop))
+    let lined = rw c.wake-decoder.ensures at c.decode-read.ensures.ok in
+    let refused = rw c.wake-decoder.ensures at c.decode-read.ensures.refused in
+    rw c.park.ensures (both_outcomes c.decode-read.result lined c.decode-read.ensures.inside refused
+    (λ u line. segment_read laws c.args.bytes.now c.args.coding.now.table.now base c.args.coding.now.set.now c.args.coding.now.bits past c.args.states.now c.decode-read.new.states c.unwrap.result c.args.parked.now c.decode-read.new.decoder
+    two one row samples y below c.requires.rows is stands rolls line)
+    (λ e inside stop. segment_refused laws c.args.bytes.now c.args.coding.now.table.now base c.args.coding.now.set.now c.args.coding.now.bits past c.args.states.now c.decode-read.new.states c.unwrap.result c.args.parked.now c.decode-read.new.decoder
+    two one row samples y below c.requires.rows is stands rolls e.x inside stop))

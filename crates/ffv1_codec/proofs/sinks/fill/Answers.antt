@@ -1,10 +1,10 @@
-use Rattle.std.proofs.Common.{◌≡◌, ◌≢◌, ◌+◌, ◌<◌, ◌≤◌, ◌∙◌, ap, sym, subst, refl, ℕ, List, length, get_or, slice_set, inl, inr, arith}
+use Rattle.std.proofs.Common.{◌≡◌, ◌<◌, ◌≤◌, ◌∙◌, ap, sym, subst, ℕ, List, length, get_or, slice_set, inl, inr, arith}
 use Rattle.std.specs.Vec.{vec_capacity}
 use Rattle.std.specs.declared.vec.Vec.{Vec}
 use Rattle.std.proofs.lemmas.Bool.{cases_eq}
-use Rattle.ffv1_codec.specs.Filled.{AreBegun, filled, filled_planes, plane_size}
+use Rattle.ffv1_codec.specs.Filled.{filled, filled_planes, plane_size}
 use Rattle.ffv1_codec.specs.Picture.{plane, planes_of}
-use Rattle.ffv1_codec.proofs.Filling.{all_whole, filled_long, filled_plane, filled_set, plane_kept, plane_new, set_self, still_begun}
+use Rattle.ffv1_codec.proofs.Filling.{all_whole, filled_long, plane_kept, plane_new, set_self, still_begun}
 use Rattle.ffv1_codec.proofs.LinesKept.{plane_of, planes_long}
 use Rattle.ffv1_codec.proofs.sinks.fill.Goals as goal
 

@@ -12,7 +12,7 @@ invariant-loop-y g l =
     let cell = cell_in conf l.slice.picture.now l.slice.number in
     record {
       held : AllHeld l.slice.checked.now.table l.states;
-      rolled : AllRolled conf l.slice.picture.now l.slice.number l.y l.rows;
+      rolled : AllRolled g.W.Word.samples conf l.slice.picture.now l.slice.number l.y l.rows;
       puts : PutsBehind l.slice.checked.now.table l.fn.encoder l.fn.states l.encoder l.states
           (chosen_body conf (chosen_head conf l.slice.info) cell (flat_map (planes_of_line (plane_count conf)) (range_with_len 0 l.y)));
     }

@@ -10,7 +10,7 @@ loop-y-init g c =
     let slice = c.args.slice.now in
     record {
       held = c.requires.held;
-      rolled = rolled_top (cell_in slice.checked.now.configuration slice.picture.now slice.number c.args.plane) c.cell-cell.result.width c.restart.new.rows c.rolling.ensures.top c.cell-cell.ensures.width
+      rolled = rolled_top g.W.Word.samples (cell_in slice.checked.now.configuration slice.picture.now slice.number c.args.plane) c.cell-cell.result.width c.restart.new.rows c.rolling.ensures.top c.cell-cell.ensures.width
           c.in_ok-restart.ensures.two c.in_ok-restart.ensures.one c.in_ok-restart.ensures.cur;
       puts = puts_none slice.checked.now.table c.args.encoder.now c.args.states.now;
     }
@@ -22,7 +22,7 @@ loop-y-preserved g c =
     let cell = cell_in conf slice.picture.now slice.number in
     record {
       held = c.in_ok-put_line.ensures.held;
-      rolled = rolled_next (cell c.args.plane) c.loop-y.y c.load.new.rows c.turn.new.self c.rolling.ensures.next c.load.ensures c.turn.ensures.two c.turn.ensures.one c.turn.ensures.cur;
+      rolled = rolled_next g.W.Word.samples (cell c.args.plane) c.loop-y.y c.load.new.rows c.turn.new.self c.rolling.ensures.next c.load.ensures c.turn.ensures.two c.turn.ensures.one c.turn.ensures.cur;
       puts = plane_next slice.checked.now.table _ _ _ _ _ _ conf (chosen_head conf slice.info) cell c.args.plane c.loop-y.y c.loop-y.invariant.puts (c.in_ok-put_line.ensures.ok cell c.loop-y.y c.load.ensures);
     }
 

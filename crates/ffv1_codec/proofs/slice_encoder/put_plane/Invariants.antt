@@ -11,6 +11,6 @@ invariant-loop-y g l =
     let cell = cell_in conf l.slice.picture.now l.slice.number in
     record {
       held : AllHeld l.slice.checked.now.table l.states;
-      rolled : Rolled (cell l.plane) l.y l.rows;
+      rolled : Rolled g.W.Word.samples (cell l.plane) l.y l.rows;
       puts : PutsBehind l.slice.checked.now.table l.fn.encoder l.fn.states l.encoder l.states (chosen_body conf (chosen_head conf l.slice.info) cell (lines_of_plane l.y l.plane));
     }

@@ -7,23 +7,23 @@ use Rattle.ffv1_engine.proofs.comparison.decode_rows.Goals as goal
 
 pub returns-then-not-decode_row : goal.returns-then-not-decode_row
 returns-then-not-decode_row g c =
-    let w = c.args.width in
+    let w = c.args.plane.now.width in
     let y = c.loop-y.y in
-    let samples = c.args.samples.now in
-    let rows = plane_residuals c.args.set.now w c.args.height samples in
-    let inside : y < length rows = omega (arith, c.loop-y-test.true, length-rows c.args.set.now 8 (cell_of w samples) c.args.height) in
-    let wide = sym (row_filled samples (take (y * w + w - y * w) (drop (y * w) samples)) w c.args.height y c.requires.whole c.loop-y-test.true refl) in
+    let samples = c.args.plane.now.samples.now in
+    let rows = plane_residuals c.args.set.now w c.args.plane.now.height samples in
+    let inside : y < length rows = omega (arith, c.loop-y-test.true, length-rows c.args.set.now 8 (cell_of w samples) c.args.plane.now.height) in
+    let wide = sym (row_filled samples (take (y * w + w - y * w) (drop (y * w) samples)) w c.args.plane.now.height y c.requires.whole c.loop-y-test.true refl) in
     let yes : c.decode_row.result ≡ true = c.decode_row.ensures.same c.args.states.now (cell_of w samples) rows y inside wide (row_shown samples w y) c.loop-y.invariant.stands in
     absurd (cc)
 
 pub loop-y-preserved : goal.loop-y-preserved
 loop-y-preserved g c =
-    let w = c.args.width in
+    let w = c.args.plane.now.width in
     let y = c.loop-y.y in
-    let samples = c.args.samples.now in
-    let rows = plane_residuals c.args.set.now w c.args.height samples in
-    let inside : y < length rows = omega (arith, c.loop-y-test.true, length-rows c.args.set.now 8 (cell_of w samples) c.args.height) in
-    let long = row_filled samples (take (y * w + w - y * w) (drop (y * w) samples)) w c.args.height y c.requires.whole c.loop-y-test.true refl in
+    let samples = c.args.plane.now.samples.now in
+    let rows = plane_residuals c.args.set.now w c.args.plane.now.height samples in
+    let inside : y < length rows = omega (arith, c.loop-y-test.true, length-rows c.args.set.now 8 (cell_of w samples) c.args.plane.now.height) in
+    let long = row_filled samples (take (y * w + w - y * w) (drop (y * w) samples)) w c.args.plane.now.height y c.requires.whole c.loop-y-test.true refl in
     record {
       held = c.decode_row.ensures.held;
       rows = c.decode_row.auto.states ∙ c.loop-y.invariant.rows;

@@ -9,8 +9,8 @@ abbrev pub invariant-loop-y : goal.invariant-loop-y
 invariant-loop-y g l = record {
   held : AllHeld l.table l.states;
   rows : length l.states ≡ contexts_of l.set * 32;
-  two_long : length l.rows.two.items ≡ l.width;
-  one_long : length l.rows.one.items ≡ l.width;
-  cur_long : length l.rows.cur.items ≡ l.width;
-  stands : StandsBefore l.table l.fn.states l.set (cell_of l.width l.samples) (plane_residuals l.set l.width l.height l.samples) l.y l.decoder l.states l.rows.two.items l.rows.one.items;
+  two_long : length l.rows.two.items ≡ l.plane.width;
+  one_long : length l.rows.one.items ≡ l.plane.width;
+  cur_long : length l.rows.cur.items ≡ l.plane.width;
+  stands : StandsBefore l.table l.fn.states l.set (cell_of l.plane.width l.plane.samples.now) (plane_residuals l.set l.plane.width l.plane.height l.plane.samples.now) l.y l.decoder l.states l.rows.two.items l.rows.one.items;
 }

@@ -21,7 +21,7 @@ returns-in_err-kept-clause-err g c =
 pub loop-kept-init : goal.loop-kept-init
 loop-kept-init g c =
     let none : 0 ≡ saturated 0 = omega arith in
-    let heads = heads_of _ _ _ _ c.text_head.result c.head.ensures c.config-checked.ensures c.text_head.ensures in (
+    let heads = heads_of _ _ _ _ c.text_head.result c.head.ensures.value c.config-checked.ensures c.text_head.ensures in (
       c.requires.sound,
       refl,
       zeros_kept c.args.player.now.decoder.accepted c.config-checked.result.now c.in_ok-kept.kept c.config-checked.ensures c.in_ok-kept.ensures.ok,

@@ -17,8 +17,8 @@ returns-in_err-checked-clause-err g c =
     rw (p.1, p.2)
     (lacks_record c.args.profile (passage g.R.ByteIn.remaining g.R.ByteIn.failures c.args.input.now c.open.new.input) c.in_ok-reader.reader.head c.in_ok-reader.reader.place f
     c.in_ok-reader.ensures.answer.0 (rw c.scope.ensures at c.in_ok-reader.ensures.answer.1)
-    (subst (λ (z : Head). (f ≡ record_fault.OutOfMemory) ⊎ IsRefused (greatest_depth c.args.profile) z.config_record z.width z.height f) c.head.ensures c.in_err-checked.ensures.err)
-    (λ memory. subst (λ (z : Head). ReachesSets (greatest_depth c.args.profile) z.config_record) c.head.ensures (c.in_err-checked.ensures.memory memory)))
+    (subst (λ (z : Head). (f ≡ record_fault.OutOfMemory) ⊎ IsRefused (greatest_depth c.args.profile) z.config_record z.width z.height f) c.head.ensures.value c.in_err-checked.ensures.err)
+    (λ memory. subst (λ (z : Head). ReachesSets (greatest_depth c.args.profile) z.config_record) c.head.ensures.value (c.in_err-checked.ensures.memory memory)))
 
 pub returns-in_err-reader-clause-err : goal.returns-in_err-reader-clause-err
 returns-in_err-reader-clause-err g c =
@@ -38,7 +38,7 @@ returns-in_err-reader-clause-own g c =
 
 pub returns-clause-ok : goal.returns-clause-ok
 returns-clause-ok g c = record {
-  stream = subst (λ (z : Head). IsStream c.args.profile (record { head = z; accepted = c.in_ok-checked.checked })) c.head.ensures c.in_ok-checked.ensures.ok;
+  stream = subst (λ (z : Head). IsStream c.args.profile (record { head = z; accepted = c.in_ok-checked.checked })) c.head.ensures.value c.in_ok-checked.ensures.ok;
   known = rw c.scope.ensures at c.in_ok-reader.ensures.answer.1;
   within = within_of c.args.profile c.in_ok-reader.reader.place (rw c.scope.ensures at c.in_ok-reader.ensures.avi);
   sound = c.in_ok-reader.ensures.sound;

@@ -1,4 +1,5 @@
 use Rattle.std.proofs.Common.{arith, refl}
+use Rattle.ffv1_engine.specs.Grids.{choice_for}
 use Rattle.ffv1_engine.specs.Profiles.{greatest_depth}
 use Rattle.ffv1_engine.specs.declared.profile.Profile.{Profile}
 use Rattle.ffv1_engine.specs.declared.profile.Profile.TheVariants.{Strict, Wide}
@@ -110,27 +111,27 @@ returns-clause-ppm c = same_ppm
 
 pub returns-clause-matroska_holds : goal.returns-clause-matroska_holds
 returns-clause-matroska_holds c = λ packing choice text w.
-    holds Wide (file_laws Wide c) (frame_laws c) (record_laws c) choice text w.packs.video (accepted_wide w) refl (read_wide packing choice text w) (of_matroska packing choice text w) (matroska_file w)
+    holds Wide (file_laws Wide c) (frame_laws c) (record_laws c) (choice_for choice w.packs.video.head) text w.packs.video (accepted_wide w) refl (read_wide packing choice text w) (of_matroska packing choice text w) (matroska_file w)
     (file_reads packing (frame_laws c) (record_laws c) (matroska_laws c) choice text w) MatroskaFile (file_is packing (frame_laws c) (record_laws c) (matroska_laws c) choice text w)
 
 pub returns-clause-matroska_written : goal.returns-clause-matroska_written
 returns-clause-matroska_written c = λ packing choice text w.
-    written Wide (file_laws Wide c) (frame_laws c) (record_laws c) choice text w.packs.video (accepted_wide w) refl (read_wide packing choice text w) (of_matroska packing choice text w) (matroska_file w)
+    written Wide (file_laws Wide c) (frame_laws c) (record_laws c) (choice_for choice w.packs.video.head) text w.packs.video (accepted_wide w) refl (read_wide packing choice text w) (of_matroska packing choice text w) (matroska_file w)
     (file_reads packing (frame_laws c) (record_laws c) (matroska_laws c) choice text w)
 
 pub returns-clause-matroska_refused : goal.returns-clause-matroska_refused
 returns-clause-matroska_refused c = λ packing choice text w input output f known stops.
-    unpack_refused Wide (file_laws Wide c) (frame_laws c) (record_laws c) choice text w.packs.video (accepted_wide w) refl (read_wide packing choice text w) (of_matroska packing choice text w) (matroska_file w)
+    unpack_refused Wide (file_laws Wide c) (frame_laws c) (record_laws c) (choice_for choice w.packs.video.head) text w.packs.video (accepted_wide w) refl (read_wide packing choice text w) (of_matroska packing choice text w) (matroska_file w)
     (file_reads packing (frame_laws c) (record_laws c) (matroska_laws c) choice text w) input output known f stops
 
 pub returns-clause-matroska_checked : goal.returns-clause-matroska_checked
 returns-clause-matroska_checked c = λ packing choice text w place input output f known stops.
-    check_refused Wide (file_laws Wide c) (frame_laws c) (record_laws c) choice text w.packs.video (accepted_wide w) refl (read_wide packing choice text w) (of_matroska packing choice text w) (matroska_file w)
+    check_refused Wide (file_laws Wide c) (frame_laws c) (record_laws c) (choice_for choice w.packs.video.head) text w.packs.video (accepted_wide w) refl (read_wide packing choice text w) (of_matroska packing choice text w) (matroska_file w)
     (file_reads packing (frame_laws c) (record_laws c) (matroska_laws c) choice text w) input output known place f stops
 
 pub returns-clause-matroska_shown : goal.returns-clause-matroska_shown
 returns-clause-matroska_shown c = λ packing choice text w cost input output f known stops.
-    show_refused Wide (file_laws Wide c) (frame_laws c) (record_laws c) choice text w.packs.video (accepted_wide w) refl (read_wide packing choice text w) (of_matroska packing choice text w) (matroska_file w)
+    show_refused Wide (file_laws Wide c) (frame_laws c) (record_laws c) (choice_for choice w.packs.video.head) text w.packs.video (accepted_wide w) refl (read_wide packing choice text w) (of_matroska packing choice text w) (matroska_file w)
     (file_reads packing (frame_laws c) (record_laws c) (matroska_laws c) choice text w) input output known cost f stops
 
 pub returns-clause-matroska_same : goal.returns-clause-matroska_same

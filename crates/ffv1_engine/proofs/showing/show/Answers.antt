@@ -38,7 +38,7 @@ returns-in_err-write_stream-clause-err g c =
     let f = c.in_err-write_stream.field-0.0 in
     let r = c.in_ok-reader.reader in
     let a = c.in_ok-reader.checked in
-    let writes = lines_told a output (Err f) c.head.ensures c.container.ensures c.in_err-write_stream.ensures in
+    let writes = lines_told a output (Err f) c.head.ensures.value c.container.ensures c.in_err-write_stream.ensures in
     rw (p.1, p.2) (before_costs c.args.profile input output c.args.cost f (text_stops _ _ _ _ _ _ _ _ _ r a c.in_ok-reader.ensures.ok f writes))
 
 pub returns-in_err-tell_costs-clause-err : goal.returns-in_err-tell_costs-clause-err
@@ -50,7 +50,7 @@ returns-in_err-tell_costs-clause-err g c =
     let f = c.in_err-tell_costs.field-0.0 in
     let r = c.in_ok-reader.reader in
     let a = c.in_ok-reader.checked in
-    let writes = lines_told a between (Ok c.in_ok-write_stream.field-0) c.head.ensures c.container.ensures c.in_ok-write_stream.ensures in
+    let writes = lines_told a between (Ok c.in_ok-write_stream.field-0) c.head.ensures.value c.container.ensures c.in_ok-write_stream.ensures in
     rw (p.1, p.2) (subst (λ b. ShowStops c.args.profile input output b f) (sym c.if-cost.true)
     (inr (elim c.in_err-tell_costs.ensures.err [
       | inl none ↦ no_decoder _ _ _ _ _ _ _ _ _ _ _ _ _ r a c.in_ok-reader.ensures.ok writes.0 writes.1 f none
@@ -66,7 +66,7 @@ returns-in_ok-tell_costs-clause-ok g c =
     let a = c.in_ok-reader.checked in
     let opens = c.in_ok-reader.ensures.ok in
     let told = c.in_ok-tell_costs.ensures.ok in
-    let writes = lines_told a between (Ok c.in_ok-write_stream.field-0) c.head.ensures c.container.ensures c.in_ok-write_stream.ensures in
+    let writes = lines_told a between (Ok c.in_ok-write_stream.field-0) c.head.ensures.value c.container.ensures c.in_ok-write_stream.ensures in
     let reads = reads_file c.frames_in_turn.ensures c.read_is_file.ensures.first c.read_is_file.ensures.whole c.args.profile _ _ _ (stream_of r a) r.place told.0 opens.known told.1.ends in
     subst (λ b. ShowDone c.args.profile input output b) (sym c.if-cost.true) (shows_costs _ _ _ _ _ _ _ _ _ _ _ _ _ r a opens writes.0 writes.1 told.0 told.1 reads)
 
@@ -89,7 +89,7 @@ returns-else-cost-clause-ok g c =
     let output = passage g.W.ByteOut.contents g.W.ByteOut.failures c.args.output.now c.write_stream.new.output in
     let r = c.in_ok-reader.reader in
     let a = c.in_ok-reader.checked in
-    let writes = lines_told a output (Ok c.in_ok-write_stream.field-0) c.head.ensures c.container.ensures c.in_ok-write_stream.ensures in
+    let writes = lines_told a output (Ok c.in_ok-write_stream.field-0) c.head.ensures.value c.container.ensures c.in_ok-write_stream.ensures in
     subst (λ b. ShowDone c.args.profile input output b) (sym c.if-cost.false) (shows c.args.profile _ _ _ _ _ _ _ _ r a c.in_ok-reader.ensures.ok writes.0 writes.1)
 
 pub returns-in_err-reader-clause-own : goal.returns-in_err-reader-clause-own

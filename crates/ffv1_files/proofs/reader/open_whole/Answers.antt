@@ -12,6 +12,7 @@ use Rattle.ffv1_files.specs.Answers.{StopsReading}
 use Rattle.ffv1_files.specs.Files.{open_read}
 use Rattle.ffv1_files.proofs.FirstByte.{nothing_read, other_first, same_first}
 use Rattle.ffv1_files.proofs.Openings.{avi_opens, avi_stops, matroska_opens, matroska_stops, none_short}
+use Rattle.ffv1_files.proofs.OpenedRooms.{room_with}
 use Rattle.ffv1_files.proofs.reader.open_whole.Goals as goal
 
 pub returns-in_default-clause-answer : goal.returns-in_default-clause-answer
@@ -62,3 +63,9 @@ returns-in-Err-open_all_after-clause-answer g c =
     subst (λ n. StopsReading true (open_read Whole) (between old new n after) f) c.in-Ok.ensures.counted
     (avi_stops c.in-Ok.first old (g.R.ByteIn.remaining c.read_byte.new.input) new (g.R.ByteIn.failures c.read_byte.new.input) after c.in-Ok.ensures.ok
     (other_first c.in-Ok.first 26 c.eq.result c.eq.ensures c.if-eq.false) f c.in-Err-open_all_after.ensures.answer)
+
+pub returns-in-Ok-open_after-clause-room : goal.returns-in-Ok-open_after-clause-room
+returns-in-Ok-open_after-clause-room g c = room_with c.in-Ok.first _ _ _ _ _ c.in-Ok.ensures.ok c.in-Ok-open_after.ensures.room
+
+pub returns-in-Ok-open_all_after-clause-room : goal.returns-in-Ok-open_all_after-clause-room
+returns-in-Ok-open_all_after-clause-room g c = room_with c.in-Ok.first _ _ _ _ _ c.in-Ok.ensures.ok c.in-Ok-open_all_after.ensures.room

@@ -1,6 +1,8 @@
-use Rattle.std.proofs.Common.{refl, ◌∙◌, arith}
+use Rattle.std.proofs.Common.{refl, ◌∙◌, arith, subst, sym}
 use Rattle.ffv1_range.proofs.Steps.{puts_none, puts_append}
 use Rattle.ffv1_range.proofs.Growth.{on_err}
+use Rattle.ffv1_range.specs.Counts.{Counts, Counted}
+use Rattle.ffv1_line.specs.Internal.Parts.{part_steps}
 use Rattle.ffv1_line.proofs.Beside.{places-none, places-more, place_is, refused_place}
 use Rattle.ffv1_line.proofs.encode.put_places.Goals as goal
 
@@ -31,3 +33,13 @@ loop-k-preserved g c =
       sound = puts.failed ∙ c.loop-k.invariant.sound;
       puts = rw (places-more c.args.part.now.set.now c.args.part.now.bits c.args.part.now.two.now c.args.part.now.one.now c.args.part.now.cur.now c.args.part.now.from k) (puts_append c.args.table.now _ _ _ _ _ _ _ _ c.loop-k.invariant.puts puts);
     }
+
+pub returns-in_err-put_calm-clause-kept : goal.returns-in_err-put_calm-clause-kept
+returns-in_err-put_calm-clause-kept g c =
+    let k = c.loop-k.k in
+    on_err c.from_residual.result
+    (record {
+      first = k;
+      few = λ some. c.loop-k-test.true;
+      counted = subst (λ (n : Counts). Counted c.args.encoder.now.counts (part_steps c.args.part.now k) n) (sym c.in_err-put_calm.ensures.kept) c.loop-k.invariant.puts.counts;
+    })

@@ -14,23 +14,24 @@ use Rattle.ffv1_matroska.specs.Tracks.{Track}
 use Rattle.ffv1_matroska.specs.declared.place.Place.{Place}
 use Rattle.ffv1_matroska.proofs.Beginnings.{Over, closes, cluster_given, cluster_refused, end_given, end_refused, no_tracks, other_element}
 use Rattle.ffv1_matroska.proofs.Steps.{fewer}
+use Rattle.ffv1_reads.proofs.Rooms.{room_none, room_or_none, room_then}
 use Rattle.ffv1_matroska.proofs.beginning.read_beginning.Goals as goal
 
 pub loop-element-init : goal.loop-element-init
-loop-element-init g c = (amount c.args.place, omega arith, goes_none (begin_read c.args.place) (g.R.ByteIn.remaining c.args.input.now) (g.R.ByteIn.failures c.args.input.now))
+loop-element-init g c = (amount c.args.place, omega arith, goes_none (begin_read c.args.place) (g.R.ByteIn.remaining c.args.input.now) (g.R.ByteIn.failures c.args.input.now), room_none _ _)
 
-pub returns-in_err-element : goal.returns-in_err-element
+pub returns-in_err-element-clause-answer : goal.returns-in_err-element-clause-answer
 unfolding begin_up_to
-returns-in_err-element g c =
+returns-in_err-element-clause-answer g c =
     let p = err_from_is_err_and c.from_residual.result c.from_residual.ensures.1 in
     let inv = c.loop-element.invariant in
     let here = c.loop-element.here in
     let found = found_kept c.loop-element.found c.loop-element.config.items in
     rw (p.1, p.2) (closes_refused fault.NoTracks Over (header_read here) (element_or_begun (begin_up_to inv.0) found here) _ _ c.in_err-element.field-0.0 (closes (begin_up_to inv.0) found here) inv.2 c.in_err-element.ensures.answer)
 
-pub returns-in_default-found : goal.returns-in_default-found
+pub returns-in_default-found-clause-answer : goal.returns-in_default-found-clause-answer
 unfolding begin_up_to
-returns-in_default-found g c =
+returns-in_default-found-clause-answer g c =
     let inv = c.loop-element.invariant in
     let here = c.loop-element.here in
     let e = c.in-Some.element in
@@ -40,9 +41,9 @@ returns-in_default-found g c =
     let is : (e.ident == cluster) ≡ true = eq-eqb _ _ (omega (arith, c.if-element-eq-CLUSTER.true)) in
     inl (goes_fault fault.NoTracks (goes_same _ (refused fault.NoTracks) (cluster_refused on here e is) next) (refl, faults_here (Track × Place) fault.NoTracks _))
 
-pub returns-then-element-eq-CLUSTER : goal.returns-then-element-eq-CLUSTER
+pub returns-then-element-eq-CLUSTER-clause-answer : goal.returns-then-element-eq-CLUSTER-clause-answer
 unfolding begin_up_to
-returns-then-element-eq-CLUSTER g c =
+returns-then-element-eq-CLUSTER-clause-answer g c =
     let inv = c.loop-element.invariant in
     let here = c.loop-element.here in
     let e = c.in-Some.element in
@@ -55,9 +56,9 @@ returns-then-element-eq-CLUSTER g c =
     let read = goes_given (track, place) (goes_same _ (given (track, place)) (cluster_given on track here e is) next) in
     rw (c.in_cluster.ensures, c.segment_at-after.ensures) (read.0, inl read.1)
 
-pub returns-in_err-found : goal.returns-in_err-found
+pub returns-in_err-found-clause-answer : goal.returns-in_err-found-clause-answer
 unfolding begin_up_to
-returns-in_err-found g c =
+returns-in_err-found-clause-answer g c =
     let p = err_from_is_err_and c.from_residual-in_err-found.result c.from_residual-in_err-found.ensures.1 in
     let inv = c.loop-element.invariant in
     let here = c.loop-element.here in
@@ -67,7 +68,7 @@ returns-in_err-found g c =
     let next = none_read (header_read here) (element_or_begun on found here) _ _ e inv.2 (rw c.in-Some.is at c.in_ok-element.ensures.answer) in
     let other : (e.ident == cluster) ≡ false = ne_eqb _ _ (λ z. omega (arith, z, c.if-element-eq-CLUSTER.false)) in
     let after = segment_at here false e.left in
-    rw (p.1, p.2) (faults_refused fault.NoTracks Over (tracks_or_passed found e.ident e.size) (λ now. on now after) _ _ c.in_err-found.field-0.0 (goes_same _ (tracks_or_passed found e.ident e.size >>= λ now. on now after) (other_element on found here e other) next) c.in_err-found.ensures)
+    rw (p.1, p.2) (faults_refused fault.NoTracks Over (tracks_or_passed found e.ident e.size) (λ now. on now after) _ _ c.in_err-found.field-0.0 (goes_same _ (tracks_or_passed found e.ident e.size >>= λ now. on now after) (other_element on found here e other) next) c.in_err-found.ensures.answer)
 
 pub loop-element-preserved : goal.loop-element-preserved
 unfolding begin_up_to
@@ -82,27 +83,33 @@ loop-element-preserved g c =
     let other : (e.ident == cluster) ≡ false = ne_eqb _ _ (λ z. omega (arith, z, c.if-element-eq-CLUSTER.false)) in
     let after = segment_at here false e.left in
     let passed = goes_same _ (tracks_or_passed found e.ident e.size >>= λ now. on now after) (other_element on found here e other) next in
-    let visited = goes_read (tracks_or_passed found e.ident e.size) (λ now. on now after) _ _ now passed c.in_ok-found.ensures in
+    let visited = goes_read (tracks_or_passed found e.ident e.size) (λ now. on now after) _ _ now passed c.in_ok-found.ensures.answer in
     let within = rw c.in-Some.is at c.in_ok-element.ensures.within in
     let some = rw c.in-Some.is at c.in_ok-element.ensures.some in
     let f = fewer inv.0 (amount after) (amount here) inv.1 (omega (arith, within.0, some)) in
-    rw c.segment_at-after.ensures (f.0, f.1, rw f.2 at visited)
+    rw c.segment_at-after.ensures (f.0, f.1, rw f.2 at visited, room_then inv.3 (room_then (room_or_none (header_read here) _ _ _ _ c.in_ok-element.ensures.answer.1) c.in_ok-found.ensures.grown))
 
-pub returns-in_default-found-2 : goal.returns-in_default-found-2
+pub returns-in_default-found-2-clause-answer : goal.returns-in_default-found-2-clause-answer
 unfolding begin_up_to
-returns-in_default-found-2 g c =
+returns-in_default-found-2-clause-answer g c =
     let inv = c.loop-element.invariant in
     let here = c.loop-element.here in
     let on = begin_up_to inv.0 in
     let goes = rw c.in_default-found-2.is at inv.2 in
     no_tracks Over (closes_fault (header_read here) (element_or_begun on None here) _ _ fault.NoTracks (end_refused on here) goes (rw c.in_default.is at c.in_ok-element.ensures.answer))
 
-pub returns : goal.returns
+pub returns-clause-answer : goal.returns-clause-answer
 unfolding begin_up_to
-returns g c =
+returns-clause-answer g c =
     let inv = c.loop-element.invariant in
     let here = c.loop-element.here in
     let on = begin_up_to inv.0 in
     let track = track_kept c.in-Some-found-2.numbers c.loop-element.config.items in
     let goes = rw c.in-Some-found-2.is at inv.2 in
     rw c.ended.ensures (closes_given Over (header_read here) (element_or_begun on (Some track) here) _ _ (track, ended) refl (end_given on track here) goes (rw c.in_default.is at c.in_ok-element.ensures.answer))
+
+pub returns-then-element-eq-CLUSTER-clause-grown : goal.returns-then-element-eq-CLUSTER-clause-grown
+returns-then-element-eq-CLUSTER-clause-grown g c = room_then c.loop-element.invariant.3 (room_or_none (header_read c.loop-element.here) _ _ _ _ c.in_ok-element.ensures.answer.1)
+
+pub returns-clause-grown : goal.returns-clause-grown
+returns-clause-grown g c = room_then c.loop-element.invariant.3 (room_or_none (header_read c.loop-element.here) _ _ _ _ c.in_ok-element.ensures.answer.1)

@@ -1,4 +1,6 @@
 use Rattle.std.specs.Prelude.{ℕ, suc, ◌≤◌}
+use Rattle.std.specs.Vec.{vec_capacity}
+use Rattle.ffv1_reads.specs.Room.{RoomRead}
 use Rattle.ffv1_reads.proofs.Reading.{Goes}
 use Rattle.ffv1_matroska.specs.Internal.{found_kept}
 use Rattle.ffv1_matroska.specs.Opened.{begin_read, begin_up_to}
@@ -10,6 +12,7 @@ invariant-loop-element g l =
     (k : ℕ) × (amount l.here ≤ k)
     × Goes (begin_read l.fn.place) (g.R.ByteIn.remaining l.initial.input) (g.R.ByteIn.failures l.initial.input)
     (begin_up_to (suc k) (found_kept l.found l.config.items) l.here) (g.R.ByteIn.remaining l.input) (g.R.ByteIn.failures l.input)
+    × RoomRead (g.R.ByteIn.remaining l.initial.input) (g.R.ByteIn.remaining l.input) (vec_capacity l.initial.config) (vec_capacity l.config)
 
 abbrev pub decreases-loop-element : goal.decreases-loop-element
 decreases-loop-element g l = amount l.here

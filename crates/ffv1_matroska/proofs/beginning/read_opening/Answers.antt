@@ -12,6 +12,7 @@ use Rattle.ffv1_matroska.specs.Readers.{HasEnded}
 use Rattle.ffv1_matroska.specs.Tracks.{Track}
 use Rattle.ffv1_matroska.specs.declared.place.Place.{Place}
 use Rattle.ffv1_matroska.proofs.Beginnings.{Over}
+use Rattle.ffv1_reads.proofs.Rooms.{room_kept, room_then}
 use Rattle.ffv1_matroska.proofs.beginning.read_opening.Goals as goal
 
 abbrev made : Option ℕ → Track × Place → Opened
@@ -20,38 +21,41 @@ made size p = record { track = p.0; segment = size; place = p.1 }
 abbrev behind : Unit {0} → Reading Opened
 behind _ = segment_entered >>= segment_opened
 
-pub returns-in_err-read_ebml : goal.returns-in_err-read_ebml
+pub returns-in_err-read_ebml-clause-answer : goal.returns-in_err-read_ebml-clause-answer
 unfolding open_read
-returns-in_err-read_ebml g c =
+returns-in_err-read_ebml-clause-answer g c =
     let p = err_from_is_err_and c.from_residual.result c.from_residual.ensures.1 in
     let start = goes_none open_read (bytes_with c.args.first (g.R.ByteIn.remaining c.args.input.now)) (g.R.ByteIn.failures c.args.input.now) in
     rw (p.1, p.2) (faults_refused fault.NoTracks HasEnded ebml_read behind _ _ c.in_err-read_ebml.field-0.0 start c.in_err-read_ebml.ensures)
 
-pub returns-in_err-size : goal.returns-in_err-size
+pub returns-in_err-size-clause-answer : goal.returns-in_err-size-clause-answer
 unfolding open_read
-returns-in_err-size g c =
+returns-in_err-size-clause-answer g c =
     let p = err_from_is_err_and c.from_residual-in_err-size.result c.from_residual-in_err-size.ensures.1 in
     let start = goes_none open_read (bytes_with c.args.first (g.R.ByteIn.remaining c.args.input.now)) (g.R.ByteIn.failures c.args.input.now) in
     let next = goes_read ebml_read behind _ _ (tt {0}) start c.in_ok-read_ebml.ensures in
     rw (p.1, p.2) (faults_refused fault.NoTracks HasEnded segment_entered segment_opened _ _ c.in_err-size.field-0.0 next c.in_err-size.ensures)
 
-pub returns-in_err-numbers : goal.returns-in_err-numbers
+pub returns-in_err-numbers-clause-answer : goal.returns-in_err-numbers-clause-answer
 unfolding open_read
-returns-in_err-numbers g c =
+returns-in_err-numbers-clause-answer g c =
     let p = err_from_is_err_and c.from_residual-in_err-numbers.result c.from_residual-in_err-numbers.ensures.1 in
     let start = goes_none open_read (bytes_with c.args.first (g.R.ByteIn.remaining c.args.input.now)) (g.R.ByteIn.failures c.args.input.now) in
     let next = goes_read ebml_read behind _ _ (tt {0}) start c.in_ok-read_ebml.ensures in
     let size = c.in_ok-size.size in
     let entered = goes_read segment_entered segment_opened _ _ size next c.in_ok-size.ensures in
-    let why = rw c.begin_segment.ensures at c.in_err-numbers.ensures in
+    let why = rw c.begin_segment.ensures at c.in_err-numbers.ensures.answer in
     rw (p.1, p.2) (made_refused fault.NoTracks Over HasEnded (begin_read (segment_begun size)) (made size) _ _ c.in_err-numbers.field-0.0 (λ p is. is) entered why)
 
-pub returns : goal.returns
+pub returns-clause-answer : goal.returns-clause-answer
 unfolding open_read
-returns g c =
+returns-clause-answer g c =
     let start = goes_none open_read (bytes_with c.args.first (g.R.ByteIn.remaining c.args.input.now)) (g.R.ByteIn.failures c.args.input.now) in
     let next = goes_read ebml_read behind _ _ (tt {0}) start c.in_ok-read_ebml.ensures in
     let size = c.in_ok-size.size in
     let entered = goes_read segment_entered segment_opened _ _ size next c.in_ok-size.ensures in
-    let read = rw c.begin_segment.ensures at c.in_ok-numbers.ensures in
+    let read = rw c.begin_segment.ensures at c.in_ok-numbers.ensures.answer in
     made_read Over HasEnded (begin_read (segment_begun size)) (made size) _ _ (track_kept c.in_ok-numbers.numbers c.read_beginning.new.config.items, c.in_ok-numbers.place) (λ p is. is) entered read
+
+pub returns-clause-grown : goal.returns-clause-grown
+returns-clause-grown g c = room_then (room_kept _ c.in_ok-read_ebml.ensures.1) (room_then (room_kept _ c.in_ok-size.ensures.1) c.in_ok-numbers.ensures.grown)

@@ -1,5 +1,4 @@
 use Rattle.std.proofs.Common.{length}
-use Rattle.ffv1_record.specs.Configuration.{is_rct}
 use Rattle.ffv1_record.proofs.Checks.{depth_bounds, sized, divided, subsampled, fits_grid, counted}
 use Rattle.ffv1_record.proofs.laws.accepted.Goals as goal
 
@@ -10,7 +9,7 @@ returns-clause-sizes c = λ x t is.
 
 pub returns-clause-depth : goal.returns-clause-depth
 returns-clause-depth c = λ x t is.
-    let bounds = depth_bounds 16 (is_rct x.colour) x.depth is.depth in
+    let bounds = depth_bounds 16 x.depth is.depth in
     (bounds.0, bounds.1)
 
 pub returns-clause-factors : goal.returns-clause-factors

@@ -1,11 +1,10 @@
 use Rattle.std.proofs.Common.{arith}
-use Rattle.ffv1_record.specs.Configuration.{is_rct}
 use Rattle.ffv1_record.proofs.Checks.{depth_bounds}
 use Rattle.ffv1_record.proofs.read.read_record.Goals as goal
 
 pub returns-in-Ok-clause-depth : goal.returns-in-Ok-clause-depth
 returns-in-Ok-clause-depth g c =
-    let bounds = depth_bounds 8 (is_rct c.in-Ok.checked.configuration.colour) c.in-Ok.checked.configuration.depth c.in-Ok.ensures.depth in
+    let bounds = depth_bounds 8 c.in-Ok.checked.configuration.depth c.in-Ok.ensures.depth in
     let least = bounds.0 in
     let most = bounds.2 in
     omega (arith, least, most)

@@ -6,7 +6,7 @@ use Rattle.std.proofs.lemmas.Result.{err_from_is_err_and}
 use Rattle.ffv1_range.specs.Codes.{AreBytes}
 use Rattle.ffv1_record.specs.Record.{body_of}
 use Rattle.ffv1_record.specs.Reading.{beginning}
-use Rattle.ffv1_record.specs.Configuration.{Configuration, configuration_of, at_depth, is_rct}
+use Rattle.ffv1_record.specs.Configuration.{Configuration, configuration_of, at_depth}
 use Rattle.ffv1_record.specs.Parity.{remainder_of}
 use Rattle.ffv1_record.proofs.ReadIsRecord.{first_of, record_found, found_width, found_height, not_read, not_checked, seen, seen_err}
 use Rattle.ffv1_record.proofs.CallsGive.{told}
@@ -64,7 +64,7 @@ returns-in-Err-clause-only g c = λ x t wide high low is stored.
     let are : AreBytes (body_of c.args.bytes.now) = taken_bytes c.args.bytes.now (length c.args.bytes.now - 4) (λ k. omega (arith, c.type_inv.bytes k)) in
     let same = read_is c.args.bytes.now are x t is stored _ low c.args.width c.args.height wide high _ _ c.in_ok-reader.ensures.ok _ (seen (λ r. at_depth (configuration_of r.0) r.1) _ _ _ _ (rw c.deepest-greatest.ensures at c.in_ok-read.ensures.gives)) in
     let most = deepest c.args.profile c.args.most in
-    let deep = depth_up_to 16 most (is_rct x.colour) x.depth is.depth low in
+    let deep = depth_up_to 16 most x.depth is.depth low in
     absurd (none_stands checks x c.in-Err.fault is.passes (first_of most x c.in-Err.fault deep (subst (λ (z : Configuration). IsFirstUpTo most z c.in-Err.fault) same c.in-Err.ensures.refused)))
 
 pub returns-in_err-read-clause-memory : goal.returns-in_err-read-clause-memory

@@ -12,6 +12,7 @@ const PLAIN: Choice = Choice {
     large: false,
     columns: 1,
     rows: 1,
+    default_grid: false,
     ec: false,
     rate: 50,
     scale: 2,

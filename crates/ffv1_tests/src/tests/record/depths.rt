@@ -105,10 +105,10 @@ fn mono_bits(rt: HostRuntime) {
 #[test]
 fn colour_bits(rt: HostRuntime) {
     let (alloc, wide) = (rt.alloc(), Profile::Wide);
-    for bits in [0u16, 8, 9, 10, 12, 14] {
+    for bits in [0u16, 8, 9, 10, 12, 14, 16] {
         assert!(rt; fault_of(alloc, bits, true, wide, 16) == Ok(None));
     }
-    assert!(rt; fault_of(alloc, 16, true, wide, 16) == Ok(Some(RecordFault::Depth)));
+    assert!(rt; fault_of(alloc, 17, true, wide, 16) == Ok(Some(RecordFault::Depth)));
 }
 
 #[test]
@@ -161,12 +161,10 @@ fn colours(alloc: Global, width: u32, rct: bool) -> Result<Config, RecordFault> 
 #[test]
 fn checked_depths(rt: HostRuntime) {
     let alloc = rt.alloc();
-    for depth in [8, 9, 10, 12, 14] {
+    for depth in [8, 9, 10, 12, 14, 16] {
         assert!(rt; fault_at(alloc, 1, false, depth).is_none());
         assert!(rt; fault_at(alloc, 1, true, depth).is_none());
     }
-    assert!(rt; fault_at(alloc, 1, false, 16).is_none());
-    assert!(rt; fault_at(alloc, 1, true, 16) == Some(RecordFault::Depth));
     for depth in [0, 7, 11, 13, 15, 17] {
         assert!(rt; fault_at(alloc, 1, false, depth) == Some(RecordFault::Depth));
         assert!(rt; fault_at(alloc, 0, false, depth) == Some(RecordFault::Size));

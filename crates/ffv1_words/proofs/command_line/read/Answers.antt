@@ -1,4 +1,4 @@
-use Rattle.std.proofs.Common.{◌≡◌, ◌∙◌, ◌⊎◌, inl, inr, sym, ap, ap₂, subst, map, List, option_map, Option, Some, None, refl, true, false}
+use Rattle.std.proofs.Common.{◌≡◌, ◌∙◌, ◌⊎◌, inl, inr, sym, ap, ap₂, subst, map, List, [], option_map, Option, Some, None, refl, true, false}
 use Rattle.std.proofs.lemmas.Result.{IfErr-weaker, IfOk-weaker, err_from_is_err_and}
 use Rattle.clap.specs.Words.{HasKind, Row, Text, is_simple, is_simple_and_free, fault_of, kind_of, takes, subcommand_of, rows_of, found_of}
 use Rattle.clap.proofs.OnLiterals.{clap_on_literals}
@@ -19,7 +19,7 @@ free : (contexts containers : Words) → is_simple_and_free (line_app contexts c
 unfolding clap_on_literals
 free contexts containers = refl
 
--- a subcommand's name and its rows, which are told one by one
+-- a subcommand's name and its rows, which are answered one by one
 both_told : {X : Type 0} (s : Option X) (f : X → Text × List Row) (t : Text) (rs : List Row) → Some t ≡ option_map (λ x. (f x).0) s → Some rs ≡ option_map (λ p. p.1) (option_map f s) → option_map f s ≡ Some (t, rs)
 both_told None f t rs h k = absurd (cc)
 both_told (Some x) f t rs h k =
@@ -62,6 +62,12 @@ returns-in-Some-order_of-clause-ok c =
     (λ o told. (subst (λ x. Names x (subcommand_of (line_app c.args.contexts c.args.containers) texts)) (sym told.0) (named c), told.1))
     c.without_conflict.ensures.ok
 
+-- clap refuses no such line
+no_fault : (c : goal.Joined-matches-2) → fault_of (line_app c.args.contexts c.args.containers) (map (λ w. w.now) c.args.words.now) ≡ []
+no_fault c =
+    let app = c.in_ok-line_command.ensures.0 in
+    sym (ap (λ a. fault_of a (map (λ w. w.now) c.args.words.now)) app) ∙ c.in_ok-matches.ensures.kinds (ap is_simple_and_free app ∙ free c.args.contexts c.args.containers)
+
 -- why it was refused
 abbrev Refusal : Order → Error → Type 0
 Refusal o e = (kind_of e ≡ kind.OutOfMemory) ⊎ ((kind_of e ≡ kind.ArgumentConflict) × (is_in_conflict o ≡ true))
@@ -72,7 +78,7 @@ returns-in-Some-order_of-clause-err c =
     IfErr-weaker c.without_conflict.result (Refusal c.in-Some-order_of.order) (IsRefused (line_app c.args.contexts c.args.containers) texts)
     (λ e why. elim why [
       | inl memory ↦ inl (inl memory)
-      | inr conflict ↦ inr (inr (conflict.0, c.in-Some-order_of.order, named c, conflict.1))
+      | inr conflict ↦ inr (no_fault c, inr (conflict.0, c.in-Some-order_of.order, named c, conflict.1))
     ])
     c.without_conflict.ensures.err
 
@@ -105,7 +111,11 @@ no_order c =
     ]
 
 pub returns-clause-err : goal.returns-clause-err
-returns-clause-err c = inr (inl (no_order c))
+returns-clause-err c =
+    let app = c.in_ok-line_command.ensures.0 in
+    let none : fault_of (line_app c.args.contexts c.args.containers) (map (λ w. w.now) c.args.words.now) ≡ [] =
+    sym (ap (λ a. fault_of a (map (λ w. w.now) c.args.words.now)) app) ∙ c.in_ok-matches.ensures.kinds (ap is_simple_and_free app ∙ free c.args.contexts c.args.containers) in
+    inr (none, inl (c.in_ok-refusal.ensures, no_order c))
 
 pub returns-clause-taken : goal.returns-clause-taken
 returns-clause-taken c = λ taken.

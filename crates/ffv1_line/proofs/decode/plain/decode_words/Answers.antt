@@ -1,4 +1,4 @@
-use Rattle.std.proofs.Common.{ℕ, ◌≡◌, ◌+◌, ◌-◌, ◌∙◌, ap, refl, subst, sym, min, length, slice_index, arith}
+use Rattle.std.proofs.Common.{ℕ, ◌≡◌, ◌+◌, ◌-◌, ◌∙◌, ap, subst, min, length, slice_index, arith}
 use Rattle.ffv1_line.proofs.Rows.{stands_first, stands_next, lined_none, lined_next, lined_refused, same_from_start, same_from_next}
 use Rattle.ffv1_range.specs.Follows.{Follows}
 use Rattle.ffv1_line.specs.Row.{refused_steps}

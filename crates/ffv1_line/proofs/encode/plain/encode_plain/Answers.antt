@@ -1,4 +1,4 @@
-use Rattle.std.proofs.Common.{◌≡◌, refl, ◌∙◌, ap, sym, ◌+◌, ◌-◌, ◌≤◌, length, get_or, arith, rules, ℕ, suc, List}
+use Rattle.std.proofs.Common.{◌≡◌, refl, ◌∙◌, ap, sym, ◌+◌, ◌-◌, length, get_or, arith, rules, ℕ, suc, List}
 use Rattle.std.proofs.lemmas.Int.{to_z-of_z}
 use Rattle.std.specs.Int.{w32}
 use mir.Val.{SFits}
@@ -6,7 +6,7 @@ use Rattle.ffv1_range.proofs.Growth.{on_err}
 use Rattle.ffv1_plane.specs.declared.prediction.Around.{Around}
 use Rattle.ffv1_line.specs.Beside.{before, two_before}
 use Rattle.ffv1_line.proofs.Rows.{scalars, written_none}
-use Rattle.ffv1_line.proofs.Beside.{beside_by, placed, written_place, refused_after}
+use Rattle.ffv1_line.proofs.Beside.{beside_by, placed, written_place, refused_after, counts_block, counts_no_places}
 use Rattle.ffv1_line.proofs.encode.plain.encode_plain.Goals as goal
 
 before_after : (above row : List ℕ) (x : ℕ) → get_or row x 0 ≡ before above row (x + 1)
@@ -78,3 +78,16 @@ returns-in_err-put_signed_in_row-clause-refused g c =
     let refused = rw place at (simp to_z-of_z at c.in_err-put_signed_in_row.ensures.refused) in
     rw (← cur_is)
     (on_err c.from_residual.result (refused_after _ _ _ _ _ _ _ two one cur x (omega (arith, cur_is)) one_long c.loop-x.invariant.written refused))
+
+pub returns-in_err-put_signed_in_row-clause-kept : goal.returns-in_err-put_signed_in_row-clause-kept
+returns-in_err-put_signed_in_row-clause-kept g c =
+    let x = c.loop-x.x in
+    let two = g.W.Word.samples c.args.two.now in
+    let one = g.W.Word.samples c.args.one.now in
+    let cur = g.W.Word.samples c.args.cur.now in
+    let one_is = g.met.W.Word.lengths c.args.one.now in
+    let cur_is = g.met.W.Word.lengths c.args.cur.now in
+    let one_long : length one ≡ length cur = omega (arith, one_is, cur_is, c.requires.one_long) in
+    on_err c.from_residual.result
+    (counts_block _ _ _ _ _ _ _ _ two one cur x 0 (omega (arith, cur_is)) one_long c.loop-x.invariant.written
+    (counts_no_places c.args.way.now.set.now c.args.way.now.bits two one cur x _ _ c.in_err-put_signed_in_row.ensures.kept))

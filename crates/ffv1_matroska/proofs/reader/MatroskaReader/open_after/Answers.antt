@@ -5,4 +5,4 @@ use Rattle.ffv1_matroska.proofs.reader.MatroskaReader.open_after.Goals as goal
 pub returns-in_err-segment-clause-own : goal.returns-in_err-segment-clause-own
 returns-in_err-segment-clause-own g c =
     let p = err_from_is_err_and c.from_residual.result c.from_residual.ensures.1 in
-    rw (p.1, p.2) (opening_own _ _ _ _ c.in_err-segment.field-0.0 c.in_err-segment.ensures)
+    rw (p.1, p.2) (opening_own _ _ _ _ c.in_err-segment.field-0.0 c.in_err-segment.ensures.answer)

@@ -1,15 +1,13 @@
 use Rattle.std.proofs.Common.{sym, IsTrue}
-use Rattle.ffv1_record.specs.Configuration.{configuration_of, is_rct}
 use Rattle.ffv1_record.specs.Accepted.{is_depth}
 use Rattle.ffv1_record.proofs.Checks.{depth_bounds, depth_up_to}
 use Rattle.ffv1_record.proofs.config.Config.judged.Goals as goal
 
 pub returns-clause-accepted : goal.returns-clause-accepted
 returns-clause-accepted g c =
-    let colour = is_rct (configuration_of c.args.self.now).colour in
-    let deep : IsTrue (is_depth c.args.most colour c.args.depth) = rw c.is_rct.ensures at (sym c.if-not-is_depth.ensures) in
+    let deep : IsTrue (is_depth c.args.most c.args.depth) = sym c.if-not-is_depth.ensures in
     record {
-      depth = depth_up_to c.args.most 16 colour c.args.depth deep (depth_bounds c.args.most colour c.args.depth deep).1;
+      depth = depth_up_to c.args.most 16 c.args.depth deep (depth_bounds c.args.most c.args.depth deep).1;
       passes = (sym c.if-not-is_sized.ensures, (sym c.if-not-is_subsampled.ensures, (sym c.if-not-is_transparent.ensures, (sym c.if-not-are_counted.ensures.value, ((c.in-Ok.table, c.in-Ok.ensures.ok), (sym c.if-not-is_divided.ensures, (c.is_aligned.ensures.0 c.if-not-is_aligned.false, tt)))))));
       table = c.in-Ok.ensures.ok;
       closed = c.in-Ok.ensures.closed;

@@ -1,0 +1,64 @@
+-- What is left of a search through a list.
+use Rattle.std.proofs.Common.{◌≡◌, refl, ℕ, suc, ◌+◌, ◌&&◌, Bool, true, false, if◌then◌else◌, cond, Option, Some, None, List, ◌∷◌, map, ap, ◌∙◌}
+use Rattle.std.specs.Prelude.{find, flat_map}
+use Rattle.std.specs.Option.{option_or}
+use Rattle.std.specs.List.{filter, list_all, range_with_len}
+use Rattle.std.proofs.lemmas.List.Concat.{flat_map-cons}
+use Rattle.std.proofs.lemmas.List.Folds.{find-append}
+
+-- ---- of numbers that all pass
+
+module _ (p : ℕ → Bool) (k n m : ℕ) (e : n ≡ suc m) where
+  pub all_more : p k ≡ true → list_all p (range_with_len k n) ≡ list_all p (range_with_len (k + 1) m)
+  all_more is = ap (λ x. list_all p (range_with_len k x)) e ∙ ap (λ b. b && list_all p (range_with_len (k + 1) m)) is
+
+  pub all_fails : p k ≡ false → list_all p (range_with_len k n) ≡ false
+  all_fails is = ap (λ x. list_all p (range_with_len k x)) e ∙ ap (λ b. b && list_all p (range_with_len (k + 1) m)) is
+
+pub all_over : (p : ℕ → Bool) (k n : ℕ) → n ≡ 0 → list_all p (range_with_len k n) ≡ true
+all_over p k n e = ap (λ x. list_all p (range_with_len k x)) e
+
+-- ---- of the first that passes two tests
+
+module _ {X : Type 0} (p q : X → Bool) where
+  skips : (x : X) (xs : List X) → (q x && p x) ≡ false → find p (filter q (x ∷ xs)) ≡ find p (filter q xs)
+  skips x xs e = go (q x) e
+    where
+      go : (a : Bool) → (a && p x) ≡ false → find p (if a then x ∷ filter q xs else filter q xs) ≡ find p (filter q xs)
+      go true h = ap (λ b. cond b (Some x) (find p (filter q xs))) h
+      go false h = refl
+
+  takes : (x : X) (xs : List X) → q x ≡ true → p x ≡ true → find p (filter q (x ∷ xs)) ≡ Some x
+  takes x xs is so = ap (λ a. find p (if a then x ∷ filter q xs else filter q xs)) is ∙ ap (λ b. cond b (Some x) (find p (filter q xs))) so
+
+  module _ (f : ℕ → X) where
+    abbrev pub left_of : ℕ → ℕ → Option X
+    left_of k n = find p (filter q (map f (range_with_len k n)))
+
+    pub left_more : (k n m : ℕ) → n ≡ suc m → (q (f k) && p (f k)) ≡ false → left_of k n ≡ left_of (k + 1) m
+    left_more k n m e h = ap (left_of k) e ∙ skips (f k) (map f (range_with_len (k + 1) m)) h
+
+    pub left_found : (k n m : ℕ) → n ≡ suc m → q (f k) ≡ true → p (f k) ≡ true → left_of k n ≡ Some (f k)
+    left_found k n m e is so = ap (left_of k) e ∙ takes (f k) (map f (range_with_len (k + 1) m)) is so
+
+    pub left_none : (k n : ℕ) → n ≡ 0 → left_of k n ≡ None
+    left_none k n e = ap (left_of k) e
+
+-- ---- of the first in a list of lists
+
+module _ {X : Type 0} (p : X → Bool) (f : ℕ → List X) where
+  abbrev pub left_in : ℕ → ℕ → Option X
+  left_in k n = find p (flat_map f (range_with_len k n))
+
+  begins : (k n m : ℕ) → n ≡ suc m → left_in k n ≡ option_or (find p (f k)) (left_in (k + 1) m)
+  begins k n m e =
+      ap (left_in k) e ∙ ap (find p) (flat_map-cons f k (range_with_len (k + 1) m)) ∙ find-append p (f k) (flat_map f (range_with_len (k + 1) m))
+
+  pub lists_more : (k n m : ℕ) → n ≡ suc m → find p (f k) ≡ None → left_in k n ≡ left_in (k + 1) m
+  lists_more k n m e none = begins k n m e ∙ ap (λ o. option_or o (left_in (k + 1) m)) none
+
+  pub lists_found : (k n m : ℕ) (x : X) → n ≡ suc m → find p (f k) ≡ Some x → left_in k n ≡ Some x
+  lists_found k n m x e some = begins k n m e ∙ ap (λ o. option_or o (left_in (k + 1) m)) some
+
+  pub lists_none : (k n : ℕ) → n ≡ 0 → left_in k n ≡ None
+  lists_none k n e = ap (left_in k) e

@@ -1,0 +1,40 @@
+-- The bytes of a picture as FFmpeg has them in raw video, and what is known of bytes that are
+-- hashed.
+use Rattle.std.specs.Prelude.{◌≡◌, ◌⊎◌, ℕ, ◌<◌, ◌==◌, Bool, true, false, if◌then◌else◌, List, []}
+use Rattle.std.specs.Prelude.{◌∷◌, ◌++◌, length, map, take, drop, flat_map, slice_index}
+use Rattle.std.proofs.Common.{get_or}
+use Rattle.std.specs.List.{concat, range_with_len}
+use Rattle.md5.specs.Md5.{Holds}
+use Rattle.ffv1_range.specs.Counts.{saturated}
+use Rattle.ffv1_codec.specs.Picture.{Planes}
+use Rattle.ffv1_engine.specs.declared.picture_md5.Hashed.{Hashed}
+
+-- the samples at one position, one of each plane
+abbrev pub pixel : Planes → ℕ → List ℕ
+pixel planes at = map (λ plane. slice_index plane at) planes
+
+-- the samples of each place
+abbrev pub pixels : Planes → List ℕ
+pixels [] = []
+pixels (first ∷ more) = flat_map (pixel (first ∷ more)) (range_with_len 0 (length first))
+
+-- the second plane, the third and the first, and then the others: green, blue, red, transparency
+abbrev pub green_first : Planes → Planes
+green_first planes = take 2 (drop 1 planes) ++ (take 1 planes ++ drop 3 planes)
+
+-- the bytes of a picture: YCbCr plane after plane, as it is; RGB of 8 bits a sample at a time
+-- (rgb24, rgba), and of more bits plane after plane, green first (gbrp, gbrap)
+abbrev pub raw_bytes : Bool → ℕ → Planes → List ℕ
+raw_bytes false depth planes = concat planes
+raw_bytes true depth planes = if depth == 8 then pixels planes else concat (green_first planes)
+
+-- three or four planes of one size
+pub record AreEven (planes : Planes) : Type 0 where
+  pub count : (length planes ≡ 3) ⊎ (length planes ≡ 4)
+  pub sizes : (p q : ℕ) → p < length planes → q < length planes →
+      length (get_or planes p []) ≡ length (get_or planes q [])
+
+-- these bytes are held: what their MD5 is made from, and how many they are
+pub record IsOf (h : Hashed) (bytes : List ℕ) : Type 0 where
+  pub holds : Holds h.hasher bytes
+  pub counted : h.size ≡ saturated (length bytes)

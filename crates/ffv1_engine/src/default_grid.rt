@@ -1,0 +1,156 @@
+//! The grid of slices of a picture for which none is chosen.
+
+ghost use Rattle.std.specs.Prelude.{◌≡◌, ◌≤◌, ◌<◌, find};
+ghost use Rattle.ffv1_engine.specs.VideoReads.{reading_of};
+ghost use Rattle.ffv1_y4m.specs.VideoHead.{IsReduced, IsSized, reduced};
+ghost use Rattle.ffv1_engine.specs.Grids.{are_even_edges, default_grid, greatest_part, grids_of};
+ghost use Rattle.ffv1_engine.specs.Grids.{grid_for, has_grid, slice_bytes};
+
+use crate::video::VideoReader;
+use ffv1_words::Choice;
+use ffv1_y4m::VideoHead;
+use std::alloc::Allocator;
+
+/// RFC 9043, section 5: a picture of more pixels has at least 4 slices.
+const MOST_PIXELS: u32 = 101_376;
+
+/// The greatest slice has fewer bytes of samples: 12 MiB.
+const SLICE_LIMIT: u32 = 12_582_912;
+
+/// Whether each inner edge of so many parts of a size is a multiple of the chroma factor.
+#[tactic(auto, unfolding(crate::specs::Grids::are_even_edges))]
+fn are_even_edges(size: u32, count: u32, log2: u8) -> bool
+    requires size { size ≤ 8192 }
+    requires count { count ≤ 32 }
+    requires log2 { log2 ≤ 2 }
+    ensures { result ≡ are_even_edges size count log2 }
+{
+    let mut k = 1;
+    while k < count {
+        if k * size / count % (1 << log2) != 0 {
+            return false;
+        }
+        k += 1;
+    }
+    true
+}
+
+/// The greatest of so many parts of a size.
+fn greatest_part(size: u32, count: u32) -> u32
+    requires size { size ≤ 8192 }
+    requires some { 0 < count }
+    requires count { count ≤ 32 }
+    ensures value { result ≡ greatest_part size count }
+    ensures bound { result ≤ 8223 }
+{
+    (size + (count - 1)) / count
+}
+
+/// A size of a chroma plane: rounded up.
+fn reduced(log2: u8, size: u32) -> u32
+    requires log2 { log2 ≤ 2 }
+    requires size { size ≤ 8223 }
+    ensures value { result ≡ reduced log2 size }
+    ensures bound { result ≤ 8226 }
+{
+    let factor = 1 << log2;
+    (size + (factor - 1)) / factor
+}
+
+/// How many bytes the samples of a picture's greatest slice have.
+#[tactic(auto, unfolding(crate::specs::Grids::slice_bytes))]
+fn slice_bytes(depth: u32, head: &VideoHead, columns: u32, rows: u32) -> u64
+    requires sized { IsSized head.now }
+    requires reduced { IsReduced head.now }
+    requires some { 0 < columns }
+    requires columns { columns ≤ 32 }
+    requires high { 0 < rows }
+    requires rows { rows ≤ 32 }
+    ensures { result ≡ slice_bytes depth head.now columns rows }
+{
+    let width = greatest_part(head.width, columns);
+    let height = greatest_part(head.height, rows);
+    let whole = u64::from(width) * u64::from(height);
+    let wide = reduced(head.log2_h, width);
+    let high = reduced(head.log2_v, height);
+    let chroma = u64::from(wide) * u64::from(high);
+    let samples = if !head.chroma_planes {
+        whole
+    } else if head.extra_plane {
+        whole + chroma + chroma + whole
+    } else {
+        whole + chroma + chroma
+    };
+    if depth == 8 { samples } else { 2 * samples }
+}
+
+/// Whether a picture may have so many columns and rows.
+#[tactic(auto, unfolding(crate::specs::Grids::has_grid))]
+fn has_grid(depth: u32, head: &VideoHead, columns: u32, rows: u32) -> bool
+    requires sized { IsSized head.now }
+    requires reduced { IsReduced head.now }
+    requires some { 0 < columns }
+    requires columns { columns ≤ 32 }
+    requires high { 0 < rows }
+    requires rows { rows ≤ 32 }
+    ensures { result ≡ has_grid depth head.now columns rows }
+{
+    columns <= head.width
+        && rows <= head.height
+        && are_even_edges(head.width, columns, head.log2_h)
+        && are_even_edges(head.height, rows, head.log2_v)
+        && slice_bytes(depth, head, columns, rows) < u64::from(SLICE_LIMIT)
+}
+
+/// The first grid of so many slices that a picture may have, of fewest columns.
+fn grid_of(depth: u32, head: &VideoHead, slices: u32) -> Option<(u32, u32)>
+    requires sized { IsSized head.now }
+    requires reduced { IsReduced head.now }
+    requires some { 0 < slices }
+    requires slices { slices ≤ 1024 }
+    ensures { result ≡ find (λ g. has_grid depth head.now g.0 g.1) (grids_of slices) }
+{
+    let mut columns = 1;
+    while columns <= 32 {
+        let rows = slices / columns;
+        if columns * rows == slices && rows <= 32 && has_grid(depth, head, columns, rows) {
+            return Some((columns, rows));
+        }
+        columns += 1;
+    }
+    None
+}
+
+/// The columns and rows of slices of a picture for which none are chosen: 1 and 1 up to 101376
+/// pixels, above which RFC 9043, section 5, asks for at least 4 slices. Then they are those of
+/// fewest slices, at least 4, and of fewest columns, at most 32 each, that the picture may have: no
+/// more than it has samples, each inner edge a multiple of the chroma factor, and fewer bytes of
+/// samples than 12 MiB in the greatest slice; and 1 and 1 where it may have none.
+fn default_grid(depth: u32, head: &VideoHead) -> (u32, u32)
+    requires sized { IsSized head.now }
+    requires reduced { IsReduced head.now }
+    ensures { result ≡ default_grid depth head.now }
+{
+    if head.width * head.height <= MOST_PIXELS {
+        return (1, 1);
+    }
+    let mut slices = 4;
+    while slices <= 1024 {
+        if let Some(grid) = grid_of(depth, head, slices) {
+            return grid;
+        }
+        slices += 1;
+    }
+    (1, 1)
+}
+
+/// The grid of a choice for a video: its own, or the default one.
+#[tactic(auto, unfolding(crate::specs::Grids::grid_for))]
+pub(crate) fn grid_for<A: Allocator + Copy>(choice: &Choice, reader: &VideoReader<A>) -> (u32, u32)
+    ensures { result ≡ grid_for choice.now (reading_of reader.now).head }
+{
+    if !choice.default_grid {
+        return (choice.columns, choice.rows);
+    }
+    default_grid(reader.depth(), reader.head())
+}
