@@ -220,10 +220,15 @@ def frame_line(config, planes, info, payload):
 def frames(random, count):
     """width height record structure num den planes payload decisions renormalisations; those that
     are known, and so many"""
-    known = [frame_line(config, planes, info, bytes.fromhex(payload))
-             for _, config, info, planes, payload, *_ in known_frames.ENCODED]
-    return known + [frame_line(*picture) for picture in pictures(random, count)] + [
-        frame_line(*picture) for picture in random_rows.pictures(random, count // 5, 8)]
+    return [frame_line(config, planes, info, bytes.fromhex(payload))
+            for _, config, info, planes, payload, *_ in known_frames.ENCODED
+            ] + random_frames(random, count, count // 5, 8)
+
+
+def random_frames(random, count, rows, depth):
+    """The same of so many pictures of a depth, and of so many of long rows."""
+    return [frame_line(*picture) for picture in [
+        *pictures(random, count, (depth,)), *random_rows.pictures(random, rows, depth)]]
 
 
 def known_deep_frames():
@@ -233,12 +238,6 @@ def known_deep_frames():
         config.wide = True
         lines.append(frame_line(config, planes, known_frames.NOTHING, bytes.fromhex(payload)))
     return lines
-
-
-def deep_frames(random, count, depth):
-    """The same of so many pictures of a depth."""
-    return [frame_line(*picture) for picture in pictures(random, count, (depth,))] + [
-        frame_line(*picture) for picture in random_rows.pictures(random, count // 15, depth)]
 
 
 def sealed(config, slices):
@@ -346,11 +345,6 @@ def decoded(random, count, depths=(8,)):
         for _ in range(6):
             lines.append(decoded_line(random, config, other_payload(random, config, info, payload)))
     return lines
-
-
-def deep_decoded(random, count, depth):
-    """The same of so many pictures of a depth, and of long rows."""
-    return decoded(random, count, (depth,)) + long_rows(random, count // 3, depth)
 
 
 def long_rows(random, count, depth):
@@ -495,8 +489,11 @@ if __name__ == "__main__":
     write("frames.txt", frames(random.Random(9045), 300))
     write("decoded.txt", known_decoded() + decoded(random.Random(9046), 300)
           + long_rows(random.Random(9049), 60, 8))
-    write("deep_frames.txt", known_deep_frames() + by_depth(deep_frames, random.Random(9047), 300))
-    write("deep_decoded.txt", by_depth(deep_decoded, random.Random(9048), 60))
+    write("deep_frames.txt", known_deep_frames() + by_depth(
+        lambda dice, count, depth: random_frames(dice, count, 20, depth), random.Random(9047), 300))
+    write("deep_decoded.txt", by_depth(
+        lambda dice, count, depth: decoded(dice, count, (depth,)) + long_rows(dice, 20, depth),
+        random.Random(9048), 60))
     write("wide.txt", known_aspects(True))
     write("avi.txt", files_of_avi())
     write("matroska.txt", files_of_matroska(random.Random(9559), 300))
