@@ -23,7 +23,7 @@ _ffv1() {
             help) words="pack unpack check show framemd5 trial" ;;
             pack)
                 words="--coder --contexts --columns --rows --ec --rate --scale"
-                words="$words --container --no-clobber --progress --help"
+                words="$words --container --verify --no-clobber --progress --help"
                 ;;
             unpack) words="--no-clobber --progress --help" ;;
             check) words="--all --place --progress --help" ;;

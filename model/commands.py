@@ -71,7 +71,7 @@ COMMANDS = {
         "columns": (number(1, 32), None), "rows": (number(1, 32), None), "ec": (number(0, 1), 1),
         "rate": (number(1, 2 ** 32 - 1), 25), "scale": (number(1, 2 ** 32 - 1), 1),
         "container": (one_of("auto", "avi", "mkv"), "auto"),
-    }, flags=["no-clobber", "progress"]),
+    }, flags=["verify", "no-clobber", "progress"]),
     "unpack": Level(2, flags=["no-clobber", "progress"]),
     "check": Level(1, flags=["all", "place", "progress"], most=math.inf),
     "show": Level(1, flags=["cost"], most=math.inf),
@@ -275,17 +275,26 @@ def after(data, read):
     return more
 
 
-def opened(source):
-    """The head of a file, its configuration, its frames, and the line of a Segment. Own: what
-    begins with the byte 1A is Matroska, and all else an AVI, which is read to the end of its last
-    RIFF."""
+def input_of(source):
+    """The bytes of a file from its beginning, of which the first was looked at, and whether it is
+    Matroska. Own: what begins with the byte 1A is, and all else is an AVI, which is read to the end of
+    its last RIFF."""
     first = source.some(1)
     read = after(first, source.read)
-    if first == EBML:
-        head, size, frames = matroska.open_matroska(ebml.Input(read))
+    return (ebml.Input(read), True) if first == EBML else (files.Source(read), False)
+
+
+def opened(source):
+    """The head of a file, its configuration, its frames, and the line of a Segment."""
+    return opened_in(*input_of(source))
+
+
+def opened_in(data, is_matroska):
+    if is_matroska:
+        head, size, frames = matroska.open_matroska(data)
         segment = [f"segment {'open' if size is None else size}"]
     else:
-        head, frames = files.open_avi(files.Source(read), True)
+        head, frames = files.open_avi(data, True)
         segment = []
     config = ffv1.read_record(head.record, head.width, head.height, wide=True)
     return head, config, frames, segment
@@ -365,10 +374,31 @@ def refuse(number, decoded, out, place):
     raise decoded.fault
 
 
+OF_FILE = {50, 51, 52, 53, 54, 56, 80, 81, 82, 83, 84, 85}      # a file's own faults, in reading
+
+
 def check(source, out, place, every):
+    """The lines of a check; own: where a place is asked for, a fault of the file itself has a line
+    more, with the frame that would come next, and the bytes before the element or chunk at fault,
+    whether or not it can be written."""
+    judged, begun = [], lambda: 0
+    try:
+        data, is_matroska = input_of(source)
+        begun = lambda: data.begun
+        check_frames(opened_in(data, is_matroska), out, place, every, judged)
+    except Fault as fault:
+        if place and fault.number in OF_FILE:
+            try:
+                out(f"fault frame {len(judged)} byte {begun()}\n")
+            except Fault:
+                pass
+        raise
+
+
+def check_frames(said, out, place, every, judged):
     """A line for each frame; own: where a place is asked for, one more where decoding is refused.
     Where every frame is asked for, it goes on then, and the first such fault ends it."""
-    _, config, frames, _ = opened(source)
+    _, config, frames, _ = said
     count, faults = 0, []
     for payload in frames:
         decoded = ffv1.decode_frame(config, payload)
@@ -382,6 +412,7 @@ def check(source, out, place, every):
         else:
             refuse(count, decoded, out, place)
         count += 1
+        judged.append(payload)
     if count == 0:
         raise Fault(70)
     out(f"frames {count} faults {len(faults)}\n" if every else f"frames {count}\n")

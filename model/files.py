@@ -20,10 +20,15 @@ PIECE = 1 << 16
 
 class Source:
     """Bytes that are read from the left. `read` answers at most so many of them, and none at the
-    end; a read that failed is 56."""
+    end; a read that failed is 56. How many were read is counted, and how many stand before the
+    element or chunk that was begun last."""
 
     def __init__(self, read):
-        self.read = read
+        self.read, self.position, self.begun = read, 0, 0
+
+    def mark(self):
+        """An element or chunk begins here."""
+        self.begun = self.position
 
     def some(self, count):
         """So many bytes, or fewer where the input ends before."""
@@ -37,6 +42,7 @@ class Source:
                 break
             parts.append(part)
             count -= len(part)
+            self.position += len(part)
         return b"".join(parts)
 
     def exactly(self, count, number):
@@ -314,6 +320,17 @@ def write_avi(head, frames):
     return chunk(b"RIFF", b"AVI " + chunk_list(b"hdrl", chunk(b"avih", avih) + strl) + movi)
 
 
+def marked(source, left):
+    """The chunks of RIFF or movi: where each begins is marked, and where the next one would."""
+    inner = chunks(source, left)
+    while True:
+        source.mark()
+        entry = next(inner, None)
+        if entry is None:
+            return
+        yield entry
+
+
 def chunks(source, left):
     """The name and the size of each chunk of a list with so many bytes left, in turn; who asks for
     the next has passed this one, with its padding. Own: a list has room for its own name."""
@@ -406,7 +423,7 @@ def open_avi(source, wide):
     size = struct.unpack("<I", first[4:8])[0]
     if first[:4] != b"RIFF" or first[8:] != b"AVI " or size < 4:
         raise Fault(50)
-    opening, parts = Opening(wide), chunks(source, size - 4)
+    opening, parts = Opening(wide), marked(source, size - 4)
     for name, size in parts:
         own = source.exactly(4, 52) if name == b"LIST" else b""
         if own == b"movi":
@@ -423,7 +440,7 @@ def open_avi(source, wide):
 
 def movi_frames(source, left, wanted):
     """The frames of a movi, in turn: the chunks of this name."""
-    for name, size in chunks(source, left):
+    for name, size in marked(source, left):
         if name == b"LIST":
             raise Fault(50)
         if name != wanted:
@@ -446,6 +463,7 @@ def movi_sizes(source, parts, is_owed):
                 yield size - 4
             else:
                 source.skip(padded(size) - len(own), 52)
+        source.mark()
         riff = source.some(4)
         if not riff and not is_owed():
             return
@@ -457,7 +475,7 @@ def movi_sizes(source, parts, is_owed):
         size = struct.unpack("<I", rest[:4])[0]
         if rest[4:] != b"AVIX" or size < 4:
             raise Fault(50)
-        parts = chunks(source, size - 4)
+        parts = marked(source, size - 4)
 
 
 def avi_frames(source, opening, left, parts):

@@ -112,6 +112,7 @@ class Segment:
     def header(self):
         """The ID and the size of the next element of the Segment, or none at its end; an open one
         ends where the input ends."""
+        self.source.mark()
         first = self.source.some(1) if self.is_open and self.left else b""
         if self.left == 0 or self.is_open and not first:
             return None
@@ -170,6 +171,7 @@ class Segment:
     def walk(self, number):
         """The frame of the next element, if it has one. As soon as a Cluster has nothing left, its
         CRC-32 is judged: before its last frame is given, where nothing is behind that."""
+        self.source.mark()
         if self.group:
             ident, size, left = known(get_header(self.source, self.group))
             self.group = left - size
@@ -220,6 +222,7 @@ def open_matroska(source):
     """What the first Tracks of a file say; the size of its Segment, none where it is open; and its
     frames in turn. Own: Tracks stand before the first Cluster."""
     ebml.open_ebml(source)
+    source.mark()
     if source.exactly(4, 52) != SEGMENT.to_bytes(4, "big"):
         raise Fault(80)
     size, _ = ebml.get_size(source, 8)

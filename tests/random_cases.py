@@ -290,7 +290,7 @@ def options(dice, good):
         key = words[0].split("=")[0] if good else len(found)
         found[key] = words
     return list(found.values()) + [["--progress"]] * (dice.random() < 0.1) \
-        + [["--no-clobber"]] * (dice.random() < 0.1)
+        + [["--no-clobber"]] * (dice.random() < 0.1) + [["--verify"]] * (dice.random() < 0.2)
 
 
 def placed(dice, paths, groups):
@@ -306,7 +306,7 @@ SOME_WORDS = [
     "--help", "help", "--place", "--cost", "--all", "--ec", "--ec=0", "--columns", "2", "--deep",
     "-x", "-1",
     "pack", "check", "--place=1", "---", "\u00e9", "in/x", "--progress", "--version", "-V",
-    "--no-clobber", "--container", "--container=mkv", "out.mkv",
+    "--no-clobber", "--verify", "--container", "--container=mkv", "out.mkv",
 ]
 OUTPUTS = ["out"] * 24 + ["out.mkv"] * 16 + ["in", "./in", "no/out", "/dev/full", "-", *commands.STANDARD_OUTPUT]
 NAMES = ["pack", "unpack", "check", "show", "framemd5", "trial"]

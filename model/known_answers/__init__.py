@@ -2,13 +2,13 @@
 """Command lines whose answers are known, and not from the model: they were worked out by hand from
 the formats. `check.py` asks them of the model, and `tests/commands` of the built program.
 """
-from known_answers import containers, depths, lines, matroska_commands, payloads, riffs, shown
-from known_answers import sums, texts, unpacking
+from known_answers import containers, depths, lines, matroska_commands, offsets, payloads, riffs
+from known_answers import shown, sums, texts, unpacking
 
 
 def cases():
     """All of them."""
     for subject in [texts, payloads, unpacking, containers, riffs, shown, lines,
-                    matroska_commands, depths, sums]:
+                    matroska_commands, depths, sums, offsets]:
         for group in subject.CASES:
             yield from group()

@@ -1,6 +1,7 @@
 # SPDX-License-Identifier: MIT OR Apache-2.0
 """Command lines, taken and refused, and paths."""
 from known_answers.case import ANY, FRAME, MONO, RED, Case, Step, avi, helped, kept, one, y4m
+from known_answers.matroska import C, WRONG, whole
 
 WITHOUT, WITH = "frames 1 bytes 5\n", "frames 1 bytes 10\n"     # without parity, and with it
 PACKS = [
@@ -14,6 +15,8 @@ PACKS = [
     ("pack --progress in out", WITH), ("pack in out --progress --ec 0", WITHOUT),
     ("pack -- in --progress", WITH), ("pack --no-clobber in out", WITH),
     ("pack --progress in out --no-clobber --ec 0", WITHOUT),
+    ("pack --verify in out", WITH), ("pack in --verify out --ec 0", WITHOUT),
+    ("pack in out --progress --verify", WITH),
 ]
 CHECKS = [
     "check out", "check --place out", "check out --place", "check -- out", "check --progress out",
@@ -62,6 +65,21 @@ def several_files():
              errors="ffv1: c: 52 Truncated\nffv1: b: 30 NotKey\nffv1: no: 56 Read\n")], given)
 
 
+def a_folder():
+    """Two hundred files, AVI and Matroska in turn, of which three are damaged."""
+    files = [whole(C) if number % 2 else avi(one(), [FRAME]) for number in range(200)]
+    files[17], files[101] = files[17][:-1], whole(WRONG)
+    files[180] = avi(one(), [bytes(3)])
+    given = {f"{number:03}": file for number, file in enumerate(files)}
+    told = {name: "frame 0: 5 bytes, 1 slices, 11 decisions\nframes 1\n" for name in given}
+    told.update({"017": "fault frame 0 byte 146\n", "101": "fault frame 0 byte 152\n",
+                 "180": "fault frame 0 slice 0 plane 0 line 0 x 0 decisions 1\n"})
+    yield Case("a folder of 200 files", given, [
+        Step(["check", "--place", *given], "".join(f"file {name}\n{told[name]}" for name in given),
+             status=1, errors="ffv1: 017: 52 Truncated\nffv1: 101: 85 Checksum\n"
+             "ffv1: 180: 30 NotKey\n")], given)
+
+
 REFUSED = [
     "", "code", "pac in out", "-x", "pack --version", "help code", "help pack in", "-- pack in out",
     "--ec 0 pack in out", "pack", "pack in", "pack in out more", "unpack in", "unpack in out x",
@@ -83,6 +101,8 @@ REFUSED = [
     "pack --columns 2 --columns=2 in out", "check --place --place in", "show --cost in --cost",
     "pack --no-clobber --no-clobber in out", "unpack --no-clobber=1 in out",
     "check --no-clobber in", "show --no-clobber in", "trial --no-clobber in",
+    "pack --verify --verify in out", "pack --verify=1 in out", "unpack --verify in out",
+    "check --verify in", "trial --verify in",
     "check --place=true in", "show --cost=1 in", "pack --columns 99 --help",
     "pack --columns --help", "pack --help=1 in out", "pack in out x --help", "-x --help", "--help=",
 ]
@@ -194,6 +214,6 @@ def trials():
 
 
 CASES = [
-    taken_lines, several_files, refused_lines, unopened_files, kept_files, rewritten_files,
+    taken_lines, several_files, a_folder, refused_lines, unopened_files, kept_files, rewritten_files,
     standard_streams, faults_in_turn, trials,
 ]

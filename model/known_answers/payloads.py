@@ -37,7 +37,7 @@ def cut_payloads():
         for length in range(1, len(payload)):
             yield placed(f"{length} bytes with ec {ec}", one(ec=ec), payload[:length],
                          *at("35 Footer", NOWHERE, 0))
-        yield placed(f"no bytes with ec {ec}", one(ec=ec), b"", "", "54 EmptyFrame")
+        yield placed(f"no bytes with ec {ec}", one(ec=ec), b"", "fault frame 0 byte 250\n", "54 EmptyFrame")
 
 
 # name, parity, columns, payload, fault, its place, decisions before it
@@ -122,8 +122,8 @@ def later_frames():
     yield Case("the frames after one that is refused", {"in": file}, [
         Step(["check", "--all", "in"], lines + refused + last + ended, fault),
         Step(["check", "--place", "--all", "in"], lines + place + last + ended, fault)])
-    yield Case("a chunk has no place", {"in": avi(one(), [FRAME, b""])},
-               [Step(["check", "--place", "in"], "frame 0: 5 bytes, 1 slices, 11 decisions\n",
+    yield Case("a chunk of no bytes", {"in": avi(one(), [FRAME, b""])},
+               [Step(["check", "--place", "in"], "frame 0: 5 bytes, 1 slices, 11 decisions\nfault frame 1 byte 264\n",
                      "54 EmptyFrame")])
     first = ffv1.encode_frame(one(), [[[9]]], [3, 5, 4])
     file = avi(one(), [first, ffv1.encode_frame(one(), [[[9]]], [3, 5, 3])])

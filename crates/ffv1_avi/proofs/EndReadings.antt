@@ -167,6 +167,11 @@ answers_by EveryRiff view reading p (Err fault.Laced) why = why
 answers_by EveryRiff view reading p (Err fault.Checksum) why = why
 answers_by EveryRiff view reading p (Err fault.Rate) why = why
 
+-- a refusal says nothing of a value
+pub refused_by : {X Y Z : Type 0} (extent : Extent) (view : Y → X) (other : Z → X) (reading : Reading X) (p : Passage) (f : FileFault) → AnswersBy extent view reading p (Err f) → AnswersBy extent other reading p (Err f)
+refused_by FirstMovi view other reading p f why = why
+refused_by EveryRiff view other reading p f why = why
+
 -- the same, said of an extent that is equal
 pub refused_extent : {X : Type 0} (d e : Extent) (reading : Reading (Option X)) (old new : Option (List ℕ)) (before after : ℕ) (f : FileFault) → d ≡ e → RefusedOrNone d reading old new before after f → RefusedOrNone e reading old new before after f
 refused_extent d e reading old new before after f is h = let P : Extent → Type 0 = λ z. RefusedOrNone z reading old new before after f in subst P is h

@@ -34,3 +34,6 @@ pub mod RiffRefusals
 pub mod LongMovis
 pub mod GivenFrames
 mod ReadingFaults
+mod ChunkReadings
+mod RiffReadings
+mod SpotReadings

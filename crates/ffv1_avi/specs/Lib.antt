@@ -12,4 +12,5 @@ pub mod Edges
 pub mod Counted
 pub mod Writes
 pub mod Readers
+pub mod Offsets
 pub mod Internal

@@ -7,13 +7,14 @@ use Rattle.ffv1_avi.specs.Files.{frame_found}
 use Rattle.ffv1_reads.specs.Head.{Head}
 use Rattle.ffv1_avi.specs.declared.place.Place.{Place}
 
--- the head of its file, where it stands in that, the fault that it has met, and for how many bytes
--- its record has room
+-- the head of its file, where it stands in that, the fault that it has met, for how many bytes its
+-- record has room, and the bytes before where it stands
 pub record Standing : Type 0 where
   pub head : Head
   pub place : Place
   pub fault : Option FileFault
   pub room : ℕ
+  pub offset : ℕ
 
 abbrev pub opened_at : Standing → Head × Place
 opened_at r = (r.head, r.place)

@@ -9,6 +9,7 @@ ghost use Rattle.ffv1_avi.specs.Files.{stream_known, stream_visited, top_read, t
 ghost use Rattle.ffv1_avi.specs.Files.{visit_extended, visit_header, visit_top};
 ghost use Rattle.ffv1_reads.specs.First.{bytes_with, passage_with};
 ghost use Rattle.ffv1_reads.specs.Head.{Head};
+ghost use Rattle.ffv1_avi.specs.Offsets.{OpensFrom, TopFrom};
 ghost use Rattle.ffv1_avi.specs.Places.{first_place};
 ghost use Rattle.ffv1_wire.specs.Passage.{at_rest, passage};
 ghost use Rattle.ffv1_reads.specs.Reads.{Answers, taken};
@@ -322,18 +323,22 @@ fn visit_top<R: ByteIn, A: Allocator>(
     Ok(Top::On(found))
 }
 
-/// The chunks of RIFF, of so many bytes, up to the first movi.
+/// The chunks of RIFF, of so many bytes, up to the first movi. Those that were read whole are
+/// counted, and of movi its header and its own name.
 #[tactic(auto, unfolding(crate::specs::Files::top_read))]
 fn read_top<R: ByteIn, A: Allocator>(
     input: &mut R,
     extent: Extent,
     room: u32,
+    offset: &mut u64,
     config: &mut Vec<u8, A>,
 ) -> Result<(Sizes, Place), FileFault>
     ensures answer { Answers (λ (p : Sizes × Place). (head_with p.0 config.new.items, p.1))
         (top_read extent room) (passage R.remaining R.failures input.old input.new) result }
     ensures grown { OnOk result (RoomRead (R.remaining input.old) (R.remaining input.new)
         (vec_capacity config.old) (vec_capacity config.new)) }
+    ensures from { TopFrom extent room (passage R.remaining R.failures input.old input.new)
+        config.new.items result offset.old offset.new }
 {
     let mut found = Found {
         passed: 0,
@@ -344,8 +349,12 @@ fn read_top<R: ByteIn, A: Allocator>(
     while let Some(entry) = next_entry(input, left)? {
         match visit_top(input, extent, found, entry, config)? {
             Top::On(more) => found = more,
-            Top::Movi(_, sizes, place) => return Ok((sizes, place)),
+            Top::Movi(_, sizes, place) => {
+                *offset = offset.saturating_add(12);
+                return Ok((sizes, place));
+            }
         }
+        *offset = offset.saturating_add(8 + padded(entry.size));
         left = entry.left;
     }
     Err(FileFault::NotAvi)
@@ -353,24 +362,30 @@ fn read_top<R: ByteIn, A: Allocator>(
 
 /// A file, whose first byte may have been read, up to the first movi: its sizes, its record in
 /// place of what the vector has, and where movi stands. The vector's room grows by at most as many
-/// bytes as are read.
+/// bytes as are read. `offset` is then the number of bytes before the frames, or before the chunk
+/// at fault.
 #[tactic(auto, unfolding(crate::specs::Files::open_read))]
 pub(crate) fn read_opening<R: ByteIn, A: Allocator>(
     first: Option<u8>,
     input: &mut R,
     extent: Extent,
+    offset: &mut u64,
     config: &mut Vec<u8, A>,
 ) -> Result<(Sizes, Place), FileFault>
     ensures answer { Answers (λ (p : Sizes × Place). (head_with p.0 config.new.items, p.1))
         (open_read extent) (passage_with first R.remaining R.failures input.old input.new) result }
     ensures grown { OnOk result (RoomRead (bytes_with first (R.remaining input.old))
         (R.remaining input.new) (vec_capacity config.old) (vec_capacity config.new)) }
+    ensures from { OpensFrom extent (passage_with first R.remaining R.failures input.old input.new)
+        config.new.items result offset.new }
 {
     let mut head = [0u8; 12];
+    *offset = 0;
     take_after(first, input, &mut head)?;
     let size = LittleEndian::read_u32(&head[4..]);
     if !is_name(&head[..4], b"RIFF") || !is_name(&head[8..], b"AVI ") || size < 4 {
         return Err(FileFault::NotAvi);
     }
-    read_top(input, extent, size - 4, config)
+    *offset = 12;
+    read_top(input, extent, size - 4, offset, config)
 }

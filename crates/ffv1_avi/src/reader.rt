@@ -11,6 +11,8 @@ ghost use Rattle.ffv1_reads.specs.First.{bytes_with, passage_with};
 ghost use Rattle.ffv1_reads.specs.Head.{Head, head_of};
 ghost use Rattle.ffv1_wire.specs.Passage.{passage};
 ghost use Rattle.ffv1_avi.specs.Internal.Ending.{AnswersOrNone};
+ghost use Rattle.ffv1_avi.specs.Offsets.{FindsFrom, FindsInMovi, MovesTo, OffsetAfter};
+ghost use Rattle.ffv1_avi.specs.Offsets.{OffsetOpened};
 ghost use Rattle.ffv1_avi.specs.Places.{amount, ended, extent_of, frame_at};
 ghost use Rattle.ffv1_reads.specs.Reads.{Answers};
 ghost use Rattle.ffv1_reads.specs.Room.{HasRoom, RoomRead};
@@ -61,22 +63,26 @@ fn visit_movi<R: ByteIn>(input: &mut R, stream: u8, entry: Entry) -> Result<Opti
     Ok(Some(entry.size))
 }
 
-/// The size of a stream's next frame, and what movi has left after it; None at its end.
+/// The size of a stream's next frame, and what movi has left after it; None at its end. The chunks
+/// before its own are counted.
 #[tactic(auto, unfolding(crate::specs::Files::movi_found))]
 fn find_in_movi<R: ByteIn>(
     input: &mut R,
-    stream: u8,
-    left: u32,
+    place: Place,
+    offset: &mut u64,
 ) -> Result<Option<(u32, u32)>, FileFault>
     ensures sized { IfOk result (λ o. IfSome o (λ p. (0 < p.0) × (p.0 ≤ 67108864))) }
-    ensures answer { Answers (λ (p : Option (ℕ × ℕ)). p) (movi_found stream left)
+    ensures answer { Answers (λ (p : Option (ℕ × ℕ)). p) (movi_found place.stream place.movi)
         (passage R.remaining R.failures input.old input.new) result }
+    ensures from { FindsInMovi place (passage R.remaining R.failures input.old input.new) result
+        offset.old offset.new }
 {
-    let mut left = left;
+    let mut left = place.movi;
     while let Some(entry) = next_entry(input, left)? {
-        if let Some(size) = visit_movi(input, stream, entry)? {
+        if let Some(size) = visit_movi(input, place.stream, entry)? {
             return Ok(Some((size, entry.left)));
         }
+        *offset = offset.saturating_add(8 + padded(entry.size));
         left = entry.left;
     }
     Ok(None)
@@ -95,28 +101,37 @@ fn frame_at(place: Place, left: u32) -> Place
     }
 }
 
-/// The size of the next frame, and the place after its header; None at the end.
-fn find_frame<R: ByteIn>(input: &mut R, place: Place) -> Result<Option<(u32, Place)>, FileFault>
+/// The size of the next frame, and the place after its header; None at the end. The chunks before
+/// its own are counted.
+fn find_frame<R: ByteIn>(
+    input: &mut R,
+    place: Place,
+    offset: &mut u64,
+) -> Result<Option<(u32, Place)>, FileFault>
     ensures sized { IfOk result (λ o. IfSome o (λ p. (0 < p.0) × (p.0 ≤ 67108864))) }
     ensures answer { AnswersOrNone (extent_of place) (λ (p : Option (ℕ × Place)). p)
         (frame_found place) (passage R.remaining R.failures input.old input.new) result }
+    ensures from { FindsFrom place (passage R.remaining R.failures input.old input.new) result
+        offset.old offset.new }
 {
     let mut place = place;
     loop {
-        if let Some((size, left)) = find_in_movi(input, place.stream, place.movi)? {
+        if let Some((size, left)) = find_in_movi(input, place, offset)? {
             return Ok(Some((size, frame_at(place, left))));
         }
-        let Some(next) = move_on(input, place)? else {
+        let Some(next) = move_on(input, place, offset)? else {
             return Ok(None);
         };
         place = next;
     }
 }
 
-/// The next frame in place of what the vector has, and the place after it; None at the end.
+/// The next frame in place of what the vector has, and the place after it; None at the end. The
+/// chunks before its own are counted, and its own where there is no fault.
 fn read_frame<R: ByteIn, A: Allocator>(
     input: &mut R,
     place: Place,
+    offset: &mut u64,
     frame: &mut Vec<u8, A>,
 ) -> Result<Option<Place>, FileFault>
     ensures answer { AnswersFrom place (λ (after : Option Place). next_with frame.new.items after)
@@ -129,13 +144,16 @@ fn read_frame<R: ByteIn, A: Allocator>(
     ensures err { OnErr result (Leaves place (R.remaining input.old) frame.new.items) }
     ensures room { HasRoom (vec_capacity frame.old) (vec_capacity frame.new)
         (length frame.new.items) result }
+    ensures from { MovesTo place (passage R.remaining R.failures input.old input.new) result
+        offset.old offset.new }
 {
     frame.clear();
-    let Some((size, after)) = find_frame(input, place)? else {
+    let Some((size, after)) = find_frame(input, place, offset)? else {
         return Ok(None);
     };
     fill(input, size as usize, frame)?;
     pass(input, u64::from(size % 2))?;
+    *offset = offset.saturating_add(8 + padded(size));
     Ok(Some(after))
 }
 
@@ -148,6 +166,7 @@ pub struct AviReader<A: Allocator = Global> {
     head: FileHead<A>,
     place: Place,
     fault: Option<FileFault>,
+    offset: u64,
 }
 
 impl<A: Allocator> Model for AviReader<A> {
@@ -158,6 +177,7 @@ impl<A: Allocator> Model for AviReader<A> {
       place = r.place;
       fault = r.fault;
       room = vec_capacity r.head.config_record;
+      offset = r.offset;
     } };
 }
 
@@ -178,7 +198,8 @@ impl<A: Allocator> AviReader<A> {
         ensures room { IfOk result (λ r. RoomRead (R.remaining input.old)
             (R.remaining input.new) 0 r.room) }
     {
-        open_at(alloc, Extent::FirstMovi, None, input)
+        let mut offset = 0;
+        AviReader::open_located(alloc, Extent::FirstMovi, None, input, &mut offset)
     }
 
     /// Reads a file up to its first `movi`, to read then the frames of every `movi` of every RIFF:
@@ -200,7 +221,8 @@ impl<A: Allocator> AviReader<A> {
         ensures room { IfOk result (λ r. RoomRead (R.remaining input.old)
             (R.remaining input.new) 0 r.room) }
     {
-        open_at(alloc, Extent::EveryRiff, None, input)
+        let mut offset = 0;
+        AviReader::open_located(alloc, Extent::EveryRiff, None, input, &mut offset)
     }
 
     /// The same of a file whose first byte was read before, where there was one.
@@ -216,7 +238,55 @@ impl<A: Allocator> AviReader<A> {
         ensures room { IfOk result (λ r. RoomRead (bytes_with first (R.remaining input.old))
             (R.remaining input.new) 0 r.room) }
     {
-        open_at(alloc, Extent::EveryRiff, first, input)
+        let mut offset = 0;
+        AviReader::open_located(alloc, Extent::EveryRiff, first, input, &mut offset)
+    }
+
+    /// Reads a file up to its first `movi`, to read it then so far, as `open` and `open_all` do,
+    /// and says where in the file a fault is: `offset` is then the number of bytes before the chunk
+    /// at fault, counting the byte that was read before; no greater than 2^64 - 1. That chunk is
+    /// the first twelve bytes of the file, or a chunk of its first RIFF: the list `hdrl` with all
+    /// that it has, of `movi` the header and its own name. Where RIFF ends before any `movi`, it is
+    /// where the next chunk would begin.
+    pub fn open_located<R: ByteIn>(
+        alloc: A,
+        extent: Extent,
+        first: Option<u8>,
+        input: &mut R,
+        offset: &mut u64,
+    ) -> Result<AviReader<A>, FileFault>
+        ensures answer { Answers opened_at (open_read extent)
+            (passage_with first R.remaining R.failures input.old input.new) result }
+        ensures sound { IfOk result (λ r. r.fault ≡ None) }
+        ensures own { IfErr result (λ f. is_opening_fault f ≡ true) }
+        ensures room { IfOk result (λ r. RoomRead (bytes_with first (R.remaining input.old))
+            (R.remaining input.new) 0 r.room) }
+        ensures offset { OffsetOpened extent (passage_with first R.remaining R.failures input.old
+            input.new) result offset.new }
+    {
+        let mut config = Vec::new(alloc);
+        let (sizes, place) = read_opening(first, input, extent, offset, &mut config)?;
+        Ok(AviReader {
+            head: FileHead {
+                width: sizes.width,
+                height: sizes.height,
+                rate: sizes.rate,
+                scale: sizes.scale,
+                config_record: config,
+            },
+            place,
+            fault: None,
+            offset: *offset,
+        })
+    }
+
+    /// The number of bytes of the file before where the reader stands; after a fault, before the
+    /// chunk at fault; after the end, before what comes after the last frame. No greater than
+    /// 2^64 - 1.
+    pub fn offset(&self) -> u64
+        ensures { result ≡ self.now.offset }
+    {
+        self.offset
     }
 
     /// The head of the file.
@@ -267,6 +337,8 @@ impl<A: Allocator> AviReader<A> {
         ensures again { (f : FileFault) → self.old.fault ≡ Some f → (result ≡ Err f)
             × (self.new ≡ self.old) × (frame.new.items ≡ []) × (input.new ≡ input.old) }
         ensures kept { self.new.room ≡ self.old.room }
+        ensures offset { self.old.fault ≡ None → OffsetAfter self.old
+            (passage R.remaining R.failures input.old input.new) result self.new }
     {
         frame.clear();
         if let Some(fault) = self.fault {
@@ -276,8 +348,10 @@ impl<A: Allocator> AviReader<A> {
             self.place = ended();
             return Ok(false);
         }
-        match read_frame(input, self.place, frame) {
+        let mut offset = self.offset;
+        match read_frame(input, self.place, &mut offset, frame) {
             Ok(Some(place)) => {
+                self.offset = offset;
                 self.place = place;
                 Ok(true)
             }
@@ -286,38 +360,10 @@ impl<A: Allocator> AviReader<A> {
                 Ok(false)
             }
             Err(fault) => {
+                self.offset = offset;
                 self.fault = Some(fault);
                 Err(fault)
             }
         }
     }
-}
-
-/// Reads a file up to its first `movi`, so as to read it so far.
-fn open_at<R: ByteIn, A: Allocator>(
-    alloc: A,
-    extent: Extent,
-    first: Option<u8>,
-    input: &mut R,
-) -> Result<AviReader<A>, FileFault>
-    ensures answer { Answers opened_at (open_read extent)
-        (passage_with first R.remaining R.failures input.old input.new) result }
-    ensures sound { IfOk result (λ r. r.fault ≡ None) }
-    ensures own { IfErr result (λ f. is_opening_fault f ≡ true) }
-    ensures room { IfOk result (λ r. RoomRead (bytes_with first (R.remaining input.old))
-        (R.remaining input.new) 0 r.room) }
-{
-    let mut config = Vec::new(alloc);
-    let (sizes, place) = read_opening(first, input, extent, &mut config)?;
-    Ok(AviReader {
-        head: FileHead {
-            width: sizes.width,
-            height: sizes.height,
-            rate: sizes.rate,
-            scale: sizes.scale,
-            config_record: config,
-        },
-        place,
-        fault: None,
-    })
 }

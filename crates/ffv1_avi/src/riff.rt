@@ -1,9 +1,10 @@
 //! What follows a movi: the next one in its RIFF, or the next RIFF.
 
-ghost use Rattle.std.specs.Prelude.{◌≡◌, ◌+◌, ◌≤◌, ℕ, List, Option, Some, codes, true};
+ghost use Rattle.std.specs.Prelude.{◌≡◌, ◌+◌, ◌<◌, ◌≤◌, ℕ, List, Option, Some, codes, true};
 ghost use Rattle.ffv1_avi.specs.Files.{moved, movi_sought, name_or_end, riff_begun, riff_entered};
 ghost use Rattle.ffv1_avi.specs.Files.{visit_riff};
 ghost use Rattle.ffv1_avi.specs.Internal.Ending.{AnswersOrNone, byte_or_end};
+ghost use Rattle.ffv1_avi.specs.Offsets.{MovesTo, SeeksMovi, movi_left, riff_left};
 ghost use Rattle.ffv1_avi.specs.Places.{extent_of};
 ghost use Rattle.ffv1_reads.specs.Reads.{Answers};
 ghost use Rattle.ffv1_avi.specs.Walk.{is_name};
@@ -37,17 +38,26 @@ fn visit_riff<R: ByteIn>(input: &mut R, entry: Entry) -> Result<Option<(u32, u32
     Ok(None)
 }
 
-/// The bytes of the next movi of RIFF, and what that has left after it; None at its end.
+/// The bytes of the next movi of RIFF, and what that has left after it; None at its end. What was
+/// read is counted.
 #[tactic(auto, unfolding(crate::specs::Files::movi_sought))]
-fn seek_movi<R: ByteIn>(input: &mut R, left: u32) -> Result<Option<(u32, u32)>, FileFault>
-    ensures { Answers (λ (p : Option (ℕ × ℕ)). p) (movi_sought left)
+fn seek_movi<R: ByteIn>(
+    input: &mut R,
+    place: Place,
+    offset: &mut u64,
+) -> Result<Option<(u32, u32)>, FileFault>
+    ensures answer { Answers (λ (p : Option (ℕ × ℕ)). p) (movi_sought place.riff)
         (passage R.remaining R.failures input.old input.new) result }
+    ensures from { 0 < place.input → SeeksMovi place
+        (passage R.remaining R.failures input.old input.new) result offset.old offset.new }
 {
-    let mut left = left;
+    let mut left = place.riff;
     while let Some(entry) = next_entry(input, left)? {
         if let Some(movi) = visit_riff(input, entry)? {
+            *offset = offset.saturating_add(12);
             return Ok(Some(movi));
         }
+        *offset = offset.saturating_add(8 + padded(entry.size));
         left = entry.left;
     }
     Ok(None)
@@ -119,16 +129,43 @@ fn begin_riff<R: ByteIn>(input: &mut R, place: Place) -> Result<Option<Place>, F
     Ok(Some(enter_riff(input, place)?))
 }
 
-/// Where frames are sought next after the end of a movi; None at the end.
-pub(crate) fn move_on<R: ByteIn>(input: &mut R, place: Place) -> Result<Option<Place>, FileFault>
-    ensures { AnswersOrNone (extent_of place) (λ (p : Option Place). p) (moved place)
+/// The same, which counts its first twelve bytes where there is one.
+fn count_riff<R: ByteIn>(
+    input: &mut R,
+    place: Place,
+    offset: &mut u64,
+) -> Result<Option<Place>, FileFault>
+    ensures answer { AnswersOrNone EveryRiff (λ (p : Option Place). p) (riff_begun place)
         (passage R.remaining R.failures input.old input.new) result }
+    ensures from { 0 < place.input → MovesTo (riff_left place 0)
+        (passage R.remaining R.failures input.old input.new) result offset.old offset.new }
+{
+    match begin_riff(input, place) {
+        Ok(Some(next)) => {
+            *offset = offset.saturating_add(12);
+            Ok(Some(next))
+        }
+        Ok(None) => Ok(None),
+        Err(fault) => Err(fault),
+    }
+}
+
+/// Where frames are sought next after the end of a movi; None at the end. What was read is counted.
+pub(crate) fn move_on<R: ByteIn>(
+    input: &mut R,
+    place: Place,
+    offset: &mut u64,
+) -> Result<Option<Place>, FileFault>
+    ensures answer { AnswersOrNone (extent_of place) (λ (p : Option Place). p) (moved place)
+        (passage R.remaining R.failures input.old input.new) result }
+    ensures from { MovesTo (movi_left place 0)
+        (passage R.remaining R.failures input.old input.new) result offset.old offset.new }
 {
     if place.input == 0 {
         return Ok(None);
     }
-    let Some((movi, riff)) = seek_movi(input, place.riff)? else {
-        return begin_riff(input, place);
+    let Some((movi, riff)) = seek_movi(input, place, offset)? else {
+        return count_riff(input, place, offset);
     };
     Ok(Some(Place {
         input: place.input,

@@ -1,10 +1,10 @@
 -- A file is checked.
-use Rattle.std.proofs.Common.{◌≡◌, refl, ℕ, ◌+◌, ◌<◌, Bool, Option, Some, None, Ok, Err, List, [], ◌∷◌, ◌++◌, length, take, inl, inr, ap, sym, subst, ◌∙◌, arith, length-append}
+use Rattle.std.proofs.Common.{◌≡◌, refl, ℕ, ◌+◌, ◌<◌, Bool, true, false, append-nil, Option, Some, None, Ok, Err, List, [], ◌∷◌, ◌++◌, length, take, inl, inr, ap, sym, subst, ◌∙◌, arith, length-append}
 use Rattle.std.specs.Io.KnownBytes.{Appends}
-use Rattle.std.proofs.KnownBytes.{Appends-trans, Appends-kept, Keeps-refl}
+use Rattle.std.proofs.KnownBytes.{Appends-trans, Appends-kept}
 use Rattle.ffv1_range.specs.Counts.{saturated}
 use Rattle.ffv1_wire.specs.Failures.{one_more}
-use Rattle.ffv1_wire.specs.Passage.{between}
+use Rattle.ffv1_wire.specs.Passage.{Passage, between}
 use Rattle.ffv1_record.specs.Accepted.{Accepted}
 use Rattle.ffv1_files.specs.declared.container.Scope.TheVariants.{FirstMovi, Whole}
 use Rattle.ffv1_files.specs.Places.{Place}
@@ -12,6 +12,7 @@ use Rattle.ffv1_avi.specs.Chunks.{AviFile}
 use Rattle.ffv1_files.specs.Whole.{IsWhole}
 use Rattle.ffv1_files.specs.Files.{file_read, frame_read, frames_read, more_frames, open_read}
 use Rattle.ffv1_reads.specs.Head.{Head}
+use Rattle.ffv1_files.specs.Offsets.{Reached}
 use Rattle.ffv1_files.specs.Readers.{Standing}
 use Rattle.ffv1_reads.specs.Reads as avi
 use Rattle.ffv1_engine.specs.declared.profile.Profile.{Profile}
@@ -20,16 +21,18 @@ use Rattle.ffv1_engine.specs.declared.profile.Profile.TheVariants.{Strict, Wide}
 use Rattle.ffv1_engine.specs.declared.fault.Fault.{Fault}
 use Rattle.ffv1_engine.specs.declared.fault.Fault.TheVariants as fault
 use Rattle.ffv1_engine.specs.declared.frame_line.FrameLine.TheVariants as line
-use Rattle.ffv1_engine.specs.Check.{CheckCountFails, CheckDone, CheckLineFails, CheckPayload, CheckStops, CheckStopsBy, ChecksSome, ChecksTo, count_line}
+use Rattle.ffv1_engine.specs.Check.{CheckCountFails, CheckDone, CheckLineFails, CheckPayload, CheckStops, CheckStopsBy, CheckLocatedAfter, ChecksTo, count_line}
 use Rattle.ffv1_engine.specs.Faults.{Cause, cause_of}
 use Rattle.ffv1_engine.specs.Faults.Cause.{Reading, Writing, Memory, Content}
 use Rattle.ffv1_engine.specs.FrameLines.{frame_lines}
-use Rattle.ffv1_engine.specs.Opens.{LacksOpeningBy, OpensKnown, OpensStream, stream_of}
+use Rattle.ffv1_engine.specs.Located.{LocatedFault, byte_told, located_text}
+use Rattle.ffv1_engine.specs.Opens.{LacksOpening, LacksOpeningBy, OpensKnown, OpensStream, stream_of}
 use Rattle.ffv1_engine.specs.Play.{BeginsSome, End, EndsKnown, Played}
 use Rattle.ffv1_engine.specs.Play.End.{File, Payload, Over}
 use Rattle.ffv1_engine.specs.Stream.{AreFrames, BeginsKnown, BeginsTo, Frame, HoldsPayloads, ReadsFile, ReadsFrames, Stream, payloads}
-use Rattle.ffv1_engine.specs.Told.{EndsFrom, LineFails, PayloadStops, ReadsKnown, ReadsSome, TellingStops, TellingStopsBy, ToldAll, ToldSome, WritesFrame}
-use Rattle.ffv1_engine.proofs.FramesTold.{reads_some, take_past}
+use Rattle.ffv1_engine.specs.Told.{EndsFrom, LineFails, PayloadStops, ReadsKnown, ReadsSome, TellingStops, TellingStopsBy, ToldAll, ToldLocated, ToldSome, WritesFrame, WritesLine}
+use Rattle.ffv1_engine.proofs.FaultsLocated.{memory_silent}
+use Rattle.ffv1_engine.proofs.FramesTold.{located_whole, reads_some, take_past}
 
 pub no_frame : (frames : List Frame) → length frames ≡ 0 → frames ≡ []
 no_frame [] e = refl
@@ -102,26 +105,29 @@ module _ (next : (place : Place) (text : List ℕ) → frames_read place text �
   reads_file profile (Some file) (Some behind) (Some rest) s from frames opens ends =
       holds_payloads profile file behind rest s.head from ends.0 ends.1 (payloads frames) opens ends.2 ends.3
 
+-- where no frame comes, there is no line of a byte
+no_line : (byte : Bool) (i : ℕ) (lines : List ℕ) (p : Passage) → p.after ≡ p.before → Appends p.old p.new lines → WritesLine lines (located_text byte i fault.NoFrames 0) p
+no_line true i lines p kept writes = inl (kept, subst (Appends p.old p.new) (sym (append-nil lines)) writes)
+no_line false i lines p kept writes = inl (kept, subst (Appends p.old p.new) (sym (append-nil lines)) writes)
+
 module _ (profile : Profile) (place : Bool) (i0 i1 i2 o0 o1 o2 : Option (List ℕ)) (ib im ia ob om oa : ℕ) where
   -- a file that is not opened
-  pub lacks_opening : (f : Fault) (why : Cause) → LacksOpeningBy profile (between i0 i1 ib im) f why → CheckStopsBy profile place (between i0 i1 ib im) (between o0 o0 ob ob) f why
-  lacks_opening f Writing h = absurd h
-  lacks_opening f Reading h = (h.0, inl (record { written = refl; none = Keeps-refl o0 }, h.1))
-  lacks_opening f Memory h = (h.0, inl (record { written = refl; none = Keeps-refl o0 }, h.1))
-  lacks_opening f Content h = (h.0, inl (record { written = refl; none = Keeps-refl o0 }, h.1))
+  lacks_by : (f : Fault) (why : Cause) → cause_of f ≡ why → (offset : ℕ) → LacksOpeningBy profile (between i0 i1 ib im) f why → LocatedFault (scope_in profile) (between i0 i1 ib im) f offset →
+      WritesLine [] (located_text (byte_told profile place) 0 f offset) (between o0 o1 ob om) → CheckStopsBy profile place (between i0 i1 ib im) (between o0 o1 ob om) f why
+  lacks_by f Writing is offset h stops writes = absurd h
+  lacks_by f Reading is offset h stops writes = (h.0, inl (record { offset = offset; stops = stops; writes = writes }, h.1))
+  lacks_by f Memory is offset h stops writes =
+      let silent = memory_silent (byte_told profile place) 0 f offset (between o0 o1 ob om) is writes in
+      (h.0, inl (record { written = silent.0; none = silent.1 }, h.1))
+  lacks_by f Content is offset h stops writes = (h.0, inl (record { offset = offset; stops = stops; writes = writes }, h.1))
+
+  pub lacks_opening : (f : Fault) (offset : ℕ) → LacksOpening profile (between i0 i1 ib im) f → LocatedFault (scope_in profile) (between i0 i1 ib im) f offset →
+      WritesLine [] (located_text (byte_told profile place) 0 f offset) (between o0 o1 ob om) → CheckStops profile place (between i0 i1 ib im) (between o0 o1 ob om) f
+  lacks_opening f offset h stops writes = inr (lacks_by f (cause_of f) refl offset h stops writes)
 
   module _ (r : Standing) (a : Accepted) (opens : OpensStream profile r a (between i0 i1 ib im)) where
     played : (frames : List Frame) → AreFrames a frames → Played profile (stream_of r a) frames
     played frames are = record { stream = opens.stream; decoded = are }
-
-    some : (frames : List Frame) (to : Place) (at : Option (List ℕ)) → ToldSome line.Sizes place a r.place (between i1 i2 im ia) (between o0 o1 ob om) frames to at →
-        ChecksSome profile place (between i0 i2 ib ia) (between o0 o1 ob om) (stream_of r a) frames
-    some frames to at told = record {
-      played = played frames told.are;
-      begins = begins_some profile i0 i1 (stream_of r a) r.place frames opens.known (reads_some r.place to i1 at frames told.read);
-      written = told.written;
-      writes = told.writes;
-    }
 
     up_to : (frames : List Frame) (to : Place) (at : Option (List ℕ)) → ToldSome line.Sizes place a r.place (between i1 i2 im ia) (between o0 o1 ob om) frames to at →
         ChecksTo profile place (between i0 i2 ib ia) (between o0 o1 ob om) (stream_of r a) frames to at
@@ -143,25 +149,6 @@ module _ (profile : Profile) (place : Bool) (i0 i1 i2 o0 o1 o2 : Option (List �
       writes = h.writes;
     }
 
-    stops_by : (f : Fault) (why : Cause) → TellingStopsBy line.Sizes place a r.place (between i1 i2 im ia) (between o0 o1 ob om) f why → CheckStopsBy profile place (between i0 i2 ib ia) (between o0 o1 ob om) f why
-    stops_by f Writing h = inl (line_fails h.0 h.1)
-    stops_by f Reading h =
-        (h.4 ∙ ap one_more opens.kept, inr (record { stream = stream_of r a; frames = h.0; to = h.1; at = h.2; checks = up_to h.0 h.1 h.2 h.3; fails = h.5 }))
-    stops_by f Memory h =
-        (h.4 ∙ opens.kept, inr (inl (record { stream = stream_of r a; frames = h.0; to = h.1; at = h.2; checks = up_to h.0 h.1 h.2 h.3; lacks = h.5 })))
-    stops_by f Content h = (
-      h.4 ∙ opens.kept,
-      inr (record {
-        stream = stream_of r a;
-        frames = h.0;
-        end = File f;
-        file = tt;
-        checks = some h.0 h.1 h.2 h.3;
-        ends = ends_known profile i0 i1 i2 (stream_of r a) r.place h.0 (File f) opens.known h.5;
-        is = refl;
-      }),
-    )
-
     payload_stops : (f : Fault) → PayloadStops line.Sizes place a r.place (between i1 i2 im ia) (between o0 o1 ob om) f → CheckPayload profile place (between i0 i2 ib ia) (between o0 o1 ob om) f
     payload_stops f h = record {
       stream = stream_of r a;
@@ -178,23 +165,55 @@ module _ (profile : Profile) (place : Bool) (i0 i1 i2 o0 o1 o2 : Option (List �
       writes = h.writes;
     }
 
-    pub telling_stops : (f : Fault) → TellingStops line.Sizes place a r.place (between i1 i2 im ia) (between o0 o1 ob om) f → CheckStops profile place (between i0 i2 ib ia) (between o0 o1 ob om) f
-    telling_stops f h = elim h [
-      | inl payload ↦ inl (payload_stops f payload)
-      | inr other ↦ inr (stops_by f (cause_of f) other)
-    ]
+    module _ (reached : Reached (scope_in profile) i0 i1 r) where
+      located : (frames : List Frame) (to : Place) (at : Option (List ℕ)) (f : Fault) → ToldLocated line.Sizes place (byte_told profile place) a r (between i1 i2 im ia) (between o0 o1 ob om) frames to at f →
+          CheckLocatedAfter profile place (between i0 i2 ib ia) (between o0 o1 ob om) (stream_of r a) frames f
+      located frames to at f h =
+          located_whole (scope_in profile) r i0 i1 i2 ib im ia (byte_told profile place) (saturated (length frames)) (frame_lines line.Sizes a.configuration frames) f (between o0 o1 ob om) opens.kept reached h.located
+
+      stops_by : (f : Fault) (why : Cause) → TellingStopsBy line.Sizes place (byte_told profile place) a r (between i1 i2 im ia) (between o0 o1 ob om) f why →
+          CheckStopsBy profile place (between i0 i2 ib ia) (between o0 o1 ob om) f why
+      stops_by f Writing h = inl (line_fails h.0 h.1)
+      stops_by f Reading h = (
+        h.4 ∙ ap one_more opens.kept,
+        inr (record {
+          stream = stream_of r a;
+          frames = h.0;
+          to = h.1;
+          at = h.2;
+          played = played h.0 h.3.are;
+          begins = begins_to profile i0 i1 h.2 (stream_of r a) r.place h.1 h.0 opens.known h.3.read;
+          located = located h.0 h.1 h.2 f h.3;
+          fails = h.5;
+        }),
+      )
+      stops_by f Memory h =
+          (h.4 ∙ opens.kept, inr (inl (record { stream = stream_of r a; frames = h.0; to = h.1; at = h.2; checks = up_to h.0 h.1 h.2 h.3; lacks = h.5 })))
+      stops_by f Content h = (
+        h.4 ∙ opens.kept,
+        inr (record {
+          stream = stream_of r a;
+          frames = h.0;
+          end = File f;
+          file = tt;
+          played = played h.0 h.3.are;
+          begins = begins_some profile i0 i1 (stream_of r a) r.place h.0 opens.known (reads_some r.place h.1 i1 h.2 h.0 h.3.read);
+          located = located h.0 h.1 h.2 f h.3;
+          ends = ends_known profile i0 i1 i2 (stream_of r a) r.place h.0 (File f) opens.known h.5;
+          is = refl;
+        }),
+      )
+
+      pub telling_stops : (f : Fault) → TellingStops line.Sizes place (byte_told profile place) a r (between i1 i2 im ia) (between o0 o1 ob om) f →
+          CheckStops profile place (between i0 i2 ib ia) (between o0 o1 ob om) f
+      telling_stops f h = elim h [
+        | inl payload ↦ inl (payload_stops f payload)
+        | inr other ↦ inr (stops_by f (cause_of f) other)
+      ]
 
     module _ (frames : List Frame) (count : ℕ) (is : count ≡ saturated (length frames)) (told : ToldAll line.Sizes place a r.place (between i1 i2 im ia) (between o0 o1 ob om) frames) where
       all_ends : EndsKnown profile i0 i2 (stream_of r a) frames Over
       all_ends = ends_known profile i0 i1 i2 (stream_of r a) r.place frames Over opens.known told.ends
-
-      all_some : ChecksSome profile place (between i0 i2 ib ia) (between o0 o1 ob om) (stream_of r a) frames
-      all_some = record {
-        played = played frames told.are;
-        begins = begins_some profile i0 i1 (stream_of r a) r.place frames opens.known (some_of_end r.place i1 i2 frames Over told.ends);
-        written = told.written;
-        writes = told.writes;
-      }
 
       pub no_frames : count ≡ 0 → CheckStops profile place (between i0 i2 ib ia) (between o0 o1 ob om) fault.NoFrames
       no_frames none = inr (
@@ -204,7 +223,13 @@ module _ (profile : Profile) (place : Bool) (i0 i1 i2 o0 o1 o2 : Option (List �
           frames = frames;
           end = Over;
           file = tt;
-          checks = all_some;
+          played = played frames told.are;
+          begins = begins_some profile i0 i1 (stream_of r a) r.place frames opens.known (some_of_end r.place i1 i2 frames Over told.ends);
+          located = record {
+            offset = 0;
+            stops = λ own. absurd (let no : false ≡ true = own in cc);
+            writes = no_line (byte_told profile place) (saturated (length frames)) (frame_lines line.Sizes a.configuration frames) (between o0 o1 ob om) told.written told.writes;
+          };
           ends = all_ends;
           is = (no_frame frames (let few : length frames ≡ 0 = omega (arith, is, none) in few), refl);
         }),

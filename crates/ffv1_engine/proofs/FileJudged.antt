@@ -1,13 +1,14 @@
 -- All frames of a file are judged.
-use Rattle.std.proofs.Common.{◌≡◌, refl, ℕ, ◌<◌, Bool, Option, Some, None, Ok, Err, List, [], ◌∷◌, ◌++◌, length, take, inl, inr, ap, sym, subst, ◌∙◌, arith, append-nil}
-use Rattle.std.specs.Io.KnownBytes.{Appends, Keeps}
-use Rattle.std.proofs.KnownBytes.{Appends-trans, Appends-kept, Keeps-refl}
+use Rattle.std.proofs.Common.{◌≡◌, refl, ℕ, ◌<◌, Bool, Option, None, Ok, Err, List, [], ◌∷◌, ◌++◌, length, take, inl, inr, ap, sym, subst, ◌∙◌, arith}
+use Rattle.std.specs.Io.KnownBytes.{Appends}
+use Rattle.std.proofs.KnownBytes.{Appends-trans, Appends-kept}
 use Rattle.ffv1_range.specs.Counts.{saturated}
 use Rattle.ffv1_wire.specs.Failures.{one_more}
 use Rattle.ffv1_wire.specs.Passage.{between}
 use Rattle.ffv1_record.specs.Accepted.{Accepted}
 use Rattle.ffv1_files.specs.Places.{Place}
 use Rattle.ffv1_files.specs.Files.{frame_read, open_read}
+use Rattle.ffv1_files.specs.Offsets.{Reached}
 use Rattle.ffv1_files.specs.Readers.{Standing}
 use Rattle.ffv1_reads.specs.Known.{Known}
 use Rattle.ffv1_engine.specs.declared.profile.Profile.{Profile}
@@ -18,10 +19,13 @@ use Rattle.ffv1_engine.specs.declared.judging.JudgedCounts.{JudgedCounts}
 use Rattle.ffv1_engine.specs.CheckAll.{CheckAllDone, CheckAllEndsBy, CheckAllOver, CheckAllStops, FileThen}
 use Rattle.ffv1_engine.specs.Faults.{Cause, cause_of}
 use Rattle.ffv1_engine.specs.Faults.Cause.{Reading, Writing, Memory, Content}
-use Rattle.ffv1_engine.specs.Judged.{AreCounts, HasThen, Judged, JudgedAll, JudgedThen, JudgingStops, JudgingStopsBy, NextHasFault, NextIsPayload, NextOver, NextPayloadLacks, NextReadFails, NextStays, WritesJudged, counts_line, judged_lines, payload_of, payloads_of, refusals}
+use Rattle.ffv1_engine.specs.Judged.{AreCounts, HasThen, Judged, JudgedAll, JudgedLocated, JudgedThen, JudgingStops, JudgingStopsBy, NextHasFault, NextIsPayload, NextOver, NextPayloadLacks, NextReadFails, NextStays, WritesJudged, counts_line, judged_lines, payload_of, payloads_of, refusals}
+use Rattle.ffv1_engine.specs.Located.{LocatedAfter, LocatedFault, byte_told, located_text}
 use Rattle.ffv1_engine.specs.Opens.{LacksOpening, OpensStream, stream_of}
 use Rattle.ffv1_engine.specs.Stream.{HoldsPayloads, ReadsFrames}
-use Rattle.ffv1_engine.specs.Told.{WritesFrame}
+use Rattle.ffv1_engine.specs.Told.{WritesFrame, WritesLine}
+use Rattle.ffv1_engine.proofs.FramesTold.{located_whole}
+use Rattle.ffv1_engine.proofs.FaultsLocated.{none_appended}
 use Rattle.ffv1_engine.proofs.KnownTexts.{known_map, known_then}
 
 no_judged : (js : List Judged) → length js ≡ 0 → js ≡ []
@@ -32,15 +36,11 @@ some_judged : (js : List Judged) → (length js ≡ 0 → ⊥) → 0 < length js
 some_judged [] none = absurd (none refl)
 some_judged (j ∷ js) none = omega arith
 
-none_appended : (o n : Option (List ℕ)) → Appends o n [] → Keeps o n
-none_appended None n h = tt
-none_appended (Some xs) None h = absurd h
-none_appended (Some xs) (Some ys) h = h ∙ append-nil xs
-
 module _ (profile : Profile) (place : Bool) (i0 i1 i2 o0 o1 o2 : Option (List ℕ)) (ib im ia ob om oa : ℕ) where
   -- a file that is not opened
-  pub lacks_opening : (f : Fault) → LacksOpening profile (between i0 i1 ib im) f → CheckAllStops profile place (between i0 i1 ib im) (between o0 o0 ob ob) f
-  lacks_opening f h = inl (record { written = refl; none = Keeps-refl o0 }, h)
+  pub lacks_opening : (f : Fault) (offset : ℕ) → LacksOpening profile (between i0 i1 ib im) f → LocatedFault (scope_in profile) (between i0 i1 ib im) f offset →
+      WritesLine [] (located_text (byte_told profile place) 0 f offset) (between o0 o1 ob om) → CheckAllStops profile place (between i0 i1 ib im) (between o0 o1 ob om) f
+  lacks_opening f offset h stops writes = inl (record { offset = offset; stops = stops; writes = writes }, h)
 
   module _ (r : Standing) (a : Accepted) (opens : OpensStream profile r a (between i0 i1 ib im)) where
     has_file : (ps : List (List ℕ)) (Next : Place → List ℕ → List ℕ → Type 0) → Known i1 i2 (HasThen r.place ps Next) → Known i0 i2 (FileThen profile r.head ps Next)
@@ -56,32 +56,39 @@ module _ (profile : Profile) (place : Bool) (i0 i1 i2 o0 o1 o2 : Option (List �
     lines_file : (js : List Judged) → WritesJudged (HasThen r.place) place a (between i1 i2 im ia) (between o0 o1 ob om) js → WritesJudged (FileThen profile r.head) place a (between i0 i2 ib ia) (between o0 o1 ob om) js
     lines_file js h = record { written = h.written; writes = h.writes }
 
-    stops_file : (f : Fault) (why : Cause) → JudgingStopsBy (HasThen r.place) place a (between i1 i2 im ia) (between o0 o1 ob om) f why →
-        JudgingStopsBy (FileThen profile r.head) place a (between i0 i2 ib ia) (between o0 o1 ob om) f why
-    stops_file f Writing h = record {
-      js = h.js;
-      last = h.last;
-      judged = judged_file (h.js ++ (h.last ∷ [])) NextStays h.judged;
-      kept = h.kept ∙ opens.kept;
-      written = h.written;
-      count = h.count;
-      short = h.short;
-      writes = h.writes;
-    }
-    stops_file f Reading h = (h.0, lines_file h.0 h.1, h.2 ∙ ap one_more opens.kept, judged_file h.0 NextReadFails h.3)
-    stops_file f Memory h = (
-      h.0,
-      lines_file h.0 h.1,
-      h.2 ∙ opens.kept,
-      elim h.3 [
-        | inl payload ↦ inl (judged_file h.0 NextPayloadLacks payload)
-        | inr lines ↦ inr (lines.0, lines.1, judged_file h.0 (NextIsPayload (payload_of lines.0)) lines.2)
-      ],
-    )
-    stops_file f Content h = (h.0, lines_file h.0 h.1, h.2 ∙ opens.kept, judged_file h.0 (NextHasFault f) h.3)
+    module _ (reached : Reached (scope_in profile) i0 i1 r) where
+      located_file : (js : List Judged) (f : Fault) → JudgedLocated (HasThen r.place) (LocatedAfter r (between i1 i2 im ia)) place (byte_told profile place) a (between i1 i2 im ia) (between o0 o1 ob om) js f →
+          JudgedLocated (FileThen profile r.head) (LocatedFault (scope_in profile) (between i0 i2 ib ia)) place (byte_told profile place) a (between i0 i2 ib ia) (between o0 o1 ob om) js f
+      located_file js f h =
+          located_whole (scope_in profile) r i0 i1 i2 ib im ia (byte_told profile place) (saturated (length js)) (judged_lines place a.configuration js) f (between o0 o1 ob om) opens.kept reached h
 
-    pub judging_stops : (f : Fault) → JudgingStops (HasThen r.place) place a (between i1 i2 im ia) (between o0 o1 ob om) f → CheckAllStops profile place (between i0 i2 ib ia) (between o0 o1 ob om) f
-    judging_stops f h = inr (inl (record { stream = stream_of r a; is = opens.stream; stops = stops_file f (cause_of f) h }))
+      stops_file : (f : Fault) (why : Cause) → JudgingStopsBy (HasThen r.place) (LocatedAfter r (between i1 i2 im ia)) place (byte_told profile place) a (between i1 i2 im ia) (between o0 o1 ob om) f why →
+          JudgingStopsBy (FileThen profile r.head) (LocatedFault (scope_in profile) (between i0 i2 ib ia)) place (byte_told profile place) a (between i0 i2 ib ia) (between o0 o1 ob om) f why
+      stops_file f Writing h = record {
+        js = h.js;
+        last = h.last;
+        judged = judged_file (h.js ++ (h.last ∷ [])) NextStays h.judged;
+        kept = h.kept ∙ opens.kept;
+        written = h.written;
+        count = h.count;
+        short = h.short;
+        writes = h.writes;
+      }
+      stops_file f Reading h = (h.0, located_file h.0 f h.1, h.2 ∙ ap one_more opens.kept, judged_file h.0 NextReadFails h.3)
+      stops_file f Memory h = (
+        h.0,
+        lines_file h.0 h.1,
+        h.2 ∙ opens.kept,
+        elim h.3 [
+          | inl payload ↦ inl (judged_file h.0 NextPayloadLacks payload)
+          | inr lines ↦ inr (lines.0, lines.1, judged_file h.0 (NextIsPayload (payload_of lines.0)) lines.2)
+        ],
+      )
+      stops_file f Content h = (h.0, located_file h.0 f h.1, h.2 ∙ opens.kept, judged_file h.0 (NextHasFault f) h.3)
+
+      pub judging_stops : (f : Fault) → JudgingStops (HasThen r.place) (LocatedAfter r (between i1 i2 im ia)) place (byte_told profile place) a (between i1 i2 im ia) (between o0 o1 ob om) f →
+          CheckAllStops profile place (between i0 i2 ib ia) (between o0 o1 ob om) f
+      judging_stops f h = inr (inl (record { stream = stream_of r a; is = opens.stream; stops = stops_file f (cause_of f) h }))
 
     -- all were judged
     module _ (js : List Judged) (counts : JudgedCounts) (counted : AreCounts counts js) (all : JudgedAll (HasThen r.place) place a (between i1 i2 im ia) (between o0 o1 ob om) js) where

@@ -1,5 +1,5 @@
 -- A file is shown.
-use Rattle.std.proofs.Common.{◌≡◌, refl, ℕ, ◌+◌, ◌<◌, Bool, true, false, Option, Err, List, [], ◌++◌, length, take, inl, inr, ap, sym, subst, ◌∙◌, arith, append-nil, length-append}
+use Rattle.std.proofs.Common.{◌≡◌, refl, ℕ, ◌+◌, Bool, true, false, Option, Err, List, ◌++◌, length, take, inl, inr, ap, sym, subst, ◌∙◌, arith, length-append}
 use Rattle.std.specs.Io.KnownBytes.{Appends}
 use Rattle.std.proofs.KnownBytes.{Appends-kept, Appends-trans, Keeps-refl}
 use Rattle.ffv1_wire.specs.Failures.{one_more}
@@ -19,21 +19,15 @@ use Rattle.ffv1_engine.specs.Play.End.{File, Payload}
 use Rattle.ffv1_engine.specs.Show.{ComesFrom, CostFails, CostPayload, CostStops, CostStopsBy, CostsSome, CostsTo, NoDecoder, ShowStops, ShowsCosts, ShowsStream, StreamStopsBy}
 use Rattle.ffv1_engine.specs.Stream.{AreFrames, Frame, ReadsFile}
 use Rattle.ffv1_engine.specs.StreamLines.{show_text}
-use Rattle.ffv1_engine.specs.Told.{LineFails, PayloadStops, ReadsSome, TellingStops, TellingStopsBy, ToldAll, ToldSome, WritesFrame, WritesLine}
+use Rattle.ffv1_engine.specs.Told.{LineFails, PayloadStops, ReadsSome, TellingStops, TellingStopsBy, ToldAll, ToldLocated, ToldSome, WritesFrame}
 use Rattle.ffv1_engine.proofs.FileChecked.{begins_known, begins_some, begins_to, ends_known, some_of_end}
+use Rattle.ffv1_engine.proofs.FaultsLocated.{nothing_behind}
 use Rattle.ffv1_engine.proofs.FramesTold.{reads_some, take_past}
 
 -- where the lines of the stream were not written, it does not matter whether costs were asked for
 pub before_costs : (profile : Profile) (input output : Passage) (cost : Bool) (f : Fault) → StreamStopsBy profile input output f (cause_of f) → ShowStops profile input output cost f
 before_costs profile input output false f h = h
 before_costs profile input output true f h = inl h
-
--- an empty line after others
-nothing_behind : (lines : List ℕ) (p : Passage) → WritesLine lines [] p → (p.after ≡ p.before) × Appends p.old p.new lines
-nothing_behind lines p h = elim h [
-  | inl whole ↦ (whole.0, subst (Appends p.old p.new) (append-nil lines) whole.1)
-  | inr part ↦ absurd (let none : part.1 < 0 = part.2 in omega (arith, none))
-]
 
 module _ (profile : Profile) (i0 i1 o0 o1 : Option (List ℕ)) (ib im ob om : ℕ) where
   -- a file that is not opened
@@ -100,6 +94,13 @@ module _ (profile : Profile) (i0 i1 i2 o0 o1 o2 : Option (List ℕ)) (ib im ia o
     writes = behind (frame_lines line.Cost a.configuration frames) told.writes;
   }
 
+  -- where no line of a byte is asked for
+  unlocated : (frames : List Frame) (to : Place) (at : Option (List ℕ)) (f : Fault) → ToldLocated line.Cost false false a r (between i1 i2 im ia) (between o1 o2 om oa) frames to at f →
+      ToldSome line.Cost false a r.place (between i1 i2 im ia) (between o1 o2 om oa) frames to at
+  unlocated frames to at f h =
+      let silent = nothing_behind (frame_lines line.Cost a.configuration frames) (between o1 o2 om oa) h.located.writes in
+      record { are = h.are; read = h.read; written = silent.0; writes = silent.1 }
+
   line_fails : (frames : List Frame) → LineFails line.Cost false a r.place (between i1 i2 im ia) (between o1 o2 om oa) frames → CostFails profile (between i0 i2 ib ia) (between o0 o2 ob oa)
   line_fails frames h =
       let text = show_text (container_of r.place) (stream_of r a) in
@@ -123,18 +124,20 @@ module _ (profile : Profile) (i0 i1 i2 o0 o1 o2 : Option (List ℕ)) (ib im ia o
         };
       }
 
-  stops_by : (f : Fault) (why : Cause) → TellingStopsBy line.Cost false a r.place (between i1 i2 im ia) (between o1 o2 om oa) f why → CostStopsBy profile (between i0 i2 ib ia) (between o0 o2 ob oa) f why
+  stops_by : (f : Fault) (why : Cause) → TellingStopsBy line.Cost false false a r (between i1 i2 im ia) (between o1 o2 om oa) f why → CostStopsBy profile (between i0 i2 ib ia) (between o0 o2 ob oa) f why
   stops_by f Writing h = line_fails h.0 h.1
   stops_by f Reading h =
-      (h.4 ∙ ap one_more opens.kept, record { stream = stream_of r a; frames = h.0; to = h.1; at = h.2; costs = up_to h.0 h.1 h.2 h.3; fails = h.5 })
+      (h.4 ∙ ap one_more opens.kept, record { stream = stream_of r a; frames = h.0; to = h.1; at = h.2; costs = up_to h.0 h.1 h.2 (unlocated h.0 h.1 h.2 f h.3); fails = h.5 })
   stops_by f Memory h = (h.4 ∙ opens.kept, inr (record { stream = stream_of r a; frames = h.0; to = h.1; at = h.2; costs = up_to h.0 h.1 h.2 h.3; lacks = h.5 }))
-  stops_by f Content h = record {
-    stream = stream_of r a;
-    frames = h.0;
-    costs = some h.0 h.3.are (reads_some r.place h.1 i1 h.2 h.0 h.3.read) h.3.written h.3.writes;
-    kept = h.4 ∙ opens.kept;
-    ends = ends_known profile i0 i1 i2 (stream_of r a) r.place h.0 (File f) opens.known h.5;
-  }
+  stops_by f Content h =
+      let told = unlocated h.0 h.1 h.2 f h.3 in
+      record {
+        stream = stream_of r a;
+        frames = h.0;
+        costs = some h.0 told.are (reads_some r.place h.1 i1 h.2 h.0 told.read) told.written told.writes;
+        kept = h.4 ∙ opens.kept;
+        ends = ends_known profile i0 i1 i2 (stream_of r a) r.place h.0 (File f) opens.known h.5;
+      }
 
   payload_stops : (f : Fault) → PayloadStops line.Cost false a r.place (between i1 i2 im ia) (between o1 o2 om oa) f → CostPayload profile (between i0 i2 ib ia) (between o0 o2 ob oa) f
   payload_stops f h =
@@ -169,7 +172,7 @@ module _ (profile : Profile) (i0 i1 i2 o0 o1 o2 : Option (List ℕ)) (ib im ia o
         }),
       ))
 
-  pub costs_stop : (f : Fault) → TellingStops line.Cost false a r.place (between i1 i2 im ia) (between o1 o2 om oa) f → CostStops profile (between i0 i2 ib ia) (between o0 o2 ob oa) f
+  pub costs_stop : (f : Fault) → TellingStops line.Cost false false a r (between i1 i2 im ia) (between o1 o2 om oa) f → CostStops profile (between i0 i2 ib ia) (between o0 o2 ob oa) f
   costs_stop f h = elim h [
     | inl payload ↦ inl (payload_stops f payload)
     | inr other ↦ inr (stops_by f (cause_of f) other)

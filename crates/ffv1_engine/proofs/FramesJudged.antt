@@ -8,7 +8,8 @@ use Rattle.ffv1_wire.specs.Failures.{one_more}
 use Rattle.ffv1_wire.specs.Passage.{Passage, between}
 use Rattle.ffv1_record.specs.Configuration.{Configuration}
 use Rattle.ffv1_record.specs.Accepted.{Accepted}
-use Rattle.ffv1_files.specs.Places.{Place}
+use Rattle.ffv1_files.specs.Places.{Place, may_end}
+use Rattle.ffv1_files.specs.Readers.{Standing}
 use Rattle.ffv1_files.specs.Files.{frame_read}
 use Rattle.ffv1_reads.specs.Known.{Known}
 use Rattle.ffv1_engine.specs.declared.fault.Fault.{Fault}
@@ -16,9 +17,12 @@ use Rattle.ffv1_engine.specs.declared.judging.JudgedCounts.{JudgedCounts}
 use Rattle.ffv1_engine.specs.Faults.{Cause, cause_of}
 use Rattle.ffv1_engine.specs.Faults.Cause.{Reading, Writing, Memory, Content}
 use Rattle.ffv1_engine.specs.Stream.{ReadsFrames}
-use Rattle.ffv1_engine.specs.Told.{NextIs, ReadsEnd, ReadsPayload, WritesFrame}
+use Rattle.ffv1_engine.specs.Located.{LocatedAfter, StaysReached, located_text}
+use Rattle.ffv1_engine.specs.Told.{FileStopsBy, NextIs, ReadsEnd, ReadsPayload, WritesFrame, WritesLine}
 use Rattle.ffv1_engine.specs.Trial.{Silent}
-use Rattle.ffv1_engine.specs.Judged.{AreCounts, AreJudged, HasThen, IsJudged, Judged, JudgedAll, JudgedFails, JudgedLineFails, JudgedThen, JudgesFrame, JudgeStopsBy, JudgingStopsBy, NextHasFault, NextIsPayload, NextOver, NextPayloadLacks, NextReadFails, NextStays, WritesJudged, first_of, judged_from, judged_line, judged_lines, one_counted, payload_of, payloads_of, refusal_of, refusals, with_refusal}
+use Rattle.ffv1_engine.specs.Judged.{AreCounts, AreJudged, HasThen, IsJudged, Judged, JudgedAll, JudgedFails, JudgedLineFails, JudgedLocated, JudgedThen, JudgesFrame, JudgeStopsBy, JudgingStopsBy, NextHasFault, NextIsPayload, NextOver, NextPayloadLacks, NextReadFails, NextRefused, NextStays, WritesJudged, first_of, judged_from, judged_line, judged_lines, one_counted, payload_of, payloads_of, refusal_of, refusals, with_refusal}
+use Rattle.ffv1_engine.proofs.FaultsLocated.{memory_silent}
+use Rattle.ffv1_engine.proofs.FramesTold.{located_behind}
 use Rattle.ffv1_engine.proofs.KnownTexts.{known_map, known_then}
 
 -- ---- one more
@@ -181,35 +185,57 @@ module _ (place : Bool) (a : Accepted) (from : Place) where
           writes = Appends-trans o0 o1 o2 (judged_lines place a.configuration so.js) (take part.0 (line (saturated (length so.js)) h.j)) so.writes part.2;
         }
 
-    pub so_stops : (f : Fault) (why : Cause) → JudgeStopsBy place a counts.frames to last (between i1 i2 im ia) (between o1 o2 om oa) f why →
-        JudgingStopsBy (HasThen from) place a (between i0 i2 ib ia) (between o0 o2 ob oa) f why
-    so_stops f Writing h = line_fails h
-    so_stops f Reading h = (so.js, silent h.0, h.1 ∙ ap one_more so.kept, then NextReadFails h.2)
-    so_stops f Memory h = (
-      so.js,
-      silent h.0,
-      h.1 ∙ so.kept,
-      elim h.2 [
-        | inl payload ↦ inl (then NextPayloadLacks payload)
-        | inr lines ↦
-            inr (
-              lines.j,
-              lines.is,
-              then (NextIsPayload (payload_of lines.j))
-                  (known_map i1 i2 (λ text rest. frame_read to text ≡ Ok (Some (payload_of lines.j, last), rest)) (λ text rest. (after : Place) × (frame_read to text ≡ Ok (Some (payload_of lines.j, after), rest)))
-                  (λ text rest is. (last, is)) lines.reads.next),
-            )
-      ],
-    )
-    so_stops f Content h = (so.js, silent h.0, h.1 ∙ so.kept, then (NextHasFault f) h.2)
+-- why no further one is judged
+module _ (place byte : Bool) (a : Accepted) (from to : Standing) (last : Place) (counts : JudgedCounts) (i0 i1 i2 o0 o1 o2 : Option (List ℕ)) (ib im ia ob om oa : ℕ)
+    (so : JudgedSo place a from.place (between i0 i1 ib im) (between o0 o1 ob om) counts to.place) (reached : StaysReached from to (between i0 i1 ib im)) where
+  located : (f : Fault) → NextRefused place byte a counts.frames to last (between i1 i2 im ia) (between o1 o2 om oa) f →
+      JudgedLocated (HasThen from.place) (LocatedAfter from (between i0 i2 ib ia)) place byte a (between i0 i2 ib ia) (between o0 o2 ob oa) so.js f
+  located f h =
+      located_behind from to i0 i1 i2 o0 o1 o2 ib im ia ob om oa byte counts.frames (saturated (length so.js)) (judged_lines place a.configuration so.js) so.counted.frames so.kept reached so.written so.writes f h
+
+  comes : (Next : Place → List ℕ → List ℕ → Type 0) → Known i1 i2 (Next to.place) → JudgedThen (HasThen from.place) place a (between i0 i2 ib ia) (between o0 o2 ob oa) so.js Next
+  comes = then place a from.place to.place last counts i0 i1 i2 o0 o1 o2 ib im ia ob om oa so
+
+  pub so_stops : (f : Fault) (why : Cause) → JudgeStopsBy place byte a counts.frames to last (between i1 i2 im ia) (between o1 o2 om oa) f why →
+      JudgingStopsBy (HasThen from.place) (LocatedAfter from (between i0 i2 ib ia)) place byte a (between i0 i2 ib ia) (between o0 o2 ob oa) f why
+  so_stops f Writing h = line_fails place a from.place to.place last counts i0 i1 i2 o0 o1 o2 ib im ia ob om oa so h
+  so_stops f Reading h = (so.js, located f h.0, h.1 ∙ ap one_more so.kept, comes NextReadFails h.2)
+  so_stops f Memory h = (
+    so.js,
+    silent place a from.place to.place last counts i0 i1 i2 o0 o1 o2 ib im ia ob om oa so h.0,
+    h.1 ∙ so.kept,
+    elim h.2 [
+      | inl payload ↦ inl (comes NextPayloadLacks payload)
+      | inr lines ↦
+          inr (
+            lines.j,
+            lines.is,
+            comes (NextIsPayload (payload_of lines.j))
+                (known_map i1 i2 (λ text rest. frame_read to.place text ≡ Ok (Some (payload_of lines.j, last), rest)) (λ text rest. (after : Place) × (frame_read to.place text ≡ Ok (Some (payload_of lines.j, after), rest)))
+                (λ text rest is. (last, is)) lines.reads.next),
+          )
+    ],
+  )
+  so_stops f Content h = (so.js, located f h.0, h.1 ∙ so.kept, comes (NextHasFault f) h.2)
 
 -- the lines of one that was judged were not written whole, or memory for them was refused
-pub lines_fail : (place : Bool) (a : Accepted) (i : ℕ) (from to : Place) (input output : Passage) (j : Judged) (f : Fault) → IsJudged a j → ReadsPayload from to (payload_of j) input →
-    WritesFrame (judged_line place a.configuration i j) output (Err f) → JudgeStopsBy place a i from to input output f (cause_of f)
-lines_fail place a i from to input output j f is reads h = elim h [
+pub lines_fail : (place byte : Bool) (a : Accepted) (i : ℕ) (from : Standing) (to : Place) (input output : Passage) (j : Judged) (f : Fault) → IsJudged a j → ReadsPayload from.place to (payload_of j) input →
+    WritesFrame (judged_line place a.configuration i j) output (Err f) → JudgeStopsBy place byte a i from to input output f (cause_of f)
+lines_fail place byte a i from to input output j f is reads h = elim h [
   | inl write ↦
-      subst (λ z. JudgeStopsBy place a i from to input output z (cause_of z)) (sym write.0) (record { j = j; is = is; reads = reads; written = write.1; writes = write.2 })
+      subst (λ z. JudgeStopsBy place byte a i from to input output z (cause_of z)) (sym write.0) (record { j = j; is = is; reads = reads; written = write.1; writes = write.2 })
   | inr none ↦
-      subst (λ z. JudgeStopsBy place a i from to input output z (cause_of z)) (sym none.0)
+      subst (λ z. JudgeStopsBy place byte a i from to input output z (cause_of z)) (sym none.0)
       (record { kept = none.2; same = none.1 }, reads.kept, inr (record { j = j; is = is; reads = reads }))
 ]
+
+-- where the file is refused, the line of that was written, or not
+pub next_refused : (place byte : Bool) (a : Accepted) (i : ℕ) (from : Standing) (to : Place) (offset : ℕ) (input output : Passage) (f : Fault) (why : Cause) → cause_of f ≡ why →
+    FileStopsBy (may_end from.place) (frame_read from.place) input f why → LocatedAfter from input f offset → WritesLine [] (located_text byte i f offset) output →
+    JudgeStopsBy place byte a i from to input output f why
+next_refused place byte a i from to offset input output f Reading is h stops writes = (record { offset = offset; stops = stops; writes = writes }, h.0, h.1)
+next_refused place byte a i from to offset input output f Writing is h stops writes = absurd h
+next_refused place byte a i from to offset input output f Memory is h stops writes =
+    let silent = memory_silent byte i f offset output is writes in
+    (record { kept = silent.1; same = silent.0 }, h.0, inl h.1)
+next_refused place byte a i from to offset input output f Content is h stops writes = (record { offset = offset; stops = stops; writes = writes }, h.0, h.1)

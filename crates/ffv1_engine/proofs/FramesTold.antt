@@ -11,6 +11,9 @@ use Rattle.ffv1_record.specs.Accepted.{Accepted}
 use Rattle.ffv1_codec.specs.declared.fault.FrameFault.{FrameFault}
 use Rattle.ffv1_files.specs.Places.{Place}
 use Rattle.ffv1_files.specs.Files.{frame_read}
+use Rattle.ffv1_files.specs.Offsets.{Reached}
+use Rattle.ffv1_files.specs.Readers.{Standing}
+use Rattle.ffv1_files.specs.declared.container.Scope.{Scope}
 use Rattle.ffv1_engine.specs.declared.fault.Fault.{Fault}
 use Rattle.ffv1_engine.specs.declared.frame_line.FrameLine.{FrameLine}
 use Rattle.ffv1_engine.specs.Faults.{Cause, cause_of}
@@ -19,7 +22,8 @@ use Rattle.ffv1_engine.specs.Stream.{AreFrames, Frame, IsFrame, ReadsFrames, pay
 use Rattle.ffv1_engine.specs.Play.{but_last}
 use Rattle.ffv1_engine.specs.Play.End.{File, Payload, Over}
 use Rattle.ffv1_engine.specs.FrameLines.{frame_line, frame_lines, lines_from, place_text}
-use Rattle.ffv1_engine.specs.Told.{NextIs, FaultsKnown, ReadsKnown, ReadsSome, EndsFrom, WritesLine, Told, ToldAll, ToldSome, LineFails, PayloadStops, TellingStopsBy, TellingStops, PlaysFrame, FrameStops, FrameStopsBy, ReadsEnd, Silent}
+use Rattle.ffv1_engine.specs.Located.{LocatedAfter, LocatedFault, StaysReached, located_text}
+use Rattle.ffv1_engine.specs.Told.{FileRefused, NextIs, FaultsKnown, ReadsKnown, ReadsSome, EndsFrom, WritesLine, WritesLocated, Told, ToldAll, ToldLocated, ToldSome, LineFails, PayloadStops, TellingStopsBy, TellingStops, PlaysFrame, FrameStops, FrameStopsBy, ReadsEnd, Silent}
 
 pub take_past : (xs ys : List ℕ) (k : ℕ) → take (length xs + k) (xs ++ ys) ≡ xs ++ take k ys
 take_past [] ys k =
@@ -114,6 +118,26 @@ line_behind o m n b c a lines last same first next = elim next [
   | inr part ↦ inr (part.0 ∙ ap one_more same, part.1, part.2, Appends-trans o m n lines (take part.1 last) first part.3)
 ]
 
+-- where a file is refused after what a reader has read, and after lines that were written
+pub located_behind : (from to : Standing) (i0 i1 i2 o0 o1 o2 : Option (List ℕ)) (ib im ia ob om oa : ℕ) (byte : Bool) (i n : ℕ) (lines : List ℕ) → i ≡ n → im ≡ ib → StaysReached from to (between i0 i1 ib im) →
+    om ≡ ob → Appends o0 o1 lines → (f : Fault) → WritesLocated (LocatedAfter to (between i1 i2 im ia)) byte i [] f (between o1 o2 om oa) → WritesLocated (LocatedAfter from (between i0 i2 ib ia)) byte n lines f (between o0 o2 ob oa)
+located_behind from to i0 i1 i2 o0 o1 o2 ib im ia ob om oa byte i n lines is kept reached written first f h = record {
+  offset = h.offset;
+  stops = λ scope text begun. subst (λ z. LocatedFault scope (between text i2 z ia) f h.offset) kept (h.stops scope text (reached scope text begun));
+  writes =
+      subst (λ z. WritesLine lines (located_text byte z f h.offset) (between o0 o2 ob oa)) is
+      (line_behind o0 o1 o2 ob om oa lines (located_text byte i f h.offset) written first h.writes);
+}
+
+-- the same of a whole file
+pub located_whole : (scope : Scope) (r : Standing) (i0 i1 i2 : Option (List ℕ)) (ib im ia : ℕ) (byte : Bool) (i : ℕ) (lines : List ℕ) (f : Fault) (output : Passage) → im ≡ ib → Reached scope i0 i1 r →
+    WritesLocated (LocatedAfter r (between i1 i2 im ia)) byte i lines f output → WritesLocated (LocatedFault scope (between i0 i2 ib ia)) byte i lines f output
+located_whole scope r i0 i1 i2 ib im ia byte i lines f output kept reached h = record {
+  offset = h.offset;
+  stops = subst (λ z. LocatedFault scope (between i0 i2 z ia) f h.offset) kept (h.stops scope i0 reached);
+  writes = h.writes;
+}
+
 module _ (kind : FrameLine) (place : Bool) (a : Accepted) (from : Place) where
   pub told_none : (i o : Option (List ℕ)) (ib ob : ℕ) → Told kind place a from (between i i ib ib) (between o o ob ob) [] from
   told_none i o ib ob = record { are = tt; read = reads_none from i; kept = refl; written = refl; writes = Appends-nil o }
@@ -173,13 +197,6 @@ module _ (kind : FrameLine) (place : Bool) (a : Accepted) (from : Place) where
           };
         }
 
-    pub stops_by : (f : Fault) (why : Cause) → FrameStopsBy kind place a number to last (between i1 i2 im ia) (between o1 o2 om oa) f why →
-        TellingStopsBy kind place a from (between i0 i2 ib ia) (between o0 o2 ob oa) f why
-    stops_by f Writing h = (frames ++ (h.0 ∷ []), line_fails h.0 h.1 h.2 h.3.0 h.3.1 h.3.2)
-    stops_by f Reading h = (frames, to, i1, some h.0, h.1 ∙ ap one_more told.kept, h.2)
-    stops_by f Memory h = (frames, to, i1, some h.0, h.1 ∙ told.kept, h.2)
-    stops_by f Content h = (frames, to, i1, some h.0, h.1 ∙ told.kept, ends_file from to i0 i1 i2 frames f told.read h.2)
-
     payload_stops : (f : Fault) → FrameStops kind place a number to last (between i1 i2 im ia) (between o1 o2 om oa) f → PayloadStops kind place a from (between i0 i2 ib ia) (between o0 o2 ob oa) f
     payload_stops f h = record {
       frames = frames;
@@ -197,12 +214,33 @@ module _ (kind : FrameLine) (place : Bool) (a : Accepted) (from : Place) where
           (line_behind o0 o1 o2 ob om oa (frame_lines kind a.configuration frames) (place_text place number h.fault h.tally) told.written told.writes h.writes);
     }
 
-    pub telling_stops : (f : Fault) → FrameStops kind place a number to last (between i1 i2 im ia) (between o1 o2 om oa) f ⊎
-        FrameStopsBy kind place a number to last (between i1 i2 im ia) (between o1 o2 om oa) f (cause_of f) → TellingStops kind place a from (between i0 i2 ib ia) (between o0 o2 ob oa) f
-    telling_stops f h = elim h [
-      | inl payload ↦ inl (payload_stops f payload)
-      | inr other ↦ inr (stops_by f (cause_of f) other)
-    ]
+module _ (kind : FrameLine) (place byte : Bool) (a : Accepted) (from to : Standing) (last : Place) (number : ℕ) (i0 i1 i2 o0 o1 o2 : Option (List ℕ)) (ib im ia ob om oa : ℕ) (frames : List Frame)
+    (is : number ≡ saturated (length frames)) (told : Told kind place a from.place (between i0 i1 ib im) (between o0 o1 ob om) frames to.place) (reached : StaysReached from to (between i0 i1 ib im)) where
+  located : (f : Fault) → FileRefused kind place byte a number to last (between i1 i2 im ia) (between o1 o2 om oa) f →
+      ToldLocated kind place byte a from (between i0 i2 ib ia) (between o0 o2 ob oa) frames to.place i1 f
+  located f h = record {
+    are = told.are;
+    read = told.read;
+    located =
+        located_behind from to i0 i1 i2 o0 o1 o2 ib im ia ob om oa byte number (saturated (length frames)) (frame_lines kind a.configuration frames) is told.kept reached told.written told.writes f h;
+  }
+
+  stops_by : (f : Fault) (why : Cause) → FrameStopsBy kind place byte a number to last (between i1 i2 im ia) (between o1 o2 om oa) f why →
+      TellingStopsBy kind place byte a from (between i0 i2 ib ia) (between o0 o2 ob oa) f why
+  stops_by f Writing h =
+      (frames ++ (h.0 ∷ []), line_fails kind place a from.place to.place last number i0 i1 i2 o0 o1 o2 ib im ia ob om oa frames is told h.0 h.1 h.2 h.3.0 h.3.1 h.3.2)
+  stops_by f Reading h = (frames, to.place, i1, located f h.0, h.1 ∙ ap one_more told.kept, h.2)
+  stops_by f Memory h =
+      (frames, to.place, i1, some kind place a from.place to.place last number i0 i1 i2 o0 o1 o2 ib im ia ob om oa frames is told h.0, h.1 ∙ told.kept, h.2)
+  stops_by f Content h = (frames, to.place, i1, located f h.0, h.1 ∙ told.kept, ends_file from.place to.place i0 i1 i2 frames f told.read h.2)
+
+  pub telling_stops : (f : Fault) → FrameStops kind place a number to.place last (between i1 i2 im ia) (between o1 o2 om oa) f ⊎
+      FrameStopsBy kind place byte a number to last (between i1 i2 im ia) (between o1 o2 om oa) f (cause_of f) →
+      TellingStops kind place byte a from (between i0 i2 ib ia) (between o0 o2 ob oa) f
+  telling_stops f h = elim h [
+    | inl payload ↦ inl (payload_stops kind place a from.place to.place last number i0 i1 i2 o0 o1 o2 ib im ia ob om oa frames is told f payload)
+    | inr other ↦ inr (stops_by f (cause_of f) other)
+  ]
 
 -- so many frames were told
 pub record ToldSo (kind : FrameLine) (place : Bool) (a : Accepted) (from : Place) (input output : Passage) (count : ℕ) (to : Place) : Type 0 where

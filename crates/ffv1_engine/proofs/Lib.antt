@@ -10,6 +10,7 @@ mod VideoHeads
 mod VideoPictures
 mod VideoFits
 mod VideoChecks
+mod FrameBack
 mod PicturesEncoded
 mod PicturesRead
 mod PicturesSoFar
@@ -20,6 +21,7 @@ mod MatroskaPacked
 mod VideoEnds
 mod FrameBytes
 mod FilePacked
+mod FaultsLocated
 mod FramesTold
 mod Openings
 mod FrameDecoded

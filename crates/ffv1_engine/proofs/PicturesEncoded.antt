@@ -8,11 +8,10 @@ use Rattle.ffv1_codec.specs.Frame.{frame_of, HasLongSlice}
 use Rattle.ffv1_codec.specs.Picture.{Planes}
 use Rattle.ffv1_codec.specs.SliceList.{Said}
 use Rattle.ffv1_avi.specs.Written.{frames_of}
-use Rattle.ffv1_codec.specs.declared.fault.CodecFault.{CodecFault}
-use Rattle.ffv1_codec.specs.declared.fault.CodecFault.TheVariants as codec_fault
 use Rattle.ffv1_engine.specs.declared.fault.Fault.{Fault}
+use Rattle.ffv1_engine.specs.declared.fault.Fault.TheVariants as fault
 use Rattle.ffv1_engine.specs.Encoding.{EncodesNext, EncodesOne, StopsBy, StopsNext}
-use Rattle.ffv1_engine.specs.Faults.{Cause, cause_of, of_codec}
+use Rattle.ffv1_engine.specs.Faults.{Cause, cause_of}
 use Rattle.ffv1_engine.specs.Faults.Cause.{Reading, Writing, Memory, Content}
 use Rattle.ffv1_engine.specs.Packing.{said_for}
 use Rattle.ffv1_engine.specs.VideoReads.{NextRead, NextRefused, NextRefusedBy, VideoReading}
@@ -56,10 +55,10 @@ pub next_stops : (p : Passage) (a : Accepted) (r : VideoReading) (f : Fault) →
 next_stops p a r f n = next_stops_by (cause_of f) p a r f n
 
 -- or no frame of it
-pub frame_stops : (p : Passage) (a : Accepted) (r s : VideoReading) (planes picture : Planes) (info : Said) (g : CodecFault) → NextRead p r (Some planes) s → picture ≡ planes → info ≡ said_for r.head
-    → (g ≡ codec_fault.OutOfMemory) ⊎ ((g ≡ codec_fault.SliceTooLong) × HasLongSlice a picture info) → StopsNext p a r (of_codec g)
-frame_stops p a r s planes picture info g read same said (inl e) = subst (λ x. StopsNext p a r (of_codec x)) (sym e) (inr (planes, s, read))
-frame_stops p a r s planes picture info g read same said (inr (e, long)) = subst (λ x. StopsNext p a r (of_codec x)) (sym e) (inr (record {
+pub frame_stops : (p : Passage) (a : Accepted) (r s : VideoReading) (planes picture : Planes) (info : Said) (f : Fault) → NextRead p r (Some planes) s → picture ≡ planes → info ≡ said_for r.head
+    → (f ≡ fault.OutOfMemory) ⊎ ((f ≡ fault.SliceTooLong) × HasLongSlice a picture info) → StopsNext p a r f
+frame_stops p a r s planes picture info f read same said (inl e) = subst (StopsNext p a r) (sym e) (inr (planes, s, read))
+frame_stops p a r s planes picture info f read same said (inr (e, long)) = subst (StopsNext p a r) (sym e) (inr (record {
   planes = planes;
   after = s;
   read = read;

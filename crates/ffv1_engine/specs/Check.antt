@@ -1,6 +1,6 @@
 -- What `check` writes, and why it is refused.
-use Rattle.std.specs.Prelude.{◌≡◌, ◌⊎◌, ℕ, ◌<◌, Bool, true, List, ◌++◌, length, codes, decimal}
-use Rattle.std.specs.Prelude.{Option}
+use Rattle.std.specs.Prelude.{◌≡◌, ◌⊎◌, ℕ, ◌<◌, Bool, true, List, [], ◌++◌, length, codes}
+use Rattle.std.specs.Prelude.{Option, decimal}
 use Rattle.std.specs.Io.KnownBytes.{Appends, Keeps}
 use Rattle.ffv1_range.specs.Counts.{saturated}
 use Rattle.ffv1_range.specs.declared.tally.Tally.{Tally}
@@ -16,13 +16,16 @@ use Rattle.ffv1_engine.specs.declared.frame_line.FrameLine.TheVariants as line
 use Rattle.ffv1_engine.specs.Containers.{is_profile_fault}
 use Rattle.ffv1_engine.specs.Faults.{Cause, cause_of, of_codec}
 use Rattle.ffv1_engine.specs.Faults.Cause.{Reading, Writing, Memory, Content}
+use Rattle.ffv1_engine.specs.Located.{LocatedFault, byte_told}
+use Rattle.ffv1_engine.specs.Profiles.{scope_in}
 use Rattle.ffv1_engine.specs.Opens.{OpeningLacks, OpeningWants, is_opening_fault}
 use Rattle.ffv1_engine.specs.Stream.{BeginsKnown, BeginsTo, FaultsFrame, Frame, ReadsFile, Stream}
 use Rattle.ffv1_engine.specs.Play.{BeginsSome, End, EndsKnown, EndsWith, IsOfFile, LacksStream}
 use Rattle.ffv1_engine.specs.Play.{Played, WritesUpTo, but_last}
 use Rattle.ffv1_engine.specs.Play.End.{Over, Payload}
 use Rattle.ffv1_engine.specs.FrameLines.{frame_lines, place_text}
-use Rattle.ffv1_engine.specs.Told.{LineLacks, NextFails, PayloadLacks, WritesLine, is_telling_fault}
+use Rattle.ffv1_engine.specs.Told.{LineLacks, NextFails, PayloadLacks, WritesLine, WritesLocated}
+use Rattle.ffv1_engine.specs.Told.{is_telling_fault}
 
 -- how many frames there were
 unfoldable pub count_line : ℕ → List ℕ
@@ -49,15 +52,17 @@ module _ (profile : Profile) (place : Bool) (input output : Passage) where
     pub written : output.after ≡ output.before
     pub none : Keeps output.old output.new
 
-  -- the file begins with these frames, and their lines were written
-  pub record ChecksSome (stream : Stream) (frames : List Frame) : Type 0 where
-    pub played : Played profile stream frames
-    pub begins : BeginsSome profile input.old stream frames
-    pub written : output.after ≡ output.before
-    pub writes : Appends output.old output.new
-        (frame_lines line.Sizes stream.accepted.configuration frames)
+  -- after these lines the file is refused, where so many frames come before
+  abbrev pub CheckLocated : ℕ → List ℕ → Fault → Type 0
+  CheckLocated number lines f = WritesLocated (LocatedFault (scope_in profile) input)
+      (byte_told profile place) number lines f output
 
-  -- the same up to where this holds
+  -- the same after the lines of these frames
+  abbrev pub CheckLocatedAfter : Stream → List Frame → Fault → Type 0
+  CheckLocatedAfter stream frames f = CheckLocated (saturated (length frames))
+      (frame_lines line.Sizes stream.accepted.configuration frames) f
+
+  -- the file begins with these frames up to where this holds, and their lines were written
   pub record ChecksTo (stream : Stream) (frames : List Frame) (to : Place) (at : Option (List ℕ))
       : Type 0 where
     pub played : Played profile stream frames
@@ -101,12 +106,14 @@ module _ (profile : Profile) (place : Bool) (input output : Passage) where
         (frame_lines line.Sizes stream.accepted.configuration frames)
 
   -- a read of the next frame failed
-  pub record CheckReadFails : Type 0 where
+  pub record CheckReadFails (f : Fault) : Type 0 where
     pub stream : Stream
     pub frames : List Frame
     pub to : Place
     pub at : Option (List ℕ)
-    pub checks : ChecksTo stream frames to at
+    pub played : Played profile stream frames
+    pub begins : BeginsTo profile input.old at stream frames to
+    pub located : CheckLocatedAfter stream frames f
     pub fails : NextFails to at input.new
 
   -- memory was refused for the next payload, or for its line
@@ -124,7 +131,9 @@ module _ (profile : Profile) (place : Bool) (input output : Passage) where
     pub frames : List Frame
     pub end : End
     pub file : IsOfFile end
-    pub checks : ChecksSome stream frames
+    pub played : Played profile stream frames
+    pub begins : BeginsSome profile input.old stream frames
+    pub located : CheckLocatedAfter stream frames f
     pub ends : EndsKnown profile input.old input.new stream frames end
     pub is : EndsWith frames end f
 
@@ -151,14 +160,14 @@ module _ (profile : Profile) (place : Bool) (input output : Passage) where
   CheckStopsBy f Writing = CheckLineFails ⊎ CheckCountFails
   CheckStopsBy f Reading =
       (input.after ≡ one_more input.before)
-      × ((Unwritten × OpeningWants profile input.old input.new) ⊎ CheckReadFails)
+      × ((CheckLocated 0 [] f × OpeningWants profile input.old input.new) ⊎ CheckReadFails f)
   CheckStopsBy f Memory =
       (input.after ≡ input.before)
       × ((Unwritten × OpeningLacks profile input.old input.new)
       ⊎ CheckFrameLacks ⊎ CheckCountLacks)
   CheckStopsBy f Content =
       (input.after ≡ input.before)
-      × ((Unwritten × LacksStream profile input.old input.new f) ⊎ CheckEnds f)
+      × ((CheckLocated 0 [] f × LacksStream profile input.old input.new f) ⊎ CheckEnds f)
 
   -- why it is refused
   abbrev pub CheckStops : Fault → Type 0

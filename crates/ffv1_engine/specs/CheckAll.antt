@@ -13,12 +13,13 @@ use Rattle.ffv1_reads.specs.Known.{Known}
 use Rattle.ffv1_engine.specs.declared.profile.Profile.{Profile}
 use Rattle.ffv1_engine.specs.declared.fault.Fault.{Fault}
 use Rattle.ffv1_engine.specs.declared.fault.Fault.TheVariants as fault
-use Rattle.ffv1_engine.specs.Check.{Unwritten}
+use Rattle.ffv1_engine.specs.Check.{CheckLocated, Unwritten}
 use Rattle.ffv1_engine.specs.Faults.{Cause, cause_of}
 use Rattle.ffv1_engine.specs.Faults.Cause.{Reading, Writing, Memory, Content}
 use Rattle.ffv1_engine.specs.Judged.{AreJudged, HasThen, Judged, JudgedThen, JudgingStopsBy}
 use Rattle.ffv1_engine.specs.Judged.{NextOver, WritesJudged, counts_line, judged_lines, payloads_of}
 use Rattle.ffv1_engine.specs.Judged.{refusals}
+use Rattle.ffv1_engine.specs.Located.{LocatedFault, byte_told}
 use Rattle.ffv1_engine.specs.Opens.{LacksOpening}
 use Rattle.ffv1_engine.specs.Profiles.{scope_in}
 use Rattle.ffv1_engine.specs.Stream.{HoldsPayloads, IsStream, Stream}
@@ -99,13 +100,13 @@ module _ (profile : Profile) (place : Bool) (input output : Passage) where
   pub record CheckAllGoes (f : Fault) (why : Cause) : Type 0 where
     pub stream : Stream
     pub is : IsStream profile stream
-    pub stops : JudgingStopsBy (FileThen profile stream.head) place stream.accepted input output f
-        why
+    pub stops : JudgingStopsBy (FileThen profile stream.head)
+        (LocatedFault (scope_in profile) input) place (byte_told profile place) stream.accepted
+        input output f why
 
-  -- why it is refused: the file was not opened, with nothing written; or it has no further frame
-  -- that is judged, which no fault of a payload is a reason for; or the line after all frames is
-  -- not there
+  -- why it is refused: the file was not opened; or it has no further frame that is judged, which no
+  -- fault of a payload is a reason for; or the line after all frames is not there
   abbrev pub CheckAllStops : Fault → Type 0
   CheckAllStops f =
-      (Unwritten profile place input output × LacksOpening profile input f)
+      (CheckLocated profile place input output 0 [] f × LacksOpening profile input f)
       ⊎ CheckAllGoes f (cause_of f) ⊎ CheckAllEndsBy f (cause_of f)

@@ -113,6 +113,22 @@ cause_of fault.Write = Writing
 cause_of fault.OutOfMemory = Memory
 cause_of f = Content
 
+-- the faults of a file itself: of its chunks or elements, and of a read of them
+abbrev pub is_file_fault : Fault → Bool
+is_file_fault fault.NotAvi = true
+is_file_fault fault.NoFfv1 = true
+is_file_fault fault.Truncated = true
+is_file_fault fault.ChunkTooLong = true
+is_file_fault fault.EmptyFrame = true
+is_file_fault fault.Read = true
+is_file_fault fault.NotMatroska = true
+is_file_fault fault.BadElement = true
+is_file_fault fault.NoTracks = true
+is_file_fault fault.Encoded = true
+is_file_fault fault.Laced = true
+is_file_fault fault.Checksum = true
+is_file_fault f = false
+
 -- the faults that a file of Matroska alone has
 abbrev pub is_matroska_fault : Fault → Bool
 is_matroska_fault fault.NotMatroska = true

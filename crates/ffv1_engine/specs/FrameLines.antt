@@ -56,6 +56,12 @@ place_line i f decisions =
     (codes "fault frame " ++ decimal i) ++ part_of_frame f
     ++ (codes " decisions " ++ decimal decisions) ++ codes "\n"
 
+-- the number of the frame that would come next, and how many bytes of the file come before the
+-- element or chunk at fault
+unfoldable pub offset_line : ℕ → ℕ → List ℕ
+offset_line i offset =
+    (codes "fault frame " ++ decimal i) ++ (codes " byte " ++ decimal offset) ++ codes "\n"
+
 -- a part of a line was written; or a write failed, which was counted, after a beginning of it
 abbrev pub WritesPart : {E : Type 0} → List ℕ → Passage → Result (Unit {0}) E → Type 0
 WritesPart text p (Ok done) = (p.after ≡ p.before) × Appends p.old p.new text

@@ -18,6 +18,7 @@ use Rattle.ffv1_codec.specs.declared.fault.FrameFault.{FrameFault}
 use Rattle.ffv1_files.specs.Answers.{ReadFails, WantsMore}
 use Rattle.ffv1_files.specs.Places.{Place, may_end}
 use Rattle.ffv1_files.specs.Files.{frame_read}
+use Rattle.ffv1_files.specs.Readers.{Standing}
 use Rattle.ffv1_reads.specs.Reads.{Kept}
 use Rattle.ffv1_reads.specs.Known.{Known}
 use Rattle.ffv1_engine.specs.declared.fault.Fault.{Fault}
@@ -28,7 +29,9 @@ use Rattle.ffv1_engine.specs.Faults.Cause.{Reading, Writing, Memory, Content}
 use Rattle.ffv1_engine.specs.Stream.{FaultsFrame, Frame, IsFrame, ReadsFrames}
 use Rattle.ffv1_engine.specs.Play.{FaultsRead}
 use Rattle.ffv1_engine.specs.FrameLines.{frame_line, place_text}
+use Rattle.ffv1_engine.specs.Located.{LocatedAfter}
 use Rattle.ffv1_engine.specs.Told.{FaultsKnown, NextFails, PayloadLacks, ReadsEnd, ReadsPayload}
+use Rattle.ffv1_engine.specs.Told.{WritesLocated}
 use Rattle.ffv1_engine.specs.Trial.{Silent}
 
 -- ---- payloads that are judged
@@ -201,18 +204,27 @@ module _ (Has : List (List ℕ) → (Place → List ℕ → List ℕ → Type 0)
   JudgingLacks js = JudgedThen js NextPayloadLacks
       ⊎ ((j : Judged) × IsJudged a j × JudgedThen js (NextIsPayload (payload_of j)))
 
+-- by how a file has payloads, and which offset it stops at
+module _ (Has : List (List ℕ) → (Place → List ℕ → List ℕ → Type 0) → List ℕ → List ℕ → Type 0)
+    (Stops : Fault → ℕ → Type 0) (place byte : Bool) (a : Accepted) (input output : Passage) where
+  -- the lines of these were written, and after them the file is refused
+  abbrev pub JudgedLocated : List Judged → Fault → Type 0
+  JudgedLocated js f = WritesLocated Stops byte (saturated (length js))
+      (judged_lines place a.configuration js) f output
+
   -- why no further one is judged, by the cause: a write failed; a read of the next one failed,
   -- which was counted; memory for it was refused; or the file has this fault
   abbrev pub JudgingStopsBy : Fault → Cause → Type 0
-  JudgingStopsBy f Writing = JudgedLineFails
+  JudgingStopsBy f Writing = JudgedLineFails Has place a input output
   JudgingStopsBy f Reading =
-      (js : List Judged) × WritesJudged js × (input.after ≡ one_more input.before)
-      × JudgedThen js NextReadFails
+      (js : List Judged) × JudgedLocated js f × (input.after ≡ one_more input.before)
+      × JudgedThen Has place a input output js NextReadFails
   JudgingStopsBy f Memory =
-      (js : List Judged) × WritesJudged js × (input.after ≡ input.before) × JudgingLacks js
+      (js : List Judged) × WritesJudged Has place a input output js × (input.after ≡ input.before)
+      × JudgingLacks Has place a input output js
   JudgingStopsBy f Content =
-      (js : List Judged) × WritesJudged js × (input.after ≡ input.before)
-      × JudgedThen js (NextHasFault f)
+      (js : List Judged) × JudgedLocated js f × (input.after ≡ input.before)
+      × JudgedThen Has place a input output js (NextHasFault f)
 
   abbrev pub JudgingStops : Fault → Type 0
   JudgingStops f = JudgingStopsBy f (cause_of f)
@@ -241,21 +253,31 @@ module _ (place : Bool) (a : Accepted) (i : ℕ) (from to : Place) (input output
     pub is : IsJudged a j
     pub reads : ReadsPayload from to (payload_of j) input
 
+-- from this reader on
+module _ (place byte : Bool) (a : Accepted) (i : ℕ) (from : Standing) (to : Place)
+    (input output : Passage) where
+  -- the file is refused
+  abbrev pub NextRefused : Fault → Type 0
+  NextRefused f = WritesLocated (LocatedAfter from input) byte i [] f output
+
   -- why there is none, or its lines were not written, by the cause
   abbrev pub JudgeStopsBy : Fault → Cause → Type 0
-  JudgeStopsBy f Writing = JudgedFails
+  JudgeStopsBy f Writing = JudgedFails place a i from.place to input output
   JudgeStopsBy f Reading =
-      Silent output × (input.after ≡ one_more input.before) × NextFails from input.old input.new
+      NextRefused f × (input.after ≡ one_more input.before)
+      × NextFails from.place input.old input.new
   JudgeStopsBy f Memory =
       Silent output × (input.after ≡ input.before)
-      × (PayloadLacks from input.old input.new ⊎ JudgedLacks)
+      × (PayloadLacks from.place input.old input.new
+      ⊎ JudgedLacks place a i from.place to input output)
   JudgeStopsBy f Content =
-      Silent output × (input.after ≡ input.before)
-      × FaultsKnown (frame_read from) input.old input.new f
+      NextRefused f × (input.after ≡ input.before)
+      × FaultsKnown (frame_read from.place) input.old input.new f
 
   -- what judging a frame answers, by the counts before and after
   abbrev pub JudgeAnswers : JudgedCounts → JudgedCounts → Result Bool Fault → Type 0
   JudgeAnswers old new (Ok true) =
-      (j : Judged) × JudgesFrame j × (new ≡ one_counted old (refusal_of j))
-  JudgeAnswers old new (Ok false) = ReadsEnd from input × Silent output × (new ≡ old)
+      (j : Judged) × JudgesFrame place a i from.place to input output j
+      × (new ≡ one_counted old (refusal_of j))
+  JudgeAnswers old new (Ok false) = ReadsEnd from.place input × Silent output × (new ≡ old)
   JudgeAnswers old new (Err f) = JudgeStopsBy f (cause_of f)

@@ -15,6 +15,7 @@ pub mod Play
 pub mod VideoReads
 pub mod Encoding
 pub mod FrameLines
+pub mod Located
 pub mod Opens
 pub mod Told
 pub mod Judged
@@ -23,6 +24,7 @@ pub mod CheckAll
 pub mod Unpacked
 pub mod Unpacking
 pub mod PicturesOut
+pub mod Verifying
 pub mod Unpack
 pub mod ImagesOut
 pub mod StreamLines

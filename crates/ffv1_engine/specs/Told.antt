@@ -18,6 +18,7 @@ use Rattle.ffv1_files.specs.Places.{Place}
 use Rattle.ffv1_files.specs.declared.container.Container.{Container}
 use Rattle.ffv1_files.specs.Files.{frame_read}
 use Rattle.ffv1_files.specs.Places.{may_end}
+use Rattle.ffv1_files.specs.Readers.{Standing}
 use Rattle.ffv1_reads.specs.Reads as avi
 use Rattle.ffv1_reads.specs.Known.{Known}
 use Rattle.ffv1_engine.specs.declared.fault.Fault.{Fault}
@@ -32,6 +33,7 @@ use Rattle.ffv1_engine.specs.Stream.{AreFrames, FaultsFrame, Frame, IsFrame, Rea
 use Rattle.ffv1_engine.specs.Play.{End, EndsReading, FaultsRead, WritesUpTo, but_last}
 use Rattle.ffv1_engine.specs.Play.End.{File, Payload, Over}
 use Rattle.ffv1_engine.specs.FrameLines.{frame_line, frame_lines, place_text}
+use Rattle.ffv1_engine.specs.Located.{LocatedAfter, located_text}
 
 -- where the text is known, it reads so from this place of the file
 abbrev pub NextIs : Place → Option (List ℕ) → Option (List ℕ) →
@@ -125,6 +127,14 @@ WritesLine lines last p =
     ⊎ ((p.after ≡ one_more p.before) × (k : ℕ) × (k < length last)
     × Appends p.old p.new (lines ++ take k last))
 
+-- after these lines the file is refused, where so many frames come before: the line of that was
+-- written, where it is asked for, with the offset at which it stops
+pub record WritesLocated (Stops : Fault → ℕ → Type 0) (byte : Bool) (number : ℕ) (lines : List ℕ)
+    (f : Fault) (output : Passage) : Type 0 where
+  pub offset : ℕ
+  pub stops : Stops f offset
+  pub writes : WritesLine lines (located_text byte number f offset) output
+
 module _ (kind : FrameLine) (place : Bool) (a : Accepted) (from : Place)
     (input output : Passage) where
   -- these frames were decoded, and their lines written
@@ -176,23 +186,36 @@ module _ (kind : FrameLine) (place : Bool) (a : Accepted) (from : Place)
     pub writes : WritesLine (frame_lines kind a.configuration frames)
         (place_text place (saturated (length frames)) fault tally) output
 
+module _ (kind : FrameLine) (place byte : Bool) (a : Accepted) (from : Standing)
+    (input output : Passage) where
+  -- after these frames, which are read up to a place where this stands, the file is refused
+  pub record ToldLocated (frames : List Frame) (to : Place) (at : Option (List ℕ)) (f : Fault)
+      : Type 0 where
+    pub are : AreFrames a frames
+    pub read : ReadsKnown from.place input.old at frames to
+    pub located : WritesLocated (LocatedAfter from input) byte (saturated (length frames))
+        (frame_lines kind a.configuration frames) f output
+
   -- or why there is no further frame, by the cause: a write failed; a read of the next one failed,
   -- which was counted; memory for it was refused; or the file has this fault
   abbrev pub TellingStopsBy : Fault → Cause → Type 0
-  TellingStopsBy f Writing = (frames : List Frame) × LineFails frames
+  TellingStopsBy f Writing =
+      (frames : List Frame) × LineFails kind place a from.place input output frames
   TellingStopsBy f Reading =
-      (frames : List Frame) × (to : Place) × (at : Option (List ℕ)) × ToldSome frames to at
+      (frames : List Frame) × (to : Place) × (at : Option (List ℕ)) × ToldLocated frames to at f
       × (input.after ≡ one_more input.before) × NextFails to at input.new
   TellingStopsBy f Memory =
-      (frames : List Frame) × (to : Place) × (at : Option (List ℕ)) × ToldSome frames to at
+      (frames : List Frame) × (to : Place) × (at : Option (List ℕ))
+      × ToldSome kind place a from.place input output frames to at
       × (input.after ≡ input.before)
       × (PayloadLacks to at input.new ⊎ LineLacks a to at input.new)
   TellingStopsBy f Content =
-      (frames : List Frame) × (to : Place) × (at : Option (List ℕ)) × ToldSome frames to at
-      × (input.after ≡ input.before) × EndsFrom from input.old input.new frames (File f)
+      (frames : List Frame) × (to : Place) × (at : Option (List ℕ)) × ToldLocated frames to at f
+      × (input.after ≡ input.before) × EndsFrom from.place input.old input.new frames (File f)
 
   abbrev pub TellingStops : Fault → Type 0
-  TellingStops f = PayloadStops f ⊎ TellingStopsBy f (cause_of f)
+  TellingStops f =
+      PayloadStops kind place a from.place input output f ⊎ TellingStopsBy f (cause_of f)
 
 -- a frame was read and decoded
 pub record PlaysFrame (a : Accepted) (from to : Place) (input : Passage) (f : Frame) : Type 0 where
@@ -218,30 +241,42 @@ module _ (kind : FrameLine) (place : Bool) (a : Accepted) (i : ℕ) (from to : P
     pub written : output.after ≡ output.before
     pub none : Keeps output.old output.new
 
+-- of the frame with this number, from this reader on
+module _ (kind : FrameLine) (place byte : Bool) (a : Accepted) (i : ℕ) (from : Standing)
+    (to : Place) (input output : Passage) where
+  -- the file is refused
+  abbrev pub FileRefused : Fault → Type 0
+  FileRefused f = WritesLocated (LocatedAfter from input) byte i [] f output
+
   -- or why there is none, or it is not told, by the cause
   abbrev pub FrameStopsBy : Fault → Cause → Type 0
   FrameStopsBy f Writing =
-      (frame : Frame) × PlaysFrame a from to input frame
+      (frame : Frame) × PlaysFrame a from.place to input frame
       × (output.after ≡ one_more output.before)
       × AppendsBeginning output.old output.new
       (frame_line kind a.configuration i frame.payload frame.tally)
   FrameStopsBy f Reading =
-      Silent × (input.after ≡ one_more input.before) × NextFails from input.old input.new
+      FileRefused f × (input.after ≡ one_more input.before)
+      × NextFails from.place input.old input.new
   FrameStopsBy f Memory =
-      Silent × (input.after ≡ input.before)
-      × (PayloadLacks from input.old input.new ⊎ LineLacks a from input.old input.new)
+      Silent kind place a i from.place to input output × (input.after ≡ input.before)
+      × (PayloadLacks from.place input.old input.new ⊎ LineLacks a from.place input.old input.new)
   FrameStopsBy f Content =
-      Silent × (input.after ≡ input.before)
-      × FaultsKnown (frame_read from) input.old input.new f
+      FileRefused f × (input.after ≡ input.before)
+      × FaultsKnown (frame_read from.place) input.old input.new f
 
   -- what telling a frame answers: that it was told, that there is none, or why it was not
   abbrev pub FrameAnswers : Result Bool Fault → Type 0
   FrameAnswers (Ok true) =
-      (frame : Frame) × PlaysFrame a from to input frame × (output.after ≡ output.before)
+      (frame : Frame) × PlaysFrame a from.place to input frame
+      × (output.after ≡ output.before)
       × Appends output.old output.new
       (frame_line kind a.configuration i frame.payload frame.tally)
-  FrameAnswers (Ok false) = ReadsEnd from input × Silent
-  FrameAnswers (Err f) = FrameStops f ⊎ FrameStopsBy f (cause_of f)
+  FrameAnswers (Ok false) =
+      ReadsEnd from.place input × Silent kind place a i from.place to input output
+  FrameAnswers (Err f) =
+      FrameStops kind place a i from.place to input output f
+      ⊎ FrameStopsBy f (cause_of f)
 
 -- a line was written; or a write failed, which was counted, after a beginning of it; or memory for
 -- it was refused

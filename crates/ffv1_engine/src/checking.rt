@@ -10,9 +10,9 @@ ghost use Rattle.ffv1_engine.specs.Told.{WritesFrame};
 use crate::fault::Fault;
 use crate::frame_line::{FrameLine, put_count, put_counts};
 use crate::judging::judge_frames;
-use crate::player::open_player;
+use crate::player::open_player_located;
 use crate::profile::Profile;
-use crate::telling::tell_frames;
+use crate::telling::{Places, Telling, tell_byte, tell_frames};
 use ffv1_files::laws::{frames_in_turn, read_is_file};
 use ffv1_wire::{ByteIn, ByteOut, write_all};
 use std::alloc::Allocator;
@@ -52,12 +52,17 @@ fn write_count<W: ByteOut, A: Allocator + Copy>(
 /// `RIFF`, or that has fewer frames than its `dmlh` says, and `NotAvi` one where something that is
 /// no `RIFF` comes after the last one; and a file that begins with the byte 1A is Matroska, with
 /// the faults that `MatroskaReader::open` and `MatroskaReader::next_frame` name in place of those
-/// of AVI. With `place`, where a payload is refused, and only there, one line more is written, and
-/// where that cannot be, the fault stays the payload's:
+/// of AVI. With `place` one line more is written where a payload is refused, and at `Wide` where
+/// the file itself is; where that line cannot be written, the fault stays what it is:
 ///
 /// ```text
 /// fault frame {i} slice {s} plane {p} line {l} x {x} decisions {d}
+/// fault frame {i} byte {offset}
 /// ```
+///
+/// The second is written of `NotAvi`, `NoFfv1`, `Truncated`, `ChunkTooLong`, `EmptyFrame`, `Read`
+/// and the faults of Matroska. Its frame is the one that would come next, 0 up to the first one;
+/// its offset is how many bytes of the file come before the element or the chunk that is refused.
 pub fn check<R: ByteIn, W: ByteOut, A: Allocator + Copy>(
     alloc: A,
     profile: Profile,
@@ -75,13 +80,26 @@ pub fn check<R: ByteIn, W: ByteOut, A: Allocator + Copy>(
 {
     frames_in_turn();
     read_is_file();
-    let mut player = open_player(alloc, profile, input)?;
-    let count = tell_frames(alloc, &mut player, input, output, FrameLine::Sizes, place)?;
-    if count == 0 {
-        return Err(Fault::NoFrames);
+    let byte = profile.tells_byte(place);
+    let mut offset = 0u64;
+    match open_player_located(alloc, profile, input, &mut offset) {
+        Err(fault) => {
+            tell_byte(output, byte, 0, offset, fault);
+            Err(fault)
+        }
+        Ok(mut player) => {
+            let telling = Telling {
+                kind: FrameLine::Sizes,
+                places: Places { place, byte },
+            };
+            let count = tell_frames(alloc, &mut player, input, output, telling)?;
+            if count == 0 {
+                return Err(Fault::NoFrames);
+            }
+            write_count(alloc, output, count)?;
+            Ok(())
+        }
     }
-    write_count(alloc, output, count)?;
-    Ok(())
 }
 
 /// Writes how many frames there were, and how many of them are refused.
@@ -125,7 +143,8 @@ fn write_counts<W: ByteOut, A: Allocator + Copy>(
 /// All other faults end it as they end `check`, after the lines of the frames before: those of the
 /// file up to its first frame, of its record, and of the chunks of its frames (`EmptyFrame`, too);
 /// `NoFrames` at the end where there was none; `Read`, `OutOfMemory` and `Write` as they come,
-/// `Write` also where the line of a position is not written.
+/// `Write` also where the line of a frame's place is not written. With `place`, at `Wide`, a fault
+/// of the file itself has the line of its byte, as `check` writes it.
 pub fn check_all<R: ByteIn, W: ByteOut, A: Allocator + Copy>(
     alloc: A,
     profile: Profile,
@@ -143,11 +162,21 @@ pub fn check_all<R: ByteIn, W: ByteOut, A: Allocator + Copy>(
 {
     frames_in_turn();
     read_is_file();
-    let mut player = open_player(alloc, profile, input)?;
-    let counts = judge_frames(alloc, &mut player, input, output, place)?;
-    if counts.frames == 0 {
-        return Err(Fault::NoFrames);
+    let byte = profile.tells_byte(place);
+    let mut offset = 0u64;
+    match open_player_located(alloc, profile, input, &mut offset) {
+        Err(fault) => {
+            tell_byte(output, byte, 0, offset, fault);
+            Err(fault)
+        }
+        Ok(mut player) => {
+            let places = Places { place, byte };
+            let counts = judge_frames(alloc, &mut player, input, output, places)?;
+            if counts.frames == 0 {
+                return Err(Fault::NoFrames);
+            }
+            write_counts(alloc, output, counts.frames, counts.faults)?;
+            Ok(counts.first)
+        }
     }
-    write_counts(alloc, output, counts.frames, counts.faults)?;
-    Ok(counts.first)
 }

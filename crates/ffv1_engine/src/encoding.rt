@@ -14,16 +14,18 @@ ghost use Rattle.ffv1_engine.specs.Encoding.{StopsNext, frame_in};
 ghost use Rattle.ffv1_engine.specs.Pack.{IsPackFault, is_pack_fault};
 ghost use Rattle.ffv1_engine.specs.Packing.{IsFor, coder_for, colour_for, configuration_for};
 ghost use Rattle.ffv1_engine.specs.Packing.{head_for, said_for, set_for};
-ghost use Rattle.ffv1_engine.specs.Profiles.{greatest_depth};
+ghost use Rattle.ffv1_engine.specs.Profiles.{greatest_depth, record_profile};
 ghost use Rattle.ffv1_engine.specs.VideoReads.{IsHeadOf, reading_of};
 
 use crate::fault::Fault;
 use crate::profile::Profile;
+use crate::verifying::VerifyingEncoder;
 use crate::video::VideoReader;
-use ffv1_codec::{FrameEncoder, Info, Picture};
+use ffv1_codec::{Info, Picture};
 use ffv1_plane::QuantSet;
 use ffv1_range::laws::one_table;
 use ffv1_reads::FileHead;
+use ffv1_record::laws::one_configuration;
 use ffv1_record::{Checked, Coder, Colour, Config, Sets, write_record};
 use ffv1_wire::ByteIn;
 use ffv1_words::{Choice, CoderChoice};
@@ -94,7 +96,7 @@ fn config_for<A: Allocator + Copy>(
 }
 
 /// The same of the video's depth, checked in a profile, which reads that depth.
-pub(crate) fn checked_for<A: Allocator + Copy>(
+fn checked_for<A: Allocator + Copy>(
     alloc: A,
     profile: Profile,
     choice: &Choice,
@@ -103,6 +105,7 @@ pub(crate) fn checked_for<A: Allocator + Copy>(
     requires { (reading_of reader.now).head.depth ≤ greatest_depth profile }
     ensures ok { IfOk result
         (IsFor choice.now (reading_of reader.now).ppm (reading_of reader.now).head) }
+    ensures profile { IfOk result (λ c. c.profile ≡ record_profile profile) }
     ensures err { IfErr result (λ f. (f ≡ fault.OutOfMemory)
         ⊎ ((g : RecordFault) × IsFirstUpTo (greatest_depth profile)
         (configuration_for choice.now (reading_of reader.now).ppm (reading_of reader.now).head) g
@@ -112,6 +115,34 @@ pub(crate) fn checked_for<A: Allocator + Copy>(
     one_table();
     let config = config_for(alloc, choice, reader)?;
     Ok(config.check_in(profile.of_record(), reader.depth(), 16)?)
+}
+
+/// What encodes the pictures of a video, in a profile that reads its depth, and decodes each frame
+/// again where the choice asks for that.
+pub(crate) fn encoder_for<A: Allocator + Copy>(
+    alloc: A,
+    profile: Profile,
+    choice: &Choice,
+    reader: &VideoReader<A>,
+) -> Result<VerifyingEncoder<A>, Fault>
+    requires { (reading_of reader.now).head.depth ≤ greatest_depth profile }
+    ensures ok { IfOk result (λ e. IsFor choice.now (reading_of reader.now).ppm
+        (reading_of reader.now).head e.accepted) }
+    ensures verify { IfOk result (λ e. e.verifies ≡ choice.now.verify) }
+    ensures err { IfErr result (λ f. (f ≡ fault.OutOfMemory)
+        ⊎ ((g : RecordFault) × IsFirstUpTo (greatest_depth profile)
+        (configuration_for choice.now (reading_of reader.now).ppm (reading_of reader.now).head) g
+        × (f ≡ of_record g))) }
+    ensures own { IfErr result (IsPackFault profile) }
+{
+    one_configuration();
+    let checked = checked_for(alloc, profile, choice, reader)?;
+    if !choice.verify {
+        return Ok(VerifyingEncoder::new(alloc, checked));
+    }
+    let again = checked_for(alloc, profile, choice, reader)?;
+    let encoder = VerifyingEncoder::verifying(alloc, checked, again)?;
+    Ok(encoder)
 }
 
 /// The head of the file of a video.
@@ -151,7 +182,7 @@ pub(crate) fn encode_picture<R: ByteIn, A: Allocator + Copy>(
     alloc: A,
     reader: &mut VideoReader<A>,
     input: &mut R,
-    encoder: &mut FrameEncoder<A>,
+    encoder: &mut VerifyingEncoder<A>,
     planes: &mut Vec<Vec<u8, A>, A>,
 ) -> Result<Option<Vec<u8, A>>, Fault>
     requires working { (reading_of reader.old).failed ≡ None }
@@ -181,7 +212,7 @@ fn encode_next<R: ByteIn, A: Allocator + Copy>(
     alloc: A,
     reader: &mut VideoReader<A>,
     input: &mut R,
-    encoder: &mut FrameEncoder<A>,
+    encoder: &mut VerifyingEncoder<A>,
     planes: &mut Vec<Vec<u8, A>, A>,
     frames: &mut Vec<Vec<u8, A>, A>,
 ) -> Result<bool, Fault>
@@ -208,7 +239,7 @@ pub(crate) fn encode_pictures<R: ByteIn, A: Allocator + Copy>(
     alloc: A,
     reader: &mut VideoReader<A>,
     input: &mut R,
-    encoder: &mut FrameEncoder<A>,
+    encoder: &mut VerifyingEncoder<A>,
     frames: &mut Vec<Vec<u8, A>, A>,
 ) -> Result<(), Fault>
     requires working { (reading_of reader.old).failed ≡ None }

@@ -3,7 +3,7 @@
 ghost use Rattle.std.specs.Prelude.{◌≡◌};
 ghost use Rattle.ffv1_engine.specs.declared.fault.Fault.TheVariants as fault;
 ghost use Rattle.ffv1_engine.specs.Faults.{of_range, of_plane, of_record, of_codec, of_avi};
-ghost use Rattle.ffv1_engine.specs.Faults.{of_y4m};
+ghost use Rattle.ffv1_engine.specs.Faults.{is_file_fault, of_y4m};
 
 use ffv1_reads::FileFault;
 use std::alloc::{AllocError, AllocFailed};
@@ -202,6 +202,32 @@ pub enum Fault {
     /// The frame rate is none that whole nanoseconds a frame say.
     #[error("86 Rate")]
     Rate,
+    /// A frame that was coded does not decode to its picture.
+    #[error("87 NotSame")]
+    NotSame,
+}
+
+impl Fault {
+    /// Whether it is the file's own: of its chunks or elements, or of a read of them.
+    pub(crate) fn is_of_file(self) -> bool
+        ensures { result ≡ is_file_fault self }
+    {
+        match self {
+            Fault::NotAvi
+            | Fault::NoFfv1
+            | Fault::Truncated
+            | Fault::ChunkTooLong
+            | Fault::EmptyFrame
+            | Fault::Read
+            | Fault::NotMatroska
+            | Fault::BadElement
+            | Fault::NoTracks
+            | Fault::Encoded
+            | Fault::Laced
+            | Fault::Checksum => true,
+            _ => false,
+        }
+    }
 }
 
 impl From<ffv1_range::Fault> for Fault {

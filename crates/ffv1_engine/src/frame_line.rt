@@ -3,7 +3,7 @@
 ghost use Rattle.std.specs.Prelude.{◌≡◌, ◌++◌, ◌*◌, length, codes, decimal, OnOk};
 ghost use Rattle.ffv1_engine.specs.Check.{count_line};
 ghost use Rattle.ffv1_engine.specs.FrameLines.{WritesPart, cost_line, part_of_frame, place_line};
-ghost use Rattle.ffv1_engine.specs.FrameLines.{sizes_line};
+ghost use Rattle.ffv1_engine.specs.FrameLines.{offset_line, sizes_line};
 ghost use Rattle.ffv1_engine.specs.Judged.{counts_line, fault_word, refused_line};
 ghost use Rattle.ffv1_wire.specs.Passage.{passage};
 
@@ -112,6 +112,23 @@ pub(crate) fn write_place<W: ByteOut>(
     write_number(output, b"fault frame ", number)?;
     write_part(output, fault)?;
     write_number(output, b" decisions ", decisions)?;
+    write_all(output, b"\n")?;
+    Ok(())
+}
+
+/// Writes the line of how many bytes of the file come before what is at fault, part by part: it
+/// takes no memory.
+#[tactic(auto, unfolding(crate::specs::FrameLines::offset_line))]
+pub(crate) fn write_offset<W: ByteOut>(
+    output: &mut W,
+    number: u64,
+    offset: u64,
+) -> Result<(), Failed>
+    ensures { WritesPart (offset_line number offset)
+        (passage W.contents W.failures output.old output.new) result }
+{
+    write_number(output, b"fault frame ", number)?;
+    write_number(output, b" byte ", offset)?;
     write_all(output, b"\n")?;
     Ok(())
 }

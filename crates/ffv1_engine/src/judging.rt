@@ -8,12 +8,13 @@ ghost use Rattle.ffv1_files.specs.Places.{amount, container_of};
 ghost use Rattle.ffv1_engine.specs.FrameLines.{place_text};
 ghost use Rattle.ffv1_engine.specs.Judged.{AreCounts, HasThen, JudgeAnswers, Judged, JudgedAll};
 ghost use Rattle.ffv1_engine.specs.Judged.{JudgingStops, one_counted, refused_line};
+ghost use Rattle.ffv1_engine.specs.Located.{LocatedAfter, StaysReached};
 ghost use Rattle.ffv1_engine.specs.Told.{IsToldFault, WritesFrame};
 
 use crate::fault::Fault;
 use crate::frame_line::{FrameLine, put_refused, write_place};
 use crate::player::{Player, Stop, play};
-use crate::telling::write_line;
+use crate::telling::{Places, tell_byte, write_line};
 use ffv1_codec::answer_laws::{answered, decode_faults};
 use ffv1_codec::sink_laws::taken_lines;
 use ffv1_codec::{CodecFault, DropLines, FrameDecoder, FrameFault};
@@ -90,19 +91,21 @@ fn judge_frame<R: ByteIn, W: ByteOut, A: Allocator>(
     input: &mut R,
     output: &mut W,
     text: &mut Vec<u8, A>,
-    place: bool,
+    places: Places,
     counts: &mut JudgedCounts,
 ) -> Result<bool, Fault>
     requires sound { player.old.reader.fault ≡ None }
     requires accepted { IsAccepted player.old.decoder.accepted.configuration
         player.old.decoder.accepted.table }
-    ensures answer { JudgeAnswers place player.old.decoder.accepted counts.old.frames
-        player.old.reader.place player.new.reader.place
+    ensures answer { JudgeAnswers places.place places.byte player.old.decoder.accepted
+        counts.old.frames player.old.reader player.new.reader.place
         (passage R.remaining R.failures input.old input.new)
         (passage W.contents W.failures output.old output.new) counts.old counts.new result }
     ensures sound { OnOk result (player.new.reader.fault ≡ None) }
     ensures less { IfOk result (λ more. more ≡ true →
         amount player.new.reader.place < amount player.old.reader.place) }
+    ensures reached { IfOk result (λ more. more ≡ true → StaysReached player.old.reader
+        player.new.reader (passage R.remaining R.failures input.old input.new)) }
     ensures same { player.new.decoder.accepted ≡ player.old.decoder.accepted }
     ensures container { container_of player.new.reader.place
         ≡ container_of player.old.reader.place }
@@ -121,9 +124,14 @@ fn judge_frame<R: ByteIn, W: ByteOut, A: Allocator>(
             counts.count(None);
             Ok(true)
         }
-        Err(Stop::File(fault)) => Err(Fault::from(fault)),
+        Err(Stop::File(fault)) => {
+            let fault = Fault::from(fault);
+            let offset = player.reader.offset();
+            tell_byte(output, places.byte, number, offset, fault);
+            Err(fault)
+        }
         Err(Stop::Payload(fault)) => {
-            write_refusal(output, text, place, number, fault, &player.decoder)?;
+            write_refusal(output, text, places.place, number, fault, &player.decoder)?;
             counts.count(Some(Fault::from(fault.fault)));
             Ok(true)
         }
@@ -137,17 +145,19 @@ pub(crate) fn judge_frames<R: ByteIn, W: ByteOut, A: Allocator + Copy>(
     player: &mut Player<A>,
     input: &mut R,
     output: &mut W,
-    place: bool,
+    places: Places,
 ) -> Result<JudgedCounts, Fault>
     requires sound { player.old.reader.fault ≡ None }
     requires accepted { IsAccepted player.old.decoder.accepted.configuration
         player.old.decoder.accepted.table }
     ensures ok { IfOk result (λ counts. (js : List Judged) × AreCounts counts js
-        × JudgedAll (HasThen player.old.reader.place) place player.old.decoder.accepted
+        × JudgedAll (HasThen player.old.reader.place) places.place player.old.decoder.accepted
         (passage R.remaining R.failures input.old input.new)
         (passage W.contents W.failures output.old output.new) js) }
-    ensures err { IfErr result (JudgingStops (HasThen player.old.reader.place) place
-        player.old.decoder.accepted (passage R.remaining R.failures input.old input.new)
+    ensures err { IfErr result (JudgingStops (HasThen player.old.reader.place)
+        (LocatedAfter player.old.reader (passage R.remaining R.failures input.old input.new))
+        places.place places.byte player.old.decoder.accepted
+        (passage R.remaining R.failures input.old input.new)
         (passage W.contents W.failures output.old output.new)) }
     ensures own { IfErr result (IsToldFault (container_of player.old.reader.place)) }
 {
@@ -157,6 +167,6 @@ pub(crate) fn judge_frames<R: ByteIn, W: ByteOut, A: Allocator + Copy>(
         faults: 0,
         first: None,
     };
-    while judge_frame(player, input, output, &mut text, place, &mut counts)? {}
+    while judge_frame(player, input, output, &mut text, places, &mut counts)? {}
     Ok(counts)
 }

@@ -44,6 +44,7 @@ mod stream_lines;
 mod telling;
 mod text_md5;
 mod unpacking;
+mod verifying;
 mod video;
 
 pub use checking::{check, check_all};

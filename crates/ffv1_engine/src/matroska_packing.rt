@@ -19,15 +19,14 @@ ghost use Rattle.ffv1_engine.specs.Profiles.{greatest_depth};
 ghost use Rattle.ffv1_engine.specs.VideoReads.{reading_of};
 
 use crate::default_grid::grid_for;
-use crate::encoding::{checked_for, encode_picture, file_head};
+use crate::encoding::{encode_picture, encoder_for, file_head};
 use crate::fault::Fault;
 use crate::packing::Packed;
 use crate::profile::Profile;
+use crate::verifying::VerifyingEncoder;
 use crate::video::VideoReader;
-use ffv1_codec::FrameEncoder;
 use ffv1_matroska::written_laws::pieces;
 use ffv1_matroska::{MatroskaWriter, Shown};
-use ffv1_record::Checked;
 use ffv1_wire::{ByteIn, ByteOut, PatchOut};
 use ffv1_words::Choice;
 use ffv1_y4m::laws::{images, texts};
@@ -52,7 +51,7 @@ pub struct PackedMatroska {
 #[derive(Drop)]
 struct Opened<A: Allocator = Global> {
     reader: VideoReader<A>,
-    encoder: FrameEncoder<A>,
+    encoder: VerifyingEncoder<A>,
     writer: MatroskaWriter<A>,
 }
 
@@ -80,16 +79,17 @@ fn choice_for<A: Allocator + Copy>(choice: &Choice, reader: &VideoReader<A>) -> 
     }
 }
 
-/// The configuration of a video with that grid, checked in a profile, which reads its depth.
-fn checked_in_grid<A: Allocator + Copy>(
+/// What encodes the pictures of a video with that grid, in a profile that reads its depth.
+fn encoder_in_grid<A: Allocator + Copy>(
     alloc: A,
     profile: Profile,
     choice: &Choice,
     reader: &VideoReader<A>,
-) -> Result<Checked<A>, Fault>
+) -> Result<VerifyingEncoder<A>, Fault>
     requires { (reading_of reader.now).head.depth ≤ greatest_depth profile }
-    ensures ok { IfOk result (IsFor (choice_for choice.now (reading_of reader.now).head)
-        (reading_of reader.now).ppm (reading_of reader.now).head) }
+    ensures ok { IfOk result (λ e. IsFor (choice_for choice.now (reading_of reader.now).head)
+        (reading_of reader.now).ppm (reading_of reader.now).head e.accepted) }
+    ensures verify { IfOk result (λ e. e.verifies ≡ choice.now.verify) }
     ensures err { IfErr result (λ f. (f ≡ fault.OutOfMemory)
         ⊎ ((g : RecordFault) × IsFirstUpTo (greatest_depth profile)
         (configuration_for (choice_for choice.now (reading_of reader.now).head)
@@ -97,7 +97,7 @@ fn checked_in_grid<A: Allocator + Copy>(
     ensures own { IfErr result (IsPackFault profile) }
 {
     let chosen = choice_for(choice, reader);
-    checked_for(alloc, profile, &chosen, reader)
+    encoder_for(alloc, profile, &chosen, reader)
 }
 
 /// Reads the head of a video, and makes what encodes and writes its pictures.
@@ -115,12 +115,12 @@ fn open_video<R: ByteIn, A: Allocator + Copy>(
     ensures own { IfErr result (IsMatroskaPackFault profile) }
 {
     let reader = VideoReader::open(alloc, profile, input)?;
-    let checked = checked_in_grid(alloc, profile, choice, &reader)?;
-    let head = file_head(alloc, choice, &reader, &checked)?;
+    let encoder = encoder_in_grid(alloc, profile, choice, &reader)?;
+    let head = file_head(alloc, choice, &reader, encoder.config())?;
     let writer = MatroskaWriter::new(alloc, &head, shown_for(&reader))?;
     Ok(Opened {
-        encoder: FrameEncoder::new(alloc, checked),
         reader,
+        encoder,
         writer,
     })
 }
@@ -131,7 +131,7 @@ fn put_pictures<R: ByteIn, W: ByteOut, A: Allocator + Copy>(
     alloc: A,
     reader: &mut VideoReader<A>,
     input: &mut R,
-    encoder: &mut FrameEncoder<A>,
+    encoder: &mut VerifyingEncoder<A>,
     writer: &mut MatroskaWriter<A>,
     output: &mut W,
 ) -> Result<Packed, Fault>
@@ -180,6 +180,11 @@ fn put_pictures<R: ByteIn, W: ByteOut, A: Allocator + Copy>(
 /// output cannot be written over, the Segment's size stays unknown, and all else is there. One
 /// picture, its frame and the places of at most 8192 Clusters are held, however many pictures there
 /// are.
+///
+/// Where the choice says `verify`, each frame is decoded as soon as it is coded, and compared with
+/// its picture before its Cluster is written, in memory that is taken once, before the first byte
+/// is written. What is written and answered is the same, but that `OutOfMemory` may come for that
+/// memory.
 ///
 /// The first fault is answered in this order. `Header`, `Tag` and `Unsupported` where the text has
 /// no head of a depth that is read; `Grid` and `ChromaEdge` where the grid that is chosen does not

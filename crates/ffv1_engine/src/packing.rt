@@ -9,12 +9,11 @@ ghost use Rattle.ffv1_engine.specs.Pack.{IsPackFault};
 ghost use Rattle.ffv1_engine.specs.Packing.{bytes_in};
 ghost use Rattle.ffv1_engine.specs.Profiles.{greatest_depth};
 
-use crate::encoding::{checked_for, encode_pictures, file_head};
+use crate::encoding::{encode_pictures, encoder_for, file_head};
 use crate::fault::Fault;
 use crate::profile::Profile;
 use crate::video::VideoReader;
 use ffv1_avi::write_avi;
-use ffv1_codec::FrameEncoder;
 use ffv1_reads::FileHead;
 use ffv1_wire::{ByteIn, ByteOut};
 use ffv1_words::Choice;
@@ -54,9 +53,8 @@ fn encode_video<R: ByteIn, A: Allocator + Copy>(
     texts();
     images();
     let mut reader = VideoReader::open(alloc, profile, input)?;
-    let checked = checked_for(alloc, profile, choice, &reader)?;
-    let head = file_head(alloc, choice, &reader, &checked)?;
-    let mut encoder = FrameEncoder::new(alloc, checked);
+    let mut encoder = encoder_for(alloc, profile, choice, &reader)?;
+    let head = file_head(alloc, choice, &reader, encoder.config())?;
     let mut frames = Vec::new(alloc);
     encode_pictures(alloc, &mut reader, input, &mut encoder, &mut frames)?;
     if frames.is_empty() {
@@ -86,6 +84,10 @@ fn bytes_in<A: Allocator>(frames: &[Vec<u8, A>]) -> u64
 /// of the choice. All frames are encoded before the first byte is written. The profile says which
 /// depths are read: `Strict` those of 8 bits a sample, `Wide` also 9, 10, 12, 14 and 16, of one
 /// depth in a text; of what both read, the same is written.
+///
+/// Where the choice says `verify`, each frame is decoded as soon as it is coded, and compared with
+/// its picture, in memory that is taken once. What is written and answered is the same, but that
+/// `OutOfMemory` may come for that memory.
 ///
 /// The first fault is answered in this order. `Header`, `Tag` and `Unsupported` where the text has
 /// no head of a depth that is read; `Grid` and `ChromaEdge` where the choice does not suit its

@@ -3,12 +3,14 @@
 ghost use Rattle.std.specs.Prelude.{◌≡◌, ◌⊎◌, ◌<◌, IfErr, IfOk, IfSome, None, OnOk, Some, true};
 ghost use Rattle.ffv1_wire.specs.Passage.{passage};
 ghost use Rattle.ffv1_reads.specs.Head.{head_of};
+ghost use Rattle.ffv1_files.specs.Offsets.{Reached};
 ghost use Rattle.ffv1_files.specs.Places.{amount, container_of};
 ghost use Rattle.ffv1_record.specs.Reading.{IsRefused, ReachesSets};
 ghost use Rattle.ffv1_record.specs.declared.fault.RecordFault.TheVariants as record_fault;
 ghost use Rattle.ffv1_engine.specs.declared.fault.Fault.TheVariants as fault;
 ghost use Rattle.ffv1_engine.specs.Containers.{is_profile_fault};
-ghost use Rattle.ffv1_engine.specs.Profiles.{greatest_depth};
+ghost use Rattle.ffv1_engine.specs.Located.{LocatedFault, LocatedStep};
+ghost use Rattle.ffv1_engine.specs.Profiles.{greatest_depth, scope_in};
 ghost use Rattle.ffv1_engine.specs.Opens.{OpensStream, LacksOpening, is_opening_fault};
 ghost use Rattle.ffv1_engine.specs.Stream.{IsStream};
 ghost use Rattle.ffv1_engine.specs.Told.{IsOwnStop, OnPayload, StepAnswers};
@@ -59,6 +61,30 @@ fn read_head<A: Allocator + Copy>(
     }
 }
 
+/// Opens a file as `open_stream` does. Where the file is refused, the offset is how many bytes of
+/// it come before the element or chunk that is.
+fn open_stream_located<R: ByteIn, A: Allocator + Copy>(
+    alloc: A,
+    profile: Profile,
+    input: &mut R,
+    offset: &mut u64,
+) -> Result<(FileReader<A>, Checked<A>), Fault>
+    ensures ok { IfOk result (λ p. OpensStream profile p.0 p.1
+        (passage R.remaining R.failures input.old input.new)) }
+    ensures err { IfErr result (LacksOpening profile
+        (passage R.remaining R.failures input.old input.new)) }
+    ensures own { IfErr result (λ f. (is_opening_fault f ≡ true)
+        ⊎ (is_profile_fault profile f ≡ true)) }
+    ensures located { IfOk result (λ p. Reached (scope_in profile) (R.remaining input.old)
+        (R.remaining input.new) p.0) }
+    ensures stopped { IfErr result (λ f. LocatedFault (scope_in profile)
+        (passage R.remaining R.failures input.old input.new) f offset.new) }
+{
+    let reader = FileReader::open_located(alloc, profile.scope(), input, offset)?;
+    let checked = read_head(alloc, profile, reader.head())?;
+    Ok((reader, checked))
+}
+
 /// Opens a file, as the profile says, and reads the configuration of its frames. The faults are
 /// those of the file up to its frames, then those of its record; `Read` and `OutOfMemory` as they
 /// come.
@@ -74,9 +100,11 @@ pub(crate) fn open_stream<R: ByteIn, A: Allocator + Copy>(
     ensures own { IfErr result (λ f. (is_opening_fault f ≡ true)
         ⊎ (is_profile_fault profile f ≡ true)) }
 {
-    let reader = FileReader::open(alloc, profile.scope(), input)?;
-    let checked = read_head(alloc, profile, reader.head())?;
-    Ok((reader, checked))
+    let mut offset = 0u64;
+    match open_stream_located(alloc, profile, input, &mut offset) {
+        Ok(opened) => Ok(opened),
+        Err(refused) => Err(refused),
+    }
 }
 
 /// A file that is played: its reader, the decoder of its frames, and the payload that was read
@@ -116,6 +144,30 @@ pub(crate) fn player_of<A: Allocator + Copy>(
     })
 }
 
+/// Opens a file as `open_player` does. Where the file is refused, the offset is how many bytes of
+/// it come before the element or chunk that is.
+pub(crate) fn open_player_located<R: ByteIn, A: Allocator + Copy>(
+    alloc: A,
+    profile: Profile,
+    input: &mut R,
+    offset: &mut u64,
+) -> Result<Player<A>, Fault>
+    ensures ok { IfOk result (λ p. OpensStream profile p.reader p.decoder.accepted
+        (passage R.remaining R.failures input.old input.new)) }
+    ensures err { IfErr result (LacksOpening profile
+        (passage R.remaining R.failures input.old input.new)) }
+    ensures own { IfErr result (λ f. (is_opening_fault f ≡ true)
+        ⊎ (is_profile_fault profile f ≡ true)) }
+    ensures located { IfOk result (λ p. Reached (scope_in profile) (R.remaining input.old)
+        (R.remaining input.new) p.reader) }
+    ensures stopped { IfErr result (λ f. LocatedFault (scope_in profile)
+        (passage R.remaining R.failures input.old input.new) f offset.new) }
+{
+    let (reader, checked) = open_stream_located(alloc, profile, input, offset)?;
+    let player = player_of(alloc, reader, checked)?;
+    Ok(player)
+}
+
 /// Opens a file, and makes the decoder of its frames. The faults are those of `open_stream`, and
 /// `OutOfMemory` where the decoder is refused its memory.
 pub(crate) fn open_player<R: ByteIn, A: Allocator + Copy>(
@@ -130,9 +182,11 @@ pub(crate) fn open_player<R: ByteIn, A: Allocator + Copy>(
     ensures own { IfErr result (λ f. (is_opening_fault f ≡ true)
         ⊎ (is_profile_fault profile f ≡ true)) }
 {
-    let (reader, checked) = open_stream(alloc, profile, input)?;
-    let player = player_of(alloc, reader, checked)?;
-    Ok(player)
+    let mut offset = 0u64;
+    match open_player_located(alloc, profile, input, &mut offset) {
+        Ok(player) => Ok(player),
+        Err(refused) => Err(refused),
+    }
 }
 
 /// Reads the next frame and decodes it into a sink, and answers what it says of its picture; None
@@ -156,6 +210,8 @@ pub(crate) fn play<R: ByteIn, S: LineSink, A: Allocator>(
     ensures own { IfErr result (IsOwnStop (container_of player.old.reader.place)) }
     ensures goes_on { IfErr result (OnPayload ((player.new.reader.fault ≡ None)
         × (amount player.new.reader.place < amount player.old.reader.place))) }
+    ensures located { LocatedStep player.old.reader
+        (passage R.remaining R.failures input.old input.new) result player.new.reader }
 {
     match player.reader.next_frame(input, &mut player.payload) {
         Ok(false) => Ok(None),

@@ -1,6 +1,7 @@
 //! How much of what others write is read.
 
 ghost use Rattle.std.specs.Prelude.{◌≡◌};
+ghost use Rattle.ffv1_engine.specs.Located.{byte_told};
 ghost use Rattle.ffv1_engine.specs.Profiles.{record_profile, scope_in};
 
 use ffv1_files::Scope;
@@ -28,6 +29,17 @@ impl Profile {
         match self {
             Profile::Strict => Scope::FirstMovi,
             Profile::Wide => Scope::Whole,
+        }
+    }
+
+    /// Whether the byte where a file is at fault is written with the places, where these are asked
+    /// for.
+    pub(crate) fn tells_byte(self, place: bool) -> bool
+        ensures { result ≡ byte_told self place }
+    {
+        match self {
+            Profile::Strict => false,
+            Profile::Wide => place,
         }
     }
 

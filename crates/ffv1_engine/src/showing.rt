@@ -16,7 +16,7 @@ use crate::frame_line::FrameLine;
 use crate::player::{open_stream, player_of};
 use crate::profile::Profile;
 use crate::stream_lines::show_text;
-use crate::telling::tell_frames;
+use crate::telling::{Places, Telling, tell_frames};
 use ffv1_files::laws::{frames_in_turn, read_is_file};
 use ffv1_files::{Container, FileReader};
 use ffv1_reads::FileHead;
@@ -60,13 +60,20 @@ fn tell_costs<R: ByteIn, W: ByteOut, A: Allocator + Copy>(
     ensures err { IfErr result (λ f.
         NoDecoder (passage R.remaining R.failures input.old input.new)
         (passage W.contents W.failures output.old output.new) f
-        ⊎ TellingStops line.Cost false checked reader.place
+        ⊎ TellingStops line.Cost false false checked reader
         (passage R.remaining R.failures input.old input.new)
         (passage W.contents W.failures output.old output.new) f) }
     ensures own { IfErr result (IsToldFault (container_of reader.place)) }
 {
     let mut player = player_of(alloc, reader, checked)?;
-    tell_frames(alloc, &mut player, input, output, FrameLine::Cost, false)?;
+    let telling = Telling {
+        kind: FrameLine::Cost,
+        places: Places {
+            place: false,
+            byte: false,
+        },
+    };
+    tell_frames(alloc, &mut player, input, output, telling)?;
     Ok(())
 }
 

@@ -6,18 +6,37 @@ ghost use Rattle.ffv1_range.specs.Counts.{saturated};
 ghost use Rattle.ffv1_record.specs.Accepted.{IsAccepted};
 ghost use Rattle.ffv1_files.specs.Places.{amount, container_of};
 ghost use Rattle.ffv1_engine.specs.FrameLines.{frame_line, place_text};
+ghost use Rattle.ffv1_engine.specs.Located.{StaysReached, located_text};
 ghost use Rattle.ffv1_engine.specs.Stream.{Frame};
 ghost use Rattle.ffv1_engine.specs.Told.{FrameAnswers, TellingStops, ToldAll, WritesFrame};
 ghost use Rattle.ffv1_engine.specs.Told.{IsToldFault, WritesLine};
 
 use crate::fault::Fault;
-use crate::frame_line::{FrameLine, put_cost, put_sizes, write_place};
+use crate::frame_line::{FrameLine, put_cost, put_sizes, write_offset, write_place};
 use crate::player::{Player, Stop, play};
 use ffv1_codec::answer_laws::{answered, decode_faults};
 use ffv1_codec::sink_laws::taken_lines;
 use ffv1_codec::{DropLines, FrameDecoder, FrameFault};
 use ffv1_wire::{ByteIn, ByteOut, write_all};
 use std::alloc::{AllocError, Allocator};
+
+/// Which places of faults are written.
+#[derive(Clone, Copy, Debug, PartialEq, Eq)]
+pub struct Places {
+    /// The one where a payload is refused.
+    pub place: bool,
+    /// The byte of the file where that is.
+    pub byte: bool,
+}
+
+/// What is written of frames.
+#[derive(Clone, Copy, Debug, PartialEq, Eq)]
+pub struct Telling {
+    /// The line of each one that is decoded.
+    pub kind: FrameLine,
+    /// Which places of faults.
+    pub places: Places,
+}
 
 /// The line of a frame that was decoded last, in place of what the text has.
 fn put_line<A: Allocator>(
@@ -70,7 +89,7 @@ pub(crate) fn write_line<W: ByteOut, A: Allocator>(
 }
 
 /// Writes the line of the place where a frame is refused, where it is asked for. A write that fails
-/// is counted, and not told.
+/// is counted, and no fault.
 fn tell_place<W: ByteOut, A: Allocator>(
     output: &mut W,
     place: bool,
@@ -87,27 +106,49 @@ fn tell_place<W: ByteOut, A: Allocator>(
     let _told = write_place(output, number, fault, decoder.decisions());
 }
 
-/// Reads the next frame, decodes it, and writes its line, or with `place` that of the place where
-/// it is refused. Answers false where there is none.
+/// Writes the line of the byte where a file is refused, where it is asked for and the fault is the
+/// file's own. A write that fails is counted, and no fault.
+pub(crate) fn tell_byte<W: ByteOut>(
+    output: &mut W,
+    byte: bool,
+    number: u64,
+    offset: u64,
+    fault: Fault,
+)
+    ensures { WritesLine [] (located_text byte number fault offset)
+        (passage W.contents W.failures output.old output.new) }
+{
+    if !byte {
+        return;
+    }
+    if !fault.is_of_file() {
+        return;
+    }
+    let _told = write_offset(output, number, offset);
+}
+
+/// Reads the next frame, decodes it, and writes its line, or that of the place where it is refused,
+/// or of the byte where the file is. Answers false where there is none.
 fn tell_frame<R: ByteIn, W: ByteOut, A: Allocator>(
     player: &mut Player<A>,
     input: &mut R,
     output: &mut W,
     text: &mut Vec<u8, A>,
-    kind: FrameLine,
-    place: bool,
+    telling: Telling,
     number: u64,
 ) -> Result<bool, Fault>
     requires sound { player.old.reader.fault ≡ None }
     requires accepted { IsAccepted player.old.decoder.accepted.configuration
         player.old.decoder.accepted.table }
-    ensures answer { FrameAnswers kind place player.old.decoder.accepted number
-        player.old.reader.place player.new.reader.place
+    ensures answer { FrameAnswers telling.kind telling.places.place telling.places.byte
+        player.old.decoder.accepted number player.old.reader player.new.reader.place
         (passage R.remaining R.failures input.old input.new)
         (passage W.contents W.failures output.old output.new) result }
     ensures sound { OnOk result (player.new.reader.fault ≡ None) }
     ensures less { IfOk result (λ more. more ≡ true →
         amount player.new.reader.place < amount player.old.reader.place) }
+    ensures reached { IfOk result (λ more. more ≡ true → StaysReached player.old.reader
+        player.new.reader (passage R.remaining R.failures input.old input.new)) }
     ensures same { player.new.decoder.accepted ≡ player.old.decoder.accepted }
     ensures container { container_of player.new.reader.place
         ≡ container_of player.old.reader.place }
@@ -120,12 +161,18 @@ fn tell_frame<R: ByteIn, W: ByteOut, A: Allocator>(
     match play(player, input, &mut sink) {
         Ok(None) => Ok(false),
         Ok(Some(_info)) => {
+            let kind = telling.kind;
             write_line(output, text, kind, number, &player.payload, &player.decoder)?;
             Ok(true)
         }
-        Err(Stop::File(fault)) => Err(Fault::from(fault)),
+        Err(Stop::File(fault)) => {
+            let fault = Fault::from(fault);
+            let offset = player.reader.offset();
+            tell_byte(output, telling.places.byte, number, offset, fault);
+            Err(fault)
+        }
         Err(Stop::Payload(fault)) => {
-            tell_place(output, place, number, fault, &player.decoder);
+            tell_place(output, telling.places.place, number, fault, &player.decoder);
             Err(Fault::from(fault.fault))
         }
     }
@@ -138,24 +185,25 @@ pub(crate) fn tell_frames<R: ByteIn, W: ByteOut, A: Allocator + Copy>(
     player: &mut Player<A>,
     input: &mut R,
     output: &mut W,
-    kind: FrameLine,
-    place: bool,
+    telling: Telling,
 ) -> Result<u64, Fault>
     requires sound { player.old.reader.fault ≡ None }
     requires accepted { IsAccepted player.old.decoder.accepted.configuration
         player.old.decoder.accepted.table }
     ensures ok { IfOk result (λ n. (frames : List Frame) × (n ≡ saturated (length frames))
-        × ToldAll kind place player.old.decoder.accepted player.old.reader.place
+        × ToldAll telling.kind telling.places.place player.old.decoder.accepted
+        player.old.reader.place
         (passage R.remaining R.failures input.old input.new)
         (passage W.contents W.failures output.old output.new) frames) }
-    ensures err { IfErr result (TellingStops kind place player.old.decoder.accepted
-        player.old.reader.place (passage R.remaining R.failures input.old input.new)
+    ensures err { IfErr result (TellingStops telling.kind telling.places.place
+        telling.places.byte player.old.decoder.accepted player.old.reader
+        (passage R.remaining R.failures input.old input.new)
         (passage W.contents W.failures output.old output.new)) }
     ensures own { IfErr result (IsToldFault (container_of player.old.reader.place)) }
 {
     let mut text = Vec::new(alloc);
     let mut count = 0u64;
-    while tell_frame(player, input, output, &mut text, kind, place, count)? {
+    while tell_frame(player, input, output, &mut text, telling, count)? {
         count = count.saturating_add(1);
     }
     Ok(count)

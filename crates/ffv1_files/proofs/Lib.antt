@@ -4,3 +4,4 @@ pub mod FileLaws
 pub mod Openings
 pub mod Nexts
 mod OpenedRooms
+mod Locations

@@ -6,7 +6,7 @@ use Rattle.ffv1_reads.specs.First.{bytes_with}
 use Rattle.ffv1_reads.specs.Room.{RoomRead}
 
 -- what was read with that byte was read with it
-consumed_with : (first : Option ℕ) (old mid new : Option (List ℕ)) (bytes : List ℕ) → GivesByte old mid first → Consumes (bytes_with first mid) new bytes → Consumes old new bytes
+pub consumed_with : (first : Option ℕ) (old mid new : Option (List ℕ)) (bytes : List ℕ) → GivesByte old mid first → Consumes (bytes_with first mid) new bytes → Consumes old new bytes
 consumed_with first None mid new bytes gives h = tt
 consumed_with None (Some text) None new bytes gives h = absurd gives.0
 consumed_with None (Some text) (Some left) None bytes gives h = absurd h

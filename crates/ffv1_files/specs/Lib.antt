@@ -3,3 +3,4 @@ pub mod Files
 pub mod Answers
 pub mod Readers
 pub mod Whole
+pub mod Offsets

@@ -11,11 +11,12 @@ use Rattle.ffv1_files.specs.declared.reader.Inner.{Inner}
 use Rattle.ffv1_files.specs.declared.reader.Inner.TheVariants as inner
 use Rattle.ffv1_files.specs.Places.{InAvi, InMatroska, Place}
 
--- the head of its file, where it stands in that, the fault that it has met, and for how many bytes
--- its record has room
+-- the head of its file, where it stands in that, how many bytes come before, the fault that it has
+-- met, and for how many bytes its record has room
 pub record Standing : Type 0 where
   pub head : Head
   pub place : Place
+  pub offset : ℕ
   pub fault : Option FileFault
   pub room : ℕ
 
@@ -48,12 +49,14 @@ abbrev pub standing_of : {A : Type 0} → Inner A → Standing
 standing_of (inner.Avi r) = record {
   head = r.head;
   place = InAvi r.place;
+  offset = r.offset;
   fault = r.fault;
   room = r.room;
 }
 standing_of (inner.Matroska r) = record {
   head = r.track.head;
   place = InMatroska r.segment r.track.number r.place;
+  offset = r.offset;
   fault = r.fault;
   room = r.room;
 }

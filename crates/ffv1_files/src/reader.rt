@@ -1,6 +1,7 @@
 //! Files are read, frame by frame.
 
-ghost use Rattle.std.specs.Prelude.{◌≡◌, ◌<◌, ◌≤◌, Bool, List, [], true, false, Option, None, Some};
+ghost use Rattle.std.specs.Prelude.{◌≡◌, ◌<◌, ◌≤◌, ℕ, Bool, List, [], true, false, Option, None};
+ghost use Rattle.std.specs.Prelude.{Some};
 ghost use Rattle.std.specs.Prelude.{IfErr, IfOk, OnErr, Ok, Err, length};
 ghost use Rattle.std.specs.Vec.{vec_capacity};
 ghost use Rattle.ffv1_wire.specs.Passage.{passage};
@@ -8,15 +9,17 @@ ghost use Rattle.ffv1_reads.specs.Head.{head_of};
 ghost use Rattle.ffv1_reads.specs.Room.{HasRoom, RoomRead};
 ghost use Rattle.ffv1_reads.specs.declared.fault.FileFault.{FileFault};
 ghost use Rattle.ffv1_files.specs.declared.container.Container.TheVariants as container;
+ghost use Rattle.ffv1_files.specs.declared.container.Scope.{Scope};
 ghost use Rattle.ffv1_files.specs.declared.container.Scope.TheVariants.{FirstMovi, Whole};
 ghost use Rattle.ffv1_files.specs.Answers.{FileAnswers};
 ghost use Rattle.ffv1_files.specs.Files.{frame_read, open_read};
+ghost use Rattle.ffv1_files.specs.Offsets.{LocatedNext, Reached, StopsAt};
 ghost use Rattle.ffv1_files.specs.Places.{amount, container_of, may_end, opening_may_end};
 ghost use Rattle.ffv1_files.specs.Readers.{StandsAfter, is_frame_fault, is_opening_fault, next_of};
 ghost use Rattle.ffv1_files.specs.Readers.{opened_at};
 
 use crate::container::{Container, Scope};
-use ffv1_avi::AviReader;
+use ffv1_avi::{AviReader, Extent};
 use ffv1_matroska::MatroskaReader;
 use ffv1_reads::{FileFault, FileHead};
 use ffv1_wire::{ByteIn, read_byte};
@@ -68,15 +71,48 @@ impl<A: Allocator + Copy> FileReader<A> {
         ensures room { IfOk result (λ r. RoomRead (R.remaining input.old) (R.remaining input.new) 0
             r.room) }
     {
+        let mut offset = 0;
+        FileReader::open_located(alloc, scope, input, &mut offset)
+    }
+
+    /// The same, which says where in the file a fault is: `offset` is then the number of bytes of
+    /// the file before the element or chunk at fault, those before it read whole; no greater than
+    /// 2^64 - 1. It is of Matroska the header of EBML, the header of the Segment, or an element of
+    /// that; of an AVI its first twelve bytes, or a chunk of its first RIFF.
+    pub fn open_located<R: ByteIn>(
+        alloc: A,
+        scope: Scope,
+        input: &mut R,
+        offset: &mut u64,
+    ) -> Result<FileReader<A>, FileFault>
+        ensures answer { FileAnswers (opening_may_end scope) opened_at (open_read scope)
+            (passage R.remaining R.failures input.old input.new) result }
+        ensures sound { IfOk result (λ r. r.fault ≡ None) }
+        ensures avi { scope ≡ FirstMovi →
+            IfOk result (λ r. container_of r.place ≡ container.Avi) }
+        ensures own { IfErr result (λ f. is_opening_fault scope f ≡ true) }
+        ensures room { IfOk result (λ r. RoomRead (R.remaining input.old) (R.remaining input.new) 0
+            r.room) }
+        ensures located { IfOk result
+            (Reached scope (R.remaining input.old) (R.remaining input.new)) }
+        ensures stopped { IfErr result (λ f. StopsAt scope
+            (passage R.remaining R.failures input.old input.new) f offset.new) }
+    {
         // All arms are written out, so that the clauses are proved by arm.
         match scope {
-            Scope::FirstMovi => match AviReader::open(alloc, input) {
+            Scope::FirstMovi => match AviReader::open_located(
+                alloc,
+                Extent::FirstMovi,
+                None,
+                input,
+                offset,
+            ) {
                 Ok(reader) => Ok(FileReader {
                     inner: Inner::Avi(reader),
                 }),
                 Err(fault) => Err(fault),
             },
-            Scope::Whole => match open_whole(alloc, input) {
+            Scope::Whole => match open_whole(alloc, input, offset) {
                 Ok(reader) => Ok(reader),
                 Err(fault) => Err(fault),
             },
@@ -84,10 +120,12 @@ impl<A: Allocator + Copy> FileReader<A> {
     }
 }
 
-/// Looks at the first byte of a file, and opens it as what it is.
+/// Looks at the first byte of a file, and opens it as what it is. After a fault `offset` is the
+/// number of bytes before the element or chunk at fault.
 fn open_whole<R: ByteIn, A: Allocator + Copy>(
     alloc: A,
     input: &mut R,
+    offset: &mut u64,
 ) -> Result<FileReader<A>, FileFault>
     ensures answer { FileAnswers true opened_at (open_read Whole)
         (passage R.remaining R.failures input.old input.new) result }
@@ -95,19 +133,23 @@ fn open_whole<R: ByteIn, A: Allocator + Copy>(
     ensures own { IfErr result (λ f. is_opening_fault Whole f ≡ true) }
     ensures room { IfOk result (λ r. RoomRead (R.remaining input.old) (R.remaining input.new) 0
         r.room) }
+    ensures located { IfOk result (Reached Whole (R.remaining input.old) (R.remaining input.new)) }
+    ensures stopped { IfErr result (λ f. StopsAt Whole
+        (passage R.remaining R.failures input.old input.new) f offset.new) }
 {
+    *offset = 0;
     let Ok(first) = read_byte(input) else {
         return Err(FileFault::Read);
     };
     if first == Some(EBML) {
-        return match MatroskaReader::open_after(alloc, first, input) {
+        return match MatroskaReader::open_located(alloc, first, input, offset) {
             Ok(reader) => Ok(FileReader {
                 inner: Inner::Matroska(reader),
             }),
             Err(fault) => Err(fault),
         };
     }
-    match AviReader::open_all_after(alloc, first, input) {
+    match AviReader::open_located(alloc, Extent::EveryRiff, first, input, offset) {
         Ok(reader) => Ok(FileReader {
             inner: Inner::Avi(reader),
         }),
@@ -137,10 +179,22 @@ impl<A: Allocator> FileReader<A> {
         }
     }
 
+    /// The number of bytes of the file before where the reader stands; after a fault, before the
+    /// element or chunk at fault. No greater than 2^64 - 1.
+    pub fn offset(&self) -> u64
+        ensures { result ≡ self.now.offset }
+    {
+        match &self.inner {
+            Inner::Avi(reader) => reader.offset(),
+            Inner::Matroska(reader) => reader.offset(),
+        }
+    }
+
     /// Reads the next frame in place of what the vector has, and answers true; or false at the end,
     /// where the vector is then empty, as `AviReader::next_frame` and `MatroskaReader::next_frame`
     /// do, with their faults and their room. The input has to be the one that the reader was opened
-    /// on.
+    /// on. After a fault `offset` says how many bytes of the file come before the element or chunk
+    /// at fault.
     pub fn next_frame<R: ByteIn>(
         &mut self,
         input: &mut R,
@@ -164,6 +218,10 @@ impl<A: Allocator> FileReader<A> {
         ensures again { (f : FileFault) → self.old.fault ≡ Some f → (result ≡ Err f)
             × (self.new ≡ self.old) × (frame.new.items ≡ []) × (input.new ≡ input.old) }
         ensures kept { self.new.room ≡ self.old.room }
+        ensures located { self.old.fault ≡ None → (scope : Scope) (text : Option (List ℕ)) →
+            Reached scope text (R.remaining input.old) self.old →
+            LocatedNext scope text (passage R.remaining R.failures input.old input.new) result
+            self.new }
     {
         match &mut self.inner {
             Inner::Avi(reader) => reader.next_frame(input, frame),

@@ -55,3 +55,6 @@ pub mod LongFields
 pub mod GivenLaws
 pub mod KnownFiles
 mod KeptRooms
+mod ElementTaken
+mod ElementReadings
+mod SpotReadings

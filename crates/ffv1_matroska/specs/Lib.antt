@@ -9,6 +9,7 @@ pub mod Files
 pub mod Opened
 pub mod Readers
 pub mod Internal
+pub mod Offsets
 pub mod WrittenIdents
 pub mod WrittenPlaces
 pub mod Written

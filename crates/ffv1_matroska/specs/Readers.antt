@@ -10,13 +10,14 @@ use Rattle.ffv1_matroska.specs.Tracks.{Track}
 use Rattle.ffv1_matroska.specs.declared.place.Place.{Place}
 
 -- the track that is read, the size of the Segment, where it stands in that, the fault that it has
--- met, and for how many bytes its record has room
+-- met, for how many bytes its record has room, and the bytes before where it stands
 pub record Standing : Type 0 where
   pub track : Track
   pub segment : Option ℕ
   pub place : Place
   pub fault : Option FileFault
   pub room : ℕ
+  pub offset : ℕ
 
 -- what is known of its file, and where it stands
 abbrev pub opened_at : Standing → Opened

@@ -9,6 +9,7 @@ ghost use Rattle.ffv1_reads.specs.Reads.{Answers, Kept, wanted};
 ghost use Rattle.ffv1_reads.specs.Room.{HasRoom, RoomRead};
 ghost use Rattle.ffv1_reads.specs.declared.fault.FileFault.TheVariants as fault;
 ghost use Rattle.ffv1_matroska.specs.Internal.{found_kept, opened_kept, track_kept};
+ghost use Rattle.ffv1_matroska.specs.Offsets.{BeginsFrom, OpensFrom};
 ghost use Rattle.ffv1_matroska.specs.Opened.{begin_read, element_passed, in_cluster, open_read};
 ghost use Rattle.ffv1_matroska.specs.Opened.{tracks_or_passed, tracks_read};
 ghost use Rattle.ffv1_matroska.specs.Opening.{content_kept};
@@ -20,7 +21,7 @@ ghost use Rattle.ffv1_matroska.specs.declared.track.Numbers.{Numbers};
 
 use crate::block::LIMIT;
 use crate::opening::{begin_segment, enter_segment, read_ebml};
-use crate::place::{Place, cluster_entered, ended, segment_at};
+use crate::place::{Place, cluster_entered, ended, passed, segment_at};
 use crate::segment::{CLUSTER, is_filler, is_section, next_header};
 use crate::track::{Numbers, read_track};
 use ffv1_ebml::{Element, pass_content};
@@ -192,10 +193,12 @@ fn in_cluster(place: Place, size: Option<u64>) -> Place
 /// says, with the record in place of what the vector `config` has, and the place.
 ///
 /// `NoTracks` where no Tracks come before the first Cluster, or the end of the Segment; faults of
-/// the header of an element as of `next_header`, then as `read_tracks` and `pass_element`.
+/// the header of an element as of `next_header`, then as `read_tracks` and `pass_element`. `here`
+/// is then the place before the element that was refused, or where no more elements were read.
 fn read_beginning<R: ByteIn, A: Allocator>(
     input: &mut R,
     place: Place,
+    here: &mut Place,
     content: &mut Vec<u8, A>,
     config: &mut Vec<u8, A>,
 ) -> Result<(Numbers, Place), FileFault>
@@ -204,19 +207,22 @@ fn read_beginning<R: ByteIn, A: Allocator>(
         (passage R.remaining R.failures input.old input.new) result }
     ensures grown { OnOk result (RoomRead (R.remaining input.old) (R.remaining input.new)
         (vec_capacity config.old) (vec_capacity config.new)) }
+    ensures from { BeginsFrom place (passage R.remaining R.failures input.old input.new)
+        config.new.items result here.new }
 {
     let mut found = None;
-    let mut here = place;
-    while let Some(element) = next_header(input, here)? {
-        let after = segment_at(here, false, element.left);
+    *here = place;
+    while let Some(element) = next_header(input, *here)? {
+        let after = segment_at(*here, false, element.left);
         if element.ident == CLUSTER {
             let Some(numbers) = found else {
                 return Err(FileFault::NoTracks);
             };
-            return Ok((numbers, in_cluster(after, element.size)));
+            *here = in_cluster(after, element.size);
+            return Ok((numbers, *here));
         }
         found = visit(input, found, element, content, config)?;
-        here = after;
+        *here = after;
     }
     let Some(numbers) = found else {
         return Err(FileFault::NoTracks);
@@ -233,15 +239,25 @@ pub(crate) fn read_opening<R: ByteIn, A: Allocator>(
     input: &mut R,
     content: &mut Vec<u8, A>,
     config: &mut Vec<u8, A>,
+    offset: &mut u64,
 ) -> Result<(Option<u64>, Numbers, Place), FileFault>
     ensures answer { AnswersOrFaults fault.NoTracks HasEnded
         (λ (p : Option ℕ × Numbers × Place). opened_kept p config.new.items) open_read
         (passage_with first R.remaining R.failures input.old input.new) result }
     ensures grown { OnOk result (RoomRead (bytes_with first (R.remaining input.old))
         (R.remaining input.new) (vec_capacity config.old) (vec_capacity config.new)) }
+    ensures from { OpensFrom (passage_with first R.remaining R.failures input.old input.new)
+        config.new.items result offset.new }
 {
-    read_ebml(first, input, content)?;
-    let size = enter_segment(input)?;
-    let (numbers, place) = read_beginning(input, begin_segment(size), content, config)?;
+    let mut after = 0;
+    *offset = 0;
+    read_ebml(first, input, content, &mut after)?;
+    *offset = after;
+    let size = enter_segment(input, &mut after)?;
+    let begin = begin_segment(size);
+    let mut here = begin;
+    let read = read_beginning(input, begin, &mut here, content, config);
+    *offset = after.saturating_add(passed(begin, here));
+    let (numbers, place) = read?;
     Ok((size, numbers, place))
 }

@@ -7,6 +7,7 @@ ghost use Rattle.ffv1_wire.specs.Passage.{passage};
 ghost use Rattle.ffv1_matroska.specs.Files.{frame_found, frame_read};
 ghost use Rattle.ffv1_reads.specs.Ends.{AnswersOrNone};
 ghost use Rattle.ffv1_reads.specs.Room.{HasRoom};
+ghost use Rattle.ffv1_matroska.specs.Offsets.{FindsFrom, ReadsFrom};
 ghost use Rattle.ffv1_matroska.specs.Places.{amount};
 ghost use Rattle.ffv1_matroska.specs.Readers.{Leaves, next_with};
 ghost use Rattle.ffv1_matroska.specs.declared.place.Place.{Place};
@@ -18,32 +19,38 @@ use ffv1_reads::FileFault;
 use ffv1_wire::ByteIn;
 use std::alloc::Allocator;
 
-/// The size of the next frame, and the place after it, but for its sum; None at the end.
+/// The size of the next frame, and the place after it, but for its sum; None at the end. `here` is
+/// then the place before its element, or before the one that was refused.
 fn find_frame<R: ByteIn>(
     input: &mut R,
     track: u64,
     place: Place,
+    here: &mut Place,
 ) -> Result<Option<(u64, Place)>, FileFault>
     ensures answer { AnswersOrNone (λ (p : Option (ℕ × Place)). p) (frame_found track place)
         (passage R.remaining R.failures input.old input.new) result }
     ensures sized { IfOk result (λ o. IfSome o (λ p. (0 < p.0) × (p.0 ≤ 67108864))) }
     ensures less { IfOk result (λ o. IfSome o (λ p. amount p.1 < amount place)) }
+    ensures from { FindsFrom track place (passage R.remaining R.failures input.old input.new) result
+        here.new }
 {
-    let mut here = place;
-    while let Some(next) = step(input, track, here)? {
+    *here = place;
+    while let Some(next) = step(input, track, *here)? {
         if let Some(size) = next.frame {
             return Ok(Some((size, next.place)));
         }
-        here = next.place;
+        *here = next.place;
     }
     Ok(None)
 }
 
-/// The next frame in place of what the vector has, and the place after it; None at the end.
+/// The next frame in place of what the vector has, and the place after it; None at the end. After a
+/// fault `here` is the place before the element that was refused.
 pub(crate) fn read_frame<R: ByteIn, A: Allocator>(
     input: &mut R,
     track: u64,
     place: Place,
+    here: &mut Place,
     frame: &mut Vec<u8, A>,
 ) -> Result<Option<Place>, FileFault>
     ensures answer { AnswersOrNone (λ (after : Option Place). next_with frame.new.items after)
@@ -55,9 +62,11 @@ pub(crate) fn read_frame<R: ByteIn, A: Allocator>(
     ensures err { OnErr result (Leaves track place (R.remaining input.old) frame.new.items) }
     ensures room { HasRoom (vec_capacity frame.old) (vec_capacity frame.new)
         (length frame.new.items) result }
+    ensures from { ReadsFrom track place (passage R.remaining R.failures input.old input.new) result
+        here.new }
 {
     frame.clear();
-    let Some((size, after)) = find_frame(input, track, place)? else {
+    let Some((size, after)) = find_frame(input, track, place, here)? else {
         return Ok(None);
     };
     let mut sum = after.sum;

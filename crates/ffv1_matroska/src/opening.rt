@@ -1,8 +1,9 @@
 //! The beginning of a file: the header of EBML, and that of the Segment.
 
-ghost use Rattle.std.specs.Prelude.{◌≡◌, ◌≤◌, ◌<◌, ◌^◌, ℕ, List, Option, OnOk, length};
+ghost use Rattle.std.specs.Prelude.{◌≡◌, ◌≤◌, ◌<◌, ◌^◌, ℕ, List, Option, IfOk, OnOk, length};
 ghost use Rattle.ffv1_wire.specs.Passage.{passage};
-ghost use Rattle.ffv1_reads.specs.First.{passage_with};
+ghost use Rattle.ffv1_reads.specs.First.{bytes_with, passage_with};
+ghost use Rattle.ffv1_reads.specs.Offsets.{ReadsOn};
 ghost use Rattle.ffv1_reads.specs.Reads.{Answers};
 ghost use Rattle.ffv1_ebml.specs.Vints.{number_of};
 ghost use Rattle.ffv1_matroska.specs.Opened.{ebml_read};
@@ -95,14 +96,18 @@ fn read_ident<R: ByteIn>(first: Option<u8>, input: &mut R, ident: u32) -> Result
     Ok(())
 }
 
-/// A size, or None where it is unknown. `BadElement` where it has more than 8 bytes.
+/// A size, or None where it is unknown, whose bytes are counted. `BadElement` where it has more
+/// than 8 bytes.
 #[tactic(auto, unfolding(crate::specs::Opening::top_size))]
-fn read_top_size<R: ByteIn>(input: &mut R) -> Result<Option<u64>, FileFault>
-    ensures { Answers (λ (s : Option ℕ). s) top_size
+fn read_top_size<R: ByteIn>(input: &mut R, offset: &mut u64) -> Result<Option<u64>, FileFault>
+    ensures answer { Answers (λ (s : Option ℕ). s) top_size
         (passage R.remaining R.failures input.old input.new) result }
+    ensures counted { IfOk result (λ s. ReadsOn top_size (R.remaining input.old)
+        (R.remaining input.new) s offset.old offset.new) }
 {
     let mut none = Sum::Absent;
     let data = next_data(input, 8, &mut none)?;
+    *offset = offset.saturating_add(8 - data.left);
     Ok(size_with(8 - data.left, data.value))
 }
 
@@ -132,33 +137,45 @@ fn keep_content<R: ByteIn, A: Allocator>(
 /// what the vector has.
 ///
 /// `NotMatroska` where the file begins otherwise, then as `read_top_size`, `keep_content` and
-/// `judge_header`.
+/// `judge_header`. Its bytes are counted where there is no fault.
 #[tactic(auto, unfolding(crate::specs::Opened::ebml_read))]
 pub(crate) fn read_ebml<R: ByteIn, A: Allocator>(
     first: Option<u8>,
     input: &mut R,
     content: &mut Vec<u8, A>,
+    offset: &mut u64,
 ) -> Result<(), FileFault>
-    ensures { Answers (λ (_ : Unit {0}). tt) ebml_read
+    ensures answer { Answers (λ (_ : Unit {0}). tt) ebml_read
         (passage_with first R.remaining R.failures input.old input.new) result }
+    ensures counted { IfOk result (λ u. ReadsOn ebml_read (bytes_with first (R.remaining input.old))
+        (R.remaining input.new) u offset.old offset.new) }
 {
     read_ident(first, input, EBML)?;
-    let size = read_top_size(input)?;
+    *offset = offset.saturating_add(4);
+    let size = read_top_size(input, offset)?;
     keep_content(input, size, content)?;
     judge_header(content.as_slice())?;
+    *offset = offset.saturating_add(content.len() as u64);
     Ok(())
 }
 
 /// The size of the Segment, which stands next, or None where it is unknown.
 ///
-/// `NotMatroska` where another element does, then as `read_top_size`.
+/// `NotMatroska` where another element does, then as `read_top_size`. The bytes of the header are
+/// counted where there is no fault.
 #[tactic(auto, unfolding(crate::specs::Opening::segment_entered))]
-pub(crate) fn enter_segment<R: ByteIn>(input: &mut R) -> Result<Option<u64>, FileFault>
-    ensures { Answers (λ (s : Option ℕ). s) segment_entered
+pub(crate) fn enter_segment<R: ByteIn>(
+    input: &mut R,
+    offset: &mut u64,
+) -> Result<Option<u64>, FileFault>
+    ensures answer { Answers (λ (s : Option ℕ). s) segment_entered
         (passage R.remaining R.failures input.old input.new) result }
+    ensures counted { IfOk result (λ s. ReadsOn segment_entered (R.remaining input.old)
+        (R.remaining input.new) s offset.old offset.new) }
 {
     read_ident(None, input, SEGMENT)?;
-    read_top_size(input)
+    *offset = offset.saturating_add(4);
+    read_top_size(input, offset)
 }
 
 /// The place at the beginning of a Segment.

@@ -1,8 +1,8 @@
 //! Where a reader stands in a Segment.
 
-ghost use Rattle.std.specs.Prelude.{◌≡◌, Ok, Err, Some, if◌then◌else◌};
+ghost use Rattle.std.specs.Prelude.{◌≡◌, ◌≤◌, ◌-◌, ◌^◌, min, Ok, Err, Some, if◌then◌else◌};
 ghost use Rattle.ffv1_reads.specs.declared.fault.FileFault.TheVariants as fault;
-ghost use Rattle.ffv1_matroska.specs.Places.{cluster_at, cluster_entered, ended, group_at};
+ghost use Rattle.ffv1_matroska.specs.Places.{amount, cluster_at, cluster_entered, ended, group_at};
 ghost use Rattle.ffv1_matroska.specs.Places.{is_sound, segment_at, step_to, summed_at};
 
 use ffv1_ebml::Sum;
@@ -127,4 +127,14 @@ pub(crate) fn closed(place: Place) -> Result<Option<Step>, FileFault>
         return Err(FileFault::Checksum);
     }
     Ok(Some(Step { frame: None, place }))
+}
+
+/// The bytes from one place to a later one, as one number of 8 bytes says them at most.
+pub(crate) fn passed(from: Place, to: Place) -> u64
+    requires { amount to ≤ amount from }
+    ensures { result ≡ min (amount from - amount to) (2 ^ 64 - 1) }
+{
+    let before = u128::from(from.segment) + u128::from(from.cluster) + u128::from(from.group);
+    let after = u128::from(to.segment) + u128::from(to.cluster) + u128::from(to.group);
+    u64::try_from(before - after).unwrap_or(u64::MAX)
 }

@@ -12,6 +12,7 @@ ghost use Rattle.ffv1_reads.specs.declared.fault.FileFault.{FileFault};
 ghost use Rattle.ffv1_reads.specs.declared.fault.FileFault.TheVariants as fault;
 ghost use Rattle.ffv1_matroska.specs.Files.{frame_read};
 ghost use Rattle.ffv1_matroska.specs.Opened.{open_read};
+ghost use Rattle.ffv1_matroska.specs.Offsets.{OffsetAfter, OffsetOpened};
 ghost use Rattle.ffv1_matroska.specs.Places.{amount, ended};
 ghost use Rattle.ffv1_matroska.specs.Readers.{HasEnded, Leaves, Standing, StandsAfter};
 ghost use Rattle.ffv1_matroska.specs.Readers.{is_frame_fault, is_opening_fault, next_of};
@@ -19,7 +20,7 @@ ghost use Rattle.ffv1_matroska.specs.Readers.{opened_at};
 
 use crate::beginning::read_opening;
 use crate::frames::read_frame;
-use crate::place::{Place, ended};
+use crate::place::{Place, ended, passed};
 use ffv1_reads::{FileFault, FileHead};
 use ffv1_wire::ByteIn;
 use std::alloc::{Allocator, Global};
@@ -36,6 +37,7 @@ pub struct MatroskaReader<A: Allocator = Global> {
     segment: Option<u64>,
     place: Place,
     fault: Option<FileFault>,
+    offset: u64,
 }
 
 impl<A: Allocator> Model for MatroskaReader<A> {
@@ -47,6 +49,7 @@ impl<A: Allocator> Model for MatroskaReader<A> {
       place = r.place;
       fault = r.fault;
       room = vec_capacity r.head.config_record;
+      offset = r.offset;
     } };
 }
 
@@ -91,6 +94,29 @@ impl<A: Allocator + Copy> MatroskaReader<A> {
         ensures room { IfOk result (λ r. RoomRead (bytes_with first (R.remaining input.old))
             (R.remaining input.new) 0 r.room) }
     {
+        let mut offset = 0;
+        MatroskaReader::open_located(alloc, first, input, &mut offset)
+    }
+
+    /// The same, which says where in the file a fault is: `offset` is then the number of bytes
+    /// before the element at fault, counting the byte that was read before; no greater than 2^64 -
+    /// 1. That element is the header of EBML, the header of the Segment, or an element of that;
+    /// where the Segment ends before any Tracks, it is where the next element would begin.
+    pub fn open_located<R: ByteIn>(
+        alloc: A,
+        first: Option<u8>,
+        input: &mut R,
+        offset: &mut u64,
+    ) -> Result<MatroskaReader<A>, FileFault>
+        ensures answer { AnswersOrFaults fault.NoTracks HasEnded opened_at open_read
+            (passage_with first R.remaining R.failures input.old input.new) result }
+        ensures sound { IfOk result (λ r. r.fault ≡ None) }
+        ensures own { IfErr result (λ f. is_opening_fault f ≡ true) }
+        ensures room { IfOk result (λ r. RoomRead (bytes_with first (R.remaining input.old))
+            (R.remaining input.new) 0 r.room) }
+        ensures offset { OffsetOpened (passage_with first R.remaining R.failures input.old
+            input.new) result offset.new }
+    {
         let mut content = Vec::new(alloc);
         let mut config_record = Vec::new(alloc);
         let (segment, numbers, place) = read_opening(
@@ -98,6 +124,7 @@ impl<A: Allocator + Copy> MatroskaReader<A> {
             input,
             &mut content,
             &mut config_record,
+            offset,
         )?;
         Ok(MatroskaReader {
             head: FileHead {
@@ -111,6 +138,7 @@ impl<A: Allocator + Copy> MatroskaReader<A> {
             segment,
             place,
             fault: None,
+            offset: *offset,
         })
     }
 }
@@ -129,6 +157,14 @@ impl<A: Allocator> MatroskaReader<A> {
         ensures { result ≡ self.now.segment }
     {
         self.segment
+    }
+
+    /// The number of bytes of the file before where the reader stands; after a fault, before the
+    /// element at fault. No greater than 2^64 - 1.
+    pub fn offset(&self) -> u64
+        ensures { result ≡ self.now.offset }
+    {
+        self.offset
     }
 
     /// Reads the next frame in place of what the vector has, and answers true; or false at the end,
@@ -173,6 +209,8 @@ impl<A: Allocator> MatroskaReader<A> {
         ensures again { (f : FileFault) → self.old.fault ≡ Some f → (result ≡ Err f)
             × (self.new ≡ self.old) × (frame.new.items ≡ []) × (input.new ≡ input.old) }
         ensures kept { self.new.room ≡ self.old.room }
+        ensures offset { self.old.fault ≡ None → OffsetAfter self.old
+            (passage R.remaining R.failures input.old input.new) result self.new }
     {
         frame.clear();
         if let Some(fault) = self.fault {
@@ -182,8 +220,10 @@ impl<A: Allocator> MatroskaReader<A> {
             self.place = ended();
             return Ok(false);
         }
-        match read_frame(input, self.track, self.place, frame) {
+        let mut here = self.place;
+        match read_frame(input, self.track, self.place, &mut here, frame) {
             Ok(Some(place)) => {
+                self.offset = self.offset.saturating_add(passed(self.place, place));
                 self.place = place;
                 Ok(true)
             }
@@ -192,6 +232,7 @@ impl<A: Allocator> MatroskaReader<A> {
                 Ok(false)
             }
             Err(fault) => {
+                self.offset = self.offset.saturating_add(passed(self.place, here));
                 self.fault = Some(fault);
                 Err(fault)
             }

@@ -8,3 +8,7 @@ pub mod EndReadings
 pub mod EndFaults
 pub mod Writing
 pub mod Rooms
+pub mod Taking
+pub mod OffsetLaws
+pub mod EndRefusals
+mod FirstFaults

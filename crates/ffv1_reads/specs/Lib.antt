@@ -5,3 +5,4 @@ pub mod Ends
 pub mod Known
 pub mod First
 pub mod Writes
+pub mod Offsets

@@ -1,8 +1,10 @@
 //! Laws of readings.
 
 ghost use Rattle.std.specs.Prelude.{◌≡◌, ◌++◌, ℕ, List, [], Option, Some, Ok, Err};
+ghost use Rattle.ffv1_reads.specs.declared.fault.FileFault.TheVariants as fault;
 ghost use Rattle.std.specs.Io.KnownBytes.{IsAtEnd};
 ghost use Rattle.ffv1_reads.specs.Ends.{Ends, FaultsAtEnd, Stops};
+ghost use Rattle.ffv1_reads.specs.Offsets.{FaultAt, Leads, StopsAfter};
 ghost use Rattle.ffv1_reads.specs.Reads.{Faults, Lacks, Met, Read, Reading, Short, Want};
 ghost use Rattle.ffv1_reads.specs.declared.fault.FileFault.{FileFault};
 
@@ -35,4 +37,24 @@ pub fn known_bytes<X>()
         (f : FileFault) → FaultsAtEnd reading (Some text) new f →
         (bytes rest : List ℕ) × (text ≡ bytes ++ rest) × (new ≡ Some rest)
         × (reading bytes ≡ Err (Met f [])) }
+{}
+
+/// Where the bytes are known, a call that was refused in an element after others, other than by a
+/// read that failed or by memory, says where the fault is: the bytes begin with elements of so many
+/// bytes that are read whole, and the next one has the fault. That is the first fault of those
+/// bytes, and the only place that they have one at: no other fault comes after as many bytes, nor
+/// this one after another number of them.
+pub fn faults_at<S>()
+    ensures known { (element : S → Reading S) (from : S) (text : List ℕ) (new : Option (List ℕ))
+        (before after : ℕ) (f : FileFault) (to : S) (count : ℕ) →
+        StopsAfter element from (record {
+          old = Some text;
+          new = new;
+          before = before;
+          after = after;
+        }) f to count →
+        (f ≡ fault.Read → ⊥) → (f ≡ fault.OutOfMemory → ⊥) → FaultAt element from text f count }
+    ensures only { (element : S → Reading S) (from : S) (text : List ℕ) (f g : FileFault)
+        (m n : ℕ) → FaultAt element from text f m → FaultAt element from text g n →
+        (f ≡ g) × (m ≡ n) }
 {}

@@ -72,6 +72,8 @@ module _ (contexts containers : Words) (are : AreContexts contexts) (are_contain
       let ec = value_left pack rest (rule_at pack 6) refl refl (inr (inr (inr (inr (inr (inr (inl refl))))))) refl e in
       let rate = value_left pack rest (rule_at pack 7) refl refl (inr (inr (inr (inr (inr (inr (inr (inl refl)))))))) refl e in
       let scale = value_left pack rest (rule_at pack 8) refl refl (inr (inr (inr (inr (inr (inr (inr (inr (inl refl))))))))) refl e in
+      let compared = value_left pack rest (rule_at pack 10) refl refl (inr (inr (inr (inr (inr (inr (inr (inr (inr (inr (inl refl))))))))))) refl e in
+      let verify = flag_named rows (codes "verify") compared.text compared.is compared.passes in
       let coder_is = number_named rows (codes "coder") 1 2 coder.text coder.reads coder.passes in
       let coder_of = coder_named rows (codes "coder") coder_is.0 coder_is.1 in
       let large = contexts_named rows (codes "contexts") contexts words.text are words.is words.passes in
@@ -90,6 +92,7 @@ module _ (contexts containers : Words) (are : AreContexts contexts) (are_contain
           ec = ec_of.0;
           rate = rate_is.0;
           scale = scale_is.0;
+          verify = verify.0;
         },
         record {
           coder = coder_of.1;
@@ -100,6 +103,7 @@ module _ (contexts containers : Words) (are : AreContexts contexts) (are_contain
           ec = ec_of.1;
           rate = rate_is.1;
           scale = scale_is.1;
+          verify = verify.1;
         },
       )
 
@@ -111,9 +115,9 @@ module _ (contexts containers : Words) (are : AreContexts contexts) (are_contain
       let choice = pack_choice rest e in
       let holder = value_left pack rest (rule_at pack 9) refl refl (inr (inr (inr (inr (inr (inr (inr (inr (inr (inl refl)))))))))) refl e in
       let container = container_named (rows_after pack.rules [] rest) (codes "container") containers holder.text are_containers holder.is holder.passes in
-      let kept = value_left pack rest (rule_at pack 10) refl refl (inr (inr (inr (inr (inr (inr (inr (inr (inr (inr (inl refl))))))))))) refl e in
+      let kept = value_left pack rest (rule_at pack 11) refl refl (inr (inr (inr (inr (inr (inr (inr (inr (inr (inr (inr (inl refl)))))))))))) refl e in
       let no_clobber = flag_named (rows_after pack.rules [] rest) (codes "no-clobber") kept.text kept.is kept.passes in
-      let told = value_left pack rest (rule_at pack 11) refl refl (inr (inr (inr (inr (inr (inr (inr (inr (inr (inr (inr (inl refl)))))))))))) refl e in
+      let told = value_left pack rest (rule_at pack 12) refl refl (inr (inr (inr (inr (inr (inr (inr (inr (inr (inr (inr (inr (inl refl))))))))))))) refl e in
       let progress = flag_named (rows_after pack.rules [] rest) (codes "progress") told.text told.is told.passes in (
         order.Pack (path input.text) (path output.text) choice.0 container.0 no_clobber.0 progress.0,
         (refl, input.is, output.is, choice.1, container.1, no_clobber.1, progress.1),

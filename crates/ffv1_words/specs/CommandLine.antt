@@ -70,6 +70,10 @@ with_pace a = with_rule (with_rule a (number_rule (codes "rate") 1 4294967295 (c
 abbrev pub with_container : Words → App → App
 with_container words a = with_rule a (word_rule (codes "container") words (codes "auto"))
 
+-- each frame is decoded and compared
+abbrev pub with_verify : App → App
+with_verify a = with_rule a (flag_rule (codes "verify"))
+
 -- the program says how much is read
 abbrev pub with_progress : App → App
 with_progress a = with_rule a (flag_rule (codes "progress"))
@@ -80,8 +84,8 @@ with_no_clobber a = with_rule a (flag_rule (codes "no-clobber"))
 
 abbrev pub pack_app : Words → Words → App
 pack_app contexts containers =
-    with_progress (with_no_clobber (with_container containers
-    (with_pace (with_slices (with_model contexts (two_files (codes "pack")))))))
+    with_progress (with_no_clobber (with_verify (with_container containers
+    (with_pace (with_slices (with_model contexts (two_files (codes "pack"))))))))
 
 abbrev pub unpack_app : App
 unpack_app = with_progress (with_no_clobber (two_files (codes "unpack")))

@@ -86,6 +86,7 @@ pub record NamesChoice (rows : List Row) (c : Choice) : Type 0 where
   pub ec : NamesNumber rows (codes "ec") 0 1 (bit_number c.ec)
   pub rate : NamesNumber rows (codes "rate") 1 4294967295 c.rate
   pub scale : NamesNumber rows (codes "scale") 1 4294967295 c.scale
+  pub verify : NamesFlag rows (codes "verify") c.verify
 
 -- ---- what a line names
 

@@ -10,6 +10,7 @@ ghost use Rattle.ffv1_words.specs.CommandLine.{one_file, some_files, two_files, 
 ghost use Rattle.ffv1_words.specs.CommandLine.{with_no_clobber};
 ghost use Rattle.ffv1_words.specs.CommandLine.{with_container, with_pace, with_progress};
 ghost use Rattle.ffv1_words.specs.CommandLine.{with_slices};
+ghost use Rattle.ffv1_words.specs.CommandLine.{with_verify};
 ghost use Rattle.ffv1_words.specs.CommandLine.{pack_app, unpack_app, check_app, show_app, top_app};
 ghost use Rattle.ffv1_words.specs.CommandLine.{files_app, looks_app, line_app, AreContainers};
 ghost use Rattle.ffv1_words.specs.CommandLine.{AreContexts};
@@ -38,7 +39,7 @@ const CODED_FILES: &str = "The AVI or Matroska files, or - for standard input";
 const PICTURE_FILES: &str =
     "The files, or - for standard input: video as for pack where it begins with P or Y";
 
-const STATUSES: &str = "Exit status: 0 all done, 1 a fault, told by its number, 2 a line refused";
+const STATUSES: &str = "Exit status: 0 all done, 1 a fault, by its number, 2 a line refused";
 
 fn file_arg<'a>(alloc: Global, id: &'a str, help: &'a str) -> Arg<'a>
     ensures rule { rule_of result ≡ file_rule id.entry.now }
@@ -226,6 +227,15 @@ fn add_container<'a>(
     command.arg(word_arg(alloc, "container", containers, "auto", help))
 }
 
+fn add_verify<'a>(alloc: Global, command: Command<'a>) -> Result<Command<'a>, AllocError>
+    requires { (fields_of command).has_globals ≡ false }
+    ensures { IfOk result (λ c.
+        (app_of c ≡ with_verify (app_of command.entry)) × ((fields_of c).has_globals ≡ false)) }
+{
+    let help = "Decode each frame as soon as it is coded, and compare it with its picture";
+    command.arg(flag_arg(alloc, "verify", help))
+}
+
 fn pack_command<'a>(
     alloc: Global,
     contexts: &'a [&'a str],
@@ -242,6 +252,7 @@ fn pack_command<'a>(
     let command = add_slices(alloc, command)?;
     let command = add_pace(alloc, command)?;
     let command = add_container(alloc, containers, command)?;
+    let command = add_verify(alloc, command)?;
     add_making(alloc, command)
 }
 
@@ -261,7 +272,7 @@ fn check_command<'a>(alloc: Global) -> Result<Command<'a>, AllocError>
 {
     let about = "Decode all frames of files, and tell of each what it takes";
     let all = "Go on after a frame that is refused, and count those";
-    let place = "Tell where a frame is refused: slice, plane, line and column";
+    let place = "Say where: slice, plane, line and column of a frame, or the byte of the file";
     some_files_command(alloc, "check", about, CODED_FILES)?
         .arg(flag_arg(alloc, "all", all))?
         .arg(flag_arg(alloc, "place", place))?

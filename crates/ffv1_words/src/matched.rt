@@ -159,6 +159,7 @@ fn choice(matches: &ArgMatches<'_>) -> Option<Choice>
     let ec = ec(matches)?;
     let rate = number(matches, "rate", 1, 4294967295)?;
     let scale = number(matches, "scale", 1, 4294967295)?;
+    let verify = flag(matches, "verify")?;
     Some(Choice {
         coder,
         large,
@@ -168,6 +169,7 @@ fn choice(matches: &ArgMatches<'_>) -> Option<Choice>
         ec,
         rate,
         scale,
+        verify,
     })
 }
 

@@ -44,6 +44,8 @@ pub struct Choice {
     pub rate: u32,
     /// In how many seconds there are `rate` frames, at least 1.
     pub scale: u32,
+    /// Whether each frame is decoded as soon as it is coded, and compared with its picture.
+    pub verify: bool,
 }
 
 /// What a command line asks for.

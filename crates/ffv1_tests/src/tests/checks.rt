@@ -102,3 +102,27 @@ fn a_place_takes_no_memory(rt: HostRuntime) -> Result<(), Fail> {
     assert!(rt; 10 < refused && refused < 40);
     Ok(())
 }
+
+/// What a check of the first 270 bytes of two frames writes that asks for places.
+fn of_cut_file(rt: &impl Abort, alloc: Global, profile: Profile, text: &[u8]) -> Result<(), Fault> {
+    let file = file_of(alloc, 1, b"\xFE\x7B\x00\x00\x02", 2)?;
+    let mut output = ToWrite::new(Vec::new(alloc));
+    let part = file.get(..270).unwrap_or(b"");
+    let answer = check(alloc, profile, &mut FromRead::new(part), &mut output, true);
+    assert!(rt; answer == Err(Fault::Truncated));
+    assert!(rt; output.into_inner().as_slice() == text);
+    Ok(())
+}
+
+static CUT: &[u8] = b"frame 0: 5 bytes, 1 slices, 11 decisions
+fault frame 1 byte 264
+";
+
+static CUT_STRICT: &[u8] = b"frame 0: 5 bytes, 1 slices, 11 decisions\n";
+
+#[test]
+fn the_byte_where_a_file_is_cut(rt: HostRuntime) -> Result<(), Fail> {
+    of_cut_file(&rt, rt.alloc(), Profile::Wide, CUT)?;
+    of_cut_file(&rt, rt.alloc(), Profile::Strict, CUT_STRICT)?;
+    Ok(())
+}

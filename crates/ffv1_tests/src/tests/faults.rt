@@ -19,7 +19,7 @@ fn are_shown<T: Display>(rt: &impl Abort, alloc: Global, rows: &[(T, &str)]) {
 }
 
 /// Those of the engine.
-static ENGINE: [(Fault, &str); 60] = [
+static ENGINE: [(Fault, &str); 61] = [
     (Fault::StateTable, "1 StateTable"),
     (Fault::OutOfMemory, "2 OutOfMemory"),
     (Fault::BadStart, "3 BadStart"),
@@ -80,6 +80,7 @@ static ENGINE: [(Fault, &str); 60] = [
     (Fault::Laced, "84 Laced"),
     (Fault::Checksum, "85 Checksum"),
     (Fault::Rate, "86 Rate"),
+    (Fault::NotSame, "87 NotSame"),
 ];
 
 /// Those of the range coder.

@@ -88,3 +88,19 @@ fn refused_memory_ends_it(rt: HostRuntime) -> Result<(), Fail> {
     assert!(rt; 10 < refused && refused < 40);
     Ok(())
 }
+
+static CUT: &[u8] = b"frame 0: fault 31 Place
+fault frame 0 slice 1 plane 0 line 0 x 0 decisions 11
+fault frame 1 byte 268
+";
+
+#[test]
+fn the_byte_where_a_file_is_cut(rt: HostRuntime) -> Result<(), Fail> {
+    let file = file_of(rt.alloc(), MISPLACED, 2)?;
+    let mut output = ToWrite::new(Vec::new(rt.alloc()));
+    let mut input = FromRead::new(file.get(..270).unwrap_or(b""));
+    let answer = check_all(rt.alloc(), Profile::Wide, &mut input, &mut output, true);
+    assert!(rt; answer == Err(Fault::Truncated));
+    assert!(rt; output.into_inner().as_slice() == CUT);
+    Ok(())
+}

@@ -16,6 +16,7 @@ const DEFAULTS: Choice = Choice {
     ec: true,
     rate: 25,
     scale: 1,
+    verify: false,
 };
 
 fn names<'a>(rt: &impl Abort, alloc: Global, line: &'a [&'a str], order: Order<'a>) {
@@ -299,6 +300,7 @@ static MORE: [(&[&str], Order<'static>); 4] = [
             "b",
             "--rate=30000",
             "--scale=1001",
+            "--verify",
         ],
         Order::Pack {
             input: "a",
@@ -312,6 +314,7 @@ static MORE: [(&[&str], Order<'static>); 4] = [
                 ec: false,
                 rate: 30000,
                 scale: 1001,
+                verify: true,
             },
             container: ContainerChoice::Auto,
             no_clobber: false,

@@ -15,6 +15,7 @@ const PLAIN: Choice = Choice {
     ec: false,
     rate: 25,
     scale: 1,
+    verify: false,
 };
 
 /// A text of 4:2:0 with one picture of 2 by 2.
@@ -100,6 +101,11 @@ static PACKED: [(&[u8], Choice, (u64, u64), &[u8]); 5] = [
 fn frames(rt: HostRuntime) -> Result<(), Fail> {
     for &(text, choice, done, end) in &PACKED {
         packs(&rt, rt.alloc(), text, &choice, done, end)?;
+        let verified = Choice {
+            verify: true,
+            ..choice
+        };
+        packs(&rt, rt.alloc(), text, &verified, done, end)?;
     }
     Ok(())
 }

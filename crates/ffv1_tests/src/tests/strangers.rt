@@ -16,6 +16,7 @@ fn file(alloc: Global) -> Result<Vec<u8>, Fault> {
         ec: true,
         rate: 25,
         scale: 1,
+        verify: false,
     };
     let mut input = FromRead::new(b"YUV4MPEG2 W1 H1 Cmono\nFRAME\n\0".as_slice());
     let mut output = ToWrite::new(Vec::new(alloc));

@@ -23,6 +23,7 @@ const PLAIN: Choice = Choice {
     ec: false,
     rate: 25,
     scale: 1,
+    verify: false,
 };
 
 /// The file of a text.
@@ -65,9 +66,14 @@ const LAST: &[u8] = b"#stream#, dts,        pts, duration,     size, hash\n";
 
 /// A text of two pictures of 2 by 2, and what is written of its file.
 const PAIR: (&[u8], &[u8], &[u8]) = (
-    b"YUV4MPEG2 W2 H2 F50:2 It A2:2 C420jpeg\nFRAME\n\x01\x02\x03\x04\x05\x06FRAME\n\x11\x12\x13\x14\x15\x16",
+    b"YUV4MPEG2 W2 H2 F50:2 It A2:2 C420jpeg
+FRAME
+\x01\x02\x03\x04\x05\x06FRAME
+\x11\x12\x13\x14\x15\x16",
     b"#tb 0: 1/25\n#media_type 0: video\n#codec_id 0: rawvideo\n#dimensions 0: 2x2\n#sar 0: 2/2\n",
-    b"0,          0,          0,        1,        6, 6ac1e56bc78f031059be7be854522c4c\n0,          1,          1,        1,        6, 06e22bc66691496dd92c04669b3703cc\n",
+    b"0,          0,          0,        1,        6, 6ac1e56bc78f031059be7be854522c4c
+0,          1,          1,        1,        6, 06e22bc66691496dd92c04669b3703cc
+",
 );
 
 /// Texts, and what is written of their files: mono, with transparency, of 10 bits, and images of 8
@@ -75,28 +81,62 @@ const PAIR: (&[u8], &[u8], &[u8]) = (
 static SUMS: [(&[u8], &[u8], &[u8]); 6] = [
     PAIR,
     (
-        b"YUV4MPEG2 W2 H2 F30000:1001 It A4:3 Cmono\nFRAME\n\x07\x08\x09\x0AFRAME\n\x08\x07\x06\x05",
-        b"#tb 0: 1001/30000\n#media_type 0: video\n#codec_id 0: rawvideo\n#dimensions 0: 2x2\n#sar 0: 4/3\n",
-        b"0,          0,          0,        1,        4, be16a383ef16a9b4c842fdc74263a859\n0,          1,          1,        1,        4, 4233b58bf3d2d8397db7ba0fcc9aaf17\n",
+        b"YUV4MPEG2 W2 H2 F30000:1001 It A4:3 Cmono
+FRAME
+\x07\x08\x09\x0AFRAME
+\x08\x07\x06\x05",
+        b"#tb 0: 1001/30000
+#media_type 0: video
+#codec_id 0: rawvideo
+#dimensions 0: 2x2
+#sar 0: 4/3
+",
+        b"0,          0,          0,        1,        4, be16a383ef16a9b4c842fdc74263a859
+0,          1,          1,        1,        4, 4233b58bf3d2d8397db7ba0fcc9aaf17
+",
     ),
     (
         b"YUV4MPEG2 W1 H1 F25:1 C444alpha\nFRAME\n\x01\x02\x03\x04",
-        b"#tb 0: 1/25\n#media_type 0: video\n#codec_id 0: rawvideo\n#dimensions 0: 1x1\n#sar 0: 0/1\n",
+        b"#tb 0: 1/25
+#media_type 0: video
+#codec_id 0: rawvideo
+#dimensions 0: 1x1
+#sar 0: 0/1
+",
         b"0,          0,          0,        1,        4, 08d6c05a21512a79a1dfeb9d2a8f262f\n",
     ),
     (
-        b"YUV4MPEG2 W2 H2 F25:1 A59:54 C420p10\nFRAME\n\x01\x02\x03\x01\xFF\x03\x00\x00\x05\x01\x06\x02",
-        b"#tb 0: 1/25\n#media_type 0: video\n#codec_id 0: rawvideo\n#dimensions 0: 2x2\n#sar 0: 59/54\n",
+        b"YUV4MPEG2 W2 H2 F25:1 A59:54 C420p10
+FRAME
+\x01\x02\x03\x01\xFF\x03\x00\x00\x05\x01\x06\x02",
+        b"#tb 0: 1/25
+#media_type 0: video
+#codec_id 0: rawvideo
+#dimensions 0: 2x2
+#sar 0: 59/54
+",
         b"0,          0,          0,        1,       12, f21c07710c00da85d0ff7a71c3feafa0\n",
     ),
     (
         b"P6\n2 1\n255\n\x01\x02\x03\x04\x05\x06P6\n2 1\n255\n\x11\x12\x13\x14\x15\x16",
-        b"#tb 0: 1/25\n#media_type 0: video\n#codec_id 0: rawvideo\n#dimensions 0: 2x1\n#sar 0: 0/1\n",
-        b"0,          0,          0,        1,        6, 6ac1e56bc78f031059be7be854522c4c\n0,          1,          1,        1,        6, 06e22bc66691496dd92c04669b3703cc\n",
+        b"#tb 0: 1/25
+#media_type 0: video
+#codec_id 0: rawvideo
+#dimensions 0: 2x1
+#sar 0: 0/1
+",
+        b"0,          0,          0,        1,        6, 6ac1e56bc78f031059be7be854522c4c
+0,          1,          1,        1,        6, 06e22bc66691496dd92c04669b3703cc
+",
     ),
     (
         b"P6\n1 1\n1023\n\x01\x02\x00\x03\x03\x04",
-        b"#tb 0: 1/25\n#media_type 0: video\n#codec_id 0: rawvideo\n#dimensions 0: 1x1\n#sar 0: 0/1\n",
+        b"#tb 0: 1/25
+#media_type 0: video
+#codec_id 0: rawvideo
+#dimensions 0: 1x1
+#sar 0: 0/1
+",
         b"0,          0,          0,        1,        6, 30068e75ffcca6b65d9843b97449ee52\n",
     ),
 ];

@@ -98,6 +98,7 @@ const PLAIN: Choice = Choice {
     ec: false,
     rate: 25,
     scale: 1,
+    verify: false,
 };
 
 /// Packs without parity into Matroska.

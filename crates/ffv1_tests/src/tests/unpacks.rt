@@ -20,6 +20,7 @@ const PLAIN: Choice = Choice {
     ec: false,
     rate: 25,
     scale: 1,
+    verify: false,
 };
 
 /// A text of 4:2:0 with one picture of 2 by 2, and what comes back of it.

@@ -16,6 +16,9 @@ use Rattle.ffv1_avi.proofs.Contents.{number_taken}
 use Rattle.ffv1_reads.proofs.WantedBytes.{wanted_sound}
 use Rattle.ffv1_reads.proofs.Reading.{faults_here, goes_fault, goes_last, goes_none, goes_read, goes_same}
 use Rattle.ffv1_reads.proofs.Rooms.{room_after}
+use Rattle.std.proofs.lemmas.Result.{err_from_is_err_and}
+use Rattle.ffv1_avi.proofs.RiffReadings.{stops_here}
+use Rattle.ffv1_avi.proofs.SpotReadings.{opens_then, start_differs, start_read, start_refused}
 use Rattle.ffv1_avi.proofs.open.read_opening.Goals as goal
 use Rattle.ffv1_avi.proofs.open.read_opening.Goals.{then-not-is_name-via-then-not-is_name, then-not-is_name-via-else-not-is_name+then-not-is_name-2, then-not-is_name-via-else-not-is_name+else-not-is_name-2+then-size-lt4}
 
@@ -72,3 +75,31 @@ returns-clause-answer g c =
 
 pub returns-clause-grown : goal.returns-clause-grown
 returns-clause-grown g c = room_after _ _ _ c.read_top.result c.in_ok-take_after.ensures.1 c.read_top.ensures.grown
+
+pub returns-in_err-take_after-clause-from : goal.returns-in_err-take_after-clause-from
+returns-in_err-take_after-clause-from g c =
+    let p = err_from_is_err_and c.from_residual.result c.from_residual.ensures.1 in
+    let f = c.in_err-take_after.field-0.0 in
+    rw (p.1, p.2) (stops_here f (start_refused c.args.extent _ _ _ _ f c.in_err-take_after.ensures))
+
+pub returns-then-not-is_name-clause-from : goal.returns-then-not-is_name-clause-from
+returns-then-not-is_name-clause-from g c =
+    let head = c.take_after.new.buf in
+    let long : length head ≡ 12 = (wanted_sound Looked 12 (c.in_ok-take_after.ensures.1.bytes ++ []) (head, []) (c.in_ok-take_after.ensures.1.is [])).1 in
+    let form : take 4 (drop 8 head) ≡ drop 8 head = take_all 4 (drop 8 head) (omega (arith, long, length-drop 8 head)) in
+    let size : c.read_u32-size.result ≡ little_number 4 (drop 4 head) = c.read_u32-size.ensures ∙ number_taken 8 (drop 4 head) (omega arith) in
+    let a = is_name (take 4 head) (codes "RIFF") in
+    let b = is_name (drop 8 head) (codes "AVI ") in
+    let z = nat_le 4 (little_number 4 (drop 4 head)) in
+    let other : begins head ≡ false = elim c.then-not-is_name.branch [ then-not-is_name-via-then-not-is_name w ↦ no_first a b z (sym w.if-not-is_name.ensures) | then-not-is_name-via-else-not-is_name+then-not-is_name-2 w ↦ no_second a b z (sym w.if-not-is_name.ensures) (ap (λ y. is_name y (codes "AVI ")) (sym form) ∙ sym w.if-not-is_name-2.ensures) | then-not-is_name-via-else-not-is_name+else-not-is_name-2+then-size-lt4 w ↦ no_third a b z (sym w.if-not-is_name.ensures) (ap (λ y. is_name y (codes "AVI ")) (sym form) ∙ sym w.if-not-is_name-2.ensures) (lt-leb _ _ (omega (arith, size, w.if-size-lt4.true))) ] in
+    stops_here fault.NotAvi (start_differs c.args.extent head _ _ _ _ other c.in_ok-take_after.ensures)
+
+pub returns-clause-from : goal.returns-clause-from
+returns-clause-from g c =
+    let head = c.take_after.new.buf in
+    let long : length head ≡ 12 = (wanted_sound Looked 12 (c.in_ok-take_after.ensures.1.bytes ++ []) (head, []) (c.in_ok-take_after.ensures.1.is [])).1 in
+    let form : take 4 (drop 8 head) ≡ drop 8 head = take_all 4 (drop 8 head) (omega (arith, long, length-drop 8 head)) in
+    let size : c.read_u32-size.result ≡ little_number 4 (drop 4 head) = c.read_u32-size.ensures ∙ number_taken 8 (drop 4 head) (omega arith) in
+    let enough : nat_le 4 (little_number 4 (drop 4 head)) ≡ true = le-leb _ _ (omega (arith, size, c.if-size-lt4.false)) in
+    let here : begins head ≡ true = all_three _ _ _ (sym c.if-not-is_name.ensures) (ap (λ y. is_name y (codes "AVI ")) (sym form) ∙ sym c.if-not-is_name-2.ensures) enough in
+    opens_then _ _ _ c.args.extent (little_number 4 (drop 4 head) - 4) c.read_top.new.config.items c.read_top.result c.in_ok-take_after.ensures.0 (start_read c.args.extent head here c.in_ok-take_after.ensures.1) (rw size at c.read_top.ensures.from)

@@ -1,5 +1,6 @@
 use Rattle.std.proofs.Common.{Option}
-use Rattle.ffv1_avi.specs.Files.{Headers, opened, top_read, visit_top}
+use Rattle.ffv1_avi.specs.Files.{Headers, no_headers, opened, top_read, visit_top}
+use Rattle.ffv1_avi.specs.Offsets.{InRiff, ReadsTo, spot_taken}
 use Rattle.ffv1_reads.specs.Head.{Head}
 use Rattle.ffv1_avi.specs.declared.place.Place.{Place}
 use Rattle.ffv1_reads.specs.Reads.{Reading, ◌>>=◌}
@@ -18,6 +19,7 @@ invariant-loop-entry g l =
     (Goes (top_read l.fn.extent l.fn.room) (g.R.ByteIn.remaining l.initial.input) (g.R.ByteIn.failures l.initial.input)
     (walk (visit_top l.fn.extent) l.left (headers_with l.found l.config.items) >>= ended) (g.R.ByteIn.remaining l.input) (g.R.ByteIn.failures l.input))
     × RoomRead (g.R.ByteIn.remaining l.initial.input) (g.R.ByteIn.remaining l.input) (vec_capacity l.initial.config) (vec_capacity l.config)
+    × ReadsTo (spot_taken l.fn.extent) (InRiff no_headers l.fn.room) (g.R.ByteIn.remaining l.initial.input) (g.R.ByteIn.remaining l.input) (InRiff (headers_with l.found l.config.items) l.left) l.initial.offset l.offset
 
 abbrev pub decreases-loop-entry : goal.decreases-loop-entry
 decreases-loop-entry g l = l.left

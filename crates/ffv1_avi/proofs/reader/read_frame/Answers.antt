@@ -12,6 +12,8 @@ use Rattle.ffv1_avi.proofs.EndReadings.{answers_by, none_ends, none_given, none_
 use Rattle.ffv1_avi.proofs.Moves.{frame_less_at}
 use Rattle.ffv1_reads.proofs.Reading.{goes_none, goes_read, goes_same}
 use Rattle.ffv1_reads.proofs.Results.{read_on_twice}
+use Rattle.ffv1_avi.proofs.ChunkReadings.{fill_refused, pad_refused}
+use Rattle.ffv1_avi.proofs.RiffReadings.{frame_next, stops_here, stops_then}
 use Rattle.ffv1_avi.proofs.reader.read_frame.Goals as goal
 
 abbrev framed : Place → List ℕ → Reading (Option (List ℕ × Place))
@@ -136,3 +138,25 @@ returns-in_err-pass-clause-room g c =
 
 pub returns-clause-room : goal.returns-clause-room
 returns-clause-room g c = grind (arith, common_steps)
+
+pub returns-in_err-fill-clause-from : goal.returns-in_err-fill-clause-from
+returns-in_err-fill-clause-from g c =
+    let p = err_from_is_err_and c.from_residual-in_err-fill.result c.from_residual-in_err-fill.ensures.1 in
+    let f = c.in_err-fill.field-0.0 in
+    let from = rw c.in-Some.is at c.in_ok-size.ensures.from in
+    let same = (rw c.in-Some.is at c.in_ok-size.ensures.answer).0 in
+    rw (p.1, p.2) (stops_then f refl from.5 (stops_here f (fill_refused from.0 c.in-Some.size from.2 _ _ _ _ _ _ f from.3 same c.in_err-fill.ensures.answer)))
+
+pub returns-in_err-pass-clause-from : goal.returns-in_err-pass-clause-from
+returns-in_err-pass-clause-from g c =
+    let p = err_from_is_err_and c.from_residual-in_err-pass.result c.from_residual-in_err-pass.ensures.1 in
+    let f = c.in_err-pass.field-0.0 in
+    let from = rw c.in-Some.is at c.in_ok-size.ensures.from in
+    let same = (rw c.in-Some.is at c.in_ok-size.ensures.answer).0 in
+    rw (p.1, p.2) (stops_then f refl from.5 (stops_here f (pad_refused from.0 c.in-Some.size from.2 c.fill.new.bytes.items _ _ _ _ _ _ _ _ f from.3 same c.in_ok-fill.ensures.answer (rw c.from.ensures at c.in_err-pass.ensures))))
+
+pub returns-clause-from : goal.returns-clause-from
+returns-clause-from g c =
+    let from = rw c.in-Some.is at c.in_ok-size.ensures.from in
+    let pad = rw c.from.ensures at c.in_ok-pass.ensures in
+    rw from.4 (frame_next from.0 c.in-Some.size from.2 c.fill.new.bytes.items from.5 from.3 c.in_ok-fill.ensures.answer.1 pad.1 (rw c.padded.ensures at c.saturating_add.ensures))

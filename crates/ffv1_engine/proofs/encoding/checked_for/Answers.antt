@@ -31,3 +31,6 @@ returns-in_err-check_in-clause-own g c =
     ap (at_depth (configuration_of c.in_ok-config.config)) c.depth.ensures.value ∙ c.in_ok-config.ensures.ok in
     let first = subst (λ z. IsFirstUpTo (greatest_depth c.args.profile) z f) k (rw c.of_record.ensures at c.in_err-check_in.ensures.refused) in
     rw (p.1, p.2) (own_in c.args.profile c.args.choice.now (reading_of c.args.reader.now).ppm (reading_of c.args.reader.now).head f c.one_table.ensures.standard c.in_ok-config.ensures.head c.depth.ensures.least c.requires first)
+
+pub returns-clause-profile : goal.returns-clause-profile
+returns-clause-profile g c = c.in_ok-check_in.ensures.profile ∙ c.of_record.ensures

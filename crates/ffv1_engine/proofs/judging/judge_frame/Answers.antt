@@ -1,14 +1,17 @@
-use Rattle.std.proofs.Common.{Some, ap, ◌∙◌}
+use Rattle.std.proofs.Common.{◌≡◌, refl, Some, [], ap, sym, subst, ◌∙◌}
 use Rattle.std.proofs.lemmas.Result.{err_from_is_err_and}
 use Rattle.ffv1_wire.specs.Passage.{passage}
 use Rattle.ffv1_record.specs.Accepted.{Accepted}
 use Rattle.ffv1_slice.specs.Grid.{division_of}
 use Rattle.ffv1_codec.specs.Kept.{Dropped, Drops, DropsNot}
-use Rattle.ffv1_engine.specs.Judged.{one_counted}
+use Rattle.ffv1_engine.specs.Faults.{cause_of, of_avi}
+use Rattle.ffv1_engine.specs.Located.{located_text}
+use Rattle.ffv1_engine.specs.Told.{WritesLine}
+use Rattle.ffv1_engine.specs.Judged.{JudgeStopsBy, one_counted}
 use Rattle.ffv1_engine.specs.Judged.Judged.{Decoded, Refused}
 use Rattle.ffv1_engine.specs.Stream.{Frame}
 use Rattle.ffv1_engine.proofs.FrameDecoded.{is_decided, is_faulty}
-use Rattle.ffv1_engine.proofs.FramesJudged.{lines_fail}
+use Rattle.ffv1_engine.proofs.FramesJudged.{lines_fail, next_refused}
 use Rattle.ffv1_engine.proofs.judging.judge_frame.Goals as goal
 
 pub returns-in_err-write_line-in-Ok-Some-clause-answer :
@@ -24,7 +27,7 @@ returns-in_err-write_line-in-Ok-Some-clause-answer g c =
     let frame : Frame = record { payload = payload; planes = found.0; said = info; tally = tally } in
     let decided = is_decided Drops DropsNot a payload c.new-sink.result c.play.new.sink tally info answer.1 in
     rw (p.1, p.2)
-    (lines_fail c.args.place a c.args.counts.now.frames c.args.player.now.reader.place c.play.new.player.reader.place
+    (lines_fail c.args.places.place c.args.places.byte a c.args.counts.now.frames c.args.player.now.reader c.play.new.player.reader.place
     (passage g.R.ByteIn.remaining g.R.ByteIn.failures c.args.input.now c.play.new.input)
     (passage g.W.ByteOut.contents g.W.ByteOut.failures c.args.output.now c.write_line.new.output) (Decoded frame) c.in_err-write_line-in-Ok-Some.field-0.0
     (record { codes = found.1; decided = decided }) answer.0
@@ -59,7 +62,7 @@ returns-in_err-write_refusal-in-Err-Payload-clause-answer g c =
     let grid = ap (λ (z : Dropped). z.grid) c.new-sink.ensures ∙ ap (λ (z : Accepted). division_of z.configuration) c.config.ensures in
     let own = c.taken_lines.ensures.dropped a payload c.new-sink.result c.play.new.sink tally f c.requires.accepted answer.1 grid in
     rw (p.1, p.2)
-    (lines_fail c.args.place a c.args.counts.now.frames c.args.player.now.reader.place c.play.new.player.reader.place
+    (lines_fail c.args.places.place c.args.places.byte a c.args.counts.now.frames c.args.player.now.reader c.play.new.player.reader.place
     (passage g.R.ByteIn.remaining g.R.ByteIn.failures c.args.input.now c.play.new.input)
     (passage g.W.ByteOut.contents g.W.ByteOut.failures c.args.output.now c.write_refusal.new.output) (Refused payload f tally) c.in_err-write_refusal-in-Err-Payload.field-0.0
     (is_faulty Drops DropsNot a payload c.new-sink.result c.play.new.sink tally f own answer.1) answer.0
@@ -83,5 +86,21 @@ returns-in_ok-write_refusal-in-Err-Payload-clause-answer g c =
         written = writes.0;
         writes = writes.1;
       },
-      c.count-in-Err-Payload.ensures ∙ ap (λ z. one_counted c.args.counts.now (Some z)) c.from-in-Err-Payload.ensures,
+      c.count-in-Err-Payload.ensures ∙ ap (λ z. one_counted c.args.counts.now (Some z)) c.from.ensures,
     )
+
+pub returns-in-Err-File-clause-answer : goal.returns-in-Err-File-clause-answer
+returns-in-Err-File-clause-answer g c =
+    let a = c.args.player.now.decoder.accepted in
+    let i = c.args.counts.now.frames in
+    let reading = passage g.R.ByteIn.remaining g.R.ByteIn.failures c.args.input.now c.play.new.input in
+    let writing = passage g.W.ByteOut.contents g.W.ByteOut.failures c.args.output.now c.tell_byte.new.output in
+    let from = c.args.player.now.reader in
+    let to = c.play.new.player.reader in
+    let f = of_avi c.in-Err-File.fault in
+    let is : c.from-fault.result ≡ f = c.from-fault.ensures in
+    let answer = rw c.in-Err-File.field-0-is at c.in-Err-File.ensures.answer in
+    let stops = rw c.in-Err-File.field-0-is at c.in-Err-File.ensures.located in
+    let writes : WritesLine [] (located_text c.args.places.byte i f to.offset) writing = rw (is, c.offset-offset.ensures) at c.tell_byte.ensures in
+    subst (λ z. JudgeStopsBy c.args.places.place c.args.places.byte a i from to.place reading writing z (cause_of z)) (sym is)
+    (next_refused c.args.places.place c.args.places.byte a i from to.place to.offset reading writing f (cause_of f) refl answer.0 stops writes)

@@ -1,5 +1,5 @@
 use Rattle.std.proofs.lemmas.Result.{err_from_is_err_and}
-use Rattle.std.proofs.Common.{refl, ap, ◌≡◌, ◌<◌, length, arith}
+use Rattle.std.proofs.Common.{refl, ◌≡◌, ◌<◌, length, arith}
 use Rattle.std.proofs.lemmas.Grind.{common_steps}
 use Rattle.ffv1_engine.proofs.FrameBytes.{empty_of}
 use Rattle.ffv1_engine.proofs.VideoEnds.{encodes_video, no_frames, some_frames}
@@ -16,29 +16,26 @@ returns-in_err-head-clause-err g c =
     let p = err_from_is_err_and c.from_residual-in_err-head.result c.from_residual-in_err-head.ensures.1 in
     rw (p.1, p.2) (wants_memory _ _ _ _ _ c.in_ok-reader.ensures.ok c.in_err-head.ensures.err)
 
-pub returns-in_err-checked-clause-err : goal.returns-in_err-checked-clause-err
-returns-in_err-checked-clause-err g c =
-    let p = err_from_is_err_and c.from_residual-in_err-checked.result c.from_residual-in_err-checked.ensures.1 in
-    rw (p.1, p.2) (rejected _ c.args.choice.now _ _ c.in_err-checked.field-0.0 c.in_ok-reader.ensures.ok c.in_err-checked.ensures.err)
+pub returns-in_err-encoder-clause-err : goal.returns-in_err-encoder-clause-err
+returns-in_err-encoder-clause-err g c =
+    let p = err_from_is_err_and c.from_residual-in_err-encoder.result c.from_residual-in_err-encoder.ensures.1 in
+    rw (p.1, p.2) (rejected _ c.args.choice.now _ _ c.in_err-encoder.field-0.0 c.in_ok-reader.ensures.ok c.in_err-encoder.ensures.err)
 
 pub returns-in_err-encode_pictures-clause-err : goal.returns-in_err-encode_pictures-clause-err
 returns-in_err-encode_pictures-clause-err g c =
     let p = err_from_is_err_and c.from_residual-in_err-encode_pictures.result c.from_residual-in_err-encode_pictures.ensures.1 in
-    let for = c.in_ok-checked.ensures.ok in
-    let accepted = ap (λ e. e.accepted) c.new-encoder.ensures in
-    rw (p.1, p.2) (stops _ c.args.choice.now _ _ _ _ c.in_err-encode_pictures.field-0.0 refl refl c.in_ok-reader.ensures.ok for (rw accepted at c.in_err-encode_pictures.ensures.err))
+    let for = c.in_ok-encoder.ensures.ok in
+    rw (p.1, p.2) (stops _ c.args.choice.now _ _ _ _ c.in_err-encode_pictures.field-0.0 refl refl c.in_ok-reader.ensures.ok for c.in_err-encode_pictures.ensures.err)
 
 pub returns-then-is_empty-clause-err : goal.returns-then-is_empty-clause-err
 returns-then-is_empty-clause-err g c =
-    let for = c.in_ok-checked.ensures.ok in
-    let accepted = ap (λ e. e.accepted) c.new-encoder.ensures in
+    let for = c.in_ok-encoder.ensures.ok in
     let empty : length c.encode_pictures.new.frames.items ≡ 0 = empty_of c.encode_pictures.new.frames _ c.is_empty.ensures c.if-is_empty.true in
-    none _ c.args.choice.now _ _ _ _ _ refl refl c.in_ok-reader.ensures.ok for (rw accepted at c.in_ok-encode_pictures.ensures.ok) (no_frames _ empty)
+    none _ c.args.choice.now _ _ _ _ _ refl refl c.in_ok-reader.ensures.ok for c.in_ok-encode_pictures.ensures.ok (no_frames _ empty)
 
 pub returns-clause-ok : goal.returns-clause-ok
 returns-clause-ok g c =
-    let for = c.in_ok-checked.ensures.ok in
-    let accepted = ap (λ e. e.accepted) c.new-encoder.ensures in
+    let for = c.in_ok-encoder.ensures.ok in
     let some : 0 < length c.encode_pictures.new.frames.items = grind (arith, common_steps, c.is_empty.ensures, c.if-is_empty.false) in
-    let head = c.in_ok-head.ensures.ok in
-    encodes_video c.texts.ensures.only c.images.ensures.told _ c.args.choice.now _ _ _ _ _ _ refl refl c.in_ok-reader.ensures.ok c.in_ok-reader.ensures.head for (rw accepted at c.in_ok-encode_pictures.ensures.ok) (some_frames _ some) head
+    let head = rw c.config.ensures at c.in_ok-head.ensures.ok in
+    encodes_video c.texts.ensures.only c.images.ensures.told _ c.args.choice.now _ _ _ _ _ _ refl refl c.in_ok-reader.ensures.ok c.in_ok-reader.ensures.head for c.in_ok-encode_pictures.ensures.ok (some_frames _ some) head

@@ -1,13 +1,14 @@
-use Rattle.std.proofs.Common.{◌≡◌, true, inl, ap, sym, subst, ◌∙◌}
+use Rattle.std.proofs.Common.{◌≡◌, refl, true, [], inl, inr, ap, sym, subst, ◌∙◌}
 use Rattle.std.proofs.lemmas.Result.{err_from_is_err_and}
 use Rattle.ffv1_wire.specs.Passage.{passage}
 use Rattle.ffv1_record.specs.Accepted.{Accepted}
 use Rattle.ffv1_slice.specs.Grid.{division_of}
 use Rattle.ffv1_codec.specs.Kept.{Dropped, Drops, DropsNot}
 use Rattle.ffv1_engine.specs.Stream.{Frame}
-use Rattle.ffv1_engine.specs.Told.{is_telling_fault}
-use Rattle.ffv1_engine.proofs.FrameDecoded.{frame_fails, is_decided, is_faulty}
-use Rattle.ffv1_engine.specs.Faults.{cause_of}
+use Rattle.ffv1_engine.specs.Located.{located_text}
+use Rattle.ffv1_engine.specs.Told.{FrameStopsBy, WritesLine, is_telling_fault}
+use Rattle.ffv1_engine.proofs.FrameDecoded.{file_refused, frame_fails, is_decided, is_faulty}
+use Rattle.ffv1_engine.specs.Faults.{cause_of, of_avi}
 use Rattle.ffv1_engine.specs.Faults.Cause.{Content}
 use Rattle.ffv1_engine.proofs.PicturesWritten.{decode_cause}
 use Rattle.ffv1_engine.proofs.OwnFaults.{payload_tells}
@@ -26,7 +27,7 @@ returns-in_err-write_line-in-Ok-Some-clause-answer g c =
     let frame : Frame = record { payload = payload; planes = found.0; said = info; tally = tally } in
     let decided = is_decided Drops DropsNot a payload c.new-sink.result c.play.new.sink tally info answer.1 in
     rw (p.1, p.2)
-    (frame_fails c.args.kind c.args.place a c.args.number c.args.player.now.reader.place c.play.new.player.reader.place
+    (frame_fails c.args.telling.kind c.args.telling.places.place c.args.telling.places.byte a c.args.number c.args.player.now.reader c.play.new.player.reader.place
     (passage g.R.ByteIn.remaining g.R.ByteIn.failures c.args.input.now c.play.new.input)
     (passage g.W.ByteOut.contents g.W.ByteOut.failures c.args.output.now c.write_line.new.output) frame c.in_err-write_line-in-Ok-Some.field-0.0
     (record { is = record { codes = found.1; decided = decided }; reads = answer.0 })
@@ -61,11 +62,11 @@ returns-in-Err-Payload-clause-answer g c =
       tally = tally;
       reads = answer.0;
       faulty = is_faulty Drops DropsNot a payload c.new-sink.result c.play.new.sink tally f own answer.1;
-      is = rw c.in-Err-Payload.field-0-is at c.from-in-Err-Payload.ensures;
+      is = c.from.ensures;
       content =
-          subst (λ z. cause_of z ≡ Content) (sym (rw c.in-Err-Payload.field-0-is at c.from-in-Err-Payload.ensures))
+          subst (λ z. cause_of z ≡ Content) (sym c.from.ensures)
           (decode_cause f.fault (c.decode_faults.ensures a payload c.new-sink.result c.play.new.sink tally f answer.1) own);
-      writes = rw c.in-Err-Payload.field-0-is at c.tell_place.ensures;
+      writes = c.tell_place.ensures;
     })
 
 pub returns-in-Err-Payload-clause-own : goal.returns-in-Err-Payload-clause-own
@@ -78,5 +79,20 @@ returns-in-Err-Payload-clause-own g c =
     let grid = ap (λ (z : Dropped). z.grid) c.new-sink.ensures ∙ ap (λ (z : Accepted). division_of z.configuration) c.config.ensures in
     let own = c.taken_lines.ensures.dropped a payload c.new-sink.result c.play.new.sink tally f c.requires.accepted answer.1 grid in
     let decode = c.decode_faults.ensures a payload c.new-sink.result c.play.new.sink tally f answer.1 in
-    let is = rw c.in-Err-Payload.field-0-is at c.from-in-Err-Payload.ensures in
+    let is = c.from.ensures in
     inl (subst (λ z. is_telling_fault z ≡ true) (sym is) (payload_tells f.fault decode own))
+
+pub returns-in-Err-File-clause-answer : goal.returns-in-Err-File-clause-answer
+returns-in-Err-File-clause-answer g c =
+    let a = c.args.player.now.decoder.accepted in
+    let reading = passage g.R.ByteIn.remaining g.R.ByteIn.failures c.args.input.now c.play.new.input in
+    let writing = passage g.W.ByteOut.contents g.W.ByteOut.failures c.args.output.now c.tell_byte.new.output in
+    let from = c.args.player.now.reader in
+    let to = c.play.new.player.reader in
+    let f = of_avi c.in-Err-File.fault in
+    let is : c.from-fault.result ≡ f = c.from-fault.ensures in
+    let answer = rw c.in-Err-File.field-0-is at c.in-Err-File.ensures.answer in
+    let stops = rw c.in-Err-File.field-0-is at c.in-Err-File.ensures.located in
+    let writes : WritesLine [] (located_text c.args.telling.places.byte c.args.number f to.offset) writing = rw (is, c.offset-offset.ensures) at c.tell_byte.ensures in
+    inr (subst (λ z. FrameStopsBy c.args.telling.kind c.args.telling.places.place c.args.telling.places.byte a c.args.number from to.place reading writing z (cause_of z)) (sym is)
+    (file_refused c.args.telling.kind c.args.telling.places.place c.args.telling.places.byte a c.args.number from to.place to.offset reading writing f (cause_of f) refl answer.0 stops writes))

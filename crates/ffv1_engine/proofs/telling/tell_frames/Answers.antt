@@ -14,10 +14,11 @@ loop-text-init g c =
       record {
         frames = [];
         is = none;
-        told = told_none c.args.kind c.args.place c.args.player.now.decoder.accepted c.args.player.now.reader.place (g.R.ByteIn.remaining c.args.input.now) (g.W.ByteOut.contents c.args.output.now)
+        told = told_none c.args.telling.kind c.args.telling.places.place c.args.player.now.decoder.accepted c.args.player.now.reader.place (g.R.ByteIn.remaining c.args.input.now) (g.W.ByteOut.contents c.args.output.now)
             (g.R.ByteIn.failures c.args.input.now) (g.W.ByteOut.failures c.args.output.now);
       },
       refl,
+      (λ scope text begun. begun),
     )
 
 pub returns-in_err-tell_frame-clause-err : goal.returns-in_err-tell_frame-clause-err
@@ -26,12 +27,12 @@ returns-in_err-tell_frame-clause-err g c =
     let same = c.loop-text.invariant.1 in
     let so = c.loop-text.invariant.2 in
     rw (p.1, p.2)
-    (telling_stops c.args.kind c.args.place c.args.player.now.decoder.accepted c.args.player.now.reader.place c.loop-text.player.reader.place c.tell_frame.new.player.reader.place c.loop-text.count
+    (telling_stops c.args.telling.kind c.args.telling.places.place c.args.telling.places.byte c.args.player.now.decoder.accepted c.args.player.now.reader c.loop-text.player.reader c.tell_frame.new.player.reader.place c.loop-text.count
     (g.R.ByteIn.remaining c.args.input.now) (g.R.ByteIn.remaining c.loop-text.input) (g.R.ByteIn.remaining c.tell_frame.new.input)
     (g.W.ByteOut.contents c.args.output.now) (g.W.ByteOut.contents c.loop-text.output) (g.W.ByteOut.contents c.tell_frame.new.output)
     (g.R.ByteIn.failures c.args.input.now) (g.R.ByteIn.failures c.loop-text.input) (g.R.ByteIn.failures c.tell_frame.new.input)
     (g.W.ByteOut.failures c.args.output.now) (g.W.ByteOut.failures c.loop-text.output) (g.W.ByteOut.failures c.tell_frame.new.output)
-    so.frames so.is so.told c.in_err-tell_frame.field-0.0 (rw same at c.in_err-tell_frame.ensures.answer))
+    so.frames so.is so.told c.loop-text.invariant.4 c.in_err-tell_frame.field-0.0 (rw same at c.in_err-tell_frame.ensures.answer))
 
 pub returns-in_err-tell_frame-clause-own : goal.returns-in_err-tell_frame-clause-own
 returns-in_err-tell_frame-clause-own g c =
@@ -44,8 +45,8 @@ loop-text-preserved g c =
     let so = c.loop-text.invariant.2 in
     let reading = passage g.R.ByteIn.remaining g.R.ByteIn.failures c.loop-text.input c.tell_frame.new.input in
     let writing = passage g.W.ByteOut.contents g.W.ByteOut.failures c.loop-text.output c.tell_frame.new.output in
-    let answer = subst (λ b. FrameAnswers c.args.kind c.args.place c.args.player.now.decoder.accepted c.loop-text.count c.loop-text.player.reader.place c.tell_frame.new.player.reader.place reading writing (Ok b)) c.if-branch.true
-    (subst (λ z. FrameAnswers c.args.kind c.args.place z c.loop-text.count c.loop-text.player.reader.place c.tell_frame.new.player.reader.place reading writing (Ok c.in_ok-tell_frame.field-0)) same
+    let answer = subst (λ b. FrameAnswers c.args.telling.kind c.args.telling.places.place c.args.telling.places.byte c.args.player.now.decoder.accepted c.loop-text.count c.loop-text.player.reader c.tell_frame.new.player.reader.place reading writing (Ok b)) c.if-branch.true
+    (subst (λ z. FrameAnswers c.args.telling.kind c.args.telling.places.place c.args.telling.places.byte z c.loop-text.count c.loop-text.player.reader c.tell_frame.new.player.reader.place reading writing (Ok c.in_ok-tell_frame.field-0)) same
     c.in_ok-tell_frame.ensures.answer) in
     let f = answer.0 in
     let next : c.saturating_add-count.result ≡ saturated (length (so.frames ++ (f ∷ []))) = omega (arith, c.saturating_add-count.ensures, so.is, counted_more so.frames f) in (
@@ -55,7 +56,7 @@ loop-text-preserved g c =
         frames = so.frames ++ (f ∷ []);
         is = next;
         told =
-            told_more c.args.kind c.args.place c.args.player.now.decoder.accepted c.args.player.now.reader.place c.loop-text.player.reader.place c.tell_frame.new.player.reader.place
+            told_more c.args.telling.kind c.args.telling.places.place c.args.player.now.decoder.accepted c.args.player.now.reader.place c.loop-text.player.reader.place c.tell_frame.new.player.reader.place
             c.loop-text.count (g.R.ByteIn.remaining c.args.input.now) (g.R.ByteIn.remaining c.loop-text.input) (g.R.ByteIn.remaining c.tell_frame.new.input)
             (g.W.ByteOut.contents c.args.output.now) (g.W.ByteOut.contents c.loop-text.output) (g.W.ByteOut.contents c.tell_frame.new.output)
             (g.R.ByteIn.failures c.args.input.now) (g.R.ByteIn.failures c.loop-text.input) (g.R.ByteIn.failures c.tell_frame.new.input)
@@ -63,6 +64,7 @@ loop-text-preserved g c =
             so.frames so.is so.told f answer.1 answer.2 answer.3;
       },
       c.in_ok-tell_frame.ensures.container ∙ c.loop-text.invariant.3,
+      (λ scope text begun. c.in_ok-tell_frame.ensures.reached c.if-branch.true scope text (c.loop-text.invariant.4 scope text begun)),
     )
 
 pub returns-clause-ok : goal.returns-clause-ok
@@ -71,12 +73,12 @@ returns-clause-ok g c =
     let so = c.loop-text.invariant.2 in
     let reading = passage g.R.ByteIn.remaining g.R.ByteIn.failures c.loop-text.input c.tell_frame.new.input in
     let writing = passage g.W.ByteOut.contents g.W.ByteOut.failures c.loop-text.output c.tell_frame.new.output in
-    let answer = subst (λ b. FrameAnswers c.args.kind c.args.place c.args.player.now.decoder.accepted c.loop-text.count c.loop-text.player.reader.place c.tell_frame.new.player.reader.place reading writing (Ok b)) c.if-branch.false
-    (subst (λ z. FrameAnswers c.args.kind c.args.place z c.loop-text.count c.loop-text.player.reader.place c.tell_frame.new.player.reader.place reading writing (Ok c.in_ok-tell_frame.field-0)) same
+    let answer = subst (λ b. FrameAnswers c.args.telling.kind c.args.telling.places.place c.args.telling.places.byte c.args.player.now.decoder.accepted c.loop-text.count c.loop-text.player.reader c.tell_frame.new.player.reader.place reading writing (Ok b)) c.if-branch.false
+    (subst (λ z. FrameAnswers c.args.telling.kind c.args.telling.places.place c.args.telling.places.byte z c.loop-text.count c.loop-text.player.reader c.tell_frame.new.player.reader.place reading writing (Ok c.in_ok-tell_frame.field-0)) same
     c.in_ok-tell_frame.ensures.answer) in (
       so.frames,
       so.is,
-      told_over c.args.kind c.args.place c.args.player.now.decoder.accepted c.args.player.now.reader.place c.loop-text.player.reader.place c.tell_frame.new.player.reader.place
+      told_over c.args.telling.kind c.args.telling.places.place c.args.player.now.decoder.accepted c.args.player.now.reader.place c.loop-text.player.reader.place c.tell_frame.new.player.reader.place
           c.loop-text.count (g.R.ByteIn.remaining c.args.input.now) (g.R.ByteIn.remaining c.loop-text.input) (g.R.ByteIn.remaining c.tell_frame.new.input)
           (g.W.ByteOut.contents c.args.output.now) (g.W.ByteOut.contents c.loop-text.output) (g.W.ByteOut.contents c.tell_frame.new.output)
           (g.R.ByteIn.failures c.args.input.now) (g.R.ByteIn.failures c.loop-text.input) (g.R.ByteIn.failures c.tell_frame.new.input)

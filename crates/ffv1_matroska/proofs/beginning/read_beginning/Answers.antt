@@ -1,4 +1,4 @@
-use Rattle.std.proofs.Common.{◌≡◌, ◌==◌, Some, None, true, false, inl, refl, arith}
+use Rattle.std.proofs.Common.{◌≡◌, ◌==◌, Some, None, true, false, inl, inr, refl, arith}
 use Rattle.std.proofs.lemmas.Bool.{eq-eqb, ne_eqb}
 use Rattle.std.proofs.lemmas.Result.{err_from_is_err_and}
 use Rattle.ffv1_reads.specs.Reads.{given, refused, ◌>>=◌}
@@ -15,10 +15,14 @@ use Rattle.ffv1_matroska.specs.declared.place.Place.{Place}
 use Rattle.ffv1_matroska.proofs.Beginnings.{Over, closes, cluster_given, cluster_refused, end_given, end_refused, no_tracks, other_element}
 use Rattle.ffv1_matroska.proofs.Steps.{fewer}
 use Rattle.ffv1_reads.proofs.Rooms.{room_none, room_or_none, room_then}
+use Rattle.ffv1_reads.proofs.EndReadings.{some_read}
+use Rattle.ffv1_reads.proofs.OffsetLaws.{counts_more, reads_none}
+use Rattle.ffv1_matroska.specs.Offsets.{InSegment, spot_taken}
+use Rattle.ffv1_matroska.proofs.SpotReadings.{cluster_refused as spot_refused, end_refused as spots_end, entered_amount, header_left, header_refused, opening_stops, section_refused, spot_begins, spot_read}
 use Rattle.ffv1_matroska.proofs.beginning.read_beginning.Goals as goal
 
 pub loop-element-init : goal.loop-element-init
-loop-element-init g c = (amount c.args.place, omega arith, goes_none (begin_read c.args.place) (g.R.ByteIn.remaining c.args.input.now) (g.R.ByteIn.failures c.args.input.now), room_none _ _)
+loop-element-init g c = (amount c.args.place, omega arith, goes_none (begin_read c.args.place) (g.R.ByteIn.remaining c.args.input.now) (g.R.ByteIn.failures c.args.input.now), room_none _ _, 0, reads_none spot_taken (InSegment None c.args.place) _, λ flat. (flat, omega arith))
 
 pub returns-in_err-element-clause-answer : goal.returns-in_err-element-clause-answer
 unfolding begin_up_to
@@ -87,7 +91,10 @@ loop-element-preserved g c =
     let within = rw c.in-Some.is at c.in_ok-element.ensures.within in
     let some = rw c.in-Some.is at c.in_ok-element.ensures.some in
     let f = fewer inv.0 (amount after) (amount here) inv.1 (omega (arith, within.0, some)) in
-    rw c.segment_at-after.ensures (f.0, f.1, rw f.2 at visited, room_then inv.3 (room_then (room_or_none (header_read here) _ _ _ _ c.in_ok-element.ensures.answer.1) c.in_ok-found.ensures.grown))
+    let header = some_read (header_read here) _ _ e (rw c.in-Some.is at c.in_ok-element.ensures.answer).1 in
+    let step = spot_read found now here e other header c.in_ok-found.ensures.answer.1 in
+    let left = header_left here e header in
+    rw c.segment_at-after.ensures (f.0, f.1, rw f.2 at visited, room_then inv.3 (room_then (room_or_none (header_read here) _ _ _ _ c.in_ok-element.ensures.answer.1) c.in_ok-found.ensures.grown), _, counts_more inv.5 step, λ flat. (let before = inv.6 flat in (refl, omega (arith, left, before.0, before.1))))
 
 pub returns-in_default-found-2-clause-answer : goal.returns-in_default-found-2-clause-answer
 unfolding begin_up_to
@@ -113,3 +120,55 @@ returns-then-element-eq-CLUSTER-clause-grown g c = room_then c.loop-element.inva
 
 pub returns-clause-grown : goal.returns-clause-grown
 returns-clause-grown g c = room_then c.loop-element.invariant.3 (room_or_none (header_read c.loop-element.here) _ _ _ _ c.in_ok-element.ensures.answer.1)
+
+pub returns-in_err-element-clause-from : goal.returns-in_err-element-clause-from
+returns-in_err-element-clause-from g c =
+    let p = err_from_is_err_and c.from_residual.result c.from_residual.ensures.1 in
+    let inv = c.loop-element.invariant in
+    let f = c.in_err-element.field-0.0 in
+    let found = found_kept c.loop-element.found c.loop-element.config.items in
+    rw (p.1, p.2) (found, inv.4, opening_stops _ f inv.2.same inv.5 (header_refused found c.loop-element.here _ _ _ _ f c.in_err-element.ensures.answer), λ flat. (inv.6 flat).1)
+
+pub returns-in_default-found-clause-from : goal.returns-in_default-found-clause-from
+returns-in_default-found-clause-from g c =
+    let inv = c.loop-element.invariant in
+    let here = c.loop-element.here in
+    let e = c.in-Some.element in
+    let answer = rw c.in-Some.is at c.in_ok-element.ensures.answer in
+    let is : (e.ident == cluster) ≡ true = eq-eqb _ _ (omega (arith, c.if-element-eq-CLUSTER.true)) in
+    let before = rw c.in_default-found.is at inv.5 in
+    (None, inv.4, opening_stops _ fault.NoTracks inv.2.same before (spot_refused here e _ _ _ _ is (answer.0, some_read (header_read here) _ _ e answer.1)), λ flat. (inv.6 flat).1)
+
+pub returns-then-element-eq-CLUSTER-clause-from : goal.returns-then-element-eq-CLUSTER-clause-from
+returns-then-element-eq-CLUSTER-clause-from g c =
+    let inv = c.loop-element.invariant in
+    let here = c.loop-element.here in
+    let e = c.in-Some.element in
+    let track = track_kept c.in-Some-found.numbers c.loop-element.config.items in
+    let header = some_read (header_read here) _ _ e (rw c.in-Some.is at c.in_ok-element.ensures.answer).1 in
+    let is : (e.ident == cluster) ≡ true = eq-eqb _ _ (omega (arith, c.if-element-eq-CLUSTER.true)) in
+    let before = rw c.in-Some-found.is at inv.5 in
+    let left = header_left here e header in
+    let entered = entered_amount here e.left e.size in
+    rw (c.in_cluster.ensures, c.segment_at-after.ensures) (_, inl (counts_more before (spot_begins track here e is header)), λ flat. (let now = inv.6 flat in omega (arith, left, entered, now.0, now.1)))
+
+pub returns-in_err-found-clause-from : goal.returns-in_err-found-clause-from
+returns-in_err-found-clause-from g c =
+    let p = err_from_is_err_and c.from_residual-in_err-found.result c.from_residual-in_err-found.ensures.1 in
+    let inv = c.loop-element.invariant in
+    let here = c.loop-element.here in
+    let e = c.in-Some.element in
+    let f = c.in_err-found.field-0.0 in
+    let found = found_kept c.loop-element.found c.loop-element.config.items in
+    let answer = rw c.in-Some.is at c.in_ok-element.ensures.answer in
+    let other : (e.ident == cluster) ≡ false = ne_eqb _ _ (λ z. omega (arith, z, c.if-element-eq-CLUSTER.false)) in
+    rw (p.1, p.2) (found, inv.4, opening_stops _ f inv.2.same inv.5 (section_refused found here e _ _ _ _ _ _ f other (answer.0, some_read (header_read here) _ _ e answer.1) c.in_err-found.ensures.answer), λ flat. (inv.6 flat).1)
+
+pub returns-in_default-found-2-clause-from : goal.returns-in_default-found-2-clause-from
+returns-in_default-found-2-clause-from g c =
+    let inv = c.loop-element.invariant in
+    let before = rw c.in_default-found-2.is at inv.5 in
+    (None, inv.4, opening_stops _ fault.NoTracks inv.2.same before (spots_end c.loop-element.here _ _ _ _ (rw c.in_default.is at c.in_ok-element.ensures.answer)), λ flat. (inv.6 flat).1)
+
+pub returns-clause-from : goal.returns-clause-from
+returns-clause-from g c = let inv = c.loop-element.invariant in (inv.4, inr c.ended.ensures, λ flat. (inv.6 flat).1)

@@ -1,8 +1,10 @@
-use Rattle.std.specs.Prelude.{ℕ, suc, ◌≤◌}
+use Rattle.std.specs.Prelude.{◌≡◌, ◌+◌, ℕ, suc, ◌≤◌, None}
 use Rattle.std.specs.Vec.{vec_capacity}
+use Rattle.ffv1_reads.specs.Offsets.{ReadsWhole}
 use Rattle.ffv1_reads.specs.Room.{RoomRead}
 use Rattle.ffv1_reads.proofs.Reading.{Goes}
 use Rattle.ffv1_matroska.specs.Internal.{found_kept}
+use Rattle.ffv1_matroska.specs.Offsets.{InSegment, spot_taken}
 use Rattle.ffv1_matroska.specs.Opened.{begin_read, begin_up_to}
 use Rattle.ffv1_matroska.specs.Places.{amount}
 use Rattle.ffv1_matroska.proofs.beginning.read_beginning.Given as goal
@@ -13,6 +15,8 @@ invariant-loop-element g l =
     × Goes (begin_read l.fn.place) (g.R.ByteIn.remaining l.initial.input) (g.R.ByteIn.failures l.initial.input)
     (begin_up_to (suc k) (found_kept l.found l.config.items) l.here) (g.R.ByteIn.remaining l.input) (g.R.ByteIn.failures l.input)
     × RoomRead (g.R.ByteIn.remaining l.initial.input) (g.R.ByteIn.remaining l.input) (vec_capacity l.initial.config) (vec_capacity l.config)
+    × (n : ℕ) × ReadsWhole spot_taken (InSegment None l.fn.place) (g.R.ByteIn.remaining l.initial.input) (g.R.ByteIn.remaining l.input) (InSegment (found_kept l.found l.config.items) l.here) n
+    × (l.fn.place.cluster + l.fn.place.group ≡ 0 → (l.here.cluster + l.here.group ≡ 0) × (n + amount l.here ≡ amount l.fn.place))
 
 abbrev pub decreases-loop-element : goal.decreases-loop-element
 decreases-loop-element g l = amount l.here

@@ -11,6 +11,8 @@ use Rattle.ffv1_matroska.specs.Places.{closed, is_sound, summed_at}
 use Rattle.ffv1_matroska.specs.declared.place.Place.{Place}
 use Rattle.ffv1_reads.proofs.EndReadings.{none_ends, none_given, none_read, none_refused, none_refused_end, some_read}
 use Rattle.ffv1_matroska.proofs.FoundFrames.{begins_all, leaves_begun}
+use Rattle.ffv1_reads.proofs.OffsetLaws.{reads_more, stops_after}
+use Rattle.ffv1_matroska.proofs.ElementReadings.{frame_differs, frame_refused, frame_whole}
 use Rattle.ffv1_matroska.proofs.frames.read_frame.Goals as goal
 
 abbrev behind : Place → List ℕ × Sum → Reading (Option (List ℕ × Place))
@@ -103,3 +105,29 @@ returns-then-not-is_sound-clause-room g c = grind (arith, common_steps)
 
 pub returns-clause-room : goal.returns-clause-room
 returns-clause-room g c = grind (arith, common_steps)
+
+pub returns-in_err-fill_summed-clause-from : goal.returns-in_err-fill_summed-clause-from
+returns-in_err-fill_summed-clause-from g c =
+    let p = err_from_is_err_and c.from_residual-in_err-fill_summed.result c.from_residual-in_err-fill_summed.ensures.1 in
+    let f = c.in_err-fill_summed.field-0.0 in
+    let from = rw c.in-Some.is at c.in_ok-size.ensures.from in
+    let same = (rw c.in-Some.is at c.in_ok-size.ensures.answer).0 in
+    rw (p.1, p.2) (from.1, stops_after _ f same from.2 (frame_refused c.args.track c.find_frame.new.here c.in-Some.after c.in-Some.size _ _ _ _ _ f from.3 c.in_err-fill_summed.ensures.answer))
+
+pub returns-then-not-is_sound-clause-from : goal.returns-then-not-is_sound-clause-from
+returns-then-not-is_sound-clause-from g c =
+    let after = c.in-Some.after in
+    let sum = c.fill_summed.new.sum in
+    let from = rw c.in-Some.is at c.in_ok-size.ensures.from in
+    let same = (rw c.in-Some.is at c.in_ok-size.ensures.answer).0 in
+    let differs : is_sound (summed_at after sum) ≡ false = rw c.summed_at-last.ensures at (sym c.is_sound.ensures ∙ c.if-not-is_sound.true) in
+    (from.1, stops_after _ fault.Checksum same from.2 (frame_differs c.args.track c.find_frame.new.here after c.in-Some.size _ _ _ _ _ (c.fill_summed.new.bytes.items, sum) differs from.3 c.in_ok-fill_summed.ensures.answer))
+
+pub returns-clause-from : goal.returns-clause-from
+returns-clause-from g c =
+    let after = c.in-Some.after in
+    let sum = c.fill_summed.new.sum in
+    let from = rw c.in-Some.is at c.in_ok-size.ensures.from in
+    let sound : is_sound (summed_at after sum) ≡ true = rw c.summed_at-last.ensures at (sym c.is_sound.ensures ∙ c.if-not-is_sound.false) in
+    let read = frame_whole c.args.track c.find_frame.new.here after c.in-Some.size _ _ _ _ _ (c.fill_summed.new.bytes.items, sum) sound from.3 c.in_ok-fill_summed.ensures.answer in
+    rw c.summed_at-last.ensures (_, reads_more _ from.2 read refl)

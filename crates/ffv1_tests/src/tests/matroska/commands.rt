@@ -1,10 +1,11 @@
 //! Matroska files where a file of either container is read.
 
 use super::written_example::EXAMPLE;
-use ffv1_engine::{Profile, check};
+use ffv1_engine::{Fault, Profile, check};
 use ffv1_files::{Container, FileReader, Scope};
 use ffv1_reads::FileFault;
 use ffv1_wire::{FromRead, ToWrite};
+use std::alloc::Global;
 use std::process::Abort;
 use std::test::Fail;
 
@@ -43,4 +44,35 @@ fn frames_of_matroska_are_checked(rt: HostRuntime) -> Result<(), Fail> {
     assert!(rt; answer == Ok(()));
     assert!(rt; output.into_inner().as_slice() == TOLD);
     Ok(())
+}
+
+/// How many bytes of the example are left, and what a check of them writes that asks for places.
+static CUT: [(usize, &[u8]); 5] = [
+    (40, b"fault frame 0 byte 40\n"),
+    (100, b"fault frame 0 byte 52\n"),
+    (300, b"fault frame 0 byte 200\n"),
+    (350, b"fault frame 0 byte 336\n"),
+    (
+        360,
+        b"frame 0: 5 bytes, 1 slices, 11 decisions\nfault frame 1 byte 354\n",
+    ),
+];
+
+/// A check of a part of a file finds it cut short, and writes this.
+fn is_cut(rt: &impl Abort, alloc: Global, part: &[u8], text: &[u8]) {
+    let mut output = ToWrite::new(Vec::new(alloc));
+    let mut input = FromRead::new(part);
+    let answer = check(alloc, Profile::Wide, &mut input, &mut output, true);
+    assert!(rt; answer == Err(Fault::Truncated));
+    assert!(rt; output.into_inner().as_slice() == text);
+}
+
+#[test]
+fn the_byte_where_a_file_is_cut(rt: HostRuntime) {
+    for &(left, text) in &CUT {
+        match EXAMPLE.get(..left) {
+            Some(part) => is_cut(&rt, rt.alloc(), part, text),
+            None => assert!(rt; false),
+        }
+    }
 }

@@ -16,6 +16,7 @@ const PLAIN: Choice = Choice {
     ec: false,
     rate: 50,
     scale: 2,
+    verify: false,
 };
 
 /// The video of the example.

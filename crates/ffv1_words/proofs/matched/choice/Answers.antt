@@ -18,3 +18,6 @@ returns-in_err-rate-clause-none c = λ _ x named. c.in_err-rate.ensures.none ref
 
 pub returns-in_err-scale-clause-none : goal.returns-in_err-scale-clause-none
 returns-in_err-scale-clause-none c = λ _ x named. c.in_err-scale.ensures.none refl x.scale named.scale
+
+pub returns-in_err-verify-clause-none : goal.returns-in_err-verify-clause-none
+returns-in_err-verify-clause-none c = λ _ x named. c.in_err-verify.ensures.none refl x.verify named.verify

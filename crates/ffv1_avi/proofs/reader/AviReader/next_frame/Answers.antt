@@ -1,7 +1,9 @@
-use Rattle.std.proofs.Common.{rules, ◌≡◌, [], false, Ok, inl, refl}
+use Rattle.std.proofs.Common.{rules, ◌≡◌, Bool, Option, [], false, Ok, inl, refl}
+use Rattle.ffv1_avi.specs.Readers.{next_of, next_with}
+use Rattle.ffv1_avi.specs.declared.place.Place.{Place}
 use Rattle.ffv1_avi.specs.Files.{frame_read}
 use Rattle.ffv1_avi.specs.Places.{extent_of}
-use Rattle.ffv1_avi.proofs.EndReadings.{answers_by}
+use Rattle.ffv1_avi.proofs.EndReadings.{answers_by, refused_by}
 use Rattle.ffv1_avi.proofs.Moves.{frame_ends}
 use Rattle.ffv1_avi.proofs.ReadingFaults.{frame_own}
 use Rattle.ffv1_reads.proofs.Reading.{consumes_none}
@@ -16,3 +18,15 @@ returns-then-self-eq0-2-clause-answer g c =
 
 pub returns-in-Err-clause-own : goal.returns-in-Err-clause-own
 returns-in-Err-clause-own g c = rw (← c.self.view_is) (λ sound. frame_own c.self.inside.place _ _ c.in-Err.fault c.in-Err.ensures.answer)
+
+pub returns-in-Ok-Some-clause-offset : goal.returns-in-Ok-Some-clause-offset
+returns-in-Ok-Some-clause-offset g c = rw (← c.self.view_is, c.in-Ok-Some.place-is) (λ sound. rw c.in-Ok-Some.field-0-is at c.in-Ok-Some.ensures.from)
+
+pub returns-in-Err-clause-offset : goal.returns-in-Err-clause-offset
+returns-in-Err-clause-offset g c = rw (← c.self.view_is) (λ sound. c.in-Err.ensures.from)
+
+pub returns-in-Err-clause-answer : goal.returns-in-Err-clause-answer
+returns-in-Err-clause-answer g c =
+    let place = c.self.inside.place in
+    let bytes = c.read_frame.new.frame.items in
+    rw (← c.self.view_is) (λ sound. refused_by (extent_of place) (λ (after : Option Place). next_with bytes after) (λ (more : Bool). next_of more bytes place) (frame_read place) _ c.in-Err.fault c.in-Err.ensures.answer)

@@ -1,4 +1,5 @@
 use Rattle.ffv1_wire.specs.Passage.{passage}
+use Rattle.ffv1_files.proofs.Locations.{avi_located, matroska_located}
 use Rattle.ffv1_files.proofs.Nexts.{avi_next, matroska_stands}
 use Rattle.ffv1_files.proofs.reader.FileReader.next_frame.Goals as goal
 use Rattle.ffv1_files.proofs.reader.FileReader.next_frame.Goals.{in-Avi, in-Matroska}
@@ -20,4 +21,17 @@ pub returns-clause-room : goal.returns-clause-room
 returns-clause-room g c = elim c.match-self.branch [
   | in-Avi w ↦ rw (w.result-is, w.frame-is) w.next_frame.ensures.room
   | in-Matroska w ↦ rw (w.result-is, w.frame-is) w.next_frame-in-Matroska.ensures.room
+]
+
+pub returns-clause-located : goal.returns-clause-located
+returns-clause-located g c = elim c.match-self.branch [
+  | in-Avi w ↦
+      rw (← c.self.view_is, w.in-Avi.is, w.result-is, w.input-is, w.self-inside-is)
+      (λ none s text reached. avi_located s text w.in-Avi.reader w.next_frame.new.self
+      (passage g.R.ByteIn.remaining g.R.ByteIn.failures c.args.input.now w.next_frame.new.input) w.next_frame.result w.next_frame.ensures.stands (w.next_frame.ensures.offset none) reached)
+  | in-Matroska w ↦
+      rw (← c.self.view_is, w.in-Matroska.is, w.result-is, w.input-is, w.self-inside-is)
+      (λ none s text reached. matroska_located s text w.in-Matroska.reader w.next_frame-in-Matroska.new.self
+      (passage g.R.ByteIn.remaining g.R.ByteIn.failures c.args.input.now w.next_frame-in-Matroska.new.input) w.next_frame-in-Matroska.result w.next_frame-in-Matroska.ensures.stands
+      (w.next_frame-in-Matroska.ensures.offset none) (λ ends. (w.next_frame-in-Matroska.ensures.over none ends).0) reached)
 ]

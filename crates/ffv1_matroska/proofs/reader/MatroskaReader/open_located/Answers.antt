@@ -1,6 +1,6 @@
 use Rattle.std.proofs.lemmas.Result.{err_from_is_err_and}
 use Rattle.ffv1_matroska.proofs.OpeningFaults.{opening_own}
-use Rattle.ffv1_matroska.proofs.reader.MatroskaReader.open_after.Goals as goal
+use Rattle.ffv1_matroska.proofs.reader.MatroskaReader.open_located.Goals as goal
 
 pub returns-in_err-segment-clause-own : goal.returns-in_err-segment-clause-own
 returns-in_err-segment-clause-own g c =

@@ -1,0 +1,233 @@
+-- Chunks of RIFF after movi, and the next RIFF, by the calls of which the reading of each is made.
+use Rattle.std.proofs.Common.{◌≡◌, ◌+◌, ◌-◌, ◌%◌, ◌^◌, ◌==◌, ◌<◌, ◌≤◌, min, ℕ, suc, zero, true, false, Option, Some, None, Result, Ok, Err, List, [], ◌∷◌, ◌&&◌, nat_le, nat_lt, length, drop, codes, refl, sym, ap, ◌∙◌, subst, inl, inr, arith}
+use Rattle.std.proofs.lemmas.Bool.{ne_eqb}
+use Rattle.byteorder.specs.Endian.{little_number}
+use Rattle.ffv1_reads.specs.declared.fault.FileFault.{FileFault}
+use Rattle.ffv1_reads.specs.declared.fault.FileFault.TheVariants as fault
+use Rattle.ffv1_reads.specs.Ends.{RefusedOrEnds}
+use Rattle.ffv1_reads.specs.Ends.{RefusedOrNone as RefusedOrOver}
+use Rattle.ffv1_reads.specs.Offsets.{ReadsCounted}
+use Rattle.ffv1_reads.specs.Reads.{Kept, Looked, Read, Reading, Refused, Stop, given, read_on, passed, refused, taken, wanted, ◌>>=◌}
+use Rattle.ffv1_reads.proofs.EndRefusals.{ends_refused, ends_refused_none}
+use Rattle.ffv1_reads.proofs.OffsetLaws.{counted_given, counted_same, counted_then, counts_more, reads_counted, reads_none, reads_then, stops_after}
+use Rattle.ffv1_reads.proofs.Reading.{Goes, goes_none, goes_read, goes_same}
+use Rattle.ffv1_reads.proofs.Results.{ok_is}
+use Rattle.ffv1_reads.proofs.Taking.{Any, Takes, takes_given, takes_if, takes_passed, takes_refused, takes_same, takes_then, takes_wanted}
+use Rattle.ffv1_avi.specs.declared.chunk.Entry.{Entry}
+use Rattle.ffv1_avi.specs.declared.place.Extent.{Extent}
+use Rattle.ffv1_avi.specs.declared.place.Extent.TheVariants.{FirstMovi, EveryRiff}
+use Rattle.ffv1_avi.specs.declared.place.Place.{Place}
+use Rattle.ffv1_avi.specs.Files.{name_or_end, riff_begun, riff_entered, riff_list, riff_named, visit_riff}
+use Rattle.ffv1_avi.specs.Internal.Ending.{RefusedOrNone}
+use Rattle.ffv1_avi.specs.Offsets.{Counts, FrameBegins, MovesTo, ReadsTo, ReadsUpTo, StopsIn, chunk_taken, movi_entered, riff_left, riff_next, riff_taken}
+use Rattle.ffv1_avi.specs.Padding.{padded}
+use Rattle.ffv1_avi.specs.Places.{frame_at, movi_at, riff_at}
+use Rattle.ffv1_avi.specs.Walk.{entry_read, is_name}
+use Rattle.ffv1_avi.proofs.ChunkReadings.{chunk_framed, entry_counted}
+
+-- where movi has nothing left, and more RIFFs are read, a chunk of RIFF comes next
+riff_chunk : (place : Place) (left : ℕ) → 0 < place.input → (text : List ℕ) → chunk_taken (riff_left place left) text ≡ (entry_read left >>= riff_taken (riff_left place left)) text
+unfolding chunk_taken entry_read
+riff_chunk place left more text = let some : (place.input == 0) ≡ false = ne_eqb place.input 0 (λ e. omega (arith, e, more)) in rw some refl
+
+-- a chunk of RIFF
+abbrev Listed : Entry → Type 0
+Listed e = is_name e.name (codes "LIST") ≡ true → 4 ≤ e.size
+
+abbrev visit_left : Entry → Unit {0} × Option (ℕ × ℕ) → ℕ
+visit_left e (u, None) = 0
+visit_left e (u, Some p) = padded e.size - 4
+
+abbrev Roomy : Entry → Unit {0} × Option (ℕ × ℕ) → Type 0
+Roomy e (u, None) = Unit {0}
+Roomy e (u, Some p) = 4 ≤ e.size
+
+visit_takes : (e : Entry) → Listed e → Takes (Roomy e) (padded e.size) (visit_left e) (visit_riff tt e)
+unfolding visit_riff
+visit_takes e listed =
+    takes_if (is_name e.name (codes "LIST")) (taken 4 >>= riff_list e.left e.size) _
+    (λ list. (let four : 4 ≤ e.size = listed list in
+    takes_then (taken 4) _ (takes_same _ _ (taken 4) (omega (arith, four)) (takes_wanted Looked 4 (padded e.size - 4))) (λ own _.
+    takes_if (is_name own (codes "movi")) (given (tt, Some (e.size - 4, e.left))) _ (λ _. takes_given _ four refl)
+    (λ _. takes_then (passed (padded e.size - 4)) _ (takes_same _ _ (passed (padded e.size - 4)) (omega arith) (takes_passed (padded e.size - 4) 0)) (λ _ _. takes_given _ tt refl)))))
+    (λ _. takes_then (passed (padded e.size)) _ (takes_same _ _ (passed (padded e.size)) (omega arith) (takes_passed (padded e.size) 0)) (λ _ _. takes_given _ tt refl))
+
+module _ (place : Place) (left : ℕ) (more : 0 < place.input) where
+  abbrev here : Place
+  here = riff_left place left
+
+  pub riff_passed : (e : Entry) {a b c : Option (List ℕ)} → Listed e → Read (entry_read left) a b (Some e) → Read (visit_riff tt e) b c (tt, None) → ReadsCounted (chunk_taken here) a c (riff_left place e.left) (8 + (padded e.size + 0))
+  riff_passed e {c = c} listed header visit =
+      counted_same (entry_read left >>= riff_taken here) _ (λ text. sym (riff_chunk place left more text))
+      (counted_then (entry_read left) (riff_taken here) (entry_counted left e header)
+      (counted_then (visit_riff tt e) (λ p. movi_entered here e.left p.1) (reads_counted (padded e.size) (visit_takes e listed) (omega arith) visit) (counted_given (riff_left place e.left) c)))
+
+  pub riff_movi : (e : Entry) (movi : ℕ × ℕ) {a b c : Option (List ℕ)} → Listed e → Read (entry_read left) a b (Some e) → Read (visit_riff tt e) b c (tt, Some movi) → ReadsCounted (chunk_taken here) a c (movi_at place movi) (8 + (4 + 0))
+  riff_movi e movi {c = c} listed header visit =
+      let four : 4 ≤ e.size = ((visit_takes e listed).only _ _ _ (visit.is [])).0 in
+      counted_same (entry_read left >>= riff_taken here) _ (λ text. sym (riff_chunk place left more text))
+      (counted_then (entry_read left) (riff_taken here) (entry_counted left e header)
+      (counted_then (visit_riff tt e) (λ p. movi_entered here e.left p.1) (reads_counted {x = (tt {0}, Some movi)} 4 (visit_takes e listed) (omega (arith, four)) visit) (counted_given (movi_at place movi) c)))
+
+  reached : (old : Option (List ℕ)) (before : ℕ) → Goes (chunk_taken here) old before (entry_read left >>= riff_taken here) old before
+  reached old before = goes_same (chunk_taken here) (entry_read left >>= riff_taken here) (riff_chunk place left more) (goes_none (chunk_taken here) old before)
+
+  pub riff_entry_refused : (old new : Option (List ℕ)) (before after : ℕ) (f : FileFault) → Refused (entry_read left) old new before after f → RefusedOrEnds (chunk_taken here) old new before after f
+  riff_entry_refused old new before after f why = ends_refused (entry_read left) (riff_taken here) new after f (reached old before) why
+
+  pub riff_visit_refused : (e : Entry) (old mid new : Option (List ℕ)) (before between after : ℕ) (f : FileFault) → (between ≡ before) × Read (entry_read left) old mid (Some e) → Refused (visit_riff tt e) mid new between after f → RefusedOrEnds (chunk_taken here) old new before after f
+  riff_visit_refused e old mid new before between after f header why =
+      ends_refused (visit_riff tt e) (λ p. movi_entered here e.left p.1) new after f (goes_read (entry_read left) (riff_taken here) mid between (Some e) (reached old before) header) why
+
+-- the next RIFF
+named_same : (place : Place) (o : Option (List ℕ)) (text : List ℕ) → riff_named (riff_left place 0) o text ≡ riff_named place o text
+named_same place None text = refl
+named_same place (Some name) text = refl
+
+begun_same : (place : Place) (text : List ℕ) → riff_begun (riff_left place 0) text ≡ riff_begun place text
+unfolding riff_begun
+begun_same place text = on_name (name_or_end place.owed text)
+  where
+    on_name : (r : Result (Option (List ℕ) × List ℕ) Stop) → read_on r (riff_named (riff_left place 0)) ≡ read_on r (riff_named place)
+    on_name (Ok p) = named_same place p.0 p.1
+    on_name (Err why) = refl
+
+riff_next_chunk : (place : Place) → 0 < place.input → (text : List ℕ) → chunk_taken (riff_left place 0) text ≡ (riff_begun place >>= riff_next (riff_left place 0)) text
+unfolding entry_read
+riff_next_chunk place more text = riff_chunk place 0 more text ∙ ap (λ z. read_on z (riff_next (riff_left place 0))) (begun_same place text)
+
+abbrev name_left : Option (List ℕ) → ℕ
+name_left None = 12
+name_left (Some name) = 8
+
+abbrev riff_over : Option Place → ℕ
+riff_over None = 12
+riff_over (Some next) = 0
+
+four_takes : Takes Any 12 name_left (taken 4 >>= λ name. given (Some name))
+four_takes = takes_then (taken 4) _ (takes_wanted Looked 4 8) (λ name _. takes_given (Some name) tt refl)
+
+name_takes : (owed : ℕ) → Takes Any 12 name_left (name_or_end owed)
+unfolding name_or_end
+name_takes owed = record { only = λ text rest o h. on_text owed text rest o h }
+  where
+    on_text : (owed : ℕ) (text rest : List ℕ) (o : Option (List ℕ)) → name_or_end owed text ≡ Ok (o, rest) → Unit {0} × (length text + name_left o ≡ length rest + 12)
+    on_text zero [] rest o h =
+        let both = ok_is (None, []) (o, rest) h in
+        let none : None ≡ o = ap (λ (z : Option (List ℕ) × List ℕ). z.0) both in
+        let left : [] ≡ rest = ap (λ (z : Option (List ℕ) × List ℕ). z.1) both in
+        (tt, rw (← none, ← left) refl)
+    on_text zero (b ∷ bs) rest o h = four_takes.only (b ∷ bs) rest o h
+    on_text (suc n) text rest o h = four_takes.only text rest o h
+
+entered_takes : (place : Place) → Takes Any 8 riff_over (riff_entered place)
+entered_takes place =
+    takes_then (taken 8) _ (takes_wanted Looked 8 0) (λ bytes _.
+    takes_if (is_name (drop 4 bytes) (codes "AVIX") && nat_le 4 (little_number 4 bytes)) _ (refused fault.NotAvi)
+    (λ _. takes_if (nat_lt (8 + little_number 4 bytes) place.input) (given (Some (riff_at place (little_number 4 bytes)))) (refused fault.Truncated) (λ _. takes_given _ tt refl) (λ _. takes_refused fault.Truncated))
+    (λ _. takes_refused fault.NotAvi))
+
+begun_takes : (place : Place) → Takes Any 12 riff_over (riff_begun place)
+unfolding riff_begun
+begun_takes place = takes_then (name_or_end place.owed) (riff_named place) (name_takes place.owed) (λ o _. on_name o)
+  where
+    on_name : (o : Option (List ℕ)) → Takes Any (name_left o) riff_over (riff_named place o)
+    on_name None = takes_given None tt refl
+    on_name (Some name) = takes_if (is_name name (codes "RIFF")) (riff_entered place) (refused fault.NotAvi) (λ _. entered_takes place) (λ _. takes_refused fault.NotAvi)
+
+next_counted : (place next : Place) {a b : Option (List ℕ)} → 0 < place.input → Read (riff_begun place) a b (Some next) → ReadsCounted (chunk_taken (riff_left place 0)) a b next (12 + 0)
+next_counted place next {b = b} more read =
+    counted_same (riff_begun place >>= riff_next (riff_left place 0)) _ (λ text. sym (riff_next_chunk place more text))
+    (counted_then (riff_begun place) (riff_next (riff_left place 0)) (reads_counted 12 (begun_takes place) refl read) (counted_given next b))
+
+pub next_reached : (place next : Place) {a b : Option (List ℕ)} {before after : ℕ} → 0 < place.input → Read (riff_begun place) a b (Some next) → after ≡ min (before + 12) (2 ^ 64 - 1) → ReadsUpTo (riff_left place 0) a b next before after
+next_reached place next {a = a} {before = before} {after = after} more read is =
+    (0 + (12 + 0), counts_more (reads_none chunk_taken (riff_left place 0) a) (next_counted place next more read), counts)
+  where
+    twice : (n most : ℕ) → min (min n most + 12) most ≡ min (n + (0 + (12 + 0))) most
+    twice n most = grind arith
+
+    counts : Counts before after (0 + (12 + 0))
+    counts n same = is ∙ rw same (twice n (2 ^ 64 - 1))
+
+-- a refusal where the end of the input may be an answer
+over : {X : Type 0} (extent : Extent) (reading : Reading (Option X)) (old new : Option (List ℕ)) (before after : ℕ) (f : FileFault) → RefusedOrNone extent reading old new before after f → RefusedOrOver reading old new before after f
+over FirstMovi reading old new before after fault.Read (counted, inl wants) = (counted, inl wants)
+over FirstMovi reading old new before after fault.Read (counted, inr halts) = absurd halts
+over EveryRiff reading old new before after fault.Read why = why
+over extent reading old new before after fault.OutOfMemory why = why
+over extent reading old new before after fault.Truncated why = why
+over extent reading old new before after fault.NotAvi why = why
+over extent reading old new before after fault.NoFfv1 why = why
+over extent reading old new before after fault.ChunkTooLong why = why
+over extent reading old new before after fault.EmptyFrame why = why
+over extent reading old new before after fault.TooLarge why = why
+over extent reading old new before after fault.Write why = why
+over extent reading old new before after fault.NotMatroska why = why
+over extent reading old new before after fault.BadElement why = why
+over extent reading old new before after fault.NoTracks why = why
+over extent reading old new before after fault.Encoded why = why
+over extent reading old new before after fault.Laced why = why
+over extent reading old new before after fault.Checksum why = why
+over extent reading old new before after fault.Rate why = why
+
+pub next_refused : (place : Place) (old new : Option (List ℕ)) (before after : ℕ) (f : FileFault) → 0 < place.input → RefusedOrNone EveryRiff (riff_begun place) old new before after f → RefusedOrEnds (chunk_taken (riff_left place 0)) old new before after f
+next_refused place old new before after f more why =
+    ends_refused_none (riff_begun place) (riff_next (riff_left place 0)) (riff_left place 0) new after f (λ text. refl)
+    (goes_same (chunk_taken (riff_left place 0)) (riff_begun place >>= riff_next (riff_left place 0)) (riff_next_chunk place more) (goes_none (chunk_taken (riff_left place 0)) old before))
+    (over EveryRiff (riff_begun place) old new before after f why)
+
+-- up to a position, and on from there
+pub counts_on : (before between after m n : ℕ) → Counts before between m → Counts between after n → Counts before after (m + n)
+counts_on before between after m n one two k is = two (k + m) (one k is) ∙ more k (2 ^ 64 - 1)
+  where
+    more : (k most : ℕ) → min (k + m + n) most ≡ min (k + (m + n)) most
+    more k most = grind arith
+
+pub up_to_then : {S : Type 0} {chunk : S → Reading S} {from between to : S} {a b c : Option (List ℕ)} {first mid last : ℕ} → ReadsTo chunk from a b between first mid → ReadsTo chunk between b c to mid last → ReadsTo chunk from a c to first last
+up_to_then {first = first} {mid = mid} {last = last} h g = (h.0 + g.0, reads_then h.1 g.1, counts_on first mid last h.0 g.0 h.2 g.2)
+
+pub stops_then : {S : Type 0} {chunk : S → Reading S} {from between : S} {a b c : Option (List ℕ)} {first mid last before now after : ℕ} (f : FileFault) → now ≡ before → ReadsTo chunk from a b between first mid → StopsIn chunk between (record { old = b; new = c; before = now; after = after }) f mid last →
+    StopsIn chunk from (record { old = a; new = c; before = before; after = after }) f first last
+stops_then {chunk = chunk} {c = c} {first = first} {mid = mid} {last = last} {after = after} f same h g =
+    (g.0, h.0 + g.1, record { between = g.2.between; before = reads_then h.1 g.2.before; refused = subst (λ k. RefusedOrEnds (chunk g.0) g.2.between c k after f) same g.2.refused }, counts_on first mid last h.0 g.1 h.2 g.3)
+
+pub moves_then : {from between : Place} {a b : Option (List ℕ)} {first mid before now : ℕ} (c : Option (List ℕ)) (last after : ℕ) (result : Result (Option Place) FileFault) → now ≡ before → ReadsUpTo from a b between first mid → MovesTo between (record { old = b; new = c; before = now; after = after }) result mid last →
+    MovesTo from (record { old = a; new = c; before = before; after = after }) result first last
+moves_then c last after (Ok None) same h g = tt
+moves_then c last after (Ok (Some next)) same h g = up_to_then h g
+moves_then c last after (Err f) same h g = stops_then f same h g
+
+-- nothing was read before it
+pub counts_still : {n : ℕ} → Counts n n 0
+counts_still {n = n} k is = is ∙ same k (2 ^ 64 - 1)
+  where
+    same : (k most : ℕ) → min k most ≡ min (k + 0) most
+    same k most = grind arith
+
+pub stops_here : {S : Type 0} {chunk : S → Reading S} {place : S} {old new : Option (List ℕ)} {offset before after : ℕ} (f : FileFault) → RefusedOrEnds (chunk place) old new before after f → StopsIn chunk place (record { old = old; new = new; before = before; after = after }) f offset offset
+stops_here {chunk = chunk} {place = place} {old = old} {after = after} f why = (place, 0, stops_after after f refl (reads_none chunk place old) why, counts_still)
+
+pub reads_still : {S : Type 0} {chunk : S → Reading S} {place : S} {a : Option (List ℕ)} {offset : ℕ} → ReadsTo chunk place a a place offset offset
+reads_still {chunk = chunk} {place = place} {a = a} = (0, reads_none chunk place a, counts_still)
+
+-- one chunk of RIFF more
+pub counts_more_by : (before mid after m n more : ℕ) → Counts before mid m → after ≡ min (mid + more) (2 ^ 64 - 1) → more ≡ n → Counts before after (m + n)
+counts_more_by before mid after m n more one is same k first = is ∙ rw (one k first) (all k (2 ^ 64 - 1))
+  where
+    all : (k most : ℕ) → min (min (k + m) most + more) most ≡ min (k + (m + n)) most
+    all k most = grind (arith, same)
+
+pub passed_next : {from : Place} {a b c d : Option (List ℕ)} {first mid after : ℕ} (place : Place) (left : ℕ) (e : Entry) (more : 0 < place.input) → Listed e → ReadsUpTo from a b (riff_left place left) first mid → Read (entry_read left) b c (Some e) → Read (visit_riff tt e) c d (tt, None) → after ≡ min (mid + (8 + padded e.size)) (2 ^ 64 - 1) →
+    ReadsUpTo from a d (riff_left place e.left) first after
+passed_next {first = first} {mid = mid} {after = after} place left e more listed h header visit is = (h.0 + (8 + (padded e.size + 0)), counts_more h.1 (riff_passed place left more e listed header visit), counts_more_by first mid after h.0 (8 + (padded e.size + 0)) (8 + padded e.size) h.2 is (omega arith))
+
+pub movi_next : {from : Place} {a b c d : Option (List ℕ)} {first mid after : ℕ} (place : Place) (left : ℕ) (e : Entry) (movi : ℕ × ℕ) (more : 0 < place.input) → Listed e → ReadsUpTo from a b (riff_left place left) first mid → Read (entry_read left) b c (Some e) → Read (visit_riff tt e) c d (tt, Some movi) → after ≡ min (mid + 12) (2 ^ 64 - 1) →
+    ReadsUpTo from a d (movi_at place movi) first after
+movi_next {first = first} {mid = mid} {after = after} place left e movi more listed h header visit is = (h.0 + (8 + (4 + 0)), counts_more h.1 (riff_movi place left more e movi listed header visit), counts_more_by first mid after h.0 (8 + (4 + 0)) 12 h.2 is refl)
+
+-- a frame more
+pub frame_next : {from : Place} {a b c d e : Option (List ℕ)} {first mid last : ℕ} (to : Place) (size left : ℕ) (bytes : List ℕ) → ReadsUpTo from a b to first mid → FrameBegins to b c (size, left) → Read (wanted Kept size) c d bytes → Read (passed (size % 2)) d e tt → last ≡ min (mid + (8 + padded size)) (2 ^ 64 - 1) →
+    ReadsUpTo from a e (frame_at to left) first last
+frame_next {first = first} {mid = mid} {last = last} to size left bytes h found read pad is =
+    (h.0 + (8 + (0 + (size + (size % 2 + 0) + 0))), counts_more h.1 (chunk_framed to found.entry size left bytes found.header found.visit read pad), counts_more_by first mid last h.0 (8 + (0 + (size + (size % 2 + 0) + 0))) (8 + padded size) h.2 is (omega arith))

@@ -1,0 +1,18 @@
+use Rattle.std.proofs.lemmas.Result.{err_from_is_err_and}
+use Rattle.ffv1_avi.proofs.ReadingFaults.{opening_own}
+use Rattle.ffv1_avi.proofs.SpotReadings.{from_zero}
+use Rattle.ffv1_avi.proofs.reader.AviReader.open_located.Goals as goal
+
+pub returns-in_err-sizes-clause-own : goal.returns-in_err-sizes-clause-own
+returns-in_err-sizes-clause-own g c =
+    let p = err_from_is_err_and c.from_residual.result c.from_residual.ensures.1 in
+    rw (p.1, p.2) (opening_own c.args.extent _ _ _ _ c.in_err-sizes.field-0.0 c.in_err-sizes.ensures.answer)
+
+pub returns-in_err-sizes-clause-offset : goal.returns-in_err-sizes-clause-offset
+returns-in_err-sizes-clause-offset g c =
+    let p = err_from_is_err_and c.from_residual.result c.from_residual.ensures.1 in
+    let from = c.in_err-sizes.ensures.from in
+    rw (p.1, p.2) (from.0, from.1, from.2, from_zero _ from.1 from.3)
+
+pub returns-clause-offset : goal.returns-clause-offset
+returns-clause-offset g c = let from = c.in_ok-sizes.ensures.from in (from.0, from.1, from_zero _ from.0 from.2)

@@ -1,0 +1,201 @@
+-- Where in a file a fault is: in the chunk, of those one after the other, that could not be read.
+-- Of a list movi the chunk is its header and its own name, since its chunks come next; and so is it
+-- of an RIFF. A frame that `dmlh` says and that is not there is missed where the next RIFF would
+-- begin.
+use Rattle.std.specs.Prelude.{◌≡◌, ℕ, ◌+◌, ◌-◌, ◌^◌, ◌==◌, min, Bool, true, false, if◌then◌else◌}
+use Rattle.std.specs.Prelude.{List, drop, Option, Some, None, Result, Ok, Err, ⊤}
+use Rattle.byteorder.specs.Endian.{little_number}
+use Rattle.ffv1_wire.specs.Passage.{Passage}
+use Rattle.ffv1_reads.specs.Head.{Head}
+use Rattle.ffv1_reads.specs.Offsets.{ReadsWhole, StopsAfter, offset_after}
+use Rattle.ffv1_reads.specs.Reads.{Kept, Read, Reading, given, refused, taken, ◌>>=◌}
+use Rattle.ffv1_reads.specs.declared.fault.FileFault.{FileFault}
+use Rattle.ffv1_reads.specs.declared.fault.FileFault.TheVariants as fault
+use Rattle.ffv1_avi.specs.declared.chunk.Entry.{Entry}
+use Rattle.ffv1_avi.specs.declared.place.Extent.{Extent}
+use Rattle.ffv1_avi.specs.declared.place.Place.{Place}
+use Rattle.ffv1_avi.specs.declared.stream.Sizes.{Sizes}
+use Rattle.ffv1_avi.specs.Files.{Headers, begins, no_headers, riff_begun, visit_movi, visit_riff}
+use Rattle.ffv1_avi.specs.Files.{visit_top}
+use Rattle.ffv1_avi.specs.Internal.Views.{head_with}
+use Rattle.ffv1_avi.specs.Padding.{content}
+use Rattle.ffv1_avi.specs.Places.{frame_at, movi_at}
+use Rattle.ffv1_avi.specs.Readers.{Standing}
+use Rattle.ffv1_avi.specs.Walk.{entry_read}
+
+-- after a chunk of movi that is no frame of the stream
+abbrev pub movi_left : Place → ℕ → Place
+movi_left place left =
+    record {
+      input = place.input;
+      riff = place.riff;
+      movi = left;
+      stream = place.stream;
+      owed = place.owed;
+    }
+
+-- after a chunk of RIFF that is no movi
+abbrev pub riff_left : Place → ℕ → Place
+riff_left place left =
+    record {
+      input = place.input;
+      riff = left;
+      movi = 0;
+      stream = place.stream;
+      owed = place.owed;
+    }
+
+-- a frame, with its bytes and their padding, where the chunk is one
+abbrev pub frame_taken : Place → ℕ → Option (ℕ × ℕ) → Reading Place
+frame_taken place left None = given (movi_left place left)
+frame_taken place left (Some p) = content Kept p.0 >>= λ bytes. given (frame_at place p.1)
+
+-- a list movi is entered
+abbrev pub movi_entered : Place → ℕ → Option (ℕ × ℕ) → Reading Place
+movi_entered place left None = given (riff_left place left)
+movi_entered place left (Some p) = given (movi_at place p)
+
+abbrev pub riff_next : Place → Option Place → Reading Place
+riff_next place None = given place
+riff_next place (Some next) = given next
+
+-- after movi a chunk of RIFF, of which a list movi is entered; or the beginning of the next RIFF
+abbrev pub riff_taken : Place → Option Entry → Reading Place
+riff_taken place (Some e) = visit_riff tt e >>= λ p. movi_entered place e.left p.1
+riff_taken place None = riff_begun place >>= riff_next place
+
+abbrev pub movi_taken : Place → Option Entry → Reading Place
+movi_taken place (Some e) = visit_movi place.stream tt e >>= λ p. frame_taken place e.left p.1
+movi_taken place None =
+    if place.input == 0 then given place else (entry_read place.riff >>= riff_taken place)
+
+-- a chunk from its first byte on, from the first movi on: one of movi, with its frame; where that
+-- has none left, one of RIFF. At the end nothing is read
+unfoldable pub chunk_taken : Place → Reading Place
+chunk_taken place = entry_read place.movi >>= movi_taken place
+
+-- the frame that was found is in a chunk that begins at a position
+pub record FrameBegins (to : Place) (old new : Option (List ℕ)) (found : ℕ × ℕ) : Type 0 where
+  pub between : Option (List ℕ)
+  pub entry : Entry
+  pub header : Read (entry_read to.movi) old between (Some entry)
+  pub visit : Read (visit_movi to.stream tt entry) between new (tt, Some found)
+
+-- an offset counts so many bytes more, as far as 8 bytes hold it
+abbrev pub Counts : ℕ → ℕ → ℕ → Type 0
+Counts before after count =
+    (n : ℕ) → before ≡ min n (2 ^ 64 - 1) → after ≡ min (n + count) (2 ^ 64 - 1)
+
+-- a call that was refused says where the chunk begins that could not be read
+abbrev pub StopsIn : {S : Type 0} → (S → Reading S) → S → Passage → FileFault → ℕ → ℕ → Type 0
+StopsIn {S = S} chunk from p f before after =
+    (to : S) × (count : ℕ) × StopsAfter chunk from p f to count × Counts before after count
+
+-- whole chunks were read up to a position
+abbrev pub ReadsTo : {S : Type 0} → (S → Reading S) → S → Option (List ℕ) → Option (List ℕ) → S →
+    ℕ → ℕ → Type 0
+ReadsTo chunk from old new to before after =
+    (count : ℕ) × ReadsWhole chunk from old new to count × Counts before after count
+
+-- the same from the first movi on
+abbrev pub StopsAt : Place → Passage → FileFault → ℕ → ℕ → Type 0
+StopsAt place p f before after = StopsIn chunk_taken place p f before after
+
+abbrev pub ReadsUpTo : Place → Option (List ℕ) → Option (List ℕ) → Place → ℕ → ℕ → Type 0
+ReadsUpTo place old new to before after = ReadsTo chunk_taken place old new to before after
+
+-- up to the chunk of the frame that was found in movi; or to the end of that
+abbrev pub FindsInMovi : Place → Passage → Result (Option (ℕ × ℕ)) FileFault → ℕ → ℕ → Type 0
+FindsInMovi place p (Ok None) before after =
+    ReadsUpTo place p.old p.new (movi_left place 0) before after
+FindsInMovi place p (Ok (Some found)) before after =
+    (to : Place) × (between : Option (List ℕ)) × FrameBegins to between p.new found
+    × (frame_at to found.1 ≡ frame_at place found.1)
+    × ReadsUpTo place p.old between to before after
+FindsInMovi place p (Err f) before after = StopsAt place p f before after
+
+-- up to the next movi of RIFF, which was entered; or to the end of RIFF
+abbrev pub SeeksMovi : Place → Passage → Result (Option (ℕ × ℕ)) FileFault → ℕ → ℕ → Type 0
+SeeksMovi place p (Ok None) before after =
+    ReadsUpTo (riff_left place place.riff) p.old p.new (riff_left place 0) before after
+SeeksMovi place p (Ok (Some movi)) before after =
+    ReadsUpTo (riff_left place place.riff) p.old p.new (movi_at place movi) before after
+SeeksMovi place p (Err f) before after = StopsAt (riff_left place place.riff) p f before after
+
+-- up to the next movi, or RIFF
+abbrev pub MovesTo : Place → Passage → Result (Option Place) FileFault → ℕ → ℕ → Type 0
+MovesTo place p (Ok None) before after = ⊤
+MovesTo place p (Ok (Some next)) before after = ReadsUpTo place p.old p.new next before after
+MovesTo place p (Err f) before after = StopsAt place p f before after
+
+-- up to the chunk of the next frame
+abbrev pub FindsFrom : Place → Passage → Result (Option (ℕ × Place)) FileFault → ℕ → ℕ → Type 0
+FindsFrom place p (Ok None) before after = ⊤
+FindsFrom place p (Ok (Some found)) before after =
+    (to : Place) × (between : Option (List ℕ)) × (left : ℕ)
+    × FrameBegins to between p.new (found.0, left) × (found.1 ≡ frame_at to left)
+    × ReadsUpTo place p.old between to before after
+FindsFrom place p (Err f) before after = StopsAt place p f before after
+
+-- the offset after a call for a frame: after the chunk of the frame that it gives; after a fault,
+-- where the chunk begins that could not be read
+abbrev pub OffsetAfter : Standing → Passage → Result Bool FileFault → Standing → Type 0
+OffsetAfter old p (Ok true) new =
+    ReadsUpTo old.place p.old p.new new.place old.offset new.offset
+OffsetAfter old p (Ok false) new = new.offset ≡ old.offset
+OffsetAfter old p (Err f) new = StopsAt old.place p f old.offset new.offset
+
+-- where a reader stands before the frames: before the file; in its first RIFF, that has so many
+-- bytes left, with what is known so far; or in the first movi
+pub data Spot : Type 0 where
+  Start : Spot
+  InRiff : Headers → ℕ → Spot
+  BeforeFrames : Head → Place → Spot
+
+abbrev pub riff_begins : List ℕ → Reading Spot
+riff_begins bytes =
+    if begins bytes then given (InRiff no_headers (little_number 4 (drop 4 bytes) - 4))
+    else refused fault.NotAvi
+
+-- after a chunk of RIFF with so many bytes after it; or in movi
+abbrev pub top_left : ℕ → Headers × Option (Head × Place) → Reading Spot
+top_left left (found, None) = given (InRiff found left)
+top_left left (found, Some p) = given (BeforeFrames p.0 p.1)
+
+abbrev pub top_taken : Extent → Headers → Option Entry → Reading Spot
+top_taken extent found None = refused fault.NotAvi
+top_taken extent found (Some e) = visit_top extent found e >>= top_left e.left
+
+-- a chunk from its first byte on, before the frames: the first twelve bytes of the file; and a
+-- chunk of RIFF, the list hdrl with all that it has; of movi the header and its own name. Where
+-- RIFF ends before any movi, that is missed there. Before the frames nothing is read
+unfoldable pub spot_taken : Extent → Spot → Reading Spot
+spot_taken extent Start = taken 12 >>= riff_begins
+spot_taken extent (InRiff found left) = entry_read left >>= top_taken extent found
+spot_taken extent (BeforeFrames head place) = given (BeforeFrames head place)
+
+-- chunks of RIFF up to the first movi, with what the stream says that counts
+abbrev pub TopFrom : Extent → ℕ → Passage → List ℕ → Result (Sizes × Place) FileFault → ℕ → ℕ →
+    Type 0
+TopFrom extent room p bytes (Ok n) before after =
+    ReadsTo (spot_taken extent) (InRiff no_headers room) p.old p.new
+    (BeforeFrames (head_with n.0 bytes) n.1) before after
+TopFrom extent room p bytes (Err f) before after =
+    StopsIn (spot_taken extent) (InRiff no_headers room) p f before after
+
+-- a file up to its first movi
+abbrev pub OpensFrom : Extent → Passage → List ℕ → Result (Sizes × Place) FileFault → ℕ → Type 0
+OpensFrom extent p bytes (Ok n) offset =
+    ReadsTo (spot_taken extent) Start p.old p.new (BeforeFrames (head_with n.0 bytes) n.1) 0 offset
+OpensFrom extent p bytes (Err f) offset = StopsIn (spot_taken extent) Start p f 0 offset
+
+-- the offset after opening: of the first frame's chunk, which begins after movi's own name; after a
+-- fault, where the chunk begins that could not be read
+abbrev pub OffsetOpened : Extent → Passage → Result Standing FileFault → ℕ → Type 0
+OffsetOpened extent p (Ok r) offset =
+    (count : ℕ)
+    × ReadsWhole (spot_taken extent) Start p.old p.new (BeforeFrames r.head r.place) count
+    × (r.offset ≡ offset_after 0 count)
+OffsetOpened extent p (Err f) offset =
+    (to : Spot) × (count : ℕ) × StopsAfter (spot_taken extent) Start p f to count
+    × (offset ≡ offset_after 0 count)

@@ -1,0 +1,107 @@
+-- Where in a file a reader stands, and where one is refused: a number of bytes from its beginning.
+-- Before the frames, and from there on, elements of a Matroska file or chunks of an AVI come one
+-- after the other.
+use Rattle.std.specs.Prelude.{◌≡◌, ◌⊎◌, ◌+◌, ℕ, Bool, true, false, List, Option, Result, Ok, Err, ⊤}
+use Rattle.ffv1_wire.specs.Passage.{Passage}
+use Rattle.ffv1_reads.specs.Head.{Head}
+use Rattle.ffv1_reads.specs.Offsets.{ReadsWhole, StopsAfter, offset_after}
+use Rattle.ffv1_reads.specs.Reads.{Reading}
+use Rattle.ffv1_reads.specs.declared.fault.FileFault.{FileFault}
+use Rattle.ffv1_avi.specs.Offsets as avi
+use Rattle.ffv1_avi.specs.declared.place.Extent.{Extent}
+use Rattle.ffv1_avi.specs.declared.place.Extent.TheVariants.{FirstMovi, EveryRiff}
+use Rattle.ffv1_avi.specs.declared.place.Place.{Place as AviPlace}
+use Rattle.ffv1_matroska.specs.Offsets as matroska
+use Rattle.ffv1_matroska.specs.Places.{ended}
+use Rattle.ffv1_matroska.specs.Tracks.{Track}
+use Rattle.ffv1_matroska.specs.declared.place.Place.{Place as MatroskaPlace}
+use Rattle.ffv1_files.specs.declared.container.Scope.{Scope}
+use Rattle.ffv1_files.specs.declared.container.Scope.TheVariants as scope
+use Rattle.ffv1_files.specs.Places.{InAvi, InMatroska, Place}
+use Rattle.ffv1_files.specs.Readers.{Standing}
+
+-- from the beginning of a file elements were read whole up to the frames, and others from there on,
+-- of as many bytes as the offset says
+pub record ReadsThrough {S T : Type 0} (opening : S → Reading S) (start : S)
+    (frames : T → Reading T) (begun : T → S) (text left : Option (List ℕ)) (place : T) (offset : ℕ)
+    : Type 0 where
+  pub first : T
+  pub between : Option (List ℕ)
+  pub before : ℕ
+  pub after : ℕ
+  pub opened : ReadsWhole opening start text between (begun first) before
+  pub framed : ReadsWhole frames first between left place after
+  pub offset_is : offset ≡ offset_after 0 (before + after)
+
+-- the same, and the element that comes next was refused
+pub record StopsThrough {S T : Type 0} (opening : S → Reading S) (start : S)
+    (frames : T → Reading T) (begun : T → S) (p : Passage) (f : FileFault) (offset : ℕ)
+    : Type 0 where
+  pub first : T
+  pub between : Option (List ℕ)
+  pub before : ℕ
+  pub to : T
+  pub after : ℕ
+  pub opened : ReadsWhole opening start p.old between (begun first) before
+  pub stops : StopsAfter frames first (record p { old = between }) f to after
+  pub offset_is : offset ≡ offset_after 0 (before + after)
+
+-- an AVI
+abbrev pub AviReached : Extent → Option (List ℕ) → Option (List ℕ) → Head → AviPlace → ℕ → Type 0
+AviReached extent text left head place offset =
+    ReadsThrough (avi.spot_taken extent) avi.Start avi.chunk_taken
+    (λ first. avi.BeforeFrames head first) text left place offset
+
+-- which may be refused before its frames
+abbrev pub AviStops : Extent → Passage → FileFault → ℕ → Type 0
+AviStops extent p f offset =
+    ((to : avi.Spot) × (count : ℕ) × StopsAfter (avi.spot_taken extent) avi.Start p f to count
+    × (offset ≡ offset_after 0 count))
+    ⊎ ((head : Head) × StopsThrough (avi.spot_taken extent) avi.Start avi.chunk_taken
+    (λ first. avi.BeforeFrames head first) p f offset)
+
+-- a Matroska file, whose Segment may end before any Cluster
+abbrev pub MatroskaReached : Option (List ℕ) → Option (List ℕ) → ℕ → MatroskaPlace → ℕ → Type 0
+MatroskaReached text left number place offset =
+    ((head : Head)
+    × ReadsThrough matroska.spot_taken matroska.Start (matroska.element_taken number)
+    (λ first. matroska.BeforeFrames (record { number = number; head = head }) first) text left place
+    offset)
+    ⊎ (place ≡ ended)
+
+abbrev pub MatroskaStops : Passage → FileFault → ℕ → Type 0
+MatroskaStops p f offset =
+    ((to : matroska.Spot) × (count : ℕ) × matroska.OpeningStops matroska.Start p f to count
+    × (offset ≡ offset_after 0 count))
+    ⊎ ((track : Track)
+    × StopsThrough matroska.spot_taken matroska.Start (matroska.element_taken track.number)
+    (λ first. matroska.BeforeFrames track first) p f offset)
+
+-- what was read before a position; up to its first movi a file is read as AVI alone
+abbrev pub PlaceReached : Scope → Option (List ℕ) → Option (List ℕ) → Head → Place → ℕ → Type 0
+PlaceReached scope.FirstMovi text left head (InAvi place) offset =
+    AviReached FirstMovi text left head place offset
+PlaceReached scope.FirstMovi text left head (InMatroska segment track place) offset = ⊥
+PlaceReached scope.Whole text left head (InAvi place) offset =
+    AviReached EveryRiff text left head place offset
+PlaceReached scope.Whole text left head (InMatroska segment track place) offset =
+    MatroskaReached text left track place offset
+
+abbrev pub FileStops : Scope → Passage → FileFault → ℕ → Type 0
+FileStops scope.FirstMovi p f offset = AviStops FirstMovi p f offset
+FileStops scope.Whole p f offset = AviStops EveryRiff p f offset ⊎ MatroskaStops p f offset
+
+-- elements and chunks of as many bytes as the reader's offset says were read whole
+pub record Reached (scope : Scope) (text left : Option (List ℕ)) (r : Standing) : Type 0 where
+  pub whole : PlaceReached scope text left r.head r.place r.offset
+
+-- elements and chunks of so many bytes were read whole, and the one that comes next was refused
+pub record StopsAt (scope : Scope) (p : Passage) (f : FileFault) (offset : ℕ) : Type 0 where
+  pub whole : FileStops scope p f offset
+
+-- the same of a call for the next frame
+abbrev pub LocatedNext : Scope → Option (List ℕ) → Passage → Result Bool FileFault → Standing →
+    Type 0
+LocatedNext scope text p (Ok true) r = Reached scope text p.new r
+LocatedNext scope text p (Ok false) r = ⊤
+LocatedNext scope text p (Err f) r = StopsAt scope (record p { old = text }) f r.offset

@@ -1,0 +1,138 @@
+-- Where in a file a fault is: in the element, of those one after the other, that could not be read.
+-- The CRC-32 of a Cluster is known with its last element, and is a fault of that.
+use Rattle.std.specs.Prelude.{◌≡◌, ◌⊎◌, ◌+◌, ◌==◌, if◌then◌else◌, ℕ, Bool, true, false, List}
+use Rattle.std.specs.Prelude.{Option, Some, None, Result, Ok, Err, ⊤}
+use Rattle.ffv1_wire.specs.Passage.{Passage}
+use Rattle.ffv1_reads.specs.Ends.{RefusedOrFaults}
+use Rattle.ffv1_reads.specs.declared.fault.FileFault.TheVariants as fault
+use Rattle.ffv1_matroska.specs.Internal.{track_kept}
+use Rattle.ffv1_matroska.specs.declared.track.Numbers.{Numbers}
+use Rattle.ffv1_reads.specs.Offsets.{ReadsWhole, StopsAfter, offset_after}
+use Rattle.ffv1_reads.specs.Reads.{Read, Reading, given, ◌>>=◌}
+use Rattle.ffv1_reads.specs.declared.fault.FileFault.{FileFault}
+use Rattle.ffv1_ebml.specs.Sums.{kept_summed}
+use Rattle.ffv1_ebml.specs.declared.element.Element.{Element}
+use Rattle.ffv1_matroska.specs.Opened.{begun_at, ebml_read, in_cluster, tracks_or_passed}
+use Rattle.ffv1_matroska.specs.Opening.{segment_begun, segment_entered}
+use Rattle.ffv1_matroska.specs.Places.{amount, closed, ended, frame_at, segment_at, summed_at}
+use Rattle.ffv1_matroska.specs.Readers.{Standing}
+use Rattle.ffv1_matroska.specs.Segments.{cluster, header_read, step_read}
+use Rattle.ffv1_matroska.specs.Tracks.{Track}
+use Rattle.ffv1_matroska.specs.declared.place.Place.{Place}
+use Rattle.ffv1_matroska.specs.declared.place.Step.{Step}
+
+-- a frame after the beginning of its element, where it has one
+abbrev pub frame_taken : Place → Option ℕ → Reading Place
+frame_taken place None = given place
+frame_taken place (Some size) = kept_summed size place.sum >>= λ p.
+    closed (summed_at place p.1) (summed_at place p.1)
+
+abbrev pub step_taken : Place → Option Step → Reading Place
+step_taken place None = given place
+step_taken place (Some s) = frame_taken s.place s.frame
+
+-- an element from its first byte on, of a Segment, a Cluster or a BlockGroup: all of it, with its
+-- frame where it is a block of the track; of a Cluster or a BlockGroup the header alone, since
+-- their elements come next. At the end nothing is read
+unfoldable pub element_taken : ℕ → Place → Reading Place
+element_taken track place = step_read track place >>= step_taken place
+
+-- where a reader stands before the frames: before the file, before its Segment, before an element
+-- of that, where these Tracks were before; or before the frames
+pub data Spot : Type 0 where
+  Start : Spot
+  BeforeSegment : Spot
+  InSegment : Option Track → Place → Spot
+  BeforeFrames : Track → Place → Spot
+
+abbrev pub frames_begun : Option Track → Place → Reading Spot
+frames_begun found place = begun_at found place >>= λ p. given (BeforeFrames p.0 p.1)
+
+-- an element of the Segment before the frames; of the first Cluster the header alone. Where the
+-- Segment ends before any Tracks, they are missed there
+abbrev pub beginning_taken : Option Track → Place → Option Element → Reading Spot
+beginning_taken found place None = frames_begun found ended
+beginning_taken found place (Some e) =
+    if e.ident == cluster
+    then frames_begun found (in_cluster (segment_at place false e.left) e.size)
+    else (tracks_or_passed found e.ident e.size >>= λ now.
+    given (InSegment now (segment_at place false e.left)))
+
+-- an element from its first byte on, before the frames: the header of EBML; of the Segment the
+-- header alone; and its elements. Before the frames nothing is read
+unfoldable pub spot_taken : Spot → Reading Spot
+spot_taken Start = ebml_read >>= λ _. given BeforeSegment
+spot_taken BeforeSegment = segment_entered >>= λ size. given (InSegment None (segment_begun size))
+spot_taken (InSegment found place) = header_read place >>= beginning_taken found place
+spot_taken (BeforeFrames track place) = given (BeforeFrames track place)
+
+-- elements of so many bytes were read whole before the frames, and the one that comes next was
+-- refused
+pub record OpeningStops (from : Spot) (p : Passage) (f : FileFault) (to : Spot) (count : ℕ)
+    : Type 0 where
+  pub between : Option (List ℕ)
+  pub before : ReadsWhole spot_taken from p.old between to count
+  pub refused : RefusedOrFaults fault.NoTracks (λ _. Unit {0}) (spot_taken to)
+      between p.new p.before p.after f
+
+-- the frames of a file begin after elements of so many bytes; or it ends before them
+abbrev pub FramesBegin : Spot → Passage → Track → Place → ℕ → Type 0
+FramesBegin from p track place count =
+    ReadsWhole spot_taken from p.old p.new (BeforeFrames track place) count ⊎ (place ≡ ended)
+
+-- the elements of a Segment before the frames: where these begin, `here` is that place; where one
+-- was refused, it is the place before that
+abbrev pub BeginsFrom : Place → Passage → List ℕ → Result (Numbers × Place) FileFault → Place →
+    Type 0
+BeginsFrom place p bytes (Ok n) here =
+    (count : ℕ) × FramesBegin (InSegment None place) p (track_kept n.0 bytes) n.1 count
+    × (place.cluster + place.group ≡ 0 → count + amount here ≡ amount place)
+BeginsFrom place p bytes (Err f) here =
+    (found : Option Track) × (count : ℕ)
+    × OpeningStops (InSegment None place) p f (InSegment found here) count
+    × (place.cluster + place.group ≡ 0 → count + amount here ≡ amount place)
+
+-- a file up to its frames: the offset of what comes next; or of the element that was refused
+abbrev pub OpensFrom : Passage → List ℕ → Result (Option ℕ × Numbers × Place) FileFault → ℕ → Type 0
+OpensFrom p bytes (Ok n) offset =
+    (count : ℕ) × FramesBegin Start p (track_kept n.1 bytes) n.2 count
+    × (offset ≡ offset_after 0 count)
+OpensFrom p bytes (Err f) offset =
+    (to : Spot) × (count : ℕ) × OpeningStops Start p f to count × (offset ≡ offset_after 0 count)
+
+-- the same of a reader that was opened
+abbrev pub OffsetOpened : Passage → Result Standing FileFault → ℕ → Type 0
+OffsetOpened p (Ok r) offset =
+    (count : ℕ) × FramesBegin Start p r.track r.place count × (r.offset ≡ offset_after 0 count)
+OffsetOpened p (Err f) offset =
+    (to : Spot) × (count : ℕ) × OpeningStops Start p f to count × (offset ≡ offset_after 0 count)
+
+-- the offset after a call for a frame: after the frame that it gives; after a fault, where the
+-- element begins that could not be read
+abbrev pub OffsetAfter : Standing → Passage → Result Bool FileFault → Standing → Type 0
+OffsetAfter old p (Ok true) new =
+    (count : ℕ) × ReadsWhole (element_taken old.track.number) old.place p.old p.new new.place count
+    × (new.offset ≡ offset_after old.offset count)
+OffsetAfter old p (Ok false) new = new.offset ≡ old.offset
+OffsetAfter old p (Err f) new =
+    (to : Place) × (count : ℕ)
+    × StopsAfter (element_taken old.track.number) old.place p f to count
+    × (new.offset ≡ offset_after old.offset count)
+
+-- the element of the frame that was found begins at a position; or the one does that was refused
+abbrev pub FindsFrom : ℕ → Place → Passage → Result (Option (ℕ × Place)) FileFault → Place → Type 0
+FindsFrom track place p (Ok None) to = ⊤
+FindsFrom track place p (Ok (Some found)) to =
+    (between : Option (List ℕ)) × (count : ℕ)
+    × ReadsWhole (element_taken track) place p.old between to count
+    × Read (step_read track to) between p.new (Some (frame_at found.0 found.1))
+FindsFrom track place p (Err f) to =
+    (count : ℕ) × StopsAfter (element_taken track) place p f to count
+
+-- a frame was read; or its element begins at a position, or another one does, which was refused
+abbrev pub ReadsFrom : ℕ → Place → Passage → Result (Option Place) FileFault → Place → Type 0
+ReadsFrom track place p (Ok None) to = ⊤
+ReadsFrom track place p (Ok (Some after)) to =
+    (count : ℕ) × ReadsWhole (element_taken track) place p.old p.new after count
+ReadsFrom track place p (Err f) to =
+    (count : ℕ) × StopsAfter (element_taken track) place p f to count
