@@ -3,13 +3,16 @@
 //! `ffv1_engine`.
 #![tactic(auto)]
 
-ghost use Rattle.std.specs.Prelude.{◌≡◌, ◌≢◌, ◌⊎◌, ◌↔◌, Err, IfErr, IfOk, IsOk, IsTrue, None};
-ghost use Rattle.std.specs.Prelude.{Some};
+ghost use Rattle.std.specs.Prelude.{◌≡◌, ◌≢◌, ◌⊎◌, ◌≤◌, Err, IfErr, IfOk, IsOk, None, Some, false};
+ghost use Rattle.std.specs.Process.{exit_status};
 ghost use Rattle.clap.specs.Words.{kind_of};
 ghost use Rattle.clap.specs.declared.error.kind.ErrorKind.TheVariants as kind;
-ghost use Rattle.ffv1.specs.declared.refusal.Refusal.{Refusal};
 ghost use Rattle.ffv1.specs.declared.refusal.Refusal.TheVariants as refusal;
+ghost use Rattle.ffv1.specs.Statuses.{IsAnyFault, IsFault, IsMakingRefusal, IsStatus, makes_file};
 ghost use Rattle.ffv1.specs.Statuses.{status_of};
+ghost use Rattle.ffv1_engine.specs.Check.{IsCheckFault};
+ghost use Rattle.ffv1_engine.specs.Show.{IsShowFault};
+ghost use Rattle.ffv1_engine.specs.declared.profile.Profile.TheVariants as profile;
 ghost use Rattle.ffv1_engine.specs.declared.fault.Fault.{Fault};
 ghost use Rattle.ffv1_engine.specs.declared.fault.Fault.TheVariants as fault;
 
@@ -17,6 +20,7 @@ mod input;
 mod output;
 mod progress;
 mod refusal;
+mod several;
 
 use clap::Error;
 use either::{Left, Right};
@@ -29,6 +33,7 @@ use ffv1_words::{Choice, ContainerChoice, Order, is_hyphen, words};
 use input::{Again, open_input, watched};
 use output::{Target, open_output};
 use refusal::Refusal;
+use several::Looks;
 use std::alloc::Global;
 use std::io::Input;
 use std::process::ExitCode;
@@ -58,6 +63,23 @@ struct Making<'a> {
     output: &'a str,
     no_clobber: bool,
     progress: bool,
+}
+
+impl<'a> Making<'a> {
+    /// Puts together what an order says of its files.
+    fn new(input: &'a str, output: &'a str, no_clobber: bool, progress: bool) -> Making<'a>
+        ensures input { result.input ≡ input.entry }
+        ensures output { result.output ≡ output.entry }
+        ensures no_clobber { result.no_clobber ≡ no_clobber }
+        ensures progress { result.progress ≡ progress }
+    {
+        Making {
+            input,
+            output,
+            no_clobber,
+            progress,
+        }
+    }
 }
 
 /// Packs a video into Matroska. A regular file is written over at the end; a pipe, a device and
@@ -97,7 +119,9 @@ fn run_pack(
     files: &Making<'_>,
     container: ContainerChoice,
     choice: &Choice,
-) -> Result<(), Refusal> {
+) -> Result<(), Refusal>
+    ensures { IfErr result (IsMakingRefusal files.now.no_clobber) }
+{
     let (source, metadata) = open_input(rt, files.input)?;
     let target = open_output(rt, files.output, &metadata, files.no_clobber)?;
     let mut reader = watched(rt, source, &metadata, files.progress);
@@ -124,7 +148,9 @@ fn run_unpack(
     rt: &(impl Files + Input + Print + Eprint + Clock),
     alloc: Global,
     files: &Making<'_>,
-) -> Result<(), Refusal> {
+) -> Result<(), Refusal>
+    ensures { IfErr result (IsMakingRefusal files.now.no_clobber) }
+{
     let (source, metadata) = open_input(rt, files.input)?;
     let target = open_output(rt, files.output, &metadata, files.no_clobber)?;
     let mut reader = watched(rt, source, &metadata, files.progress);
@@ -161,7 +187,11 @@ fn run_check(
     alloc: Global,
     input: &str,
     checking: Checking,
-) -> Result<(), Refusal> {
+) -> Result<(), Refusal>
+    ensures fault { IfErr result IsAnyFault }
+    ensures own { checking.all ≡ false →
+        IfErr result (IsFault (IsCheckFault profile.Wide)) }
+{
     let (source, metadata) = open_input(rt, input)?;
     let mut reader = watched(rt, source, &metadata, checking.progress);
     let mut writer = ToWrite::new(io::writer(rt));
@@ -180,7 +210,10 @@ fn run_show(
     alloc: Global,
     input: &str,
     cost: bool,
-) -> Result<(), Refusal> {
+) -> Result<(), Refusal>
+    ensures fault { IfErr result IsAnyFault }
+    ensures own { IfErr result (IsFault (IsShowFault profile.Wide cost)) }
+{
     let (mut reader, _) = open_input(rt, input)?;
     let mut writer = ToWrite::new(io::writer(rt));
     show(alloc, Profile::Wide, &mut reader, &mut writer, cost)?;
@@ -192,7 +225,9 @@ fn run_framemd5(
     rt: &(impl Files + Input + Print),
     alloc: Global,
     input: &str,
-) -> Result<(), Refusal> {
+) -> Result<(), Refusal>
+    ensures { IfErr result IsAnyFault }
+{
     let (mut source, _) = open_input(rt, input)?;
     let Ok(first) = read_byte(&mut source) else {
         return Err(Refusal::Fault(Fault::Read));
@@ -208,7 +243,9 @@ fn run_framemd5(
 }
 
 /// Codes and decodes the mono picture of a file, and prints what it found.
-fn run_trial(rt: &(impl Files + Input + Print), alloc: Global, input: &str) -> Result<(), Refusal> {
+fn run_trial(rt: &(impl Files + Input + Print), alloc: Global, input: &str) -> Result<(), Refusal>
+    ensures { IfErr result IsAnyFault }
+{
     let (mut reader, _) = open_input(rt, input)?;
     let mut writer = ToWrite::new(io::writer(rt));
     trial(alloc, &mut reader, &mut writer)?;
@@ -254,7 +291,9 @@ fn look(
     alloc: Global,
     path: &str,
     looking: Looking,
-) -> Result<(), Refusal> {
+) -> Result<(), Refusal>
+    ensures { IfErr result IsAnyFault }
+{
     match looking {
         Looking::Check(checking) => run_check(rt, alloc, path, checking),
         Looking::Show { cost } => run_show(rt, alloc, path, cost),
@@ -262,57 +301,26 @@ fn look(
     }
 }
 
-/// Prints which file is looked at, and looks at it.
-fn look_named(
-    rt: &(impl Files + Input + Print + Eprint + Clock),
+/// What looks at files in one way.
+#[derive(Drop)]
+struct Looker<'a, R> {
+    rt: &'a R,
     alloc: Global,
-    path: &str,
     looking: Looking,
-) -> Result<(), Refusal> {
-    if println!(rt; "file {path}").is_err() {
-        return Err(Refusal::Fault(Fault::Write));
-    }
-    look(rt, alloc, path, looking)
 }
 
-/// The exit status of several files after one more: 1 where any was refused.
-fn status_after(status: u8, done: Result<(), Refusal>) -> u8
-    ensures ok { IsOk done → result ≡ status }
-    ensures refused { (r : Refusal) → done ≡ Err r → result ≡ 1 }
-{
-    match done {
-        Ok(()) => status,
-        Err(_) => 1,
-    }
-}
+impl<R: Files + Input + Print + Eprint + Clock> Looks for Looker<'_, R> {
+    ghost names = { λ s _ _ t. t ≡ s };
 
-/// Whether no further file is looked at: a line could not be printed.
-fn is_unprinted(done: Result<(), Refusal>) -> bool
-    ensures { IsTrue result ↔ (done ≡ Err (refusal.Fault fault.Write)) }
-{
-    done == Err(Refusal::Fault(Fault::Write))
-}
+    ghost looks = { λ s _ outcome t. (t ≡ s) × IfErr outcome IsAnyFault };
 
-/// Looks at each of several files, after a line of its path; a fault is one line on standard error,
-/// with the path. Answers the exit status: 1 where any was refused, and else 0.
-fn look_each(
-    rt: &(impl Files + Input + Print + Eprint + Clock),
-    alloc: Global,
-    paths: &[&str],
-    looking: Looking,
-) -> io::Result<u8> {
-    let mut status = 0;
-    for path in paths {
-        let done = look_named(rt, alloc, path, looking);
-        if let Err(refusal) = done {
-            eprintln!(rt; "ffv1: {path}: {refusal}")?;
-        }
-        status = status_after(status, done);
-        if is_unprinted(done) {
-            break;
-        }
+    fn name(&mut self, path: &str) -> bool {
+        println!(self.rt; "file {path}").is_ok()
     }
-    Ok(status)
+
+    fn look(&mut self, path: &str) -> Result<(), Refusal> {
+        look(self.rt, self.alloc, path, self.looking)
+    }
 }
 
 /// Looks at one file, or at several. Answers the exit status.
@@ -321,11 +329,11 @@ fn look_all(
     alloc: Global,
     paths: &[&str],
     looking: Looking,
-) -> io::Result<u8> {
-    if paths.len() == 1 {
-        return tell(rt, look(rt, alloc, paths[0], looking));
-    }
-    look_each(rt, alloc, paths, looking)
+) -> io::Result<u8>
+    ensures { IfOk result (λ status. status ≤ 1) }
+{
+    let mut looker = Looker { rt, alloc, looking };
+    several::look_all(rt, &mut looker, paths)
 }
 
 /// Does what an order asks for. Answers the exit status.
@@ -333,7 +341,9 @@ fn run(
     rt: &(impl Files + Input + Print + Eprint + Clock),
     alloc: Global,
     order: Order<'_>,
-) -> io::Result<u8> {
+) -> io::Result<u8>
+    ensures { IfOk result (IsStatus (makes_file order.entry)) }
+{
     match order {
         Order::Pack {
             input,
@@ -343,12 +353,7 @@ fn run(
             no_clobber,
             progress,
         } => {
-            let files = Making {
-                input,
-                output,
-                no_clobber,
-                progress,
-            };
+            let files = Making::new(input, output, no_clobber, progress);
             tell(rt, run_pack(rt, alloc, &files, container, &choice))
         }
         Order::Unpack {
@@ -357,12 +362,7 @@ fn run(
             no_clobber,
             progress,
         } => {
-            let files = Making {
-                input,
-                output,
-                no_clobber,
-                progress,
-            };
+            let files = Making::new(input, output, no_clobber, progress);
             tell(rt, run_unpack(rt, alloc, &files))
         }
         Order::Check {
@@ -397,7 +397,9 @@ fn line_status(error: &Error) -> u8
 /// Does what the words of the command line ask for: status 0 for success, 1 for a fault, which is
 /// one line on standard error, of each file that has one, and 2 for a line or for files that are
 /// refused. All of clap's text goes to standard error, that of help too, which ends with status 0.
-fn command(rt: &HostRuntime, alloc: Global, texts: &[&str]) -> io::Result<ExitCode> {
+fn command(rt: &HostRuntime, alloc: Global, texts: &[&str]) -> io::Result<ExitCode>
+    ensures { IfOk result (λ code. exit_status code ≤ 2) }
+{
     match words(alloc, texts) {
         Err(error) => {
             eprint!(rt; "{error}")?;
@@ -412,7 +414,9 @@ fn command(rt: &HostRuntime, alloc: Global, texts: &[&str]) -> io::Result<ExitCo
 
 /// Reads the command line and does what it asks for. A word that is not UTF-8 is refused with
 /// status 2 and one line.
-fn line(rt: &HostRuntime, alloc: Global) -> io::Result<ExitCode> {
+fn line(rt: &HostRuntime, alloc: Global) -> io::Result<ExitCode>
+    ensures { IfOk result (λ code. exit_status code ≤ 2) }
+{
     let arguments: Vec<String> = match env::args(rt) {
         Ok(arguments) => arguments.collect(alloc)?,
         Err(error) if error.kind() == io::ErrorKind::InvalidData => {

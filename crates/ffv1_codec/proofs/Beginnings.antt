@@ -7,7 +7,7 @@ use Rattle.ffv1_range.specs.History.{AreBelow, AreOutside, HasStates}
 use Rattle.ffv1_range.specs.Counts.{Counts, Counted}
 use Rattle.ffv1_slice.specs.Head.{key_steps, values_steps}
 use Rattle.ffv1_slice.specs.Coding.{PutsAt}
-use Rattle.ffv1_codec.specs.Behind.{Behind}
+use Rattle.ffv1_codec.specs.Internal.HasPut.{HasPut}
 
 -- the laws of slots and of states that are kept
 pub record Fresh : Type 0 where
@@ -31,7 +31,7 @@ outside [] base count below = tt
 outside (s ∷ ss) base count below = (inl below.0, outside ss base count below.1)
 
 pub begun : (t : Table) (n count : ℕ) (vs : List ℕ) (old mid new : Writing) → Fresh → old ≡ unwritten → PutsAt t 0 1 old mid (key_steps n) → PutsAt t 1 32 mid new (shifted 1 (values_steps vs)) →
-    Behind t (key_steps n ++ shifted 1 (values_steps vs)) new (replicate count 128)
+    HasPut t (key_steps n ++ shifted 1 (values_steps vs)) new (replicate count 128)
 begun t n count vs old mid new laws is key head =
     let head_steps = shifted 1 (values_steps vs) in
     let first = key.interval [] tt (ap (λ (w : Writing). w.interval) is) in

@@ -9,21 +9,21 @@ use Rattle.ffv1_range.specs.Table.{Table}
 use Rattle.ffv1_range.specs.Writing.{Writing}
 use Rattle.ffv1_range.specs.Symbols.{Step}
 use Rattle.ffv1_line.specs.Cell.{Cell, Above, Shows}
-use Rattle.ffv1_line.specs.declared.rolling.RollingRows.{RollingRows}
+use Rattle.ffv1_line.specs.declared.cell.rows.RollingRows.{RollingRows}
 use Rattle.ffv1_record.specs.Configuration.{Configuration, is_rct}
 use Rattle.ffv1_slice.specs.declared.head.SliceHead.{SliceHead}
 use Rattle.ffv1_codec.specs.Picture.{Planes, plane_count, cell_height, coded_at, sample_at, transformed_at}
 use Rattle.ffv1_codec.specs.SliceList.{Line, lines_of_plane, planes_of_line, lines_in, chosen_line, chosen_body}
-use Rattle.ffv1_codec.specs.Behind.{Behind, PutsBehind}
-use Rattle.ffv1_codec.specs.CellRows.{Rolled, Loaded, fourth_line}
+use Rattle.ffv1_codec.specs.Internal.HasPut.{HasPut, PutsAfter}
+use Rattle.ffv1_codec.specs.Internal.CellRows.{Rolled, Loaded, fourth_line}
 use Rattle.ffv1_slice.specs.Grid.{planes_in}
 
-pub puts_none : (t : Table) (w : Writing) (states : List ℕ) → PutsBehind t w states w states []
-puts_none t w states = record { behind = λ past behind. subst (λ ss. Behind t ss w states) (sym (append-nil past)) behind }
+pub puts_none : (t : Table) (w : Writing) (states : List ℕ) → PutsAfter t w states w states []
+puts_none t w states = record { behind = λ past behind. subst (λ ss. HasPut t ss w states) (sym (append-nil past)) behind }
 
-pub puts_then : (t : Table) (a b d : Writing) (ss ts us : List ℕ) (xs ys : List Step) → PutsBehind t a ss b ts xs → PutsBehind t b ts d us ys → PutsBehind t a ss d us (xs ++ ys)
+pub puts_then : (t : Table) (a b d : Writing) (ss ts us : List ℕ) (xs ys : List Step) → PutsAfter t a ss b ts xs → PutsAfter t b ts d us ys → PutsAfter t a ss d us (xs ++ ys)
 puts_then t a b d ss ts us xs ys first second = record {
-  behind = λ past behind. subst (λ zs. Behind t zs d us) (append_assoc past xs ys) (second.behind (past ++ xs) (first.behind past behind));
+  behind = λ past behind. subst (λ zs. HasPut t zs d us) (append_assoc past xs ys) (second.behind (past ++ xs) (first.behind past behind));
 }
 
 -- the steps of lines in two parts
@@ -38,28 +38,28 @@ pub lines_more : (p y : ℕ) → lines_of_plane (y + 1) p ≡ lines_of_plane y p
 lines_more p y = map-range_with_len_more (λ k. let l : Line = record { plane = p; y = k } in l) 0 y y (omega arith)
 
 pub plane_next : (t : Table) (a b d : Writing) (ss ts us : List ℕ) (c : Configuration) (h : SliceHead) (cell : ℕ → Cell) (p y : ℕ) →
-    PutsBehind t a ss b ts (chosen_body c h cell (lines_of_plane y p)) → PutsBehind t b ts d us (chosen_line c h cell (record { plane = p; y = y })) →
-    PutsBehind t a ss d us (chosen_body c h cell (lines_of_plane (y + 1) p))
+    PutsAfter t a ss b ts (chosen_body c h cell (lines_of_plane y p)) → PutsAfter t b ts d us (chosen_line c h cell (record { plane = p; y = y })) →
+    PutsAfter t a ss d us (chosen_body c h cell (lines_of_plane (y + 1) p))
 plane_next t a b d ss ts us c h cell p y first second =
     let l : Line = record { plane = p; y = y } in
     let same : chosen_body c h cell (lines_of_plane y p) ++ chosen_line c h cell l ≡ chosen_body c h cell (lines_of_plane (y + 1) p) =
     ap (λ z. chosen_body c h cell (lines_of_plane y p) ++ z) (body_one c h cell l) ∙ sym (body_append c h cell (lines_of_plane y p) (l ∷ [])) ∙ ap (chosen_body c h cell) (sym (lines_more p y)) in
-    subst (PutsBehind t a ss d us) same (puts_then t a b d ss ts us _ _ first second)
+    subst (PutsAfter t a ss d us) same (puts_then t a b d ss ts us _ _ first second)
 
 -- one part more
 pub range_more : (n : ℕ) → range_with_len 0 (n + 1) ≡ range_with_len 0 n ++ (n ∷ [])
 range_more n = sym (map-id (range_with_len 0 (n + 1))) ∙ map-range_with_len_more (λ k. k) 0 n n (omega arith) ∙ ap (λ z. z ++ (n ∷ [])) (map-id (range_with_len 0 n))
 
 pub parts_next : (t : Table) (a b d : Writing) (ss ts us : List ℕ) (c : Configuration) (h : SliceHead) (cell : ℕ → Cell) (f : ℕ → List Line) (n : ℕ) →
-    PutsBehind t a ss b ts (chosen_body c h cell (flat_map f (range_with_len 0 n))) → PutsBehind t b ts d us (chosen_body c h cell (f n)) →
-    PutsBehind t a ss d us (chosen_body c h cell (flat_map f (range_with_len 0 (n + 1))))
+    PutsAfter t a ss b ts (chosen_body c h cell (flat_map f (range_with_len 0 n))) → PutsAfter t b ts d us (chosen_body c h cell (f n)) →
+    PutsAfter t a ss d us (chosen_body c h cell (flat_map f (range_with_len 0 (n + 1))))
 parts_next t a b d ss ts us c h cell f n first second =
     let before = flat_map f (range_with_len 0 n) in
     let more : flat_map f (range_with_len 0 (n + 1)) ≡ before ++ f n =
     ap (flat_map f) (range_more n) ∙ flat_map-append f (range_with_len 0 n) (n ∷ []) ∙ ap (λ z. before ++ z) (append-nil (f n)) in
     let same : chosen_body c h cell before ++ chosen_body c h cell (f n) ≡ chosen_body c h cell (flat_map f (range_with_len 0 (n + 1))) =
     sym (body_append c h cell before (f n)) ∙ ap (chosen_body c h cell) (sym more) in
-    subst (PutsBehind t a ss d us) same (puts_then t a b d ss ts us _ _ first second)
+    subst (PutsAfter t a ss d us) same (puts_then t a b d ss ts us _ _ first second)
 
 -- all lines of a slice
 pub planes_in_order : (c : Configuration) (n : ℕ) → is_rct c.colour ≡ false → flat_map (λ p. lines_of_plane (cell_height c n p) p) (range_with_len 0 (plane_count c)) ≡ lines_in c n

@@ -7,7 +7,7 @@ use Rattle.ffv1_record.specs.Sets.{most_contexts}
 use Rattle.ffv1_slice.specs.Grid.{planes_in}
 use Rattle.ffv1_codec.specs.Picture.{plane_count}
 use Rattle.ffv1_codec.specs.SliceList.{class_of, base_of}
-use Rattle.ffv1_codec.specs.Tied.{slots_in}
+use Rattle.ffv1_codec.specs.Internal.Tied.{slots_in}
 use Rattle.ffv1_codec.proofs.Sizes.{class_room}
 use Rattle.ffv1_codec.proofs.ByNumber.{few_contexts}
 

@@ -10,7 +10,7 @@ use Rattle.ffv1_record.specs.Sets.{most_contexts}
 use Rattle.ffv1_record.specs.Held.{classes_of}
 use Rattle.ffv1_slice.specs.Grid.{planes_in}
 use Rattle.ffv1_codec.specs.SliceList.{Said, class_of, base_of, bits_of, chosen_line, set_at, set_in, chosen_index, chosen_head}
-use Rattle.ffv1_codec.specs.Behind.{states_in}
+use Rattle.ffv1_codec.specs.Internal.HasPut.{states_in}
 
 pub set_is : (sets : List Set) (k : ℕ) → set_at sets k ≡ get_or sets k []
 set_is [] k = refl

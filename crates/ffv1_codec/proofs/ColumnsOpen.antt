@@ -3,8 +3,8 @@ use Rattle.std.proofs.Common.{◌≡◌, ℕ, ◌<◌, inl, inr, List, length, s
 use Rattle.std.specs.Prelude.{IsSome}
 use Rattle.std.proofs.lemmas.Bool.{cases_eq}
 use Rattle.ffv1_plane.specs.Quantisation.{Set}
-use Rattle.ffv1_codec.specs.declared.column.Column.{Column}
-use Rattle.ffv1_codec.specs.Tied.{IsOpen, AreOpen, column_at, no_column}
+use Rattle.ffv1_codec.specs.declared.decode.column.Column.{Column}
+use Rattle.ffv1_codec.specs.Internal.Tied.{IsOpen, AreOpen, column_at, no_column}
 
 still_open : (payload : List ℕ) (sets : List Set) (old new : Column) → IsOpen payload sets old → new ≡ record old { parked = new.parked } → IsSome new.parked → IsOpen payload sets new
 still_open payload sets old new is same parked =

@@ -9,7 +9,7 @@ use Rattle.ffv1_codec.specs.Picture.{plane_count, plane_width, plane_height}
 use Rattle.ffv1_codec.specs.Order.{events_of, lines_down}
 use Rattle.ffv1_codec.specs.Bounds.{samples_of, most_decisions}
 use Rattle.ffv1_codec.specs.Answer.{decisions_in}
-use Rattle.ffv1_codec.specs.Decoding.{State, StepsBy, FaultsWith, at_first, slice_number, width_in, behind_line, steps_of_line}
+use Rattle.ffv1_codec.specs.Decoding.{State, StepsBy, FaultsWith, at_first, slice_number, width_in, after_line, steps_of_line}
 use Rattle.ffv1_codec.proofs.Machines.{Reaches}
 use Rattle.ffv1_codec.proofs.FromCoded.{number_inside}
 use Rattle.ffv1_codec.proofs.Totals.{total, total_is, total_same, total_add, total_scaled, total_each, total_swapped, total_parts}
@@ -34,7 +34,7 @@ module _ (a : Accepted) (coded : ℕ → List ℕ) (laws : StepLaws a) (tiles_h 
     read = λ r k p y q qs row inside few below has reads within. few_read a coded laws r k p y q qs row few below has reads;
     overread = λ r k p y q qs row inside few below has reads.
         let steps = steps_of_line a coded q p (width_in a.configuration p k) y qs row in
-        few_in_all a coded laws r k (behind_line q steps p row) (few_read a coded laws r k p y q qs row few below has reads);
+        few_in_all a coded laws r k (after_line q steps p row) (few_read a coded laws r k p y q qs row few below has reads);
     stopped = λ r k p y q qs row inside few below has stops. few_stopped a coded laws r k p y q qs row few below has stops;
   }
 

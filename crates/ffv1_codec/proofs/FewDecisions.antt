@@ -20,7 +20,7 @@ use Rattle.ffv1_codec.specs.declared.fault.CodecFault.{CodecFault}
 use Rattle.ffv1_codec.specs.Picture.{plane, plane_count}
 use Rattle.ffv1_codec.specs.SliceList.{Said, set_in, bits_of, base_of}
 use Rattle.ffv1_codec.specs.Order.{lines_down}
-use Rattle.ffv1_codec.specs.Decoding.{Slice, ReadsLine, StopsInLine, RefusesOpen, slice_number, width_in, behind_line, steps_of_line, steps_of_stop, opened, cell_with}
+use Rattle.ffv1_codec.specs.Decoding.{Slice, ReadsLine, StopsInLine, RefusesOpen, slice_number, width_in, after_line, steps_of_line, steps_of_stop, opened, cell_with}
 use Rattle.ffv1_codec.proofs.SliceBodies.{plane_put, plane_beside}
 use Rattle.ffv1_codec.proofs.RowsDone.{empty_cells}
 use Rattle.ffv1_codec.proofs.Totals.{total, total_most, total_more}
@@ -187,7 +187,7 @@ module _ (a : Accepted) (coded : ℕ → List ℕ) (laws : StepLaws a) where
 
     pub few_read : (p y : ℕ) (q : Slice) (qs : List ℤ) (row : List ℕ) → p < plane_count a.configuration → y < lines_down a.configuration p r → HasFew q →
         ReadsLine a coded (slice_number a.configuration r k) p (width_in a.configuration p k) y q qs row →
-        HasFew (behind_line q (steps_of_line a coded q p (width_in a.configuration p k) y qs row) p row)
+        HasFew (after_line q (steps_of_line a coded q p (width_in a.configuration p k) y qs row) p row)
     few_read p y q qs row few below has f =
         let c = a.configuration in
         let width = width_in c p k in

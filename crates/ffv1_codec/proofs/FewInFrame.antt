@@ -17,7 +17,7 @@ use Rattle.ffv1_codec.specs.Order.{Event, events_of, row_events, series_events, 
 use Rattle.ffv1_codec.specs.Order.Event.{Open, Read, Finish, Hand, Close}
 use Rattle.ffv1_codec.specs.Runs.{Runs}
 use Rattle.ffv1_codec.specs.Answer.{decisions_in}
-use Rattle.ffv1_codec.specs.Decoding.{State, Slice, StepsBy, FaultsWith, RefusesOpen, ReadsLine, StopsInLine, at_first, slice_at, slice_number, put_slice, width_in, behind_line, behind_steps, steps_of_line, steps_of_stop, opened, decided_in, unread}
+use Rattle.ffv1_codec.specs.Decoding.{State, Slice, StepsBy, FaultsWith, RefusesOpen, ReadsLine, StopsInLine, at_first, slice_at, slice_number, put_slice, width_in, after_line, after_steps, steps_of_line, steps_of_stop, opened, decided_in, unread}
 use Rattle.ffv1_codec.proofs.Machines.{Each, each_append, each_range, each_map, each_flat, runs_split, Reaches, reaches_split}
 use Rattle.ffv1_codec.proofs.Groups.{Group, IsGroup, groups_of, group_events, groups_are, row_by_groups}
 use Rattle.ffv1_codec.proofs.Keys.{range_join}
@@ -59,7 +59,7 @@ pub record SliceLaws (a : Accepted) (coded : ℕ → List ℕ) (most : ℕ → �
   pub read : (r k p y : ℕ) (q : Slice) (qs : List ℤ) (row : List ℕ) → k < a.configuration.columns → p < plane_count a.configuration → y < lines_down a.configuration p r → Has r k q →
       ReadsLine a coded (slice_number a.configuration r k) p (width_in a.configuration p k) y q qs row →
       IsWithin a (coded (slice_number a.configuration r k)) (q.past ++ steps_of_line a coded q p (width_in a.configuration p k) y qs row) →
-      Has r k (behind_line q (steps_of_line a coded q p (width_in a.configuration p k) y qs row) p row)
+      Has r k (after_line q (steps_of_line a coded q p (width_in a.configuration p k) y qs row) p row)
   pub overread : (r k p y : ℕ) (q : Slice) (qs : List ℤ) (row : List ℕ) → k < a.configuration.columns → p < plane_count a.configuration → y < lines_down a.configuration p r → Has r k q →
       ReadsLine a coded (slice_number a.configuration r k) p (width_in a.configuration p k) y q qs row →
       length (q.past ++ steps_of_line a coded q p (width_in a.configuration p k) y qs row) ≤ most r k
@@ -138,7 +138,7 @@ module _ (a : Accepted) (coded : ℕ → List ℕ) (slice_most : ℕ → ℕ →
         let c = a.configuration in
         let g = subst (λ z. StepsBy a coded s (Read z i p y) m) kind.0 f in
         let q = slice_at s i in
-        let next = behind_line q (steps_of_line a coded q p (width_in c p i) y g.0 g.1) p g.1 in
+        let next = after_line q (steps_of_line a coded q p (width_in c p i) y g.0 g.1) p g.1 in
         let place : i < length s.columns = rw l.settled.long kind.1 in
         record {
           settled = record {
@@ -184,10 +184,10 @@ module _ (a : Accepted) (coded : ℕ → List ℕ) (slice_most : ℕ → ℕ →
         let q = slice_at s i in
         elim (subst (λ z. FaultsWith a coded s (Read z i p y) f t) kind.0 h) [
           | inl stop ↦
-              let next = behind_steps q (steps_of_stop a coded q p (width_in c p i) y stop.0 stop.1) in
+              let next = after_steps q (steps_of_stop a coded q p (width_in c p i) y stop.0 stop.1) in
               refused_at s t i next kind.1 l stop.4 (laws.stopped r i p y q stop.0 stop.1 kind.1 kind.2 kind.3 (l.few i kind.1) stop.2)
           | inr over ↦
-              let next = behind_line q (steps_of_line a coded q p (width_in c p i) y over.0 over.1) p over.1 in
+              let next = after_line q (steps_of_line a coded q p (width_in c p i) y over.0 over.1) p over.1 in
               refused_at s t i next kind.1 l over.4 (laws.overread r i p y q over.0 over.1 kind.1 kind.2 kind.3 (l.few i kind.1) over.2)
         ]
     line_fault s t (Finish j planes y) f kind l h = line_bounded t (line_same s t (ap (λ (z : State). z.done) h.5) (ap (λ (z : State). z.columns) h.5) l)

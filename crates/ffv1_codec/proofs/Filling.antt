@@ -6,7 +6,8 @@ use Rattle.std.proofs.lemmas.Bool.{cases_eq, cases_lt}
 use Rattle.std.proofs.lemmas.List.{append-nil, append_assoc, drop-append-le, get_or-append-add, get_or-set_other, get_or-set_same, get_or_append_left, length-replicate, replicate-append-replicate, same_lists, set-get_or, take-append-le}
 use Rattle.std.proofs.lemmas.List.FromFn.{get_or-map-range_with_len, length-map-range_with_len}
 use Rattle.ffv1_slice.specs.Grid.{Division}
-use Rattle.ffv1_codec.specs.Filled.{AreBegun, filled, filled_planes, plane_size}
+use Rattle.ffv1_codec.specs.Filled.{filled, filled_planes, plane_size}
+use Rattle.ffv1_codec.specs.Internal.Begun.{AreBegun}
 use Rattle.ffv1_codec.specs.Kept.{IsLine, with_samples, zeros_of}
 use Rattle.ffv1_codec.specs.Picture.{AreOf, Planes, plane, planes_of}
 use Rattle.ffv1_codec.proofs.ByNumber.{plane_is}

@@ -3,8 +3,8 @@ use Rattle.std.proofs.Common.{◌≡◌, refl, ℕ, zero, suc, ◌+◌, ◌*◌,
 use Rattle.std.proofs.Math.Seq.{drop-append-add, take-append_seam, take-length}
 use Rattle.std.proofs.lemmas.List.{take-append-drop, take-append-le, drop-append-le}
 use Rattle.ffv1_rct.specs.Lines.{AreOnlyColoursIn, HasColourAtIn}
-use Rattle.ffv1_codec.specs.Stands.{window}
-use Rattle.ffv1_codec.specs.Finished.{line_at, Colouring, AreMade, HasBoth, IsFirstWithout}
+use Rattle.ffv1_codec.specs.Internal.Stands.{window}
+use Rattle.ffv1_codec.specs.Internal.Finished.{line_at, Colouring, AreMade, HasBoth, IsFirstWithout}
 
 pub window_front : (at n : ℕ) (xs ys : List ℕ) → at + n ≤ length xs → window at n (xs ++ ys) ≡ window at n xs
 window_front at n xs ys fits =

@@ -12,7 +12,7 @@ use Rattle.ffv1_range.specs.History.{decisions_after}
 use Rattle.ffv1_range.specs.Counts.{ones_in, zeros_in, saturated}
 use Rattle.ffv1_range.specs.Weight.{AreHeldBy, one_if, ones, weight, zeros}
 use Rattle.ffv1_range.proofs.Counting.{steps_counted}
-use Rattle.ffv1_range.proofs.Named.{state_held}
+use Rattle.ffv1_range.proofs.FewDecisions.{after_held}
 use Rattle.ffv1_codec.specs.Decoding.{Slice, State}
 use Rattle.ffv1_codec.specs.Answer.{HasDecided, decisions_in, renormalisations_in, slices_in, tally_of}
 use Rattle.ffv1_wire.specs.Runs.{LineStep}
@@ -94,12 +94,6 @@ ones_of qs = total (λ (q : Slice). ones_in q.past) qs
 
 abbrev zeros_of : List Slice → ℕ
 zeros_of qs = total (λ (q : Slice). zeros_in q.past) qs
-
-pub after_held : (t : Table) → IsTable t.floor t.one → (past ss : List Step) → AreHeldBy t.floor (decisions_after t past ss)
-after_held t table past [] = tt
-after_held t table past (s ∷ ss) =
-    let held = state_held t table s.slot past in
-    (record { least = held.least; most = held.most }, after_held t table (past ++ (s ∷ [])) ss)
 
 total_less : {X : Type 0} (f g : X → ℕ) (xs : List X) → ((x : X) → f x ≤ g x) → total f xs ≤ total g xs
 total_less f g [] less = omega arith

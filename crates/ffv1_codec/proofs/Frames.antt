@@ -10,7 +10,7 @@ use Rattle.ffv1_line.specs.Length.{row_decisions}
 use Rattle.ffv1_slice.specs.Footer.{footer_of}
 use Rattle.ffv1_slice.specs.Cutting.{joined_of}
 use Rattle.ffv1_record.specs.Accepted.{Accepted}
-use Rattle.ffv1_codec.specs.declared.counts.FrameCounts.{FrameCounts}
+use Rattle.ffv1_codec.specs.declared.encode.frame_counts.FrameCounts.{FrameCounts}
 use Rattle.ffv1_codec.specs.declared.fault.CodecFault.{CodecFault}
 use Rattle.ffv1_codec.specs.Picture.{Planes}
 use Rattle.ffv1_codec.specs.SliceList.{Said}

@@ -32,9 +32,9 @@ pub record Stays (s t : Kept) : Type 0 where
   pub failures : t.failures ≡ s.failures
 
 -- after a line that it keeps
-behind_line : (s t : Kept) (now : Planes) (l : wire.Line) (ls : List wire.Line) (m : Kept) → Keeps (with_planes s now) l.plane l.row l.samples m → Grows Keeps m ls t →
+after_line : (s t : Kept) (now : Planes) (l : wire.Line) (ls : List wire.Line) (m : Kept) → Keeps (with_planes s now) l.plane l.row l.samples m → Grows Keeps m ls t →
     Grows Keeps (with_planes s (with_line now l.plane l.row l.samples)) ls t
-behind_line s t now l ls m keeps more = subst (λ z. Grows Keeps z ls t) keeps.1 more
+after_line s t now l ls m keeps more = subst (λ z. Grows Keeps z ls t) keeps.1 more
 
 stays_from : (s t : Kept) (now : Planes) (ls : List wire.Line) → AreOf s.grid now → Grows Keeps (with_planes s now) ls t → Stays s t
 stays_from s t now [] are grows = record {
@@ -43,7 +43,7 @@ stays_from s t now [] are grows = record {
   failures = ap (λ (z : Kept). z.failures) grows;
 }
 stays_from s t now (l ∷ ls) are grows =
-    stays_from s t (with_line now l.plane l.row l.samples) ls (sizes_kept s.grid now l.plane l.row l.samples are grows.1.0) (behind_line s t now l ls grows.0 grows.1 grows.2)
+    stays_from s t (with_line now l.plane l.row l.samples) ls (sizes_kept s.grid now l.plane l.row l.samples are grows.1.0) (after_line s t now l ls grows.0 grows.1 grows.2)
 
 pub lines_stay : (s t : Kept) (ls : List wire.Line) → AreOf s.grid s.planes → Grows Keeps s ls t → Stays s t
 lines_stay s t ls are grows = stays_from s t s.planes ls are grows
@@ -92,7 +92,7 @@ module _ (c : Configuration) (planes : Planes) (q z : ℕ) (inside : q < (divisi
       let line = subst (λ d. IsLine d k.plane k.y l.samples) own grows.1.0 in
       let next = with_line now k.plane k.y l.samples in
       let rest = kept_from s t next ks own (sizes_kept (division_of c) now k.plane k.y l.samples are line)
-      (behind_line s t now l (map (line_of c planes) ks) grows.0 grows.1 grows.2) in
+      (after_line s t now l (map (line_of c planes) ks) grows.0 grows.1 grows.2) in
       let here : (q ≡ k.plane) → (z ≡ k.y) → row_of c q z next ≡ row_of c q z planes = λ same row.
       ap (λ n. row_in (row_bytes (division_of c) n) z (plane next n)) same ∙ ap (λ n. row_in (row_bytes (division_of c) k.plane) n (plane next k.plane)) row
       ∙ line_here (division_of c) now k.plane k.y l.samples are line

@@ -4,28 +4,28 @@ use Rattle.std.specs.List.{flat_map, range_with_len}
 use Rattle.ffv1_wire.specs.Runs.{LineStep, Grows}
 use Rattle.ffv1_record.specs.Accepted.{Accepted}
 use Rattle.ffv1_slice.specs.Grid.{division_of, across}
-use Rattle.ffv1_codec.specs.declared.column.Column.{Column}
+use Rattle.ffv1_codec.specs.declared.decode.column.Column.{Column}
 use Rattle.ffv1_codec.specs.declared.fault.FrameFault.{FrameFault}
 use Rattle.ffv1_codec.specs.Runs.{Runs}
-use Rattle.ffv1_codec.specs.Places.{AreParts}
+use Rattle.ffv1_codec.specs.Internal.Places.{AreParts}
 use Rattle.ffv1_codec.specs.Order.{Event, column_events, hand_events, line_events}
 use Rattle.ffv1_codec.specs.Order.Event.{Finish, Hand}
 use Rattle.ffv1_codec.specs.Picture.{plane}
 use Rattle.ffv1_codec.specs.Decoding.{State, StepsBy, FaultsWith, unread}
-use Rattle.ffv1_codec.specs.Tied.{TiedColumns, PlanesRead, Stopped, AreTold}
-use Rattle.ffv1_codec.specs.Progress.{Handed, FaultsIn, RefusedIn, LineDecoded}
-use Rattle.ffv1_codec.specs.Finished.{Finished}
+use Rattle.ffv1_codec.specs.Internal.Tied.{TiedColumns, PlanesRead, Stopped, AreTold, row_slices}
+use Rattle.ffv1_codec.specs.Internal.Progress.{Handed, FaultsIn, RefusedIn, LineDecoded}
+use Rattle.ffv1_codec.specs.Internal.Finished.{Finished}
 use Rattle.ffv1_codec.proofs.RunsInRow.{runs_append, stops_later, stops_sooner}
 use Rattle.ffv1_codec.proofs.PlanesReads.{upto_all}
 use Rattle.ffv1_codec.proofs.LineEnds.{line_turned}
 
 -- a tie of the columns, in another state with the same slices
-pub tied_again : (a : Accepted) (coded : ℕ → List ℕ) (r next : ℕ) (payload : List ℕ) (columns : List Column) (states : List ℕ) (s t : State) → t.columns ≡ s.columns → TiedColumns a coded r next payload columns states s → TiedColumns a coded r next payload columns states t
+pub tied_again : (a : Accepted) (coded : ℕ → List ℕ) (r next : ℕ) (payload : List ℕ) (columns : List Column) (states : List ℕ) (s t : State) → t.columns ≡ s.columns → TiedColumns a coded r next payload (row_slices columns states) s → TiedColumns a coded r next payload (row_slices columns states) t
 tied_again a coded r next payload columns states s t same tied =
     let u : State = record t { columns = s.columns } in
-    let one : TiedColumns a coded r next payload columns states u = record { known = tied.known; each = tied.each } in
+    let one : TiedColumns a coded r next payload (row_slices columns states) u = record { known = tied.known; each = tied.each } in
     let is : u ≡ t = ap (λ z. record t { columns = z }) (sym same) in
-    subst (TiedColumns a coded r next payload columns states) is one
+    subst (TiedColumns a coded r next payload (row_slices columns states)) is one
 
 pub told_again : (a : Accepted) (columns : List Column) (s t : State) → t.columns ≡ s.columns → AreTold a.table columns s → AreTold a.table columns t
 told_again a columns s t same told =

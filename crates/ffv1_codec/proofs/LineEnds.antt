@@ -9,14 +9,15 @@ use Rattle.ffv1_record.specs.Configuration.{Configuration}
 use Rattle.ffv1_record.specs.Accepted.{Accepted}
 use Rattle.ffv1_line.specs.Cell.{Rolls, Above, cell_of, seen}
 use Rattle.ffv1_slice.specs.Grid.{division_of, across}
-use Rattle.ffv1_codec.specs.declared.column.Column.{Column}
+use Rattle.ffv1_codec.specs.declared.decode.column.Column.{Column}
 use Rattle.ffv1_codec.specs.Picture.{plane, plane_width}
 use Rattle.ffv1_codec.specs.SliceList.{bits_of}
-use Rattle.ffv1_codec.specs.Places.{AreParts}
+use Rattle.ffv1_codec.specs.Internal.Places.{AreParts}
 use Rattle.ffv1_codec.specs.Decoding.{State, slice_at, left_of, width_in, row_in, coded_line}
-use Rattle.ffv1_codec.specs.Stands.{window}
-use Rattle.ffv1_codec.specs.Tied.{TiedColumns, TiedLine, TiedPlanes, part_of}
-use Rattle.ffv1_codec.specs.Finished.{StandRead}
+use Rattle.ffv1_codec.specs.Internal.Stands.{window}
+use Rattle.ffv1_codec.specs.Internal.Tied.{TiedColumns, TiedLine, TiedPlanes, part_of}
+use Rattle.ffv1_codec.specs.Internal.Tied.{row_slices, rolling_lines, plane_group}
+use Rattle.ffv1_codec.specs.Internal.Finished.{StandRead}
 use Rattle.ffv1_codec.proofs.WrittenParts.{window_at, window_long}
 use Rattle.ffv1_codec.proofs.Ranges.{joined_more}
 use Rattle.ffv1_codec.proofs.SegmentTied.{small_both}
@@ -40,7 +41,7 @@ module _ (w y : ℕ) (samples two one : List ℕ) (rolls : Rolls w samples two o
       (λ i h. let h : i < w = omega (arith, h, rolls.one_long) in at_place i h ∙ sym (window_at (y * w) w samples i h))
 
 -- the samples of a line are those of its columns
-module _ (c : Configuration) (p offset y : ℕ) (two one cur : List ℕ) (s : State) (tied : TiedLine c p offset c.columns y two one cur s) (are : AreParts (across (division_of c) p)) where
+module _ (c : Configuration) (p offset y : ℕ) (two one cur : List ℕ) (s : State) (tied : TiedLine c p offset c.columns y (rolling_lines two one cur) s) (are : AreParts (across (division_of c) p)) where
   abbrev row_of : ℕ → List ℕ
   row_of k = row_in (width_in c p k) y (plane (slice_at s k).cells p)
 
@@ -60,7 +61,7 @@ module _ (c : Configuration) (p offset y : ℕ) (two one cur : List ℕ) (s : St
   pub whole_line : coded_line c s y p ≡ window offset (plane_width c p) cur
   whole_line = up_to c.columns (omega arith) ∙ ap (λ m. window offset m cur) are.last
 
-  pub line_turned : (any : List ℕ) (t : State) → ((k : ℕ) → plane (slice_at t k).cells p ≡ plane (slice_at s k).cells p) → TiedLine c p offset 0 (suc y) one cur any t
+  pub line_turned : (any : List ℕ) (t : State) → ((k : ℕ) → plane (slice_at t k).cells p ≡ plane (slice_at s k).cells p) → TiedLine c p offset 0 (suc y) (rolling_lines one cur any) t
   line_turned any t same = record {
     unread = λ k from h. subst (λ z. Rolls (width_in c p k) z (part_of c p offset k one) (part_of c p offset k cur) (suc y)) (sym (same k)) (tied.read k h h);
     read = λ k upto h. absurd (omega (arith, upto));
@@ -83,7 +84,7 @@ joined_small bound f (suc n) some each i =
     subst (λ z. slice_index z i < bound) (sym is)
     (small_both bound (flat_map f (range_with_len 0 n)) (f n) some (joined_small bound f n some (λ k h. each k (omega (arith, h)))) (λ k h. each n (omega arith) k) i)
 
-pub line_small : (a : Accepted) (coded : ℕ → List ℕ) (r next : ℕ) (payload : List ℕ) (columns : List Column) (states : List ℕ) (s : State) → TiedColumns a coded r next payload columns states s → 0 < a.configuration.columns →
+pub line_small : (a : Accepted) (coded : ℕ → List ℕ) (r next : ℕ) (payload : List ℕ) (columns : List Column) (states : List ℕ) (s : State) → TiedColumns a coded r next payload (row_slices columns states) s → 0 < a.configuration.columns →
     (p y i : ℕ) → slice_index (coded_line a.configuration s y p) i < 2 ^ bits_of a.configuration
 line_small a coded r next payload columns states s tied many p y i =
     let some : 0 < 2 ^ bits_of a.configuration = omega (arith, (tied.each 0 many).small p 0) in
@@ -91,8 +92,8 @@ line_small a coded r next payload columns states s tied many p y i =
     (λ k h j. row_small (2 ^ bits_of a.configuration) (width_in a.configuration p k) y (plane (slice_at s k).cells p) some ((tied.each k h).small p) j) i
 
 -- what was read stands in the line
-pub stand_read : (a : Accepted) (coded : ℕ → List ℕ) (r next : ℕ) (payload : List ℕ) (columns : List Column) (states two one cur : List ℕ) (first count y : ℕ) (s : State) → TiedColumns a coded r next payload columns states s → 0 < a.configuration.columns →
-    TiedPlanes a.configuration first count a.configuration.columns 0 y two one cur s → ((p : ℕ) → AreParts (across (division_of a.configuration) p)) → StandRead a.configuration first count y cur s
+pub stand_read : (a : Accepted) (coded : ℕ → List ℕ) (r next : ℕ) (payload : List ℕ) (columns : List Column) (states two one cur : List ℕ) (first count y : ℕ) (s : State) → TiedColumns a coded r next payload (row_slices columns states) s → 0 < a.configuration.columns →
+    TiedPlanes a.configuration (plane_group first count) a.configuration.columns 0 y (rolling_lines two one cur) s → ((p : ℕ) → AreParts (across (division_of a.configuration) p)) → StandRead a.configuration first count y cur s
 stand_read a coded r next payload columns states two one cur first count y s tied many planes parts = record {
   lines = λ i h. whole_line a.configuration (first + i) (i * a.configuration.width) y two one cur s (planes.todo i (omega arith) h) (parts (first + i));
   small = λ i x h. line_small a coded r next payload columns states s tied many (first + i) y x;

@@ -14,8 +14,8 @@ use Rattle.ffv1_slice.specs.Grid.{planes_in, factor_of, reduced}
 use Rattle.ffv1_codec.specs.Picture.{plane_count, plane_width, line_bytes, width_bytes, green_of, blue_of}
 use Rattle.ffv1_codec.specs.SliceList.{bits_of}
 use Rattle.ffv1_codec.specs.Decoding.{State, FinishesBy, IsColourless, HasPlace, coded_line}
-use Rattle.ffv1_codec.specs.Stands.{window}
-use Rattle.ffv1_codec.specs.Finished.{colouring_of, AreMade, HasBoth, IsFirstWithout, AreTogether, IsTogether, StandRead, Finished, line_at}
+use Rattle.ffv1_codec.specs.Internal.Stands.{window}
+use Rattle.ffv1_codec.specs.Internal.Finished.{colouring_of, AreMade, HasBoth, IsFirstWithout, AreTogether, IsTogether, StandRead, Finished, line_at}
 use Rattle.ffv1_codec.proofs.WrittenParts.{window_long}
 use Rattle.ffv1_codec.proofs.Sizes.{part_apart}
 use Rattle.ffv1_codec.proofs.FinishedLines.{window_front, colours_at, has_at}

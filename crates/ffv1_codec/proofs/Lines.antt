@@ -9,8 +9,8 @@ use Rattle.ffv1_samples.specs.Samples.{AreBelow, sample_bytes, samples_of}
 use Rattle.ffv1_record.specs.Configuration.{Configuration}
 use Rattle.ffv1_slice.specs.Grid.{Side, IsDivided, Division, IsDivision, slices_in, begin_of, length_of, whole_of, Lies, division_of, across, down}
 use Rattle.ffv1_codec.specs.Picture.{Planes, planes_of, plane, AreOf, AreInDepth, AreSamples, IsPicture}
-use Rattle.ffv1_codec.specs.CellRows.{IsLine}
-use Rattle.ffv1_codec.specs.Stands.{window}
+use Rattle.ffv1_codec.specs.Internal.CellRows.{IsLine}
+use Rattle.ffv1_codec.specs.Internal.Stands.{window}
 use Rattle.ffv1_codec.proofs.WrittenParts.{window_long}
 use Rattle.ffv1_codec.proofs.Words.{none_samples, window_samples, window_small, picture_small}
 

@@ -3,14 +3,14 @@ use Rattle.std.proofs.Common.{◌≡◌, refl, ℕ, zero, suc, ◌+◌, ◌-◌,
 use Rattle.std.specs.List.{range_with_len}
 use Rattle.ffv1_wire.specs.Runs.{LineStep, Line, Grows}
 use Rattle.ffv1_record.specs.Accepted.{Accepted}
-use Rattle.ffv1_codec.specs.declared.column.Column.{Column}
+use Rattle.ffv1_codec.specs.declared.decode.column.Column.{Column}
 use Rattle.ffv1_codec.specs.declared.fault.FrameFault.{FrameFault}
 use Rattle.ffv1_codec.specs.Runs.{Runs}
 use Rattle.ffv1_codec.specs.Order.{Event, numbered, hand_events}
 use Rattle.ffv1_codec.specs.Order.Event.{Hand}
 use Rattle.ffv1_codec.specs.Decoding.{State, StepsBy, top_of}
-use Rattle.ffv1_codec.specs.Tied.{AreTold}
-use Rattle.ffv1_codec.specs.Progress.{Handed, RefusedIn, sink_fault}
+use Rattle.ffv1_codec.specs.Internal.Tied.{AreTold}
+use Rattle.ffv1_codec.specs.Internal.Progress.{Handed, RefusedIn, sink_fault}
 use Rattle.ffv1_codec.proofs.RunsInRow.{runs_append, runs_one}
 
 abbrev pub hand_at : ℕ → ℕ → ℕ × ℕ → Event

@@ -8,7 +8,7 @@ use Rattle.ffv1_samples.specs.Samples.{sample_bytes}
 use Rattle.ffv1_slice.specs.Grid.{Division, across, down, whole_of}
 use Rattle.ffv1_codec.specs.Picture.{Planes, AreOf, planes_of, plane}
 use Rattle.ffv1_codec.specs.Decoding.{row_in}
-use Rattle.ffv1_codec.specs.Stands.{window}
+use Rattle.ffv1_codec.specs.Internal.Stands.{window}
 use Rattle.ffv1_codec.specs.Kept.{IsLine, with_samples, with_line}
 use Rattle.ffv1_codec.proofs.WrittenParts.{put_long, put_window, put_other}
 use Rattle.ffv1_codec.proofs.Sizes.{part_apart}

@@ -12,7 +12,7 @@ use Rattle.ffv1_codec.specs.declared.fault.FrameFault.{FrameFault}
 use Rattle.ffv1_codec.specs.SliceList.{said_by}
 use Rattle.ffv1_codec.specs.Order.{Event}
 use Rattle.ffv1_codec.specs.Order.Event.{Open, Read, Finish, Hand, Close}
-use Rattle.ffv1_codec.specs.Decoding.{State, StepsBy, FaultsWith, StopsAt, OverreadsAt, slice_at, slice_number, width_in, left_of, top_of, put_slice, opened, behind_line, behind_steps, decided_in, steps_of_line, steps_of_stop, coded_line, in_slice}
+use Rattle.ffv1_codec.specs.Decoding.{State, StepsBy, FaultsWith, StopsAt, OverreadsAt, slice_at, slice_number, width_in, left_of, top_of, put_slice, opened, after_line, after_steps, decided_in, steps_of_line, steps_of_stop, coded_line, in_slice}
 use Rattle.ffv1_codec.proofs.Machines.{OneEach}
 use Rattle.ffv1_codec.proofs.OneLine.{RowLaws, one_line, line_or_stop, one_stop}
 use Rattle.ffv1_codec.proofs.OneColour.{AreFew, one_finish, finish_or_colourless, one_colourless}
@@ -45,7 +45,7 @@ module _ (a : Accepted) (coded : ℕ → List ℕ) (laws : BytesLaws a coded) wh
       let q = slice_at s k in
       let width = width_in a.configuration p k in
       let same = one_line a coded (slice_number a.configuration r k) (laws.rows (slice_number a.configuration r k)) p width y (laws.wide p k kind) q f.0 g.0 f.1 g.1 f.2 g.2 in
-      let after : List ℤ → List ℕ → State = λ qs row. put_slice s k (behind_line q (steps_of_line a coded q p width y qs row) p row) in
+      let after : List ℤ → List ℕ → State = λ qs row. put_slice s k (after_line q (steps_of_line a coded q p width y qs row) p row) in
       f.3 ∙ ap (λ qs. after qs f.1) same.0 ∙ ap (after g.0) same.1 ∙ sym g.3
   step_same s x z (Finish r planes y) kind f g =
       let read = map (coded_line a.configuration s y) planes in
@@ -90,7 +90,7 @@ module _ (a : Accepted) (coded : ℕ → List ℕ) (laws : BytesLaws a coded) wh
         line = top_of a.configuration p r + y;
         x = left_of a.configuration p k + length qs;
       } in
-      let after : List ℤ → List ℕ → State = λ qs row. put_slice s k (behind_steps q (steps_of_stop a coded q p width y qs row)) in
+      let after : List ℤ → List ℕ → State = λ qs row. put_slice s k (after_steps q (steps_of_stop a coded q p width y qs row)) in
       (h.3 ∙ ap place same.0 ∙ sym j.3, h.4 ∙ ap (λ qs. after qs h.1) same.0 ∙ ap (after j.0) same.1 ∙ sym j.4)
 
   over_same : (s x z : State) (r k p y : ℕ) (f g : FrameFault) → k < a.configuration.columns → OverreadsAt a coded s r k p y f x → OverreadsAt a coded s r k p y g z → (f ≡ g) × (x ≡ z)
@@ -99,7 +99,7 @@ module _ (a : Accepted) (coded : ℕ → List ℕ) (laws : BytesLaws a coded) wh
       let q = slice_at s k in
       let width = width_in a.configuration p k in
       let same = one_line a coded n (laws.rows n) p width y (laws.wide p k kind) q h.0 j.0 h.1 j.1 h.2 j.2 in
-      let after : List ℤ → List ℕ → State = λ qs row. put_slice s k (behind_line q (steps_of_line a coded q p width y qs row) p row) in
+      let after : List ℤ → List ℕ → State = λ qs row. put_slice s k (after_line q (steps_of_line a coded q p width y qs row) p row) in
       (h.3 ∙ sym j.3, h.4 ∙ ap (λ qs. after qs h.1) same.0 ∙ ap (after j.0) same.1 ∙ sym j.4)
 
   stop_or_over : (s x z : State) (r k p y : ℕ) (f g : FrameFault) → k < a.configuration.columns → StopsAt a coded s r k p y f x → OverreadsAt a coded s r k p y g z → ⊥

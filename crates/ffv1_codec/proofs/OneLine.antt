@@ -10,6 +10,7 @@ use Rattle.ffv1_line.specs.Coded.{AreSame, CodesRow, RefusesRow}
 use Rattle.ffv1_record.specs.Accepted.{Accepted}
 use Rattle.ffv1_codec.specs.Picture.{plane}
 use Rattle.ffv1_codec.specs.Decoding.{Slice, ReadsLine, StopsInLine, cell_with}
+use Rattle.ffv1_line.specs.Coding.{coding_by}
 
 -- the laws of rows, and of the rows above them
 pub record RowLaws (bytes : List ℕ) (t : Table) : Type 0 where
@@ -17,13 +18,13 @@ pub record RowLaws (bytes : List ℕ) (t : Table) : Type 0 where
   pub rolls : (width n : ℕ) (samples two one cur : List ℕ) → length cur ≡ width → Rolls width samples two one n → Rolls width (samples ++ cur) one cur (n + 1)
   pub one : (base : ℕ) (past : List Step) (set : Set) (bits : ℕ) (c d : Cell) (y z : ℕ) (two one : List ℕ) (ps qs : List ℤ) →
       0 < length one → Above c y two one → Above d z two one → length ps ≡ length qs →
-      CodesRow bytes t base past set bits c y ps → CodesRow bytes t base past set bits d z qs → (ps ≡ qs) × AreSame c y d z (length ps)
+      CodesRow bytes (coding_by t set bits) base past c y ps → CodesRow bytes (coding_by t set bits) base past d z qs → (ps ≡ qs) × AreSame c y d z (length ps)
   pub whole_or_refused : (base : ℕ) (past : List Step) (set : Set) (bits : ℕ) (c d : Cell) (y z : ℕ) (two one : List ℕ) (ps qs : List ℤ) →
       0 < length one → Above c y two one → Above d z two one → length qs < length ps →
-      CodesRow bytes t base past set bits c y ps → RefusesRow bytes t base past set bits d z qs → ⊥
+      CodesRow bytes (coding_by t set bits) base past c y ps → RefusesRow bytes (coding_by t set bits) base past d z qs → ⊥
   pub one_refusal : (base : ℕ) (past : List Step) (set : Set) (bits : ℕ) (c d : Cell) (y z : ℕ) (two one : List ℕ) (ps qs : List ℤ) →
       0 < length one → Above c y two one → Above d z two one →
-      RefusesRow bytes t base past set bits c y ps → RefusesRow bytes t base past set bits d z qs → (ps ≡ qs) × AreSame c y d z (length ps)
+      RefusesRow bytes (coding_by t set bits) base past c y ps → RefusesRow bytes (coding_by t set bits) base past d z qs → (ps ≡ qs) × AreSame c y d z (length ps)
 
 -- the samples so far, and the rows two and one above the next row
 pub record Rolled (width n : ℕ) (samples : List ℕ) : Type 0 where

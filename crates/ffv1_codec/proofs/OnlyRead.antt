@@ -27,6 +27,7 @@ use Rattle.ffv1_codec.proofs.Keys.{rows_of_lines}
 use Rattle.ffv1_codec.proofs.SlicesMade.{IsLineOf, lines_are_of, column_inside}
 use Rattle.ffv1_codec.proofs.FromCoded.{lines_alike}
 use Rattle.ffv1_codec.proofs.PlanesMade.{rows_in, row_if, counted}
+use Rattle.ffv1_line.specs.Coding.{coding_by}
 
 -- the laws of rows
 pub record OnlyLaws (a : Accepted) (bytes : List ℕ) : Type 0 where
@@ -34,7 +35,7 @@ pub record OnlyLaws (a : Accepted) (bytes : List ℕ) : Type 0 where
   pub next : (c : Cell) (y : ℕ) (two one cur : List ℕ) → Above c y two one → length cur ≡ c.width → Shows c (y + 2) cur c.width → Above c (y + 1) one cur
   pub one : (base : ℕ) (past : List Step) (set : Set) (bits : ℕ) (c d : Cell) (y z : ℕ) (two one : List ℕ) (ps qs : List ℤ) →
       0 < length one → Above c y two one → Above d z two one → length ps ≡ length qs →
-      CodesRow bytes a.table base past set bits c y ps → CodesRow bytes a.table base past set bits d z qs → (ps ≡ qs) × AreSame c y d z (length ps)
+      CodesRow bytes (coding_by a.table set bits) base past c y ps → CodesRow bytes (coding_by a.table set bits) base past d z qs → (ps ≡ qs) × AreSame c y d z (length ps)
   pub steps : (set : Set) (c d : Cell) (y x : ℕ) (qs : List ℤ) → Agree c d y → row_steps set c y x qs ≡ row_steps set d y x qs
   pub front : (xs ys : List Step) → Codes bytes (decisions_after a.table [] (xs ++ ys)) → Codes bytes (decisions_after a.table [] xs)
 
@@ -135,7 +136,7 @@ module _ (a : Accepted) (bytes : List ℕ) (laws : OnlyLaws a bytes) where
       pub steps : line_steps conf h c (record { plane = p; y = y }) qs ≡ line_steps conf h d (record { plane = p; y = y }) ps
 
     line_same : (past : List Step) (p y : ℕ) (qs ps : List ℤ) → AgreeAbove (c p) (d p) y → length qs ≡ (c p).width → length ps ≡ (d p).width →
-        CodesRow bytes a.table (base_of conf p) past (set_in conf h p) (bits_of conf) (c p) y qs → CodesRow bytes a.table (base_of conf p) past (set_in conf h p) (bits_of conf) (d p) y ps → LineSame past p y qs ps
+        CodesRow bytes (coding_by a.table (set_in conf h p) (bits_of conf)) (base_of conf p) past (c p) y qs → CodesRow bytes (coding_by a.table (set_in conf h p) (bits_of conf)) (base_of conf p) past (d p) y ps → LineSame past p y qs ps
     line_same past p y qs ps agree long other f g =
         let above = both_above (c p) (d p) y agree in
         let any : 0 < length above.one = rw above.first.wide (some p) in

@@ -17,13 +17,13 @@ use Rattle.ffv1_slice.specs.declared.fault.SliceFault.{SliceFault}
 use Rattle.ffv1_slice.specs.declared.fault.SliceFault.TheVariants as slice
 use Rattle.ffv1_slice.specs.Head.{CodesHead, RefusesHead, RefusesKey, IsThird, key_steps, head_steps, head_values, values_steps, no_key}
 use Rattle.ffv1_slice.specs.Coding.{ReadsAt, FindsHead, StopsInHead}
-use Rattle.ffv1_codec.specs.declared.column.Column.{Column}
+use Rattle.ffv1_codec.specs.declared.decode.column.Column.{Column}
 use Rattle.ffv1_codec.specs.declared.fault.CodecFault.{CodecFault}
 use Rattle.ffv1_codec.specs.declared.fault.CodecFault.TheVariants as fault
 use Rattle.ffv1_codec.specs.SliceList.{Said, said_by}
 use Rattle.ffv1_codec.specs.Decoding.{AgreesWith, of_slice}
-use Rattle.ffv1_codec.specs.Stands.{Stands, told_by, tally_behind, window}
-use Rattle.ffv1_codec.specs.Opened.{Begun, HeadRead, HeadRefused, IsCutOf, ColumnOpened, ColumnRefused, coded_by}
+use Rattle.ffv1_codec.specs.Internal.Stands.{Stands, told_by, tally_after, window}
+use Rattle.ffv1_codec.specs.Internal.Opened.{Begun, HeadRead, HeadRefused, IsCutOf, ColumnOpened, ColumnRefused, coded_by}
 use Rattle.ffv1_codec.proofs.SegmentReads.{Telling, tells}
 use Rattle.ffv1_codec.specs.Overread.{IsWithin, IsOverread}
 
@@ -170,7 +170,7 @@ module _ (a : Accepted) (payload : List ℕ) (cut : Cut) (n begin end : ℕ) (is
       counted = begun.counted;
     }
 
-    told_after : Telling → (steps : List Step) → Begun a old new steps → told_by (Some (paused new)) ≡ tally_behind a.table steps
+    told_after : Telling → (steps : List Step) → Begun a old new steps → told_by (Some (paused new)) ≡ tally_after a.table steps
     told_after telling steps begun =
         tells telling (coded_by a payload cut n) a.table (paused new) steps (subst (λ b. At (resumed (paused new) b) (interval_of (decisions_after a.table [] steps))) (begun.bytes ∙ coded_is) begun.at) begun.counted
 
@@ -206,7 +206,7 @@ module _ (a : Accepted) (payload : List ℕ) (cut : Cut) (n begin end : ℕ) (is
       told = ap told_by parked ∙ told_after telling (key_steps n ++ head_steps a.configuration n h) read.begun;
     }
 
-    pub head_told : Telling → (h : SliceHead) → HeadRead a n old new h → told_by (Some (paused new)) ≡ tally_behind a.table (key_steps n ++ head_steps a.configuration n h)
+    pub head_told : Telling → (h : SliceHead) → HeadRead a n old new h → told_by (Some (paused new)) ≡ tally_after a.table (key_steps n ++ head_steps a.configuration n h)
     head_told telling h read = told_after telling (key_steps n ++ head_steps a.configuration n h) read.begun
 
     pub column_overread : Telling → (column : Column) (h : SliceHead) (before : Option Said) → column.parked ≡ Some (paused new) → HeadRead a n old new h → IsOverread a bytes (key_steps n ++ head_steps a.configuration n h) →

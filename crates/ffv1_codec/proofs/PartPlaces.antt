@@ -1,7 +1,7 @@
 -- Where the parts of a side lie.
 use Rattle.std.proofs.Common.{◌≡◌, ℕ, zero, suc, ◌+◌, ◌-◌, ◌<◌, ◌≤◌, sym, subst, arith}
 use Rattle.ffv1_slice.specs.Grid.{Side, begin_of, length_of}
-use Rattle.ffv1_codec.specs.Places.{AreParts}
+use Rattle.ffv1_codec.specs.Internal.Places.{AreParts}
 
 module _ (s : Side) (are : AreParts s) where
   rises_by : (d k : ℕ) → k + d ≤ s.count → begin_of s k ≤ begin_of s (k + d)

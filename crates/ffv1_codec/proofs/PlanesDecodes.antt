@@ -4,13 +4,13 @@ use Rattle.std.specs.List.{flat_map, range_with_len}
 use Rattle.ffv1_wire.specs.Runs.{LineStep}
 use Rattle.ffv1_record.specs.Configuration.{Configuration, is_rct}
 use Rattle.ffv1_record.specs.Accepted.{Accepted}
-use Rattle.ffv1_codec.specs.declared.column.Column.{Column}
+use Rattle.ffv1_codec.specs.declared.decode.column.Column.{Column}
 use Rattle.ffv1_codec.specs.declared.fault.FrameFault.{FrameFault}
 use Rattle.ffv1_codec.specs.Picture.{plane_count}
 use Rattle.ffv1_codec.specs.Runs.{Runs}
 use Rattle.ffv1_codec.specs.Order.{Event, Series, series_of, series_events, lines_down}
 use Rattle.ffv1_codec.specs.Decoding.{State, StepsBy}
-use Rattle.ffv1_codec.specs.Progress.{Decoded, SeriesDecoded, FailsIn, series_at}
+use Rattle.ffv1_codec.specs.Internal.Progress.{Decoded, SeriesDecoded, FailsIn, series_at}
 use Rattle.ffv1_codec.proofs.Ranges.{joined_more, rest_of}
 use Rattle.ffv1_codec.proofs.RunsInRow.{runs_append}
 use Rattle.ffv1_codec.proofs.SeriesDecodes.{fails_sooner, fails_later}

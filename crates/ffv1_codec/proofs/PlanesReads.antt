@@ -6,16 +6,17 @@ use Rattle.ffv1_record.specs.Configuration.{Configuration}
 use Rattle.ffv1_record.specs.Accepted.{Accepted}
 use Rattle.ffv1_line.specs.Cell.{Rolls}
 use Rattle.ffv1_slice.specs.Grid.{division_of, across}
-use Rattle.ffv1_codec.specs.declared.column.Column.{Column}
+use Rattle.ffv1_codec.specs.declared.decode.column.Column.{Column}
 use Rattle.ffv1_codec.specs.declared.fault.FrameFault.{FrameFault}
 use Rattle.ffv1_codec.specs.Picture.{plane}
 use Rattle.ffv1_codec.specs.Runs.{Runs, Stops}
-use Rattle.ffv1_codec.specs.Places.{AreParts}
+use Rattle.ffv1_codec.specs.Internal.Places.{AreParts}
 use Rattle.ffv1_codec.specs.Order.{Event, column_events}
 use Rattle.ffv1_codec.specs.Order.Event.{Read}
 use Rattle.ffv1_codec.specs.Decoding.{State, StepsBy, FaultsWith, slice_at, left_of, width_in}
-use Rattle.ffv1_codec.specs.Stands.{window}
-use Rattle.ffv1_codec.specs.Tied.{TiedColumns, TiedLine, TiedPlanes, StepMade, PlanesRead, Stopped, reads_upto, part_of}
+use Rattle.ffv1_codec.specs.Internal.Stands.{window}
+use Rattle.ffv1_codec.specs.Internal.Tied.{TiedColumns, TiedLine, TiedPlanes, StepMade, PlanesRead, Stopped, reads_upto, part_of}
+use Rattle.ffv1_codec.specs.Internal.Tied.{row_slices, rolling_lines, plane_group}
 use Rattle.ffv1_codec.proofs.Sizes.{part_apart}
 use Rattle.ffv1_codec.proofs.PartPlaces.{inside}
 use Rattle.ffv1_codec.proofs.Ranges.{mapped_more, joined_more, rest_of, mapped_rest}
@@ -24,7 +25,7 @@ use Rattle.ffv1_codec.proofs.RunsInRow.{runs_append, runs_one, stops_later, stop
 -- what is read of one plane leaves the line of another
 pub line_other : (c : Configuration) (p offset n y : ℕ) (two one cur new : List ℕ) (s t : State) →
     ((k : ℕ) → plane (slice_at t k).cells p ≡ plane (slice_at s k).cells p) → ((k : ℕ) → k < c.columns → part_of c p offset k new ≡ part_of c p offset k cur) →
-    TiedLine c p offset n y two one cur s → TiedLine c p offset n y two one new t
+    TiedLine c p offset n y (rolling_lines two one cur) s → TiedLine c p offset n y (rolling_lines two one new) t
 line_other c p offset n y two one cur new s t cells parts tied = record {
   unread = λ k from h. subst (λ z. Rolls (width_in c p k) z (part_of c p offset k two) (part_of c p offset k one) y) (sym (cells k)) (tied.unread k from h);
   read = λ k upto h.
@@ -65,7 +66,7 @@ module _ (a : Accepted) (coded : ℕ → List ℕ) (r next : ℕ) (payload : Lis
       }
 
   module _ (s : State) (two one : List ℕ) where
-    pub none_read : (columns : List Column) (states cur : List ℕ) → TiedColumns a coded r next payload columns states s → TiedPlanes a.configuration first count 0 0 y two one cur s →
+    pub none_read : (columns : List Column) (states cur : List ℕ) → TiedColumns a coded r next payload (row_slices columns states) s → TiedPlanes a.configuration (plane_group first count) 0 0 y (rolling_lines two one cur) s →
         PlanesRead a coded r next payload first count y 0 0 columns states two one cur s
     none_read columns states cur tied planes = record { state = s; runs = refl; columns_are = tied; planes_are = planes; same = refl }
 
@@ -79,7 +80,7 @@ module _ (a : Accepted) (coded : ℕ → List ℕ) (r next : ℕ) (payload : Lis
         let m = before.state in
         let t = made.state in
         let w = a.configuration.width in
-        let other : (j n : ℕ) → j ≢ i → j < count → TiedLine a.configuration (first + j) (j * w) n y two one cur m → TiedLine a.configuration (first + j) (j * w) n y two one line t =
+        let other : (j n : ℕ) → j ≢ i → j < count → TiedLine a.configuration (first + j) (j * w) n y (rolling_lines two one cur) m → TiedLine a.configuration (first + j) (j * w) n y (rolling_lines two one line) t =
         λ j n apart less tied.
         let place = part_apart j count w less in
         let ps : first + j ≢ first + i = omega (arith, apart) in
@@ -99,7 +100,7 @@ module _ (a : Accepted) (coded : ℕ → List ℕ) (r next : ℕ) (payload : Lis
           columns_are = made.columns_are;
           planes_are = record {
             done = λ j less. elim (cases_eq j i) [
-              | inl here ↦ subst (λ z. TiedLine a.configuration (first + z) (z * w) (suc k) y two one line t) (sym here) made.line_is
+              | inl here ↦ subst (λ z. TiedLine a.configuration (first + z) (z * w) (suc k) y (rolling_lines two one line) t) (sym here) made.line_is
               | inr apart ↦ other j (suc k) apart (omega (arith, less, few)) (before.planes_are.done j (omega (arith, less, apart)))
             ];
             todo = λ j from less. let apart : j ≢ i = omega (arith, from) in other j k apart less (before.planes_are.todo j (omega (arith, from)) less);

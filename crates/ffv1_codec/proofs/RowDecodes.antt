@@ -4,18 +4,18 @@ use Rattle.std.specs.List.{flat_map, range_with_len}
 use Rattle.std.proofs.lemmas.List.{take-replicate, drop-replicate, length-replicate}
 use Rattle.ffv1_wire.specs.Runs.{LineStep, Grows}
 use Rattle.ffv1_record.specs.Accepted.{Accepted}
-use Rattle.ffv1_codec.specs.declared.column.Column.{Column}
+use Rattle.ffv1_codec.specs.declared.decode.column.Column.{Column}
 use Rattle.ffv1_codec.specs.declared.fault.FrameFault.{FrameFault}
 use Rattle.ffv1_codec.specs.Picture.{plane, plane_count}
 use Rattle.ffv1_codec.specs.SliceList.{Said, bits_of}
 use Rattle.ffv1_codec.specs.Order.{Event, series_of, series_events}
 use Rattle.ffv1_codec.specs.Order.Event.{Open}
 use Rattle.ffv1_codec.specs.Decoding.{State, Slice, StepsBy, FaultsWith, slice_at, slice_number}
-use Rattle.ffv1_codec.specs.Stands.{Stands, window}
-use Rattle.ffv1_codec.specs.Tied.{TiedColumns, column_at, slots_in}
-use Rattle.ffv1_codec.specs.Progress.{Decoded, FailsIn}
-use Rattle.ffv1_codec.specs.Opened.{IsOpened, RowOpened, RowRefused}
-use Rattle.ffv1_codec.specs.Rows.{RowDecoded, open_events}
+use Rattle.ffv1_codec.specs.Internal.Stands.{Stands, window}
+use Rattle.ffv1_codec.specs.Internal.Tied.{TiedColumns, column_at, slots_in, row_slices}
+use Rattle.ffv1_codec.specs.Internal.Progress.{Decoded, FailsIn}
+use Rattle.ffv1_codec.specs.Internal.Opened.{IsOpened, RowOpened, RowRefused, row_heads}
+use Rattle.ffv1_codec.specs.Internal.Rows.{RowDecoded, open_events}
 use Rattle.ffv1_codec.proofs.Sizes.{part_apart}
 use Rattle.ffv1_codec.proofs.ByNumber.{plane_is}
 use Rattle.ffv1_codec.proofs.RunsInRow.{runs_append, stops_sooner}
@@ -34,9 +34,9 @@ empty_plane n p = plane_is (replicate n []) p ∙ empty_at n p
 fresh_window : (at w m : ℕ) → at + w ≤ m → window at w (replicate {A = ℕ} m 128) ≡ replicate w 128
 fresh_window at w m fits = ap (take w) (drop-replicate at m 128) ∙ take-replicate w (m - at) 128 (omega (arith, fits))
 
-module _ (a : Accepted) (coded : ℕ → List ℕ) (payload : List ℕ) (r : ℕ) (columns : List Column) (first : Option Said) (s : State) (opened : RowOpened a coded payload r a.configuration.columns columns first s)
+module _ (a : Accepted) (coded : ℕ → List ℕ) (payload : List ℕ) (r : ℕ) (columns : List Column) (first : Option Said) (s : State) (opened : RowOpened a coded payload r a.configuration.columns (row_heads columns first) s)
     (long : length columns ≡ a.configuration.columns) where
-  pub opened_tied : (states : List ℕ) (m : ℕ) → states ≡ replicate m 128 → m ≡ a.configuration.columns * slots_in a.configuration → 0 < 2 ^ bits_of a.configuration → TiedColumns a coded r 0 payload columns states opened.state
+  pub opened_tied : (states : List ℕ) (m : ℕ) → states ≡ replicate m 128 → m ≡ a.configuration.columns * slots_in a.configuration → 0 < 2 ^ bits_of a.configuration → TiedColumns a coded r 0 payload (row_slices columns states) opened.state
   opened_tied states m is m_is some = record {
     known = opened.told.long ∙ long;
     each = λ k h.
@@ -72,7 +72,7 @@ module _ {S : Type 0} (takes refuses : LineStep S) (a : Accepted) (coded : ℕ �
     grows = subst (λ z. Grows takes initial z now) (sym refused.lines) grows;
   })
 
-  module _ (first : Option Said) (columns : List Column) (opened : RowOpened a coded payload r a.configuration.columns columns first s) where
+  module _ (first : Option Said) (columns : List Column) (opened : RowOpened a coded payload r a.configuration.columns (row_heads columns first) s) where
     pub opened_grows : (now : S) → Grows takes initial s.lines now → Grows takes initial opened.state.lines now
     opened_grows now grows = subst (λ (z : State). Grows takes initial z.lines now) (sym opened.same) grows
 

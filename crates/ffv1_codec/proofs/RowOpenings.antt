@@ -3,15 +3,16 @@ use Rattle.std.proofs.Common.{◌≡◌, ◌≢◌, refl, ℕ, suc, ◌+◌, ◌
 use Rattle.std.specs.List.{range_with_len}
 use Rattle.std.proofs.lemmas.Bool.{cases_eq}
 use Rattle.ffv1_record.specs.Accepted.{Accepted}
-use Rattle.ffv1_codec.specs.declared.column.Column.{Column}
+use Rattle.ffv1_codec.specs.declared.decode.column.Column.{Column}
 use Rattle.ffv1_codec.specs.declared.fault.CodecFault.{CodecFault}
 use Rattle.ffv1_codec.specs.SliceList.{Said, said_by}
 use Rattle.ffv1_codec.specs.Runs.{Runs, Stops}
 use Rattle.ffv1_codec.specs.Order.Event.{Open}
 use Rattle.ffv1_codec.specs.Decoding.{State, Slice, AgreesWith, StepsBy, FaultsWith, RefusesOpen, slice_at, slice_number, put_slice, opened, decided_in, unread, in_slice}
-use Rattle.ffv1_codec.specs.Stands.{Stands, told_by, tally_behind}
-use Rattle.ffv1_codec.specs.Tied.{AreTold, column_at, no_column, bytes_in}
-use Rattle.ffv1_codec.specs.Opened.{ColumnOpened, ColumnRefused, IsOpened, RowOpened, RowRefused}
+use Rattle.ffv1_codec.specs.Internal.Stands.{Stands, told_by, tally_after}
+use Rattle.ffv1_codec.specs.Internal.Tied.{AreTold, column_at, no_column, bytes_in}
+use Rattle.ffv1_codec.specs.Internal.Opened.{ColumnOpened, ColumnRefused, IsOpened, RowOpened, RowRefused}
+use Rattle.ffv1_codec.specs.Internal.Opened.{row_heads}
 use Rattle.ffv1_codec.proofs.SegmentReads.{Telling, stands_tells}
 use Rattle.ffv1_codec.proofs.SegmentTied.{slice_now, slice_other}
 use Rattle.ffv1_codec.proofs.Ranges.{mapped_more, mapped_rest}
@@ -20,20 +21,20 @@ use Rattle.ffv1_codec.proofs.RunsInRow.{runs_append, runs_one, stops_later, stop
 module _ (a : Accepted) (coded : ℕ → List ℕ) (payload : List ℕ) (r : ℕ) (s : State) where
   pub none_opened : (columns : List Column) (first : Option Said) → length s.columns ≡ a.configuration.columns → length columns ≡ a.configuration.columns →
       ((k : ℕ) → k < a.configuration.columns → slice_at s k ≡ unread) → ((k : ℕ) → k < length columns → (column_at columns k).parked ≡ None) → s.info ≡ first →
-      RowOpened a coded payload r 0 columns first s
+      RowOpened a coded payload r 0 (row_heads columns first) s
   none_opened columns first known long fresh closed says = record {
     state = s;
     runs = refl;
     same = ap (λ z. record s { info = z }) says;
     told = record {
       long = known ∙ sym long;
-      each = λ k h. ap told_by (closed k h) ∙ ap (λ (z : Slice). tally_behind a.table z.past) (sym (fresh k (omega (arith, h, long))));
+      each = λ k h. ap told_by (closed k h) ∙ ap (λ (z : Slice). tally_after a.table z.past) (sym (fresh k (omega (arith, h, long))));
     };
     each = λ k h. absurd (omega (arith, h));
     later = λ k from h. fresh k h;
   }
 
-  module _ (n : ℕ) (columns : List Column) (first : Option Said) (column : Column) (before : RowOpened a coded payload r n columns first s) (inside : n < a.configuration.columns) (long : length columns ≡ a.configuration.columns) where
+  module _ (n : ℕ) (columns : List Column) (first : Option Said) (column : Column) (before : RowOpened a coded payload r n (row_heads columns first) s) (inside : n < a.configuration.columns) (long : length columns ≡ a.configuration.columns) where
     known : length before.state.columns ≡ a.configuration.columns
     known = before.told.long ∙ long
 
@@ -47,23 +48,23 @@ module _ (a : Accepted) (coded : ℕ → List ℕ) (payload : List ℕ) (r : ℕ
     column_other j other = get_or-set_other columns n j column no_column other
 
     -- what is counted when the slice of this column becomes another one
-    told_with : (m : State) → m.columns ≡ before.state.columns → (q : Slice) → told_by column.parked ≡ tally_behind a.table q.past → AreTold a.table (slice_set columns n column) (put_slice m n q)
+    told_with : (m : State) → m.columns ≡ before.state.columns → (q : Slice) → told_by column.parked ≡ tally_after a.table q.past → AreTold a.table (slice_set columns n column) (put_slice m n q)
     told_with m same q here = record {
       long = length-set m.columns n q ∙ ap (λ (z : List Slice). length z) same ∙ before.told.long ∙ sym (length-set columns n column);
       each = λ j h. elim (cases_eq j n) [
         | inl at ↦
             let few : n < length m.columns = omega (arith, inside, known, ap (λ (z : List Slice). length z) same) in
-            let one : told_by (column_at (slice_set columns n column) n).parked ≡ tally_behind a.table (slice_at (put_slice m n q) n).past =
-            ap (λ (z : Column). told_by z.parked) column_now ∙ here ∙ ap (λ (z : Slice). tally_behind a.table z.past) (sym (slice_now m n q few)) in
-            subst (λ z. told_by (column_at (slice_set columns n column) z).parked ≡ tally_behind a.table (slice_at (put_slice m n q) z).past) (sym at) one
+            let one : told_by (column_at (slice_set columns n column) n).parked ≡ tally_after a.table (slice_at (put_slice m n q) n).past =
+            ap (λ (z : Column). told_by z.parked) column_now ∙ here ∙ ap (λ (z : Slice). tally_after a.table z.past) (sym (slice_now m n q few)) in
+            subst (λ z. told_by (column_at (slice_set columns n column) z).parked ≡ tally_after a.table (slice_at (put_slice m n q) z).past) (sym at) one
         | inr other ↦
             let same_slice : slice_at m j ≡ slice_at before.state j = ap (λ (z : List Slice). get_or z j unread) same in
             ap (λ (z : Column). told_by z.parked) (column_other j other) ∙ before.told.each j (omega (arith, h, length-set columns n column))
-            ∙ ap (λ (z : Slice). tally_behind a.table z.past) (sym (slice_other m n j q other ∙ same_slice))
+            ∙ ap (λ (z : Slice). tally_after a.table z.past) (sym (slice_other m n j q other ∙ same_slice))
       ];
     }
 
-    pub one_opened : Telling → (new : Option Said) → ColumnOpened a coded payload (slice_number a.configuration r n) column first new → RowOpened a coded payload r (suc n) (slice_set columns n column) new s
+    pub one_opened : Telling → (new : Option Said) → ColumnOpened a coded payload (slice_number a.configuration r n) column first new → RowOpened a coded payload r (suc n) (row_heads (slice_set columns n column) new) s
     one_opened telling new made =
         let num = slice_number a.configuration r n in
         let m : State = record before.state { info = Some (said_by a.profile made.head) } in

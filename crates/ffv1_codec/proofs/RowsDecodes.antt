@@ -8,7 +8,7 @@ use Rattle.ffv1_range.specs.Table.{Table}
 use Rattle.ffv1_range.specs.Symbols.{Step}
 use Rattle.ffv1_range.specs.Counts.{ones_in, zeros_in}
 use Rattle.ffv1_record.specs.Accepted.{Accepted}
-use Rattle.ffv1_codec.specs.declared.column.Column.{Column}
+use Rattle.ffv1_codec.specs.declared.decode.column.Column.{Column}
 use Rattle.ffv1_codec.specs.declared.fault.FrameFault.{FrameFault}
 use Rattle.ffv1_codec.specs.SliceList.{Said}
 use Rattle.ffv1_codec.specs.Runs.{Runs, Stops}
@@ -16,10 +16,10 @@ use Rattle.ffv1_codec.specs.Order.{Event, row_events, events_of, series_of, seri
 use Rattle.ffv1_codec.specs.Order.Event.{Open, Hand, Close}
 use Rattle.ffv1_codec.specs.Decoding.{State, Slice, StepsBy, FaultsWith, at_first, unread}
 use Rattle.ffv1_codec.specs.Answer.{Ends, Faults, SinkRefuses, HasDecided, no_tally}
-use Rattle.ffv1_codec.specs.Tied.{AreTold}
-use Rattle.ffv1_codec.specs.Progress.{FailsIn}
-use Rattle.ffv1_codec.specs.Tallies.{tally_over}
-use Rattle.ffv1_codec.specs.Rows.{IsBetween, RowDecoded, RowsDecoded, open_events}
+use Rattle.ffv1_codec.specs.Internal.Tied.{AreTold}
+use Rattle.ffv1_codec.specs.Internal.Progress.{FailsIn}
+use Rattle.ffv1_codec.specs.Internal.Tallies.{tally_over}
+use Rattle.ffv1_codec.specs.Internal.Rows.{IsBetween, RowDecoded, RowsDecoded, open_events}
 use Rattle.ffv1_codec.proofs.Ranges.{joined_more, rest_of}
 use Rattle.ffv1_codec.proofs.RunsInRow.{runs_append, runs_one, stops_later}
 use Rattle.ffv1_codec.proofs.SeriesDecodes.{fails_sooner}

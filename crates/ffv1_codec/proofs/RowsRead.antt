@@ -15,7 +15,7 @@ use Rattle.ffv1_codec.specs.Order.{Event, column_events, hand_events, numbered}
 use Rattle.ffv1_codec.specs.Order.Event.{Open, Read, Finish, Hand, Close}
 use Rattle.ffv1_codec.specs.Runs.{Runs}
 use Rattle.ffv1_codec.specs.Lines.{line_in}
-use Rattle.ffv1_codec.specs.Decoding.{State, Slice, StepsBy, slice_at, slice_number, width_in, top_of, put_slice, behind_line, steps_of_line, unread}
+use Rattle.ffv1_codec.specs.Decoding.{State, Slice, StepsBy, slice_at, slice_number, width_in, top_of, put_slice, after_line, steps_of_line, unread}
 use Rattle.ffv1_codec.proofs.Machines.{each_right, Each, each_range, each_map, runs_append}
 use Rattle.ffv1_codec.proofs.LinesRead.{reads_of, lines_at, columns_read}
 use Rattle.ffv1_codec.proofs.Groups.{Group, IsGroup, group_events, group_lines, group_out}
@@ -70,7 +70,7 @@ module _ (a : Accepted) (coded : ℕ → List ℕ) (planes : Planes) (info : Sai
         ap (λ b. ((if b then record { plane = p; y = y } ∷ [] else []) ++ reads_of i es) ++ more i) (eq-eqb i i refl) in
         let stands = subst (λ ls. StandsBefore a coded planes r i mine.head mine.body ls q) lines mine.stands in
         let go = goes a coded planes r i laws (front i inside) (λ p. some p i inside) mine.head mine.body p y (reads_of i es ++ more i) q mine.coding few stands in
-        let next = behind_line q (steps_of_line a coded q p (width_in c p i) y go.qs go.row) p go.row in
+        let next = after_line q (steps_of_line a coded q p (width_in c p i) y go.qs go.row) p go.row in
         let place : i < length s.columns = rw long inside in
         let m = put_slice s i next in
         record {

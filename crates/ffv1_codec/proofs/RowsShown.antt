@@ -9,7 +9,7 @@ use Rattle.ffv1_record.specs.declared.config.Colour.{Colour}
 use Rattle.ffv1_record.specs.declared.config.Colour.TheVariants as colour
 use Rattle.ffv1_slice.specs.Grid.{begin_of, length_of, division_of, across, down}
 use Rattle.ffv1_codec.specs.Picture.{Planes, green_of, blue_of, sample_at, coded_at, transformed_at, cell_in}
-use Rattle.ffv1_codec.specs.CellRows.{IsLine}
+use Rattle.ffv1_codec.specs.Internal.CellRows.{IsLine}
 
 -- inside a cell the sample that is seen is the cell's
 pub shows_cell : (c : Cell) (y : ℕ) (row : List ℕ) → ((x : ℕ) → x < c.width → get_or row x 0 ≡ c.at x y) → Shows c (suc (suc y)) row c.width

@@ -16,10 +16,13 @@ use Rattle.ffv1_plane.specs.Context.{size_of}
 use Rattle.ffv1_line.specs.Cell.{Cell, Above, Shows, BeginsWith, Rolls, cell_of, seen, around}
 use Rattle.ffv1_line.specs.Row.{row_steps, refused_steps}
 use Rattle.ffv1_line.specs.Coded.{refused_row_steps}
-use Rattle.ffv1_line.specs.Decoded.{Lined, Refused}
+use Rattle.ffv1_line.specs.Decoded.{Lined, LinedToRefusal}
 use Rattle.ffv1_codec.proofs.Sizes.{part_apart}
 use Rattle.ffv1_codec.proofs.WrittenParts.{put}
-use Rattle.ffv1_codec.specs.Stands.{Stands, SegmentRead, SegmentRefused, window, told_by, tally_behind}
+use Rattle.ffv1_codec.specs.Internal.Stands.{Stands, SegmentRead, SegmentRefused, window, told_by, tally_after}
+use Rattle.ffv1_line.specs.Coding.{coding_by}
+use Rattle.ffv1_line.specs.Coder.{decoder_by}
+use Rattle.ffv1_line.specs.Above.{rows_above}
 
 -- the laws of lists of decisions, and of their slots
 pub record Laws : Type 0 where
@@ -49,8 +52,8 @@ pub record Laws : Type 0 where
   pub below_long : AreBelow too_long 32
   pub below_shifted : (base count : ℕ) (steps : List Step) → AreBelow steps count →
       AreBelow (shifted base steps) (base + count)
-  pub below_more : (steps : List Step) (few many : ℕ) → few ≤ many → AreBelow steps few →
-      AreBelow steps many
+  pub below_more : (steps : List Step) (count most : ℕ) → count ≤ most → AreBelow steps count →
+      AreBelow steps most
   pub below_row : (set : Set) (c : Cell) (y x : ℕ) (qs : List ℤ) →
       ((a : Around) → size_of set a < contexts_of set) →
       AreBelow (row_steps set c y x qs) (contexts_of set * 32)
@@ -67,7 +70,7 @@ Telling = (steps : List Step) (c : Counts) → Counted uncounted steps c →
     (c.ones ≡ saturated (ones_in steps)) × (c.zeros ≡ saturated (zeros_in steps)) × (total c ≡ saturated (length steps))
 
 pub tells : Telling → (bytes : List ℕ) (t : Table) (pause : Pause) (past : List Step) →
-    At (resumed pause bytes) (interval_of (decisions_after t [] past)) → Counted uncounted past pause.counts → told_by (Some pause) ≡ tally_behind t past
+    At (resumed pause bytes) (interval_of (decisions_after t [] past)) → Counted uncounted past pause.counts → told_by (Some pause) ≡ tally_after t past
 tells telling bytes t pause past at counted =
     let f : ℕ → ℕ → ℕ → Tally = λ a b c. record { ones = a; zeros = b; renormalisations = c } in
     let n = telling past pause.counts counted in
@@ -76,7 +79,7 @@ tells telling bytes t pause past at counted =
     ∙ ap (λ z. f (saturated (ones_in past)) (saturated (zeros_in past)) z) m
 
 -- so do they where they stand
-pub stands_tells : Telling → (bytes : List ℕ) (t : Table) (base : ℕ) (parked : Option Pause) (states : List ℕ) (past : List Step) → Stands bytes t base parked states past → told_by parked ≡ tally_behind t past
+pub stands_tells : Telling → (bytes : List ℕ) (t : Table) (base : ℕ) (parked : Option Pause) (states : List ℕ) (past : List Step) → Stands bytes t base parked states past → told_by parked ≡ tally_after t past
 stands_tells telling bytes t base parked states past stands = ap told_by stands.is ∙ tells telling bytes t stands.pause past stands.at stands.counted
 
 -- a cell whose first rows are samples, and row y begins with a row
@@ -108,13 +111,13 @@ module _ (samples cur row two one : List ℕ) (width y n : ℕ) (rolls : Rolls w
 module _ (laws : Laws) (bytes : List ℕ) (t : Table) (base : ℕ) (set : Set) (bits : ℕ) (past : List Step) (states after : List ℕ) (pause : Pause) (new : Reading)
     (at_old : At (resumed pause bytes) (interval_of (decisions_after t [] past))) (has_old : HasStates t states base past) (counted_old : Counted uncounted past pause.counts) where
   -- steps that were read
-  pub record Behind (steps : List Step) : Type 0 where
+  pub record ReadSteps (steps : List Step) : Type 0 where
     pub at : At (resumed (paused new) bytes) (interval_of (decisions_after t [] (past ++ shifted base steps)))
     pub codes : Codes bytes (decisions_after t [] (past ++ shifted base steps))
     pub has : HasStates t after base (past ++ shifted base steps)
     pub counted : Counted uncounted (past ++ shifted base steps) new.counts
 
-  pub behind : (steps : List Step) → Follows t (resumed pause bytes) states new after steps → AreBelow steps (length states) → Behind steps
+  pub behind : (steps : List Step) → Follows t (resumed pause bytes) states new after steps → AreBelow steps (length states) → ReadSteps steps
   behind steps follows below =
       let r = laws.reads t (resumed pause bytes) states new after steps (decisions_after t [] past) at_old follows in
       let all : decisions_after t [] past ++ decided t states steps ≡ decisions_after t [] (past ++ shifted base steps) =
@@ -139,8 +142,8 @@ module _ (laws : Laws) (bytes : List ℕ) (t : Table) (base : ℕ) (set : Set) (
   counted_first : Counted uncounted past pause.counts
   counted_first = subst (λ (p : Pause). Counted uncounted past p.counts) same_pause stands.counted
 
-  pub segment_read : Lined t set bits (resumed pause bytes) states new after two one cur (length cur) →
-      SegmentRead bytes t base base set bits past samples (length cur) y (Some (paused new)) after cur
+  pub segment_read : Lined (coding_by t set bits) (decoder_by (resumed pause bytes) states) (decoder_by new after) (rows_above two one) cur (length cur) →
+      SegmentRead bytes (coding_by t set bits) base base past samples (length cur) y (Some (paused new)) after cur
   segment_read lined =
       let cell = cell_of (length cur) (samples ++ cur) in
       let coded = lined.coded cell y (is_above samples cur cur two one (length cur) y (length cur) rolls (omega arith) (λ x h. refl))
@@ -156,8 +159,8 @@ module _ (laws : Laws) (bytes : List ℕ) (t : Table) (base : ℕ) (set : Set) (
         stands = record { pause = paused new; is = refl; at = b.at; has = b.has; counted = b.counted };
       }
 
-  pub segment_refused : (x : ℕ) → x < length cur → Refused t set bits (resumed pause bytes) states new after two one cur x →
-      SegmentRefused bytes t base base set bits past samples (length cur) y (Some (paused new)) (take x cur) x
+  pub segment_refused : (x : ℕ) → x < length cur → LinedToRefusal (coding_by t set bits) (decoder_by (resumed pause bytes) states) (decoder_by new after) (rows_above two one) cur x →
+      SegmentRefused bytes (coding_by t set bits) base base past samples (length cur) y (Some (paused new)) (take x cur) x
   segment_refused x inside refused =
       let cell = cell_of (length cur) (samples ++ take x cur) in
       let few : x ≤ length cur = omega (arith, inside) in
@@ -195,8 +198,8 @@ module _ (bytes : List ℕ) (t : Table) (base : ℕ) (set : Set) (bits : ℕ) (p
   pub all_read : ((t : Table) (states ys : List ℕ) (base at count : ℕ) (past ss : List Step) → at + count ≤ length states → length ys ≡ count → AreBelow ss count →
       HasStates t states base past → HasStates t ys (base + at) (past ++ shifted (base + at) ss) →
       HasStates t (take at states ++ (ys ++ drop count (drop at states))) base (past ++ shifted (base + at) ss)) →
-      (new : Option Pause) (ys row : List ℕ) → length ys ≡ count → SegmentRead bytes t base base set bits past samples width y new ys row →
-      SegmentRead bytes t base 33 set bits past samples width y new (put at count states ys) row
+      (new : Option Pause) (ys row : List ℕ) → length ys ≡ count → SegmentRead bytes (coding_by t set bits) base base past samples width y new ys row →
+      SegmentRead bytes (coding_by t set bits) base 33 past samples width y new (put at count states ys) row
   all_read put_law new ys row long read =
       let ss = row_steps set (cell_of width (samples ++ row)) y 0 read.residuals in
       let below : AreBelow ss count = subst (AreBelow ss) (sym count_is) read.below in
@@ -217,5 +220,5 @@ module _ (bytes : List ℕ) (t : Table) (base : ℕ) (set : Set) (bits : ℕ) (p
       }
 
 pub all_refused : (bytes : List ℕ) (t : Table) (base first other : ℕ) (set : Set) (bits : ℕ) (past : List Step) (samples : List ℕ) (width y : ℕ) (new : Option Pause) (row : List ℕ) (x : ℕ) →
-    SegmentRefused bytes t base first set bits past samples width y new row x → SegmentRefused bytes t base other set bits past samples width y new row x
+    SegmentRefused bytes (coding_by t set bits) base first past samples width y new row x → SegmentRefused bytes (coding_by t set bits) base other past samples width y new row x
 all_refused bytes t base first other set bits past samples width y new row x r = record { residuals = r.residuals; count = r.count; refuses = r.refuses; told = r.told }

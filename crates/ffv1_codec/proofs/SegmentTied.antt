@@ -6,22 +6,24 @@ use Rattle.ffv1_line.specs.Cell.{Rolls}
 use Rattle.ffv1_record.specs.Configuration.{Configuration}
 use Rattle.ffv1_record.specs.Accepted.{Accepted}
 use Rattle.ffv1_slice.specs.Grid.{division_of, across}
-use Rattle.ffv1_codec.specs.declared.column.Column.{Column}
+use Rattle.ffv1_codec.specs.declared.decode.column.Column.{Column}
 use Rattle.ffv1_codec.specs.declared.fault.CodecFault.TheVariants as fault
 use Rattle.ffv1_codec.specs.declared.fault.FrameFault.{FrameFault}
 use Rattle.ffv1_codec.specs.Picture.{Planes, plane, plane_count}
 use Rattle.ffv1_codec.specs.SliceList.{class_of, base_of, bits_of, set_at, set_in}
-use Rattle.ffv1_codec.specs.Places.{AreParts}
+use Rattle.ffv1_codec.specs.Internal.Places.{AreParts}
 use Rattle.ffv1_codec.specs.Order.Event.{Read}
 use Rattle.ffv1_codec.specs.Overread.{IsWithin, IsOverread}
-use Rattle.ffv1_codec.specs.Decoding.{State, Slice, StepsBy, FaultsWith, ReadsLine, slice_at, slice_number, put_slice, behind_line, behind_steps, steps_of_line, steps_of_stop, left_of, width_in, top_of, unread}
-use Rattle.ffv1_codec.specs.Stands.{Stands, SegmentRead, SegmentRefused, window, told_by, tally_behind}
-use Rattle.ffv1_codec.specs.Tied.{TiedColumn, TiedColumns, TiedLine, AreTold, SegmentMade, Stopped, SameOthers, slots_in, column_at, bytes_in, no_column, part_of, overread_in}
+use Rattle.ffv1_codec.specs.Decoding.{State, Slice, StepsBy, FaultsWith, ReadsLine, slice_at, slice_number, put_slice, after_line, after_steps, steps_of_line, steps_of_stop, left_of, width_in, top_of, unread}
+use Rattle.ffv1_codec.specs.Internal.Stands.{Stands, SegmentRead, SegmentRefused, window, told_by, tally_after}
+use Rattle.ffv1_codec.specs.Internal.Tied.{TiedColumn, TiedColumns, TiedLine, AreTold, SegmentMade, Stopped, SameOthers, slots_in, column_at, bytes_in, no_column, part_of, overread_in}
+use Rattle.ffv1_codec.specs.Internal.Tied.{row_slices, rolling_lines}
 use Rattle.ffv1_codec.proofs.WrittenParts.{put, put_window, put_other}
 use Rattle.ffv1_codec.proofs.Sizes.{part_apart}
 use Rattle.ffv1_codec.proofs.ByNumber.{plane_is}
 use Rattle.ffv1_codec.proofs.PartPlaces.{before, inside}
 use Rattle.ffv1_codec.proofs.SegmentReads.{Telling, stands_tells}
+use Rattle.ffv1_line.specs.Coding.{coding_by}
 
 fits_part : (k many slots n : ℕ) → k < many → n ≡ many * slots → k * slots + slots ≤ n
 fits_part k many slots n inside is = let all = part_apart k many slots inside in omega (arith, all, is)
@@ -52,7 +54,7 @@ small_both bound xs ys some first second i = elim (cases_lt i (length xs)) [
 ]
 
 module _ (a : Accepted) (coded : ℕ → List ℕ) (r next : ℕ) (payload : List ℕ) (columns : List Column) (states : List ℕ) (s : State)
-    (tied : TiedColumns a coded r next payload columns states s) where
+    (tied : TiedColumns a coded r next payload (row_slices columns states) s) where
   pub tied_told : Telling → length columns ≡ a.configuration.columns → AreTold a.table columns s
   tied_told telling long = record {
     long = tied.known ∙ sym long;
@@ -109,14 +111,14 @@ module _ (a : Accepted) (coded : ℕ → List ℕ) (r next : ℕ) (payload : Lis
     module _ (rolls : Rolls width samples (window left width two) (window left width one) y) where
       module _ (new : List ℕ) (small : (x : ℕ) → x < length row → slice_index row x < 2 ^ bits_of a.configuration) (row_long : length row ≡ width) (before_next : p < next) (inside_p : p < plane_count a.configuration)
           (states_long : length states ≡ a.configuration.columns * slots) (new_long : length new ≡ slots)
-          (raw : SegmentRead (bytes_in payload (column_at columns k)) a.table (base_of a.configuration p) 33 (set_here (column_at columns k).indexes) (bits_of a.configuration) old.past samples width y q.parked new row) where
-        pub read_one : SegmentRead (coded n) a.table (base_of a.configuration p) 33 (set_in a.configuration old.head p) (bits_of a.configuration) old.past samples width y q.parked new row
+          (raw : SegmentRead (bytes_in payload (column_at columns k)) (coding_by a.table (set_here (column_at columns k).indexes) (bits_of a.configuration)) (base_of a.configuration p) 33 old.past samples width y q.parked new row) where
+        pub read_one : SegmentRead (coded n) (coding_by a.table (set_in a.configuration old.head p) (bits_of a.configuration)) (base_of a.configuration p) 33 old.past samples width y q.parked new row
         read_one =
-            let h = subst (λ z. SegmentRead z a.table (base_of a.configuration p) 33 (set_here (column_at columns k).indexes) (bits_of a.configuration) old.past samples width y q.parked new row) (tied.each k inside_k).bytes_are raw in
-            subst (λ z. SegmentRead (coded n) a.table (base_of a.configuration p) 33 z (bits_of a.configuration) old.past samples width y q.parked new row) set_same h
+            let h = subst (λ z. SegmentRead z (coding_by a.table (set_here (column_at columns k).indexes) (bits_of a.configuration)) (base_of a.configuration p) 33 old.past samples width y q.parked new row) (tied.each k inside_k).bytes_are raw in
+            subst (λ z. SegmentRead (coded n) (coding_by a.table z (bits_of a.configuration)) (base_of a.configuration p) 33 old.past samples width y q.parked new row) set_same h
 
         abbrev pub slice_new : Slice
-        slice_new = behind_line old (steps_of_line a coded old p width y read_one.residuals row) p row
+        slice_new = after_line old (steps_of_line a coded old p width y read_one.residuals row) p row
 
         abbrev pub state_new : State
         state_new = put_slice s k slice_new
@@ -154,7 +156,7 @@ module _ (a : Accepted) (coded : ℕ → List ℕ) (r next : ℕ) (payload : Lis
               stands = subst (λ z. Stands (coded n) a.table 33 q.parked z slice_new.past) (sym w) read_one.stands;
             }
 
-        pub columns_are : TiedColumns a coded r next payload (slice_set columns k q) (put (k * slots) slots states new) state_new
+        pub columns_are : TiedColumns a coded r next payload (row_slices (slice_set columns k q) (put (k * slots) slots states new)) state_new
         columns_are = record {
           known = length-set s.columns k slice_new ∙ tied.known;
           each = λ j h. elim (cases_eq j k) [
@@ -184,7 +186,7 @@ module _ (a : Accepted) (coded : ℕ → List ℕ) (r next : ℕ) (payload : Lis
         ]
 
         pub line_is : AreParts (across (division_of a.configuration) p) → ((width n : ℕ) (samples two one cur : List ℕ) → length cur ≡ width → Rolls width samples two one n → Rolls width (samples ++ cur) one cur (n + 1)) →
-            offset + a.configuration.width ≤ length cur → TiedLine a.configuration p offset k y two one cur s → TiedLine a.configuration p offset (suc k) y two one (put left width cur row) state_new
+            offset + a.configuration.width ≤ length cur → TiedLine a.configuration p offset k y (rolling_lines two one cur) s → TiedLine a.configuration p offset (suc k) y (rolling_lines two one (put left width cur row)) state_new
         line_is are rolling room line =
             let all = inside (across (division_of a.configuration) p) are k inside_k in
             let cur_fits : left + width ≤ length cur = omega (arith, all, room) in
@@ -214,7 +216,7 @@ module _ (a : Accepted) (coded : ℕ → List ℕ) (r next : ℕ) (payload : Lis
             }
 
         pub step_made : AreParts (across (division_of a.configuration) p) → ((width n : ℕ) (samples two one cur : List ℕ) → length cur ≡ width → Rolls width samples two one n → Rolls width (samples ++ cur) one cur (n + 1)) →
-            offset + a.configuration.width ≤ length cur → TiedLine a.configuration p offset k y two one cur s →
+            offset + a.configuration.width ≤ length cur → TiedLine a.configuration p offset k y (rolling_lines two one cur) s →
             SegmentMade a coded r next payload p offset y k (slice_set columns k q) (put (k * slots) slots states new) two one (put left width cur row) s
         step_made are rolling room line = record {
           state = state_new;
@@ -227,14 +229,14 @@ module _ (a : Accepted) (coded : ℕ → List ℕ) (r next : ℕ) (payload : Lis
         }
 
       module _ (x : ℕ) (row_long : length row ≡ x) (less : x < width) (telling : Telling)
-          (raw : SegmentRefused (bytes_in payload (column_at columns k)) a.table (base_of a.configuration p) 33 (set_here (column_at columns k).indexes) (bits_of a.configuration) old.past samples width y q.parked row x) where
-        pub refused_one : SegmentRefused (coded n) a.table (base_of a.configuration p) 33 (set_in a.configuration old.head p) (bits_of a.configuration) old.past samples width y q.parked row x
+          (raw : SegmentRefused (bytes_in payload (column_at columns k)) (coding_by a.table (set_here (column_at columns k).indexes) (bits_of a.configuration)) (base_of a.configuration p) 33 old.past samples width y q.parked row x) where
+        pub refused_one : SegmentRefused (coded n) (coding_by a.table (set_in a.configuration old.head p) (bits_of a.configuration)) (base_of a.configuration p) 33 old.past samples width y q.parked row x
         refused_one =
-            let h = subst (λ z. SegmentRefused z a.table (base_of a.configuration p) 33 (set_here (column_at columns k).indexes) (bits_of a.configuration) old.past samples width y q.parked row x) (tied.each k inside_k).bytes_are raw in
-            subst (λ z. SegmentRefused (coded n) a.table (base_of a.configuration p) 33 z (bits_of a.configuration) old.past samples width y q.parked row x) set_same h
+            let h = subst (λ z. SegmentRefused z (coding_by a.table (set_here (column_at columns k).indexes) (bits_of a.configuration)) (base_of a.configuration p) 33 old.past samples width y q.parked row x) (tied.each k inside_k).bytes_are raw in
+            subst (λ z. SegmentRefused (coded n) (coding_by a.table z (bits_of a.configuration)) (base_of a.configuration p) 33 old.past samples width y q.parked row x) set_same h
 
         abbrev slice_last : Slice
-        slice_last = behind_steps old (steps_of_stop a coded old p width y refused_one.residuals row)
+        slice_last = after_steps old (steps_of_stop a coded old p width y refused_one.residuals row)
 
         abbrev state_last : State
         state_last = put_slice s k slice_last
@@ -251,13 +253,13 @@ module _ (a : Accepted) (coded : ℕ → List ℕ) (r next : ℕ) (payload : Lis
                 long = length-set s.columns k slice_last ∙ tied.known ∙ sym long ∙ sym (length-set columns k q);
                 each = λ j h. elim (cases_eq j k) [
                   | inl here ↦
-                      let one : told_by (column_at (slice_set columns k q) k).parked ≡ tally_behind a.table (slice_at state_last k).past =
-                      ap (λ (z : Column). told_by z.parked) column_now ∙ refused_one.told ∙ ap (λ (z : Slice). tally_behind a.table z.past) (sym (slice_now s k slice_last inside_s)) in
-                      subst (λ z. told_by (column_at (slice_set columns k q) z).parked ≡ tally_behind a.table (slice_at state_last z).past) (sym here) one
+                      let one : told_by (column_at (slice_set columns k q) k).parked ≡ tally_after a.table (slice_at state_last k).past =
+                      ap (λ (z : Column). told_by z.parked) column_now ∙ refused_one.told ∙ ap (λ (z : Slice). tally_after a.table z.past) (sym (slice_now s k slice_last inside_s)) in
+                      subst (λ z. told_by (column_at (slice_set columns k q) z).parked ≡ tally_after a.table (slice_at state_last z).past) (sym here) one
                   | inr other ↦
                       let h : j < a.configuration.columns = omega (arith, h, long, length-set columns k q) in
-                      let was : told_by (column_at columns j).parked ≡ tally_behind a.table (slice_at s j).past = stands_tells telling _ a.table 33 (column_at columns j).parked _ (slice_at s j).past (tied.each j h).stands in
-                      ap (λ (z : Column). told_by z.parked) (column_other j other) ∙ was ∙ ap (λ (z : Slice). tally_behind a.table z.past) (sym (slice_other s k j slice_last other))
+                      let was : told_by (column_at columns j).parked ≡ tally_after a.table (slice_at s j).past = stands_tells telling _ a.table 33 (column_at columns j).parked _ (slice_at s j).past (tied.each j h).stands in
+                      ap (λ (z : Column). told_by z.parked) (column_other j other) ∙ was ∙ ap (λ (z : Slice). tally_after a.table z.past) (sym (slice_other s k j slice_last other))
                 ];
               };
               lines = refl;

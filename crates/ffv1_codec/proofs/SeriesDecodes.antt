@@ -7,18 +7,19 @@ use Rattle.ffv1_record.specs.Configuration.{Configuration, is_rct}
 use Rattle.ffv1_record.specs.Accepted.{Accepted}
 use Rattle.ffv1_line.specs.Cell.{Rolls}
 use Rattle.ffv1_slice.specs.Grid.{division_of, across, length_of, factor_of}
-use Rattle.ffv1_codec.specs.declared.column.Column.{Column}
+use Rattle.ffv1_codec.specs.declared.decode.column.Column.{Column}
 use Rattle.ffv1_codec.specs.declared.fault.FrameFault.{FrameFault}
 use Rattle.ffv1_codec.specs.Picture.{plane}
 use Rattle.ffv1_codec.specs.Runs.{Runs}
-use Rattle.ffv1_codec.specs.Places.{AreParts}
+use Rattle.ffv1_codec.specs.Internal.Places.{AreParts}
 use Rattle.ffv1_codec.specs.Order.{Event, line_events, lines_down}
 use Rattle.ffv1_codec.specs.Order.Event.{Hand}
 use Rattle.ffv1_codec.specs.Decoding.{State, StepsBy, FaultsWith, slice_at, left_of, width_in}
-use Rattle.ffv1_codec.specs.Stands.{window}
-use Rattle.ffv1_codec.specs.Tied.{TiedColumns, TiedPlanes, part_of}
-use Rattle.ffv1_codec.specs.Progress.{FailsIn, LineDecoded, LinesDecoded, SeriesDecoded}
-use Rattle.ffv1_codec.specs.Finished.{IsTogether}
+use Rattle.ffv1_codec.specs.Internal.Stands.{window}
+use Rattle.ffv1_codec.specs.Internal.Tied.{TiedColumns, TiedPlanes, part_of}
+use Rattle.ffv1_codec.specs.Internal.Tied.{row_slices, rolling_lines, plane_group}
+use Rattle.ffv1_codec.specs.Internal.Progress.{FailsIn, LineDecoded, LinesDecoded, SeriesDecoded}
+use Rattle.ffv1_codec.specs.Internal.Finished.{IsTogether}
 use Rattle.ffv1_codec.proofs.PartPlaces.{inside}
 use Rattle.ffv1_codec.proofs.Sizes.{part_apart}
 use Rattle.ffv1_codec.proofs.LineFinished.{together_one, factor_none}
@@ -45,7 +46,7 @@ lines_alike c first count i r together none less = elim (by_colour (is_rct c.col
 ]
 
 -- lines of which nothing is read: the third may hold anything
-pub planes_any : (c : Configuration) (first count y : ℕ) (two one cur any : List ℕ) (s : State) → TiedPlanes c first count 0 0 y two one cur s → TiedPlanes c first count 0 0 y two one any s
+pub planes_any : (c : Configuration) (first count y : ℕ) (two one cur any : List ℕ) (s : State) → TiedPlanes c (plane_group first count) 0 0 y (rolling_lines two one cur) s → TiedPlanes c (plane_group first count) 0 0 y (rolling_lines two one any) s
 planes_any c first count y two one cur any s planes = record {
   done = λ j less. absurd (omega (arith, less));
   todo = λ j from less. let tied = planes.todo j from less in record { unread = tied.unread; read = λ k upto h. absurd (omega (arith, upto)) };
@@ -118,7 +119,7 @@ module _ {S : Type 0} (takes refuses : LineStep S) (a : Accepted) (coded : ℕ �
     line = line_events a.configuration r (range_with_len first count)
 
     pub none_decoded : (columns : List Column) (states : List ℕ) (m : ℕ) (two one : List ℕ) (now : S) → ((width : ℕ) → Rolls width [] (replicate width 0) (replicate width 0) 0) → ((p : ℕ) → AreParts (across (division_of a.configuration) p)) →
-        two ≡ replicate m 0 → one ≡ replicate m 0 → m ≡ count * a.configuration.width → TiedColumns a coded r first payload columns states s → Grows takes initial s.lines now →
+        two ≡ replicate m 0 → one ≡ replicate m 0 → m ≡ count * a.configuration.width → TiedColumns a coded r first payload (row_slices columns states) s → Grows takes initial s.lines now →
         LinesDecoded takes refuses a coded initial r next payload first count 0 columns states two one now s
     none_decoded columns states m two one now top parts two_is one_is m_is tied grows = record {
       state = s;

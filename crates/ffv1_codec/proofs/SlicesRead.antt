@@ -14,7 +14,7 @@ use Rattle.ffv1_slice.specs.declared.head.SliceHead.{SliceHead}
 use Rattle.ffv1_slice.specs.Head.{key_steps, head_steps}
 use Rattle.ffv1_codec.specs.Picture.{Planes, plane, plane_count, coded_at}
 use Rattle.ffv1_codec.specs.SliceList.{Line, IsBody, line_steps, set_in, bits_of, base_of}
-use Rattle.ffv1_codec.specs.Decoding.{Slice, ReadsLine, slice_number, width_in, left_of, top_of, behind_line, steps_of_line}
+use Rattle.ffv1_codec.specs.Decoding.{Slice, ReadsLine, slice_number, width_in, left_of, top_of, after_line, steps_of_line}
 use Rattle.ffv1_codec.proofs.OneLine.{in_rows}
 use Rattle.ffv1_codec.proofs.SliceBodies.{CellLaws, plane_put, plane_beside}
 use Rattle.ffv1_codec.proofs.PlanesMade.{rows_in, counted}
@@ -64,7 +64,7 @@ module _ (a : Accepted) (coded : ℕ → List ℕ) (planes : Planes) (r k : ℕ)
     pub qs : List ℤ
     pub row : List ℕ
     pub reads : ReadsLine a coded (slice_number a.configuration r k) p (width_in a.configuration p k) y q qs row
-    pub stands : StandsBefore h body more (behind_line q (steps_of_line a coded q p (width_in a.configuration p k) y qs row) p row)
+    pub stands : StandsBefore h body more (after_line q (steps_of_line a coded q p (width_in a.configuration p k) y qs row) p row)
     pub within : IsWithin a (coded (slice_number a.configuration r k)) (q.past ++ steps_of_line a coded q p (width_in a.configuration p k) y qs row)
 
   -- the residuals of the next line
@@ -181,7 +181,7 @@ module _ (a : Accepted) (coded : ℕ → List ℕ) (planes : Planes) (r k : ℕ)
         front.front (q.past ++ steps) parts.rest (subst (λ (z : List Step). Codes (coded n) (decisions_after a.table [] z)) whole coding.codes) in
         let suits : AreSuiting set (bits_of c) (cell_of width (samples ++ row)) y 0 parts.qs =
         laws.suits set (bits_of c) (cell_at p) (cell_of width (samples ++ row)) y 0 parts.qs agree parts.suits in
-        let t = behind_line q steps p row in
+        let t = after_line q steps p row in
         let place : p < length q.cells = rw stands.many inside in
         record {
           qs = parts.qs;

@@ -9,12 +9,12 @@ use Rattle.ffv1_range.specs.declared.tally.Tally.{Tally}
 use Rattle.ffv1_range.specs.Table.{Table}
 use Rattle.ffv1_range.specs.Symbols.{Step}
 use Rattle.ffv1_range.specs.Counts.{saturated, ones_in, zeros_in}
-use Rattle.ffv1_codec.specs.declared.column.Column.{Column}
+use Rattle.ffv1_codec.specs.declared.decode.column.Column.{Column}
 use Rattle.ffv1_codec.specs.Decoding.{State, Slice, unread, slice_at}
 use Rattle.ffv1_codec.specs.Answer.{HasDecided, renormalisations_in, slices_in, decided_by}
-use Rattle.ffv1_codec.specs.Stands.{told_by, tally_behind}
-use Rattle.ffv1_codec.specs.Tied.{AreTold, column_at}
-use Rattle.ffv1_codec.specs.Tallies.{tally_over, both}
+use Rattle.ffv1_codec.specs.Internal.Stands.{told_by, tally_after}
+use Rattle.ffv1_codec.specs.Internal.Tied.{AreTold, column_at}
+use Rattle.ffv1_codec.specs.Internal.Tallies.{tally_over, both}
 
 sum_both : (x y : ℕ) → saturated (saturated x + saturated y) ≡ saturated (x + y)
 sum_both x y = omega arith
@@ -31,7 +31,7 @@ one_more f xs q =
     let all = sum_by-append f xs (q ∷ []) in
     omega (arith, last, all)
 
-pub tally_more : (t : Table) (xs : List Slice) (q : Slice) → tally_over t (xs ++ (q ∷ [])) ≡ both (tally_over t xs) (tally_behind t q.past)
+pub tally_more : (t : Table) (xs : List Slice) (q : Slice) → tally_over t (xs ++ (q ∷ [])) ≡ both (tally_over t xs) (tally_after t q.past)
 tally_more t xs q =
     let f : (Slice → ℕ) → ℕ = λ g. saturated (sum_by g (xs ++ (q ∷ []))) in
     let step : (g : Slice → ℕ) → saturated (sum_by g (xs ++ (q ∷ []))) ≡ saturated (saturated (sum_by g xs) + saturated (g q)) =

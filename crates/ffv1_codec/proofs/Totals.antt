@@ -49,11 +49,11 @@ total_most f g from (suc count) most =
     let rest = total_most f g (from + 1) count (λ k least less. most k (omega (arith, least)) (omega (arith, less))) in
     omega (arith, here, rest)
 
-total_behind : (f g : ℕ → ℕ) (p from count : ℕ) → p < from → ((j : ℕ) → j ≢ p → g j ≡ f j) → total g (range_with_len from count) ≡ total f (range_with_len from count)
-total_behind f g p from zero past others = refl
-total_behind f g p from (suc count) past others =
+total_after : (f g : ℕ → ℕ) (p from count : ℕ) → p < from → ((j : ℕ) → j ≢ p → g j ≡ f j) → total g (range_with_len from count) ≡ total f (range_with_len from count)
+total_after f g p from zero past others = refl
+total_after f g p from (suc count) past others =
     let here = others from (let other : from ≢ p = omega (arith, past) in other) in
-    let rest = total_behind f g p (from + 1) count (omega (arith, past)) others in
+    let rest = total_after f g p (from + 1) count (omega (arith, past)) others in
     omega (arith, here, rest)
 
 -- one of some numbers is greater
@@ -62,7 +62,7 @@ pub total_more : (f g : ℕ → ℕ) (p more from count : ℕ) → from ≤ p �
 total_more f g p more from zero least less others here = absurd (omega (arith, least, less))
 total_more f g p more from (suc count) least less others here = elim (cases_eq from p) [
   | inl same ↦
-      let rest : total g (range_with_len (from + 1) count) ≡ total f (range_with_len (from + 1) count) = total_behind f g p (from + 1) count (omega (arith, same)) others in
+      let rest : total g (range_with_len (from + 1) count) ≡ total f (range_with_len (from + 1) count) = total_after f g p (from + 1) count (omega (arith, same)) others in
       let now : g from ≡ f from + more = ap g same ∙ here ∙ ap (λ n. f n + more) (sym same) in
       omega (arith, rest, now)
   | inr other ↦

@@ -2,7 +2,7 @@
 use Rattle.std.proofs.Common.{◌≡◌, refl, ◌+◌, ◌≤◌, ◌⊎◌, inl, inr, Bool, true, false, if◌then◌else◌, ap, arith}
 use Rattle.ffv1_record.specs.Configuration.{Configuration, is_rct}
 use Rattle.ffv1_codec.specs.SliceList.{bits_of}
-use Rattle.ffv1_codec.specs.Finished.{colouring_of, words_colouring}
+use Rattle.ffv1_codec.specs.Internal.Finished.{colouring_of, words_colouring}
 
 by_colour : (b : Bool) → (b ≡ true) ⊎ (b ≡ false)
 by_colour true = inl refl

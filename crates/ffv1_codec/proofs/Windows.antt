@@ -14,7 +14,10 @@ use Rattle.ffv1_plane.specs.Quantisation.{Set, contexts_of}
 use Rattle.ffv1_line.specs.Cell.{Cell, Above, Shows}
 use Rattle.ffv1_line.specs.Row.{row_steps, chosen_row}
 use Rattle.ffv1_line.specs.Encoded.{Written}
-use Rattle.ffv1_codec.specs.Behind.{PutsBehind}
+use Rattle.ffv1_codec.specs.Internal.HasPut.{PutsAfter}
+use Rattle.ffv1_line.specs.Coding.{coding_by}
+use Rattle.ffv1_line.specs.Coder.{encoder_by}
+use Rattle.ffv1_line.specs.Above.{rows_above}
 
 -- the laws of states that are kept
 pub record Kept : Type 0 where
@@ -33,7 +36,7 @@ window_long states at count fits = length-take-le count (drop at states) (let al
 
 -- a put on a part of the states
 pub part_puts : (t : Table) (old new : Writing) (states ys : List ℕ) (at count : ℕ) (steps : List Step) → Kept → at + count ≤ length states → length ys ≡ count → AreBelow steps count →
-    Puts t old (take count (drop at states)) new ys steps → PutsBehind t old states new (take at states ++ (ys ++ drop count (drop at states))) (shifted (33 + at) steps)
+    Puts t old (take count (drop at states)) new ys steps → PutsAfter t old states new (take at states ++ (ys ++ drop count (drop at states))) (shifted (33 + at) steps)
 part_puts t old new states ys at count steps laws fits long below puts = record {
   behind = λ past behind.
       let part = take count (drop at states) in
@@ -100,9 +103,9 @@ put_long states ys at count fits long =
 pub row_puts : (t : Table) (set : Set) (old new : Writing) (states ys two one cur : List ℕ) (at wide bits : ℕ) → Kept →
     ((c : Cell) (y x : ℕ) (qs : List ℤ) → AreBelow (row_steps set c y x qs) (contexts_of set * 32)) →
     wide ≡ contexts_of set * 32 → at + contexts_of set * 32 ≤ length states → length ys ≡ length (take wide (drop at states)) →
-    Written t set bits old (take wide (drop at states)) new ys two one cur (length cur) →
+    Written (coding_by t set bits) (encoder_by old (take wide (drop at states))) (encoder_by new ys) (rows_above two one) cur (length cur) →
     (cell : Cell) (y : ℕ) → Above cell y two one → length cur ≡ cell.width → Shows cell (suc (suc y)) cur cell.width →
-    PutsBehind t old states new (take at states ++ (ys ++ drop wide (drop at states))) (shifted (33 + at) (row_steps set cell y 0 (chosen_row set bits cell y cell.width)))
+    PutsAfter t old states new (take at states ++ (ys ++ drop wide (drop at states))) (shifted (33 + at) (row_steps set cell y 0 (chosen_row set bits cell y cell.width)))
 row_puts t set old new states ys two one cur at wide bits laws below is fits long written cell y above cur_long shows =
     let fits : at + wide ≤ length states = omega (arith, fits, is) in
     let steps : List Step = row_steps set cell y 0 (chosen_row set bits cell y cell.width) in

@@ -1,7 +1,7 @@
 -- Parts of lines of any words.
 use Rattle.std.proofs.Common.{◌≡◌, ℕ, ◌+◌, ◌≤◌, List, ◌++◌, length, take, drop, ap, ◌∙◌, arith, length-drop}
 use Rattle.std.proofs.lemmas.List.{length-take-le}
-use Rattle.ffv1_codec.specs.Stands.{window}
+use Rattle.ffv1_codec.specs.Internal.Stands.{window}
 use Rattle.ffv1_codec.proofs.WrittenParts.{put}
 
 -- a part of a list

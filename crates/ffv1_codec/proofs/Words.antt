@@ -11,8 +11,8 @@ use Rattle.ffv1_samples.proofs.Pairs.{length_numbers, number_at}
 use Rattle.ffv1_record.specs.Configuration.{Configuration}
 use Rattle.ffv1_codec.specs.Picture.{Planes, IsPicture, plane, plane_count, plane_width, plane_height, plane_samples, line_bytes, swaps, green_of, blue_of}
 use Rattle.ffv1_codec.specs.Decoding.{row_in}
-use Rattle.ffv1_codec.specs.Stands.{window}
-use Rattle.ffv1_codec.specs.Finished.{Colouring, bytes_colouring, colouring_of}
+use Rattle.ffv1_codec.specs.Internal.Stands.{window}
+use Rattle.ffv1_codec.specs.Internal.Finished.{Colouring, bytes_colouring, colouring_of}
 use Rattle.ffv1_codec.proofs.WrittenParts.{window_long}
 use Rattle.ffv1_codec.proofs.JoinedLines.{take_small}
 

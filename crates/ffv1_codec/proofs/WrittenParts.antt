@@ -8,7 +8,7 @@ use Rattle.std.proofs.lemmas.Slice.{drop-append-drop}
 use Rattle.std.proofs.lemmas.List.{drop-drop}
 use Rattle.ffv1_range.specs.Table.{Table, Holds}
 use Rattle.ffv1_range.specs.Symbols.{AllHeld}
-use Rattle.ffv1_codec.specs.Stands.{window}
+use Rattle.ffv1_codec.specs.Internal.Stands.{window}
 
 -- xs with the part at a written
 abbrev pub put : ℕ → ℕ → List ℕ → List ℕ → List ℕ
@@ -34,8 +34,8 @@ module _ (xs ys : List ℕ) (a k : ℕ) (fits : a + k ≤ length xs) (long : len
       ap (λ n. get_or (put a k xs ys) (n + j) 0) (sym front) ∙ get_or-append-add (take a xs) (ys ++ drop k (drop a xs)) j 0
       ∙ get_or_append_left ys (drop k (drop a xs)) 0 j (omega (arith, long, h))
 
-  pub put_behind : (j : ℕ) → get_or (put a k xs ys) (a + (k + j)) 0 ≡ get_or xs (a + (k + j)) 0
-  put_behind j =
+  pub put_after : (j : ℕ) → get_or (put a k xs ys) (a + (k + j)) 0 ≡ get_or xs (a + (k + j)) 0
+  put_after j =
       ap (λ n. get_or (put a k xs ys) (n + (k + j)) 0) (sym front) ∙ get_or-append-add (take a xs) (ys ++ drop k (drop a xs)) (k + j) 0
       ∙ ap (λ n. get_or (ys ++ drop k (drop a xs)) (n + j) 0) (sym long) ∙ get_or-append-add ys (drop k (drop a xs)) j 0
       ∙ get_or-drop k (drop a xs) j 0 ∙ get_or-drop a xs (k + j) 0
@@ -45,7 +45,7 @@ module _ (xs ys : List ℕ) (a k : ℕ) (fits : a + k ≤ length xs) (long : len
     | inl before ↦ put_before i before
     | inr behind ↦
         let at : i ≡ a + (k + (i - (a + k))) = omega (arith, behind) in
-        ap (λ n. get_or (put a k xs ys) n 0) at ∙ put_behind (i - (a + k)) ∙ ap (λ n. get_or xs n 0) (sym at)
+        ap (λ n. get_or (put a k xs ys) n 0) at ∙ put_after (i - (a + k)) ∙ ap (λ n. get_or xs n 0) (sym at)
   ]
 
   -- the part

@@ -24,7 +24,7 @@ use Rattle.ffv1_codec.specs.declared.fault.CodecFault.{CodecFault}
 use Rattle.ffv1_codec.specs.declared.fault.CodecFault.TheVariants as fault
 use Rattle.ffv1_codec.specs.declared.fault.FrameFault.{FrameFault}
 use Rattle.ffv1_codec.specs.Picture.{plane, plane_count, green_of, blue_of}
-use Rattle.ffv1_codec.specs.SliceList.{Said, said_by, base_of, bits_of, set_in}
+use Rattle.ffv1_codec.specs.SliceList.{Said, said_by, base_of, set_in, coding_in}
 use Rattle.ffv1_codec.specs.Order.{Event, events_of}
 use Rattle.ffv1_codec.specs.Order.Event.{Open, Read, Finish, Hand, Close}
 use Rattle.ffv1_codec.specs.Overread.{IsWithin, IsOverread}
@@ -160,11 +160,11 @@ abbrev pub cell_with : Slice → ℕ → ℕ → List ℕ → Cell
 cell_with q p width row = cell_of width (plane q.cells p ++ row)
 
 -- the slice after some steps of a line, and after a whole line of plane p, with its samples
-abbrev pub behind_steps : Slice → List Step → Slice
-behind_steps q steps = record q { past = q.past ++ steps }
+abbrev pub after_steps : Slice → List Step → Slice
+after_steps q steps = record q { past = q.past ++ steps }
 
-abbrev pub behind_line : Slice → List Step → ℕ → List ℕ → Slice
-behind_line q steps p row = record q {
+abbrev pub after_line : Slice → List Step → ℕ → List ℕ → Slice
+after_line q steps p row = record q {
   past = q.past ++ steps;
   cells = slice_set q.cells p (plane q.cells p ++ row);
 }
@@ -177,16 +177,16 @@ module _ (a : Accepted) (coded : ℕ → List ℕ) where
     pub above : length (plane q.cells p) ≡ y * width
     pub long : length qs ≡ width
     pub row_long : length row ≡ width
-    pub codes : CodesRow (coded n) a.table (base_of a.configuration p) q.past
-        (set_in a.configuration q.head p) (bits_of a.configuration) (cell_with q p width row) y qs
+    pub codes : CodesRow (coded n) (coding_in a q.head p) (base_of a.configuration p) q.past
+        (cell_with q p width row) y qs
 
   -- or a beginning of that line, and then a symbol that is refused
   pub record StopsInLine (n p width y : ℕ) (q : Slice) (qs : List ℤ) (row : List ℕ) : Type 0 where
     pub above : length (plane q.cells p) ≡ y * width
     pub short : length qs < width
     pub row_long : length row ≡ length qs
-    pub refuses : RefusesRow (coded n) a.table (base_of a.configuration p) q.past
-        (set_in a.configuration q.head p) (bits_of a.configuration) (cell_with q p width row) y qs
+    pub refuses : RefusesRow (coded n) (coding_in a q.head p) (base_of a.configuration p) q.past
+        (cell_with q p width row) y qs
 
   -- their decisions
   abbrev pub steps_of_line : Slice → ℕ → ℕ → ℕ → List ℤ → List ℕ → List Step
@@ -237,7 +237,7 @@ module _ (a : Accepted) (coded : ℕ → List ℕ) where
       let width = width_in a.configuration p k in
       (qs : List ℤ) × (row : List ℕ)
       × ReadsLine (slice_number a.configuration r k) p width y q qs row
-      × (t ≡ put_slice s k (behind_line q (steps_of_line q p width y qs row) p row))
+      × (t ≡ put_slice s k (after_line q (steps_of_line q p width y qs row) p row))
       × IsWithin a (coded (slice_number a.configuration r k))
       (q.past ++ steps_of_line q p width y qs row)
   StepsBy s (Finish r planes y) t =
@@ -272,7 +272,7 @@ module _ (a : Accepted) (coded : ℕ → List ℕ) where
         line = top_of a.configuration p r + y;
         x = left_of a.configuration p k + length qs;
       })
-      × (t ≡ put_slice s k (behind_steps q (steps_of_stop q p width y qs row)))
+      × (t ≡ put_slice s k (after_steps q (steps_of_stop q p width y qs row)))
 
   -- it is read, and its slice was read too far
   abbrev pub OverreadsAt : State → ℕ → ℕ → ℕ → ℕ → FrameFault → State → Type 0
@@ -288,7 +288,7 @@ module _ (a : Accepted) (coded : ℕ → List ℕ) where
         line = top_of a.configuration p r + y;
         x = 0;
       })
-      × (t ≡ put_slice s k (behind_line q (steps_of_line q p width y qs row) p row))
+      × (t ≡ put_slice s k (after_line q (steps_of_line q p width y qs row) p row))
       × IsOverread a (coded n) (q.past ++ steps_of_line q p width y qs row)
 
   -- the event is refused, with this fault and what is known then

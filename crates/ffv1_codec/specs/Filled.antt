@@ -1,12 +1,9 @@
 -- Planes of which some lines are kept, from the top: zeros stand for those that are missing.
-use Rattle.std.specs.Prelude.{◌≡◌, ℕ, ◌*◌, ◌-◌, ◌≤◌, ◌<◌, List, ◌++◌, length, map, replicate}
+use Rattle.std.specs.Prelude.{ℕ, ◌*◌, ◌-◌, List, ◌++◌, length, map, replicate}
 use Rattle.std.specs.List.{range_with_len}
-use Rattle.std.specs.Vec.{vec_capacity}
-use Rattle.std.specs.declared.vec.Vec.{Vec}
-use Rattle.std.proofs.Common.{get_or}
 use Rattle.ffv1_samples.specs.Samples.{sample_bytes}
-use Rattle.ffv1_slice.specs.Grid.{Division, IsDivision, across, down, whole_of}
-use Rattle.ffv1_codec.specs.Picture.{Planes, plane, planes_of}
+use Rattle.ffv1_slice.specs.Grid.{Division, across, down, whole_of}
+use Rattle.ffv1_codec.specs.Picture.{Planes, plane}
 
 -- bytes, with zeros after them up to a size
 abbrev pub filled : ℕ → List ℕ → List ℕ
@@ -20,11 +17,3 @@ plane_size d p = sample_bytes d.depth * (whole_of (across d p) * whole_of (down 
 abbrev pub filled_planes : Division → Planes → Planes
 filled_planes d planes =
     map (λ p. filled (plane_size d p) (plane planes p)) (range_with_len 0 d.planes)
-
--- vectors of the planes of a division: none has more bytes than its plane, each has room for these
-pub record AreBegun {A : Type 0} (d : Division) (planes : List (Vec ℕ A)) : Type 0 where
-  pub division : IsDivision d
-  pub count : length planes ≡ d.planes
-  pub few : (p : ℕ) → p < d.planes → length (plane (planes_of planes) p) ≤ plane_size d p
-  pub room : (p : ℕ) (v : Vec ℕ A) → p < d.planes →
-      plane_size d p ≤ vec_capacity (get_or planes p v)

@@ -11,7 +11,7 @@ use Rattle.ffv1_line.specs.Length.{row_decisions}
 use Rattle.ffv1_record.specs.Configuration.{Configuration}
 use Rattle.ffv1_record.specs.Accepted.{Accepted}
 use Rattle.ffv1_slice.specs.declared.head.SliceHead.{SliceHead}
-use Rattle.ffv1_codec.specs.declared.counts.FrameCounts.{FrameCounts}
+use Rattle.ffv1_codec.specs.declared.encode.frame_counts.FrameCounts.{FrameCounts}
 use Rattle.ffv1_codec.specs.Picture.{Planes, cell_in}
 use Rattle.ffv1_codec.specs.SliceList.{Said, Line, bits_of, set_in, lines_in, chosen_head}
 use Rattle.ffv1_codec.specs.SliceList.{chosen_slice}

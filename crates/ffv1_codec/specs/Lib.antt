@@ -2,8 +2,6 @@ pub mod Picture
 pub mod SliceList
 pub mod Frame
 pub mod Length
-pub mod Behind
-pub mod CellRows
 pub mod Worked
 pub mod Runs
 pub mod Order
@@ -12,19 +10,11 @@ pub mod Decoding
 pub mod Lines
 pub mod Answer
 pub mod Kept
-pub mod Stands
-pub mod Tied
-pub mod Places
-pub mod Progress
+pub mod OwnFaults
 pub mod Filled
-pub mod Finished
-pub mod Opened
-pub mod Tallies
-pub mod Rows
 pub mod Bounds
 pub mod Cost
 pub mod Outcome
-pub mod Buffers
 pub mod Headline
 pub mod Known
 pub mod Handed
@@ -32,3 +22,4 @@ pub mod Sides
 pub mod Damage
 pub mod DecodeFaults
 pub mod Turns
+pub mod Internal

@@ -20,6 +20,7 @@ use Rattle.ffv1_slice.specs.declared.head.SliceHead.{SliceHead}
 use Rattle.ffv1_slice.specs.Head.{IsHead, key_steps, head_steps, aspect_of}
 use Rattle.ffv1_codec.specs.Overread.{IsWithin}
 use Rattle.ffv1_codec.specs.Picture.{Planes, plane_count, cell_in, cell_height}
+use Rattle.ffv1_line.specs.Coding.{coding_by, RowCoding}
 
 -- no set
 abbrev pub set_or_none : Option Set → Set
@@ -47,6 +48,10 @@ set_at sets k = set_or_none (slice_get sets k)
 
 abbrev pub set_in : Configuration → SliceHead → ℕ → Set
 set_in c h p = set_at c.sets (slice_index h.indexes (class_of p))
+
+-- how its lines are coded
+abbrev pub coding_in : Accepted → SliceHead → ℕ → RowCoding
+coding_in a h p = coding_by a.table (set_in a.configuration h p) (bits_of a.configuration)
 
 -- a line of a plane
 pub record Line : Type 0 where

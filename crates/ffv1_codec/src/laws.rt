@@ -19,6 +19,10 @@ ghost use Rattle.ffv1_codec.specs.Worked.{small_pictures, unknown};
 ghost use Rattle.ffv1_codec.specs.Frame.{IsSaid, CodesPicture, HasLongSlice, slice_bytes};
 ghost use Rattle.ffv1_codec.specs.Frame.{frame_of};
 
+pub mod answer;
+pub mod decoding;
+pub mod sink;
+
 use ffv1_line::laws::{chosen, lengths};
 use ffv1_range::laws::{lengths as step_lengths, named_states, sentinel_ending};
 use ffv1_rct::laws::{lists_in, small_in};

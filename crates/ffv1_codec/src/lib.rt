@@ -27,43 +27,21 @@
 //! ```
 #![tactic(auto)]
 
-pub mod answer_laws;
-mod buffers;
-mod cell_rows;
-mod colours;
-mod column;
-mod columns;
-pub mod counts;
-pub mod decoder;
-pub mod decoding_laws;
-pub mod encoder;
+pub mod decode;
+pub mod encode;
 pub mod fault;
-mod finish;
-mod frame;
-mod hand;
 pub mod info;
 pub mod laws;
 mod line_word;
-mod opening;
-mod overread;
 pub mod picture;
 mod places;
 mod places_of_colours;
 mod plane_sizes;
-mod planes;
-mod rows;
-mod segment;
-pub mod sink_laws;
-pub mod sinks;
-mod slice;
-mod slice_code;
-mod slice_encoder;
-mod wide_colours;
 
-pub use counts::FrameCounts;
-pub use decoder::FrameDecoder;
-pub use encoder::FrameEncoder;
+pub use decode::frame::FrameDecoder;
+pub use decode::sinks::{DropLines, KeepLines};
+pub use encode::frame::FrameEncoder;
+pub use encode::frame_counts::FrameCounts;
 pub use fault::{CodecFault, FrameFault};
 pub use info::Info;
 pub use picture::Picture;
-pub use sinks::{DropLines, KeepLines};

@@ -5,17 +5,31 @@ ghost use Rattle.std.specs.Prelude.{vec_capacity};
 ghost use Rattle.std.proofs.Common.{rules};
 ghost use Rattle.ffv1_range.specs.Symbols.{AllHeld};
 ghost use Rattle.ffv1_plane.specs.Quantisation.{contexts_of};
-ghost use Rattle.ffv1_line.specs.Decoded.{Lined, Refused};
+ghost use Rattle.ffv1_line.specs.Decoded.{Lined, LinedToRefusal};
 ghost use Rattle.ffv1_line.specs.Encoded.{Written};
+ghost use Rattle.ffv1_line.specs.Coding.{coding_by};
+ghost use Rattle.ffv1_line.specs.Coder.{decoder_by, encoder_by};
+ghost use Rattle.ffv1_line.specs.Above.{rows_above};
+ghost use Rattle.ffv1_codec.specs.SliceList.{bits_of};
 
-use crate::buffers::Above;
 use ffv1_line::{
     Coding, TooLong, WideAbove, WideCoding, Word, decode_line, decode_wide, encode_line,
     encode_wide,
 };
 use ffv1_plane::QuantSet;
 use ffv1_range::{Fault, RangeDecoder, RangeEncoder, StateTable};
+use ffv1_record::laws::accepted;
+use ffv1_record::{Checked, Colour};
 use std::alloc::{AllocError, Allocator};
+
+/// The two lines above one that is read.
+#[derive(Clone, Copy)]
+pub struct Above<'a, W: Word> {
+    /// The upper one.
+    pub two: &'a [W],
+    /// The lower one.
+    pub one: &'a [W],
+}
 
 /// How a line is coded: by which table of states, by which quantisation table set, and how many
 /// bits a coded sample has.
@@ -49,14 +63,14 @@ pub(crate) trait LineWord: Word {
         requires one_long { length above.now.one.now ≡ length cur.old }
         requires rows { length states.old ≡ contexts_of coding.now.set.now * 32 }
         requires held { AllHeld coding.now.table.now states.old }
-        ensures ok { OnOk result (Lined coding.now.table.now coding.now.set.now coding.now.bits
-            decoder.old states.old decoder.new states.new (Self.samples above.now.two.now)
-            (Self.samples above.now.one.now) (Self.samples cur.new)
-            (length (Self.samples cur.new))) }
-        ensures refused { IfErr result (λ e. Refused coding.now.table.now coding.now.set.now
-            coding.now.bits decoder.old states.old decoder.new states.new
-            (Self.samples above.now.two.now) (Self.samples above.now.one.now)
-            (Self.samples cur.new) e.x) }
+        ensures ok { OnOk result (Lined (coding_by coding.now.table.now coding.now.set.now
+            coding.now.bits) (decoder_by decoder.old states.old) (decoder_by decoder.new states.new)
+            (rows_above (Self.samples above.now.two.now) (Self.samples above.now.one.now))
+            (Self.samples cur.new) (length (Self.samples cur.new))) }
+        ensures refused { IfErr result (λ e. LinedToRefusal (coding_by coding.now.table.now
+            coding.now.set.now coding.now.bits) (decoder_by decoder.old states.old)
+            (decoder_by decoder.new states.new) (rows_above (Self.samples above.now.two.now)
+            (Self.samples above.now.one.now)) (Self.samples cur.new) e.x) }
         ensures inside { IfErr result (λ e. e.x < length (Self.samples cur.new)) }
         ensures held { AllHeld coding.now.table.now states.new };
 
@@ -76,10 +90,10 @@ pub(crate) trait LineWord: Word {
             ≡ length (Self.samples cur.now) }
         requires rows { length states.old ≡ contexts_of coding.now.set.now * 32 }
         requires held { AllHeld coding.now.table.now states.old }
-        ensures ok { OnOk result (Written coding.now.table.now coding.now.set.now coding.now.bits
-            encoder.old states.old encoder.new states.new (Self.samples above.now.two.now)
-            (Self.samples above.now.one.now) (Self.samples cur.now)
-            (length (Self.samples cur.now))) }
+        ensures ok { OnOk result (Written (coding_by coding.now.table.now coding.now.set.now
+            coding.now.bits) (encoder_by encoder.old states.old) (encoder_by encoder.new states.new)
+            (rows_above (Self.samples above.now.two.now) (Self.samples above.now.one.now))
+            (Self.samples cur.now) (length (Self.samples cur.now))) }
         ensures held { AllHeld coding.now.table.now states.new };
 
     /// Sets each sample of some lines to 0.
@@ -202,4 +216,18 @@ impl LineWord for u32 {
     }
 
     ghost room = { Prim.search rules };
+}
+
+/// The bits of a coded sample.
+pub(crate) fn bits_of<A: Allocator>(checked: &Checked<A>) -> u8
+    ensures value { result ≡ bits_of checked.now.configuration }
+    ensures least { 8 ≤ result }
+    ensures most { result ≤ 17 }
+{
+    accepted();
+    let depth = checked.depth() as u8;
+    match checked.config().colour {
+        Colour::YCbCr => depth,
+        Colour::Rct => depth + 1,
+    }
 }

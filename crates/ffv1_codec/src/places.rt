@@ -5,7 +5,7 @@ ghost use Rattle.ffv1_record.specs.Accepted.{IsAccepted};
 ghost use Rattle.ffv1_record.specs.Configuration.{Configuration};
 ghost use Rattle.ffv1_range.specs.Table.{Table};
 ghost use Rattle.ffv1_slice.specs.Grid.{division_of, across, down};
-ghost use Rattle.ffv1_codec.specs.Places.{AreParts};
+ghost use Rattle.ffv1_codec.specs.Internal.Places.{AreParts};
 
 use ffv1_record::laws::accepted;
 use ffv1_slice::laws::{divided, parts, tiling};

@@ -188,7 +188,7 @@ module _ (kind : FrameLine) (place : Bool) (a : Accepted) (from : Place)
 
 module _ (kind : FrameLine) (place byte : Bool) (a : Accepted) (from : Standing)
     (input output : Passage) where
-  -- after these frames, which are read up to a place where this stands, the file is refused
+  -- the file is refused after these frames: reading stands at `to`, before the bytes `at`
   pub record ToldLocated (frames : List Frame) (to : Place) (at : Option (List ℕ)) (f : Fault)
       : Type 0 where
     pub are : AreFrames a frames
@@ -248,7 +248,7 @@ module _ (kind : FrameLine) (place byte : Bool) (a : Accepted) (i : ℕ) (from :
   abbrev pub FileRefused : Fault → Type 0
   FileRefused f = WritesLocated (LocatedAfter from input) byte i [] f output
 
-  -- or why there is none, or it is not told, by the cause
+  -- or why there is none, or its line is not written, by the cause
   abbrev pub FrameStopsBy : Fault → Cause → Type 0
   FrameStopsBy f Writing =
       (frame : Frame) × PlaysFrame a from.place to input frame
@@ -265,7 +265,7 @@ module _ (kind : FrameLine) (place byte : Bool) (a : Accepted) (i : ℕ) (from :
       FileRefused f × (input.after ≡ input.before)
       × FaultsKnown (frame_read from.place) input.old input.new f
 
-  -- what telling a frame answers: that it was told, that there is none, or why it was not
+  -- what writing a frame's line answers: that it is written, that there is none, or why it is not
   abbrev pub FrameAnswers : Result Bool Fault → Type 0
   FrameAnswers (Ok true) =
       (frame : Frame) × PlaysFrame a from.place to input frame

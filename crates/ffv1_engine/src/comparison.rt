@@ -6,6 +6,9 @@ ghost use Rattle.ffv1_engine.specs.declared.fault.Fault.TheVariants as fault;
 ghost use Rattle.ffv1_range.specs.Symbols.{AllHeld};
 ghost use Rattle.ffv1_range.specs.Standard.{standard};
 ghost use Rattle.ffv1_plane.specs.Quantisation.{contexts_of, small_set};
+ghost use Rattle.ffv1_line.specs.Coding.{coding_by};
+ghost use Rattle.ffv1_line.specs.Coder.{decoder_by};
+ghost use Rattle.ffv1_line.specs.Above.{rows_above};
 ghost use Rattle.ffv1_line.specs.Cell.{Cell, Shows, cell_of};
 ghost use Rattle.ffv1_engine.specs.Plane.{plane_residuals, plane_code, StandsBefore};
 
@@ -53,14 +56,17 @@ fn decode_row<A: Allocator>(
     ensures cur_long { length rows.new.cur.items ≡ length row.now }
     ensures same { (fresh : List ℕ) (c : Cell) (qs : List (List ℤ)) (y : ℕ) → y < length qs →
         c.width ≡ length row.now → Shows c (y + 2) row.now c.width →
-        StandsBefore table.now fresh set.now c qs y decoder.old states.old rows.old.two.items
-        rows.old.one.items → result ≡ true }
+        StandsBefore (coding_by table.now set.now 8) fresh c qs y
+        (decoder_by decoder.old states.old)
+        (rows_above rows.old.two.items rows.old.one.items) → result ≡ true }
     ensures next { (fresh : List ℕ) (c : Cell) (qs : List (List ℤ)) (y : ℕ) → y < length qs →
         c.width ≡ length row.now → Shows c (y + 2) row.now c.width →
-        StandsBefore table.now fresh set.now c qs y decoder.old states.old rows.old.two.items
-        rows.old.one.items →
-        StandsBefore table.now fresh set.now c qs (y + 1) decoder.new states.new
-        rows.new.two.items rows.new.one.items }
+        StandsBefore (coding_by table.now set.now 8) fresh c qs y
+        (decoder_by decoder.old states.old)
+        (rows_above rows.old.two.items rows.old.one.items) →
+        StandsBefore (coding_by table.now set.now 8) fresh c qs (y + 1)
+        (decoder_by decoder.new states.new)
+        (rows_above rows.new.two.items rows.new.one.items) }
 {
     cell_comes_back();
     rolling();
@@ -96,10 +102,11 @@ fn decode_rows<A: Allocator + Copy>(
     requires whole { length plane.now.samples.now ≡ plane.now.width * plane.now.height }
     requires rows { length states.old ≡ contexts_of set.now * 32 }
     requires held { AllHeld table.now states.old }
-    requires stands { StandsBefore table.now states.old set.now
+    requires stands { StandsBefore (coding_by table.now set.now 8) states.old
         (cell_of plane.now.width plane.now.samples.now)
         (plane_residuals set.now plane.now.width plane.now.height plane.now.samples.now) 0
-        decoder.old states.old (replicate plane.now.width 0) (replicate plane.now.width 0) }
+        (decoder_by decoder.old states.old)
+        (rows_above (replicate plane.now.width 0) (replicate plane.now.width 0)) }
     ensures same { IfOk result (λ same. same ≡ true) }
 {
     let mut rows = RollingRows::new(alloc, plane.width)?;

@@ -20,8 +20,8 @@ ghost use Rattle.ffv1_engine.specs.Unpacking.{UnpackedAll, UnpackingStops};
 
 use crate::fault::Fault;
 use crate::player::{Player, Stop, play};
-use ffv1_codec::answer_laws::{answered, decode_faults};
-use ffv1_codec::sink_laws::{kept_picture, taken_lines};
+use ffv1_codec::laws::answer::{answered, decode_faults};
+use ffv1_codec::laws::sink::{kept_picture, taken_lines};
 use ffv1_codec::{Info, KeepLines};
 use ffv1_reads::FileHead;
 use ffv1_record::Checked;

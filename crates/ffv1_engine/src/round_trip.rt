@@ -26,8 +26,8 @@ ghost use Rattle.ffv1_engine.specs.Profiles.{greatest_depth};
 ghost use Rattle.ffv1_engine.specs.Video.{IsReadVideo, IsVideo, Video};
 
 use ffv1_avi::laws::written_is_read as avi_is_written;
-use ffv1_codec::answer_laws::one_picture;
-use ffv1_codec::decoding_laws::{is_decoded, one_end};
+use ffv1_codec::laws::answer::one_picture;
+use ffv1_codec::laws::decoding::{is_decoded, one_end};
 use ffv1_codec::laws::{encoded_frame, frame_lengths};
 use ffv1_files::laws::{file_is_read, frames_in_turn, written_is_read};
 use ffv1_matroska::laws::read_is_file;

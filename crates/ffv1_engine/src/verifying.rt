@@ -9,7 +9,7 @@ ghost use Rattle.ffv1_engine.specs.PicturesOut.{IsKeptFor};
 ghost use Rattle.ffv1_engine.specs.Verifying.{IsBackFor};
 
 use crate::fault::Fault;
-use ffv1_codec::sink_laws::{kept_picture, taken_lines};
+use ffv1_codec::laws::sink::{kept_picture, taken_lines};
 use ffv1_codec::{FrameDecoder, FrameEncoder, Info, KeepLines, Picture};
 use ffv1_record::Checked;
 use std::alloc::{Allocator, Global};

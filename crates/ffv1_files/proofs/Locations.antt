@@ -22,7 +22,7 @@ use Rattle.ffv1_matroska.specs.Readers as matroska_reader
 use Rattle.ffv1_matroska.specs.Tracks.{Track}
 use Rattle.ffv1_files.specs.declared.container.Scope.{Scope}
 use Rattle.ffv1_files.specs.declared.container.Scope.TheVariants as scope
-use Rattle.ffv1_files.specs.Offsets.{AviReached, AviStops, LocatedNext, MatroskaReached, MatroskaStops, Reached, ReadsThrough, StopsAt, StopsThrough}
+use Rattle.ffv1_files.specs.Offsets.{AviReached, AviStops, Layout, LocatedNext, MatroskaReached, MatroskaStops, Reached, ReadsThrough, StopsAt, StopsThrough}
 use Rattle.ffv1_files.specs.Places.{InAvi, InMatroska}
 use Rattle.ffv1_files.specs.Readers.{Standing}
 use Rattle.ffv1_files.proofs.OpenedRooms.{consumed_with}
@@ -108,11 +108,11 @@ counts_on before after more is counts = counts (before + after) (is ∙ zero (be
     all most = grind arith
 
 -- elements more, and the one that comes next was refused
-module _ {S T : Type 0} {opening : S → Reading S} {start : S} {frames : T → Reading T} {begun : T → S} where
-  through_on : {text left new : Option (List ℕ)} {place next : T} {offset last : ℕ} (more : ℕ) (h : ReadsThrough opening start frames begun text left place offset) → ReadsWhole frames place left new next more → last ≡ offset_after 0 (h.before + (h.after + more)) → ReadsThrough opening start frames begun text new next last
+module _ {S T : Type 0} {layout : Layout S T} where
+  through_on : {text left new : Option (List ℕ)} {place next : T} {offset last : ℕ} (more : ℕ) (h : ReadsThrough layout text left place offset) → ReadsWhole layout.frames place left new next more → last ≡ offset_after 0 (h.before + (h.after + more)) → ReadsThrough layout text new next last
   through_on more h whole is = record { first = h.first; between = h.between; before = h.before; after = h.after + more; opened = h.opened; framed = reads_then h.framed whole; offset_is = is }
 
-  stops_on : {text : Option (List ℕ)} {place to : T} {offset last : ℕ} (p : Passage) (f : FileFault) (more : ℕ) (h : ReadsThrough opening start frames begun text p.old place offset) → StopsAfter frames place p f to more → last ≡ offset_after 0 (h.before + (h.after + more)) → StopsThrough opening start frames begun (record p { old = text }) f last
+  stops_on : {text : Option (List ℕ)} {place to : T} {offset last : ℕ} (p : Passage) (f : FileFault) (more : ℕ) (h : ReadsThrough layout text p.old place offset) → StopsAfter layout.frames place p f to more → last ≡ offset_after 0 (h.before + (h.after + more)) → StopsThrough layout (record p { old = text }) f last
   stops_on {to = to} p f more h stops is =
       record { first = h.first; between = h.between; before = h.before; to = to; after = h.after + more; opened = h.opened; stops = record { between = stops.between; before = reads_then h.framed stops.before; refused = stops.refused }; offset_is = is }
 

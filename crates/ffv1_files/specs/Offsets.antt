@@ -20,52 +20,71 @@ use Rattle.ffv1_files.specs.declared.container.Scope.TheVariants as scope
 use Rattle.ffv1_files.specs.Places.{InAvi, InMatroska, Place}
 use Rattle.ffv1_files.specs.Readers.{Standing}
 
+-- how a file is laid out: elements of its opening one after the other from a start, and from the
+-- place where the frames begin those among the frames
+pub record Layout (S T : Type 0) : Type 0 where
+  pub opening : S → Reading S
+  pub start : S
+  pub frames : T → Reading T
+  pub begun : T → S
+
 -- from the beginning of a file elements were read whole up to the frames, and others from there on,
 -- of as many bytes as the offset says
-pub record ReadsThrough {S T : Type 0} (opening : S → Reading S) (start : S)
-    (frames : T → Reading T) (begun : T → S) (text left : Option (List ℕ)) (place : T) (offset : ℕ)
-    : Type 0 where
+pub record ReadsThrough {S T : Type 0} (layout : Layout S T) (text left : Option (List ℕ))
+    (place : T) (offset : ℕ) : Type 0 where
   pub first : T
   pub between : Option (List ℕ)
   pub before : ℕ
   pub after : ℕ
-  pub opened : ReadsWhole opening start text between (begun first) before
-  pub framed : ReadsWhole frames first between left place after
+  pub opened : ReadsWhole layout.opening layout.start text between (layout.begun first) before
+  pub framed : ReadsWhole layout.frames first between left place after
   pub offset_is : offset ≡ offset_after 0 (before + after)
 
 -- the same, and the element that comes next was refused
-pub record StopsThrough {S T : Type 0} (opening : S → Reading S) (start : S)
-    (frames : T → Reading T) (begun : T → S) (p : Passage) (f : FileFault) (offset : ℕ)
-    : Type 0 where
+pub record StopsThrough {S T : Type 0} (layout : Layout S T) (p : Passage) (f : FileFault)
+    (offset : ℕ) : Type 0 where
   pub first : T
   pub between : Option (List ℕ)
   pub before : ℕ
   pub to : T
   pub after : ℕ
-  pub opened : ReadsWhole opening start p.old between (begun first) before
-  pub stops : StopsAfter frames first (record p { old = between }) f to after
+  pub opened : ReadsWhole layout.opening layout.start p.old between (layout.begun first) before
+  pub stops : StopsAfter layout.frames first (record p { old = between }) f to after
   pub offset_is : offset ≡ offset_after 0 (before + after)
 
 -- an AVI
+abbrev pub avi_layout : Extent → Head → Layout avi.Spot AviPlace
+avi_layout extent head = record {
+  opening = avi.spot_taken extent;
+  start = avi.Start;
+  frames = avi.chunk_taken;
+  begun = λ first. avi.BeforeFrames head first;
+}
+
 abbrev pub AviReached : Extent → Option (List ℕ) → Option (List ℕ) → Head → AviPlace → ℕ → Type 0
 AviReached extent text left head place offset =
-    ReadsThrough (avi.spot_taken extent) avi.Start avi.chunk_taken
-    (λ first. avi.BeforeFrames head first) text left place offset
+    ReadsThrough (avi_layout extent head) text left place offset
 
 -- which may be refused before its frames
 abbrev pub AviStops : Extent → Passage → FileFault → ℕ → Type 0
 AviStops extent p f offset =
     ((to : avi.Spot) × (count : ℕ) × StopsAfter (avi.spot_taken extent) avi.Start p f to count
     × (offset ≡ offset_after 0 count))
-    ⊎ ((head : Head) × StopsThrough (avi.spot_taken extent) avi.Start avi.chunk_taken
-    (λ first. avi.BeforeFrames head first) p f offset)
+    ⊎ ((head : Head) × StopsThrough (avi_layout extent head) p f offset)
 
 -- a Matroska file, whose Segment may end before any Cluster
+abbrev pub matroska_layout : Track → Layout matroska.Spot MatroskaPlace
+matroska_layout track = record {
+  opening = matroska.spot_taken;
+  start = matroska.Start;
+  frames = matroska.element_taken track.number;
+  begun = λ first. matroska.BeforeFrames track first;
+}
+
 abbrev pub MatroskaReached : Option (List ℕ) → Option (List ℕ) → ℕ → MatroskaPlace → ℕ → Type 0
 MatroskaReached text left number place offset =
     ((head : Head)
-    × ReadsThrough matroska.spot_taken matroska.Start (matroska.element_taken number)
-    (λ first. matroska.BeforeFrames (record { number = number; head = head }) first) text left place
+    × ReadsThrough (matroska_layout (record { number = number; head = head })) text left place
     offset)
     ⊎ (place ≡ ended)
 
@@ -74,8 +93,7 @@ MatroskaStops p f offset =
     ((to : matroska.Spot) × (count : ℕ) × matroska.OpeningStops matroska.Start p f to count
     × (offset ≡ offset_after 0 count))
     ⊎ ((track : Track)
-    × StopsThrough matroska.spot_taken matroska.Start (matroska.element_taken track.number)
-    (λ first. matroska.BeforeFrames track first) p f offset)
+    × StopsThrough (matroska_layout track) p f offset)
 
 -- what was read before a position; up to its first movi a file is read as AVI alone
 abbrev pub PlaceReached : Scope → Option (List ℕ) → Option (List ℕ) → Head → Place → ℕ → Type 0

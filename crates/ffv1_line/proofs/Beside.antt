@@ -1,5 +1,5 @@
 -- The neighbours of a sample by the row are those of the cell, and blocks of places make a row.
-use Rattle.std.proofs.Common.{inl, inr, ◌≡◌, refl, ℕ, zero, suc, ◌+◌, ◌-◌, ◌*◌, ◌<◌, ◌≤◌, min, List, [], ◌∷◌, ◌++◌, length, get_or, arith, ap, sym, subst, ◌≢◌, slice_set, get_or-set_same, get_or-set_other, below_more, ◌∙◌, append_assoc, Bool, append-nil, ℤ}
+use Rattle.std.proofs.Common.{inl, inr, ◌≡◌, refl, ℕ, zero, suc, ◌+◌, ◌-◌, ◌*◌, ◌<◌, ◌≤◌, min, List, [], ◌++◌, length, get_or, arith, ap, sym, subst, ◌≢◌, slice_set, get_or-set_same, get_or-set_other, below_more, ◌∙◌, append_assoc, Bool, append-nil, ℤ}
 use Rattle.std.proofs.lemmas.Bool.{cases_lt}
 use Rattle.ffv1_range.specs.Table.{Table}
 use Rattle.ffv1_range.specs.Symbols.{Step, shifted, signed_steps}
@@ -11,7 +11,8 @@ use Rattle.ffv1_range.specs.Counts.{Counts, Counted}
 use Rattle.ffv1_range.proofs.Counting.{counted_none, counted_append}
 use Rattle.ffv1_range.proofs.Steps.{puts_append}
 use Rattle.ffv1_range.proofs.Growth.{refused_first, refused_second}
-use Rattle.ffv1_range.proofs.Windows.{signed_below}
+use Rattle.ffv1_range.proofs.Windows.{signed_below, AreBelow-append}
+use Rattle.ffv1_line.proofs.Joined.{shifted_below}
 use Rattle.ffv1_plane.specs.declared.prediction.Around.{Around}
 use Rattle.ffv1_plane.specs.Prediction.{predicted_in}
 use Rattle.ffv1_plane.specs.Quantisation.{Set, contexts_of}
@@ -20,11 +21,15 @@ use Rattle.ffv1_plane.specs.Residual.{chosen_of, IsFolded}
 use Rattle.ffv1_plane.proofs.Folding.{chosen_folded}
 use Rattle.ffv1_line.specs.Cell.{Cell, seen, around, Shows, Above}
 use Rattle.ffv1_line.specs.Internal.Along.{Left}
-use Rattle.ffv1_line.specs.Internal.Block.{IsBlock}
+use Rattle.ffv1_line.specs.Internal.Parts.{ArePrepared, part_steps}
 use Rattle.ffv1_line.specs.Row.{chosen_at, chosen_row, row_steps, sample_steps}
 use Rattle.ffv1_line.specs.Encoded.{Written, MayBeRefusedRow, CountsFirst}
 use Rattle.ffv1_line.specs.Beside.{before, two_before, beside, chosen_beside, place_steps, places_steps}
 use Rattle.ffv1_line.proofs.Rows.{around_is, scalars, seen_border, seen_far, row_steps-append, chosen-more, length-chosen, written_none}
+use Rattle.ffv1_line.specs.Coding.{RowCoding}
+use Rattle.ffv1_line.specs.Coder.{Encoder}
+use Rattle.ffv1_line.specs.Above.{RowsAbove}
+use Rattle.ffv1_line.specs.declared.encode.part.Part.{Part}
 
 -- ---- neighbours
 
@@ -87,43 +92,43 @@ shows_fewer : (c : Cell) (y m n : ℕ) (cur : List ℕ) → m ≤ n → Shows c 
 shows_fewer c y m n cur less shows = record { each = λ k h. shows.each k (omega arith) }
 
 -- a block more is written
-pub written_block : (t : Table) (set : Set) (bits : ℕ) (old : Writing) (states : List ℕ) (mid : Writing) (between : List ℕ) (new : Writing) (after two one cur : List ℕ) (from n : ℕ) →
-    from + n ≤ length one → Written t set bits old states mid between two one cur from → Puts t mid between new after (places_steps set bits two one cur from n) →
-    Written t set bits old states new after two one cur (from + n)
-written_block t set bits old states mid between new after two one cur from n inside written puts = record {
+pub written_block : (coding : RowCoding) (old mid new : Encoder) (over : RowsAbove) (cur : List ℕ) (from n : ℕ) →
+    from + n ≤ length over.one → Written coding old mid over cur from → Puts coding.table mid.writing mid.states new.writing new.states (places_steps coding.set coding.bits over.two over.one cur from n) →
+    Written coding old new over cur (from + n)
+written_block coding old mid new over cur from n inside written puts = record {
   puts = λ c y above shows.
-      rw (row_joined set bits c y two one cur from n inside above shows)
-      (puts_append t old mid new states between after (row_steps set c y 0 (chosen_row set bits c y from)) (places_steps set bits two one cur from n)
+      rw (row_joined coding.set coding.bits c y over.two over.one cur from n inside above shows)
+      (puts_append coding.table old.writing mid.writing new.writing old.states mid.states new.states (row_steps coding.set c y 0 (chosen_row coding.set coding.bits c y from)) (places_steps coding.set coding.bits over.two over.one cur from n)
       (written.puts c y above (shows_fewer c (suc (suc y)) from (from + n) cur (omega arith) shows)) puts);
 }
 
 -- a block that may be refused, in a row
-pub refused_block : (t : Table) (set : Set) (bits : ℕ) (old : Writing) (states : List ℕ) (mid : Writing) (between two one cur : List ℕ) (from n : ℕ) →
-    from + n ≤ length cur → length one ≡ length cur → Written t set bits old states mid between two one cur from → MayBeRefused t mid between (places_steps set bits two one cur from n) →
-    MayBeRefusedRow t set bits old states two one cur (length cur)
-refused_block t set bits old states mid between two one cur from n inside same written refused = record {
+pub refused_block : (coding : RowCoding) (old mid : Encoder) (over : RowsAbove) (cur : List ℕ) (from n : ℕ) →
+    from + n ≤ length cur → length over.one ≡ length cur → Written coding old mid over cur from → MayBeRefused coding.table mid.writing mid.states (places_steps coding.set coding.bits over.two over.one cur from n) →
+    MayBeRefusedRow coding old over cur (length cur)
+refused_block coding old mid over cur from n inside same written refused = record {
   may = λ c y above shows.
       let rest = length cur - (from + n) in
       let all : length cur ≡ from + n + rest = omega arith in
       let fewer = shows_fewer c (suc (suc y)) (from + n) (length cur) cur inside shows in
-      let here : MayBeRefused t old states (row_steps set c y 0 (chosen_row set bits c y (from + n))) =
-      rw (row_joined set bits c y two one cur from n (omega arith) above fewer)
-      (refused_second t old mid states between (row_steps set c y 0 (chosen_row set bits c y from)) (places_steps set bits two one cur from n)
+      let here : MayBeRefused coding.table old.writing old.states (row_steps coding.set c y 0 (chosen_row coding.set coding.bits c y (from + n))) =
+      rw (row_joined coding.set coding.bits c y over.two over.one cur from n (omega arith) above fewer)
+      (refused_second coding.table old.writing mid.writing old.states mid.states (row_steps coding.set c y 0 (chosen_row coding.set coding.bits c y from)) (places_steps coding.set coding.bits over.two over.one cur from n)
       (written.puts c y above (shows_fewer c (suc (suc y)) from (length cur) cur (omega arith) shows)) refused) in
-      let whole = row_joined set bits c y two one cur (from + n) rest (omega arith) above (subst (Shows c (suc (suc y)) cur) all shows) in
-      rw (all, whole) (refused_first t old states (row_steps set c y 0 (chosen_row set bits c y (from + n))) (places_steps set bits two one cur (from + n) rest) here);
+      let whole = row_joined coding.set coding.bits c y over.two over.one cur (from + n) rest (omega arith) above (subst (Shows c (suc (suc y)) cur) all shows) in
+      rw (all, whole) (refused_first coding.table old.writing old.states (row_steps coding.set c y 0 (chosen_row coding.set coding.bits c y (from + n))) (places_steps coding.set coding.bits over.two over.one cur (from + n) rest) here);
 }
 
 -- the counters after a row up to a block, and the block's first places
-pub counts_block : (t : Table) (set : Set) (bits : ℕ) (old : Writing) (states : List ℕ) (mid : Writing) (between : List ℕ) (new : Counts) (two one cur : List ℕ) (from n : ℕ) →
-    from + n < length cur → length one ≡ length cur → Written t set bits old states mid between two one cur from → Counted mid.counts (places_steps set bits two one cur from n) new →
-    CountsFirst set bits old.counts new two one cur
-counts_block t set bits old states mid between new two one cur from n inside same written counted = record {
+pub counts_block : (coding : RowCoding) (old mid : Encoder) (new : Counts) (over : RowsAbove) (cur : List ℕ) (from n : ℕ) →
+    from + n < length cur → length over.one ≡ length cur → Written coding old mid over cur from → Counted mid.writing.counts (places_steps coding.set coding.bits over.two over.one cur from n) new →
+    CountsFirst coding old.writing.counts new over cur
+counts_block coding old mid new over cur from n inside same written counted = record {
   first = from + n;
   few = inside;
   counted = λ c y above shows.
-      rw (row_joined set bits c y two one cur from n (omega (arith, inside, same)) above shows)
-      (counted_append old.counts mid.counts new (row_steps set c y 0 (chosen_row set bits c y from)) (places_steps set bits two one cur from n)
+      rw (row_joined coding.set coding.bits c y over.two over.one cur from n (omega (arith, inside, same)) above shows)
+      (counted_append old.writing.counts mid.writing.counts new (row_steps coding.set c y 0 (chosen_row coding.set coding.bits c y from)) (places_steps coding.set coding.bits over.two over.one cur from n)
       (written.puts c y above (shows_fewer c (suc (suc y)) from (from + n) cur (omega arith) shows)).counts counted);
 }
 
@@ -132,31 +137,23 @@ pub counts_no_places : (set : Set) (bits : ℕ) (two one cur : List ℕ) (from :
 counts_no_places set bits two one cur from old new same = subst (λ k. Counted old (places_steps set bits two one cur from 0) k) (sym same) (rw (places-none set bits two one cur from) (counted_none old))
 
 -- and none of a row
-pub counts_nothing : (t : Table) (set : Set) (bits : ℕ) (old : Writing) (states : List ℕ) (new : Counts) (two one cur : List ℕ) → 0 < length cur → length one ≡ length cur → new ≡ old.counts →
-    CountsFirst set bits old.counts new two one cur
-counts_nothing t set bits old states new two one cur some same kept =
-    counts_block t set bits old states old states new two one cur 0 0 (omega (arith, some)) same (written_none t set bits old states two one cur) (counts_no_places set bits two one cur 0 old.counts new kept)
+pub counts_nothing : (coding : RowCoding) (old : Encoder) (new : Counts) (over : RowsAbove) (cur : List ℕ) → 0 < length cur → length over.one ≡ length cur → new ≡ old.writing.counts →
+    CountsFirst coding old.writing.counts new over cur
+counts_nothing coding old new over cur some same kept =
+    counts_block coding old old new over cur 0 0 (omega (arith, some)) same (written_none coding old over cur) (counts_no_places coding.set coding.bits over.two over.one cur 0 old.writing.counts new kept)
 
 -- ---- slots
 
-AreBelow-append : (xs ys : List Step) (count : ℕ) → AreBelow xs count → AreBelow ys count → AreBelow (xs ++ ys) count
-AreBelow-append [] ys count p q = q
-AreBelow-append (x ∷ xs) ys count p q = (p.0, AreBelow-append xs ys count p.1 q)
-
-shifted_below : (base few count : ℕ) (ss : List Step) → base + few ≤ count → AreBelow ss few → AreBelow (shifted base ss) count
-shifted_below base few count [] fits below = tt
-shifted_below base few count (s ∷ ss) fits below = let first = below.0 in (omega arith, shifted_below base few count ss fits below.1)
-
 -- a symbol more of a block
-pub listed_next : (set : Set) (bits : ℕ) (two one cur : List ℕ) (from n k context residual : ℕ) (xs ys : List ℕ) → IsBlock set bits two one cur from n xs ys → k < n →
-    context ≡ get_or xs k 0 → residual ≡ get_or ys k 0 → (done : List Step) → done ≡ places_steps set bits two one cur from k ++ shifted (context * 32) (signed_steps (of_nine_bits residual)) →
-    done ≡ places_steps set bits two one cur from (k + 1)
-listed_next set bits two one cur from n k context residual xs ys is inside x y done steps =
+pub listed_next : {A : Type 0} (p : Part A) (n k context residual : ℕ) (xs ys : List ℕ) → ArePrepared p n xs ys → k < n →
+    context ≡ get_or xs k 0 → residual ≡ get_or ys k 0 → (done : List Step) → done ≡ part_steps p k ++ shifted (context * 32) (signed_steps (of_nine_bits residual)) →
+    done ≡ part_steps p (k + 1)
+listed_next p n k context residual xs ys is inside x y done steps =
     let size = x ∙ is.context k inside in
     let chosen = ap of_nine_bits y ∙ is.residual k inside in
-    steps ∙ ap (λ j. places_steps set bits two one cur from k ++ shifted (j * 32) (signed_steps (of_nine_bits residual))) size
-    ∙ ap (λ q. places_steps set bits two one cur from k ++ shifted (size_of set (beside two one cur (from + k)) * 32) (signed_steps q)) chosen
-    ∙ sym (places-more set bits two one cur from k)
+    steps ∙ ap (λ j. part_steps p k ++ shifted (j * 32) (signed_steps (of_nine_bits residual))) size
+    ∙ ap (λ q. part_steps p k ++ shifted (size_of p.set.now (beside p.two.now p.one.now p.cur.now (p.from + k)) * 32) (signed_steps q)) chosen
+    ∙ sym (places-more p.set.now p.bits p.two.now p.one.now p.cur.now p.from k)
 
 pub below_next : (count context residual : ℕ) (done before : List Step) → context < count → AreBelow before (count * 32) →
     done ≡ before ++ shifted (context * 32) (signed_steps (of_nine_bits residual)) → AreBelow done (count * 32)
@@ -182,15 +179,15 @@ two_before_next above row from k l is =
     let up : from + (k + 1) ≡ suc (from + k) = omega arith in
     is ∙ ap (two_before above row) (sym up)
 
-pub block_next : (set : Set) (bits : ℕ) (two one cur : List ℕ) (from n size residual : ℕ) (xs ys : List ℕ) → IsBlock set bits two one cur from n xs ys → n < length xs → n < length ys →
-    size ≡ size_of set (beside two one cur (from + n)) → size < contexts_of set → of_nine_bits residual ≡ chosen_beside set bits two one cur (from + n) → residual < 512 →
-    IsBlock set bits two one cur from (n + 1) (slice_set xs n size) (slice_set ys n residual)
-block_next set bits two one cur from n size residual xs ys is in_xs in_ys context few chosen small = record {
-  context = below_more (λ k. get_or (slice_set xs n size) k 0 ≡ size_of set (beside two one cur (from + k))) n
+pub block_next : {A : Type 0} (p : Part A) (n size residual : ℕ) (xs ys : List ℕ) → ArePrepared p n xs ys → n < length xs → n < length ys →
+    size ≡ size_of p.set.now (beside p.two.now p.one.now p.cur.now (p.from + n)) → size < contexts_of p.set.now → of_nine_bits residual ≡ chosen_beside p.set.now p.bits p.two.now p.one.now p.cur.now (p.from + n) → residual < 512 →
+    ArePrepared p (n + 1) (slice_set xs n size) (slice_set ys n residual)
+block_next p n size residual xs ys is in_xs in_ys context few chosen small = record {
+  context = below_more (λ k. get_or (slice_set xs n size) k 0 ≡ size_of p.set.now (beside p.two.now p.one.now p.cur.now (p.from + k))) n
       (λ k h. let other : k ≢ n = omega arith in get_or-set_other xs n k size 0 other ∙ is.context k h) (get_or-set_same xs n size 0 in_xs ∙ context);
-  few = below_more (λ k. get_or (slice_set xs n size) k 0 < contexts_of set) n
+  few = below_more (λ k. get_or (slice_set xs n size) k 0 < contexts_of p.set.now) n
       (λ k h. let other : k ≢ n = omega arith in rw get_or-set_other (is.few k h)) (rw (get_or-set_same xs n size 0 in_xs) few);
-  residual = below_more (λ k. of_nine_bits (get_or (slice_set ys n residual) k 0) ≡ chosen_beside set bits two one cur (from + k)) n
+  residual = below_more (λ k. of_nine_bits (get_or (slice_set ys n residual) k 0) ≡ chosen_beside p.set.now p.bits p.two.now p.one.now p.cur.now (p.from + k)) n
       (λ k h. let other : k ≢ n = omega arith in ap of_nine_bits (get_or-set_other ys n k residual 0 other) ∙ is.residual k h) (ap of_nine_bits (get_or-set_same ys n residual 0 in_ys) ∙ chosen);
   small = below_more (λ k. get_or (slice_set ys n residual) k 0 < 512) n
       (λ k h. let other : k ≢ n = omega arith in rw get_or-set_other (is.small k h)) (rw (get_or-set_same ys n residual 0 in_ys) small);
@@ -229,11 +226,11 @@ refused_place t a b states after set bits two one cur from k n inside puts refus
     (refused_second t a b states after (places_steps set bits two one cur from k) (place_steps set bits two one cur (from + k)) puts refused))
 
 -- the symbol of a sample of a block
-pub place_is : (set : Set) (bits : ℕ) (two one cur : List ℕ) (from n k : ℕ) (xs ys : List ℕ) (v : ℤ) → IsBlock set bits two one cur from n xs ys → k < n → v ≡ of_nine_bits (get_or ys k 0) →
-    shifted (get_or xs k 0 * 32) (signed_steps v) ≡ place_steps set bits two one cur (from + k)
-place_is set bits two one cur from n k xs ys v is inside value =
+pub place_is : {A : Type 0} (p : Part A) (n k : ℕ) (xs ys : List ℕ) (v : ℤ) → ArePrepared p n xs ys → k < n → v ≡ of_nine_bits (get_or ys k 0) →
+    shifted (get_or xs k 0 * 32) (signed_steps v) ≡ place_steps p.set.now p.bits p.two.now p.one.now p.cur.now (p.from + k)
+place_is p n k xs ys v is inside value =
     ap (λ j. shifted (j * 32) (signed_steps v)) (is.context k inside)
-    ∙ ap (λ q. shifted (size_of set (beside two one cur (from + k)) * 32) (signed_steps q)) (value ∙ is.residual k inside)
+    ∙ ap (λ q. shifted (size_of p.set.now (beside p.two.now p.one.now p.cur.now (p.from + k)) * 32) (signed_steps q)) (value ∙ is.residual k inside)
 
 -- ---- rows of places
 
@@ -249,14 +246,14 @@ placed set bits two one cur x context a q is size chosen =
     rw (size, chosen) (ap (λ (a : Around). sample_steps set a (chosen_of bits (predicted_in bits a) (flip_of set a) (get_or cur x 0))) is)
 
 -- a sample more of a row is written
-pub written_place : (t : Table) (set : Set) (bits : ℕ) (old : Writing) (states : List ℕ) (mid : Writing) (between : List ℕ) (new : Writing) (after two one cur : List ℕ) (x : ℕ) →
-    x < length one → Written t set bits old states mid between two one cur x → Puts t mid between new after (place_steps set bits two one cur x) → Written t set bits old states new after two one cur (x + 1)
-written_place t set bits old states mid between new after two one cur x inside written puts =
-    written_block t set bits old states mid between new after two one cur x 1 (omega arith) written (rw (one_place set bits two one cur x) puts)
+pub written_place : (coding : RowCoding) (old mid new : Encoder) (over : RowsAbove) (cur : List ℕ) (x : ℕ) →
+    x < length over.one → Written coding old mid over cur x → Puts coding.table mid.writing mid.states new.writing new.states (place_steps coding.set coding.bits over.two over.one cur x) → Written coding old new over cur (x + 1)
+written_place coding old mid new over cur x inside written puts =
+    written_block coding old mid new over cur x 1 (omega arith) written (rw (one_place coding.set coding.bits over.two over.one cur x) puts)
 
 -- a sample that may be refused, in a row
-pub refused_after : (t : Table) (set : Set) (bits : ℕ) (old : Writing) (states : List ℕ) (mid : Writing) (between two one cur : List ℕ) (x : ℕ) →
-    x < length cur → length one ≡ length cur → Written t set bits old states mid between two one cur x → MayBeRefused t mid between (place_steps set bits two one cur x) →
-    MayBeRefusedRow t set bits old states two one cur (length cur)
-refused_after t set bits old states mid between two one cur x inside same written refused =
-    refused_block t set bits old states mid between two one cur x 1 (omega arith) same written (rw (one_place set bits two one cur x) refused)
+pub refused_after : (coding : RowCoding) (old mid : Encoder) (over : RowsAbove) (cur : List ℕ) (x : ℕ) →
+    x < length cur → length over.one ≡ length cur → Written coding old mid over cur x → MayBeRefused coding.table mid.writing mid.states (place_steps coding.set coding.bits over.two over.one cur x) →
+    MayBeRefusedRow coding old over cur (length cur)
+refused_after coding old mid over cur x inside same written refused =
+    refused_block coding old mid over cur x 1 (omega arith) same written (rw (one_place coding.set coding.bits over.two over.one cur x) refused)

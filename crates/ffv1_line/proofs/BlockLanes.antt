@@ -8,7 +8,7 @@ use Rattle.std.specs.Simd.Lanes.{chunk, put_chunk}
 use Rattle.ffv1_range.specs.Listed.{of_nine_bits}
 use Rattle.ffv1_plane.specs.declared.prediction.Around.{Around}
 use Rattle.ffv1_plane.specs.declared.lanes.AroundLanes.{AroundLanes}
-use Rattle.ffv1_plane.specs.Quantisation.{Set, contexts_of}
+use Rattle.ffv1_plane.specs.Quantisation.{contexts_of}
 use Rattle.ffv1_plane.specs.Context.{size_of, flip_of}
 use Rattle.ffv1_plane.specs.Prediction.{predicted_in}
 use Rattle.ffv1_plane.specs.Residual.{IsFolded}
@@ -17,7 +17,8 @@ use Rattle.ffv1_plane.proofs.Remainders.{rem_is, divided}
 use Rattle.ffv1_plane.proofs.Folding.{chosen_folded}
 use Rattle.ffv1_plane.proofs.LaneValues.{loaded, stored}
 use Rattle.ffv1_line.specs.Beside.{before, two_before, beside, chosen_beside}
-use Rattle.ffv1_line.specs.Internal.Block.{IsBlock}
+use Rattle.ffv1_line.specs.Internal.Parts.{ArePrepared}
+use Rattle.ffv1_line.specs.declared.encode.part.Part.{Part}
 
 -- ---- loads
 
@@ -99,17 +100,17 @@ folded_nine bits v (inr is) folded = let f = rw is at folded in nine_back v f.le
 
 -- ---- blocks
 
-pub block_lanes : (set : Set) (bits : ℕ) (two one cur : List ℕ) (from at : ℕ) (contexts residuals sizes chosen : List ℕ) → (bits ≡ 8) ⊎ (bits ≡ 9) → at + 16 ≤ length contexts → at + 16 ≤ length residuals →
-    ((a : Around) → size_of set a < contexts_of set) → IsBlock set bits two one cur from at contexts residuals → sizes ≡ map (λ x. size_of set (beside two one cur x)) (range_with_len (from + at) 16) →
-    chosen ≡ map (λ x. modulo_512 (chosen_beside set bits two one cur x)) (range_with_len (from + at) 16) →
-    IsBlock set bits two one cur from (at + 16) (put_chunk at contexts sizes) (put_chunk at residuals chosen)
-block_lanes set bits two one cur from at contexts residuals sizes chosen depth room room' below is are are' =
-    let place : (k : ℕ) → at ≤ k → from + at + (k - at) ≡ from + k = λ k more. omega (arith, more) in
-    let size : (k : ℕ) → at ≤ k → k < at + 16 → slice_index (put_chunk at contexts sizes) k ≡ size_of set (beside two one cur (from + k)) =
-    λ k more less. stored (from + at) at 16 contexts sizes (λ x. size_of set (beside two one cur x)) k are room more less ∙ ap (λ x. size_of set (beside two one cur x)) (place k more) in
-    let residual : (k : ℕ) → at ≤ k → k < at + 16 → slice_index (put_chunk at residuals chosen) k ≡ modulo_512 (chosen_beside set bits two one cur (from + k)) =
-    λ k more less. stored (from + at) at 16 residuals chosen (λ x. modulo_512 (chosen_beside set bits two one cur x)) k are' room' more less ∙ ap (λ x. modulo_512 (chosen_beside set bits two one cur x)) (place k more) in
-    let some : 0 < bits = elim depth [ inl eight ↦ omega arith | inr nine ↦ omega arith ] in
+pub block_lanes : {A : Type 0} (p : Part A) (at : ℕ) (contexts residuals sizes chosen : List ℕ) → (p.bits ≡ 8) ⊎ (p.bits ≡ 9) → at + 16 ≤ length contexts → at + 16 ≤ length residuals →
+    ((a : Around) → size_of p.set.now a < contexts_of p.set.now) → ArePrepared p at contexts residuals → sizes ≡ map (λ x. size_of p.set.now (beside p.two.now p.one.now p.cur.now x)) (range_with_len (p.from + at) 16) →
+    chosen ≡ map (λ x. modulo_512 (chosen_beside p.set.now p.bits p.two.now p.one.now p.cur.now x)) (range_with_len (p.from + at) 16) →
+    ArePrepared p (at + 16) (put_chunk at contexts sizes) (put_chunk at residuals chosen)
+block_lanes p at contexts residuals sizes chosen depth room room' below is are are' =
+    let place : (k : ℕ) → at ≤ k → p.from + at + (k - at) ≡ p.from + k = λ k more. omega (arith, more) in
+    let size : (k : ℕ) → at ≤ k → k < at + 16 → slice_index (put_chunk at contexts sizes) k ≡ size_of p.set.now (beside p.two.now p.one.now p.cur.now (p.from + k)) =
+    λ k more less. stored (p.from + at) at 16 contexts sizes (λ x. size_of p.set.now (beside p.two.now p.one.now p.cur.now x)) k are room more less ∙ ap (λ x. size_of p.set.now (beside p.two.now p.one.now p.cur.now x)) (place k more) in
+    let residual : (k : ℕ) → at ≤ k → k < at + 16 → slice_index (put_chunk at residuals chosen) k ≡ modulo_512 (chosen_beside p.set.now p.bits p.two.now p.one.now p.cur.now (p.from + k)) =
+    λ k more less. stored (p.from + at) at 16 residuals chosen (λ x. modulo_512 (chosen_beside p.set.now p.bits p.two.now p.one.now p.cur.now x)) k are' room' more less ∙ ap (λ x. modulo_512 (chosen_beside p.set.now p.bits p.two.now p.one.now p.cur.now x)) (place k more) in
+    let some : 0 < p.bits = elim depth [ inl eight ↦ omega arith | inr nine ↦ omega arith ] in
     record {
       context = λ k less. elim (cases_lt k at) [
         | inl early ↦ get_or-put_chunk_below at contexts sizes k 0 early ∙ is.context k early
@@ -117,14 +118,14 @@ block_lanes set bits two one cur from at contexts residuals sizes chosen depth r
       ];
       few = λ k less. elim (cases_lt k at) [
         | inl early ↦ rw (get_or-put_chunk_below at contexts sizes k 0 early) (is.few k early)
-        | inr more ↦ rw (size k more less) (below (beside two one cur (from + k)))
+        | inr more ↦ rw (size k more less) (below (beside p.two.now p.one.now p.cur.now (p.from + k)))
       ];
       residual = λ k less. elim (cases_lt k at) [
         | inl early ↦ rw (get_or-put_chunk_below at residuals chosen k 0 early) (is.residual k early)
-        | inr more ↦ rw (residual k more less) (folded_nine bits _ depth (chosen_folded bits (predicted_in bits (beside two one cur (from + k))) (flip_of set (beside two one cur (from + k))) (slice_index cur (from + k)) some))
+        | inr more ↦ rw (residual k more less) (folded_nine p.bits _ depth (chosen_folded p.bits (predicted_in p.bits (beside p.two.now p.one.now p.cur.now (p.from + k))) (flip_of p.set.now (beside p.two.now p.one.now p.cur.now (p.from + k))) (slice_index p.cur.now (p.from + k)) some))
       ];
       small = λ k less. elim (cases_lt k at) [
         | inl early ↦ rw (get_or-put_chunk_below at residuals chosen k 0 early) (is.small k early)
-        | inr more ↦ rw (residual k more less) (nine_small (chosen_beside set bits two one cur (from + k)))
+        | inr more ↦ rw (residual k more less) (nine_small (chosen_beside p.set.now p.bits p.two.now p.one.now p.cur.now (p.from + k)))
       ];
     }

@@ -18,10 +18,13 @@ use Rattle.ffv1_range.proofs.EndingCodes.{fit, sentinel-inside, full-inside, byt
 use Rattle.ffv1_plane.specs.Quantisation.{Set}
 use Rattle.ffv1_line.specs.Cell.{Cell, Shows, Above}
 use Rattle.ffv1_line.specs.Row.{AreSuiting, row_steps, cell_steps}
-use Rattle.ffv1_line.specs.Decoded.{Lined, Refused, RowsSuit}
-use Rattle.ffv1_line.specs.Coded.{CodesSteps, CodesRowBy, CodesCellBy, StandsBehind}
+use Rattle.ffv1_line.specs.Decoded.{Lined, LinedToRefusal, RowsSuit}
+use Rattle.ffv1_line.specs.Coded.{CodesSteps, CodesRowBy, CodesCellBy, StandsAfter}
 use Rattle.ffv1_line.proofs.SameRow.{Code, code_of, codes_from, code_first, code_rest}
 use Rattle.ffv1_line.proofs.ThreeRows.{row_back, row_not_refused}
+use Rattle.ffv1_line.specs.Coding.{RowCoding}
+use Rattle.ffv1_line.specs.Coder.{decoder_by, Decoder}
+use Rattle.ffv1_line.specs.Above.{RowsAbove}
 
 -- row y of some rows, and the rows around it
 rows_around : (rows : List (List ℤ)) (y : ℕ) → y < length rows → rows ≡ take y rows ++ (get_or rows y [] ∷ drop (suc y) rows)
@@ -63,60 +66,60 @@ row_suits set bits c k y n [] is h suits = absurd (omega (arith, h))
 row_suits set bits c k zero n (r ∷ rows) is h suits = (suits.0, subst (λ m. AreSuiting set bits c m 0 r) (omega (arith, is)) suits.1)
 row_suits set bits c k (suc y) n (r ∷ rows) is h suits = row_suits set bits c (suc k) y n rows (omega (arith, is)) (omega (arith, h)) suits.2
 
-module _ (before : List Decision) (t : Table) (states : List ℕ) (set : Set) (bits : ℕ) (c : Cell) (rows : List (List ℤ)) where
-  pub behind_none : (now : Reading) → At now (interval_of before) → CodesCellBy now.bytes before t states set bits c rows → StandsBehind before t states set bits c rows 0 now states
+module _ (before : List Decision) (coding : RowCoding) (states : List ℕ) (c : Cell) (rows : List (List ℤ)) where
+  pub behind_none : (now : Reading) → At now (interval_of before) → CodesCellBy now.bytes before coding states c rows → StandsAfter before coding states c rows 0 (decoder_by now states)
   behind_none now at cell = record { cell = cell; at = subst (λ ds. At now (interval_of ds)) (sym (append-nil before)) at; moved = refl }
 
   -- the next row is coded after those that were read
-  next_row : (y : ℕ) (now : Reading) (between : List ℕ) → y < length rows → StandsBehind before t states set bits c rows y now between →
-      CodesRowBy now.bytes (before ++ decided t states (cell_steps set c 0 (take y rows))) t between set bits c y (get_or rows y [])
-  next_row y now between inside behind =
-      let done = cell_steps set c 0 (take y rows) in
-      let row = row_steps set c y 0 (get_or rows y []) in
-      let rest = cell_steps set c (suc y) (drop (suc y) rows) in
-      let all = code_of now.bytes before t states (cell_steps set c 0 rows) behind.cell.coded in
-      let parts : Code now.bytes t states (narrowed start before) (done ++ (row ++ rest)) = subst (Code now.bytes t states (narrowed start before)) (steps_around set c rows y inside) all in
-      let later = code_rest now.bytes t states (narrowed start before) done (row ++ rest) parts in
-      let first = code_first now.bytes behind.cell.fit t (moved_by t states done) (narrowed (narrowed start before) (decided t states done)) row rest later in
-      let here : Code now.bytes t (moved_by t states done) (narrowed start (before ++ decided t states done)) row =
-      subst (λ i. Code now.bytes t (moved_by t states done) i row) (sym (narrowed-append start before (decided t states done))) first in
-      let coded : CodesSteps now.bytes (before ++ decided t states done) t (moved_by t states done) row = codes_from now.bytes (before ++ decided t states done) t (moved_by t states done) row here in
+  next_row : (y : ℕ) (now : Decoder) → y < length rows → StandsAfter before coding states c rows y now →
+      CodesRowBy now.reading.bytes (before ++ decided coding.table states (cell_steps coding.set c 0 (take y rows))) coding now.states c y (get_or rows y [])
+  next_row y now inside behind =
+      let done = cell_steps coding.set c 0 (take y rows) in
+      let row = row_steps coding.set c y 0 (get_or rows y []) in
+      let rest = cell_steps coding.set c (suc y) (drop (suc y) rows) in
+      let all = code_of now.reading.bytes before coding.table states (cell_steps coding.set c 0 rows) behind.cell.coded in
+      let parts : Code now.reading.bytes coding.table states (narrowed start before) (done ++ (row ++ rest)) = subst (Code now.reading.bytes coding.table states (narrowed start before)) (steps_around coding.set c rows y inside) all in
+      let later = code_rest now.reading.bytes coding.table states (narrowed start before) done (row ++ rest) parts in
+      let first = code_first now.reading.bytes behind.cell.fit coding.table (moved_by coding.table states done) (narrowed (narrowed start before) (decided coding.table states done)) row rest later in
+      let here : Code now.reading.bytes coding.table (moved_by coding.table states done) (narrowed start (before ++ decided coding.table states done)) row =
+      subst (λ i. Code now.reading.bytes coding.table (moved_by coding.table states done) i row) (sym (narrowed-append start before (decided coding.table states done))) first in
+      let coded : CodesSteps now.reading.bytes (before ++ decided coding.table states done) coding.table (moved_by coding.table states done) row = codes_from now.reading.bytes (before ++ decided coding.table states done) coding.table (moved_by coding.table states done) row here in
       record {
-        suits = (row_suits set bits c 0 y y rows (omega arith) inside behind.cell.suits).1;
-        coded = subst (λ ss. CodesSteps now.bytes (before ++ decided t states done) t ss row) (sym behind.moved) coded;
+        suits = (row_suits coding.set coding.bits c 0 y y rows (omega arith) inside behind.cell.suits).1;
+        coded = subst (λ ss. CodesSteps now.reading.bytes (before ++ decided coding.table states done) coding.table ss row) (sym behind.moved) coded;
       }
 
-  pub behind_next : (y : ℕ) (now : Reading) (between : List ℕ) (new : Reading) (after two one cur : List ℕ) → 0 < c.width → y < length rows → Above c y two one → length cur ≡ c.width →
-      StandsBehind before t states set bits c rows y now between → Lined t set bits now between new after two one cur (length cur) →
-      Shows c (suc (suc y)) cur c.width × StandsBehind before t states set bits c rows (suc y) new after
-  behind_next y now between new after two one cur some inside above wide behind lined =
-      let done = cell_steps set c 0 (take y rows) in
-      let row = row_steps set c y 0 (get_or rows y []) in
-      let past = before ++ decided t states done in
-      let long = (row_suits set bits c 0 y y rows (omega arith) inside behind.cell.suits).0 in
-      let back = row_back t set bits now between new after two one cur past c y (get_or rows y []) (omega (arith, some, above.wide)) above wide long behind.at behind.cell.fit
-      (next_row y now between inside behind) lined in
-      let follows : Follows t now between new after row = back.1 in
-      let same : new.bytes ≡ now.bytes = follows.bytes in
-      let here = subst (λ ss. Follows t now ss new after row) behind.moved follows in
-      let at : At new (interval_of (past ++ decided t (moved_by t states done) row)) = read_on t now (moved_by t states done) new after row past behind.at here in
-      let decisions : past ++ decided t (moved_by t states done) row ≡ before ++ decided t states (cell_steps set c 0 (take (suc y) rows)) =
-      append_assoc before (decided t states done) (decided t (moved_by t states done) row)
-      ∙ ap (λ ds. before ++ ds) (sym (decided-append t states done row) ∙ ap (decided t states) (sym (steps_more set c rows y inside))) in (
+  pub behind_next : (y : ℕ) (now new : Decoder) (over : RowsAbove) (cur : List ℕ) → 0 < c.width → y < length rows → Above c y over.two over.one → length cur ≡ c.width →
+      StandsAfter before coding states c rows y now → Lined coding now new over cur (length cur) →
+      Shows c (suc (suc y)) cur c.width × StandsAfter before coding states c rows (suc y) new
+  behind_next y now new over cur some inside above wide behind lined =
+      let done = cell_steps coding.set c 0 (take y rows) in
+      let row = row_steps coding.set c y 0 (get_or rows y []) in
+      let past = before ++ decided coding.table states done in
+      let long = (row_suits coding.set coding.bits c 0 y y rows (omega arith) inside behind.cell.suits).0 in
+      let back = row_back coding now new over cur past c y (get_or rows y []) (omega (arith, some, above.wide)) above wide long behind.at behind.cell.fit
+      (next_row y now inside behind) lined in
+      let follows : Follows coding.table now.reading now.states new.reading new.states row = back.1 in
+      let same : new.reading.bytes ≡ now.reading.bytes = follows.bytes in
+      let here = subst (λ ss. Follows coding.table now.reading ss new.reading new.states row) behind.moved follows in
+      let at : At new.reading (interval_of (past ++ decided coding.table (moved_by coding.table states done) row)) = read_on coding.table now.reading (moved_by coding.table states done) new.reading new.states row past behind.at here in
+      let decisions : past ++ decided coding.table (moved_by coding.table states done) row ≡ before ++ decided coding.table states (cell_steps coding.set c 0 (take (suc y) rows)) =
+      append_assoc before (decided coding.table states done) (decided coding.table (moved_by coding.table states done) row)
+      ∙ ap (λ ds. before ++ ds) (sym (decided-append coding.table states done row) ∙ ap (decided coding.table states) (sym (steps_more coding.set c rows y inside))) in (
         back.0,
         record {
-          cell = subst (λ b. CodesCellBy b before t states set bits c rows) (sym same) behind.cell;
-          at = subst (λ ds. At new (interval_of ds)) decisions at;
-          moved = here.moves ∙ sym (moved_by-append t states done row) ∙ ap (moved_by t states) (sym (steps_more set c rows y inside));
+          cell = subst (λ b. CodesCellBy b before coding states c rows) (sym same) behind.cell;
+          at = subst (λ ds. At new.reading (interval_of ds)) decisions at;
+          moved = here.moves ∙ sym (moved_by-append coding.table states done row) ∙ ap (moved_by coding.table states) (sym (steps_more coding.set c rows y inside));
         },
       )
 
-  pub behind_not_refused : (y : ℕ) (now : Reading) (between : List ℕ) (new : Reading) (after two one cur : List ℕ) (x : ℕ) → y < length rows → Above c y two one → x < c.width →
-      StandsBehind before t states set bits c rows y now between → Refused t set bits now between new after two one cur x → ⊥
-  behind_not_refused y now between new after two one cur x inside above within behind refused =
-      let long = (row_suits set bits c 0 y y rows (omega arith) inside behind.cell.suits).0 in
-      row_not_refused t set bits now between new after two one cur (before ++ decided t states (cell_steps set c 0 (take y rows))) c y x (get_or rows y [])
-      (omega (arith, within, above.wide)) above long within behind.at behind.cell.fit (next_row y now between inside behind) refused
+  pub behind_not_refused : (y : ℕ) (now new : Decoder) (over : RowsAbove) (cur : List ℕ) (x : ℕ) → y < length rows → Above c y over.two over.one → x < c.width →
+      StandsAfter before coding states c rows y now → LinedToRefusal coding now new over cur x → ⊥
+  behind_not_refused y now new over cur x inside above within behind refused =
+      let long = (row_suits coding.set coding.bits c 0 y y rows (omega arith) inside behind.cell.suits).0 in
+      row_not_refused coding now new over cur (before ++ decided coding.table states (cell_steps coding.set c 0 (take y rows))) c y x (get_or rows y [])
+      (omega (arith, within, above.wide)) above long within behind.at behind.cell.fit (next_row y now inside behind) refused
 
 -- what was written is coded by either ending
 module _ (before : List Decision) (t : Table) (old : Writing) (states : List ℕ) (w : Writing) (after : List ℕ) (steps : List Step)

@@ -3,7 +3,6 @@ use Rattle.std.proofs.Common.{◌≡◌, refl, ℕ, ◌+◌, ◌*◌, ◌<◌, r
 use Rattle.std.proofs.lemmas.List.{get_or_append_left, get_or-append-add, get_or-replicate, length-replicate}
 use Rattle.std.proofs.Math.Nat.{mul-le-mul_left}
 use Rattle.ffv1_range.specs.Table.{Table}
-use Rattle.ffv1_range.specs.Reading.{Reading}
 use Rattle.ffv1_range.proofs.Steps.{follows_none}
 use Rattle.ffv1_plane.specs.Quantisation.{Set}
 use Rattle.ffv1_line.specs.Cell.{Cell, seen, Shows, Above, BeginsWith, Rolls, cell_of}
@@ -17,6 +16,9 @@ use Rattle.ffv1_range.proofs.Steps.{puts_none}
 use Rattle.ffv1_line.specs.Row.{row_steps, cell_steps, chosen_row, chosen_rows}
 use Rattle.ffv1_line.specs.Encoded.{Written}
 use Rattle.ffv1_line.proofs.Joined.{puts_next}
+use Rattle.ffv1_line.specs.Coding.{RowCoding}
+use Rattle.ffv1_line.specs.Coder.{Decoder, Encoder}
+use Rattle.ffv1_line.specs.Above.{RowsAbove}
 
 seen_over : (c : Cell) (x : ℕ) → seen c (suc (suc x)) 0 ≡ 0
 unfolding seen
@@ -76,17 +78,17 @@ rolls_next width samples two one cur n wide rolls = record {
       });
 }
 
-pub read_none : (t : Table) (set : Set) (bits : ℕ) (r : Reading) (states : List ℕ) (width : ℕ) → RowsRead t set bits r states r states width [] 0
-read_none t set bits r states width = record {
+pub read_none : (coding : RowCoding) (r : Decoder) (width : ℕ) → RowsRead coding r r width [] 0
+read_none coding r width = record {
   residuals = [];
   count = refl;
-  rows = λ c same begins. record { suits = tt; follows = follows_none t r states };
+  rows = λ c same begins. record { suits = tt; follows = follows_none coding.table r.reading r.states };
 }
 
-pub read_next : (t : Table) (set : Set) (bits : ℕ) (a b d : Reading) (states between after : List ℕ) (width : ℕ) (samples two one cur : List ℕ) (n : ℕ) →
-    length cur ≡ width → Rolls width samples two one n → RowsRead t set bits a states b between width samples n → Lined t set bits b between d after two one cur (length cur) →
-    RowsRead t set bits a states d after width (samples ++ cur) (n + 1)
-read_next t set bits a b d states between after width samples two one cur n wide rolls read lined = record {
+pub read_next : (coding : RowCoding) (a b d : Decoder) (width : ℕ) (samples : List ℕ) (over : RowsAbove) (cur : List ℕ) (n : ℕ) →
+    length cur ≡ width → Rolls width samples over.two over.one n → RowsRead coding a b width samples n → Lined coding b d over cur (length cur) →
+    RowsRead coding a d width (samples ++ cur) (n + 1)
+read_next coding a b d width samples over cur n wide rolls read lined = record {
   residuals = read.residuals ++ (lined.residuals ∷ []);
   count = length-append read.residuals (lined.residuals ∷ []) ∙ ap (λ k. k + 1) read.count;
   rows = λ c same begins.
@@ -95,12 +97,12 @@ read_next t set bits a b d states between after width samples two one cur n wide
       let row = begins_row c samples cur n long begins in
       let all : c.width ≡ length cur = same ∙ sym wide in
       let coded = lined.coded c n (rolls.above c same before) (subst (λ k. Shows c (suc (suc n)) cur k) all row) in
-      rows_next t set bits a b d states between after c read.residuals lined.residuals (read.rows c same before) (lined.count ∙ sym all) (rw (read.count) coded);
+      rows_next coding a b d c read.residuals lined.residuals (read.rows c same before) (lined.count ∙ sym all) (rw (read.count) coded);
 }
 
-pub read_all : (t : Table) (set : Set) (bits : ℕ) (a b : Reading) (states after : List ℕ) (width n : ℕ) (samples : List ℕ) → RowsRead t set bits a states b after width samples n →
-    CellRead t set bits a states b after width n samples
-read_all t set bits a b states after width n samples read = record {
+pub read_all : (coding : RowCoding) (a b : Decoder) (width n : ℕ) (samples : List ℕ) → RowsRead coding a b width samples n →
+    CellRead coding a b width n samples
+read_all coding a b width n samples read = record {
   residuals = read.residuals;
   count = read.count;
   rows = read.rows (cell_of width samples) refl (record { each = λ x y h k. refl });
@@ -134,19 +136,19 @@ chosen_next set bits c n = rw add-one refl
 pub cell_none : (t : Table) (set : Set) (bits : ℕ) (w : Writing) (states : List ℕ) (c : Cell) → Puts t w states w states (cell_steps set c 0 (chosen_rows set bits c 0))
 cell_none t set bits w states c = rw (chosen_none set bits c) (puts_none t w states)
 
-pub cell_next : (t : Table) (set : Set) (bits : ℕ) (a b d : Writing) (states between after : List ℕ) (c : Cell) (n : ℕ) (two one cur : List ℕ) → length cur ≡ c.width → length one ≡ c.width →
-    Shows c n two c.width → Shows c (n + 1) one c.width → Shows c (n + 2) cur c.width →
-    Puts t a states b between (cell_steps set c 0 (chosen_rows set bits c n)) → Written t set bits b between d after two one cur (length cur) →
-    Puts t a states d after (cell_steps set c 0 (chosen_rows set bits c (n + 1)))
-cell_next t set bits a b d states between after c n two one cur wide_cur wide_one shows_two shows_one shows_cur puts written =
+pub cell_next : (coding : RowCoding) (a b d : Encoder) (c : Cell) (n : ℕ) (over : RowsAbove) (cur : List ℕ) → length cur ≡ c.width → length over.one ≡ c.width →
+    Shows c n over.two c.width → Shows c (n + 1) over.one c.width → Shows c (n + 2) cur c.width →
+    Puts coding.table a.writing a.states b.writing b.states (cell_steps coding.set c 0 (chosen_rows coding.set coding.bits c n)) → Written coding b d over cur (length cur) →
+    Puts coding.table a.writing a.states d.writing d.states (cell_steps coding.set c 0 (chosen_rows coding.set coding.bits c (n + 1)))
+cell_next coding a b d c n over cur wide_cur wide_one shows_two shows_one shows_cur puts written =
     let one_more : n + 1 ≡ suc n = omega arith in
     let two_more : n + 2 ≡ suc (suc n) = omega arith in
-    let first : Shows c (suc n) one c.width = subst (λ k. Shows c k one c.width) one_more shows_one in
+    let first : Shows c (suc n) over.one c.width = subst (λ k. Shows c k over.one c.width) one_more shows_one in
     let row : Shows c (suc (suc n)) cur (length cur) = subst (λ k. Shows c (suc (suc n)) cur k) (sym wide_cur) (subst (λ k. Shows c k cur c.width) two_more shows_cur) in
     let next = written.puts c n (record { wide = wide_one; second = shows_two; first = first }) row in
-    let next = subst (λ k. Puts t b between d after (row_steps set c n 0 (chosen_row set bits c n k))) wide_cur next in
-    let next = subst (λ k. Puts t b between d after (row_steps set c k 0 (chosen_row set bits c n c.width))) (sym (length-rows set bits c n)) next in
-    rw (chosen_next set bits c n) (puts_next t set a b d states between after c (chosen_rows set bits c n) (chosen_row set bits c n c.width) puts next)
+    let next = subst (λ k. Puts coding.table b.writing b.states d.writing d.states (row_steps coding.set c n 0 (chosen_row coding.set coding.bits c n k))) wide_cur next in
+    let next = subst (λ k. Puts coding.table b.writing b.states d.writing d.states (row_steps coding.set c k 0 (chosen_row coding.set coding.bits c n c.width))) (sym (length-rows coding.set coding.bits c n)) next in
+    rw (chosen_next coding.set coding.bits c n) (puts_next coding.table coding.set a.writing b.writing d.writing a.states b.states d.states c (chosen_rows coding.set coding.bits c n) (chosen_row coding.set coding.bits c n c.width) puts next)
 
 -- from a row to the next
 pub above_top : (c : Cell) → Above c 0 (replicate c.width 0) (replicate c.width 0)

@@ -1,7 +1,6 @@
 -- Rows one after the other.
 use Rattle.std.proofs.Common.{◌≡◌, refl, ℕ, ◌+◌, ◌*◌, ◌<◌, ◌≤◌, List, [], ◌∷◌, ◌++◌, length, arith, ap, sym, ◌∙◌, suc, append_assoc, append-nil, ℤ}
 use Rattle.ffv1_range.specs.Table.{Table}
-use Rattle.ffv1_range.specs.Reading.{Reading}
 use Rattle.ffv1_range.specs.Writing.{Writing}
 use Rattle.ffv1_range.specs.Puts.{Puts}
 use Rattle.ffv1_range.specs.Symbols.{Step, shifted, signed_steps}
@@ -13,7 +12,9 @@ use Rattle.ffv1_plane.specs.Quantisation.{Set, contexts_of}
 use Rattle.ffv1_plane.specs.Context.{size_of}
 use Rattle.ffv1_line.specs.Cell.{Cell, around}
 use Rattle.ffv1_line.specs.Row.{AreSuiting, row_steps, cell_steps}
-use Rattle.ffv1_line.specs.Decoded.{Coded, Rows, RowsSuit}
+use Rattle.ffv1_line.specs.Decoded.{RowRead, Rows, RowsSuit}
+use Rattle.ffv1_line.specs.Coding.{RowCoding}
+use Rattle.ffv1_line.specs.Coder.{Decoder}
 
 cell_steps-at : (set : Set) (c : Cell) (y n : ℕ) (rows : List (List ℤ)) (qs : List ℤ) → n ≡ y + length rows →
     cell_steps set c y (rows ++ (qs ∷ [])) ≡ cell_steps set c y rows ++ row_steps set c n 0 qs
@@ -35,11 +36,11 @@ rows_suit-append set bits c y n [] qs is long are one =
     (long, rw same at one, tt)
 rows_suit-append set bits c y n (ps ∷ rows) qs is long are one = (are.0, are.1, rows_suit-append set bits c (suc y) n rows qs (omega arith) long are.2 one)
 
-pub rows_next : (t : Table) (set : Set) (bits : ℕ) (a b d : Reading) (states between after : List ℕ) (c : Cell) (rows : List (List ℤ)) (qs : List ℤ) →
-    Rows t set bits a states b between c rows → length qs ≡ c.width → Coded t set bits b between d after qs c (length rows) → Rows t set bits a states d after c (rows ++ (qs ∷ []))
-rows_next t set bits a b d states between after c rows qs read long coded = record {
-  suits = rows_suit-append set bits c 0 (length rows) rows qs (omega arith) long read.suits coded.suits;
-  follows = rw (cell_steps-at set c 0 (length rows) rows qs (omega arith)) (follows_append _ _ _ _ _ _ _ _ _ read.follows coded.follows);
+pub rows_next : (coding : RowCoding) (a b d : Decoder) (c : Cell) (rows : List (List ℤ)) (qs : List ℤ) →
+    Rows coding a b c rows → length qs ≡ c.width → RowRead coding b d qs c (length rows) → Rows coding a d c (rows ++ (qs ∷ []))
+rows_next coding a b d c rows qs read long coded = record {
+  suits = rows_suit-append coding.set coding.bits c 0 (length rows) rows qs (omega arith) long read.suits coded.suits;
+  follows = rw (cell_steps-at coding.set c 0 (length rows) rows qs (omega arith)) (follows_append _ _ _ _ _ _ _ _ _ read.follows coded.follows);
 }
 
 pub puts_next : (t : Table) (set : Set) (a b d : Writing) (states between after : List ℕ) (c : Cell) (rows : List (List ℤ)) (qs : List ℤ) →
@@ -47,7 +48,7 @@ pub puts_next : (t : Table) (set : Set) (a b d : Writing) (states between after 
 puts_next t set a b d states between after c rows qs wrote next =
     rw (cell_steps-at set c 0 (length rows) rows qs (omega arith)) (puts_append _ _ _ _ _ _ _ _ _ wrote next)
 
-shifted_below : (base count limit : ℕ) (steps : List Step) → base + count ≤ limit → AreBelow steps count → AreBelow (shifted base steps) limit
+pub shifted_below : (base count limit : ℕ) (steps : List Step) → base + count ≤ limit → AreBelow steps count → AreBelow (shifted base steps) limit
 shifted_below base count limit [] fits below = tt
 shifted_below base count limit (s ∷ ss) fits below =
     let first = below.0 in

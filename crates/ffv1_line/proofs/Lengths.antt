@@ -1,5 +1,5 @@
 -- How many decisions residuals take.
-use Rattle.std.proofs.Common.{◌≡◌, refl, ℕ, ◌+◌, ◌-◌, ◌*◌, ◌^◌, ◌<◌, ◌≤◌, List, [], ◌∷◌, ◌++◌, length, arith, ◌∙◌, zero, suc, length-append, ℤ, pos, negsuc, unsigned_abs, true, false, ◌-ℤ◌, ◌≤ℤ◌, ◌<ℤ◌, inl, inr}
+use Rattle.std.proofs.Common.{◌≡◌, refl, ℕ, ◌+◌, ◌-◌, ◌*◌, ◌^◌, ◌<◌, ◌≤◌, List, [], ◌∷◌, ◌++◌, length, arith, ◌∙◌, zero, suc, length-append, ℤ, pos, negsuc, unsigned_abs, true, false, ◌-ℤ◌, ◌≤ℤ◌, ◌<ℤ◌}
 use Rattle.std.proofs.lemmas.Int.{ints}
 use Rattle.ffv1_range.specs.Symbols.{signed_steps, exponent}
 use Rattle.ffv1_range.specs.History.{AreBelow}

@@ -14,5 +14,5 @@ pub mod CellBack
 pub mod MostDecisions
 pub mod SamplesBelow
 pub mod Agreeing
-pub mod Even
+pub mod EqualNeighbours
 mod Zeros

@@ -5,9 +5,6 @@ use Rattle.std.proofs.lemmas.Nat.{pow_pos}
 use Rattle.std.proofs.lemmas.Int.{ints}
 use Rattle.std.proofs.Math.Pow.{pow_mono}
 use Rattle.std.proofs.Math.Nat.{pow-succ'}
-use Rattle.ffv1_range.specs.Table.{Table}
-use Rattle.ffv1_range.specs.Reading.{Reading}
-use Rattle.ffv1_range.specs.Writing.{Writing}
 use Rattle.ffv1_range.specs.Symbols.{exponent, too_long, raising}
 use Rattle.ffv1_range.proofs.Counting.{length-shifted}
 use Rattle.ffv1_range.proofs.Exponents.{exponent_place}
@@ -17,11 +14,14 @@ use Rattle.ffv1_plane.specs.Context.{size_of, flip_of}
 use Rattle.ffv1_plane.proofs.Folding.{chosen_folded}
 use Rattle.ffv1_line.specs.Cell.{Cell, seen, around}
 use Rattle.ffv1_line.specs.Row.{row_steps, refused_steps, chosen_at, chosen_row}
-use Rattle.ffv1_line.specs.Decoded.{Lined, Refused}
+use Rattle.ffv1_line.specs.Decoded.{Lined, LinedToRefusal}
 use Rattle.ffv1_line.specs.Encoded.{Written}
 use Rattle.ffv1_line.specs.Length.{binary_digits, decisions_of, row_decisions, AreSmall, CountedAtMost}
 use Rattle.ffv1_line.proofs.Lengths.{row_length, row_most, chosen_row_small}
 use Rattle.ffv1_line.proofs.ThreeRows.{three, above_three, shows_three, suiting_small, lined_suits, lined_follows, refused_suits, refused_follows}
+use Rattle.ffv1_line.specs.Coding.{RowCoding}
+use Rattle.ffv1_line.specs.Coder.{Decoder, Encoder}
+use Rattle.ffv1_line.specs.Above.{RowsAbove}
 
 -- the digits of a number, by its highest
 record Highest (n : ℕ) : Type 0 where
@@ -90,42 +90,42 @@ length-too_long : length too_long ≡ 32
 unfolding raising
 length-too_long = refl
 
-module _ (t : Table) (set : Set) (bits : ℕ) (old : Reading) (states : List ℕ) (new : Reading) (after two one cur : List ℕ) (n : ℕ) (few : n ≤ length one) where
-  pub lined_small : (l : Lined t set bits old states new after two one cur n) → AreSmall l.residuals
-  lined_small l = suiting_small set bits (three two one cur) 2 0 l.residuals (lined_suits t set bits old states new after two one cur n few l)
+module _ (coding : RowCoding) (old new : Decoder) (over : RowsAbove) (cur : List ℕ) (n : ℕ) (few : n ≤ length over.one) where
+  pub lined_small : (l : Lined coding old new over cur n) → AreSmall l.residuals
+  lined_small l = suiting_small coding.set coding.bits (three over.two over.one cur) 2 0 l.residuals (lined_suits coding old new over cur n few l)
 
-  pub refused_small : (r : Refused t set bits old states new after two one cur n) → AreSmall r.residuals
-  refused_small r = suiting_small set bits (three two one cur) 2 0 r.residuals (refused_suits t set bits old states new after two one cur n few r)
+  pub refused_small : (r : LinedToRefusal coding old new over cur n) → AreSmall r.residuals
+  refused_small r = suiting_small coding.set coding.bits (three over.two over.one cur) 2 0 r.residuals (refused_suits coding old new over cur n few r)
 
-  pub lined_most : Lined t set bits old states new after two one cur n → CountedAtMost old.counts new.counts (63 * n)
+  pub lined_most : Lined coding old new over cur n → CountedAtMost old.reading.counts new.reading.counts (63 * n)
   lined_most l =
-      let follows = lined_follows t set bits old states new after two one cur n few l in
-      let long = row_length set (three two one cur) 2 0 l.residuals (lined_small l) in
+      let follows = lined_follows coding old new over cur n few l in
+      let long = row_length coding.set (three over.two over.one cur) 2 0 l.residuals (lined_small l) in
       let most = row_most l.residuals (lined_small l) in
-      record { count = length (row_steps set (three two one cur) 2 0 l.residuals); few = omega (arith, long, most, l.count); goes_on = follows.counts.of_all }
+      record { count = length (row_steps coding.set (three over.two over.one cur) 2 0 l.residuals); few = omega (arith, long, most, l.count); goes_on = follows.counts.of_all }
 
-  pub refused_most : Refused t set bits old states new after two one cur n → CountedAtMost old.counts new.counts (63 * n + 32)
+  pub refused_most : LinedToRefusal coding old new over cur n → CountedAtMost old.reading.counts new.reading.counts (63 * n + 32)
   refused_most r =
-      let c = three two one cur in
-      let follows = refused_follows t set bits old states new after two one cur n few r in
-      let long = row_length set c 2 0 r.residuals (refused_small r) in
+      let c = three over.two over.one cur in
+      let follows = refused_follows coding old new over cur n few r in
+      let long = row_length coding.set c 2 0 r.residuals (refused_small r) in
       let most = row_most r.residuals (refused_small r) in
-      let last = length-shifted (size_of set (around c n 2) * 32) too_long ∙ length-too_long in
-      let all = length-append (row_steps set c 2 0 r.residuals) (refused_steps set (around c n 2)) in
+      let last = length-shifted (size_of coding.set (around c n 2) * 32) too_long ∙ length-too_long in
+      let all = length-append (row_steps coding.set c 2 0 r.residuals) (refused_steps coding.set (around c n 2)) in
       record {
-        count = length (row_steps set c 2 0 r.residuals ++ refused_steps set (around c n 2));
+        count = length (row_steps coding.set c 2 0 r.residuals ++ refused_steps coding.set (around c n 2));
         few = omega (arith, long, most, last, all, r.count);
         goes_on = follows.counts.of_all;
       }
 
-pub written_most : (t : Table) (set : Set) (bits : ℕ) (old : Writing) (states : List ℕ) (new : Writing) (after two one cur : List ℕ) (n m : ℕ) → bits ≡ suc m → m < 31 → n ≤ length one →
-    Written t set bits old states new after two one cur n → CountedAtMost old.counts new.counts ((2 * bits + 1) * n)
-written_most t set bits old states new after two one cur n m is few inside w =
-    let c = three two one cur in
-    let puts = w.puts c 2 (above_three two one cur) (shows_three two one cur n inside) in
-    let less : bits - 1 ≡ m = omega (arith, is) in
+pub written_most : (coding : RowCoding) (old new : Encoder) (over : RowsAbove) (cur : List ℕ) (n m : ℕ) → coding.bits ≡ suc m → m < 31 → n ≤ length over.one →
+    Written coding old new over cur n → CountedAtMost old.writing.counts new.writing.counts ((2 * coding.bits + 1) * n)
+written_most coding old new over cur n m is few inside w =
+    let c = three over.two over.one cur in
+    let puts = w.puts c 2 (above_three over.two over.one cur) (shows_three over.two over.one cur n inside) in
+    let less : coding.bits - 1 ≡ m = omega (arith, is) in
     let power : 2 ^ m ≤ 2 ^ 30 = pow_mono {i = m} {j = 30} (omega (arith, few)) in
-    let half : 2 ^ (bits - 1) < 2 ^ 31 = subst (λ k. 2 ^ k < 2 ^ 31) (sym less) (omega (arith, power)) in
-    let long = row_length set c 2 0 (chosen_row set bits c 2 n) (chosen_row_small set bits c 2 n (omega (arith, is)) half) in
-    let most = chosen_row_few set bits m c 2 n is in
-    record { count = length (row_steps set c 2 0 (chosen_row set bits c 2 n)); few = omega (arith, long, most); goes_on = puts.counts.of_all }
+    let half : 2 ^ (coding.bits - 1) < 2 ^ 31 = subst (λ k. 2 ^ k < 2 ^ 31) (sym less) (omega (arith, power)) in
+    let long = row_length coding.set c 2 0 (chosen_row coding.set coding.bits c 2 n) (chosen_row_small coding.set coding.bits c 2 n (omega (arith, is)) half) in
+    let most = chosen_row_few coding.set coding.bits m c 2 n is in
+    record { count = length (row_steps coding.set c 2 0 (chosen_row coding.set coding.bits c 2 n)); few = omega (arith, long, most); goes_on = puts.counts.of_all }

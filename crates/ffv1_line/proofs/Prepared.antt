@@ -16,42 +16,45 @@ use Rattle.ffv1_plane.specs.declared.early.Early.{Early}
 use Rattle.ffv1_plane.specs.Quantisation.{Set}
 use Rattle.ffv1_plane.specs.Early.{left_above, right_above}
 use Rattle.ffv1_line.specs.Cell.{Cell, seen, Above}
-use Rattle.ffv1_line.specs.Internal.Along.{Stands, IsBehind, IsFilled, IsPrepared}
+use Rattle.ffv1_line.specs.Internal.Along.{AreNeighbours, IsBehind, IsFilled, IsPrepared}
 use Rattle.ffv1_line.specs.Beside.{before, two_before}
 use Rattle.ffv1_line.proofs.Beside.{before_seen, two_before_seen}
 use Rattle.ffv1_line.proofs.Rows.{stands_next, seen_border}
+use Rattle.ffv1_line.specs.Coding.{RowCoding}
+use Rattle.ffv1_line.specs.Coder.{Decoder}
+use Rattle.ffv1_line.specs.Above.{RowsAbove}
 
 -- the sample above to the left is the one that is seen there
 left_is : (c : Cell) (y : ℕ) (two one : List ℕ) (x : ℕ) → x < length one → Above c y two one → left_above two one x ≡ seen c (suc x) (suc y)
 left_is c y two one zero inside above = above.second.each 0 (omega (arith, above.wide)) ∙ sym (seen_border c y)
 left_is c y two one (suc x) inside above = above.first.each x (omega (arith, above.wide))
 
-pub stands_behind : (two one cur : List ℕ) (x ll l tl t : ℕ) → x < length one → tl ≡ left_above two one x → t ≡ get_or one x 0 → IsBehind two one cur x ll l → Stands two one cur x ll l tl t
-stands_behind two one cur x ll l tl t inside left top behind = record {
+pub stands_behind : (over : RowsAbove) (cur : List ℕ) (x ll l tl t : ℕ) → x < length over.one → tl ≡ left_above over.two over.one x → t ≡ get_or over.one x 0 → IsBehind over cur x ll l → AreNeighbours over cur x ll l tl t
+stands_behind over cur x ll l tl t inside left top behind = record {
   each = λ c y above shows. record {
     ll_is = behind.ll_is c y above shows;
     l_is = behind.l_is c y above shows;
-    tl_is = left ∙ left_is c y two one x inside above;
+    tl_is = left ∙ left_is c y over.two over.one x inside above;
     t_is = top ∙ above.first.each x (omega (arith, above.wide));
   };
 }
 
-behind_stands : (two one cur : List ℕ) (x ll l tl t : ℕ) → Stands two one cur x ll l tl t → IsBehind two one cur x ll l
-behind_stands two one cur x ll l tl t stands = record {
+behind_stands : (over : RowsAbove) (cur : List ℕ) (x ll l tl t : ℕ) → AreNeighbours over cur x ll l tl t → IsBehind over cur x ll l
+behind_stands over cur x ll l tl t stands = record {
   ll_is = λ c y above shows. (stands.each c y above shows).ll_is;
   l_is = λ c y above shows. (stands.each c y above shows).l_is;
 }
 
 -- by the samples that stand before one
-pub behind_here : (two one cur : List ℕ) (x : ℕ) → 0 < length one → IsBehind two one cur x (two_before one cur x) (before one cur x)
-behind_here two one cur x some = record {
-  ll_is = λ c y above shows. two_before_seen c (suc y) one cur x x (omega arith) (omega (arith, above.wide)) shows above.first;
-  l_is = λ c y above shows. before_seen c (suc y) one cur x x (omega arith) (omega (arith, above.wide)) shows above.first;
+pub behind_here : (over : RowsAbove) (cur : List ℕ) (x : ℕ) → 0 < length over.one → IsBehind over cur x (two_before over.one cur x) (before over.one cur x)
+behind_here over cur x some = record {
+  ll_is = λ c y above shows. two_before_seen c (suc y) over.one cur x x (omega arith) (omega (arith, above.wide)) shows above.first;
+  l_is = λ c y above shows. before_seen c (suc y) over.one cur x x (omega arith) (omega (arith, above.wide)) shows above.first;
 }
 
-pub behind_next : (two one cur : List ℕ) (x ll l tl t s : ℕ) → x < length cur → length one ≡ length cur → Stands two one cur x ll l tl t → IsBehind two one (slice_set cur x s) (x + 1) l s
-behind_next two one cur x ll l tl t s inside same stands =
-    behind_stands two one (slice_set cur x s) (x + 1) l s t _ (stands_next two one cur x (min (x + 1) (length one - 1)) ll l tl t s (omega arith) inside same stands)
+pub behind_next : (over : RowsAbove) (cur : List ℕ) (x ll l tl t s : ℕ) → x < length cur → length over.one ≡ length cur → AreNeighbours over cur x ll l tl t → IsBehind over (slice_set cur x s) (x + 1) l s
+behind_next over cur x ll l tl t s inside same stands =
+    behind_stands over (slice_set cur x s) (x + 1) l s t _ (stands_next over cur x (min (x + 1) (length over.one - 1)) ll l tl t s (omega arith) inside same stands)
 
 pub prepared_at : (set : Set) (two one : List ℕ) (from : ℕ) (e : Early) (n i : ℕ) → IsFilled set two one from e n → i < n → IsPrepared set e i (right_above one (from + i)) (get_or two (from + i) 0)
 prepared_at set two one from e n i filled inside = record {
@@ -61,13 +64,13 @@ prepared_at set two one from e n i filled inside = record {
 }
 
 -- a sample by the number of its context, its flip and its prediction
-sampled_by : (t : Table) (set : Set) (bits : ℕ) (old : Reading) (states : List ℕ) (new : Reading) (after : List ℕ) (a : Around) (s size : ℕ) (flip : Bool) (prediction q : ℤ) →
-    size ≡ size_of set a → flip ≡ flip_of set a → prediction ≡ predicted_in bits a → unsigned_abs q < 2 ^ 31 → pos s ≡ sample_of bits prediction flip q →
-    Follows t old states new after (shifted (size * 32) (signed_steps q)) → Sampled t set bits old states new after a s
-sampled_by t set bits old states new after a s size flip prediction q size_is flip_is prediction_is small makes follows = record {
+sampled_by : (coding : RowCoding) (old new : Decoder) (a : Around) (s size : ℕ) (flip : Bool) (prediction q : ℤ) →
+    size ≡ size_of coding.set a → flip ≡ flip_of coding.set a → prediction ≡ predicted_in coding.bits a → unsigned_abs q < 2 ^ 31 → pos s ≡ sample_of coding.bits prediction flip q →
+    Follows coding.table old.reading old.states new.reading new.states (shifted (size * 32) (signed_steps q)) → Sampled coding old new a s
+sampled_by coding old new a s size flip prediction q size_is flip_is prediction_is small makes follows = record {
   residual = q;
   suits = record { size = small; makes = rw (← flip_is, ← prediction_is) makes };
-  follows = subst (λ n. Follows t old states new after (shifted (n * 32) (signed_steps q))) size_is follows;
+  follows = subst (λ n. Follows coding.table old.reading old.states new.reading new.states (shifted (n * 32) (signed_steps q))) size_is follows;
 }
 
 pub refused_by : (t : Table) (set : Set) (old : Reading) (states : List ℕ) (new : Reading) (after : List ℕ) (a : Around) (size : ℕ) → size ≡ size_of set a →
@@ -79,10 +82,10 @@ zero_makes : (bits s : ℕ) (prediction : ℤ) (flip : Bool) → pos s ≡ sampl
 zero_makes bits s prediction false makes = makes
 zero_makes bits s prediction true makes = makes
 
-pub sampled_by_zero : (t : Table) (set : Set) (bits : ℕ) (old : Reading) (states : List ℕ) (new : Reading) (after : List ℕ) (a : Around) (s size : ℕ) (flip : Bool) (prediction : ℤ) → size ≡ size_of set a →
-    flip ≡ flip_of set a → prediction ≡ predicted_in bits a → pos s ≡ sample_of bits prediction false (pos 0) → Follows t old states new after (shifted (size * 32) (signed_steps (pos 0))) → Sampled t set bits old states new after a s
-sampled_by_zero t set bits old states new after a s size flip prediction size_is flip_is prediction_is makes follows =
-    sampled_by t set bits old states new after a s size flip prediction (pos 0) size_is flip_is prediction_is (omega arith) (zero_makes bits s prediction flip makes) follows
+pub sampled_by_zero : (coding : RowCoding) (old new : Decoder) (a : Around) (s size : ℕ) (flip : Bool) (prediction : ℤ) → size ≡ size_of coding.set a →
+    flip ≡ flip_of coding.set a → prediction ≡ predicted_in coding.bits a → pos s ≡ sample_of coding.bits prediction false (pos 0) → Follows coding.table old.reading old.states new.reading new.states (shifted (size * 32) (signed_steps (pos 0))) → Sampled coding old new a s
+sampled_by_zero coding old new a s size flip prediction size_is flip_is prediction_is makes follows =
+    sampled_by coding old new a s size flip prediction (pos 0) size_is flip_is prediction_is (omega arith) (zero_makes coding.bits s prediction flip makes) follows
 
 -- a number by its size and its sign
 signed_small : (n : ℕ) (negative : Bool) → n < 2 ^ 31 → unsigned_abs (signed_by n negative) < 2 ^ 31
@@ -93,9 +96,9 @@ signed_makes : (bits s n : ℕ) (prediction : ℤ) (flip negative : Bool) → po
 signed_makes bits s n prediction flip false makes = makes
 signed_makes bits s n prediction flip true makes = makes
 
-pub sampled_by_sign : (t : Table) (set : Set) (bits : ℕ) (old : Reading) (states : List ℕ) (new : Reading) (after : List ℕ) (a : Around) (s size : ℕ) (flip : Bool) (prediction : ℤ) (n : ℕ) (negative : Bool) →
-    size ≡ size_of set a → flip ≡ flip_of set a → prediction ≡ predicted_in bits a → n < 2 ^ 31 → pos s ≡ sample_of bits prediction flip (turned negative (pos n)) →
-    Follows t old states new after (shifted (size * 32) (signed_steps (signed_by n negative))) → Sampled t set bits old states new after a s
-sampled_by_sign t set bits old states new after a s size flip prediction n negative size_is flip_is prediction_is small makes follows =
-    sampled_by t set bits old states new after a s size flip prediction (signed_by n negative) size_is flip_is prediction_is (signed_small n negative small) (signed_makes bits s n prediction flip negative makes)
+pub sampled_by_sign : (coding : RowCoding) (old new : Decoder) (a : Around) (s size : ℕ) (flip : Bool) (prediction : ℤ) (n : ℕ) (negative : Bool) →
+    size ≡ size_of coding.set a → flip ≡ flip_of coding.set a → prediction ≡ predicted_in coding.bits a → n < 2 ^ 31 → pos s ≡ sample_of coding.bits prediction flip (turned negative (pos n)) →
+    Follows coding.table old.reading old.states new.reading new.states (shifted (size * 32) (signed_steps (signed_by n negative))) → Sampled coding old new a s
+sampled_by_sign coding old new a s size flip prediction n negative size_is flip_is prediction_is small makes follows =
+    sampled_by coding old new a s size flip prediction (signed_by n negative) size_is flip_is prediction_is (signed_small n negative small) (signed_makes coding.bits s n prediction flip negative makes)
     follows

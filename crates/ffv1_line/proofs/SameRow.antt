@@ -18,6 +18,7 @@ use Rattle.ffv1_line.specs.Cell.{Cell, seen, around, Shows, Above}
 use Rattle.ffv1_line.specs.Row.{SuitsAt, AreSuiting, sample_steps, refused_steps, row_steps}
 use Rattle.ffv1_line.specs.Coded.{AreSame, CodesSteps, CodesRowBy, RefusesRowBy}
 use Rattle.ffv1_line.proofs.Rows.{seen_clamped}
+use Rattle.ffv1_line.specs.Coding.{RowCoding}
 
 -- steps at later slots
 slots_shifted : (b : ℕ) (xs ys : List Step) → SameSlots xs ys → SameSlots (shifted b xs) (shifted b ys)
@@ -228,37 +229,36 @@ same_none c y d z = record { each = λ x h. absurd (omega (arith, h)) }
 no_tail : (bytes : List ℕ) (t : Table) (states : List ℕ) (i : Interval) (steps : List Step) → Code bytes t states i steps → Code bytes t states i (steps ++ [])
 no_tail bytes t states i steps f = subst (Code bytes t states i) (sym (append-nil steps)) f
 
-module _ (bytes : List ℕ) (are : AreBytes bytes) (before : List Decision) (t : Table) (states : List ℕ) (set : Set) (bits : ℕ) (c : Cell) (y : ℕ) (d : Cell) (z : ℕ)
-    (two one : List ℕ) (some : 0 < length one) (in_c : Above c y two one) (in_d : Above d z two one) (ps qs : List ℤ) where
-  pub one_row : length ps ≡ length qs → CodesRowBy bytes before t states set bits c y ps → CodesRowBy bytes before t states set bits d z qs → (ps ≡ qs) × AreSame c y d z (length ps)
+module _ (bytes : List ℕ) (are : AreBytes bytes) (before : List Decision) (coding : RowCoding) (states : List ℕ) (c : Cell) (y : ℕ) (d : Cell) (z : ℕ) (two one : List ℕ) (some : 0 < length one) (in_c : Above c y two one) (in_d : Above d z two one) (ps qs : List ℤ) where
+  pub one_row : length ps ≡ length qs → CodesRowBy bytes before coding states c y ps → CodesRowBy bytes before coding states d z qs → (ps ≡ qs) × AreSame c y d z (length ps)
   one_row long f g =
-      let r = same_residuals bytes are t set bits c y d z (twins c y d z two one some in_c in_d) states (narrowed start before) 0 ps qs [] [] long (same_none c y d z) f.suits g.suits
+      let r = same_residuals bytes are coding.table coding.set coding.bits c y d z (twins c y d z two one some in_c in_d) states (narrowed start before) 0 ps qs [] [] long (same_none c y d z) f.suits g.suits
       (no_tail _ _ _ _ _ (code_of _ _ _ _ _ f.coded)) (no_tail _ _ _ _ _ (code_of _ _ _ _ _ g.coded)) in
       (r.residuals, subst (AreSame c y d z) (omega arith) r.samples)
 
-  pub whole_or_refused : length qs < length ps → CodesRowBy bytes before t states set bits c y ps → RefusesRowBy bytes before t states set bits d z qs → ⊥
+  pub whole_or_refused : length qs < length ps → CodesRowBy bytes before coding states c y ps → RefusesRowBy bytes before coding states d z qs → ⊥
   whole_or_refused short f g =
-      not_refused bytes are t set bits c y d z (twins c y d z two one some in_c in_d) states (narrowed start before) 0 (length qs) ps qs [] short (omega arith) (same_none c y d z) f.suits g.suits
+      not_refused bytes are coding.table coding.set coding.bits c y d z (twins c y d z two one some in_c in_d) states (narrowed start before) 0 (length qs) ps qs [] short (omega arith) (same_none c y d z) f.suits g.suits
       (no_tail _ _ _ _ _ (code_of _ _ _ _ _ f.coded)) (code_of _ _ _ _ _ g.coded)
 
-  refused_first : length qs < length ps → RefusesRowBy bytes before t states set bits c y ps → RefusesRowBy bytes before t states set bits d z qs → ⊥
+  refused_first : length qs < length ps → RefusesRowBy bytes before coding states c y ps → RefusesRowBy bytes before coding states d z qs → ⊥
   refused_first short f g =
-      not_refused bytes are t set bits c y d z (twins c y d z two one some in_c in_d) states (narrowed start before) 0 (length qs) ps qs _ short (omega arith) (same_none c y d z) f.suits g.suits
+      not_refused bytes are coding.table coding.set coding.bits c y d z (twins c y d z two one some in_c in_d) states (narrowed start before) 0 (length qs) ps qs _ short (omega arith) (same_none c y d z) f.suits g.suits
       (code_of _ _ _ _ _ f.coded) (code_of _ _ _ _ _ g.coded)
 
-  same_refused : length ps ≡ length qs → RefusesRowBy bytes before t states set bits c y ps → RefusesRowBy bytes before t states set bits d z qs → (ps ≡ qs) × AreSame c y d z (length ps)
+  same_refused : length ps ≡ length qs → RefusesRowBy bytes before coding states c y ps → RefusesRowBy bytes before coding states d z qs → (ps ≡ qs) × AreSame c y d z (length ps)
   same_refused long f g =
-      let r = same_residuals bytes are t set bits c y d z (twins c y d z two one some in_c in_d) states (narrowed start before) 0 ps qs _ _ long (same_none c y d z) f.suits g.suits
+      let r = same_residuals bytes are coding.table coding.set coding.bits c y d z (twins c y d z two one some in_c in_d) states (narrowed start before) 0 ps qs _ _ long (same_none c y d z) f.suits g.suits
       (code_of _ _ _ _ _ f.coded) (code_of _ _ _ _ _ g.coded) in
       (r.residuals, subst (AreSame c y d z) (omega arith) r.samples)
 
-pub one_refusal : (bytes : List ℕ) → AreBytes bytes → (before : List Decision) (t : Table) (states : List ℕ) (set : Set) (bits : ℕ) (c : Cell) (y : ℕ) (d : Cell) (z : ℕ) (two one : List ℕ) → 0 < length one →
-    Above c y two one → Above d z two one → (ps qs : List ℤ) → RefusesRowBy bytes before t states set bits c y ps → RefusesRowBy bytes before t states set bits d z qs → (ps ≡ qs) × AreSame c y d z (length ps)
-one_refusal bytes are before t states set bits c y d z two one some in_c in_d ps qs f g =
+pub one_refusal : (bytes : List ℕ) → AreBytes bytes → (before : List Decision) (coding : RowCoding) (states : List ℕ) (c : Cell) (y : ℕ) (d : Cell) (z : ℕ) (two one : List ℕ) → 0 < length one →
+    Above c y two one → Above d z two one → (ps qs : List ℤ) → RefusesRowBy bytes before coding states c y ps → RefusesRowBy bytes before coding states d z qs → (ps ≡ qs) × AreSame c y d z (length ps)
+one_refusal bytes are before coding states c y d z two one some in_c in_d ps qs f g =
     elim (cases_lt (length qs) (length ps)) [
-      | inl less ↦ absurd (refused_first bytes are before t states set bits c y d z two one some in_c in_d ps qs less f g)
+      | inl less ↦ absurd (refused_first bytes are before coding states c y d z two one some in_c in_d ps qs less f g)
       | inr more ↦ elim (cases_lt (length ps) (length qs)) [
-        | inl less ↦ absurd (refused_first bytes are before t states set bits d z c y two one some in_d in_c qs ps less g f)
-        | inr other ↦ same_refused bytes are before t states set bits c y d z two one some in_c in_d ps qs (omega (arith, more, other)) f g
+        | inl less ↦ absurd (refused_first bytes are before coding states d z c y two one some in_d in_c qs ps less g f)
+        | inr other ↦ same_refused bytes are before coding states c y d z two one some in_c in_d ps qs (omega (arith, more, other)) f g
       ]
     ]

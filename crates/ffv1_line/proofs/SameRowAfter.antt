@@ -7,11 +7,11 @@ use Rattle.ffv1_range.specs.History.{state_of, decisions_after, AreBelow, HasSta
 use Rattle.ffv1_range.proofs.HistoryLemmas.{decided_is}
 use Rattle.ffv1_range.proofs.OneAfter.{after_append}
 use Rattle.ffv1_range.proofs.Named.{named}
-use Rattle.ffv1_plane.specs.Quantisation.{Set}
 use Rattle.ffv1_line.specs.Cell.{Cell, Above}
 use Rattle.ffv1_line.specs.Row.{row_steps}
 use Rattle.ffv1_line.specs.Coded.{AreSame, CodesSteps, CodesRow, RefusesRow, refused_row_steps}
 use Rattle.ffv1_line.proofs.SameRow.{one_row, whole_or_refused, one_refusal}
+use Rattle.ffv1_line.specs.Coding.{RowCoding}
 
 -- the states of the slots from base on
 unfoldable states_from : Table → ℕ → List Step → ℕ → List ℕ
@@ -57,32 +57,31 @@ coded_by bytes t base past steps n table below codes =
       codes = subst (Codes bytes) (after_append t [] past (shifted base steps) ∙ ap (λ ds. decisions_after t [] past ++ ds) (sym is)) codes;
     }
 
-module _ (bytes : List ℕ) (are : AreBytes bytes) (t : Table) (table : IsTable t.floor t.one) (base : ℕ) (past : List Step) (set : Set) (bits : ℕ) (c : Cell) (y : ℕ) (d : Cell) (z : ℕ)
-    (two one : List ℕ) (some : 0 < length one) (in_c : Above c y two one) (in_d : Above d z two one) (ps qs : List ℤ) where
+module _ (bytes : List ℕ) (are : AreBytes bytes) (coding : RowCoding) (table : IsTable coding.table.floor coding.table.one) (base : ℕ) (past : List Step) (c : Cell) (y : ℕ) (d : Cell) (z : ℕ) (two one : List ℕ) (some : 0 < length one) (in_c : Above c y two one) (in_d : Above d z two one) (ps qs : List ℤ) where
   -- both by states enough for both lists
-  first_by : (xs ys : List Step) → Codes bytes (decisions_after t [] (past ++ shifted base xs)) → CodesSteps bytes (decisions_after t [] past) t (states_from t base past (slots_of xs + slots_of ys)) xs
-  first_by xs ys f = coded_by bytes t base past xs (slots_of xs + slots_of ys) table (below_more xs (slots_of xs) (slots_of xs + slots_of ys) (omega arith) (below_slots xs)) f
+  first_by : (xs ys : List Step) → Codes bytes (decisions_after coding.table [] (past ++ shifted base xs)) → CodesSteps bytes (decisions_after coding.table [] past) coding.table (states_from coding.table base past (slots_of xs + slots_of ys)) xs
+  first_by xs ys f = coded_by bytes coding.table base past xs (slots_of xs + slots_of ys) table (below_more xs (slots_of xs) (slots_of xs + slots_of ys) (omega arith) (below_slots xs)) f
 
-  second_by : (xs ys : List Step) → Codes bytes (decisions_after t [] (past ++ shifted base ys)) → CodesSteps bytes (decisions_after t [] past) t (states_from t base past (slots_of xs + slots_of ys)) ys
-  second_by xs ys f = coded_by bytes t base past ys (slots_of xs + slots_of ys) table (below_more ys (slots_of ys) (slots_of xs + slots_of ys) (omega arith) (below_slots ys)) f
+  second_by : (xs ys : List Step) → Codes bytes (decisions_after coding.table [] (past ++ shifted base ys)) → CodesSteps bytes (decisions_after coding.table [] past) coding.table (states_from coding.table base past (slots_of xs + slots_of ys)) ys
+  second_by xs ys f = coded_by bytes coding.table base past ys (slots_of xs + slots_of ys) table (below_more ys (slots_of ys) (slots_of xs + slots_of ys) (omega arith) (below_slots ys)) f
 
-  pub one_row_after : length ps ≡ length qs → CodesRow bytes t base past set bits c y ps → CodesRow bytes t base past set bits d z qs → (ps ≡ qs) × AreSame c y d z (length ps)
+  pub one_row_after : length ps ≡ length qs → CodesRow bytes coding base past c y ps → CodesRow bytes coding base past d z qs → (ps ≡ qs) × AreSame c y d z (length ps)
   one_row_after long f g =
-      let xs = row_steps set c y 0 ps in
-      let ys = row_steps set d z 0 qs in
-      one_row bytes are (decisions_after t [] past) t (states_from t base past (slots_of xs + slots_of ys)) set bits c y d z two one some in_c in_d ps qs long
+      let xs = row_steps coding.set c y 0 ps in
+      let ys = row_steps coding.set d z 0 qs in
+      one_row bytes are (decisions_after coding.table [] past) coding (states_from coding.table base past (slots_of xs + slots_of ys)) c y d z two one some in_c in_d ps qs long
       (record { suits = f.suits; coded = first_by xs ys f.codes }) (record { suits = g.suits; coded = second_by xs ys g.codes })
 
-  pub whole_or_refused_after : length qs < length ps → CodesRow bytes t base past set bits c y ps → RefusesRow bytes t base past set bits d z qs → ⊥
+  pub whole_or_refused_after : length qs < length ps → CodesRow bytes coding base past c y ps → RefusesRow bytes coding base past d z qs → ⊥
   whole_or_refused_after short f g =
-      let xs = row_steps set c y 0 ps in
-      let ys = refused_row_steps set d z qs in
-      whole_or_refused bytes are (decisions_after t [] past) t (states_from t base past (slots_of xs + slots_of ys)) set bits c y d z two one some in_c in_d ps qs short
+      let xs = row_steps coding.set c y 0 ps in
+      let ys = refused_row_steps coding.set d z qs in
+      whole_or_refused bytes are (decisions_after coding.table [] past) coding (states_from coding.table base past (slots_of xs + slots_of ys)) c y d z two one some in_c in_d ps qs short
       (record { suits = f.suits; coded = first_by xs ys f.codes }) (record { suits = g.suits; coded = second_by xs ys g.codes })
 
-  pub one_refusal_after : RefusesRow bytes t base past set bits c y ps → RefusesRow bytes t base past set bits d z qs → (ps ≡ qs) × AreSame c y d z (length ps)
+  pub one_refusal_after : RefusesRow bytes coding base past c y ps → RefusesRow bytes coding base past d z qs → (ps ≡ qs) × AreSame c y d z (length ps)
   one_refusal_after f g =
-      let xs = refused_row_steps set c y ps in
-      let ys = refused_row_steps set d z qs in
-      one_refusal bytes are (decisions_after t [] past) t (states_from t base past (slots_of xs + slots_of ys)) set bits c y d z two one some in_c in_d ps qs
+      let xs = refused_row_steps coding.set c y ps in
+      let ys = refused_row_steps coding.set d z qs in
+      one_refusal bytes are (decisions_after coding.table [] past) coding (states_from coding.table base past (slots_of xs + slots_of ys)) c y d z two one some in_c in_d ps qs
       (record { suits = f.suits; coded = first_by xs ys f.codes }) (record { suits = g.suits; coded = second_by xs ys g.codes })

@@ -1,16 +1,17 @@
 -- Samples that were read have so many bits.
 use Rattle.std.proofs.Common.{◌≡◌, ℕ, zero, suc, ◌+◌, ◌^◌, ◌<◌, ◌≤◌, List, [], ◌∷◌, length, get_or, arith, ap, sym, subst, ◌∙◌, ℤ}
-use Rattle.ffv1_range.specs.Table.{Table}
-use Rattle.ffv1_range.specs.Reading.{Reading}
 use Rattle.ffv1_plane.specs.Prediction.{predicted_in}
 use Rattle.ffv1_plane.specs.Quantisation.{Set}
 use Rattle.ffv1_plane.specs.Context.{flip_of}
 use Rattle.ffv1_plane.proofs.Folding.{one_made}
 use Rattle.ffv1_line.specs.Cell.{Cell, seen, around}
 use Rattle.ffv1_line.specs.Row.{AreSuiting}
-use Rattle.ffv1_line.specs.Decoded.{Lined, Refused}
+use Rattle.ffv1_line.specs.Decoded.{Lined, LinedToRefusal}
 use Rattle.ffv1_line.proofs.SameRow.{number}
 use Rattle.ffv1_line.proofs.ThreeRows.{three, seen_three, lined_suits, refused_suits}
+use Rattle.ffv1_line.specs.Coding.{RowCoding}
+use Rattle.ffv1_line.specs.Coder.{Decoder}
+use Rattle.ffv1_line.specs.Above.{RowsAbove}
 
 pub suiting_below : (set : Set) (bits : ℕ) (c : Cell) (y x k : ℕ) (qs : List ℤ) → AreSuiting set bits c y x qs → k < length qs → seen c (suc (suc (x + k))) (suc (suc y)) < 2 ^ bits
 suiting_below set bits c y x k [] are h = absurd (omega (arith, h))
@@ -29,9 +30,9 @@ row_below set bits two one cur x n qs long few h are =
     let at : seen (three two one cur) (suc (suc (0 + x))) 4 ≡ get_or cur x 0 = ap (λ k. seen (three two one cur) (suc (suc k)) 4) (omega arith) ∙ seen_three two one cur x (omega (arith, h, few)) in
     subst (λ s. s < 2 ^ bits) at below
 
-module _ (t : Table) (set : Set) (bits : ℕ) (old : Reading) (states : List ℕ) (new : Reading) (after two one cur : List ℕ) (n : ℕ) (few : n ≤ length one) where
-  pub lined_below : Lined t set bits old states new after two one cur n → (x : ℕ) → x < n → get_or cur x 0 < 2 ^ bits
-  lined_below l x h = row_below set bits two one cur x n l.residuals l.count few h (lined_suits t set bits old states new after two one cur n few l)
+module _ (coding : RowCoding) (old new : Decoder) (over : RowsAbove) (cur : List ℕ) (n : ℕ) (few : n ≤ length over.one) where
+  pub lined_below : Lined coding old new over cur n → (x : ℕ) → x < n → get_or cur x 0 < 2 ^ coding.bits
+  lined_below l x h = row_below coding.set coding.bits over.two over.one cur x n l.residuals l.count few h (lined_suits coding old new over cur n few l)
 
-  pub refused_below : Refused t set bits old states new after two one cur n → (x : ℕ) → x < n → get_or cur x 0 < 2 ^ bits
-  refused_below r x h = row_below set bits two one cur x n r.residuals r.count few h (refused_suits t set bits old states new after two one cur n few r)
+  pub refused_below : LinedToRefusal coding old new over cur n → (x : ℕ) → x < n → get_or cur x 0 < 2 ^ coding.bits
+  refused_below r x h = row_below coding.set coding.bits over.two over.one cur x n r.residuals r.count few h (refused_suits coding old new over cur n few r)

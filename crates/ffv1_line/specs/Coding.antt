@@ -8,3 +8,6 @@ pub record RowCoding : Type 0 where
   pub table : Table
   pub set : Set
   pub bits : ℕ
+
+abbrev pub coding_by : Table → Set → ℕ → RowCoding
+coding_by table set bits = record { table = table; set = set; bits = bits }

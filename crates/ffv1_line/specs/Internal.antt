@@ -1,5 +1,4 @@
 -- What ties variables of the code to the definitions. No public clause cites it.
 pub mod Along
-pub mod Block
 pub mod Places
 pub mod Parts

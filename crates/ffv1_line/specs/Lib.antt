@@ -1,6 +1,7 @@
 pub mod Cell
 pub mod Above
 pub mod Coding
+pub mod Coder
 pub mod Row
 pub mod Decoded
 pub mod Encoded

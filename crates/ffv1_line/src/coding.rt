@@ -1,5 +1,9 @@
 //! How the rows of a plane are coded.
 
+pub mod states;
+pub(crate) mod way;
+pub mod wide;
+
 use ffv1_plane::QuantSet;
 use ffv1_range::StateTable;
 use std::alloc::Allocator;

@@ -3,19 +3,20 @@
 ghost use Rattle.std.specs.Prelude.{◌≡◌, ◌*◌, ◌<◌, IfErr, OnOk, length};
 ghost use Rattle.ffv1_range.specs.Symbols.{AllHeld};
 ghost use Rattle.ffv1_plane.specs.Quantisation.{contexts_of};
-ghost use Rattle.ffv1_line.specs.Decoded.{Lined, Refused, SameFrom};
+ghost use Rattle.ffv1_line.specs.Decoded.{Lined, LinedToRefusal, SameFrom};
+ghost use Rattle.ffv1_line.specs.Coder.{decoder_by};
 
 mod block;
 mod deep;
-mod even;
-mod flat;
+mod equal;
 pub(crate) mod places;
 mod plain;
 mod row;
+mod run;
 mod sample;
 mod wide;
 
-use crate::above::Above;
+use crate::cell::above::Above;
 use crate::coding::Coding;
 use crate::decode::deep::decode_deep;
 use crate::decode::row::decode_row;
@@ -48,35 +49,36 @@ pub fn decode_line<'a, B: Allocator>(
     requires one_long { length above.now.one ≡ length cur.old }
     requires rows { length states.old ≡ contexts_of coding.now.set * 32 }
     requires held { AllHeld coding.now.table states.old }
-    ensures ok { OnOk result (Lined coding.now.table coding.now.set coding.now.bits decoder.old
-        states.old decoder.new states.new above.now.two above.now.one cur.new (length cur.new)) }
-    ensures refused { IfErr result (λ e. Refused coding.now.table coding.now.set coding.now.bits
-        decoder.old states.old decoder.new states.new above.now.two above.now.one cur.new e.x) }
+    ensures ok { OnOk result (Lined coding.now (decoder_by decoder.old states.old)
+        (decoder_by decoder.new states.new) above.now cur.new (length cur.new)) }
+    ensures refused { IfErr result (λ e. LinedToRefusal coding.now
+        (decoder_by decoder.old states.old) (decoder_by decoder.new states.new) above.now cur.new
+        e.x) }
     ensures inside { IfErr result (λ e. e.x < length cur.new) }
     ensures behind { IfErr result (λ e. SameFrom e.x cur.old cur.new) }
     ensures held { AllHeld coding.now.table states.new }
 {
     let Coding { set, bits, .. } = coding;
-    let near = set.is_near();
+    let three_tables = set.has_three_tables();
     if *bits == 16 {
-        if near {
+        if three_tables {
             return decode_deep::<B, true>(decoder, coding, states, above, cur);
         }
         return decode_deep::<B, false>(decoder, coding, states, above, cur);
     }
     if *bits == 8 {
-        if near {
+        if three_tables {
             return decode_row::<B, 8, true>(decoder, coding, states, above, cur);
         }
         return decode_row::<B, 8, false>(decoder, coding, states, above, cur);
     }
     if *bits == 9 {
-        if near {
+        if three_tables {
             return decode_row::<B, 9, true>(decoder, coding, states, above, cur);
         }
         return decode_row::<B, 9, false>(decoder, coding, states, above, cur);
     }
-    if near {
+    if three_tables {
         return decode_row::<B, 0, true>(decoder, coding, states, above, cur);
     }
     decode_row::<B, 0, false>(decoder, coding, states, above, cur)

@@ -1,30 +1,33 @@
 //! A row is encoded.
 
-ghost use Rattle.std.specs.Prelude.{◌≡◌, ◌+◌, ◌*◌, ◌≤◌, ◌<◌, ◌⊎◌, OnOk, OnErr, IfErr, IsErr};
+ghost use Rattle.std.specs.Prelude.{◌≡◌, ◌+◌, ◌*◌, ◌≤◌, ◌<◌, ◌⊎◌, OnOk, OnErr, IsErr};
 ghost use Rattle.std.specs.Prelude.{IsTrue, length, false, unsigned_abs, ◌^◌};
-ghost use Rattle.ffv1_range.specs.Symbols.{AllHeld, shifted, signed_steps};
+ghost use Rattle.ffv1_range.specs.Symbols.{AllHeld};
 ghost use Rattle.ffv1_range.specs.Puts.{Puts, MayBeRefused};
-ghost use Rattle.ffv1_range.specs.declared.fault.Fault.TheVariants as fault;
-ghost use Rattle.ffv1_plane.specs.Quantisation.{contexts_of, IsNear};
+ghost use Rattle.ffv1_plane.specs.Quantisation.{contexts_of, HasThreeTables};
 ghost use Rattle.ffv1_range.specs.Listed.{of_nine_bits};
-ghost use Rattle.ffv1_line.specs.Internal.Parts.{IsPart, IsBlockOf, CountsPart, part_steps};
-ghost use Rattle.ffv1_line.specs.Encoded.{Written, MayBeRefusedRow, CountsFirst};
+ghost use Rattle.ffv1_line.specs.Internal.Parts.{IsPart, IsBlockOf, CountsPart, nine_bit_steps};
+ghost use Rattle.ffv1_line.specs.Internal.Parts.{part_steps};
+ghost use Rattle.ffv1_line.specs.Encoded.{FailsForGood, Written, MayBeRefusedRow, CountsFirst};
+ghost use Rattle.ffv1_line.specs.Coder.{encoder_by};
 
+mod block;
 mod deep;
+pub(crate) mod part;
 mod plain;
 mod wide;
 
-use crate::above::Above;
-use crate::block::{Block, LIST, PLACES, list_places, prepare};
+use crate::cell::above::Above;
 use crate::coding::Coding;
+use crate::encode::block::{Block, LIST, PLACES, list_places, prepare};
 use crate::encode::deep::encode_deep;
-use crate::part::Part;
+use crate::encode::part::Part;
 use ffv1_range::{Fault, RangeEncoder, StateTable};
 use std::alloc::Allocator;
 pub use wide::encode_wide;
 
 /// In a block of fewer nonzero residuals the symbols are written one by one.
-const CALM: u16 = 8;
+const MOSTLY_ZERO: u16 = 8;
 
 /// A residual of nine bits by itself modulo 512.
 #[inline(always)]
@@ -42,12 +45,12 @@ fn residual_of_nine(residual: u16) -> i32
 
 /// Whether nearly all residuals are zero, so that their symbols are written one by one faster than
 /// by a list.
-fn are_calm(residuals: &[u16]) -> bool {
-    let mut busy = 0u16;
+fn are_mostly_zero(residuals: &[u16]) -> bool {
+    let mut nonzero = 0u16;
     for &residual in residuals {
-        busy = busy.wrapping_add(u16::from(residual != 0));
+        nonzero = nonzero.wrapping_add(u16::from(residual != 0));
     }
-    busy < CALM
+    nonzero < MOSTLY_ZERO
 }
 
 /// The symbol of a residual of nine bits, given modulo 512, in the states of a context, by an
@@ -65,11 +68,11 @@ fn put_residual<A: Allocator>(
     requires held { AllHeld table.now states.old }
     requires small { residual < 512 }
     ensures ok { OnOk result (Puts table.now encoder.old states.old encoder.new states.new
-        (shifted (context * 32) (signed_steps (of_nine_bits residual)))) }
+        (nine_bit_steps context residual)) }
     ensures refused { OnErr result (MayBeRefused table.now encoder.old states.old
-        (shifted (context * 32) (signed_steps (of_nine_bits residual)))) }
+        (nine_bit_steps context residual)) }
     ensures held { AllHeld table.now states.new }
-    ensures err { IfErr result (λ f. (f ≡ fault.OutOfMemory) × IsTrue encoder.new.failed) }
+    ensures err { FailsForGood result encoder.new }
     ensures kept { OnErr result (encoder.new.counts ≡ encoder.old.counts) }
 {
     let value = residual_of_nine(residual);
@@ -79,7 +82,7 @@ fn put_residual<A: Allocator>(
 
 /// The same, where nearly all residuals are 0.
 #[inline(always)]
-fn put_calm<A: Allocator>(
+fn put_mostly_zero<A: Allocator>(
     encoder: &mut RangeEncoder<A>,
     table: &StateTable,
     states: &mut [u8],
@@ -91,11 +94,11 @@ fn put_calm<A: Allocator>(
     requires held { AllHeld table.now states.old }
     requires small { residual < 512 }
     ensures ok { OnOk result (Puts table.now encoder.old states.old encoder.new states.new
-        (shifted (context * 32) (signed_steps (of_nine_bits residual)))) }
+        (nine_bit_steps context residual)) }
     ensures refused { OnErr result (MayBeRefused table.now encoder.old states.old
-        (shifted (context * 32) (signed_steps (of_nine_bits residual)))) }
+        (nine_bit_steps context residual)) }
     ensures held { AllHeld table.now states.new }
-    ensures err { IfErr result (λ f. (f ≡ fault.OutOfMemory) × IsTrue encoder.new.failed) }
+    ensures err { FailsForGood result encoder.new }
     ensures kept { OnErr result (encoder.new.counts ≡ encoder.old.counts) }
 {
     if residual > 0 {
@@ -125,13 +128,13 @@ fn put_places<A: Allocator, B: Allocator>(
     ensures refused { OnErr result (MayBeRefused table.now encoder.old states.old
         (part_steps part.now part.now.count)) }
     ensures held { AllHeld table.now states.new }
-    ensures err { IfErr result (λ f. (f ≡ fault.OutOfMemory) × IsTrue encoder.new.failed) }
+    ensures err { FailsForGood result encoder.new }
     ensures kept { OnErr result (CountsPart part.now encoder.old.counts encoder.new.counts) }
 {
     let _contexts = part.set.contexts();
     for k in 0..part.count {
         let context = block.contexts[k] as usize;
-        put_calm(encoder, table, states, context, block.residuals[k])?;
+        put_mostly_zero(encoder, table, states, context, block.residuals[k])?;
     }
     Ok(())
 }
@@ -155,11 +158,11 @@ fn encode_block<A: Allocator, B: Allocator>(
     ensures refused { OnErr result (MayBeRefused table.now encoder.old states.old
         (part_steps part.now part.now.count)) }
     ensures held { AllHeld table.now states.new }
-    ensures err { IfErr result (λ f. (f ≡ fault.OutOfMemory) × IsTrue encoder.new.failed) }
+    ensures err { FailsForGood result encoder.new }
     ensures kept { OnErr result (CountsPart part.now encoder.old.counts encoder.new.counts) }
 {
     prepare(block, part);
-    if are_calm(&block.residuals[..part.count]) {
+    if are_mostly_zero(&block.residuals[..part.count]) {
         let own = part.own();
         return put_places(encoder, table, states, &own, block);
     }
@@ -169,10 +172,10 @@ fn encode_block<A: Allocator, B: Allocator>(
 }
 
 /// A row of a cell of 8 or 9 bits, by an encoder that has not failed, by a body of its own for each
-/// depth and each kind of set. `NEAR` may be said of a set whose fourth and fifth tables have one
-/// level.
+/// depth and each kind of set. `THREE_TABLES` may be said of a set whose fourth and fifth tables
+/// have one level.
 #[inline(never)]
-fn encode_row<A: Allocator, B: Allocator, const BITS: u8, const NEAR: bool>(
+fn encode_row<A: Allocator, B: Allocator, const BITS: u8, const THREE_TABLES: bool>(
     encoder: &mut RangeEncoder<A>,
     coding: &Coding<'_, B>,
     states: &mut [u8],
@@ -182,20 +185,19 @@ fn encode_row<A: Allocator, B: Allocator, const BITS: u8, const NEAR: bool>(
     requires sound { encoder.old.failed ≡ false }
     requires depth { (BITS ≡ 8) ⊎ (BITS ≡ 9) }
     requires bits { coding.now.bits ≡ BITS }
-    requires near { IsTrue NEAR → IsNear coding.now.set }
+    requires three_tables { IsTrue THREE_TABLES → HasThreeTables coding.now.set }
     requires some { 0 < length cur.now }
     requires one_long { length above.now.one ≡ length cur.now }
     requires rows { length states.old ≡ contexts_of coding.now.set * 32 }
     requires held { AllHeld coding.now.table states.old }
-    ensures ok { OnOk result (Written coding.now.table coding.now.set coding.now.bits encoder.old
-        states.old encoder.new states.new above.now.two above.now.one cur.now (length cur.now)) }
-    ensures refused { OnErr result (MayBeRefusedRow coding.now.table coding.now.set
-        coding.now.bits encoder.old states.old above.now.two above.now.one cur.now
-        (length cur.now)) }
+    ensures ok { OnOk result (Written coding.now (encoder_by encoder.old states.old)
+        (encoder_by encoder.new states.new) above.now cur.now (length cur.now)) }
+    ensures refused { OnErr result (MayBeRefusedRow coding.now (encoder_by encoder.old states.old)
+        above.now cur.now (length cur.now)) }
     ensures held { AllHeld coding.now.table states.new }
-    ensures err { IfErr result (λ f. (f ≡ fault.OutOfMemory) × IsTrue encoder.new.failed) }
-    ensures kept { OnErr result (CountsFirst coding.now.set coding.now.bits encoder.old.counts
-        encoder.new.counts above.now.two above.now.one cur.now) }
+    ensures err { FailsForGood result encoder.new }
+    ensures kept { OnErr result (CountsFirst coding.now encoder.old.counts encoder.new.counts
+        above.now cur.now) }
 {
     let Coding { table, set, .. } = coding;
     let Above { two, one } = above;
@@ -210,7 +212,7 @@ fn encode_row<A: Allocator, B: Allocator, const BITS: u8, const NEAR: bool>(
         let part = Part {
             set,
             bits: BITS,
-            near: NEAR,
+            three_tables: THREE_TABLES,
             two,
             one,
             cur,
@@ -246,37 +248,36 @@ pub fn encode_line<A: Allocator, B: Allocator>(
     requires one_long { length above.now.one ≡ length cur.now }
     requires rows { length states.old ≡ contexts_of coding.now.set * 32 }
     requires held { AllHeld coding.now.table states.old }
-    ensures ok { OnOk result (Written coding.now.table coding.now.set coding.now.bits encoder.old
-        states.old encoder.new states.new above.now.two above.now.one cur.now (length cur.now)) }
-    ensures refused { OnErr result (MayBeRefusedRow coding.now.table coding.now.set
-        coding.now.bits encoder.old states.old above.now.two above.now.one cur.now
-        (length cur.now)) }
+    ensures ok { OnOk result (Written coding.now (encoder_by encoder.old states.old)
+        (encoder_by encoder.new states.new) above.now cur.now (length cur.now)) }
+    ensures refused { OnErr result (MayBeRefusedRow coding.now (encoder_by encoder.old states.old)
+        above.now cur.now (length cur.now)) }
     ensures held { AllHeld coding.now.table states.new }
-    ensures err { IfErr result (λ f. (f ≡ fault.OutOfMemory) × IsTrue encoder.new.failed) }
+    ensures err { FailsForGood result encoder.new }
     ensures stays { IsTrue encoder.old.failed → IsErr result }
     ensures unchanged { IsTrue encoder.old.failed →
         (encoder.new ≡ encoder.old) × (states.new ≡ states.old) }
-    ensures kept { OnErr result (CountsFirst coding.now.set coding.now.bits encoder.old.counts
-        encoder.new.counts above.now.two above.now.one cur.now) }
+    ensures kept { OnErr result (CountsFirst coding.now encoder.old.counts encoder.new.counts
+        above.now cur.now) }
 {
     if encoder.has_failed() {
         return Err(Fault::OutOfMemory);
     }
     let Coding { set, bits, .. } = coding;
-    let near = set.is_near();
+    let three_tables = set.has_three_tables();
     if *bits > 9 {
-        if near {
+        if three_tables {
             return encode_deep::<A, B, true>(encoder, coding, states, above, cur);
         }
         return encode_deep::<A, B, false>(encoder, coding, states, above, cur);
     }
     if *bits == 8 {
-        if near {
+        if three_tables {
             return encode_row::<A, B, 8, true>(encoder, coding, states, above, cur);
         }
         return encode_row::<A, B, 8, false>(encoder, coding, states, above, cur);
     }
-    if near {
+    if three_tables {
         return encode_row::<A, B, 9, true>(encoder, coding, states, above, cur);
     }
     encode_row::<A, B, 9, false>(encoder, coding, states, above, cur)

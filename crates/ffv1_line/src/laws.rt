@@ -18,11 +18,14 @@ ghost use Rattle.ffv1_line.specs.Row.{AreSuiting, row_steps, chosen_row, chosen_
 ghost use Rattle.ffv1_line.specs.Length.{CountedAtMost, binary_digits, decisions_of, row_decisions};
 ghost use Rattle.ffv1_line.specs.Length.{cell_decisions, AreSmall, AreSmallRows, residuals_in};
 ghost use Rattle.ffv1_range.specs.Symbols.{Step, signed_steps};
-ghost use Rattle.ffv1_line.specs.Decoded.{Coded, Rows, RowsSuit, Lined, Refused, RowsRead};
+ghost use Rattle.ffv1_line.specs.Decoded.{RowRead, Rows, RowsSuit, Lined, LinedToRefusal, RowsRead};
 ghost use Rattle.ffv1_line.specs.Decoded.{CellRead};
 ghost use Rattle.ffv1_line.specs.Encoded.{Written};
 ghost use Rattle.ffv1_line.specs.Coded.{AreSame, CodesRow, RefusesRow, CodesRowBy, RefusesRowBy};
-ghost use Rattle.ffv1_line.specs.Coded.{CodesCellBy, StandsBehind};
+ghost use Rattle.ffv1_line.specs.Coded.{CodesCellBy, StandsAfter};
+ghost use Rattle.ffv1_line.specs.Coding.{RowCoding};
+ghost use Rattle.ffv1_line.specs.Coder.{Decoder, Encoder};
+ghost use Rattle.ffv1_line.specs.Above.{RowsAbove};
 
 /// The rows of a cell, one after the other, are the cell's list.
 pub fn joined()
@@ -40,11 +43,11 @@ pub fn slots()
 
 /// A decoder that read some rows of a cell, and then the next, read these rows.
 pub fn read_next()
-    ensures { (t : Table) (set : Set) (bits : ℕ) (a b d : Reading) (states between after : List ℕ)
-        (c : Cell) (rows : List (List ℤ)) (qs : List ℤ) →
-        Rows t set bits a states b between c rows → length qs ≡ c.width →
-        Coded t set bits b between d after qs c (length rows) →
-        Rows t set bits a states d after c (rows ++ (qs ∷ [])) }
+    ensures { (coding : RowCoding) (a b d : Decoder) (c : Cell) (rows : List (List ℤ))
+        (qs : List ℤ) →
+        Rows coding a b c rows → length qs ≡ c.width →
+        RowRead coding b d qs c (length rows) →
+        Rows coding a d c (rows ++ (qs ∷ [])) }
 {}
 
 /// An encoder that wrote some rows of a cell, and then the next, wrote these rows.
@@ -98,116 +101,116 @@ pub fn lengths()
 /// samples that suit them are one list and make one row; a row that is refused is no beginning of
 /// one that is coded, and is refused at one place.
 pub fn only_row()
-    ensures one { (bytes : List ℕ) (t : Table) (base : ℕ) (past : List Step) (set : Set) (bits : ℕ)
+    ensures one { (bytes : List ℕ) (coding : RowCoding) (base : ℕ) (past : List Step) (c d : Cell)
+        (y z : ℕ) (two one : List ℕ) (ps qs : List ℤ) →
+        AreBytes bytes → IsTable coding.table.floor coding.table.one → 0 < length one →
+        Above c y two one →
+        Above d z two one →
+        length ps ≡ length qs → CodesRow bytes coding base past c y ps →
+        CodesRow bytes coding base past d z qs → (ps ≡ qs) × AreSame c y d z (length ps) }
+    ensures whole_or_refused { (bytes : List ℕ) (coding : RowCoding) (base : ℕ) (past : List Step)
         (c d : Cell) (y z : ℕ) (two one : List ℕ) (ps qs : List ℤ) →
-        AreBytes bytes → IsTable t.floor t.one → 0 < length one → Above c y two one →
+        AreBytes bytes → IsTable coding.table.floor coding.table.one → 0 < length one →
+        Above c y two one →
         Above d z two one →
-        length ps ≡ length qs → CodesRow bytes t base past set bits c y ps →
-        CodesRow bytes t base past set bits d z qs → (ps ≡ qs) × AreSame c y d z (length ps) }
-    ensures whole_or_refused { (bytes : List ℕ) (t : Table) (base : ℕ) (past : List Step)
-        (set : Set)
-        (bits : ℕ) (c d : Cell) (y z : ℕ) (two one : List ℕ) (ps qs : List ℤ) →
-        AreBytes bytes → IsTable t.floor t.one → 0 < length one → Above c y two one →
+        length qs < length ps → CodesRow bytes coding base past c y ps →
+        RefusesRow bytes coding base past d z qs → ⊥ }
+    ensures one_refusal { (bytes : List ℕ) (coding : RowCoding) (base : ℕ) (past : List Step)
+        (c d : Cell) (y z : ℕ) (two one : List ℕ) (ps qs : List ℤ) →
+        AreBytes bytes → IsTable coding.table.floor coding.table.one → 0 < length one →
+        Above c y two one →
         Above d z two one →
-        length qs < length ps → CodesRow bytes t base past set bits c y ps →
-        RefusesRow bytes t base past set bits d z qs → ⊥ }
-    ensures one_refusal { (bytes : List ℕ) (t : Table) (base : ℕ) (past : List Step) (set : Set)
-        (bits : ℕ) (c d : Cell) (y z : ℕ) (two one : List ℕ) (ps qs : List ℤ) →
-        AreBytes bytes → IsTable t.floor t.one → 0 < length one → Above c y two one →
-        Above d z two one →
-        RefusesRow bytes t base past set bits c y ps →
-        RefusesRow bytes t base past set bits d z qs →
+        RefusesRow bytes coding base past c y ps →
+        RefusesRow bytes coding base past d z qs →
         (ps ≡ qs) × AreSame c y d z (length ps) }
 {}
 
 /// The same after any decisions, by any states.
 pub fn only_row_by_states()
-    ensures one { (bytes : List ℕ) (before : List Decision) (t : Table) (states : List ℕ)
-        (set : Set)
-        (bits : ℕ) (c d : Cell) (y z : ℕ) (two one : List ℕ) (ps qs : List ℤ) →
+    ensures one { (bytes : List ℕ) (before : List Decision) (coding : RowCoding) (states : List ℕ)
+        (c d : Cell) (y z : ℕ) (two one : List ℕ) (ps qs : List ℤ) →
         AreBytes bytes → 0 < length one → Above c y two one → Above d z two one →
-        length ps ≡ length qs → CodesRowBy bytes before t states set bits c y ps →
-        CodesRowBy bytes before t states set bits d z qs → (ps ≡ qs) × AreSame c y d z (length ps) }
-    ensures whole_or_refused { (bytes : List ℕ) (before : List Decision) (t : Table)
-        (states : List ℕ)
-        (set : Set) (bits : ℕ) (c d : Cell) (y z : ℕ) (two one : List ℕ) (ps qs : List ℤ) →
+        length ps ≡ length qs → CodesRowBy bytes before coding states c y ps →
+        CodesRowBy bytes before coding states d z qs → (ps ≡ qs) × AreSame c y d z (length ps) }
+    ensures whole_or_refused { (bytes : List ℕ) (before : List Decision) (coding : RowCoding)
+        (states : List ℕ) (c d : Cell) (y z : ℕ) (two one : List ℕ) (ps qs : List ℤ) →
         AreBytes bytes → 0 < length one → Above c y two one → Above d z two one →
-        length qs < length ps → CodesRowBy bytes before t states set bits c y ps →
-        RefusesRowBy bytes before t states set bits d z qs → ⊥ }
-    ensures one_refusal { (bytes : List ℕ) (before : List Decision) (t : Table) (states : List ℕ)
-        (set : Set) (bits : ℕ) (c d : Cell) (y z : ℕ) (two one : List ℕ) (ps qs : List ℤ) →
+        length qs < length ps → CodesRowBy bytes before coding states c y ps →
+        RefusesRowBy bytes before coding states d z qs → ⊥ }
+    ensures one_refusal { (bytes : List ℕ) (before : List Decision) (coding : RowCoding)
+        (states : List ℕ) (c d : Cell) (y z : ℕ) (two one : List ℕ) (ps qs : List ℤ) →
         AreBytes bytes → 0 < length one → Above c y two one → Above d z two one →
-        RefusesRowBy bytes before t states set bits c y ps →
-        RefusesRowBy bytes before t states set bits d z qs →
+        RefusesRowBy bytes before coding states c y ps →
+        RefusesRowBy bytes before coding states d z qs →
         (ps ≡ qs) × AreSame c y d z (length ps) }
 {}
 
 /// A row that its decoder's bytes code by its states is read as it is, and is not refused.
 pub fn row_comes_back()
-    ensures read { (t : Table) (set : Set) (bits : ℕ) (old new : Reading)
-        (states after two one cur : List ℕ) (before : List Decision) (c : Cell) (y : ℕ)
-        (qs : List ℤ) →
-        0 < length one → Above c y two one → length cur ≡ c.width → length qs ≡ c.width →
-        At old (interval_of before) → AreBytes old.bytes →
-        CodesRowBy old.bytes before t states set bits c y qs →
-        Lined t set bits old states new after two one cur (length cur) →
-        Shows c (y + 2) cur c.width × Follows t old states new after (row_steps set c y 0 qs) }
-    ensures not_refused { (t : Table) (set : Set) (bits : ℕ) (old new : Reading)
-        (states after two one cur : List ℕ) (before : List Decision) (c : Cell) (y x : ℕ)
-        (qs : List ℤ) →
-        0 < length one → Above c y two one → length qs ≡ c.width → x < c.width →
-        At old (interval_of before) → AreBytes old.bytes →
-        CodesRowBy old.bytes before t states set bits c y qs →
-        Refused t set bits old states new after two one cur x → ⊥ }
+    ensures read { (coding : RowCoding) (old new : Decoder) (above : RowsAbove) (cur : List ℕ)
+        (before : List Decision) (c : Cell) (y : ℕ) (qs : List ℤ) →
+        0 < length above.one → Above c y above.two above.one → length cur ≡ c.width →
+        length qs ≡ c.width →
+        At old.reading (interval_of before) → AreBytes old.reading.bytes →
+        CodesRowBy old.reading.bytes before coding old.states c y qs →
+        Lined coding old new above cur (length cur) →
+        Shows c (y + 2) cur c.width × Follows coding.table old.reading old.states new.reading
+        new.states (row_steps coding.set c y 0 qs) }
+    ensures not_refused { (coding : RowCoding) (old new : Decoder) (above : RowsAbove)
+        (cur : List ℕ) (before : List Decision) (c : Cell) (y x : ℕ) (qs : List ℤ) →
+        0 < length above.one → Above c y above.two above.one → length qs ≡ c.width → x < c.width →
+        At old.reading (interval_of before) → AreBytes old.reading.bytes →
+        CodesRowBy old.reading.bytes before coding old.states c y qs →
+        LinedToRefusal coding old new above cur x → ⊥ }
 {}
 
 /// So are the rows of a cell that its bytes code, one after the other.
 pub fn cell_comes_back()
-    ensures first { (before : List Decision) (t : Table) (states : List ℕ) (set : Set) (bits : ℕ)
-        (c : Cell) (rows : List (List ℤ)) (now : Reading) → At now (interval_of before) →
-        CodesCellBy now.bytes before t states set bits c rows →
-        StandsBehind before t states set bits c rows 0 now states }
-    ensures next { (before : List Decision) (t : Table) (states : List ℕ) (set : Set) (bits : ℕ)
-        (c : Cell) (rows : List (List ℤ)) (y : ℕ) (now new : Reading)
-        (between after two one cur : List ℕ) →
-        0 < c.width → y < length rows → Above c y two one → length cur ≡ c.width →
-        StandsBehind before t states set bits c rows y now between →
-        Lined t set bits now between new after two one cur (length cur) →
+    ensures first { (before : List Decision) (coding : RowCoding) (now : Decoder) (c : Cell)
+        (rows : List (List ℤ)) → At now.reading (interval_of before) →
+        CodesCellBy now.reading.bytes before coding now.states c rows →
+        StandsAfter before coding now.states c rows 0 now }
+    ensures next { (before : List Decision) (coding : RowCoding) (states : List ℕ) (c : Cell)
+        (rows : List (List ℤ)) (y : ℕ) (now new : Decoder) (above : RowsAbove) (cur : List ℕ) →
+        0 < c.width → y < length rows → Above c y above.two above.one → length cur ≡ c.width →
+        StandsAfter before coding states c rows y now →
+        Lined coding now new above cur (length cur) →
         Shows c (y + 2) cur c.width ×
-        StandsBehind before t states set bits c rows (y + 1) new after }
-    ensures not_refused { (before : List Decision) (t : Table) (states : List ℕ) (set : Set)
-        (bits : ℕ)
-        (c : Cell) (rows : List (List ℤ)) (y x : ℕ) (now new : Reading)
-        (between after two one cur : List ℕ) →
-        y < length rows → Above c y two one → x < c.width →
-        StandsBehind before t states set bits c rows y now between →
-        Refused t set bits now between new after two one cur x → ⊥ }
+        StandsAfter before coding states c rows (y + 1) new }
+    ensures not_refused { (before : List Decision) (coding : RowCoding) (states : List ℕ) (c : Cell)
+        (rows : List (List ℤ)) (y x : ℕ) (now new : Decoder) (above : RowsAbove) (cur : List ℕ) →
+        y < length rows → Above c y above.two above.one → x < c.width →
+        StandsAfter before coding states c rows y now →
+        LinedToRefusal coding now new above cur x → ⊥ }
 {}
 
 /// What an encoder wrote is coded by either ending, after what it had written before: the rows of
 /// a cell, if they suit.
 pub fn written_is_coded()
-    ensures sentinel { (before : List Decision) (t : Table) (old w : Writing)
-        (states after : List ℕ)
-        (set : Set) (bits : ℕ) (c : Cell) (rows : List (List ℤ)) →
-        AreStates before → old.interval ≡ interval_of before → RowsSuit set bits c 0 rows →
-        Puts t old states w after (cell_steps set c 0 rows) →
-        CodesCellBy (sentinel_of w.interval) before t states set bits c rows }
-    ensures full { (before : List Decision) (t : Table) (old w : Writing) (states after : List ℕ)
-        (set : Set) (bits : ℕ) (c : Cell) (rows : List (List ℤ)) (behind : List ℕ) →
-        AreStates before → old.interval ≡ interval_of before → RowsSuit set bits c 0 rows →
-        AreBytes behind → Puts t old states w after (cell_steps set c 0 rows) →
-        CodesCellBy (full_of w.interval ++ behind) before t states set bits c rows }
-    ensures fresh_sentinel { (t : Table) (count : ℕ) (set : Set) (bits : ℕ) (c : Cell)
-        (rows : List (List ℤ)) → IsTable t.floor t.one → AreBelow (cell_steps set c 0 rows) count →
-        RowsSuit set bits c 0 rows →
-        CodesCellBy (sentinel_of (interval_of (decisions_after t [] (cell_steps set c 0 rows)))) []
-        t (replicate count 128) set bits c rows }
-    ensures fresh_full { (t : Table) (count : ℕ) (set : Set) (bits : ℕ) (c : Cell)
-        (rows : List (List ℤ)) (behind : List ℕ) → IsTable t.floor t.one →
-        AreBelow (cell_steps set c 0 rows) count → RowsSuit set bits c 0 rows → AreBytes behind →
-        CodesCellBy (full_of (interval_of (decisions_after t [] (cell_steps set c 0 rows)))
-        ++ behind) [] t (replicate count 128) set bits c rows }
+    ensures sentinel { (before : List Decision) (coding : RowCoding) (old w : Writing)
+        (states after : List ℕ) (c : Cell) (rows : List (List ℤ)) →
+        AreStates before → old.interval ≡ interval_of before →
+        RowsSuit coding.set coding.bits c 0 rows →
+        Puts coding.table old states w after (cell_steps coding.set c 0 rows) →
+        CodesCellBy (sentinel_of w.interval) before coding states c rows }
+    ensures full { (before : List Decision) (coding : RowCoding) (old w : Writing)
+        (states after : List ℕ) (c : Cell) (rows : List (List ℤ)) (behind : List ℕ) →
+        AreStates before → old.interval ≡ interval_of before →
+        RowsSuit coding.set coding.bits c 0 rows →
+        AreBytes behind → Puts coding.table old states w after (cell_steps coding.set c 0 rows) →
+        CodesCellBy (full_of w.interval ++ behind) before coding states c rows }
+    ensures fresh_sentinel { (coding : RowCoding) (count : ℕ) (c : Cell) (rows : List (List ℤ)) →
+        IsTable coding.table.floor coding.table.one → AreBelow (cell_steps coding.set c 0 rows)
+        count →
+        RowsSuit coding.set coding.bits c 0 rows →
+        CodesCellBy (sentinel_of (interval_of (decisions_after coding.table []
+        (cell_steps coding.set c 0 rows)))) [] coding (replicate count 128) c rows }
+    ensures fresh_full { (coding : RowCoding) (count : ℕ) (c : Cell) (rows : List (List ℤ))
+        (behind : List ℕ) → IsTable coding.table.floor coding.table.one →
+        AreBelow (cell_steps coding.set c 0 rows) count → RowsSuit coding.set coding.bits c 0 rows →
+        AreBytes behind →
+        CodesCellBy (full_of (interval_of (decisions_after coding.table []
+        (cell_steps coding.set c 0 rows))) ++ behind) [] coding (replicate count 128) c rows }
 {}
 
 /// The rows two and one above are 0 at a cell's top, and from a row to the next they move by one.
@@ -224,53 +227,52 @@ pub fn cell_is_read()
     ensures top { (width : ℕ) → Rolls width [] (replicate width 0) (replicate width 0) 0 }
     ensures rolls { (width n : ℕ) (samples two one cur : List ℕ) → length cur ≡ width →
         Rolls width samples two one n → Rolls width (samples ++ cur) one cur (n + 1) }
-    ensures none { (t : Table) (set : Set) (bits : ℕ) (r : Reading) (states : List ℕ) (width : ℕ) →
-        RowsRead t set bits r states r states width [] 0 }
-    ensures next { (t : Table) (set : Set) (bits : ℕ) (a b d : Reading)
-        (states between after : List ℕ)
-        (width n : ℕ) (samples two one cur : List ℕ) → length cur ≡ width →
-        Rolls width samples two one n →
-        RowsRead t set bits a states b between width samples n →
-        Lined t set bits b between d after two one cur (length cur) →
-        RowsRead t set bits a states d after width (samples ++ cur) (n + 1) }
-    ensures all { (t : Table) (set : Set) (bits : ℕ) (a b : Reading) (states after : List ℕ)
-        (width n : ℕ) (samples : List ℕ) → RowsRead t set bits a states b after width samples n →
-        CellRead t set bits a states b after width n samples }
+    ensures none { (coding : RowCoding) (r : Decoder) (width : ℕ) →
+        RowsRead coding r r width [] 0 }
+    ensures next { (coding : RowCoding) (a b d : Decoder) (width n : ℕ) (samples : List ℕ)
+        (above : RowsAbove) (cur : List ℕ) → length cur ≡ width →
+        Rolls width samples above.two above.one n →
+        RowsRead coding a b width samples n →
+        Lined coding b d above cur (length cur) →
+        RowsRead coding a d width (samples ++ cur) (n + 1) }
+    ensures all { (coding : RowCoding) (a b : Decoder) (width n : ℕ) (samples : List ℕ) →
+        RowsRead coding a b width samples n →
+        CellRead coding a b width n samples }
 {}
 
 /// Samples that were read have `bits` bits.
 pub fn samples_below()
-    ensures read { (t : Table) (set : Set) (bits : ℕ) (old new : Reading)
-        (states after two one cur : List ℕ) (n : ℕ) → n ≤ length one →
-        Lined t set bits old states new after two one cur n →
-        (x : ℕ) → x < n → slice_index cur x < 2 ^ bits }
-    ensures refused { (t : Table) (set : Set) (bits : ℕ) (old new : Reading)
-        (states after two one cur : List ℕ) (n : ℕ) → n ≤ length one →
-        Refused t set bits old states new after two one cur n →
-        (x : ℕ) → x < n → slice_index cur x < 2 ^ bits }
+    ensures read { (coding : RowCoding) (old new : Decoder) (above : RowsAbove) (cur : List ℕ)
+        (n : ℕ) → n ≤ length above.one →
+        Lined coding old new above cur n →
+        (x : ℕ) → x < n → slice_index cur x < 2 ^ coding.bits }
+    ensures refused { (coding : RowCoding) (old new : Decoder) (above : RowsAbove) (cur : List ℕ)
+        (n : ℕ) → n ≤ length above.one →
+        LinedToRefusal coding old new above cur n →
+        (x : ℕ) → x < n → slice_index cur x < 2 ^ coding.bits }
 {}
 
 /// A residual that was read has a symbol; so a sample that was read takes at most 63 decisions, a
 /// symbol that is refused 32, and a sample of `bits` bits that was written `2 * bits + 1`.
 pub fn most_decisions()
-    ensures small { (t : Table) (set : Set) (bits : ℕ) (old new : Reading)
-        (states after two one cur : List ℕ) (n : ℕ) → n ≤ length one →
-        (l : Lined t set bits old states new after two one cur n) → AreSmall l.residuals }
-    ensures small_refused { (t : Table) (set : Set) (bits : ℕ) (old new : Reading)
-        (states after two one cur : List ℕ) (n : ℕ) → n ≤ length one →
-        (r : Refused t set bits old states new after two one cur n) → AreSmall r.residuals }
-    ensures read { (t : Table) (set : Set) (bits : ℕ) (old new : Reading)
-        (states after two one cur : List ℕ) (n : ℕ) → n ≤ length one →
-        Lined t set bits old states new after two one cur n →
-        CountedAtMost old.counts new.counts (63 * n) }
-    ensures refused { (t : Table) (set : Set) (bits : ℕ) (old new : Reading)
-        (states after two one cur : List ℕ) (n : ℕ) → n ≤ length one →
-        Refused t set bits old states new after two one cur n →
-        CountedAtMost old.counts new.counts (63 * n + 32) }
-    ensures written { (t : Table) (set : Set) (bits : ℕ) (old new : Writing)
-        (states after two one cur : List ℕ) (n : ℕ) → 0 < bits → bits < 32 → n ≤ length one →
-        Written t set bits old states new after two one cur n →
-        CountedAtMost old.counts new.counts ((2 * bits + 1) * n) }
+    ensures small { (coding : RowCoding) (old new : Decoder) (above : RowsAbove) (cur : List ℕ)
+        (n : ℕ) → n ≤ length above.one →
+        (l : Lined coding old new above cur n) → AreSmall l.residuals }
+    ensures small_refused { (coding : RowCoding) (old new : Decoder) (above : RowsAbove)
+        (cur : List ℕ) (n : ℕ) → n ≤ length above.one →
+        (r : LinedToRefusal coding old new above cur n) → AreSmall r.residuals }
+    ensures read { (coding : RowCoding) (old new : Decoder) (above : RowsAbove) (cur : List ℕ)
+        (n : ℕ) → n ≤ length above.one →
+        Lined coding old new above cur n →
+        CountedAtMost old.reading.counts new.reading.counts (63 * n) }
+    ensures refused { (coding : RowCoding) (old new : Decoder) (above : RowsAbove) (cur : List ℕ)
+        (n : ℕ) → n ≤ length above.one →
+        LinedToRefusal coding old new above cur n →
+        CountedAtMost old.reading.counts new.reading.counts (63 * n + 32) }
+    ensures written { (coding : RowCoding) (old new : Encoder) (above : RowsAbove) (cur : List ℕ)
+        (n : ℕ) → 0 < coding.bits → coding.bits < 32 → n ≤ length above.one →
+        Written coding old new above cur n →
+        CountedAtMost old.writing.counts new.writing.counts ((2 * coding.bits + 1) * n) }
 {}
 
 /// A number has d binary digits where it is at least 2^(d-1) and below 2^d, and 0 has none.

@@ -23,27 +23,19 @@
 //! rows; `laws` has what follows: bytes code one row at most, and what was written comes back.
 #![tactic(auto)]
 
-pub mod above;
-mod block;
+pub mod cell;
 pub mod coding;
 pub mod decode;
 pub mod encode;
 pub mod fault;
 pub mod laws;
-mod neighbours;
-mod part;
-pub mod rolling;
-pub mod states;
-mod way;
-pub mod wide;
-pub mod word;
 
-pub use above::Above;
+pub use cell::above::Above;
+pub use cell::rows::RollingRows;
+pub use cell::word::Word;
 pub use coding::Coding;
+pub use coding::states::reset;
+pub use coding::wide::{WideAbove, WideCoding};
 pub use decode::{decode_line, decode_wide};
 pub use encode::{encode_line, encode_wide};
 pub use fault::TooLong;
-pub use rolling::RollingRows;
-pub use states::reset;
-pub use wide::{WideAbove, WideCoding};
-pub use word::Word;

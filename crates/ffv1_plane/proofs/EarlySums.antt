@@ -2,7 +2,7 @@
 use Rattle.std.proofs.Common.{◌≡◌, ap, ℕ, ◌+◌, ◌-◌, ◌*◌, ◌<◌, length, take, arith, ℤ, pos, ◌+ℤ◌, ◌-ℤ◌}
 use Rattle.std.proofs.lemmas.Int.{ints}
 use Rattle.ffv1_plane.specs.declared.prediction.Around.{Around}
-use Rattle.ffv1_plane.specs.Quantisation.{IsNear, entry_of, entry, scale_behind, contexts_of}
+use Rattle.ffv1_plane.specs.Quantisation.{HasThreeTables, entry_of, entry, scale_behind, contexts_of}
 use Rattle.ffv1_plane.specs.Raised.{RaisedTable, AreRaised, half_of}
 use Rattle.ffv1_plane.specs.Context.{low, context_of}
 use Rattle.ffv1_plane.specs.Early.{IsEarly, greatest}
@@ -42,12 +42,12 @@ module _ (first second third fourth fifth : RaisedTable) (half : ℕ) (is : AreR
             (at_scale fifth (scale_behind 1 (take 4 set)) (low tt t) r5 is.fifth_scale r) second_half third_half fifth_half is.contexts few;
       }
 
-  pub early_near : (tl t tr tt r2 r3 : ℕ) → IsNear (set_of first second third fourth fifth) → pos r2 ≡ entry_of second.runs second.scale (low tl t) +ℤ pos (half_of second) →
+  pub early_of_three : (tl t tr tt r2 r3 : ℕ) → HasThreeTables (set_of first second third fourth fifth) → pos r2 ≡ entry_of second.runs second.scale (low tl t) +ℤ pos (half_of second) →
       pos r3 ≡ entry_of third.runs third.scale (low t tr) +ℤ pos (half_of third) → IsEarly (set_of first second third fourth fifth) tl t tr tt (r2 + r3 + (32768 - half))
-  early_near tl t tr tt r2 r3 near p q =
+  early_of_three tl t tr tt r2 r3 three p q =
       let each = each_filled first.runs second.runs third.runs fourth.runs fifth.runs is.set.filled in
       let sum : r2 + r3 + (32768 - half) + 0 ≡ r2 + r3 + (32768 - half) = omega arith in
-      rw (← sum) (early_is tl t tr tt r2 r3 0 p q (level_one fifth (low tt t) each.fifth near.fifth))
+      rw (← sum) (early_is tl t tr tt r2 r3 0 p q (level_one fifth (low tt t) each.fifth three.fifth))
 
   pub late_is : (a : Around) (sum r1 r4 : ℕ) → IsEarly (set_of first second third fourth fifth) a.tl a.t a.tr a.tt sum →
       pos r1 ≡ entry_of first.runs first.scale (low a.l a.tl) +ℤ pos (half_of first) → pos r4 ≡ entry_of fourth.runs fourth.scale (low a.ll a.l) +ℤ pos (half_of fourth) →
@@ -59,9 +59,9 @@ module _ (first second third fourth fifth : RaisedTable) (half : ℕ) (is : AreR
       (at_scale first (scale_behind 1 (take 0 set)) (low a.l a.tl) r1 is.first_scale p) (at_scale fourth (scale_behind 1 (take 3 set)) (low a.ll a.l) r4 is.fourth_scale q)
       second_half third_half fifth_half is.contexts is.halves
 
-  pub late_near : (a : Around) (sum r1 : ℕ) → IsNear (set_of first second third fourth fifth) → IsEarly (set_of first second third fourth fifth) a.tl a.t a.tr a.tt sum →
+  pub late_of_three : (a : Around) (sum r1 : ℕ) → HasThreeTables (set_of first second third fourth fifth) → IsEarly (set_of first second third fourth fifth) a.tl a.t a.tr a.tt sum →
       pos r1 ≡ entry_of first.runs first.scale (low a.l a.tl) +ℤ pos (half_of first) → context_of (set_of first second third fourth fifth) a ≡ pos (sum + r1) -ℤ pos 32768
-  late_near a sum r1 near early p =
+  late_of_three a sum r1 three early p =
       let each = each_filled first.runs second.runs third.runs fourth.runs fifth.runs is.set.filled in
       let same : sum + r1 + 0 ≡ sum + r1 = omega arith in
-      rw (← same) (late_is a sum r1 0 early p (level_one fourth (low a.ll a.l) each.fourth near.fourth))
+      rw (← same) (late_is a sum r1 0 early p (level_one fourth (low a.ll a.l) each.fourth three.fourth))

@@ -2,7 +2,7 @@
 use Rattle.std.proofs.Common.{◌≡◌, ap, ◌∙◌, ℕ, ◌-◌, ◌*◌, ◌<◌, ◌≤◌, List, [], ◌∷◌, length, take, sum, get_or, unsigned_abs, true, arith, ℤ, pos, ◌+ℤ◌}
 use Rattle.std.proofs.lemmas.Int.{ints}
 use Rattle.ffv1_plane.specs.declared.prediction.Around.{Around}
-use Rattle.ffv1_plane.specs.Quantisation.{Set, IsSet, IsNear, is_filled, runs_below, entry_of, entry, scale_behind}
+use Rattle.ffv1_plane.specs.Quantisation.{Set, IsSet, HasThreeTables, is_filled, runs_below, entry_of, entry, scale_behind}
 use Rattle.ffv1_plane.specs.Context.{low, size_of}
 use Rattle.ffv1_plane.proofs.Levels.{filled_from, runs_below-at, entry_lower}
 use Rattle.ffv1_plane.proofs.Bounds.{entry_size}
@@ -30,10 +30,10 @@ only_entry runs scale k is one =
 no_sum : (e1 e2 e3 e4 e5 : ℤ) → e1 ≡ pos 0 → e2 ≡ pos 0 → e3 ≡ pos 0 → e4 ≡ pos 0 → e5 ≡ pos 0 → unsigned_abs (e1 +ℤ e2 +ℤ e3 +ℤ e4 +ℤ e5) ≡ 0
 no_sum e1 e2 e3 e4 e5 p q r s t = omega (arith, ints)
 
-flat_listed : (a b c d e : List ℕ) (around : Around) → IsSet (a ∷ b ∷ c ∷ d ∷ e ∷ []) → IsNear (a ∷ b ∷ c ∷ d ∷ e ∷ []) → around.t ≡ around.l → around.tl ≡ around.l → around.tr ≡ around.l →
+flat_listed : (a b c d e : List ℕ) (around : Around) → IsSet (a ∷ b ∷ c ∷ d ∷ e ∷ []) → HasThreeTables (a ∷ b ∷ c ∷ d ∷ e ∷ []) → around.t ≡ around.l → around.tl ≡ around.l → around.tr ≡ around.l →
     size_of (a ∷ b ∷ c ∷ d ∷ e ∷ []) around ≡ 0
 unfolding size_of
-flat_listed a b c d e around is near top left right =
+flat_listed a b c d e around is three top left right =
     let set = a ∷ b ∷ c ∷ d ∷ e ∷ [] in
     let each = each_filled a b c d e is.filled in
     let s2 = scale_behind 1 (a ∷ []) in
@@ -43,13 +43,13 @@ flat_listed a b c d e around is near top left right =
     no_sum (entry set 0 (low around.l around.tl)) (entry set 1 (low around.tl around.t)) (entry set 2 (low around.t around.tr)) (entry set 3 (low around.ll around.l)) (entry set 4 (low around.tt around.t))
     (first_entry a 1 (low around.l around.tl) each.first (omega (arith, left))) (first_entry b s2 (low around.tl around.t) each.second (omega (arith, left, top)))
     (first_entry c s3 (low around.t around.tr) each.third (omega (arith, top, right)))
-    (only_entry d s4 (low around.ll around.l) each.fourth near.fourth) (only_entry e s5 (low around.tt around.t) each.fifth near.fifth)
+    (only_entry d s4 (low around.ll around.l) each.fourth three.fourth) (only_entry e s5 (low around.tt around.t) each.fifth three.fifth)
 
-pub flat_size : (set : Set) → IsSet set → IsNear set → (around : Around) → around.t ≡ around.l → around.tl ≡ around.l → around.tr ≡ around.l → size_of set around ≡ 0
-flat_size [] is near around top left right = let five = is.five in absurd (omega arith)
-flat_size (a ∷ []) is near around top left right = let five = is.five in absurd (omega arith)
-flat_size (a ∷ b ∷ []) is near around top left right = let five = is.five in absurd (omega arith)
-flat_size (a ∷ b ∷ c ∷ []) is near around top left right = let five = is.five in absurd (omega arith)
-flat_size (a ∷ b ∷ c ∷ d ∷ []) is near around top left right = let five = is.five in absurd (omega arith)
-flat_size (a ∷ b ∷ c ∷ d ∷ e ∷ []) is near around top left right = flat_listed a b c d e around is near top left right
-flat_size (a ∷ b ∷ c ∷ d ∷ e ∷ f ∷ more) is near around top left right = let five = is.five in absurd (omega arith)
+pub flat_size : (set : Set) → IsSet set → HasThreeTables set → (around : Around) → around.t ≡ around.l → around.tl ≡ around.l → around.tr ≡ around.l → size_of set around ≡ 0
+flat_size [] is three around top left right = let five = is.five in absurd (omega arith)
+flat_size (a ∷ []) is three around top left right = let five = is.five in absurd (omega arith)
+flat_size (a ∷ b ∷ []) is three around top left right = let five = is.five in absurd (omega arith)
+flat_size (a ∷ b ∷ c ∷ []) is three around top left right = let five = is.five in absurd (omega arith)
+flat_size (a ∷ b ∷ c ∷ d ∷ []) is three around top left right = let five = is.five in absurd (omega arith)
+flat_size (a ∷ b ∷ c ∷ d ∷ e ∷ []) is three around top left right = flat_listed a b c d e around is three top left right
+flat_size (a ∷ b ∷ c ∷ d ∷ e ∷ f ∷ more) is three around top left right = let five = is.five in absurd (omega arith)

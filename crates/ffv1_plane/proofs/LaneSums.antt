@@ -4,10 +4,10 @@ use Rattle.std.proofs.lemmas.Int.{ints}
 use Rattle.std.specs.Prelude.{replicate}
 use Rattle.ffv1_plane.specs.declared.prediction.Around.{Around}
 use Rattle.ffv1_plane.specs.declared.table.TableLanes.{TableLanes}
-use Rattle.ffv1_plane.specs.Quantisation.{Set, IsNear, entry_of, contexts_of}
+use Rattle.ffv1_plane.specs.Quantisation.{Set, HasThreeTables, entry_of, contexts_of}
 use Rattle.ffv1_plane.specs.Raised.{RaisedTable, table_of, AreTableLanes, AreRaised, half_of, raised_entry, raised_sum}
 use Rattle.ffv1_plane.specs.Context.{low, context_of}
-use Rattle.ffv1_plane.proofs.Sums.{set_of, context_is, near_is}
+use Rattle.ffv1_plane.proofs.Sums.{set_of, context_is, three_is}
 
 -- the lanes of a table, whose scale is said in another way
 pub lanes_at : (t : RaisedTable) (scale : ℕ) (l : TableLanes) → t.scale ≡ scale → AreTableLanes (table_of t.runs scale) l → AreTableLanes t l
@@ -32,19 +32,19 @@ pub low_below : (a b : ℕ) → low a b < 256
 low_below a b = omega arith
 
 -- the sum of the look-ups of three tables, and of all five
-abbrev pub near_sum : RaisedTable → RaisedTable → RaisedTable → Around → ℕ
-near_sum first second third a = raised_entry first (low a.l a.tl) + (raised_entry second (low a.tl a.t) + raised_entry third (low a.t a.tr))
+abbrev pub three_sum : RaisedTable → RaisedTable → RaisedTable → Around → ℕ
+three_sum first second third a = raised_entry first (low a.l a.tl) + (raised_entry second (low a.tl a.t) + raised_entry third (low a.t a.tr))
 
-abbrev pub far_sum : RaisedTable → RaisedTable → Around → ℕ
-far_sum fourth fifth a = raised_entry fourth (low a.ll a.l) + raised_entry fifth (low a.tt a.t)
+abbrev pub five_sum : RaisedTable → RaisedTable → Around → ℕ
+five_sum fourth fifth a = raised_entry fourth (low a.ll a.l) + raised_entry fifth (low a.tt a.t)
 
 sum_of : (set : Set) (a : Around) (s half : ℕ) → context_of set a ≡ pos s -ℤ pos half → contexts_of set ≡ half + 1 → raised_sum set a ≡ s
 unfolding raised_sum
 sum_of set a s half is count =
     rw (is, half_is set half count) (omega (arith, ints))
 
-near_bounded : (r1 r2 r3 h1 h2 h3 h4 h5 half : ℕ) → r1 ≤ 2 * h1 → r2 ≤ 2 * h2 → r3 ≤ 2 * h3 → h1 + h2 + h3 + h4 + h5 ≡ half → r1 + (r2 + r3) ≤ 2 * half
-near_bounded r1 r2 r3 h1 h2 h3 h4 h5 half a b c s = omega arith
+three_bounded : (r1 r2 r3 h1 h2 h3 h4 h5 half : ℕ) → r1 ≤ 2 * h1 → r2 ≤ 2 * h2 → r3 ≤ 2 * h3 → h1 + h2 + h3 + h4 + h5 ≡ half → r1 + (r2 + r3) ≤ 2 * half
+three_bounded r1 r2 r3 h1 h2 h3 h4 h5 half a b c s = omega arith
 
 bounded : (r1 r2 r3 r4 r5 h1 h2 h3 h4 h5 half : ℕ) → r1 ≤ 2 * h1 → r2 ≤ 2 * h2 → r3 ≤ 2 * h3 → r4 ≤ 2 * h4 → r5 ≤ 2 * h5 → h1 + h2 + h3 + h4 + h5 ≡ half → r1 + (r2 + r3) + (r4 + r5) ≤ 2 * half
 bounded r1 r2 r3 r4 r5 h1 h2 h3 h4 h5 half a b c d e s = omega arith
@@ -58,21 +58,21 @@ pub record IsSum (set : Set) (half : ℕ) (a : Around) (sum : ℕ) : Type 0 wher
   pub context : context_of set a ≡ pos sum -ℤ pos half
   pub most : sum ≤ 2 * half
 
-pub sum_near : (first second third fourth fifth : RaisedTable) (half : ℕ) (a : Around) → AreRaised first second third fourth fifth half → IsNear (set_of first second third fourth fifth) →
+pub sum_of_three : (first second third fourth fifth : RaisedTable) (half : ℕ) (a : Around) → AreRaised first second third fourth fifth half → HasThreeTables (set_of first second third fourth fifth) →
     HasEntries first → HasEntries second → HasEntries third → HasMost first → HasMost second → HasMost third →
-    IsSum (set_of first second third fourth fifth) half a (near_sum first second third a)
-sum_near first second third fourth fifth half a is near p q r u v w =
-    let context = near_is first second third fourth fifth half _ _ _ a is near (p (low a.l a.tl) (low_below a.l a.tl)) (q (low a.tl a.t) (low_below a.tl a.t)) (r (low a.t a.tr) (low_below a.t a.tr)) in
+    IsSum (set_of first second third fourth fifth) half a (three_sum first second third a)
+sum_of_three first second third fourth fifth half a is three p q r u v w =
+    let context = three_is first second third fourth fifth half _ _ _ a is three (p (low a.l a.tl) (low_below a.l a.tl)) (q (low a.tl a.t) (low_below a.tl a.t)) (r (low a.t a.tr) (low_below a.t a.tr)) in
     let halves = is.halves in
     let most1 = u (low a.l a.tl) (low_below a.l a.tl) in
     let most2 = v (low a.tl a.t) (low_below a.tl a.t) in
     let most3 = w (low a.t a.tr) (low_below a.t a.tr) in
-    record { is = sum_of _ a _ half context is.contexts; context = context; most = near_bounded _ _ _ (half_of first) (half_of second) (half_of third) (half_of fourth) (half_of fifth) half most1 most2 most3 halves }
+    record { is = sum_of _ a _ half context is.contexts; context = context; most = three_bounded _ _ _ (half_of first) (half_of second) (half_of third) (half_of fourth) (half_of fifth) half most1 most2 most3 halves }
 
-pub sum_far : (first second third fourth fifth : RaisedTable) (half : ℕ) (a : Around) → AreRaised first second third fourth fifth half →
+pub sum_of_five : (first second third fourth fifth : RaisedTable) (half : ℕ) (a : Around) → AreRaised first second third fourth fifth half →
     HasEntries first → HasEntries second → HasEntries third → HasEntries fourth → HasEntries fifth → HasMost first → HasMost second → HasMost third → HasMost fourth → HasMost fifth →
-    IsSum (set_of first second third fourth fifth) half a (near_sum first second third a + far_sum fourth fifth a)
-sum_far first second third fourth fifth half a is p q r s t u v w x y =
+    IsSum (set_of first second third fourth fifth) half a (three_sum first second third a + five_sum fourth fifth a)
+sum_of_five first second third fourth fifth half a is p q r s t u v w x y =
     let r1 = raised_entry first (low a.l a.tl) in
     let r2 = raised_entry second (low a.tl a.t) in
     let r3 = raised_entry third (low a.t a.tr) in
@@ -91,15 +91,15 @@ sum_far first second third fourth fifth half a is p q r s t u v w x y =
 abbrev pub plus : ℕ → ℕ → ℕ
 plus x y = (x + y) % 65536
 
-pub near_added : (r1 r2 r3 half : ℕ) → r1 + (r2 + r3) ≤ 2 * half → half < 32768 → plus r1 (plus r2 r3) ≡ r1 + (r2 + r3)
-near_added r1 r2 r3 half most few = omega arith
+pub three_added : (r1 r2 r3 half : ℕ) → r1 + (r2 + r3) ≤ 2 * half → half < 32768 → plus r1 (plus r2 r3) ≡ r1 + (r2 + r3)
+three_added r1 r2 r3 half most few = omega arith
 
-pub far_added : (r1 r2 r3 r4 r5 half : ℕ) → r1 + (r2 + r3) + (r4 + r5) ≤ 2 * half → half < 32768 → plus (plus r1 (plus r2 r3)) (plus r4 r5) ≡ r1 + (r2 + r3) + (r4 + r5)
-far_added r1 r2 r3 r4 r5 half most few = omega arith
+pub five_added : (r1 r2 r3 r4 r5 half : ℕ) → r1 + (r2 + r3) + (r4 + r5) ≤ 2 * half → half < 32768 → plus (plus r1 (plus r2 r3)) (plus r4 r5) ≡ r1 + (r2 + r3) + (r4 + r5)
+five_added r1 r2 r3 r4 r5 half most few = omega arith
 
 -- the same of early parts of sums
-pub early_near_added : (r2 r3 h1 h2 h3 h4 h5 half : ℕ) → r2 ≤ 2 * h2 → r3 ≤ 2 * h3 → h1 + h2 + h3 + h4 + h5 ≡ half → half < 32768 → plus (plus r2 r3) (32768 - half) ≡ r2 + r3 + (32768 - half)
-early_near_added r2 r3 h1 h2 h3 h4 h5 half a b s few = omega arith
+pub early_three_added : (r2 r3 h1 h2 h3 h4 h5 half : ℕ) → r2 ≤ 2 * h2 → r3 ≤ 2 * h3 → h1 + h2 + h3 + h4 + h5 ≡ half → half < 32768 → plus (plus r2 r3) (32768 - half) ≡ r2 + r3 + (32768 - half)
+early_three_added r2 r3 h1 h2 h3 h4 h5 half a b s few = omega arith
 
 pub early_added : (r2 r3 r5 h1 h2 h3 h4 h5 half : ℕ) → r2 ≤ 2 * h2 → r3 ≤ 2 * h3 → r5 ≤ 2 * h5 → h1 + h2 + h3 + h4 + h5 ≡ half → half < 32768 →
     plus (plus (plus r2 r3) (32768 - half)) r5 ≡ r2 + r3 + (32768 - half) + r5

@@ -2,7 +2,7 @@
 use Rattle.std.proofs.Common.{◌≡◌, refl, ap, ◌∙◌, ℕ, ◌+◌, ◌-◌, ◌*◌, ◌<◌, ◌≤◌, length, unsigned_abs, true, false, [], ◌∷◌, take, arith, ℤ, pos, negsuc, ◌+ℤ◌, ◌-ℤ◌}
 use Rattle.std.proofs.lemmas.Int.{ints}
 use Rattle.ffv1_plane.specs.declared.prediction.Around.{Around}
-use Rattle.ffv1_plane.specs.Quantisation.{Set, IsNear, is_filled, entry_of, entry, scale_behind}
+use Rattle.ffv1_plane.specs.Quantisation.{Set, HasThreeTables, is_filled, entry_of, entry, scale_behind}
 use Rattle.ffv1_plane.specs.Raised.{RaisedTable, AreRaised, half_of}
 use Rattle.ffv1_plane.specs.Context.{low, context_of, size_of, flip_of}
 use Rattle.ffv1_plane.proofs.Bounds.{entry_size}
@@ -43,17 +43,17 @@ level_one t k filled one =
     let size : unsigned_abs (entry_of t.runs t.scale k) ≤ t.scale * 0 = rw none at (entry_size t.runs t.scale k filled) in
     rw none (omega (arith, ints))
 
-pub near_is : (first second third fourth fifth : RaisedTable) (half r1 r2 r3 : ℕ) (a : Around) → AreRaised first second third fourth fifth half →
-    IsNear (set_of first second third fourth fifth) →
+pub three_is : (first second third fourth fifth : RaisedTable) (half r1 r2 r3 : ℕ) (a : Around) → AreRaised first second third fourth fifth half →
+    HasThreeTables (set_of first second third fourth fifth) →
     pos r1 ≡ entry_of first.runs first.scale (low a.l a.tl) +ℤ pos (half_of first) →
     pos r2 ≡ entry_of second.runs second.scale (low a.tl a.t) +ℤ pos (half_of second) →
     pos r3 ≡ entry_of third.runs third.scale (low a.t a.tr) +ℤ pos (half_of third) →
     context_of (set_of first second third fourth fifth) a ≡ pos (r1 + (r2 + r3)) -ℤ pos half
-near_is first second third fourth fifth half r1 r2 r3 a is near p q r =
+three_is first second third fourth fifth half r1 r2 r3 a is three p q r =
     let each = each_filled first.runs second.runs third.runs fourth.runs fifth.runs is.set.filled in
     let sum : r1 + (0 + (r2 + r3 + 0)) ≡ r1 + (r2 + r3) = omega arith in
     rw (← sum) (context_is first second third fourth fifth half r1 r2 r3 0 0 a is p q r
-    (level_one fourth (low a.ll a.l) each.fourth near.fourth) (level_one fifth (low a.tt a.t) each.fifth near.fifth))
+    (level_one fourth (low a.ll a.l) each.fourth three.fourth) (level_one fifth (low a.tt a.t) each.fifth three.fifth))
 
 negative_is : (v : ℤ) (a b : ℕ) → v ≡ pos a -ℤ pos b → a < b → v ≡ negsuc (b - a - 1)
 negative_is v a b e h = omega (arith, ints)

@@ -50,7 +50,7 @@ pub record IsSet (set : Set) : Type 0 where
 
 -- the fourth and the fifth table have one level, so that the differences to the samples two to the
 -- left and two above count for nothing
-pub record IsNear (set : Set) : Type 0 where
+pub record HasThreeTables (set : Set) : Type 0 where
   pub fourth : length (slice_index_or set 3 []) ≡ 1
   pub fifth : length (slice_index_or set 4 []) ≡ 1
 

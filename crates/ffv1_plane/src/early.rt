@@ -3,10 +3,11 @@
 ghost use Rattle.std.specs.Prelude.{◌≡◌, ℕ, ◌+◌, ◌^◌, ◌≤◌, ◌<◌, ◌⊎◌, IsTrue, length, slice_index};
 ghost use Rattle.std.specs.Prelude.{pos, unsigned_abs};
 ghost use Rattle.ffv1_plane.specs.Residual.{turned, sample_of};
-ghost use Rattle.ffv1_plane.specs.Quantisation.{IsNear, HasFewLevels};
+ghost use Rattle.ffv1_plane.specs.Quantisation.{HasThreeTables, HasFewLevels};
 ghost use Rattle.ffv1_plane.specs.Early.{AreAbove, AreBounds, AreEarly, left_above};
 ghost use Rattle.ffv1_plane.specs.Raised.{AreSetLanes};
 
+use crate::lanes::AboveLanes;
 use crate::quantisation::{QuantSet, SetLanes, early_sum};
 use crate::residual::unfold;
 use std::alloc::Allocator;
@@ -29,6 +30,21 @@ pub struct Early {
     pub most: [u16; BLOCK],
     /// The early part of the sum.
     pub sum: [u16; BLOCK],
+}
+
+/// What the rows above a block of places of a row are summed by.
+#[derive(Drop)]
+pub struct BlockRows<'a, A: Allocator> {
+    /// The quantisation table set.
+    pub set: &'a QuantSet<A>,
+    /// The row two above.
+    pub two: &'a [u16],
+    /// The row one above.
+    pub one: &'a [u16],
+    /// The row's place that is the block's first.
+    pub from: usize,
+    /// Said of no set but one whose fourth and fifth tables have one level.
+    pub three_tables: bool,
 }
 
 /// The samples above to the left, from place `from` on.
@@ -73,107 +89,111 @@ fn fill_bounds(tl: &[u16], t: &[u16], count: usize, least: &mut [u16], most: &mu
     }
 }
 
-/// The early sums of places `start` to before `end` of a block, whose first is place `from` of the
-/// row. `near` may be said of a set whose fourth and fifth tables have one level.
+/// A law of each row: its samples have 16 bits, also where the row is a field.
+#[inline(always)]
+fn are_words(row: &[u16])
+    ensures { (x : ℕ) → slice_index row.now x < 2 ^ 16 }
+{}
+
+/// The early sums of places `start` to before `end` of a block.
 #[inline(always)]
 fn sum_places<A: Allocator>(
-    set: &QuantSet<A>,
-    two: &[u16],
-    one: &[u16],
-    from: usize,
+    rows: &BlockRows<'_, A>,
     start: usize,
     end: usize,
     tl: &[u16],
     sum: &mut [u16],
-    near: bool,
 )
-    requires near { IsTrue near → IsNear set.now }
-    requires wide { length two.now ≡ length one.now }
+    requires three_tables { IsTrue rows.now.three_tables → HasThreeTables rows.now.set.now }
+    requires wide { length rows.now.two.now ≡ length rows.now.one.now }
     requires ordered { start ≤ end }
-    requires within { from + end ≤ length one.now }
+    requires within { rows.now.from + end ≤ length rows.now.one.now }
     requires room { end ≤ length sum.old }
     requires tl_room { end ≤ length tl.now }
-    requires left { (i : ℕ) → i < end →
-        slice_index tl.now i ≡ left_above two.now one.now (from + i) }
-    requires done { AreEarly set.now two.now one.now from sum.old start }
-    ensures { AreEarly set.now two.now one.now from sum.new end }
+    requires left { (i : ℕ) → i < end → slice_index tl.now i ≡
+        left_above rows.now.two.now rows.now.one.now (rows.now.from + i) }
+    requires done { AreEarly rows.now.set.now rows.now.two.now rows.now.one.now rows.now.from
+        sum.old start }
+    ensures { AreEarly rows.now.set.now rows.now.two.now rows.now.one.now rows.now.from sum.new
+        end }
 {
+    let BlockRows {
+        set,
+        two,
+        one,
+        from,
+        three_tables,
+    } = *rows;
     for i in start..end {
         let x = from + i;
         let right = (x + 1).min(one.len() - 1);
-        sum[i] = early_sum(set, tl[i], one[x], one[right], two[x], near);
+        sum[i] = early_sum(set, tl[i], one[x], one[right], two[x], three_tables);
     }
 }
 
 /// The early sums of 16 places of a block from `at` on, none of which is a border of the row, by
 /// the set's lanes.
 #[inline(always)]
-fn sum_lanes<A: Allocator>(
-    set: &QuantSet<A>,
-    lanes: &SetLanes,
-    two: &[u16],
-    one: &[u16],
-    from: usize,
-    at: usize,
-    sum: &mut [u16],
-    near: bool,
-)
-    requires few { HasFewLevels set.now }
-    requires lanes { AreSetLanes set.now lanes.now }
-    requires near { IsTrue near → IsNear set.now }
-    requires wide { length two.now ≡ length one.now }
-    requires inside { 0 < from + at }
-    requires within { from + at + 17 ≤ length one.now }
+fn sum_lanes<A: Allocator>(rows: &BlockRows<'_, A>, lanes: &SetLanes, at: usize, sum: &mut [u16])
+    requires few { HasFewLevels rows.now.set.now }
+    requires lanes { AreSetLanes rows.now.set.now lanes.now }
+    requires three_tables { IsTrue rows.now.three_tables → HasThreeTables rows.now.set.now }
+    requires wide { length rows.now.two.now ≡ length rows.now.one.now }
+    requires inside { 0 < rows.now.from + at }
+    requires within { rows.now.from + at + 17 ≤ length rows.now.one.now }
     requires room { at + 16 ≤ length sum.old }
-    requires done { AreEarly set.now two.now one.now from sum.old at }
-    ensures { AreEarly set.now two.now one.now from sum.new (at + 16) }
+    requires done { AreEarly rows.now.set.now rows.now.two.now rows.now.one.now rows.now.from
+        sum.old at }
+    ensures { AreEarly rows.now.set.now rows.now.two.now rows.now.one.now rows.now.from sum.new
+        (at + 16) }
 {
+    let BlockRows {
+        set,
+        two,
+        one,
+        from,
+        three_tables,
+    } = *rows;
+    are_words(one);
     let x = from + at;
-    let tl = u16x16::from_slice(&one[x - 1..]);
-    let t = u16x16::from_slice(&one[x..]);
-    let tr = u16x16::from_slice(&one[x + 1..]);
-    let tt = u16x16::from_slice(&two[x..]);
-    set.early_lanes(lanes, tl, t, tr, tt, near)
+    let above = AboveLanes {
+        t: u16x16::from_slice(&one[x..]),
+        tl: u16x16::from_slice(&one[x - 1..]),
+        tr: u16x16::from_slice(&one[x + 1..]),
+        tt: u16x16::from_slice(&two[x..]),
+    };
+    set.early_lanes(lanes, &above, three_tables)
         .copy_to_slice(&mut sum[at..]);
 }
 
-/// The early sums, from place `from` on: those inside the row 16 at once, in a set whose tables
-/// have few levels, and the last of these again where fewer than 16 are left. `near` may be said of
-/// a set whose fourth and fifth tables have one level.
+/// The early sums of the first `count` places of a block: those inside the row 16 at once, in a set
+/// whose tables have few levels, and the last of these again where fewer than 16 are left.
 #[inline(always)]
-fn fill_sums<A: Allocator>(
-    set: &QuantSet<A>,
-    two: &[u16],
-    one: &[u16],
-    from: usize,
-    count: usize,
-    tl: &[u16],
-    sum: &mut [u16],
-    near: bool,
-)
-    requires near { IsTrue near → IsNear set.now }
+fn fill_sums<A: Allocator>(rows: &BlockRows<'_, A>, count: usize, tl: &[u16], sum: &mut [u16])
+    requires three_tables { IsTrue rows.now.three_tables → HasThreeTables rows.now.set.now }
     requires some { 0 < count }
-    requires wide { length two.now ≡ length one.now }
-    requires within { from + count ≤ length one.now }
+    requires wide { length rows.now.two.now ≡ length rows.now.one.now }
+    requires within { rows.now.from + count ≤ length rows.now.one.now }
     requires room { count ≤ length sum.old }
     requires tl_room { count ≤ length tl.now }
     requires left { (i : ℕ) → i < count → slice_index tl.now i ≡
-        left_above two.now one.now (from + i) }
-    ensures { AreEarly set.now two.now one.now from sum.new count }
+        left_above rows.now.two.now rows.now.one.now (rows.now.from + i) }
+    ensures { AreEarly rows.now.set.now rows.now.two.now rows.now.one.now rows.now.from sum.new
+        count }
 {
     // After the last place that has a sample above to the right.
-    let end = count.min(one.len() - 1 - from);
-    let mut at = if from == 0 { 1 } else { 0 };
-    sum_places(set, two, one, from, 0, at, tl, sum, near);
-    if set.has_few_levels() && 16 <= end && 16 < from + end {
-        let lanes = set.lanes();
+    let end = count.min(rows.one.len() - 1 - rows.from);
+    let mut at = if rows.from == 0 { 1 } else { 0 };
+    sum_places(rows, 0, at, tl, sum);
+    if rows.set.has_few_levels() && 16 <= end && 16 < rows.from + end {
+        let lanes = rows.set.lanes();
         while at < end {
             let start = at.min(end - 16);
-            sum_lanes(set, &lanes, two, one, from, start, sum, near);
+            sum_lanes(rows, &lanes, start, sum);
             at = start + 16;
         }
     }
-    sum_places(set, two, one, from, at, count, tl, sum, near);
+    sum_places(rows, at, count, tl, sum);
 }
 
 /// The number, its sign flipped or not, by a choice and no branch, which no one could predict.
@@ -210,30 +230,38 @@ impl Early {
         }
     }
 
-    /// Fills the first `count` places with what is known of the places from `from` on of the row
-    /// below `two` and `one`. `near` may be said of a set whose fourth and fifth tables have one
-    /// level.
-    pub fn fill<A: Allocator>(
-        &mut self,
-        set: &QuantSet<A>,
-        two: &[u16],
-        one: &[u16],
-        from: usize,
-        count: usize,
-        near: bool,
-    )
-        requires near { IsTrue near → IsNear set.now }
-        requires wide { length two.now ≡ length one.now }
+    /// Fills the first `count` places with what is known of the places from `rows.from` on of the
+    /// row below `rows.two` and `rows.one`.
+    pub fn fill<A: Allocator>(&mut self, rows: &BlockRows<'_, A>, count: usize)
+        requires three_tables { IsTrue rows.now.three_tables → HasThreeTables rows.now.set.now }
+        requires wide { length rows.now.two.now ≡ length rows.now.one.now }
         requires some { 0 < count }
         requires few { count ≤ 128 }
-        requires within { from + count ≤ length one.now }
-        ensures above { AreAbove two.now one.now from self.new.tl self.new.t count }
+        requires within { rows.now.from + count ≤ length rows.now.one.now }
+        ensures above { AreAbove rows.now.two.now rows.now.one.now rows.now.from self.new.tl
+            self.new.t count }
         ensures bounds { AreBounds self.new.tl self.new.t self.new.least self.new.most count }
-        ensures early { AreEarly set.now two.now one.now from self.new.sum count }
+        ensures early { AreEarly rows.now.set.now rows.now.two.now rows.now.one.now rows.now.from
+            self.new.sum count }
     {
+        // A copy that no one else has, so that a store of a sum makes no loop read it again.
+        let BlockRows {
+            set,
+            two,
+            one,
+            from,
+            three_tables,
+        } = *rows;
+        let own = BlockRows {
+            set,
+            two,
+            one,
+            from,
+            three_tables,
+        };
         fill_left(two, one, from, count, &mut self.tl);
         fill_above(one, from, count, &mut self.t);
         fill_bounds(&self.tl, &self.t, count, &mut self.least, &mut self.most);
-        fill_sums(set, two, one, from, count, &self.tl, &mut self.sum, near);
+        fill_sums(&own, count, &self.tl, &mut self.sum);
     }
 }

@@ -3,7 +3,7 @@
 ghost use Rattle.std.specs.Prelude.{◌≡◌, ℕ, ◌+◌, ◌*◌, ◌/◌, ◌%◌, ◌^◌, ◌<◌, ◌⊎◌, IsTrue, List};
 ghost use Rattle.std.specs.Prelude.{length};
 ghost use Rattle.std.specs.Prelude.{map, unsigned_abs};
-ghost use Rattle.ffv1_plane.specs.Quantisation.{IsNear, HasFewLevels};
+ghost use Rattle.ffv1_plane.specs.Quantisation.{HasThreeTables, HasFewLevels};
 ghost use Rattle.ffv1_plane.specs.Context.{size_of, flip_of};
 ghost use Rattle.ffv1_plane.specs.Prediction.{predicted};
 ghost use Rattle.ffv1_plane.specs.Residual.{chosen_of};
@@ -30,6 +30,19 @@ pub struct AroundLanes {
     pub ll: u16x16,
     /// Two above.
     pub tt: u16x16,
+}
+
+/// The samples above 16 places, as in `Around`.
+#[derive(Clone, Copy)]
+pub(crate) struct AboveLanes {
+    /// Above.
+    pub(crate) t: u16x16,
+    /// Above, to the left.
+    pub(crate) tl: u16x16,
+    /// Above, to the right.
+    pub(crate) tr: u16x16,
+    /// Two above.
+    pub(crate) tt: u16x16,
 }
 
 /// The predictions of 16 places.
@@ -60,8 +73,8 @@ fn fold_lanes(differences: u16x16, bits: u8) -> u16x16
 /// The numbers of the contexts of 16 places (RFC 9043, 3.5), and the residuals that an encoder
 /// takes for their samples (3.8), modulo 512, each as `context`, `predict` and `residual_of` have
 /// it. The set's tables have at most eleven levels each (`has_few_levels`), and `lanes` are those
-/// of the set (`QuantSet::lanes`). `bits` is 8 or 9; `near` may be said of a set whose fourth and
-/// fifth tables have one level.
+/// of the set (`QuantSet::lanes`). `bits` is 8 or 9; `three_tables` may be said of a set whose
+/// fourth and fifth tables have one level.
 #[inline(always)]
 pub fn choose_lanes<A: Allocator>(
     set: &QuantSet<A>,
@@ -69,12 +82,12 @@ pub fn choose_lanes<A: Allocator>(
     around: &AroundLanes,
     samples: u16x16,
     bits: u8,
-    near: bool,
+    three_tables: bool,
 ) -> (u16x16, u16x16)
     requires bits { (bits ≡ 8) ⊎ (bits ≡ 9) }
     requires few { HasFewLevels set.now }
     requires lanes { AreSetLanes set.now lanes.now }
-    requires near { IsTrue near → IsNear set.now }
+    requires three_tables { IsTrue three_tables → HasThreeTables set.now }
     ensures sizes { (places : List ℕ) (a : ℕ → Around) → length places ≡ 16 →
         AreAround around.now places a → result.0 ≡ map (λ x. size_of set.now (a x)) places }
     ensures residuals { (places : List ℕ) (a : ℕ → Around) (s : ℕ → ℕ) → length places ≡ 16 →
@@ -82,7 +95,7 @@ pub fn choose_lanes<A: Allocator>(
         result.1 ≡ map (λ x. modulo_512
         (chosen_of bits (predicted (a x)) (flip_of set.now (a x)) (s x))) places }
 {
-    let sums = set.sum_lanes(lanes, around, near);
+    let sums = set.sum_lanes(lanes, around, three_tables);
     let half = lanes.half;
     let flips = sums.simd_lt(half);
     let sizes = flips.select(half - sums, sums - half);

@@ -4,7 +4,7 @@ ghost use Rattle.std.specs.Prelude.{◌≡◌, ◌≢◌, ℕ, ◌+◌, ◌-◌,
 ghost use Rattle.std.specs.Prelude.{Bool, true, ℤ, pos, ◌+ℤ◌, ◌-ℤ◌};
 ghost use Rattle.std.specs.Int.{int_rem_euclid};
 ghost use Rattle.ffv1_plane.specs.declared.prediction.Around.{Around};
-ghost use Rattle.ffv1_plane.specs.Quantisation.{Set, IsSet, IsNear, runs_below, entry};
+ghost use Rattle.ffv1_plane.specs.Quantisation.{Set, IsSet, HasThreeTables, runs_below, entry};
 ghost use Rattle.ffv1_plane.specs.Quantisation.{contexts_of};
 ghost use Rattle.ffv1_plane.specs.Context.{size_of};
 ghost use Rattle.ffv1_plane.specs.Residual.{IsSuiting, IsFolded, turned, folded, sample_of};
@@ -32,7 +32,7 @@ pub fn bounded()
 /// In a set whose fourth and fifth tables have one level, the context of a sample is 0 where the
 /// samples to the left, above, and above to the left and right are one.
 pub fn flat()
-    ensures { (set : Set) → IsSet set → IsNear set → (a : Around) → a.t ≡ a.l → a.tl ≡ a.l →
+    ensures { (set : Set) → IsSet set → HasThreeTables set → (a : Around) → a.t ≡ a.l → a.tl ≡ a.l →
         a.tr ≡ a.l → size_of set a ≡ 0 }
 {}
 

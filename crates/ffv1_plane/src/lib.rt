@@ -34,10 +34,12 @@ mod table;
 pub mod wide;
 
 pub use deep::{deep_residual, deep_sample};
-pub use early::{BLOCK, Early, sample_signed};
+pub use early::{BLOCK, BlockRows, Early, sample_signed};
 pub use fault::Fault;
 pub use lanes::{AroundLanes, choose_lanes};
 pub use prediction::{Around, predict, predict_in, predict_late, predict_signed};
-pub use quantisation::{QuantSet, SetLanes, context, context_near, early_sum, late_context};
+pub use quantisation::{
+    QuantSet, SetLanes, context, context_by_three_tables, early_sum, late_context,
+};
 pub use residual::{fold, residual_of, sample_from, unfold};
 pub use wide::{WideAround, low_around, wide_residual, wide_sample};

@@ -6,14 +6,14 @@ ghost use Rattle.std.specs.Prelude.{IsTrue, IsFalse, length, map, slice_index_or
 ghost use Rattle.std.specs.Prelude.{◌-ℤ◌, List};
 ghost use Rattle.ffv1_plane.specs.declared.prediction.Around.{Around};
 ghost use Rattle.ffv1_plane.specs.Quantisation.{Set, IsSet, are_filled, contexts_of, small_set};
-ghost use Rattle.ffv1_plane.specs.Quantisation.{large_set, IsNear, HasFewLevels};
+ghost use Rattle.ffv1_plane.specs.Quantisation.{large_set, HasThreeTables, HasFewLevels};
 ghost use Rattle.ffv1_plane.specs.Context.{size_of, flip_of, context_of};
 ghost use Rattle.ffv1_plane.specs.Early.{IsEarly, IsEarlySomewhere};
 ghost use Rattle.ffv1_plane.specs.Raised.{AreRaised, AreSetLanes, table_of, raised_sum};
 ghost use Rattle.ffv1_plane.specs.Lanes.{AreAround};
 
 use crate::fault::Fault;
-use crate::lanes::AroundLanes;
+use crate::lanes::{AboveLanes, AroundLanes};
 use crate::prediction::Around;
 use crate::table::{Table, TableLanes, fills, scale_after};
 use std::alloc::{AllocError, Allocator, Global};
@@ -94,23 +94,36 @@ struct Scales {
     half: u32,
 }
 
+/// The runs of a set's tables.
+#[derive(Clone, Copy)]
+struct FiveRuns<'a> {
+    first: &'a [u8],
+    second: &'a [u8],
+    third: &'a [u8],
+    fourth: &'a [u8],
+    fifth: &'a [u8],
+}
+
 /// The scales of five tables by their runs, or why the runs make no set.
-fn scales_of(
-    first: &[u8],
-    second: &[u8],
-    third: &[u8],
-    fourth: &[u8],
-    fifth: &[u8],
-) -> Result<Scales, Fault>
-    ensures runs { let set = first.now ∷ second.now ∷ third.now ∷ fourth.now ∷ fifth.now ∷ [] in
+fn scales_of(runs: &FiveRuns<'_>) -> Result<Scales, Fault>
+    ensures runs { let set = runs.now.first.now ∷ runs.now.second.now ∷ runs.now.third.now ∷
+        runs.now.fourth.now ∷ runs.now.fifth.now ∷ [] in
         IsErrOf result Fault.Runs ↔ IsFalse (are_filled set) }
-    ensures contexts { let set = first.now ∷ second.now ∷ third.now ∷ fourth.now ∷ fifth.now ∷ [] in
+    ensures contexts { let set = runs.now.first.now ∷ runs.now.second.now ∷ runs.now.third.now ∷
+        runs.now.fourth.now ∷ runs.now.fifth.now ∷ [] in
         IsErrOf result Fault.Contexts ↔ (IsTrue (are_filled set) × (32768 < contexts_of set)) }
     ensures memory { IsErrOf result Fault.OutOfMemory → ⊥ }
-    ensures ok { IfOk result (λ s. AreRaised (table_of first.now 1) (table_of second.now s.second)
-        (table_of third.now s.third) (table_of fourth.now s.fourth) (table_of fifth.now s.fifth)
-        s.half) }
+    ensures ok { IfOk result (λ s. AreRaised (table_of runs.now.first.now 1)
+        (table_of runs.now.second.now s.second) (table_of runs.now.third.now s.third)
+        (table_of runs.now.fourth.now s.fourth) (table_of runs.now.fifth.now s.fifth) s.half) }
 {
+    let FiveRuns {
+        first,
+        second,
+        third,
+        fourth,
+        fifth,
+    } = *runs;
     if !(fills(first) && fills(second) && fills(third) && fills(fourth) && fills(fifth)) {
         return Err(Fault::Runs);
     }
@@ -134,24 +147,21 @@ fn scales_of(
 /// The set of five tables by their runs and scales.
 fn build<A: Allocator + Copy>(
     alloc: A,
-    first: &[u8],
-    second: &[u8],
-    third: &[u8],
-    fourth: &[u8],
-    fifth: &[u8],
+    runs: &FiveRuns<'_>,
     scales: Scales,
 ) -> Result<QuantSet<A>, AllocError>
-    requires { AreRaised (table_of first.now 1) (table_of second.now scales.second)
-        (table_of third.now scales.third) (table_of fourth.now scales.fourth)
-        (table_of fifth.now scales.fifth) scales.half }
-    ensures { IfOk result (λ s. s ≡ first.now ∷ second.now ∷ third.now ∷ fourth.now ∷ fifth.now ∷
-        []) }
+    requires { AreRaised (table_of runs.now.first.now 1)
+        (table_of runs.now.second.now scales.second) (table_of runs.now.third.now scales.third)
+        (table_of runs.now.fourth.now scales.fourth) (table_of runs.now.fifth.now scales.fifth)
+        scales.half }
+    ensures { IfOk result (λ s. s ≡ runs.now.first.now ∷ runs.now.second.now ∷ runs.now.third.now ∷
+        runs.now.fourth.now ∷ runs.now.fifth.now ∷ []) }
 {
-    let first = Table::new(alloc, first, 1)?;
-    let second = Table::new(alloc, second, scales.second)?;
-    let third = Table::new(alloc, third, scales.third)?;
-    let fourth = Table::new(alloc, fourth, scales.fourth)?;
-    let fifth = Table::new(alloc, fifth, scales.fifth)?;
+    let first = Table::new(alloc, runs.first, 1)?;
+    let second = Table::new(alloc, runs.second, scales.second)?;
+    let third = Table::new(alloc, runs.third, scales.third)?;
+    let fourth = Table::new(alloc, runs.fourth, scales.fourth)?;
+    let fifth = Table::new(alloc, runs.fifth, scales.fifth)?;
     Ok(QuantSet {
         first,
         second,
@@ -179,8 +189,15 @@ impl<A: Allocator + Copy> QuantSet<A> {
         ensures set { IfOk result (λ s. IsSet s) }
     {
         let [first, second, third, fourth, fifth] = *runs;
-        let scales = scales_of(first, second, third, fourth, fifth)?;
-        let set = build(alloc, first, second, third, fourth, fifth, scales)?;
+        let runs = FiveRuns {
+            first,
+            second,
+            third,
+            fourth,
+            fifth,
+        };
+        let scales = scales_of(&runs)?;
+        let set = build(alloc, &runs, scales)?;
         Ok(set)
     }
 
@@ -237,8 +254,8 @@ impl<A: Allocator> QuantSet<A> {
 
     /// Whether the samples two to the left and two above count for nothing: whether the fourth and
     /// the fifth table have one level.
-    pub fn is_near(&self) -> bool
-        ensures { IsTrue result ↔ IsNear self.now }
+    pub fn has_three_tables(&self) -> bool
+        ensures { IsTrue result ↔ HasThreeTables self.now }
     {
         self.fourth.runs().len() == 1 && self.fifth.runs().len() == 1
     }
@@ -271,43 +288,47 @@ impl<A: Allocator> QuantSet<A> {
         }
     }
 
-    /// The early parts of the sums of 16 places, as of `early_sum`, by the set's lanes. `near` may
-    /// be said of a set whose fourth and fifth tables have one level.
+    /// The early parts of the sums of 16 places, as of `early_sum`, by the set's lanes.
+    /// `three_tables` may be said of a set whose fourth and fifth tables have one level.
     #[inline(always)]
     pub(crate) fn early_lanes(
         &self,
         lanes: &SetLanes,
-        tl: u16x16,
-        t: u16x16,
-        tr: u16x16,
-        tt: u16x16,
-        near: bool,
+        above: &AboveLanes,
+        three_tables: bool,
     ) -> u16x16
         requires few { HasFewLevels self.now }
         requires lanes { AreSetLanes self.now lanes.now }
-        requires near { IsTrue near → IsNear self.now }
-        ensures { (places : List ℕ) (f g h k : ℕ → ℕ) → length places ≡ 16 → tl ≡ map f places →
-            t ≡ map g places → tr ≡ map h places → tt ≡ map k places →
+        requires three_tables { IsTrue three_tables → HasThreeTables self.now }
+        ensures { (places : List ℕ) (f g h k : ℕ → ℕ) → length places ≡ 16 →
+            above.now.tl ≡ map f places → above.now.t ≡ map g places →
+            above.now.tr ≡ map h places → above.now.tt ≡ map k places →
             ((x : ℕ) → g x < 2 ^ 16) → ((x : ℕ) → h x < 2 ^ 16) →
             (sum : ℕ → ℕ) × (result ≡ map sum places) ×
             ((x : ℕ) → IsEarly self.now (f x) (g x) (h x) (k x) (sum x)) }
     {
-        let sum = self.second.raised_lanes(&lanes.second, tl, t)
-            + self.third.raised_lanes(&lanes.third, t, tr)
+        let sum = self.second.raised_lanes(&lanes.second, above.tl, above.t)
+            + self.third.raised_lanes(&lanes.third, above.t, above.tr)
             + lanes.raise;
-        if near {
+        if three_tables {
             return sum;
         }
-        sum + self.fifth.raised_lanes(&lanes.fifth, tt, t)
+        sum + self.fifth.raised_lanes(&lanes.fifth, above.tt, above.t)
     }
 
     /// The sums of the look-ups of 16 places, each raised by the sum of the greatest entries, by
-    /// the set's lanes. `near` may be said of a set whose fourth and fifth tables have one level.
+    /// the set's lanes. `three_tables` may be said of a set whose fourth and fifth tables have one
+    /// level.
     #[inline(always)]
-    pub(crate) fn sum_lanes(&self, lanes: &SetLanes, around: &AroundLanes, near: bool) -> u16x16
+    pub(crate) fn sum_lanes(
+        &self,
+        lanes: &SetLanes,
+        around: &AroundLanes,
+        three_tables: bool,
+    ) -> u16x16
         requires few { HasFewLevels self.now }
         requires lanes { AreSetLanes self.now lanes.now }
-        requires near { IsTrue near → IsNear self.now }
+        requires three_tables { IsTrue three_tables → HasThreeTables self.now }
         ensures sums { (places : List ℕ) (a : ℕ → Around) → length places ≡ 16 →
             AreAround around.now places a →
             result ≡ map (λ x. raised_sum self.now (a x)) places }
@@ -319,7 +340,7 @@ impl<A: Allocator> QuantSet<A> {
         let early = self.second.raised_lanes(&lanes.second, around.tl, around.t)
             + self.third.raised_lanes(&lanes.third, around.t, around.tr);
         let left = self.first.raised_lanes(&lanes.first, around.l, around.tl);
-        if near {
+        if three_tables {
             return left + early;
         }
         let far = self.fourth.raised_lanes(&lanes.fourth, around.ll, around.l)
@@ -373,8 +394,8 @@ pub fn context<A: Allocator>(set: &QuantSet<A>, around: &Around) -> (u32, bool)
 
 /// The same in a set whose fourth and fifth tables have one level, without a look-up in them.
 #[inline(always)]
-pub fn context_near<A: Allocator>(set: &QuantSet<A>, around: &Around) -> (u32, bool)
-    requires { IsNear set.now }
+pub fn context_by_three_tables<A: Allocator>(set: &QuantSet<A>, around: &Around) -> (u32, bool)
+    requires { HasThreeTables set.now }
     ensures size { result.0 ≡ size_of set.now around.now }
     ensures flip { result.1 ≡ flip_of set.now around.now }
     ensures below { result.0 < contexts_of set.now }
@@ -389,8 +410,8 @@ const RAISE: u32 = 32768;
 
 /// The early part of the sum that makes a context, which the rows above decide: the entries of the
 /// second, the third and the fifth table, each raised by its table's greatest, and how far the sum
-/// of all five tables' greatest lies below 32768. `near` may be said of a set whose fourth and
-/// fifth tables have one level: then the fifth is not looked up.
+/// of all five tables' greatest lies below 32768. `three_tables` may be said of a set whose fourth
+/// and fifth tables have one level: then the fifth is not looked up.
 #[inline(always)]
 pub fn early_sum<A: Allocator>(
     set: &QuantSet<A>,
@@ -398,21 +419,21 @@ pub fn early_sum<A: Allocator>(
     t: u16,
     tr: u16,
     tt: u16,
-    near: bool,
+    three_tables: bool,
 ) -> u16
-    requires { IsTrue near → IsNear set.now }
+    requires { IsTrue three_tables → HasThreeTables set.now }
     ensures { IsEarly set.now tl t tr tt result }
 {
     let sum = set.second.raised(tl, t) + set.third.raised(t, tr) + (RAISE - set.half);
-    if near {
+    if three_tables {
         return sum as u16;
     }
     (sum + set.fifth.raised(tt, t)) as u16
 }
 
 /// The context of a sample (RFC 9043, 3.5) by the early part of its sum and the samples that the
-/// rest takes, as with `context`. `near` may be said of a set whose fourth and fifth tables have
-/// one level: then the fourth is not looked up.
+/// rest takes, as with `context`. `three_tables` may be said of a set whose fourth and fifth tables
+/// have one level: then the fourth is not looked up.
 #[inline(always)]
 pub fn late_context<A: Allocator>(
     set: &QuantSet<A>,
@@ -420,9 +441,9 @@ pub fn late_context<A: Allocator>(
     l: u16,
     tl: u16,
     ll: u16,
-    near: bool,
+    three_tables: bool,
 ) -> (u32, bool)
-    requires near { IsTrue near → IsNear set.now }
+    requires three_tables { IsTrue three_tables → HasThreeTables set.now }
     requires early { IsEarlySomewhere set.now tl sum }
     ensures size { (t tr tt : ℕ) → IsEarly set.now tl t tr tt sum → result.0 ≡ size_of set.now
         (record { l = l; t = t; tl = tl; tr = tr; ll = ll; tt = tt }) }
@@ -431,7 +452,7 @@ pub fn late_context<A: Allocator>(
     ensures below { result.0 < contexts_of set.now }
 {
     let sum = sum as u32 + set.first.raised(l, tl);
-    if near {
+    if three_tables {
         return unraised(sum, RAISE);
     }
     unraised(sum + set.fourth.raised(ll, l), RAISE)

@@ -25,7 +25,7 @@ decided_length : (t : Table) (states : List ℕ) (ss : List Step) → length (de
 decided_length t states [] = refl
 decided_length t states (s ∷ ss) = let rest = decided_length t (stepped t states s) ss in omega arith
 
-after_held : (t : Table) → IsTable t.floor t.one → (past ss : List Step) → AreHeldBy t.floor (decisions_after t past ss)
+pub after_held : (t : Table) → IsTable t.floor t.one → (past ss : List Step) → AreHeldBy t.floor (decisions_after t past ss)
 after_held t table past [] = tt
 after_held t table past (s ∷ ss) =
     let held = state_held t table s.slot past in

@@ -1,7 +1,7 @@
 -- The ones of a mantissa are the bits of its number that are set, but for the highest.
 use Rattle.std.proofs.Common.{◌≡◌, refl, ℕ, zero, suc, ◌+◌, ◌-◌, ◌/◌, ◌%◌, ◌^◌, ◌<◌, ◌≤◌, ◌==◌, [], ◌∷◌, min, arith, ap, ◌∙◌, zero-add, inl, inr}
 use Rattle.std.proofs.lemmas.Nat.{shr-shr}
-use Rattle.std.proofs.Math.Nat.{pow-succ', pow-zero, div-eq_of_lt}
+use Rattle.std.proofs.Math.Nat.{pow-zero, div-eq_of_lt}
 use Rattle.std.proofs.lemmas.Bool.{cases_lt}
 use Rattle.std.specs.Int.Count
 use Rattle.ffv1_range.specs.Symbols.{exponent, mantissa_steps}

@@ -1,9 +1,8 @@
 -- The symbol of a number from its exponent and its sign.
-use Rattle.std.proofs.Common.{◌≡◌, refl, ℕ, zero, suc, ◌+◌, ◌-◌, ◌*◌, ◌^◌, ◌<◌, ◌≤◌, Bool, true, false, List, [], ◌∷◌, min, arith, pos, negsuc, ℤ, ◌-ℤ◌, pow_mono}
+use Rattle.std.proofs.Common.{◌≡◌, refl, ℕ, zero, suc, ◌+◌, ◌*◌, ◌^◌, ◌<◌, ◌≤◌, Bool, true, false, List, [], ◌∷◌, min, arith, pos, negsuc, ℤ, ◌-ℤ◌, pow_mono}
 use Rattle.std.proofs.Math.IntN.{nat_abs}
 use lib.Signed.{lt_z}
 use Rattle.std.proofs.lemmas.Int.{ints}
-use Rattle.std.proofs.Math.Nat.{pow-succ'}
 use Rattle.ffv1_range.specs.Table.{Table}
 use Rattle.ffv1_range.specs.Reading.{Reading}
 use Rattle.ffv1_range.specs.Signed.{signed_by}

@@ -7,7 +7,7 @@ use Rattle.std.proofs.lemmas.List.{get_or-map, length-take-le, length-replicate,
 use Rattle.std.proofs.lemmas.Bool.{leb-true}
 use Rattle.std.proofs.lemmas.List.FromFn.{get_or-range_with_len, length-range_with_len}
 use Rattle.std.specs.Prelude.{replicate}
-use Rattle.ffv1_range.specs.declared.symbol_table.TheConstants.{SYMBOLS, LENGTHS}
+use Rattle.ffv1_range.specs.declared.encoder.symbol_table.TheConstants.{SYMBOLS, LENGTHS}
 use Rattle.ffv1_range.specs.Symbols.{Step, shifted, signed_steps, raising, halvings}
 use Rattle.ffv1_range.specs.Weight.{one_if}
 use Rattle.ffv1_range.specs.Listed.{step_of, steps_of, of_nine_bits}

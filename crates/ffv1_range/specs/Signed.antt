@@ -1,6 +1,6 @@
 -- A number by its size and its sign.
 use Rattle.std.specs.Prelude.{ℕ, Bool, true, false, ℤ, pos, ◌-ℤ◌, Option, Some, None}
-use Rattle.ffv1_range.specs.declared.magnitude.SignedNumber.{SignedNumber}
+use Rattle.ffv1_range.specs.declared.decoder.fast_symbol.SignedNumber.{SignedNumber}
 
 -- the number of a size, below 0 or not
 abbrev pub signed_by : ℕ → Bool → ℤ

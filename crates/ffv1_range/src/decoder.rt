@@ -10,9 +10,13 @@ ghost use Rattle.ffv1_range.specs.Among.{AreNonzeros, sums_among};
 ghost use Rattle.ffv1_range.specs.Follows.{Follows};
 ghost use Rattle.ffv1_range.specs.Counts.{uncounted, counted, saturated, total};
 
+pub mod fast_symbol;
+pub mod parked;
+pub mod symbol;
+
+use crate::decoder::parked::Parked;
 use crate::encoder::FIRST_WIDTH;
 use crate::fault::Fault;
-use crate::parked::Parked;
 use crate::table::StateTable;
 use crate::tally::{Nonzeros, Sums, Tally};
 use std::marker::Model;

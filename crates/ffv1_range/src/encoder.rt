@@ -17,6 +17,10 @@ ghost use Rattle.ffv1_range.specs.History.{AreBelow, decisions_after};
 ghost use Rattle.ffv1_range.specs.Puts.{Puts};
 ghost use Rattle.ffv1_range.specs.Internal.Registers.{interval_from, IsWriting, IsChosen};
 
+pub mod batch;
+pub mod symbol;
+mod symbol_table;
+
 use crate::fault::Fault;
 use crate::table::StateTable;
 use crate::tally::{Sums, Tally};

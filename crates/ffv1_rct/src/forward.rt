@@ -4,7 +4,16 @@ ghost use Rattle.std.specs.Prelude.{◌≡◌, ◌≤◌, ◌+◌, length};
 ghost use Rattle.ffv1_rct.specs.Transform.{IsCoded};
 ghost use Rattle.ffv1_rct.specs.Lines.{AreCoded};
 
+use crate::ranges::are_bytes;
 use std::simd::prelude::*;
+
+/// A line of red, green and blue, of one length.
+#[derive(Clone, Copy)]
+struct RgbLine<'a> {
+    r: &'a [u8],
+    g: &'a [u8],
+    b: &'a [u8],
+}
 
 /// The transform of a sample. Y is `floor((r + 2 g + b) / 4)`, which is `g + floor((b - g + r - g)
 /// / 4)`.
@@ -24,24 +33,20 @@ fn coded_of(r: u8, g: u8, b: u8) -> (u16, u16, u16)
 
 /// The transform of 16 places from `at` on.
 #[inline(always)]
-fn forward_block(
-    at: usize,
-    r: &[u8],
-    g: &[u8],
-    b: &[u8],
-    y: &mut [u16],
-    cb: &mut [u16],
-    cr: &mut [u16],
-)
-    requires at { at + 16 ≤ length r.now }
-    requires g { length g.now ≡ length r.now }
-    requires b { length b.now ≡ length r.now }
-    requires y { length y.old ≡ length r.now }
-    requires cb { length cb.old ≡ length r.now }
-    requires cr { length cr.old ≡ length r.now }
-    requires done { AreCoded at r.now g.now b.now y.old cb.old cr.old }
-    ensures { AreCoded (at + 16) r.now g.now b.now y.new cb.new cr.new }
+fn forward_block(at: usize, line: &RgbLine<'_>, y: &mut [u16], cb: &mut [u16], cr: &mut [u16])
+    requires at { at + 16 ≤ length line.now.r.now }
+    requires g { length line.now.g.now ≡ length line.now.r.now }
+    requires b { length line.now.b.now ≡ length line.now.r.now }
+    requires y { length y.old ≡ length line.now.r.now }
+    requires cb { length cb.old ≡ length line.now.r.now }
+    requires cr { length cr.old ≡ length line.now.r.now }
+    requires done { AreCoded at line.now.r.now line.now.g.now line.now.b.now y.old cb.old cr.old }
+    ensures { AreCoded (at + 16) line.now.r.now line.now.g.now line.now.b.now y.new cb.new cr.new }
 {
+    let RgbLine { r, g, b } = *line;
+    are_bytes(r);
+    are_bytes(g);
+    are_bytes(b);
     let red = u8x16::from_slice(&r[at..]).cast::<u16>();
     let green = u8x16::from_slice(&g[at..]).cast::<u16>();
     let blue = u8x16::from_slice(&b[at..]).cast::<u16>();
@@ -53,24 +58,18 @@ fn forward_block(
 }
 
 /// The transform of each place from `at` on.
-fn forward_rest(
-    at: usize,
-    r: &[u8],
-    g: &[u8],
-    b: &[u8],
-    y: &mut [u16],
-    cb: &mut [u16],
-    cr: &mut [u16],
-)
-    requires at { at ≤ length r.now }
-    requires g { length g.now ≡ length r.now }
-    requires b { length b.now ≡ length r.now }
-    requires y { length y.old ≡ length r.now }
-    requires cb { length cb.old ≡ length r.now }
-    requires cr { length cr.old ≡ length r.now }
-    requires done { AreCoded at r.now g.now b.now y.old cb.old cr.old }
-    ensures { AreCoded (length r.now) r.now g.now b.now y.new cb.new cr.new }
+fn forward_rest(at: usize, line: &RgbLine<'_>, y: &mut [u16], cb: &mut [u16], cr: &mut [u16])
+    requires at { at ≤ length line.now.r.now }
+    requires g { length line.now.g.now ≡ length line.now.r.now }
+    requires b { length line.now.b.now ≡ length line.now.r.now }
+    requires y { length y.old ≡ length line.now.r.now }
+    requires cb { length cb.old ≡ length line.now.r.now }
+    requires cr { length cr.old ≡ length line.now.r.now }
+    requires done { AreCoded at line.now.r.now line.now.g.now line.now.b.now y.old cb.old cr.old }
+    ensures { AreCoded (length line.now.r.now) line.now.r.now line.now.g.now line.now.b.now y.new
+        cb.new cr.new }
 {
+    let RgbLine { r, g, b } = *line;
     for x in at..r.len() {
         let (luma, blue, red) = coded_of(r[x], g[x], b[x]);
         y[x] = luma;
@@ -90,10 +89,11 @@ pub fn forward_line(r: &[u8], g: &[u8], b: &[u8], y: &mut [u16], cb: &mut [u16],
     requires cr { length cr.old ≡ length r.now }
     ensures { AreCoded (length r.now) r.now g.now b.now y.new cb.new cr.new }
 {
+    let line = RgbLine { r, g, b };
     let mut at = 0;
     while r.len() - at >= 16 {
-        forward_block(at, r, g, b, y, cb, cr);
+        forward_block(at, &line, y, cb, cr);
         at += 16;
     }
-    forward_rest(at, r, g, b, y, cb, cr);
+    forward_rest(at, &line, y, cb, cr);
 }

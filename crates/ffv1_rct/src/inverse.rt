@@ -6,7 +6,16 @@ ghost use Rattle.ffv1_rct.specs.Transform.{HasColour, IsOnlyColour};
 ghost use Rattle.ffv1_rct.specs.Lines.{AreOnlyColours, HasColourAt, IsKeptFrom};
 
 use crate::fault::NoColour;
+use crate::ranges::are_words;
 use std::simd::prelude::*;
+
+/// A line of Y, Cb and Cr, of one length.
+#[derive(Clone, Copy)]
+struct YcbcrLine<'a> {
+    y: &'a [u16],
+    cb: &'a [u16],
+    cr: &'a [u16],
+}
 
 /// The colour of a sample, or `None` where it has none. Sums and differences are taken modulo
 /// 65536, as lanes take them: where red, green and blue come out from 0 to 255, then Cb and Cr are
@@ -29,28 +38,26 @@ fn colour_of(y: u16, cb: u16, cr: u16) -> Option<(u8, u8, u8)>
 /// one. The numbers are those of `colour_of`: all of them lie from 0 to 255 where no bit above the
 /// lowest eight is set in any.
 #[inline(always)]
-fn inverse_block(
-    at: usize,
-    y: &[u16],
-    cb: &[u16],
-    cr: &[u16],
-    r: &mut [u8],
-    g: &mut [u8],
-    b: &mut [u8],
-) -> bool
-    requires at { at + 16 ≤ length y.now }
-    requires cb { length cb.now ≡ length y.now }
-    requires cr { length cr.now ≡ length y.now }
-    requires r { length r.old ≡ length y.now }
-    requires g { length g.old ≡ length y.now }
-    requires b { length b.old ≡ length y.now }
-    requires done { AreOnlyColours at y.now cb.now cr.now r.old g.old b.old }
-    ensures all { IsTrue result → AreOnlyColours (at + 16) y.now cb.now cr.now r.new g.new b.new }
+fn inverse_block(at: usize, line: &YcbcrLine<'_>, r: &mut [u8], g: &mut [u8], b: &mut [u8]) -> bool
+    requires at { at + 16 ≤ length line.now.y.now }
+    requires cb { length line.now.cb.now ≡ length line.now.y.now }
+    requires cr { length line.now.cr.now ≡ length line.now.y.now }
+    requires r { length r.old ≡ length line.now.y.now }
+    requires g { length g.old ≡ length line.now.y.now }
+    requires b { length b.old ≡ length line.now.y.now }
+    requires done { AreOnlyColours at line.now.y.now line.now.cb.now line.now.cr.now r.old g.old
+        b.old }
+    ensures all { IsTrue result → AreOnlyColours (at + 16) line.now.y.now line.now.cb.now
+        line.now.cr.now r.new g.new b.new }
     ensures red { IsTrue result → IsKeptFrom (at + 16) r.old r.new }
     ensures green { IsTrue result → IsKeptFrom (at + 16) g.old g.new }
     ensures blue { IsTrue result → IsKeptFrom (at + 16) b.old b.new }
     ensures none { IsFalse result → (r.new ≡ r.old) × (g.new ≡ g.old) × (b.new ≡ b.old) }
 {
+    let YcbcrLine { y, cb, cr } = *line;
+    are_words(y);
+    are_words(cb);
+    are_words(cr);
     let luma = u16x16::from_slice(&y[at..]);
     let above_blue = u16x16::from_slice(&cb[at..]);
     let above_red = u16x16::from_slice(&cr[at..]);
@@ -71,29 +78,32 @@ fn inverse_block(
 /// The colour of each place from `at` on, up to the first that has none.
 fn inverse_rest(
     at: usize,
-    y: &[u16],
-    cb: &[u16],
-    cr: &[u16],
+    line: &YcbcrLine<'_>,
     r: &mut [u8],
     g: &mut [u8],
     b: &mut [u8],
 ) -> Result<(), NoColour>
-    requires at { at ≤ length y.now }
-    requires cb { length cb.now ≡ length y.now }
-    requires cr { length cr.now ≡ length y.now }
-    requires r { length r.old ≡ length y.now }
-    requires g { length g.old ≡ length y.now }
-    requires b { length b.old ≡ length y.now }
-    requires done { AreOnlyColours at y.now cb.now cr.now r.old g.old b.old }
-    ensures ok { OnOk result (AreOnlyColours (length y.now) y.now cb.now cr.now r.new g.new b.new) }
+    requires at { at ≤ length line.now.y.now }
+    requires cb { length line.now.cb.now ≡ length line.now.y.now }
+    requires cr { length line.now.cr.now ≡ length line.now.y.now }
+    requires r { length r.old ≡ length line.now.y.now }
+    requires g { length g.old ≡ length line.now.y.now }
+    requires b { length b.old ≡ length line.now.y.now }
+    requires done { AreOnlyColours at line.now.y.now line.now.cb.now line.now.cr.now r.old g.old
+        b.old }
+    ensures ok { OnOk result (AreOnlyColours (length line.now.y.now) line.now.y.now
+        line.now.cb.now line.now.cr.now r.new g.new b.new) }
     ensures behind { IfErr result (λ c. at ≤ c.x) }
-    ensures inside { IfErr result (λ c. c.x < length y.now) }
-    ensures none { IfErr result (λ c. HasColourAt y.now cb.now cr.now c.x → ⊥) }
-    ensures filled { IfErr result (λ c. AreOnlyColours c.x y.now cb.now cr.now r.new g.new b.new) }
+    ensures inside { IfErr result (λ c. c.x < length line.now.y.now) }
+    ensures none { IfErr result (λ c. HasColourAt line.now.y.now line.now.cb.now line.now.cr.now
+        c.x → ⊥) }
+    ensures filled { IfErr result (λ c. AreOnlyColours c.x line.now.y.now line.now.cb.now
+        line.now.cr.now r.new g.new b.new) }
     ensures red { IfErr result (λ c. IsKeptFrom c.x r.old r.new) }
     ensures green { IfErr result (λ c. IsKeptFrom c.x g.old g.new) }
     ensures blue { IfErr result (λ c. IsKeptFrom c.x b.old b.new) }
 {
+    let YcbcrLine { y, cb, cr } = *line;
     for x in at..y.len() {
         let Some((red, green, blue)) = colour_of(y[x], cb[x], cr[x]) else {
             return Err(NoColour { x });
@@ -134,10 +144,11 @@ pub fn inverse_line(
     ensures green { IfErr result (λ c. IsKeptFrom c.x g.old g.new) }
     ensures blue { IfErr result (λ c. IsKeptFrom c.x b.old b.new) }
 {
+    let line = YcbcrLine { y, cb, cr };
     let mut at = 0;
-    while y.len() - at >= 16 && inverse_block(at, y, cb, cr, r, g, b) {
+    while y.len() - at >= 16 && inverse_block(at, &line, r, g, b) {
         at += 16;
     }
-    inverse_rest(at, y, cb, cr, r, g, b)?;
+    inverse_rest(at, &line, r, g, b)?;
     Ok(())
 }

@@ -20,6 +20,7 @@ pub mod forward;
 pub mod inverse;
 pub mod laws;
 pub mod narrow;
+mod ranges;
 pub mod wide;
 pub mod words;
 

@@ -23,3 +23,6 @@ pub mod RoundTrip
 pub mod BeforeSets
 pub mod Parts
 pub mod FirstBadParameter
+pub mod RefusedSymbols
+pub mod RefusedTables
+pub mod RefusedParameters

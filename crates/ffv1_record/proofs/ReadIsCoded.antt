@@ -208,7 +208,7 @@ pub record Seen (most : ℕ) (s : Spot) (p : Planes) (t : Spot) : Type 0 where
   pub deep : IsTrue (is_depth most p.depth)
   pub after : After s (planes_read bits p) t 0
 
-planes_ok : (most : ℕ) (b : List ℕ) (s : Spot) (p : Planes) (t : Spot) → planes most b s (Ok (p, t)) → Seen most s p t
+pub planes_ok : (most : ℕ) (b : List ℕ) (s : Spot) (p : Planes) (t : Spot) → planes most b s (Ok (p, t)) → Seen most s p t
 planes_ok most b s p t h =
     let one = bind_ok (number_within 0 0 1 fault.ColourSpace) _ b s p t h in
     let two = bind_ok (depth most) _ b one.1 p t one.3 in
@@ -267,7 +267,7 @@ next_ok b s base t h =
     let there = ap (λ p. p.1) same in
     (ap (λ p. p.0) same, record { past = ap (λ (z : Spot). z.past) there ∙ sym (append-nil s.past); fresh = ap (λ (z : Spot). z.fresh) there })
 
-table_ok : (b : List ℕ) (s : Spot) (runs : List ℕ) (t : Spot) → table b s (Ok (runs, t)) → After s (runs_steps s.fresh runs) t 32
+pub table_ok : (b : List ℕ) (s : Spot) (runs : List ℕ) (t : Spot) → table b s (Ok (runs, t)) → After s (runs_steps s.fresh runs) t 32
 table_ok b s runs t h =
     let one = bind_ok next_table (λ base. runs_onto base 128 128 []) b s runs t h in
     let next = next_ok b s one.0 one.1 one.2 in
@@ -281,7 +281,7 @@ table_then b s t u runs more g h rest =
     let one = table_ok b s runs t h in
     after_then s t u (runs_steps s.fresh runs) (set_steps (s.fresh + 32) more) 32 g one (subst (λ k. After t (set_steps k more) u g) one.fresh rest)
 
-set_ok : (b : List ℕ) (s : Spot) (x : Set) (t : Spot) → set b s (Ok (x, t)) → (length x ≡ 5) × After s (set_steps s.fresh x) t 160
+pub set_ok : (b : List ℕ) (s : Spot) (x : Set) (t : Spot) → set b s (Ok (x, t)) → (length x ≡ 5) × After s (set_steps s.fresh x) t 160
 set_ok b s x t h =
     let one = bind_ok table _ b s x t h in
     let two = bind_ok table _ b one.1 x t one.3 in
@@ -298,7 +298,7 @@ set_ok b s x t h =
     (table_then b two.1 three.1 t three.0 (four.0 ∷ five.0 ∷ []) 64 three.2 (table_then b three.1 four.1 t four.0 (five.0 ∷ []) 32 four.2 (table_then b four.1 five.1 t five.0 [] 0 five.2 last)))) in
     (ap (λ (z : Set). length z) end.0, subst (λ (z : Set). After s (set_steps s.fresh z) t 160) (sym end.0) whole)
 
-sets_ok : (k : ℕ) (acc : List Set) (b : List ℕ) (s : Spot) (ss : List Set) (t : Spot) → sets_onto k acc b s (Ok (ss, t)) →
+pub sets_ok : (k : ℕ) (acc : List Set) (b : List ℕ) (s : Spot) (ss : List Set) (t : Spot) → sets_onto k acc b s (Ok (ss, t)) →
     (more : List Set) × (ss ≡ acc ++ more) × (length more ≡ k) × (grown : ℕ) × After s (sets_steps s.fresh more) t grown
 unfolding sets_onto
 sets_ok zero acc b s ss t h =
@@ -315,7 +315,7 @@ sets_ok (suc k) acc b s ss t h =
       after_then s one.1 t (set_steps s.fresh one.0) (sets_steps (s.fresh + 160) rest.0) 160 rest.3 first.1 (subst (λ k. After one.1 (sets_steps k rest.0) t rest.3) first.1.fresh rest.4),
     )
 
-uncoded_ok : (k : ℕ) (b : List ℕ) (s : Spot) (x : Bool) (t : Spot) → uncoded k b s (Ok (x, t)) → After s (uncoded_steps k) t 0
+pub uncoded_ok : (k : ℕ) (b : List ℕ) (s : Spot) (x : Bool) (t : Spot) → uncoded k b s (Ok (x, t)) → After s (uncoded_steps k) t 0
 unfolding uncoded
 uncoded_ok zero b s x t h = after_none s t (done_ok true b s x t h).1
 uncoded_ok (suc k) b s x t h =
@@ -350,7 +350,7 @@ tables_ok b s ss t h =
           (subst (λ (z : List Set). After s (number_steps 0 one.0 ++ sets_steps s.fresh z ++ uncoded_steps one.0) t (0 + sets.3 + 0)) (sym is) same),
     )
 
-flag_ok : (f : RecordFault) (b : List ℕ) (s : Spot) (x : Bool) (t : Spot) → flag f b s (Ok (x, t)) → After s (number_steps 0 (one_if x)) t 0
+pub flag_ok : (f : RecordFault) (b : List ℕ) (s : Spot) (x : Bool) (t : Spot) → flag f b s (Ok (x, t)) → After s (number_steps 0 (one_if x)) t 0
 flag_ok f b s x t h =
     let one = bind_ok (number_within 0 0 1 f) (λ n. done (n == 1)) b s x t h in
     let end = done_ok (one.0 == 1) b one.1 x t one.3 in

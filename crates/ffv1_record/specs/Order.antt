@@ -1,10 +1,11 @@
 -- The parameters of a record in their order (RFC 9043, 4.2), each with the symbols of its good
 -- values, and with the symbols that in its place are a fault. A record's fault is that of its first
 -- parameter that is not good.
-use Rattle.std.specs.Prelude.{◌≡◌, ◌⊎◌, ℕ, ◌+◌, ◌-◌, ◌*◌, ◌^◌, ◌<◌, ◌≤◌, nat_lt, ◌||◌, not, false}
-use Rattle.std.specs.Prelude.{IsTrue, List, [], ◌∷◌, ◌++◌, length, sum, ℤ, true}
+use Rattle.std.specs.Prelude.{◌≡◌, ◌≢◌, ◌⊎◌, ℕ, ◌+◌, ◌-◌, ◌*◌, ◌^◌, ◌<◌, ◌≤◌, nat_lt, ◌||◌, not}
+use Rattle.std.specs.Prelude.{false, IsTrue, List, [], ◌∷◌, ◌++◌, length, sum, ℤ, true, Ok}
 use Rattle.std.specs.List.{list_all}
 use Rattle.std.proofs.Common.{suc}
+use Rattle.ffv1_range.specs.Codes.{value}
 use Rattle.ffv1_range.specs.Table.{Table}
 use Rattle.ffv1_range.specs.Deltas.{IsTableOf}
 use Rattle.ffv1_range.specs.Symbols.{Step, shifted, too_long}
@@ -15,9 +16,13 @@ use Rattle.ffv1_record.specs.declared.fault.RecordFault.TheVariants as fault
 use Rattle.ffv1_record.specs.Configuration.{Configuration, is_rct}
 use Rattle.ffv1_record.specs.Sets.{AreSets}
 use Rattle.ffv1_record.specs.Writable.{AreDeltas, IsWritable}
-use Rattle.ffv1_record.specs.Accepted.{IsTableFor, is_depth}
+use Rattle.ffv1_record.specs.Parity.{remainder_of}
+use Rattle.ffv1_record.specs.Accepted.{IsFirst, IsTableFor, checks, is_depth}
+use Rattle.ffv1_record.specs.Reader.{Spot}
+use Rattle.ffv1_record.specs.Reading.{beginning, parameters}
 use Rattle.ffv1_record.specs.Record.{IsCoded, number_steps, truth_steps, deltas_steps, coder_steps}
-use Rattle.ffv1_record.specs.Record.{runs_steps, set_steps, sets_steps, uncoded_steps, depth_of}
+use Rattle.ffv1_record.specs.Record.{body_of, runs_steps, set_steps, sets_steps, uncoded_steps}
+use Rattle.ffv1_record.specs.Record.{depth_of}
 
 -- a symbol without an end, by the states at these slots
 abbrev pub IsTooLong : ℕ → List Step → RecordFault → Type 0
@@ -206,3 +211,15 @@ FirstBad [] bytes past bits c f = ⊥
 FirstBad (p ∷ ps) bytes past bits c f =
     ((steps : List Step) × p.Fails c steps f × IsCoded bytes (past ++ steps))
     ⊎ (p.IsGood bits c × FirstBad ps bytes (past ++ p.steps bits c) bits c f)
+
+-- why bytes are refused as a record: they are too few, or their remainder is not 0, or their first
+-- two are no beginning of coded bytes; or else by their first parameter that is not good; or all
+-- are good, and the configuration that they say has this first fault
+abbrev pub IsRefusedBy : ℕ → List ℕ → ℕ → ℕ → RecordFault → Type 0
+IsRefusedBy most bytes width height f =
+    ((length bytes < 5) × (f ≡ fault.Short))
+    ⊎ ((remainder_of bytes ≢ 0) × (f ≡ fault.Parity))
+    ⊎ ((65280 ≤ value (body_of bytes) 2) × (f ≡ fault.BadStart))
+    ⊎ ((bits : ℕ) × (c : Configuration) × FirstBad (in_order most) (body_of bytes) [] bits c f)
+    ⊎ ((c : Configuration) × (t : Spot)
+    × parameters most width height (body_of bytes) beginning (Ok (c, t)) × IsFirst checks c f)

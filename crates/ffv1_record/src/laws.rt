@@ -14,7 +14,7 @@ ghost use Rattle.ffv1_record.specs.Sets.{AreSets, most_contexts};
 ghost use Rattle.ffv1_record.specs.Accepted.{IsAccepted, IsTableFor, AreMultiples};
 ghost use Rattle.ffv1_record.specs.Accepted.{IsFirst, Passes, PassesAll, checks};
 ghost use Rattle.ffv1_record.specs.Writable.{IsWritable};
-ghost use Rattle.ffv1_record.specs.Order.{FirstBad, in_order};
+ghost use Rattle.ffv1_record.specs.Order.{FirstBad, IsRefusedBy, in_order};
 ghost use Rattle.ffv1_record.specs.Reading.{beginning, parameters, IsRefused, IsRefusedBeforeSets};
 ghost use Rattle.ffv1_record.specs.Reading.{ReachesSets};
 ghost use Rattle.ffv1_record.specs.Record.{IsRecord, record_of, body_of};
@@ -136,7 +136,8 @@ pub fn accepted_parts()
 
 /// The first parameter that is not good, in the order of the record, is the fault that is answered:
 /// where the bytes code good symbols of all parameters before it, and then symbols that are a fault
-/// in its place.
+/// in its place. And the other way round: a reading of parameters that is refused has such a first
+/// one, and so has a record that is refused for nothing else.
 pub fn first_bad_parameter()
     ensures read { (most : ℕ) (bytes : List ℕ) (width height bits : ℕ)
         (c : Configuration) (f : RecordFault) →
@@ -146,4 +147,9 @@ pub fn first_bad_parameter()
         (c : Configuration) (f : RecordFault) →
         AreBytes bytes → 5 ≤ length bytes → remainder_of bytes ≡ 0 →
         FirstBad (in_order most) (body_of bytes) [] bits c f → IsRefused most bytes width height f }
+    ensures found { (most : ℕ) (bytes : List ℕ) (width height : ℕ) (f : RecordFault) →
+        parameters most width height bytes beginning (Err f) →
+        (bits : ℕ) × (c : Configuration) × FirstBad (in_order most) bytes [] bits c f }
+    ensures because { (most : ℕ) (bytes : List ℕ) (width height : ℕ) (f : RecordFault) →
+        IsRefused most bytes width height f → IsRefusedBy most bytes width height f }
 {}

@@ -18,7 +18,7 @@ use Rattle.ffv1_record.specs.Configuration.{Configuration}
 use Rattle.ffv1_slice.specs.declared.head.SliceHead.{SliceHead}
 use Rattle.ffv1_slice.specs.declared.fault.SliceFault.{SliceFault}
 use Rattle.ffv1_slice.specs.Head.{Meets, Stops, head_rules, head_values, head_steps, values_steps, index_rules, info_rules, indexes_of, is_aspect, half_aspect, has_aspect, IsHead, IsThird, key_steps}
-use Rattle.ffv1_slice.specs.Coding.{ReadsAt, StandsBehind}
+use Rattle.ffv1_slice.specs.Coding.{ReadsAt, StandsAfter}
 use Rattle.ffv1_slice.specs.Internal.Values.{Gives}
 use Rattle.ffv1_slice.proofs.Symbols.{reads_at}
 use Rattle.ffv1_slice.proofs.CallsGive.{values_below, stops_below}
@@ -198,7 +198,7 @@ key_outside zero = (inl (omega arith), tt)
 key_outside (suc n) = tt
 
 -- what was read after the key is coded by the bytes
-pub coded_behind_key : (t : Table) (n : ℕ) (old new : Reading) (steps : List Step) → ReadsAt t 1 32 old new steps → StandsBehind old t (key_steps n) →
+pub coded_behind_key : (t : Table) (n : ℕ) (old new : Reading) (steps : List Step) → ReadsAt t 1 32 old new steps → StandsAfter old t (key_steps n) →
     Codes old.bytes (decisions_after t [] (key_steps n ++ steps))
 coded_behind_key t n old new steps reads stands =
     let at = reads.at (key_steps n) (key_outside n) stands in

@@ -9,9 +9,9 @@ use Rattle.ffv1_range.specs.History.{decisions_after}
 use Rattle.ffv1_range.specs.Interval.{start}
 use Rattle.ffv1_range.proofs.Nested.{same_bit}
 use Rattle.ffv1_slice.specs.Head.{CodesKey, no_key}
-use Rattle.ffv1_slice.specs.Coding.{ReadsAt, StandsBehind}
+use Rattle.ffv1_slice.specs.Coding.{ReadsAt, StandsAfter}
 
-pub key_coded : (t : Table) (old new : Reading) (steps : List Step) → ReadsAt t 0 1 old new steps → StandsBehind old t [] → Codes old.bytes (decisions_after t [] steps)
+pub key_coded : (t : Table) (old new : Reading) (steps : List Step) → ReadsAt t 0 1 old new steps → StandsAfter old t [] → Codes old.bytes (decisions_after t [] steps)
 key_coded t old new steps reads stands =
     subst (λ bytes. Inside bytes (interval_of (decisions_after t [] steps))) reads.bytes (reads.at [] tt stands).inside
 

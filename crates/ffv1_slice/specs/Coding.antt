@@ -22,15 +22,15 @@ abbrev pub interval_behind : Table → List Step → Interval
 interval_behind t past = interval_of (decisions_after t [] past)
 
 -- the decoder stands after these steps
-abbrev pub StandsBehind : Reading → Table → List Step → Type 0
-StandsBehind r t past = At r (interval_behind t past)
+abbrev pub StandsAfter : Reading → Table → List Step → Type 0
+StandsAfter r t past = At r (interval_behind t past)
 
 -- the decoder read these steps, whose slots are the count from base on, each for the first time
 pub record ReadsAt (t : Table) (base count : ℕ) (old new : Reading) (steps : List Step)
     : Type 0 where
   pub bytes : new.bytes ≡ old.bytes
   pub at : (past : List Step) → AreOutside past base count →
-      StandsBehind old t past → StandsBehind new t (past ++ steps)
+      StandsAfter old t past → StandsAfter new t (past ++ steps)
   pub counts : Counted old.counts steps new.counts
 
 -- the encoder put them
@@ -79,14 +79,14 @@ StopsInHead a n old new f =
 
 -- the decoder stands where slice n begins, of bytes that code its key or refuse it
 abbrev pub BeginsByKey : Accepted → ℕ → Reading → Type 0
-BeginsByKey a n r = AreBytes r.bytes × StandsBehind r a.table [] × CodesKey r.bytes a.table n
+BeginsByKey a n r = AreBytes r.bytes × StandsAfter r a.table [] × CodesKey r.bytes a.table n
 
 abbrev pub BeginsWithoutKey : Accepted → ℕ → Reading → Type 0
-BeginsWithoutKey a n r = StandsBehind r a.table [] → RefusesKey r.bytes a.table n
+BeginsWithoutKey a n r = StandsAfter r a.table [] → RefusesKey r.bytes a.table n
 
 -- the decoder stands after the key of slice n
 abbrev pub StandsAtHead : Accepted → ℕ → Reading → Type 0
-StandsAtHead a n r = StandsBehind r a.table (key_steps n)
+StandsAtHead a n r = StandsAfter r a.table (key_steps n)
 
 -- where it does, its bytes code this head; or they are refused so
 abbrev pub FindsHead : Accepted → ℕ → Reading → SliceHead → Type 0

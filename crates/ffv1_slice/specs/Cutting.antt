@@ -1,23 +1,18 @@
 -- How a payload is a row of slices, each of its coded bytes and a footer (RFC 9043, 4.4, 4.5 and
 -- 4.9), and how they are found from the end.
-use Rattle.std.specs.Prelude.{◌≡◌, ◌≢◌, ◌⊎◌, ℕ, ◌+◌, ◌-◌, ◌*◌, ◌<◌, ◌≤◌, ◌==◌, nat_lt, Bool}
-use Rattle.std.specs.Prelude.{true, false, if◌then◌else◌, Option, Some, None, Result, Ok, Err}
+use Rattle.std.specs.Prelude.{◌≡◌, ◌≢◌, ◌⊎◌, ℕ, ◌+◌, ◌-◌, ◌*◌, ◌<◌, ◌≤◌, nat_lt, Bool}
+use Rattle.std.specs.Prelude.{true, false, if◌then◌else◌, Option, Some, None, Result}
 use Rattle.std.specs.Prelude.{List, [], ◌∷◌, ◌++◌, length, take, drop, slice_index, slice_get}
 use Rattle.std.proofs.Common.{zero, suc}
 use Rattle.ffv1_record.specs.Parity.{remainder_of}
 use Rattle.ffv1_record.specs.Configuration.{Configuration}
 use Rattle.ffv1_range.specs.Codes.{AreBytes}
 use Rattle.ffv1_slice.specs.Footer.{foot_length, footer_of}
+pub use Rattle.ffv1_slice.specs.Footer.{size_before, slice_of}
+use Rattle.ffv1_slice.specs.Internal.Walk.{judged, offsets_onto}
 use Rattle.ffv1_slice.specs.declared.fault.SliceFault.{SliceFault}
 use Rattle.ffv1_slice.specs.declared.fault.SliceFault.TheVariants as fault
 use Rattle.ffv1_slice.specs.declared.cutting.CutFault.{CutFault}
-
--- the slice_size of a slice that ends at end, big end first
-abbrev pub size_before : List ℕ → ℕ → ℕ → ℕ
-size_before payload foot end =
-    65536 * slice_index payload (end - foot)
-    + 256 * slice_index payload (end - foot + 1)
-    + slice_index payload (end - foot + 2)
 
 -- slice s lies from spans s to spans (s + 1), and its slice_size is the number of bytes before its
 -- footer
@@ -36,10 +31,7 @@ pub record AreBehind (payload : List ℕ) (foot count s : ℕ) (spans : ℕ → 
   pub last : spans count ≡ length payload
   pub each : (k : ℕ) → s ≤ k → k < count → IsSized payload foot spans k
 
--- the bytes of slice s, its footer among them, and those before the footer
-abbrev pub slice_of : List ℕ → (ℕ → ℕ) → ℕ → List ℕ
-slice_of payload spans s = take (spans (suc s) - spans s) (drop (spans s) payload)
-
+-- the bytes of slice s before its footer
 abbrev pub coded_of : List ℕ → ℕ → (ℕ → ℕ) → ℕ → List ℕ
 coded_of payload foot spans s = take (spans (suc s) - foot - spans s) (drop (spans s) payload)
 
@@ -115,36 +107,6 @@ AreCodedBytes (bytes ∷ more) = AreBytes bytes × (length bytes ≤ 16777215) �
 pub record AreCodedIn (payload : List ℕ) (foot : ℕ) (spans : ℕ → ℕ) (codes : List (List ℕ))
     : Type 0 where
   pub each : (s : ℕ) → s < length codes → slice_get codes s ≡ Some (coded_of payload foot spans s)
-
--- the reading: the offsets of so many slices up to end, found from the last to the first, before
--- those that stand after
-unfoldable pub offsets_onto : List ℕ → ℕ → ℕ → ℕ → List ℕ → Result (List ℕ) CutFault
-offsets_onto payload foot zero end after =
-    if end == 0 then Ok (0 ∷ after) else Err (record { fault = fault.Leftover; slice = 0 })
-offsets_onto payload foot (suc s) end after =
-    if nat_lt end (foot + size_before payload foot end)
-    then Err (record { fault = fault.Footer; slice = s })
-    else offsets_onto payload foot s (end - (foot + size_before payload foot end)) (end ∷ after)
-
--- the first slice from number s on, of so many, whose parity or status is wrong
-unfoldable pub first_damaged : List ℕ → (ℕ → ℕ) → ℕ → ℕ → Option CutFault
-first_damaged payload spans s zero = None
-first_damaged payload spans s (suc more) =
-    if remainder_of (slice_of payload spans s) == 0
-    then (if slice_index payload (spans (suc s) - 5) == 0
-    then first_damaged payload spans (suc s) more
-    else Some (record { fault = fault.SliceStatus; slice = s }))
-    else Some (record { fault = fault.SliceParity; slice = s })
-
-abbrev pub judged_by : Option CutFault → List ℕ → Result (List ℕ) CutFault
-judged_by None os = Ok os
-judged_by (Some f) os = Err f
-
-abbrev pub judged :
-    List ℕ → ℕ → Bool → Result (List ℕ) CutFault → Result (List ℕ) CutFault
-judged payload count ec (Err f) = Err f
-judged payload count false (Ok os) = Ok os
-judged payload count true (Ok os) = judged_by (first_damaged payload (slice_index os) 0 count) os
 
 -- what cutting gives: one offset more than there are slices, or the first fault
 abbrev pub cut_of : Configuration → List ℕ → Result (List ℕ) CutFault

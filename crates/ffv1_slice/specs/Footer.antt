@@ -1,6 +1,8 @@
 -- What stands after the coded bytes of a slice (RFC 9043, 4.9): slice_size, and where ec is 1
 -- error_status and slice_crc_parity.
-use Rattle.std.specs.Prelude.{◌≡◌, ◌⊎◌, ◌<◌, ℕ, Bool, true, false, List, [], ◌∷◌, ◌++◌, length}
+use Rattle.std.specs.Prelude.{◌≡◌, ◌⊎◌, ◌<◌, ℕ, ◌+◌, ◌-◌, ◌*◌, Bool, true, false, List, [], ◌∷◌}
+use Rattle.std.specs.Prelude.{◌++◌, length, take, drop, slice_index}
+use Rattle.std.proofs.Common.{suc}
 use Rattle.ffv1_range.specs.Codes.{digits}
 use Rattle.ffv1_record.specs.Parity.{parity_of}
 use Rattle.ffv1_slice.specs.declared.fault.SliceFault.{SliceFault}
@@ -27,3 +29,14 @@ abbrev pub HasNoFooter : Bool → List ℕ → SliceFault → Type 0
 HasNoFooter ec bytes f =
     ((f ≡ fault.SliceTooLong) × (16777215 < length bytes))
     ⊎ ((f ≡ fault.OutOfMemory) × (ec ≡ true) × (length bytes < 16777216))
+
+-- the slice_size of a slice that ends at end, big end first
+abbrev pub size_before : List ℕ → ℕ → ℕ → ℕ
+size_before payload foot end =
+    65536 * slice_index payload (end - foot)
+    + 256 * slice_index payload (end - foot + 1)
+    + slice_index payload (end - foot + 2)
+
+-- the bytes of slice s, its footer among them
+abbrev pub slice_of : List ℕ → (ℕ → ℕ) → ℕ → List ℕ
+slice_of payload spans s = take (spans (suc s) - spans s) (drop (spans s) payload)

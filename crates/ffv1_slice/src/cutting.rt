@@ -4,7 +4,8 @@ ghost use Rattle.std.specs.Prelude.{◌≡◌, ◌⊎◌, ℕ, ◌+◌, ◌-◌,
 ghost use Rattle.std.specs.Prelude.{OnOk, OnErr, IfOk, IfErr, length, take, [], slice_index};
 ghost use Rattle.ffv1_record.specs.Configuration.{configuration_of};
 ghost use Rattle.ffv1_slice.specs.Footer.{foot_length};
-ghost use Rattle.ffv1_slice.specs.Cutting.{size_before, IsCutting, offsets_onto, first_damaged};
+ghost use Rattle.ffv1_slice.specs.Cutting.{size_before, IsCutting};
+ghost use Rattle.ffv1_slice.specs.Internal.Walk.{offsets_onto, first_damaged};
 ghost use Rattle.ffv1_slice.specs.Cutting.{cut_of, Cuts, IsRefused};
 ghost use Rattle.std.proofs.Common.{suc};
 

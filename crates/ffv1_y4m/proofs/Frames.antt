@@ -12,7 +12,7 @@ use Rattle.ffv1_y4m.specs.Sequence.{Outcome, left}
 use Rattle.ffv1_y4m.proofs.Sequences.{Local, Stays, consumes_then, consumes_kept, moved}
 use Rattle.ffv1_y4m.proofs.AnswerParts.{value_in, rest_in, is_fault}
 
-bytes_behind : (xs ys text : List ℕ) → bytes_read (xs ++ ys) (xs ++ text) ≡ bytes_read ys text
+pub bytes_behind : (xs ys text : List ℕ) → bytes_read (xs ++ ys) (xs ++ text) ≡ bytes_read ys text
 bytes_behind [] ys text = refl
 bytes_behind (x ∷ xs) ys text =
     let same : (x == x) ≡ true = grind arith in
@@ -54,7 +54,7 @@ front_differs : (line : List ℕ) (n c : ℕ) → n < length line → (c == get_
 front_differs line n c h differs behind =
     rw (append_assoc (take n line) (c ∷ []) behind, after_front line n c behind h, differs) refl
 
-bytes_end : (xs ys : List ℕ) (b : ℕ) → bytes_read (xs ++ b ∷ ys) xs ≡ Err (fault.FrameTruncated, [])
+pub bytes_end : (xs ys : List ℕ) (b : ℕ) → bytes_read (xs ++ b ∷ ys) xs ≡ Err (fault.FrameTruncated, [])
 bytes_end [] ys b = refl
 bytes_end (x ∷ xs) ys b =
     let same : (x == x) ≡ true = grind arith in

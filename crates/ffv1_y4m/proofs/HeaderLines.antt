@@ -11,15 +11,11 @@ use Rattle.ffv1_y4m.specs.declared.tags.Chroma.{Chroma}
 use Rattle.ffv1_y4m.specs.declared.tags.Tags.{Tags}
 use Rattle.ffv1_y4m.specs.Sequence.{◌>>=◌}
 use Rattle.ffv1_y4m.specs.Header.{first_value, first_answer, structure_of, tagged, words_of, onto_first, all_judged, no_tags, present, head_of_tags, head_of_line, head_from, or_else, size_of, ratio_of, chroma_named, chroma_of, chroma_planes, up_to, is_text}
-use Rattle.ffv1_y4m.specs.HeaderLine.{is_letter, AreTags, spaced, values_of, Once, AtMostOnce, SaysSize, SaysRatio, SaysStructure, SaysChroma, chroma_in, IsHeaderLine, Without}
+use Rattle.ffv1_y4m.specs.HeaderLine.{is_letter, AreTags, spaced, values_of, Once, AtMostOnce, SaysSize, SaysRatio, SaysStructure, SaysChroma, chroma_in, IsHeaderLine}
+use Rattle.ffv1_y4m.specs.FirstFaults.{AreSpaceless}
 use Rattle.ffv1_y4m.proofs.AnswerParts.{is_some, some_in, is_fault}
 use Rattle.ffv1_y4m.proofs.CanonicalLine.{words_front, words_whole}
 use Rattle.ffv1_y4m.proofs.HeaderTags.{SaysUpTo, Moves, Moved, one_moves, by_letter, all_found}
-
--- tags without spaces
-abbrev Plain : List (List ℕ) → Type 0
-Plain [] = Unit {0}
-Plain (tag ∷ tags) = Without 32 tag × Plain tags
 
 -- one answer and then the next, taken apart
 record Bound {X Y : Type 0} (first : Result X Fault) (next : X → Result Y Fault) (y : Y) : Type 0 where
@@ -145,7 +141,7 @@ none_moved : (most : ℕ) (t u : Tags) → t ≡ u → Moved most t [] u
 none_moved most t u e =
     record { width = ap (λ z. z.width) (sym e); height = ap (λ z. z.height) (sym e); rate = ap (λ z. z.rate) (sym e); structure = ap (λ z. z.structure) (sym e); aspect = ap (λ z. z.aspect) (sym e); chroma = ap (λ z. z.chroma) (sym e) }
 
-all_only : (most : ℕ) (tags : List (List ℕ)) (t u : Tags) → Plain tags → all_judged most t tags ≡ Ok u → AllTold most t tags u
+all_only : (most : ℕ) (tags : List (List ℕ)) (t u : Tags) → AreSpaceless tags → all_judged most t tags ≡ Ok u → AllTold most t tags u
 all_only most [] t u plain h = record { are = tt; moved = none_moved most t u (ap (ok_in t) h) }
 all_only most ([] ∷ tags) t u plain h = absurd (true≢false (ap is_fault h))
 all_only most ((letter ∷ value) ∷ tags) t u plain h =
@@ -209,13 +205,13 @@ most_else says d (value ∷ []) x h = refl
 most_else says d (value ∷ second ∷ more) x h = absurd h
 
 -- words
-spaced_words : (w : List ℕ) (ws : List (List ℕ)) → Plain (w ∷ ws) → words_of (w ++ spaced ws) ≡ w ∷ ws
+pub spaced_words : (w : List ℕ) (ws : List (List ℕ)) → AreSpaceless (w ∷ ws) → words_of (w ++ spaced ws) ≡ w ∷ ws
 spaced_words w [] plain = rw (append-nil w) (words_whole w plain.0)
 spaced_words w (v ∷ ws) plain = words_front w (v ++ spaced ws) plain.0 ∙ ap (λ z. w ∷ z) (spaced_words v ws plain.1)
 
-record WordsTold (xs : List ℕ) (words : List (List ℕ)) : Type 0 where
-  plain : Plain words
-  spells : spaced words ≡ 32 ∷ xs
+pub record WordsTold (xs : List ℕ) (words : List (List ℕ)) : Type 0 where
+  pub plain : AreSpaceless words
+  pub spells : spaced words ≡ 32 ∷ xs
 
 abbrev is_cons : List ℕ → Bool
 is_cons [] = false
@@ -230,11 +226,11 @@ words_by : (b : Bool) (c : ℕ) (xs : List ℕ) → (c == 32) ≡ b → WordsTol
 words_by true c xs test t = record { plain = (tt, t.plain); spells = ap (λ z. 32 ∷ z) (t.spells ∙ ap (λ z. z ∷ xs) (sym (eqb-true c 32 test))) }
 words_by false c xs test t = onto_told c xs (words_of xs) test t
 
-words_told : (xs : List ℕ) → WordsTold xs (words_of xs)
+pub words_told : (xs : List ℕ) → WordsTold xs (words_of xs)
 words_told [] = record { plain = (tt, tt); spells = refl }
 words_told (c ∷ xs) = words_by (c == 32) c xs refl (words_told xs)
 
-are_plain : (tags : List (List ℕ)) → AreTags tags → Plain tags
+are_plain : (tags : List (List ℕ)) → AreTags tags → AreSpaceless tags
 are_plain [] are = tt
 are_plain ([] ∷ tags) are = absurd are
 are_plain ((letter ∷ value) ∷ tags) are = (are.1, are_plain tags are.2)

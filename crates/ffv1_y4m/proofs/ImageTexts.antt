@@ -20,7 +20,7 @@ use Rattle.ffv1_y4m.proofs.Maxima.{spelled_8, spelled_9, spelled_10, spelled_12,
 use Rattle.ffv1_y4m.proofs.CanonicalLine.{size_back, digits_without, without_both}
 
 -- the samples of an image
-samples_found : (depth n : ℕ) (p : List (List ℕ)) (rest : List ℕ) → half_of depth n ≡ 0 → AreColours n p → AreInDepth depth p → colours_read depth n (samples_text depth p ++ rest) ≡ Ok (p, rest)
+pub samples_found : (depth n : ℕ) (p : List (List ℕ)) (rest : List ℕ) → half_of depth n ≡ 0 → AreColours n p → AreInDepth depth p → colours_read depth n (samples_text depth p ++ rest) ≡ Ok (p, rest)
 samples_found depth n p rest whole c small =
     let long : length (interleaved depth c.red c.green c.blue) ≡ 3 * n = length-interleaved depth n c.red c.green c.blue c.red_long c.green_long c.blue_long whole in
     let parts : parted depth (interleaved depth c.red c.green c.blue) ≡ c.red ∷ c.green ∷ c.blue ∷ [] = parted-interleaved depth n c.red c.green c.blue c.red_long c.green_long c.blue_long whole in
@@ -36,7 +36,7 @@ line_found most line rest short found =
 sizes_line : ℕ → ℕ → List ℕ
 sizes_line w h = decimal w ++ 32 ∷ decimal h
 
-sizes_found : (w h : ℕ) → IsSized (colour_head w h) → sizes_of (decimal w ++ 32 ∷ decimal h) ≡ Some (w, h)
+pub sizes_found : (w h : ℕ) → IsSized (colour_head w h) → sizes_of (decimal w ++ 32 ∷ decimal h) ≡ Some (w, h)
 sizes_found w h s =
     let space : position (λ c. c == 32) (decimal w ++ 32 ∷ decimal h) ≡ Some (length (decimal w)) = position_found 32 (decimal w) (decimal h) (digits_without 32 w (omega arith) (omega (arith, s.wide))) in
     let behind : drop (length (decimal w) + 1) (decimal w ++ 32 ∷ decimal h) ≡ decimal h = drop-append-add (decimal w) (32 ∷ decimal h) 1 in
@@ -55,7 +55,7 @@ sizes_short w h s =
 sizes_single : (w h : ℕ) → IsSized (colour_head w h) → Without 10 (decimal w ++ 32 ∷ decimal h)
 sizes_single w h s = without_both 10 (decimal w) (32 ∷ decimal h) (digits_without 10 w (omega arith) (omega (arith, s.wide))) (refl, digits_without 10 h (omega arith) (omega (arith, s.high)))
 
-second_found : (w h : ℕ) (rest : List ℕ) → IsSized (colour_head w h) → line_read 10 ((decimal w ++ 32 ∷ decimal h) ++ 10 ∷ rest) ≡ Ok (decimal w ++ 32 ∷ decimal h, rest)
+pub second_found : (w h : ℕ) (rest : List ℕ) → IsSized (colour_head w h) → line_read 10 ((decimal w ++ 32 ∷ decimal h) ++ 10 ∷ rest) ≡ Ok (decimal w ++ 32 ∷ decimal h, rest)
 second_found w h rest s =
     let line = decimal w ++ 32 ∷ decimal h in
     let short = sizes_short w h s in
@@ -119,10 +119,10 @@ named_by true b h = refl
 named_by false true h = refl
 named_by false false h = h
 
-depth_said : (most depth w h : ℕ) → IsNamed depth (colour_head w h) → depth ≤ most → Says most depth
+pub depth_said : (most depth w h : ℕ) → IsNamed depth (colour_head w h) → depth ≤ most → Says most depth
 depth_said most depth w h n within = says_by (depth == 8) (depth == 9) (depth == 10) (depth == 12) (depth == 16) (depth == 14) most depth refl refl refl refl refl refl (named_by (depth == 8) (has_depth_name true depth) n.name) within
 
-third_found : (most depth : ℕ) (rest : List ℕ) → Says most depth → maximum_read most (decimal (2 ^ depth - 1) ++ 10 ∷ rest) ≡ Ok (Some depth, rest)
+pub third_found : (most depth : ℕ) (rest : List ℕ) → Says most depth → maximum_read most (decimal (2 ^ depth - 1) ++ 10 ∷ rest) ≡ Ok (Some depth, rest)
 third_found most depth rest s =
     let line = decimal (2 ^ depth - 1) in
     let far : maximum_room most ≡ length (decimal (2 ^ depth - 1)) + suc (maximum_room most - suc (length (decimal (2 ^ depth - 1)))) = omega (arith, s.short) in
@@ -162,7 +162,7 @@ pub record IsSaid (most depth w h : ℕ) : Type 0 where
   pub few : depth ≤ 16
   pub says : Says most depth
 
-small_top : (depth : ℕ) → depth ≤ 16 → 2 ^ depth - 1 < 2 ^ 32
+pub small_top : (depth : ℕ) → depth ≤ 16 → 2 ^ depth - 1 < 2 ^ 32
 small_top depth few =
     let top : 2 ^ depth ≤ 2 ^ 16 = pow_mono {i = depth} {j = 16} few in
     omega (arith, top)
@@ -183,7 +183,7 @@ lined_some depth w h =
     let long = ap length (sym (append-nil (image_header_text depth w h)) ∙ header_parts depth w h []) in
     omega (arith, long)
 
-header_some : (most depth w h : ℕ) (header : List ℕ) → IsHeader most depth w h header → 0 < length header
+pub header_some : (most depth w h : ℕ) (header : List ℕ) → IsHeader most depth w h header → 0 < length header
 header_some most depth w h header is = elim (cases_lt 8 most) [
   | inl deep ↦ let long = ap length (is.spaced deep).whole in omega (arith, long)
   | inr few ↦ let long = ap length (is.lined few) in omega (arith, long, lined_some depth w h)
@@ -226,10 +226,10 @@ begun_again most said header rest is within spelled =
     let named : IsNamed said.depth (colour_head said.head.width said.head.height) = subst (IsNamed said.depth) is.colour is.named in
     same_begun most said (header ++ rest) ∙ begun_found most said.depth w h header rest (record { sized = sized; few = named.most; says = depth_said most said.depth w h named within }) spelled
 
-first_found : (most depth w h : ℕ) (p : List (List ℕ)) (rest : List ℕ) → AreColours (bytes_for depth (w * h)) p → AreInDepth depth p → image_read most (record { head = colour_head w h; depth = depth }) true (samples_text depth p ++ rest) ≡ Ok (Some p, rest)
+pub first_found : (most depth w h : ℕ) (p : List (List ℕ)) (rest : List ℕ) → AreColours (bytes_for depth (w * h)) p → AreInDepth depth p → image_read most (record { head = colour_head w h; depth = depth }) true (samples_text depth p ++ rest) ≡ Ok (Some p, rest)
 first_found most depth w h p rest c small = rw (samples_found depth (bytes_for depth (w * h)) p rest (whole_samples depth (w * h)) c small) refl
 
-later_found : (most depth w h : ℕ) (header : List ℕ) (p : List (List ℕ)) (rest : List ℕ) → IsSaid most depth w h → IsHeader most depth w h header → AreColours (bytes_for depth (w * h)) p → AreInDepth depth p → image_read most (record { head = colour_head w h; depth = depth }) false (header ++ (samples_text depth p ++ rest)) ≡ Ok (Some p, rest)
+pub later_found : (most depth w h : ℕ) (header : List ℕ) (p : List (List ℕ)) (rest : List ℕ) → IsSaid most depth w h → IsHeader most depth w h header → AreColours (bytes_for depth (w * h)) p → AreInDepth depth p → image_read most (record { head = colour_head w h; depth = depth }) false (header ++ (samples_text depth p ++ rest)) ≡ Ok (Some p, rest)
 later_found most depth w h header p rest s is c small =
     rw (begun_found most depth w h header (samples_text depth p ++ rest) s is) (rw (samples_found depth (bytes_for depth (w * h)) p rest (whole_samples depth (w * h)) c small) refl)
 

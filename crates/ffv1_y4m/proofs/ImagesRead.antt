@@ -55,13 +55,13 @@ pub size_read : (text : List ℕ) (n : ℕ) → size_of text ≡ Some n → Size
 unfolding size_of
 size_read text n h = size_by (number_of text) text n refl h
 
-record SizesTold (depth : Option ℕ) (line : List ℕ) (said : DeepHead) : Type 0 where
-  wide : ℕ
-  high : ℕ
-  spelled : line ≡ decimal wide ++ 32 ∷ decimal high
-  sized : IsSized (colour_head wide high)
-  is : said ≡ record { head = colour_head wide high; depth = said.depth }
-  deep : depth ≡ Some said.depth
+pub record SizesTold (depth : Option ℕ) (line : List ℕ) (said : DeepHead) : Type 0 where
+  pub wide : ℕ
+  pub high : ℕ
+  pub spelled : line ≡ decimal wide ++ 32 ∷ decimal high
+  pub sized : IsSized (colour_head wide high)
+  pub is : said ≡ record { head = colour_head wide high; depth = said.depth }
+  pub deep : depth ≡ Some said.depth
 
 no_depth : (s : Option (ℕ × ℕ)) (said : DeepHead) → sized_head None s ≡ Some said → ⊥
 no_depth s said h = false≢true (ap is_some h)
@@ -84,7 +84,7 @@ both_by (Some d) (Some w) (Some k) x y line said parts p q h =
       deep = ap (λ z. Some z) deep;
     }
 
-sizes_by : (depth : Option ℕ) (space : Option ℕ) (line : List ℕ) (said : DeepHead) → position (λ c. c == 32) line ≡ space → sized_head depth (sizes_at line space) ≡ Some said → SizesTold depth line said
+pub sizes_by : (depth : Option ℕ) (space : Option ℕ) (line : List ℕ) (said : DeepHead) → position (λ c. c == 32) line ≡ space → sized_head depth (sizes_at line space) ≡ Some said → SizesTold depth line said
 sizes_by None None line said found h = absurd (false≢true (ap is_some h))
 sizes_by (Some d) None line said found h = absurd (false≢true (ap is_some h))
 sizes_by depth (Some space) line said found h =
@@ -131,7 +131,7 @@ depth_by : (most : ℕ) (o : Option ℕ) (depth : ℕ) → option_and_then (with
 depth_by most None depth h = absurd (false≢true (ap is_some h))
 depth_by most (Some n) depth h = within_told (nat_le 8 n) (nat_le n most) n depth h
 
-depth_read : (most : ℕ) (line : List ℕ) (depth : ℕ) → depth_of_line most line ≡ Some depth → line ≡ decimal (2 ^ depth - 1)
+pub depth_read : (most : ℕ) (line : List ℕ) (depth : ℕ) → depth_of_line most line ≡ Some depth → line ≡ decimal (2 ^ depth - 1)
 unfolding depth_of_line
 depth_read most line depth h = maximum_spelled line depth (depth_by most (maximum_depth line) depth h)
 
@@ -152,12 +152,12 @@ header_with most text one two rest magic line third depth said p q r is t =
     let whole : text ≡ codes "P6\n" ++ ((decimal s.wide ++ 32 ∷ decimal s.high) ++ 10 ∷ (decimal (2 ^ said.depth - 1) ++ 10 ∷ rest)) = p ∙ (rw (t.first, q, s.spelled, r, spelled) refl) in
     subst P (sym s.is) (record { sized = s.sized; named = named.1 s.wide s.high; most_is = named.0; whole = whole ∙ sym (header_parts d s.wide s.high rest) })
 
-record MaximumTold (most : ℕ) (text : List ℕ) (depth : Option ℕ) (rest : List ℕ) : Type 0 where
-  line : List ℕ
-  read : line_read (maximum_room most) text ≡ Ok (line, rest)
-  is : depth_of_line most line ≡ depth
+pub record MaximumTold (most : ℕ) (text : List ℕ) (depth : Option ℕ) (rest : List ℕ) : Type 0 where
+  pub line : List ℕ
+  pub read : line_read (maximum_room most) text ≡ Ok (line, rest)
+  pub is : depth_of_line most line ≡ depth
 
-maximum_told : (most : ℕ) (text : List ℕ) (depth : Option ℕ) (rest : List ℕ) → maximum_read most text ≡ Ok (depth, rest) → MaximumTold most text depth rest
+pub maximum_told : (most : ℕ) (text : List ℕ) (depth : Option ℕ) (rest : List ℕ) → maximum_read most text ≡ Ok (depth, rest) → MaximumTold most text depth rest
 maximum_told most text depth rest h =
     let t = parted_by (line_read (maximum_room most) text) (λ line. give (depth_of_line most line)) depth rest h in
     let same : t.mid ≡ rest = ap rest_in t.goes_on in
@@ -230,10 +230,10 @@ header_read most text said rest h = elim (cases_lt 8 most) [
 ]
 
 -- samples are their thirds
-record SamplesTold (depth n : ℕ) (text : List ℕ) (p : List (List ℕ)) (rest : List ℕ) : Type 0 where
-  fits : AreColours n p
-  small : AreInDepth depth p
-  whole : text ≡ samples_text depth p ++ rest
+pub record SamplesTold (depth n : ℕ) (text : List ℕ) (p : List (List ℕ)) (rest : List ℕ) : Type 0 where
+  pub fits : AreColours n p
+  pub small : AreInDepth depth p
+  pub whole : text ≡ samples_text depth p ++ rest
 
 front_long : (n : ℕ) (text : List ℕ) → n ≤ length text → length (take n text) ≡ n
 front_long n text h = length-take n text ∙ (omega (arith, h))
@@ -262,7 +262,7 @@ samples_read depth n text p rest half h =
     samples_with depth n text (take (3 * n) text) p rest half (front_long (3 * n) text t.enough) whole t.parts t.small
 
 -- the samples of the first image
-first_read : (depth n : ℕ) (text : List ℕ) (p : List (List ℕ)) (rest : List ℕ) → half_of depth n ≡ 0 → where_begun (colours_read depth n) true text ≡ Ok (Some p, rest) → SamplesTold depth n text p rest
+pub first_read : (depth n : ℕ) (text : List ℕ) (p : List (List ℕ)) (rest : List ℕ) → half_of depth n ≡ 0 → where_begun (colours_read depth n) true text ≡ Ok (Some p, rest) → SamplesTold depth n text p rest
 first_read depth n text p rest half h =
     let t = parted_by (colours_read depth n text) (λ x. give (Some x)) (Some p) rest h in
     let a = samples_read depth n text t.value t.mid half t.begins in
@@ -317,14 +317,14 @@ ended_read most said (c ∷ cs) rest h =
     let t = parted_by (image_header most (c ∷ cs)) (same_format said) false rest h in
     absurd (not_same (said.head.width == t.value.head.width && (said.head.height == t.value.head.height && said.depth == t.value.depth)) t.mid rest t.goes_on)
 
-record ImageTold (most : ℕ) (said : DeepHead) (text : List ℕ) (p : List (List ℕ)) (rest : List ℕ) : Type 0 where
-  fits : AreColours (image_bytes said) p
-  small : AreInDepth said.depth p
-  header : List ℕ
-  is : IsHeader most said.depth said.head.width said.head.height header
-  whole : text ≡ header ++ (samples_text said.depth p ++ rest)
+pub record ImageTold (most : ℕ) (said : DeepHead) (text : List ℕ) (p : List (List ℕ)) (rest : List ℕ) : Type 0 where
+  pub fits : AreColours (image_bytes said) p
+  pub small : AreInDepth said.depth p
+  pub header : List ℕ
+  pub is : IsHeader most said.depth said.head.width said.head.height header
+  pub whole : text ≡ header ++ (samples_text said.depth p ++ rest)
 
-whole_image : (said : DeepHead) → half_of said.depth (image_bytes said) ≡ 0
+pub whole_image : (said : DeepHead) → half_of said.depth (image_bytes said) ≡ 0
 whole_image said = whole_samples said.depth (said.head.width * said.head.height)
 
 image_with : (most : ℕ) (said : DeepHead) (text mid : List ℕ) (p : List (List ℕ)) (rest : List ℕ) (b : Bool) → image_begun most said text ≡ Ok (b, mid) → image_rest said b mid ≡ Ok (Some p, rest) → ImageTold most said text p rest
@@ -334,7 +334,7 @@ image_with most said text mid p rest true begins h =
     let b = first_read said.depth (image_bytes said) mid p rest (whole_image said) h in
     record { fits = b.fits; small = b.small; header = a.header; is = a.is; whole = a.whole ∙ ap (λ z. a.header ++ z) b.whole }
 
-image_told : (most : ℕ) (said : DeepHead) (text : List ℕ) (p : List (List ℕ)) (rest : List ℕ) → image_read most said false text ≡ Ok (Some p, rest) → ImageTold most said text p rest
+pub image_told : (most : ℕ) (said : DeepHead) (text : List ℕ) (p : List (List ℕ)) (rest : List ℕ) → image_read most said false text ≡ Ok (Some p, rest) → ImageTold most said text p rest
 image_told most said text p rest h =
     let t = parted_by (image_begun most said text) (image_rest said) (Some p) rest h in
     image_with most said text t.mid p rest t.value t.begins t.goes_on
@@ -345,7 +345,7 @@ end_with most said text mid rest true begins h =
     let t = parted_by (colours_read said.depth (image_bytes said) mid) (λ x. give (Some x)) None rest h in
     absurd (true≢false (ap (λ r. is_some (value_in None r)) t.goes_on))
 
-end_told : (most : ℕ) (said : DeepHead) (text rest : List ℕ) → image_read most said false text ≡ Ok (None, rest) → text ≡ []
+pub end_told : (most : ℕ) (said : DeepHead) (text rest : List ℕ) → image_read most said false text ≡ Ok (None, rest) → text ≡ []
 end_told most said text rest h =
     let t = parted_by (image_begun most said text) (image_rest said) None rest h in
     end_with most said text t.mid rest t.value t.begins t.goes_on

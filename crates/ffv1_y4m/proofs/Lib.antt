@@ -21,12 +21,20 @@ mod PpmHeads
 mod Colours
 mod AnswerParts
 mod Texts
+mod PictureFaults
+mod FirstFaults
 mod CanonicalLine
 mod ImageTexts
+mod HeaderParts
+mod ImageFaults
+mod ImageStreams
+mod FaultPlaces
 mod ImageRuns
 mod ImagesRead
 mod HeaderTags
+mod TagFaults
 mod HeaderLines
+mod HeaderFaults
 mod SaidHeads
 mod LineRuns
 pub mod NextLines

@@ -146,20 +146,20 @@ size_bounds word = size_within (size_of word) (size_is word)
 pub header_behind : (a b c d e f g : List ℕ) (last : ℕ) (rest : List ℕ) → (a ++ (b ++ (c ++ (d ++ (e ++ (f ++ (g ++ last ∷ []))))))) ++ rest ≡ a ++ (b ++ (c ++ (d ++ (e ++ (f ++ (g ++ last ∷ rest))))))
 header_behind a b c d e f g last rest = simp append_assoc
 
-magic_found : (last : ℕ) (rest : List ℕ) → is_white last ≡ true → magic_read (codes "P6" ++ last ∷ rest) ≡ Ok (true, rest)
+pub magic_found : (last : ℕ) (rest : List ℕ) → is_white last ≡ true → magic_read (codes "P6" ++ last ∷ rest) ≡ Ok (true, rest)
 magic_found last rest white = rw (word_found 2 (80 ∷ []) (54 ∷ []) last rest (refl, tt) white (omega arith)) refl
 
-short_decimal : (n : ℕ) → n < 2 ^ 32 → 0 < length (decimal n)
+pub short_decimal : (n : ℕ) → n < 2 ^ 32 → 0 < length (decimal n)
 short_decimal n small = decimal_nonempty n (omega (arith, small))
 
-size_found : (gap : List ℕ) (n last : ℕ) (rest : List ℕ) → is_blank false gap ≡ true → length gap < blank_room → 1 ≤ n → n ≤ 8192 → is_white last ≡ true → size_read (gap ++ (decimal n ++ last ∷ rest)) ≡ Ok (Some n, rest)
+pub size_found : (gap : List ℕ) (n last : ℕ) (rest : List ℕ) → is_blank false gap ≡ true → length gap < blank_room → 1 ≤ n → n ≤ 8192 → is_white last ≡ true → size_read (gap ++ (decimal n ++ last ∷ rest)) ≡ Ok (Some n, rest)
 size_found gap n last rest blank short some most white =
     let small : n < 2 ^ 32 = omega (arith, most) in
     let few : length (decimal n) ≤ 4 = length-decimal-le 4 n (omega arith) (omega (arith, most)) (omega (arith, most)) in
     let word : spaced_word 4 (gap ++ (decimal n ++ last ∷ rest)) ≡ Ok (decimal n, rest) = spaced_found 4 gap (decimal n) last rest blank short (are_digits n small) (short_decimal n small) few white in
     rw (word, size_back n some most) refl
 
-greatest_found : (most depth : ℕ) (gap word : List ℕ) (last : ℕ) (rest : List ℕ) → is_blank false gap ≡ true → length gap < blank_room → AreDigits word → 0 < length word → length word ≤ 5 → depth_of_line most word ≡ Some depth → is_white last ≡ true → greatest_read most (gap ++ (word ++ last ∷ rest)) ≡ Ok (Some depth, rest)
+pub greatest_found : (most depth : ℕ) (gap word : List ℕ) (last : ℕ) (rest : List ℕ) → is_blank false gap ≡ true → length gap < blank_room → AreDigits word → 0 < length word → length word ≤ 5 → depth_of_line most word ≡ Some depth → is_white last ≡ true → greatest_read most (gap ++ (word ++ last ∷ rest)) ≡ Ok (Some depth, rest)
 greatest_found most depth gap word last rest blank short digits some few is white =
     let read : spaced_word 5 (gap ++ (word ++ last ∷ rest)) ≡ Ok (word, rest) = spaced_found 5 gap word last rest blank short digits some few white in
     rw (read, is) refl
@@ -190,18 +190,18 @@ spaced_is_read most depth w h header rest s sized few is short small =
 
 -- ---- a header that was read is such a one
 
-record MagicTold (magic : Bool) (text rest : List ℕ) : Type 0 where
-  word : List ℕ
-  last : ℕ
-  is : is_text word (codes "P6") ≡ magic
-  white : is_white last ≡ true
-  whole : text ≡ word ++ last ∷ rest
+pub record MagicTold (magic : Bool) (text rest : List ℕ) : Type 0 where
+  pub word : List ℕ
+  pub last : ℕ
+  pub is : is_text word (codes "P6") ≡ magic
+  pub white : is_white last ≡ true
+  pub whole : text ≡ word ++ last ∷ rest
 
 byte_told : (text : List ℕ) (x : ℕ) (rest : List ℕ) → byte_read text ≡ Ok (x, rest) → text ≡ x ∷ rest
 byte_told [] x rest h = absurd (true≢false (ap is_fault h))
 byte_told (c ∷ cs) x rest h = ap (λ z. z ∷ cs) (ap (value_in 0) h) ∙ ap (λ z. x ∷ z) (ap rest_in h)
 
-magic_told : (magic : Bool) (text rest : List ℕ) → magic_read text ≡ Ok (magic, rest) → MagicTold magic text rest
+pub magic_told : (magic : Bool) (text rest : List ℕ) → magic_read text ≡ Ok (magic, rest) → MagicTold magic text rest
 magic_told magic text rest h =
     let t = parted_by (magic_word text) (λ word. give (is_text word (codes "P6"))) magic rest h in
     let u = parted_by (byte_read text) (λ p. word_read 2 (p ∷ [])) t.value t.mid t.begins in
@@ -216,12 +216,12 @@ magic_told magic text rest h =
     }
 
 -- a value that was made of a word
-record MadeTold {X : Type 0} (made : List ℕ → X) (x : X) (text rest : List ℕ) : Type 0 where
-  word : List ℕ
-  is : made word ≡ x
-  told : SpacedTold text word rest
+pub record MadeTold {X : Type 0} (made : List ℕ → X) (x : X) (text rest : List ℕ) : Type 0 where
+  pub word : List ℕ
+  pub is : made word ≡ x
+  pub told : SpacedTold text word rest
 
-made_told : {X : Type 0} (most : ℕ) (made : List ℕ → X) (x : X) (text rest : List ℕ) → (spaced_word most then λ word. give (made word)) text ≡ Ok (x, rest) → MadeTold made x text rest
+pub made_told : {X : Type 0} (most : ℕ) (made : List ℕ → X) (x : X) (text rest : List ℕ) → (spaced_word most then λ word. give (made word)) text ≡ Ok (x, rest) → MadeTold made x text rest
 made_told most made x text rest h =
     let t = parted_by (spaced_word most text) (λ word. give (made word)) x rest h in
     let same : t.mid ≡ rest = ap rest_in t.goes_on in

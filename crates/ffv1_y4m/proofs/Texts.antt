@@ -40,7 +40,7 @@ picture_by depth sizes p rest fits small =
 pub picture_found : (depth : ℕ) (h : VideoHead) (p : List (List ℕ)) (rest : List ℕ) → Fits depth h p → AreInDepth depth p → picture_read depth h (picture_text p ++ rest) ≡ Ok (Some p, rest)
 picture_found depth h p rest fits small = picture_by depth (plane_bytes depth h) p rest fits small
 
-end_found : (depth : ℕ) (h : VideoHead) → picture_read depth h [] ≡ Ok (None, [])
+pub end_found : (depth : ℕ) (h : VideoHead) → picture_read depth h [] ≡ Ok (None, [])
 unfolding frame_begun
 end_found depth h = refl
 
@@ -102,10 +102,10 @@ planes_only depth (size ∷ sizes) text planes rest h =
     let left : two.mid ≡ rest = ap rest_in two.goes_on in
     planes_one depth size sizes text one.value one.mid two.value planes two.mid rest a b is left
 
-record PictureTold (depth : ℕ) (sizes text : List ℕ) (p : List (List ℕ)) (rest : List ℕ) : Type 0 where
-  fits : map (λ q. length q) p ≡ sizes
-  whole : text ≡ picture_text p ++ rest
-  small : AreInDepth depth p
+pub record PictureTold (depth : ℕ) (sizes text : List ℕ) (p : List (List ℕ)) (rest : List ℕ) : Type 0 where
+  pub fits : map (λ q. length q) p ≡ sizes
+  pub whole : text ≡ picture_text p ++ rest
+  pub small : AreInDepth depth p
 
 picture_of : (depth : ℕ) (sizes text mid : List ℕ) (value p : List (List ℕ)) (left rest : List ℕ) → text ≡ frame_line ++ mid → PlanesTold depth sizes mid value left → value ≡ p → left ≡ rest → PictureTold depth sizes text p rest
 picture_of depth sizes text mid value p left rest begun a is same =
@@ -121,7 +121,7 @@ picture_with depth sizes text p rest mid true begins h =
     let left : t.mid ≡ rest = ap rest_in t.goes_on in
     picture_of depth sizes text mid t.value p t.mid rest (frame_only text mid begins) a is left
 
-picture_only : (depth : ℕ) (sizes text : List ℕ) (p : List (List ℕ)) (rest : List ℕ) → (frame_begun then where_begun (planes_read depth sizes)) text ≡ Ok (Some p, rest) → PictureTold depth sizes text p rest
+pub picture_only : (depth : ℕ) (sizes text : List ℕ) (p : List (List ℕ)) (rest : List ℕ) → (frame_begun then where_begun (planes_read depth sizes)) text ≡ Ok (Some p, rest) → PictureTold depth sizes text p rest
 picture_only depth sizes text p rest h =
     let t = parted_by (frame_begun text) (where_begun (planes_read depth sizes)) (Some p) rest h in
     picture_with depth sizes text p rest t.mid t.value t.begins t.goes_on
@@ -132,7 +132,7 @@ end_with depth sizes text rest mid true begins h =
     let t = parted_by (planes_read depth sizes mid) (λ x. give (Some x)) None rest h in
     absurd (true≢false (ap (λ r. is_some (value_in None r)) t.goes_on))
 
-end_only : (depth : ℕ) (sizes text rest : List ℕ) → (frame_begun then where_begun (planes_read depth sizes)) text ≡ Ok (None, rest) → text ≡ []
+pub end_only : (depth : ℕ) (sizes text rest : List ℕ) → (frame_begun then where_begun (planes_read depth sizes)) text ≡ Ok (None, rest) → text ≡ []
 end_only depth sizes text rest h =
     let t = parted_by (frame_begun text) (where_begun (planes_read depth sizes)) None rest h in
     end_with depth sizes text rest t.mid t.value t.begins t.goes_on
@@ -148,18 +148,18 @@ pictures_only depth h text (p ∷ ps) reads =
     let b = pictures_only depth h reads.0 ps reads.2 in
     record { fit = ((a.fits, a.small), b.fit); whole = a.whole ∙ ap (λ z. picture_text p ++ z) b.whole }
 
-record HeaderTold (most : ℕ) (text : List ℕ) (h : DeepHead) (rest : List ℕ) : Type 0 where
-  line : List ℕ
-  single : Without 10 line
-  short : length line ≤ 1024
-  head : head_of_line most line ≡ Ok h
-  whole : text ≡ line ++ 10 ∷ rest
+pub record HeaderTold (most : ℕ) (text : List ℕ) (h : DeepHead) (rest : List ℕ) : Type 0 where
+  pub line : List ℕ
+  pub single : Without 10 line
+  pub short : length line ≤ 1024
+  pub head : head_of_line most line ≡ Ok h
+  pub whole : text ≡ line ++ 10 ∷ rest
 
 judged_told : (r : Result DeepHead Fault) (text : List ℕ) (h : DeepHead) (rest : List ℕ) → judge r text ≡ Ok (h, rest) → (r ≡ Ok h) × (text ≡ rest)
 judged_told (Ok k) text h rest is = (ap (λ z. Ok (value_in h z)) is, ap rest_in is)
 judged_told (Err f) text h rest is = absurd (true≢false (ap is_fault is))
 
-header_told : (most : ℕ) (text : List ℕ) (h : DeepHead) (rest : List ℕ) → header_of most text ≡ Ok (h, rest) → HeaderTold most text h rest
+pub header_told : (most : ℕ) (text : List ℕ) (h : DeepHead) (rest : List ℕ) → header_of most text ≡ Ok (h, rest) → HeaderTold most text h rest
 header_told most text h rest is =
     let t = parted_by (line_read 1025 text) (λ line. judge (head_of_line most line)) h rest is in
     let a = line_was 1025 text t.value t.mid t.begins in

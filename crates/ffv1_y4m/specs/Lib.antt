@@ -13,3 +13,5 @@ pub mod Writes
 pub mod HeaderLine
 pub mod Text
 pub mod Images
+pub mod FirstFaults
+pub mod ImageFaults

@@ -8,7 +8,9 @@
 //! `Y4mReader::open_deep`, `PpmReader::open_deep`, `Y4mWriter::at_depth` and `PpmWriter::sized_at`
 //! take samples of up to 16 bits, which are two bytes each above 8 bits, the low byte first in
 //! planes, lines and YUV4MPEG2, the high byte first in PPM. `Fault` says why a text could not be
-//! read or written. The test `example` of `ffv1_tests` runs these lines:
+//! read or written; which fault a text has first, and where, is said by `specs/FirstFaults` and
+//! `specs/ImageFaults`, and `fault_laws` that readers answer it. The test `example` of `ffv1_tests`
+//! runs these lines:
 //!
 //! ```text
 //! let mut reader = Y4mReader::open(rt.alloc(), None, &mut input)?;
@@ -21,6 +23,7 @@
 #![tactic(auto)]
 
 mod fault;
+pub mod fault_laws;
 mod head;
 pub mod laws;
 mod pairs;

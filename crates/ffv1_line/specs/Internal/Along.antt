@@ -8,6 +8,7 @@ use Rattle.ffv1_plane.specs.Context.{size_of}
 use Rattle.ffv1_plane.specs.Prediction.{predicted}
 use Rattle.ffv1_plane.specs.Residual.{sample_of}
 use Rattle.ffv1_plane.specs.Early.{IsEarly, AreEarly, AreAbove, AreBounds}
+use Rattle.ffv1_line.specs.Above.{RowsAbove}
 use Rattle.ffv1_line.specs.Cell.{Cell, seen, Above, Shows}
 
 -- at place x of row y these are two to the left, to the left, above to the left and above
@@ -18,16 +19,16 @@ pub record Left (c : Cell) (y x ll l tl t : ℕ) : Type 0 where
   pub t_is : t ≡ seen c (suc (suc x)) (suc y)
 
 -- the same of the row below two and one that begins as cur does, whatever the cell
-pub record Stands (two one cur : List ℕ) (x ll l tl t : ℕ) : Type 0 where
-  pub each : (c : Cell) (y : ℕ) → Above c y two one → Shows c (suc (suc y)) cur x →
-      Left c y x ll l tl t
+pub record AreNeighbours (above : RowsAbove) (cur : List ℕ) (x ll l tl t : ℕ) : Type 0 where
+  pub each : (c : Cell) (y : ℕ) → Above c y above.two above.one →
+      Shows c (suc (suc y)) cur x → Left c y x ll l tl t
 
 -- the same without the samples above
-pub record IsBehind (two one cur : List ℕ) (x ll l : ℕ) : Type 0 where
-  pub ll_is : (c : Cell) (y : ℕ) → Above c y two one → Shows c (suc (suc y)) cur x →
-      ll ≡ seen c x (suc (suc y))
-  pub l_is : (c : Cell) (y : ℕ) → Above c y two one → Shows c (suc (suc y)) cur x →
-      l ≡ seen c (suc x) (suc (suc y))
+pub record IsBehind (above : RowsAbove) (cur : List ℕ) (x ll l : ℕ) : Type 0 where
+  pub ll_is : (c : Cell) (y : ℕ) → Above c y above.two above.one →
+      Shows c (suc (suc y)) cur x → ll ≡ seen c x (suc (suc y))
+  pub l_is : (c : Cell) (y : ℕ) → Above c y above.two above.one →
+      Shows c (suc (suc y)) cur x → l ≡ seen c (suc x) (suc (suc y))
 
 -- what the rows above decide of the first n places from a position on
 pub record IsFilled (set : Set) (two one : List ℕ) (from : ℕ) (e : Early) (n : ℕ) : Type 0 where
@@ -49,7 +50,7 @@ pub record IsPreparedSomehow (set : Set) (e : Early) (i : ℕ) : Type 0 where
 
 -- where the samples above, above to the left and to the left are l, a sample of this early sum has
 -- this context, whatever stands above to the right and two above
-pub record IsEven (set : Set) (sum l ll size : ℕ) : Type 0 where
+pub record IsEqualContext (set : Set) (sum l ll size : ℕ) : Type 0 where
   pub each : (tr tt : ℕ) → IsEarly set l l tr tt sum → size ≡ size_of set (record {
     l = l;
     t = l;
@@ -60,7 +61,7 @@ pub record IsEven (set : Set) (sum l ll size : ℕ) : Type 0 where
   })
 
 -- where those samples and the one above to the right are one, a sample has the first context
-pub record IsFlat (set : Set) : Type 0 where
+pub record HasRunContext (set : Set) : Type 0 where
   pub each : (a : Around) → a.t ≡ a.l → a.tl ≡ a.l → a.tr ≡ a.l → size_of set a ≡ 0
 
 -- and the residual 0 makes the same sample there

@@ -1,17 +1,19 @@
 -- Places of a row that are encoded at once.
-use Rattle.std.specs.Prelude.{ℕ, ◌≡◌, ◌+◌, ◌≤◌, ◌<◌, ◌⊎◌, IsTrue, List, length}
-use Rattle.ffv1_range.specs.Symbols.{Step}
+use Rattle.std.specs.Prelude.{ℕ, ◌≡◌, ◌+◌, ◌*◌, ◌≤◌, ◌<◌, ◌⊎◌, IsTrue, List, length}
+use Rattle.std.specs.Prelude.{slice_index}
+use Rattle.ffv1_range.specs.Symbols.{Step, shifted, signed_steps}
 use Rattle.ffv1_range.specs.Counts.{Counts, Counted}
-use Rattle.ffv1_plane.specs.Quantisation.{IsNear}
-use Rattle.ffv1_line.specs.declared.part.Part.{Part}
-use Rattle.ffv1_line.specs.declared.block.Block.{Block}
-use Rattle.ffv1_line.specs.Beside.{places_steps}
-use Rattle.ffv1_line.specs.Internal.Block.{IsBlock}
+use Rattle.ffv1_range.specs.Listed.{of_nine_bits}
+use Rattle.ffv1_plane.specs.Quantisation.{HasThreeTables, contexts_of}
+use Rattle.ffv1_plane.specs.Context.{size_of}
+use Rattle.ffv1_line.specs.declared.encode.part.Part.{Part}
+use Rattle.ffv1_line.specs.declared.encode.block.Block.{Block}
+use Rattle.ffv1_line.specs.Beside.{beside, chosen_beside, places_steps}
 
 -- they are places of a row that is not empty
 pub record IsPart {A : Type 0} (p : Part A) : Type 0 where
   pub bits : (p.bits ≡ 8) ⊎ (p.bits ≡ 9)
-  pub near : IsTrue p.near → IsNear p.set.now
+  pub three_tables : IsTrue p.three_tables → HasThreeTables p.set.now
   pub some : 0 < length p.cur.now
   pub few : p.count ≤ 64
   pub within : p.from + p.count ≤ length p.cur.now
@@ -19,9 +21,14 @@ pub record IsPart {A : Type 0} (p : Part A) : Type 0 where
   pub one_long : length p.one.now ≡ length p.cur.now
 
 -- the contexts of the first n of them, and their residuals modulo 512
-abbrev pub ArePrepared : {A : Type 0} → Part A → ℕ → List ℕ → List ℕ → Type 0
-ArePrepared p n contexts residuals =
-    IsBlock p.set.now p.bits p.two.now p.one.now p.cur.now p.from n contexts residuals
+pub record ArePrepared {A : Type 0} (p : Part A) (n : ℕ) (contexts residuals : List ℕ)
+    : Type 0 where
+  pub context : (k : ℕ) → k < n →
+      slice_index contexts k ≡ size_of p.set.now (beside p.two.now p.one.now p.cur.now (p.from + k))
+  pub few : (k : ℕ) → k < n → slice_index contexts k < contexts_of p.set.now
+  pub residual : (k : ℕ) → k < n → of_nine_bits (slice_index residuals k) ≡
+      chosen_beside p.set.now p.bits p.two.now p.one.now p.cur.now (p.from + k)
+  pub small : (k : ℕ) → k < n → slice_index residuals k < 512
 
 -- a block has them
 abbrev pub IsBlockOf : {A : Type 0} → Part A → ℕ → Block → Type 0
@@ -30,6 +37,10 @@ IsBlockOf p n b = ArePrepared p n b.contexts b.residuals
 -- the decisions of the first n of them
 abbrev pub part_steps : {A : Type 0} → Part A → ℕ → List Step
 part_steps p n = places_steps p.set.now p.bits p.two.now p.one.now p.cur.now p.from n
+
+-- the decisions of a residual of nine bits, given modulo 512, in the states of a context
+abbrev pub nine_bit_steps : ℕ → ℕ → List Step
+nine_bit_steps context residual = shifted (context * 32) (signed_steps (of_nine_bits residual))
 
 -- the counters went on by the decisions of its first places, and not of all where it has some
 pub record CountsPart {A : Type 0} (p : Part A) (old new : Counts) : Type 0 where

@@ -1,28 +1,29 @@
 //! A block of places is decoded.
 
 ghost use Rattle.std.specs.Prelude.{◌≡◌, ◌+◌, ◌⊎◌, OnOk, IfErr};
-ghost use Rattle.ffv1_line.specs.Internal.Places.{IsReady, StandsAt, ReadZeros, ReadOn};
-ghost use Rattle.ffv1_line.specs.Internal.Places.{ReadToRefusal};
+ghost use Rattle.ffv1_line.specs.Internal.Places.{IsReady, StandsAt, ReadZeros, ReadsBlock};
+ghost use Rattle.ffv1_line.specs.Internal.Places.{RefusesBlock};
+ghost use Rattle.ffv1_line.specs.Coder.{decoder_by};
 
-use crate::block::{sample_before, sample_two_before};
-use crate::decode::even::decode_even;
-use crate::decode::flat::decode_flat;
+use crate::cell::neighbours::{sample_before, sample_two_before};
+use crate::decode::equal::decode_equal;
 use crate::decode::places::{Behind, Places};
+use crate::decode::run::decode_run;
 use crate::decode::sample::decode_sample;
 use crate::fault::TooLong;
 use ffv1_range::RangeDecoder;
 use std::alloc::Allocator;
 
-/// The most nonzero symbols of a calm block.
-const CALM: u32 = 16;
+/// A block of fewer nonzero symbols is mostly zero.
+const MOSTLY_ZERO: u32 = 16;
 
-/// The places of a block from `start` on whose symbols are zeros, where the block before was calm:
-/// those that are flat in a set whose fourth and fifth tables have one level, else those that are
-/// even. `kept` is the same value in memory, for the call that is not inlined: a copy for each call
-/// costs more than one argument more. Answers the first place that is left, from `start` to the
-/// last one.
+/// The places of a block from `start` on whose symbols are zeros, where the block before was mostly
+/// zero: those of a run in a set whose fourth and fifth tables have one level, else those of equal
+/// neighbours. `kept` is the same value in memory, for the call that is not inlined: a copy for
+/// each call costs more than one argument more. Answers the first place that is left, from `start`
+/// to the last one.
 #[inline(always)]
-fn decode_zeros<'a, B: Allocator, const WAS_CALM: bool>(
+fn decode_zeros<'a, B: Allocator, const WAS_MOSTLY_ZERO: bool>(
     decoder: &mut RangeDecoder<'_>,
     places: &Places<'a, B>,
     kept: &Places<'a, B>,
@@ -34,31 +35,32 @@ fn decode_zeros<'a, B: Allocator, const WAS_CALM: bool>(
     requires same { kept.now ≡ places.now }
     requires stands { StandsAt places.now states.old cur.old behind.old start }
     ensures stands { StandsAt places.now states.new cur.new behind.new result }
-    ensures read { ReadZeros places.now start decoder.old states.old cur.old result decoder.new
-        states.new cur.new }
+    ensures read { ReadZeros places.now start (decoder_by decoder.old states.old) cur.old result
+        (decoder_by decoder.new states.new) cur.new }
 {
-    if !WAS_CALM {
+    if !WAS_MOSTLY_ZERO {
         return start;
     }
-    if places.near {
-        return decode_flat(decoder, places, states, cur, behind, start);
+    if places.three_tables {
+        return decode_run(decoder, places, states, cur, behind, start);
     }
     if places.early.tl[start] != behind.l || places.early.t[start] != behind.l {
         return start;
     }
     let mut other = decoder.take();
     let mut along = *behind;
-    let left = decode_even(&mut other, kept, states, cur, &mut along, start);
+    let left = decode_equal(&mut other, kept, states, cur, &mut along, start);
     *decoder = other;
     *behind = along;
     left
 }
 
-/// The places of a block, by a decoder of its own. After a calm block, zeros at flat or
-/// even places are looked for first, which is faster where they are many. Answers whether this
-/// block is calm: whether few of its symbols are nonzero. `kept` is the same as `places`.
+/// The places of a block, by a decoder of its own. After a block that was mostly zero, zeros in
+/// runs or at equal neighbours are looked for first, which is faster where they are many. Answers
+/// whether this block is mostly zero: whether few of its symbols are nonzero. `kept` is the same as
+/// `places`.
 #[inline(always)]
-fn decode_block<'a, B: Allocator, const WAS_CALM: bool>(
+fn decode_block<'a, B: Allocator, const WAS_MOSTLY_ZERO: bool>(
     decoder: &mut RangeDecoder<'_>,
     places: &Places<'a, B>,
     kept: &Places<'a, B>,
@@ -67,10 +69,11 @@ fn decode_block<'a, B: Allocator, const WAS_CALM: bool>(
 ) -> Result<bool, TooLong>
     requires same { kept.now ≡ places.now }
     requires ready { IsReady places.now states.old cur.old }
-    ensures ok { OnOk result (ReadOn places.now places.now.from decoder.old states.old cur.old
-        (places.now.from + places.now.count) decoder.new states.new cur.new) }
-    ensures refused { IfErr result (λ e. ReadToRefusal places.now places.now.from decoder.old
-        states.old cur.old e.x decoder.new states.new cur.new) }
+    ensures ok { OnOk result (ReadsBlock places.now (decoder_by decoder.old states.old) cur.old
+        (decoder_by decoder.new states.new) cur.new) }
+    ensures refused { IfErr result (λ e. RefusesBlock places.now
+        (decoder_by decoder.old states.old) cur.old e.x (decoder_by decoder.new states.new)
+        cur.new) }
     ensures ready { IsReady places.now states.new cur.new }
 {
     let Places {
@@ -86,7 +89,7 @@ fn decode_block<'a, B: Allocator, const WAS_CALM: bool>(
     };
     let mut i = 0;
     'places: while i < count {
-        i = decode_zeros::<B, WAS_CALM>(decoder, places, kept, states, cur, &mut along, i);
+        i = decode_zeros::<B, WAS_MOSTLY_ZERO>(decoder, places, kept, states, cur, &mut along, i);
         match decode_sample(decoder, &mut nonzeros, places, states, i, along) {
             Ok(sample) => {
                 cur[from + i] = sample;
@@ -101,58 +104,60 @@ fn decode_block<'a, B: Allocator, const WAS_CALM: bool>(
         }
     }
     decoder.count_all(&nonzeros.among(count as u32));
-    Ok(nonzeros.symbols < CALM)
+    Ok(nonzeros.symbols < MOSTLY_ZERO)
 }
 
-/// The same after a calm block, by any decoder and by a body of its own for each depth and each
-/// kind of set.
+/// The same after a block that was mostly zero, by any decoder and by a body of its own for each
+/// depth and each kind of set.
 #[inline(never)]
-fn decode_calm<B: Allocator, const BITS: u8, const NEAR: bool>(
+fn decode_mostly_zero<B: Allocator, const BITS: u8, const THREE_TABLES: bool>(
     decoder: &mut RangeDecoder<'_>,
     places: &Places<'_, B>,
     states: &mut [u8],
     cur: &mut [u16],
 ) -> Result<bool, TooLong>
     requires bits { (BITS ≡ 0) ⊎ (places.now.bits ≡ BITS) }
-    requires near { places.now.near ≡ NEAR }
+    requires three_tables { places.now.three_tables ≡ THREE_TABLES }
     requires ready { IsReady places.now states.old cur.old }
-    ensures ok { OnOk result (ReadOn places.now places.now.from decoder.old states.old cur.old
-        (places.now.from + places.now.count) decoder.new states.new cur.new) }
-    ensures refused { IfErr result (λ e. ReadToRefusal places.now places.now.from decoder.old
-        states.old cur.old e.x decoder.new states.new cur.new) }
+    ensures ok { OnOk result (ReadsBlock places.now (decoder_by decoder.old states.old) cur.old
+        (decoder_by decoder.new states.new) cur.new) }
+    ensures refused { IfErr result (λ e. RefusesBlock places.now
+        (decoder_by decoder.old states.old) cur.old e.x (decoder_by decoder.new states.new)
+        cur.new) }
     ensures ready { IsReady places.now states.new cur.new }
 {
     let mut local = decoder.take();
-    let own = places.fixed::<BITS, NEAR>();
+    let own = places.fixed::<BITS, THREE_TABLES>();
     let read = decode_block::<B, true>(&mut local, &own, places, states, cur);
     *decoder = local;
     read
 }
 
-/// The same after a block that was calm or not, by a decoder of its own.
+/// The same after a block that was mostly zero or not, by a decoder of its own.
 #[inline(always)]
-pub(crate) fn decode_block_by<B: Allocator, const BITS: u8, const NEAR: bool>(
+pub(crate) fn decode_block_by<B: Allocator, const BITS: u8, const THREE_TABLES: bool>(
     decoder: &mut RangeDecoder<'_>,
     places: &Places<'_, B>,
     states: &mut [u8],
     cur: &mut [u16],
-    was_calm: bool,
+    was_mostly_zero: bool,
 ) -> Result<bool, TooLong>
     requires bits { (BITS ≡ 0) ⊎ (places.now.bits ≡ BITS) }
-    requires near { places.now.near ≡ NEAR }
+    requires three_tables { places.now.three_tables ≡ THREE_TABLES }
     requires ready { IsReady places.now states.old cur.old }
-    ensures ok { OnOk result (ReadOn places.now places.now.from decoder.old states.old cur.old
-        (places.now.from + places.now.count) decoder.new states.new cur.new) }
-    ensures refused { IfErr result (λ e. ReadToRefusal places.now places.now.from decoder.old
-        states.old cur.old e.x decoder.new states.new cur.new) }
+    ensures ok { OnOk result (ReadsBlock places.now (decoder_by decoder.old states.old) cur.old
+        (decoder_by decoder.new states.new) cur.new) }
+    ensures refused { IfErr result (λ e. RefusesBlock places.now
+        (decoder_by decoder.old states.old) cur.old e.x (decoder_by decoder.new states.new)
+        cur.new) }
     ensures ready { IsReady places.now states.new cur.new }
 {
-    if !was_calm {
+    if !was_mostly_zero {
         return decode_block::<B, false>(decoder, places, places, states, cur);
     }
     let mut other = decoder.take();
-    let own = places.fixed::<BITS, NEAR>();
-    let read = decode_calm::<B, BITS, NEAR>(&mut other, &own, states, cur);
+    let own = places.fixed::<BITS, THREE_TABLES>();
+    let read = decode_mostly_zero::<B, BITS, THREE_TABLES>(&mut other, &own, states, cur);
     *decoder = other;
     read
 }

@@ -2,7 +2,7 @@
 
 ghost use Rattle.std.specs.Prelude.{◌≡◌, ◌⊎◌};
 
-use ffv1_plane::{Early, QuantSet};
+use ffv1_plane::{BlockRows, Early, QuantSet};
 use ffv1_range::StateTable;
 use std::alloc::Allocator;
 
@@ -17,7 +17,7 @@ pub(crate) struct Places<'a, B: Allocator> {
     /// The bits of a sample, from 8 to 15.
     pub(crate) bits: u8,
     /// Said of no set but one whose fourth and fifth tables have one level.
-    pub(crate) near: bool,
+    pub(crate) three_tables: bool,
     /// The row two above.
     pub(crate) two: &'a [u16],
     /// The row one above.
@@ -31,12 +31,53 @@ pub(crate) struct Places<'a, B: Allocator> {
 }
 
 impl<'a, B: Allocator> Places<'a, B> {
+    /// So many places of a block below these rows.
+    #[inline(always)]
+    pub(crate) fn below(
+        rows: &BlockRows<'a, B>,
+        table: &'a StateTable,
+        bits: u8,
+        early: &'a Early,
+        count: usize,
+    ) -> Places<'a, B>
+        ensures { result ≡ record {
+          table = table.entry;
+          set = rows.now.set;
+          bits = bits;
+          three_tables = rows.now.three_tables;
+          two = rows.now.two;
+          one = rows.now.one;
+          early = early.entry;
+          from = rows.now.from;
+          count = count;
+        } }
+    {
+        let BlockRows {
+            set,
+            two,
+            one,
+            from,
+            three_tables,
+        } = *rows;
+        Places {
+            table,
+            set,
+            bits,
+            three_tables,
+            two,
+            one,
+            early,
+            from,
+            count,
+        }
+    }
+
     /// The same, with the bits and the kind of the set as constants; where `BITS` is 0, the bits
     /// are no constant.
     #[inline(always)]
-    pub(crate) fn fixed<const BITS: u8, const NEAR: bool>(&self) -> Places<'a, B>
+    pub(crate) fn fixed<const BITS: u8, const THREE_TABLES: bool>(&self) -> Places<'a, B>
         requires bits { (BITS ≡ 0) ⊎ (self.now.bits ≡ BITS) }
-        requires near { self.now.near ≡ NEAR }
+        requires three_tables { self.now.three_tables ≡ THREE_TABLES }
         ensures { result ≡ self.now }
     {
         let Places {
@@ -53,7 +94,7 @@ impl<'a, B: Allocator> Places<'a, B> {
             table,
             set,
             bits: fixed_bits::<BITS>(self.bits),
-            near: NEAR,
+            three_tables: THREE_TABLES,
             two,
             one,
             early,

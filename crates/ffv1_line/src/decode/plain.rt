@@ -4,23 +4,26 @@ ghost use Rattle.std.specs.Prelude.{◌≡◌, ◌+◌, ◌*◌, ◌^◌, ◌≤
 ghost use Rattle.std.specs.Prelude.{length, min, slice_index};
 ghost use Rattle.ffv1_range.specs.Symbols.{AllHeld};
 ghost use Rattle.ffv1_range.specs.Follows.{Follows};
-ghost use Rattle.ffv1_plane.specs.Quantisation.{contexts_of, IsNear};
+ghost use Rattle.ffv1_plane.specs.Quantisation.{contexts_of, HasThreeTables};
 ghost use Rattle.ffv1_plane.specs.Wide.{around_of};
 ghost use Rattle.ffv1_line.specs.Row.{refused_steps};
-ghost use Rattle.ffv1_line.specs.Decoded.{Sampled, Lined, Refused, SameFrom};
+ghost use Rattle.ffv1_line.specs.Decoded.{Sampled, Lined, LinedToRefusal, SameFrom};
+ghost use Rattle.ffv1_line.specs.Coding.{coding_by};
+ghost use Rattle.ffv1_line.specs.Coder.{decoder_by};
+ghost use Rattle.ffv1_line.specs.Above.{rows_above};
 
+use crate::cell::neighbours::{context_by, word_right_above};
+use crate::cell::word::Word;
+use crate::coding::way::Way;
 use crate::fault::TooLong;
-use crate::neighbours::{context_by, word_right_above};
-use crate::way::Way;
-use crate::word::Word;
 use ffv1_plane::{QuantSet, WideAround, low_around, wide_sample};
 use ffv1_range::{RangeDecoder, StateTable};
 use std::alloc::Allocator;
 
-/// The sample that comes next, beside these neighbours. `NEAR` may be said of a set whose
+/// The sample that comes next, beside these neighbours. `THREE_TABLES` may be said of a set whose
 /// fourth and fifth tables have one level.
 #[inline(always)]
-fn decode_word<B: Allocator, const NEAR: bool>(
+fn decode_word<B: Allocator, const THREE_TABLES: bool>(
     decoder: &mut RangeDecoder<'_>,
     table: &StateTable,
     set: &QuantSet<B>,
@@ -29,17 +32,18 @@ fn decode_word<B: Allocator, const NEAR: bool>(
     bits: u8,
 ) -> Result<u32, ()>
     requires few { bits ≤ 17 }
-    requires near { IsTrue NEAR → IsNear set.now }
+    requires three_tables { IsTrue THREE_TABLES → HasThreeTables set.now }
     requires rows { length states.old ≡ contexts_of set.now * 32 }
     requires held { AllHeld table.now states.old }
-    ensures ok { IfOk result (λ s. Sampled table.now set.now bits decoder.old states.old decoder.new
-        states.new (around_of around.now) s) }
+    ensures ok { IfOk result (λ s. Sampled (coding_by table.now set.now bits)
+        (decoder_by decoder.old states.old) (decoder_by decoder.new states.new)
+        (around_of around.now) s) }
     ensures small { IfOk result (λ s. s < 2 ^ bits) }
     ensures refused { OnErr result (Follows table.now decoder.old states.old decoder.new states.new
         (refused_steps set.now (around_of around.now))) }
     ensures held { AllHeld table.now states.new }
 {
-    let (context, flip) = context_by(set, &low_around(around), NEAR);
+    let (context, flip) = context_by(set, &low_around(around), THREE_TABLES);
     match decoder.get_signed_in_row(table, states, context as usize) {
         Ok(residual) => Ok(wide_sample(around, flip, residual, bits)),
         Err(_) => Err(()),
@@ -48,7 +52,7 @@ fn decode_word<B: Allocator, const NEAR: bool>(
 
 /// A row of a cell, sample by sample, by a decoder of its own.
 #[inline(always)]
-fn decode_words<W: Word, B: Allocator, const NEAR: bool>(
+fn decode_words<W: Word, B: Allocator, const THREE_TABLES: bool>(
     decoder: &mut RangeDecoder<'_>,
     way: &Way<'_, B>,
     states: &mut [u8],
@@ -56,7 +60,7 @@ fn decode_words<W: Word, B: Allocator, const NEAR: bool>(
     one: &[W],
     cur: &mut [W],
 ) -> Result<(), TooLong>
-    requires near { IsTrue NEAR → IsNear way.now.set.now }
+    requires three_tables { IsTrue THREE_TABLES → HasThreeTables way.now.set.now }
     requires few { way.now.bits ≤ 17 }
     requires fits { 2 ^ way.now.bits ≤ W.limit }
     requires some { 0 < length cur.old }
@@ -64,12 +68,12 @@ fn decode_words<W: Word, B: Allocator, const NEAR: bool>(
     requires two_long { length two.now ≡ length cur.old }
     requires rows { length states.old ≡ contexts_of way.now.set.now * 32 }
     requires held { AllHeld way.now.table.now states.old }
-    ensures ok { OnOk result (Lined way.now.table.now way.now.set.now way.now.bits decoder.old
-        states.old decoder.new states.new (W.samples two.now) (W.samples one.now)
-        (W.samples cur.new) (length cur.new)) }
-    ensures refused { IfErr result (λ e. Refused way.now.table.now way.now.set.now way.now.bits
-        decoder.old states.old decoder.new states.new (W.samples two.now) (W.samples one.now)
-        (W.samples cur.new) e.x) }
+    ensures ok { OnOk result (Lined (coding_by way.now.table.now way.now.set.now way.now.bits)
+        (decoder_by decoder.old states.old) (decoder_by decoder.new states.new)
+        (rows_above (W.samples two.now) (W.samples one.now)) (W.samples cur.new) (length cur.new)) }
+    ensures refused { IfErr result (λ e. LinedToRefusal (coding_by way.now.table.now way.now.set.now
+        way.now.bits) (decoder_by decoder.old states.old) (decoder_by decoder.new states.new)
+        (rows_above (W.samples two.now) (W.samples one.now)) (W.samples cur.new) e.x) }
     ensures inside { IfErr result (λ e. e.x < length cur.new) }
     ensures behind { IfErr result (λ e. SameFrom e.x (W.samples cur.old) (W.samples cur.new)) }
     ensures held { AllHeld way.now.table.now states.new }
@@ -90,7 +94,7 @@ fn decode_words<W: Word, B: Allocator, const NEAR: bool>(
             ll,
             tt: W::read(two, x),
         };
-        match decode_word::<B, NEAR>(decoder, table, set, states, &around, *bits) {
+        match decode_word::<B, THREE_TABLES>(decoder, table, set, states, &around, *bits) {
             Ok(sample) => {
                 W::write(cur, x, sample);
                 ll = l;
@@ -104,10 +108,10 @@ fn decode_words<W: Word, B: Allocator, const NEAR: bool>(
     Ok(())
 }
 
-/// The same by any decoder, and by a body of its own for each kind of words and of set. `NEAR` may
-/// be said of a set whose fourth and fifth tables have one level.
+/// The same by any decoder, and by a body of its own for each kind of words and of set.
+/// `THREE_TABLES` may be said of a set whose fourth and fifth tables have one level.
 #[inline(never)]
-pub(crate) fn decode_plain<W: Word, B: Allocator, const NEAR: bool>(
+pub(crate) fn decode_plain<W: Word, B: Allocator, const THREE_TABLES: bool>(
     decoder: &mut RangeDecoder<'_>,
     way: &Way<'_, B>,
     states: &mut [u8],
@@ -115,7 +119,7 @@ pub(crate) fn decode_plain<W: Word, B: Allocator, const NEAR: bool>(
     one: &[W],
     cur: &mut [W],
 ) -> Result<(), TooLong>
-    requires near { IsTrue NEAR → IsNear way.now.set.now }
+    requires three_tables { IsTrue THREE_TABLES → HasThreeTables way.now.set.now }
     requires few { way.now.bits ≤ 17 }
     requires fits { 2 ^ way.now.bits ≤ W.limit }
     requires some { 0 < length cur.old }
@@ -123,18 +127,18 @@ pub(crate) fn decode_plain<W: Word, B: Allocator, const NEAR: bool>(
     requires two_long { length two.now ≡ length cur.old }
     requires rows { length states.old ≡ contexts_of way.now.set.now * 32 }
     requires held { AllHeld way.now.table.now states.old }
-    ensures ok { OnOk result (Lined way.now.table.now way.now.set.now way.now.bits decoder.old
-        states.old decoder.new states.new (W.samples two.now) (W.samples one.now)
-        (W.samples cur.new) (length cur.new)) }
-    ensures refused { IfErr result (λ e. Refused way.now.table.now way.now.set.now way.now.bits
-        decoder.old states.old decoder.new states.new (W.samples two.now) (W.samples one.now)
-        (W.samples cur.new) e.x) }
+    ensures ok { OnOk result (Lined (coding_by way.now.table.now way.now.set.now way.now.bits)
+        (decoder_by decoder.old states.old) (decoder_by decoder.new states.new)
+        (rows_above (W.samples two.now) (W.samples one.now)) (W.samples cur.new) (length cur.new)) }
+    ensures refused { IfErr result (λ e. LinedToRefusal (coding_by way.now.table.now way.now.set.now
+        way.now.bits) (decoder_by decoder.old states.old) (decoder_by decoder.new states.new)
+        (rows_above (W.samples two.now) (W.samples one.now)) (W.samples cur.new) e.x) }
     ensures inside { IfErr result (λ e. e.x < length cur.new) }
     ensures behind { IfErr result (λ e. SameFrom e.x (W.samples cur.old) (W.samples cur.new)) }
     ensures held { AllHeld way.now.table.now states.new }
 {
     let mut local = decoder.take();
-    let read = decode_words::<W, B, NEAR>(&mut local, way, states, two, one, cur);
+    let read = decode_words::<W, B, THREE_TABLES>(&mut local, way, states, two, one, cur);
     *decoder = local;
     read
 }

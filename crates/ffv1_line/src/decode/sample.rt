@@ -10,7 +10,8 @@ ghost use Rattle.ffv1_plane.specs.Residual.{sample_of, turned};
 ghost use Rattle.ffv1_line.specs.Row.{refused_steps};
 ghost use Rattle.ffv1_line.specs.Decoded.{Sampled};
 ghost use Rattle.ffv1_line.specs.Internal.Along.{AreUnsigned, IsPrepared};
-ghost use Rattle.ffv1_line.specs.Internal.Places.{ArePlaces, around_place};
+ghost use Rattle.ffv1_line.specs.Internal.Places.{ArePlaces, around_place, coding_of};
+ghost use Rattle.ffv1_line.specs.Coder.{decoder_by};
 
 use crate::decode::places::{Behind, Places};
 use ffv1_plane::{deep_sample, late_context, predict_late, sample_signed};
@@ -50,10 +51,9 @@ pub(crate) fn decode_sample<B: Allocator>(
     requires are { AreNonzeros nonzeros.old }
     requires few { nonzeros.old.symbols ≤ i }
     ensures ok { IfOk result (λ s. (tr tt : ℕ) → IsPrepared places.now.set.now places.now.early.now
-        i tr tt → Sampled places.now.table.now places.now.set.now places.now.bits
-        (summed decoder.old (sums_among i nonzeros.old)) states.old
-        (summed decoder.new (sums_among (i + 1) nonzeros.new)) states.new
-        (around_place places.now i behind tr tt) s) }
+        i tr tt → Sampled (coding_of places.now) (decoder_by (summed decoder.old
+        (sums_among i nonzeros.old)) states.old) (decoder_by (summed decoder.new
+        (sums_among (i + 1) nonzeros.new)) states.new) (around_place places.now i behind tr tt) s) }
     ensures refused { OnErr result ((tr tt : ℕ) → IsPrepared places.now.set.now
         places.now.early.now i tr tt → Follows places.now.table.now
         (summed decoder.old (sums_among i nonzeros.old)) states.old
@@ -68,12 +68,12 @@ pub(crate) fn decode_sample<B: Allocator>(
         table,
         set,
         bits,
-        near,
+        three_tables,
         early,
         ..
     } = *places;
     let Behind { ll, l } = behind;
-    let (context, flip) = late_context(set, early.sum[i], l, early.tl[i], ll, near);
+    let (context, flip) = late_context(set, early.sum[i], l, early.tl[i], ll, three_tables);
     let prediction = predict_late(l, early.t[i], early.least[i], early.most[i]);
     match decoder.tally_signed_in_row(nonzeros, table, states, context as usize) {
         // A zero, the most frequent one, has no sign to flip.

@@ -3,12 +3,13 @@
 ghost use Rattle.std.specs.Prelude.{◌≡◌, ◌*◌, ◌<◌, IfErr, OnOk, length};
 ghost use Rattle.ffv1_range.specs.Symbols.{AllHeld};
 ghost use Rattle.ffv1_plane.specs.Quantisation.{contexts_of};
-ghost use Rattle.ffv1_line.specs.Decoded.{Lined, Refused, SameFrom};
+ghost use Rattle.ffv1_line.specs.Decoded.{Lined, LinedToRefusal, SameFrom};
+ghost use Rattle.ffv1_line.specs.Coder.{decoder_by};
 
+use crate::coding::way::Way;
+use crate::coding::wide::{WideAbove, WideCoding};
 use crate::decode::plain::decode_plain;
 use crate::fault::TooLong;
-use crate::way::Way;
-use crate::wide::{WideAbove, WideCoding};
 use ffv1_range::RangeDecoder;
 use std::alloc::Allocator;
 
@@ -34,10 +35,11 @@ pub fn decode_wide<B: Allocator>(
     requires one_long { length above.now.one ≡ length cur.old }
     requires rows { length states.old ≡ contexts_of coding.now.set * 32 }
     requires held { AllHeld coding.now.table states.old }
-    ensures ok { OnOk result (Lined coding.now.table coding.now.set coding.now.bits decoder.old
-        states.old decoder.new states.new above.now.two above.now.one cur.new (length cur.new)) }
-    ensures refused { IfErr result (λ e. Refused coding.now.table coding.now.set coding.now.bits
-        decoder.old states.old decoder.new states.new above.now.two above.now.one cur.new e.x) }
+    ensures ok { OnOk result (Lined coding.now (decoder_by decoder.old states.old)
+        (decoder_by decoder.new states.new) above.now cur.new (length cur.new)) }
+    ensures refused { IfErr result (λ e. LinedToRefusal coding.now
+        (decoder_by decoder.old states.old) (decoder_by decoder.new states.new) above.now cur.new
+        e.x) }
     ensures inside { IfErr result (λ e. e.x < length cur.new) }
     ensures behind { IfErr result (λ e. SameFrom e.x cur.old cur.new) }
     ensures held { AllHeld coding.now.table states.new }
@@ -49,7 +51,7 @@ pub fn decode_wide<B: Allocator>(
         set,
         bits: 17,
     };
-    if set.is_near() {
+    if set.has_three_tables() {
         return decode_plain::<u32, B, true>(decoder, &way, states, two, one, cur);
     }
     decode_plain::<u32, B, false>(decoder, &way, states, two, one, cur)

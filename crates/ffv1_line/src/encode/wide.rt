@@ -1,14 +1,14 @@
 //! A row of samples of 17 bits is encoded.
 
-ghost use Rattle.std.specs.Prelude.{◌≡◌, ◌*◌, ◌<◌, OnOk, OnErr, IfErr, IsErr, IsTrue, length};
+ghost use Rattle.std.specs.Prelude.{◌≡◌, ◌*◌, ◌<◌, OnOk, OnErr, IsErr, IsTrue, length};
 ghost use Rattle.ffv1_range.specs.Symbols.{AllHeld};
-ghost use Rattle.ffv1_range.specs.declared.fault.Fault.TheVariants as fault;
 ghost use Rattle.ffv1_plane.specs.Quantisation.{contexts_of};
-ghost use Rattle.ffv1_line.specs.Encoded.{Written, MayBeRefusedRow, CountsFirst};
+ghost use Rattle.ffv1_line.specs.Encoded.{FailsForGood, Written, MayBeRefusedRow, CountsFirst};
+ghost use Rattle.ffv1_line.specs.Coder.{encoder_by};
 
+use crate::coding::way::Way;
+use crate::coding::wide::{WideAbove, WideCoding};
 use crate::encode::plain::encode_plain;
-use crate::way::Way;
-use crate::wide::{WideAbove, WideCoding};
 use ffv1_range::{Fault, RangeEncoder};
 use std::alloc::Allocator;
 
@@ -34,18 +34,17 @@ pub fn encode_wide<A: Allocator, B: Allocator>(
     requires one_long { length above.now.one ≡ length cur.now }
     requires rows { length states.old ≡ contexts_of coding.now.set * 32 }
     requires held { AllHeld coding.now.table states.old }
-    ensures ok { OnOk result (Written coding.now.table coding.now.set coding.now.bits encoder.old
-        states.old encoder.new states.new above.now.two above.now.one cur.now (length cur.now)) }
-    ensures refused { OnErr result (MayBeRefusedRow coding.now.table coding.now.set
-        coding.now.bits encoder.old states.old above.now.two above.now.one cur.now
-        (length cur.now)) }
+    ensures ok { OnOk result (Written coding.now (encoder_by encoder.old states.old)
+        (encoder_by encoder.new states.new) above.now cur.now (length cur.now)) }
+    ensures refused { OnErr result (MayBeRefusedRow coding.now (encoder_by encoder.old states.old)
+        above.now cur.now (length cur.now)) }
     ensures held { AllHeld coding.now.table states.new }
-    ensures err { IfErr result (λ f. (f ≡ fault.OutOfMemory) × IsTrue encoder.new.failed) }
+    ensures err { FailsForGood result encoder.new }
     ensures stays { IsTrue encoder.old.failed → IsErr result }
     ensures unchanged { IsTrue encoder.old.failed →
         (encoder.new ≡ encoder.old) × (states.new ≡ states.old) }
-    ensures kept { OnErr result (CountsFirst coding.now.set coding.now.bits encoder.old.counts
-        encoder.new.counts above.now.two above.now.one cur.now) }
+    ensures kept { OnErr result (CountsFirst coding.now encoder.old.counts encoder.new.counts
+        above.now cur.now) }
 {
     if encoder.has_failed() {
         return Err(Fault::OutOfMemory);
@@ -57,7 +56,7 @@ pub fn encode_wide<A: Allocator, B: Allocator>(
         set,
         bits: 17,
     };
-    if set.is_near() {
+    if set.has_three_tables() {
         return encode_plain::<u32, A, B, true>(encoder, &way, states, two, one, cur);
     }
     encode_plain::<u32, A, B, false>(encoder, &way, states, two, one, cur)

@@ -63,7 +63,14 @@ fn of_lanes(set: &QuantSet, places: &Places, bits: u8) -> ([u16; 16], [u16; 16])
         tt: u16x16::from_array(places.tt),
     };
     let own = u16x16::from_array(places.own);
-    let (sizes, residuals) = choose_lanes(set, &set.lanes(), &around, own, bits, set.is_near());
+    let (sizes, residuals) = choose_lanes(
+        set,
+        &set.lanes(),
+        &around,
+        own,
+        bits,
+        set.has_three_tables(),
+    );
     (sizes.to_array(), residuals.to_array())
 }
 

@@ -4,8 +4,8 @@
 ghost use Rattle.std.specs.Prelude.{◌≡◌, ◌⊎◌};
 
 use ffv1_plane::{
-    Around, Fault, QuantSet, context, context_near, fold, predict, residual_of, sample_from,
-    sample_signed, unfold,
+    Around, Fault, QuantSet, context, context_by_three_tables, fold, predict, residual_of,
+    sample_from, sample_signed, unfold,
 };
 use std::alloc::Global;
 use std::process::Abort;
@@ -312,7 +312,7 @@ fn entry(runs: &[u8], scale: i32, k: u32) -> i32 {
 
 /// Each entry of each table, looked up alone, is that of the plain program.
 fn compare(rt: &impl Abort, set: &QuantSet) {
-    let near = set.is_near();
+    let near = set.has_three_tables();
     let mut scale = 1i32;
     for table in 0..5usize {
         for k in 0..256u16 {
@@ -330,7 +330,7 @@ fn compare(rt: &impl Abort, set: &QuantSet) {
                 "table {table}, difference {k}"
             );
             if near {
-                assert!(rt; context_near(set, &around) == (size, flip));
+                assert!(rt; context_by_three_tables(set, &around) == (size, flip));
             }
         }
         let levels = set.runs(table).len() as i64;
@@ -364,10 +364,10 @@ fn judge(rt: &impl Abort, sets: &[QuantSet]) {
     codes_each(rt, small);
     // whether samples two to the left and two above count for nothing
     let near = [
-        small.is_near(),
-        large.is_near(),
-        fourth.is_near(),
-        fifth.is_near(),
+        small.has_three_tables(),
+        large.has_three_tables(),
+        fourth.has_three_tables(),
+        fifth.has_three_tables(),
     ];
     assert!(rt; near == [true, false, false, false]);
     compare(rt, small);

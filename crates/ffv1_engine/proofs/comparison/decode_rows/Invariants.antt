@@ -1,6 +1,9 @@
 use Rattle.std.proofs.Common.{◌≡◌, ◌*◌, length}
 use Rattle.ffv1_range.specs.Symbols.{AllHeld}
 use Rattle.ffv1_plane.specs.Quantisation.{contexts_of}
+use Rattle.ffv1_line.specs.Coding.{coding_by}
+use Rattle.ffv1_line.specs.Coder.{decoder_by}
+use Rattle.ffv1_line.specs.Above.{rows_above}
 use Rattle.ffv1_line.specs.Cell.{cell_of}
 use Rattle.ffv1_engine.specs.Plane.{plane_residuals, StandsBefore}
 use Rattle.ffv1_engine.proofs.comparison.decode_rows.Given as goal
@@ -12,5 +15,5 @@ invariant-loop-y g l = record {
   two_long : length l.rows.two.items ≡ l.plane.width;
   one_long : length l.rows.one.items ≡ l.plane.width;
   cur_long : length l.rows.cur.items ≡ l.plane.width;
-  stands : StandsBefore l.table l.fn.states l.set (cell_of l.plane.width l.plane.samples.now) (plane_residuals l.set l.plane.width l.plane.height l.plane.samples.now) l.y l.decoder l.states l.rows.two.items l.rows.one.items;
+  stands : StandsBefore (coding_by l.table l.set 8) l.fn.states (cell_of l.plane.width l.plane.samples.now) (plane_residuals l.set l.plane.width l.plane.height l.plane.samples.now) l.y (decoder_by l.decoder l.states) (rows_above l.rows.two.items l.rows.one.items);
 }

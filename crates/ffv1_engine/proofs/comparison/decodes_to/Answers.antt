@@ -2,6 +2,8 @@ use Rattle.std.proofs.Common.{◌≡◌, ◌<◌, ◌≤◌, ◌*◌, sym, ap, a
 use Rattle.ffv1_range.specs.Codes.{value}
 use Rattle.ffv1_plane.specs.Quantisation.{contexts_of}
 use Rattle.ffv1_line.specs.Cell.{cell_of}
+use Rattle.ffv1_line.specs.Coding.{coding_by}
+use Rattle.ffv1_line.specs.Coder.{decoder_by}
 use Rattle.ffv1_line.specs.Coded.{CodesCellBy}
 use Rattle.ffv1_engine.specs.Plane.{plane_code, plane_residuals}
 use Rattle.ffv1_engine.proofs.comparison.decodes_to.Goals as goal
@@ -32,8 +34,8 @@ decode_rows-requires-clause-stands g c =
     let coded = c.code_comes_back.ensures.coded t set w h samples c.standard-table.ensures.table c.bounded.ensures.below (omega (arith, c.requires.some_wide)) (λ k. omega (arith, c.type_inv.samples k)) in
     let fresh : c.as_mut_slice.result.now ≡ replicate (contexts_of set * 32) 128 =
     c.as_mut_slice.ensures.value ∙ c.in_ok-states.ensures ∙ ap (λ n. replicate {A = ℕ} (n * 32) 128) c.contexts.ensures.value in
-    let here : CodesCellBy c.in-Ok.decoder.bytes [] t c.as_mut_slice.result.now set 8 (cell_of w samples) (plane_residuals set w h samples) = rw (code, fresh) coded in
+    let here : CodesCellBy c.in-Ok.decoder.bytes [] (coding_by t set 8) c.as_mut_slice.result.now (cell_of w samples) (plane_residuals set w h samples) = rw (code, fresh) coded in
     record {
-      behind = c.cell_comes_back.ensures.first [] t c.as_mut_slice.result.now set 8 (cell_of w samples) (plane_residuals set w h samples) c.in-Ok.decoder c.in-Ok.ensures.at here;
+      stands = c.cell_comes_back.ensures.first [] (coding_by t set 8) (decoder_by c.in-Ok.decoder c.as_mut_slice.result.now) (cell_of w samples) (plane_residuals set w h samples) c.in-Ok.ensures.at here;
       above = c.rolling.ensures.top (cell_of w samples);
     }

@@ -1,6 +1,7 @@
 use Rattle.std.proofs.Common.{◌≡◌, ◌+◌, ◌∙◌, subst, suc, length, ℕ, arith}
 use Rattle.std.proofs.lemmas.List.{length-replicate}
 use Rattle.ffv1_line.specs.Cell.{Shows, cell_of}
+use Rattle.ffv1_line.specs.Coder.{encoder_by}
 use Rattle.ffv1_line.proofs.Cells.{shows_over, cell_none, cell_next}
 use Rattle.ffv1_engine.proofs.PlaneRows.{row_shows, row_filled}
 use Rattle.ffv1_engine.proofs.plane.encode_rows.Goals as goal
@@ -41,7 +42,7 @@ loop-y-preserved g c =
       cur_long = inv.two_long;
       two_shows = inv.one_shows;
       one_shows = subst (λ n. Shows (cell_of w samples) n c.load.new.line.items w) one_more shows;
-      puts = cell_next _ _ _ _ _ _ _ _ _ (cell_of w samples) y _ _ _ long inv.one_long inv.two_shows inv.one_shows
+      puts = cell_next _ (encoder_by c.args.encoder.now c.args.states.now) _ _ (cell_of w samples) y _ _ long inv.one_long inv.two_shows inv.one_shows
           (subst (λ n. Shows (cell_of w samples) n c.load.new.line.items w) two_more shows) inv.puts written;
     })
 

@@ -1,7 +1,8 @@
 use Rattle.std.proofs.Common.{refl}
 use Rattle.ffv1_line.proofs.Beside.{counts_nothing}
+use Rattle.ffv1_line.specs.Coder.{encoder_by}
 use Rattle.ffv1_line.proofs.encode.encode_line.Goals as goal
 
 pub returns-then-has_failed-clause-kept : goal.returns-then-has_failed-clause-kept
 returns-then-has_failed-clause-kept g c =
-    counts_nothing c.args.coding.now.table c.args.coding.now.set c.args.coding.now.bits c.args.encoder.now c.args.states.now c.args.encoder.now.counts c.args.above.now.two c.args.above.now.one c.args.cur.now c.requires.some c.requires.one_long refl
+    counts_nothing c.args.coding.now (encoder_by c.args.encoder.now c.args.states.now) c.args.encoder.now.counts c.args.above.now c.args.cur.now c.requires.some c.requires.one_long refl

@@ -10,7 +10,7 @@ parts-init g c = record {
   rows = rw (← c.coding.view_is) at c.requires.rows;
   within = omega arith;
   sound = c.requires.sound;
-  written = written_none _ _ _ _ _ _ _ _;
+  written = written_none _ _ _ _;
 }
 
 pub encode_block-requires-clause-part : goal.encode_block-requires-clause-part
@@ -18,7 +18,7 @@ encode_block-requires-clause-part g c =
     let one_long : length c.above.inside.one.now ≡ length c.args.cur.now = rw (← c.above.view_is) at c.requires.one_long in
     record {
       bits = c.requires.depth;
-      near = rw (← c.coding.view_is) at c.requires.near;
+      three_tables = rw (← c.coding.view_is) at c.requires.three_tables;
       some = c.requires.some;
       few = omega (arith, c.min-count.ensures);
       within = omega (arith, c.min-count.ensures);
@@ -34,7 +34,7 @@ parts-preserved g c =
       rows = omega (arith, c.parts.invariant.rows);
       within = omega (arith, c.min-count.ensures);
       sound = c.in_ok-encode_block.ensures.ok.failed ∙ c.parts.invariant.sound;
-      written = written_block _ _ _ _ _ _ _ _ _ _ _ _ c.parts.from c.min-count.result (omega (arith, c.min-count.ensures, one_long)) c.parts.invariant.written c.in_ok-encode_block.ensures.ok;
+      written = written_block _ _ _ _ _ _ c.parts.from c.min-count.result (omega (arith, c.min-count.ensures, one_long)) c.parts.invariant.written c.in_ok-encode_block.ensures.ok;
     }
 
 pub returns-in_err-encode_block-clause-refused : goal.returns-in_err-encode_block-clause-refused
@@ -42,7 +42,7 @@ returns-in_err-encode_block-clause-refused g c =
     let one_long : length c.above.inside.one.now ≡ length c.args.cur.now = rw (← c.above.view_is) at c.requires.one_long in
     let bits : c.coding.inside.bits ≡ g.row.BITS = rw (← c.coding.view_is) at c.requires.bits in
     rw (← c.coding.view_is, ← c.above.view_is, bits)
-    (on_err c.from_residual.result (refused_block _ _ _ _ _ _ _ _ _ _ c.parts.from c.min-count.result (omega (arith, c.min-count.ensures)) one_long c.parts.invariant.written c.in_err-encode_block.ensures.refused))
+    (on_err c.from_residual.result (refused_block _ _ _ _ _ c.parts.from c.min-count.result (omega (arith, c.min-count.ensures)) one_long c.parts.invariant.written c.in_err-encode_block.ensures.refused))
 
 pub returns-in_err-encode_block-clause-kept : goal.returns-in_err-encode_block-clause-kept
 returns-in_err-encode_block-clause-kept g c =
@@ -51,4 +51,4 @@ returns-in_err-encode_block-clause-kept g c =
     let kept = c.in_err-encode_block.ensures.kept in
     let few = kept.few (omega (arith, c.min-count.ensures)) in
     rw (← c.coding.view_is, ← c.above.view_is, bits)
-    (on_err c.from_residual.result (counts_block _ _ _ _ _ _ _ _ _ _ _ c.parts.from kept.first (omega (arith, few, c.min-count.ensures)) one_long c.parts.invariant.written kept.counted))
+    (on_err c.from_residual.result (counts_block _ _ _ _ _ _ c.parts.from kept.first (omega (arith, few, c.min-count.ensures)) one_long c.parts.invariant.written kept.counted))

@@ -2,6 +2,9 @@ use Rattle.std.proofs.Common.{◌≡◌, ◌-◌, ◌*◌, false, length, ◌≤
 use Rattle.ffv1_range.specs.Symbols.{AllHeld}
 use Rattle.ffv1_plane.specs.Quantisation.{contexts_of}
 use Rattle.ffv1_line.specs.Encoded.{Written}
+use Rattle.ffv1_line.specs.Coding.{coding_by}
+use Rattle.ffv1_line.specs.Coder.{encoder_by}
+use Rattle.ffv1_line.specs.Above.{rows_above}
 use Rattle.ffv1_line.proofs.encode.encode_row.Given as goal
 
 abbrev pub invariant-parts : goal.invariant-parts
@@ -10,7 +13,7 @@ invariant-parts g l = record {
   rows : length l.states ≡ contexts_of l.set.now * 32;
   within : l.from ≤ length l.cur;
   sound : l.encoder.failed ≡ false;
-  written : Written l.table.now l.set.now g.row.BITS l.fn.encoder l.fn.states l.encoder l.states l.two.now l.one.now l.cur l.from;
+  written : Written (coding_by l.table.now l.set.now g.row.BITS) (encoder_by l.fn.encoder l.fn.states) (encoder_by l.encoder l.states) (rows_above l.two.now l.one.now) l.cur l.from;
 }
 
 abbrev pub decreases-parts : goal.decreases-parts

@@ -14,32 +14,32 @@ loop-k-init g c = record {
   puts = rw (places-none c.args.part.now.set.now c.args.part.now.bits c.args.part.now.two.now c.args.part.now.one.now c.args.part.now.cur.now c.args.part.now.from) (puts_none c.args.table.now c.args.encoder.now c.args.states.now);
 }
 
-pub returns-in_err-put_calm-clause-refused : goal.returns-in_err-put_calm-clause-refused
-returns-in_err-put_calm-clause-refused g c =
+pub returns-in_err-put_mostly_zero-clause-refused : goal.returns-in_err-put_mostly_zero-clause-refused
+returns-in_err-put_mostly_zero-clause-refused g c =
     let k = c.loop-k.k in
-    let place = place_is c.args.part.now.set.now c.args.part.now.bits c.args.part.now.two.now c.args.part.now.one.now c.args.part.now.cur.now c.args.part.now.from c.args.part.now.count k _ _ _ c.requires.block c.loop-k-test.true refl in
+    let place = place_is c.args.part.now c.args.part.now.count k _ _ _ c.requires.block c.loop-k-test.true refl in
     on_err c.from_residual.result
     (refused_place c.args.table.now _ _ _ _ c.args.part.now.set.now c.args.part.now.bits c.args.part.now.two.now c.args.part.now.one.now c.args.part.now.cur.now c.args.part.now.from k c.args.part.now.count c.loop-k-test.true c.loop-k.invariant.puts
-    (rw place at c.in_err-put_calm.ensures.refused))
+    (rw place at c.in_err-put_mostly_zero.ensures.refused))
 
 pub loop-k-preserved : goal.loop-k-preserved
 loop-k-preserved g c =
     let k = c.loop-k.k in
-    let place = place_is c.args.part.now.set.now c.args.part.now.bits c.args.part.now.two.now c.args.part.now.one.now c.args.part.now.cur.now c.args.part.now.from c.args.part.now.count k _ _ _ c.requires.block c.loop-k-test.true refl in
-    let puts = rw place at c.in_ok-put_calm.ensures.ok in
+    let place = place_is c.args.part.now c.args.part.now.count k _ _ _ c.requires.block c.loop-k-test.true refl in
+    let puts = rw place at c.in_ok-put_mostly_zero.ensures.ok in
     record {
-      held = c.in_ok-put_calm.ensures.held;
+      held = c.in_ok-put_mostly_zero.ensures.held;
       rows = omega arith;
       sound = puts.failed ∙ c.loop-k.invariant.sound;
       puts = rw (places-more c.args.part.now.set.now c.args.part.now.bits c.args.part.now.two.now c.args.part.now.one.now c.args.part.now.cur.now c.args.part.now.from k) (puts_append c.args.table.now _ _ _ _ _ _ _ _ c.loop-k.invariant.puts puts);
     }
 
-pub returns-in_err-put_calm-clause-kept : goal.returns-in_err-put_calm-clause-kept
-returns-in_err-put_calm-clause-kept g c =
+pub returns-in_err-put_mostly_zero-clause-kept : goal.returns-in_err-put_mostly_zero-clause-kept
+returns-in_err-put_mostly_zero-clause-kept g c =
     let k = c.loop-k.k in
     on_err c.from_residual.result
     (record {
       first = k;
       few = λ some. c.loop-k-test.true;
-      counted = subst (λ (n : Counts). Counted c.args.encoder.now.counts (part_steps c.args.part.now k) n) (sym c.in_err-put_calm.ensures.kept) c.loop-k.invariant.puts.counts;
+      counted = subst (λ (n : Counts). Counted c.args.encoder.now.counts (part_steps c.args.part.now k) n) (sym c.in_err-put_mostly_zero.ensures.kept) c.loop-k.invariant.puts.counts;
     })

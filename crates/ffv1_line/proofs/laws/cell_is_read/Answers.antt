@@ -8,11 +8,11 @@ pub returns-clause-rolls : goal.returns-clause-rolls
 returns-clause-rolls c = λ width n samples two one cur wide rolls. rolls_next width samples two one cur n wide rolls
 
 pub returns-clause-none : goal.returns-clause-none
-returns-clause-none c = λ t set bits r states width. read_none t set bits r states width
+returns-clause-none c = λ coding r width. read_none coding r width
 
 pub returns-clause-next : goal.returns-clause-next
-returns-clause-next c = λ t set bits a b d states between after width n samples two one cur wide rolls read lined.
-    read_next t set bits a b d states between after width samples two one cur n wide rolls read lined
+returns-clause-next c = λ coding a b d width n samples over cur wide rolls read lined.
+    read_next coding a b d width samples over cur n wide rolls read lined
 
 pub returns-clause-all : goal.returns-clause-all
-returns-clause-all c = λ t set bits a b states after width n samples read. read_all t set bits a b states after width n samples read
+returns-clause-all c = λ coding a b width n samples read. read_all coding a b width n samples read

@@ -6,29 +6,29 @@ use Rattle.ffv1_line.proofs.CellBack.{sentinel_codes, full_codes, sentinel_of_hi
 use Rattle.ffv1_line.proofs.laws.written_is_coded.Goals as goal
 
 pub returns-clause-sentinel : goal.returns-clause-sentinel
-returns-clause-sentinel c = λ before t old w states after set bits e rows named begins suits puts. record {
+returns-clause-sentinel c = λ before coding old w states after e rows named begins suits puts. record {
   fit = sentinel_bytes w.interval;
   suits = suits;
-  coded = sentinel_codes before t old states w after (cell_steps set e 0 rows) named begins puts;
+  coded = sentinel_codes before coding.table old states w after (cell_steps coding.set e 0 rows) named begins puts;
 }
 
 pub returns-clause-full : goal.returns-clause-full
-returns-clause-full c = λ before t old w states after set bits e rows behind named begins suits are puts. record {
+returns-clause-full c = λ before coding old w states after e rows behind named begins suits are puts. record {
   fit = full_bytes w.interval behind are;
   suits = suits;
-  coded = full_codes before t old states w after (cell_steps set e 0 rows) named begins puts behind;
+  coded = full_codes before coding.table old states w after (cell_steps coding.set e 0 rows) named begins puts behind;
 }
 
 pub returns-clause-fresh_sentinel : goal.returns-clause-fresh_sentinel
-returns-clause-fresh_sentinel c = λ t count set bits e rows table below suits. record {
-  fit = sentinel_bytes (interval_of (decisions_after t [] (cell_steps set e 0 rows)));
+returns-clause-fresh_sentinel c = λ coding count e rows table below suits. record {
+  fit = sentinel_bytes (interval_of (decisions_after coding.table [] (cell_steps coding.set e 0 rows)));
   suits = suits;
-  coded = sentinel_of_history t table count (cell_steps set e 0 rows) below;
+  coded = sentinel_of_history coding.table table count (cell_steps coding.set e 0 rows) below;
 }
 
 pub returns-clause-fresh_full : goal.returns-clause-fresh_full
-returns-clause-fresh_full c = λ t count set bits e rows behind table below suits are. record {
-  fit = full_bytes (interval_of (decisions_after t [] (cell_steps set e 0 rows))) behind are;
+returns-clause-fresh_full c = λ coding count e rows behind table below suits are. record {
+  fit = full_bytes (interval_of (decisions_after coding.table [] (cell_steps coding.set e 0 rows))) behind are;
   suits = suits;
-  coded = full_of_history t table count (cell_steps set e 0 rows) below behind;
+  coded = full_of_history coding.table table count (cell_steps coding.set e 0 rows) below behind;
 }

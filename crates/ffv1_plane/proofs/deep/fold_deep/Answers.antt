@@ -1,4 +1,3 @@
-use Rattle.std.proofs.Common.{◌≡◌, pos, sym, ap, ◌∙◌}
 use Rattle.ffv1_plane.proofs.Words.{folded_word}
 use Rattle.ffv1_plane.proofs.deep.fold_deep.Goals as goal
 

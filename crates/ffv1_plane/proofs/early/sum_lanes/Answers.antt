@@ -22,21 +22,21 @@ right_is one x j below within =
 pub returns : goal.returns
 returns g c =
     let q = c.requires in
-    let two = c.args.two.now in
-    let one = c.args.one.now in
-    let x = c.args.from + c.args.at in
+    let two = c.args.rows.now.two.now in
+    let one = c.args.rows.now.one.now in
+    let x = c.args.rows.now.from + c.args.at in
     let lanes = c.early_lanes.ensures (range_with_len x 16) (left_above two one) (slice_index one) (right_above one) (slice_index two) (length-range_with_len x 16)
     (loaded x (x - 1) 16 one (left_above two one) (omega (arith, q.within, q.inside)) (λ j below. left_is two one x j q.inside))
     (loaded x x 16 one (slice_index one) (omega (arith, q.within)) (λ j below. refl))
     (loaded x (x + 1) 16 one (right_above one) (omega (arith, q.within)) (λ j below. right_is one x j below q.within))
     (loaded x x 16 two (slice_index two) (omega (arith, q.within, q.wide)) (λ j below. refl))
-    (λ k. (c.type_inv.one k).fits) (λ k. (c.type_inv.one (min (k + 1) (length one - 1))).fits) in
+    (λ k. c.are_words.ensures k) (λ k. c.are_words.ensures (min (k + 1) (length one - 1))) in
     record {
       each = λ i below. elim (cases_lt i c.args.at) [
         | inl less ↦ rw (get_or-put_chunk_below c.args.at c.args.sum.now c.early_lanes.result i 0 less) (q.done.each i less)
         | inr more ↦
-            let place : x + (i - c.args.at) ≡ c.args.from + i = omega (arith, more) in
+            let place : x + (i - c.args.at) ≡ c.args.rows.now.from + i = omega (arith, more) in
             let value = stored x c.args.at 16 c.args.sum.now c.early_lanes.result lanes.0 i lanes.1 (omega (arith, q.room)) more below ∙ ap lanes.0 place in
-            rw value (lanes.2 (c.args.from + i))
+            rw value (lanes.2 (c.args.rows.now.from + i))
       ];
     }

@@ -1,4 +1,4 @@
-use Rattle.std.proofs.Common.{◌≡◌, ap, ◌∙◌, refl, arith, pos, ◌-ℤ◌, to_z, of_z, ◌+◌, ◌%◌}
+use Rattle.std.proofs.Common.{◌≡◌, ap, ◌∙◌, refl, arith, pos, ◌-ℤ◌, to_z, of_z}
 use Rattle.std.proofs.lemmas.Int.{ints, int_min_is, int_max_is}
 use Rattle.std.specs.Int.{w32}
 use Rattle.ffv1_plane.proofs.Signed.{predicted_raised}

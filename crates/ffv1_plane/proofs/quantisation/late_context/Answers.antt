@@ -1,33 +1,33 @@
 use Rattle.ffv1_plane.specs.declared.prediction.Around.{Around}
 use Rattle.ffv1_plane.proofs.Bounds.{size_below}
 use Rattle.ffv1_plane.proofs.Sums.{set_of}
-use Rattle.ffv1_plane.proofs.EarlySums.{late_is, late_near}
+use Rattle.ffv1_plane.proofs.EarlySums.{late_is, late_of_three}
 use Rattle.ffv1_plane.proofs.quantisation.late_context.Goals as goal
 
-pub returns-then-near-clause-size : goal.returns-then-near-clause-size
-returns-then-near-clause-size g c = λ t tr tt early.
-    let near = rw (← c.set.view_is) at (c.requires.near c.if-near.true) in
+pub returns-then-three_tables-clause-size : goal.returns-then-three_tables-clause-size
+returns-then-three_tables-clause-size g c = λ t tr tt early.
+    let three = rw (← c.set.view_is) at (c.requires.three_tables c.if-three_tables.true) in
     let early = rw (← c.set.view_is) at early in
     let a : Around = record { l = c.args.l; t = t; tl = c.args.tl; tr = tr; ll = c.args.ll; tt = tt } in
-    rw (← c.set.view_is) (c.unraised.ensures.size _ _ (late_near c.set.inside.first c.set.inside.second c.set.inside.third c.set.inside.fourth c.set.inside.fifth c.set.inside.half c.set.invariant
-    a c.args.sum c.raised.result near early c.raised.ensures.value))
+    rw (← c.set.view_is) (c.unraised.ensures.size _ _ (late_of_three c.set.inside.first c.set.inside.second c.set.inside.third c.set.inside.fourth c.set.inside.fifth c.set.inside.half c.set.invariant
+    a c.args.sum c.raised.result three early c.raised.ensures.value))
 
-pub returns-then-near-clause-flip : goal.returns-then-near-clause-flip
-returns-then-near-clause-flip g c = λ t tr tt early.
-    let near = rw (← c.set.view_is) at (c.requires.near c.if-near.true) in
+pub returns-then-three_tables-clause-flip : goal.returns-then-three_tables-clause-flip
+returns-then-three_tables-clause-flip g c = λ t tr tt early.
+    let three = rw (← c.set.view_is) at (c.requires.three_tables c.if-three_tables.true) in
     let early = rw (← c.set.view_is) at early in
     let a : Around = record { l = c.args.l; t = t; tl = c.args.tl; tr = tr; ll = c.args.ll; tt = tt } in
-    rw (← c.set.view_is) (c.unraised.ensures.flip _ _ (late_near c.set.inside.first c.set.inside.second c.set.inside.third c.set.inside.fourth c.set.inside.fifth c.set.inside.half c.set.invariant
-    a c.args.sum c.raised.result near early c.raised.ensures.value))
+    rw (← c.set.view_is) (c.unraised.ensures.flip _ _ (late_of_three c.set.inside.first c.set.inside.second c.set.inside.third c.set.inside.fourth c.set.inside.fifth c.set.inside.half c.set.invariant
+    a c.args.sum c.raised.result three early c.raised.ensures.value))
 
-pub returns-then-near-clause-below : goal.returns-then-near-clause-below
-returns-then-near-clause-below g c =
-    let near = rw (← c.set.view_is) at (c.requires.near c.if-near.true) in
+pub returns-then-three_tables-clause-below : goal.returns-then-three_tables-clause-below
+returns-then-three_tables-clause-below g c =
+    let three = rw (← c.set.view_is) at (c.requires.three_tables c.if-three_tables.true) in
     let some = c.requires.early in
     let early = rw (← c.set.view_is) at some.early in
     let a : Around = record { l = c.args.l; t = some.t; tl = c.args.tl; tr = some.tr; ll = c.args.ll; tt = some.tt } in
-    let size = c.unraised.ensures.size (set_of c.set.inside.first c.set.inside.second c.set.inside.third c.set.inside.fourth c.set.inside.fifth) a (late_near c.set.inside.first c.set.inside.second c.set.inside.third c.set.inside.fourth c.set.inside.fifth c.set.inside.half c.set.invariant
-    a c.args.sum c.raised.result near early c.raised.ensures.value) in
+    let size = c.unraised.ensures.size (set_of c.set.inside.first c.set.inside.second c.set.inside.third c.set.inside.fourth c.set.inside.fifth) a (late_of_three c.set.inside.first c.set.inside.second c.set.inside.third c.set.inside.fourth c.set.inside.fifth c.set.inside.half c.set.invariant
+    a c.args.sum c.raised.result three early c.raised.ensures.value) in
     rw (size, ← c.set.view_is) (size_below (set_of c.set.inside.first c.set.inside.second c.set.inside.third c.set.inside.fourth c.set.inside.fifth) a c.set.invariant.set)
 
 pub returns-clause-size : goal.returns-clause-size

@@ -6,12 +6,12 @@ use Rattle.ffv1_plane.proofs.quantisation.scales_of.Goals as goal
 -- the last scale is odd, so that it is below 65536
 pub overflow_cast-result-3 : goal.overflow_cast-result-3
 overflow_cast-result-3 c =
-    let ffirst : is_filled c.args.first.now ≡ true = search rules in
-    let fsecond : is_filled c.args.second.now ≡ true = search rules in
-    let fthird : is_filled c.args.third.now ≡ true = search rules in
-    let ffourth : is_filled c.args.fourth.now ≡ true = search rules in
-    let ffifth : is_filled c.args.fifth.now ≡ true = search rules in
-    let odd = half_is c.args.first.now c.args.second.now c.args.third.now c.args.fourth.now c.args.fifth.now _ _ _ _ _ ffirst fsecond fthird ffourth ffifth
+    let ffirst : is_filled c.args.runs.now.first.now ≡ true = search rules in
+    let fsecond : is_filled c.args.runs.now.second.now ≡ true = search rules in
+    let fthird : is_filled c.args.runs.now.third.now ≡ true = search rules in
+    let ffourth : is_filled c.args.runs.now.fourth.now ≡ true = search rules in
+    let ffifth : is_filled c.args.runs.now.fifth.now ≡ true = search rules in
+    let odd = half_is c.args.runs.now.first.now c.args.runs.now.second.now c.args.runs.now.third.now c.args.runs.now.fourth.now c.args.runs.now.fifth.now _ _ _ _ _ ffirst fsecond fthird ffourth ffifth
     c.scale_after-second_scale.ensures.value c.scale_after-third_scale.ensures.value c.scale_after-fourth_scale.ensures.value c.scale_after-fifth_scale.ensures.value c.scale_after-scale.ensures.value in
     let few = c.if-scale-gt65536.false in
     let one = c.scale_after-fifth_scale.ensures.least in
@@ -20,12 +20,12 @@ overflow_cast-result-3 c =
 
 pub overflow_cast-result-4 : goal.overflow_cast-result-4
 overflow_cast-result-4 c =
-    let ffirst : is_filled c.args.first.now ≡ true = search rules in
-    let fsecond : is_filled c.args.second.now ≡ true = search rules in
-    let fthird : is_filled c.args.third.now ≡ true = search rules in
-    let ffourth : is_filled c.args.fourth.now ≡ true = search rules in
-    let ffifth : is_filled c.args.fifth.now ≡ true = search rules in
-    let odd = half_is c.args.first.now c.args.second.now c.args.third.now c.args.fourth.now c.args.fifth.now _ _ _ _ _ ffirst fsecond fthird ffourth ffifth
+    let ffirst : is_filled c.args.runs.now.first.now ≡ true = search rules in
+    let fsecond : is_filled c.args.runs.now.second.now ≡ true = search rules in
+    let fthird : is_filled c.args.runs.now.third.now ≡ true = search rules in
+    let ffourth : is_filled c.args.runs.now.fourth.now ≡ true = search rules in
+    let ffifth : is_filled c.args.runs.now.fifth.now ≡ true = search rules in
+    let odd = half_is c.args.runs.now.first.now c.args.runs.now.second.now c.args.runs.now.third.now c.args.runs.now.fourth.now c.args.runs.now.fifth.now _ _ _ _ _ ffirst fsecond fthird ffourth ffifth
     c.scale_after-second_scale.ensures.value c.scale_after-third_scale.ensures.value c.scale_after-fourth_scale.ensures.value c.scale_after-fifth_scale.ensures.value c.scale_after-scale.ensures.value in
     let few = c.if-scale-gt65536.false in
     let two = c.scale_after-scale.ensures.least in
@@ -33,10 +33,10 @@ overflow_cast-result-4 c =
 
 pub returns-clause-ok : goal.returns-clause-ok
 returns-clause-ok c =
-    let ffirst : is_filled c.args.first.now ≡ true = search rules in
-    let fsecond : is_filled c.args.second.now ≡ true = search rules in
-    let fthird : is_filled c.args.third.now ≡ true = search rules in
-    let ffourth : is_filled c.args.fourth.now ≡ true = search rules in
-    let ffifth : is_filled c.args.fifth.now ≡ true = search rules in
-    scaled c.args.first.now c.args.second.now c.args.third.now c.args.fourth.now c.args.fifth.now _ _ _ _ _ ffirst fsecond fthird ffourth ffifth
+    let ffirst : is_filled c.args.runs.now.first.now ≡ true = search rules in
+    let fsecond : is_filled c.args.runs.now.second.now ≡ true = search rules in
+    let fthird : is_filled c.args.runs.now.third.now ≡ true = search rules in
+    let ffourth : is_filled c.args.runs.now.fourth.now ≡ true = search rules in
+    let ffifth : is_filled c.args.runs.now.fifth.now ≡ true = search rules in
+    scaled c.args.runs.now.first.now c.args.runs.now.second.now c.args.runs.now.third.now c.args.runs.now.fourth.now c.args.runs.now.fifth.now _ _ _ _ _ ffirst fsecond fthird ffourth ffifth
     c.scale_after-second_scale.ensures.value c.scale_after-third_scale.ensures.value c.scale_after-fourth_scale.ensures.value c.scale_after-fifth_scale.ensures.value c.scale_after-scale.ensures.value c.if-scale-gt65536.false

@@ -8,9 +8,9 @@ use Rattle.ffv1_rct.proofs.inverse.inverse_block.Goals as goal
 pub overflow_cast-r : goal.overflow_cast-r
 overflow_cast-r c =
     let q = c.requires in
-    let y = c.args.y.now in
-    let cb = c.args.cb.now in
-    let cr = c.args.cr.now in
+    let y = c.args.line.now.y.now in
+    let cb = c.args.line.now.cb.now in
+    let cr = c.args.line.now.cr.now in
     let lb : c.args.at + 16 ≤ length cb = omega (arith, q.at, q.cb) in
     let lr : c.args.at + 16 ≤ length cr = omega (arith, q.at, q.cr) in
     let bytes = bytes_at c.args.at y cb cr q.at lb lr c.if-bits-ne0.false in
@@ -19,9 +19,9 @@ overflow_cast-r c =
 pub overflow_cast-g : goal.overflow_cast-g
 overflow_cast-g c =
     let q = c.requires in
-    let y = c.args.y.now in
-    let cb = c.args.cb.now in
-    let cr = c.args.cr.now in
+    let y = c.args.line.now.y.now in
+    let cb = c.args.line.now.cb.now in
+    let cr = c.args.line.now.cr.now in
     let lb : c.args.at + 16 ≤ length cb = omega (arith, q.at, q.cb) in
     let lr : c.args.at + 16 ≤ length cr = omega (arith, q.at, q.cr) in
     let bytes = bytes_at c.args.at y cb cr q.at lb lr c.if-bits-ne0.false in
@@ -30,9 +30,9 @@ overflow_cast-g c =
 pub overflow_cast-b : goal.overflow_cast-b
 overflow_cast-b c =
     let q = c.requires in
-    let y = c.args.y.now in
-    let cb = c.args.cb.now in
-    let cr = c.args.cr.now in
+    let y = c.args.line.now.y.now in
+    let cb = c.args.line.now.cb.now in
+    let cr = c.args.line.now.cr.now in
     let lb : c.args.at + 16 ≤ length cb = omega (arith, q.at, q.cb) in
     let lr : c.args.at + 16 ≤ length cr = omega (arith, q.at, q.cr) in
     let bytes = bytes_at c.args.at y cb cr q.at lb lr c.if-bits-ne0.false in
@@ -41,9 +41,9 @@ overflow_cast-b c =
 pub returns : goal.returns
 returns c =
     let q = c.requires in
-    let y = c.args.y.now in
-    let cb = c.args.cb.now in
-    let cr = c.args.cr.now in
+    let y = c.args.line.now.y.now in
+    let cb = c.args.line.now.cb.now in
+    let cr = c.args.line.now.cr.now in
     let lb : c.args.at + 16 ≤ length cb = omega (arith, q.at, q.cb) in
     let lr : c.args.at + 16 ≤ length cr = omega (arith, q.at, q.cr) in
     let bytes = bytes_at c.args.at y cb cr q.at lb lr c.if-bits-ne0.false in
@@ -56,7 +56,7 @@ returns c =
           (omega (arith, q.at, q.r)) (omega (arith, q.at, q.g)) (omega (arith, q.at, q.b)) q.done red green blue
           (λ k le lt.
           let is = bytes k le lt in
-          colour_rounded (slice_index y k) (slice_index cb k) (slice_index cr k) (c.type_inv.y k).fits (c.type_inv.cb k).fits (c.type_inv.cr k).fits is.red is.green is.blue);
+          colour_rounded (slice_index y k) (slice_index cb k) (slice_index cr k) (c.are_words.ensures k) (c.are_words-2.ensures k) (c.are_words-3.ensures k) is.red is.green is.blue);
       red = λ t. stored_kept c.args.at 16 c.args.r.now _ _ red;
       green = λ t. stored_kept c.args.at 16 c.args.g.now _ _ green;
       blue = λ t. stored_kept c.args.at 16 c.args.b.now _ _ blue;

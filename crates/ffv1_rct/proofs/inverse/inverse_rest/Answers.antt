@@ -9,7 +9,7 @@ loop-x-preserved c =
     let old = c.loop-x.invariant in
     record {
       filled =
-          colours_more 8 c.args.y.now c.args.cb.now c.args.cr.now c.loop-x.r c.loop-x.g c.loop-x.b c.loop-x.x _ _ _
+          colours_more 8 c.args.line.now.y.now c.args.line.now.cb.now c.args.line.now.cr.now c.loop-x.r c.loop-x.g c.loop-x.b c.loop-x.x _ _ _
           (omega (arith, long.r, q.r, c.loop-x-test.true)) (omega (arith, long.g, q.g, c.loop-x-test.true)) (omega (arith, long.b, q.b, c.loop-x-test.true))
           old.filled c.in-Some.ensures.some;
       red = kept_more c.args.r.now c.loop-x.r c.loop-x.x _ old.red;

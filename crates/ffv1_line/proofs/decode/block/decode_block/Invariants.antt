@@ -2,6 +2,7 @@ use Rattle.std.proofs.Common.{◌+◌, ◌-◌, ◌≤◌}
 use Rattle.ffv1_range.specs.Reading.{summed}
 use Rattle.ffv1_range.specs.Among.{AreNonzeros, sums_among}
 use Rattle.ffv1_line.specs.Internal.Places.{IsReady, Carries, ReadOn}
+use Rattle.ffv1_line.specs.Coder.{decoder_by}
 use Rattle.ffv1_line.proofs.decode.block.decode_block.Given as goal
 
 abbrev pub invariant-places : goal.invariant-places
@@ -11,7 +12,7 @@ invariant-places g l = record {
   are : AreNonzeros l.nonzeros;
   few : l.nonzeros.symbols ≤ l.i;
   begins : Carries l.places l.i l.cur l.along;
-  read : ReadOn l.places l.places.from l.fn.decoder l.fn.states l.fn.cur (l.places.from + l.i) (summed l.decoder (sums_among l.i l.nonzeros)) l.states l.cur;
+  read : ReadOn l.places l.places.from (decoder_by l.fn.decoder l.fn.states) l.fn.cur (l.places.from + l.i) (decoder_by (summed l.decoder (sums_among l.i l.nonzeros)) l.states) l.cur;
 }
 
 abbrev pub decreases-places : goal.decreases-places

@@ -2,6 +2,7 @@ use Rattle.std.proofs.Common.{ℕ, ◌≡◌, ◌+◌, ◌-◌, ◌∙◌, ap, s
 use Rattle.ffv1_line.proofs.Rows.{stands_first, stands_next, lined_none, lined_next, lined_refused, same_from_start, same_from_next}
 use Rattle.ffv1_range.specs.Follows.{Follows}
 use Rattle.ffv1_line.specs.Row.{refused_steps}
+use Rattle.ffv1_line.specs.Above.{rows_above}
 use Rattle.ffv1_line.proofs.decode.plain.decode_words.Goals as goal
 
 pub loop-x-init : goal.loop-x-init
@@ -14,9 +15,9 @@ loop-x-init g c =
       held = c.requires.held;
       rows = c.requires.rows;
       top = λ inside. c.read-l.ensures;
-      stands = rw (c.read-l.ensures, c.read-tl.ensures) (stands_first two one _ (omega (arith, one_is, c.requires.one_long, c.requires.some)) (omega (arith, one_is, two_is, c.requires.one_long, c.requires.two_long)));
+      stands = rw (c.read-l.ensures, c.read-tl.ensures) (stands_first (rows_above two one) _ (omega (arith, one_is, c.requires.one_long, c.requires.some)) (omega (arith, one_is, two_is, c.requires.one_long, c.requires.two_long)));
       behind = same_from_start _;
-      lined = lined_none _ _ _ _ _ _ _ _;
+      lined = lined_none _ _ _ _;
     }
 
 pub returns-in-Err-clause-refused : goal.returns-in-Err-clause-refused
@@ -33,7 +34,7 @@ returns-in-Err-clause-refused g c =
     (refused_steps c.args.way.now.set.now (record { l = c.loop-x.l; t = c.loop-x.t; tl = c.loop-x.tl; tr = tr; ll = c.loop-x.ll; tt = tt })) in
     let first : follows (slice_index one k) c.read.result = subst (λ tr. follows tr c.read.result) is c.in-Err.ensures.refused in
     let both : follows (slice_index one k) (slice_index two c.loop-x.x) = subst (follows (slice_index one k)) above first in
-    lined_refused _ _ _ _ _ _ _ _ _ _ _ _ c.loop-x.x k _ _ _ _ right (omega (arith, cur_is)) (omega (arith, one_is, cur_is, c.requires.one_long)) c.loop-x.invariant.stands c.loop-x.invariant.lined both
+    lined_refused _ _ _ _ _ _ c.loop-x.x k _ _ _ _ right (omega (arith, cur_is)) (omega (arith, one_is, cur_is, c.requires.one_long)) c.loop-x.invariant.stands c.loop-x.invariant.lined both
 
 pub loop-x-preserved : goal.loop-x-preserved
 loop-x-preserved g c =
@@ -49,7 +50,7 @@ loop-x-preserved g c =
       top = λ inside. let next : k ≡ c.loop-x.x + 1 = omega (arith, inside, c.requires.one_long) in is ∙ ap (λ n. slice_index one n) next;
       held = c.in-Ok.ensures.held;
       rows = omega arith;
-      stands = rw (is, c.write.ensures) (stands_next two one _ _ k _ _ _ _ _ right (omega (arith, cur_is)) (omega (arith, one_is, cur_is, c.requires.one_long)) c.loop-x.invariant.stands);
+      stands = rw (is, c.write.ensures) (stands_next (rows_above two one) _ _ k _ _ _ _ _ right (omega (arith, cur_is)) (omega (arith, one_is, cur_is, c.requires.one_long)) c.loop-x.invariant.stands);
       behind = rw c.write.ensures (same_from_next _ _ _ _ c.loop-x.invariant.behind);
-      lined = rw c.write.ensures (lined_next _ _ _ _ _ _ _ _ _ _ _ _ c.loop-x.x k _ _ _ _ _ right (omega (arith, cur_is)) (omega (arith, one_is, cur_is, c.requires.one_long)) c.loop-x.invariant.stands c.loop-x.invariant.lined (rw (is, above) at c.in-Ok.ensures.ok));
+      lined = rw c.write.ensures (lined_next _ _ _ _ _ _ c.loop-x.x k _ _ _ _ _ right (omega (arith, cur_is)) (omega (arith, one_is, cur_is, c.requires.one_long)) c.loop-x.invariant.stands c.loop-x.invariant.lined (rw (is, above) at c.in-Ok.ensures.ok));
     }

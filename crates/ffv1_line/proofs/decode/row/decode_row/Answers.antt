@@ -10,16 +10,16 @@ parts-init g c =
       rows = rw (← c.coding.view_is) at c.requires.rows;
       within = omega arith;
       behind = same_from_start _;
-      lined = rw copy (lined_none _ _ _ _ _ _ _ _);
+      lined = rw copy (lined_none _ _ _ _);
     }
 
 pub decode_block_by-requires-clause-ready : goal.decode_block_by-requires-clause-ready
 decode_block_by-requires-clause-ready g c =
     let one_long : length c.above.inside.one.now ≡ length c.args.cur.now = rw (← c.above.view_is) at c.requires.one_long in
-    record {
+    rw c.below-places.ensures (record {
       places = record {
         bits = rw c.fixed_bits-bits.ensures (rw (← c.coding.view_is) at c.requires.depth);
-        near = rw (← c.coding.view_is) at c.requires.near;
+        three_tables = rw (← c.coding.view_is) at c.requires.three_tables;
         some = omega (arith, c.requires.some, one_long);
         few = omega (arith, c.min-count.ensures);
         within = omega (arith, c.min-count.ensures, one_long);
@@ -29,16 +29,16 @@ decode_block_by-requires-clause-ready g c =
       long = omega (arith, one_long);
       rows = c.parts.invariant.rows;
       held = c.parts.invariant.held;
-    }
+    })
 
 pub parts-preserved : goal.parts-preserved
 parts-preserved g c =
     let kept = c.parts.invariant in
-    let read = c.in-Ok.ensures.ok in
+    let read = rw c.below-places.ensures at c.in-Ok.ensures.ok in
     record {
-      held = c.decode_block_by.ensures.ready.held;
-      rows = c.decode_block_by.ensures.ready.rows;
+      held = rw c.below-places.ensures at c.decode_block_by.ensures.ready.held;
+      rows = rw c.below-places.ensures at c.decode_block_by.ensures.ready.rows;
       within = omega (arith, c.min-count.ensures);
       behind = read.on _ kept.behind;
-      lined = read.lined _ _ kept.lined;
+      lined = read.lined _ kept.lined;
     }

@@ -2,6 +2,9 @@ use Rattle.std.proofs.Common.{◌≡◌, ◌-◌, ◌*◌, length, ◌≤◌}
 use Rattle.ffv1_range.specs.Symbols.{AllHeld}
 use Rattle.ffv1_plane.specs.Quantisation.{contexts_of}
 use Rattle.ffv1_line.specs.Decoded.{Lined, SameFrom}
+use Rattle.ffv1_line.specs.Coding.{coding_by}
+use Rattle.ffv1_line.specs.Coder.{decoder_by}
+use Rattle.ffv1_line.specs.Above.{rows_above}
 use Rattle.ffv1_line.proofs.decode.row.decode_row.Given as goal
 
 abbrev pub invariant-parts : goal.invariant-parts
@@ -10,7 +13,7 @@ invariant-parts g l = record {
   rows : length l.states ≡ contexts_of l.set.now * 32;
   within : l.from ≤ length l.cur;
   behind : SameFrom l.from l.fn.cur l.cur;
-  lined : Lined l.table.now l.set.now l.bits l.fn.decoder l.fn.states l.local l.states l.two.now l.one.now l.cur l.from;
+  lined : Lined (coding_by l.table.now l.set.now l.bits) (decoder_by l.fn.decoder l.fn.states) (decoder_by l.local l.states) (rows_above l.two.now l.one.now) l.cur l.from;
 }
 
 abbrev pub decreases-parts : goal.decreases-parts

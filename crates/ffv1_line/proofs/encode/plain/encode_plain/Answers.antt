@@ -7,6 +7,7 @@ use Rattle.ffv1_plane.specs.declared.prediction.Around.{Around}
 use Rattle.ffv1_line.specs.Beside.{before, two_before}
 use Rattle.ffv1_line.proofs.Rows.{scalars, written_none}
 use Rattle.ffv1_line.proofs.Beside.{beside_by, placed, written_place, refused_after, counts_block, counts_no_places}
+use Rattle.ffv1_line.specs.Above.{rows_above}
 use Rattle.ffv1_line.proofs.encode.plain.encode_plain.Goals as goal
 
 before_after : (above row : List ℕ) (x : ℕ) → get_or row x 0 ≡ before above row (x + 1)
@@ -27,7 +28,7 @@ loop-x-init g c = record {
   left = c.read-l.ensures;
   top_left = c.read-tl.ensures;
   sound = c.requires.sound;
-  written = written_none _ _ _ _ _ _ _ _;
+  written = written_none _ _ _ _;
 }
 
 pub loop-x-preserved : goal.loop-x-preserved
@@ -55,7 +56,7 @@ loop-x-preserved g c =
       left = c.read-sample.ensures ∙ before_after one cur x;
       top_left = c.read-t.ensures ∙ before_after two one x;
       sound = puts.failed ∙ c.loop-x.invariant.sound;
-      written = written_place _ _ _ _ _ _ _ _ _ two one cur x (omega (arith, one_long, cur_is)) c.loop-x.invariant.written puts;
+      written = written_place _ _ _ _ (rows_above two one) cur x (omega (arith, one_long, cur_is)) c.loop-x.invariant.written puts;
     }
 
 pub returns-in_err-put_signed_in_row-clause-refused : goal.returns-in_err-put_signed_in_row-clause-refused
@@ -77,7 +78,7 @@ returns-in_err-put_signed_in_row-clause-refused g c =
     let place = placed set bits two one cur x c.chosen_word-context.result.0 at c.chosen_word-context.result.1 is context residual in
     let refused = rw place at (simp to_z-of_z at c.in_err-put_signed_in_row.ensures.refused) in
     rw (← cur_is)
-    (on_err c.from_residual.result (refused_after _ _ _ _ _ _ _ two one cur x (omega (arith, cur_is)) one_long c.loop-x.invariant.written refused))
+    (on_err c.from_residual.result (refused_after _ _ _ (rows_above two one) cur x (omega (arith, cur_is)) one_long c.loop-x.invariant.written refused))
 
 pub returns-in_err-put_signed_in_row-clause-kept : goal.returns-in_err-put_signed_in_row-clause-kept
 returns-in_err-put_signed_in_row-clause-kept g c =
@@ -89,5 +90,5 @@ returns-in_err-put_signed_in_row-clause-kept g c =
     let cur_is = g.met.W.Word.lengths c.args.cur.now in
     let one_long : length one ≡ length cur = omega (arith, one_is, cur_is, c.requires.one_long) in
     on_err c.from_residual.result
-    (counts_block _ _ _ _ _ _ _ _ two one cur x 0 (omega (arith, cur_is)) one_long c.loop-x.invariant.written
+    (counts_block _ _ _ _ (rows_above two one) cur x 0 (omega (arith, cur_is)) one_long c.loop-x.invariant.written
     (counts_no_places c.args.way.now.set.now c.args.way.now.bits two one cur x _ _ c.in_err-put_signed_in_row.ensures.kept))

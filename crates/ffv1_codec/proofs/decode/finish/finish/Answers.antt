@@ -1,0 +1,128 @@
+use Rattle.std.proofs.Common.{◌≡◌, ℕ, ◌*◌, ◌^◌, ◌<◌, ◌≤◌, ◌∙◌, ap, sym, subst, length, slice_index, take, drop, true, false, arith, refl}
+use Rattle.std.proofs.Math.Nat.{mul-le-mul_left}
+use Rattle.std.proofs.lemmas.List.{length-take-le}
+use Rattle.ffv1_samples.specs.Samples.{bytes_of, sample_bytes}
+use Rattle.ffv1_slice.specs.Grid.{Division}
+use Rattle.ffv1_record.specs.Configuration.{Configuration, is_rct}
+use Rattle.ffv1_codec.specs.Picture.{plane_width, width_bytes}
+use Rattle.ffv1_codec.proofs.LineFinished.{together_one, together_all, rct_is, wide_none, all_small, samples_finished, colours_missing, colours_finished}
+use Rattle.ffv1_codec.proofs.WideLines.{rct_bits}
+use Rattle.ffv1_codec.proofs.decode.finish.finish.Goals as goal
+
+room : (b s w width long count : ℕ) → b ≡ s → w ≤ width → count ≡ 1 → long ≡ count * (s * width) → b * w ≤ long
+room b s w width long count same narrow one is =
+    let more : b * w ≤ b * width = mul-le-mul_left b narrow in
+    let all : b * width ≡ s * width = ap (λ k. k * width) same in
+    let whole : count * (s * width) ≡ 1 * (s * width) = ap (λ k. k * (s * width)) one in
+    omega (arith, more, all, whole, is)
+
+pub slice_bounds-copy_to-end : goal.slice_bounds-copy_to-end
+slice_bounds-copy_to-end g c =
+    let a = c.args.frame.now.checked.now in
+    let conf = a.configuration in
+    let line = c.args.line.now in
+    let no : is_rct conf.colour ≡ false = ap (λ (z : Configuration). is_rct z.colour) c.config.ensures.value ∙ ap is_rct c.in-YCbCr.is in
+    let one = together_one conf line.first line.count no c.requires.together in
+    let wide = c.width-wide.result in
+    let wide_is : wide ≡ plane_width conf line.first = rw c.requires.frame.grid at c.width-wide.ensures in
+    let are = c.places.ensures.across conf a.table line.first c.requires.frame.accepted in
+    let count : line.count * conf.width ≡ conf.width = ap (λ n. n * conf.width) one.0 ∙ (let m : 1 * conf.width ≡ conf.width = omega arith in m) in
+    let narrow : wide ≤ conf.width = omega (arith, wide_is, are.fits) in
+    let fits : wide ≤ length c.args.samples.now = omega (arith, narrow, count, c.requires.samples) in
+    sym (length-take-le wide c.args.samples.now fits)
+
+pub slice_bounds-copy_to-end-in-YCbCr : goal.slice_bounds-copy_to-end-in-YCbCr
+slice_bounds-copy_to-end-in-YCbCr g c =
+    let a = c.args.frame.now.checked.now in
+    let conf = a.configuration in
+    let line = c.args.line.now in
+    let no : is_rct conf.colour ≡ false = ap (λ (z : Configuration). is_rct z.colour) c.config.ensures.value ∙ ap is_rct c.in-YCbCr.is in
+    let one = together_one conf line.first line.count no c.requires.together in
+    let wide = c.width-wide.result in
+    let wide_is : wide ≡ plane_width conf line.first = rw c.requires.frame.grid at c.width-wide.ensures in
+    let are = c.places.ensures.across conf a.table line.first c.requires.frame.accepted in
+    let count : line.count * conf.width ≡ conf.width = ap (λ n. n * conf.width) one.0 ∙ (let m : 1 * conf.width ≡ conf.width = omega arith in m) in
+    let narrow : wide ≤ conf.width = omega (arith, wide_is, are.fits) in
+    let fits : wide ≤ length c.args.samples.now = omega (arith, narrow, count, c.requires.samples) in
+    let b = c.sample_bytes.result in
+    let b_is : b ≡ sample_bytes conf.depth = c.sample_bytes.ensures.value ∙ ap (λ (d : Division). sample_bytes d.depth) c.requires.frame.grid in
+    let out : b * wide ≤ length c.args.out.now = room b (sample_bytes conf.depth) wide conf.width (length c.args.out.now) line.count b_is narrow one.0 c.requires.out in
+    out
+
+pub slice_bounds-copy_to-end-in-YCbCr-2 : goal.slice_bounds-copy_to-end-in-YCbCr-2
+slice_bounds-copy_to-end-in-YCbCr-2 g c =
+    let a = c.args.frame.now.checked.now in
+    let conf = a.configuration in
+    let line = c.args.line.now in
+    let no : is_rct conf.colour ≡ false = ap (λ (z : Configuration). is_rct z.colour) c.config.ensures.value ∙ ap is_rct c.in-YCbCr.is in
+    let one = together_one conf line.first line.count no c.requires.together in
+    let wide = c.width-wide.result in
+    let wide_is : wide ≡ plane_width conf line.first = rw c.requires.frame.grid at c.width-wide.ensures in
+    let are = c.places.ensures.across conf a.table line.first c.requires.frame.accepted in
+    let count : line.count * conf.width ≡ conf.width = ap (λ n. n * conf.width) one.0 ∙ (let m : 1 * conf.width ≡ conf.width = omega arith in m) in
+    let narrow : wide ≤ conf.width = omega (arith, wide_is, are.fits) in
+    let fits : wide ≤ length c.args.samples.now = omega (arith, narrow, count, c.requires.samples) in
+    let b = c.sample_bytes.result in
+    let b_is : b ≡ sample_bytes conf.depth = c.sample_bytes.ensures.value ∙ ap (λ (d : Division). sample_bytes d.depth) c.requires.frame.grid in
+    let out : b * wide ≤ length c.args.out.now = room b (sample_bytes conf.depth) wide conf.width (length c.args.out.now) line.count b_is narrow one.0 c.requires.out in
+    sym (length-take-le (b * wide) c.args.out.now out)
+
+pub returns-in-YCbCr-clause-exact : goal.returns-in-YCbCr-clause-exact
+returns-in-YCbCr-clause-exact g c = λ coded s stand.
+    let a = c.args.frame.now.checked.now in
+    let conf = a.configuration in
+    let line = c.args.line.now in
+    let no : is_rct conf.colour ≡ false = ap (λ (z : Configuration). is_rct z.colour) c.config.ensures.value ∙ ap is_rct c.in-YCbCr.is in
+    let one = together_one conf line.first line.count no c.requires.together in
+    let wide = c.width-wide.result in
+    let wide_is : wide ≡ plane_width conf line.first = rw c.requires.frame.grid at c.width-wide.ensures in
+    let are = c.places.ensures.across conf a.table line.first c.requires.frame.accepted in
+    let count : line.count * conf.width ≡ conf.width = ap (λ n. n * conf.width) one.0 ∙ (let m : 1 * conf.width ≡ conf.width = omega arith in m) in
+    let narrow : wide ≤ conf.width = omega (arith, wide_is, are.fits) in
+    let fits : wide ≤ length c.args.samples.now = omega (arith, narrow, count, c.requires.samples) in
+    let d_is = c.depth.ensures.value in
+    let small = all_small conf line.first line.count line.y c.args.samples.now s stand no one.0 wide wide_is fits in
+    let copied = c.copy_to.ensures (λ x h. subst (λ d. slice_index (take wide c.args.samples.now) x < 2 ^ d) (sym d_is) (small x h)) ∙ ap (λ d. bytes_of d (take wide c.args.samples.now)) d_is in
+    samples_finished conf line.first line.count line.y c.args.samples.now s stand no one.0 wide wide_is fits c.copy_to.new.out (drop (c.sample_bytes.result * wide) c.args.out.now) copied
+
+pub finish_colours-requires-clause-shallow : goal.finish_colours-requires-clause-shallow
+finish_colours-requires-clause-shallow g c =
+    let conf = c.args.frame.now.checked.now.configuration in
+    let yes : is_rct conf.colour ≡ true = ap (λ (z : Configuration). is_rct z.colour) c.config.ensures.value ∙ ap is_rct c.in-Rct.is in
+    let bits = rct_bits conf yes in
+    omega (arith, bits, c.requires.bits)
+
+pub colourless-requires-clause-x : goal.colourless-requires-clause-x
+colourless-requires-clause-x g c =
+    let a = c.args.frame.now.checked.now in
+    let conf = a.configuration in
+    let line = c.args.line.now in
+    let yes : is_rct conf.colour ≡ true = ap (λ (z : Configuration). is_rct z.colour) c.config.ensures.value ∙ ap is_rct c.in-Rct.is in
+    let all = together_all conf line.first line.count yes c.requires.together in
+    let parts = c.accepted_parts.ensures.rct conf a.table c.requires.frame.accepted (rct_is conf.colour yes) in
+    let wide : plane_width conf 0 ≡ conf.width = wide_none conf 0 parts.1 in
+    let end = c.in-Err.ensures.err in
+    omega (arith, wide, end.inside)
+
+pub returns-in-Ok-clause-exact : goal.returns-in-Ok-clause-exact
+returns-in-Ok-clause-exact g c = λ coded s stand.
+    let a = c.args.frame.now.checked.now in
+    let conf = a.configuration in
+    let line = c.args.line.now in
+    let yes : is_rct conf.colour ≡ true = ap (λ (z : Configuration). is_rct z.colour) c.config.ensures.value ∙ ap is_rct c.in-Rct.is in
+    let all = together_all conf line.first line.count yes c.requires.together in
+    let parts = c.accepted_parts.ensures.rct conf a.table c.requires.frame.accepted (rct_is conf.colour yes) in
+    let long : length c.finish_colours.new.out ≡ line.count * width_bytes conf = c.finish_colours.auto.out ∙ c.requires.out in
+    colours_finished conf line.first line.count line.y c.args.samples.now s stand yes parts.1 all.0 all.1 parts.0 c.finish_colours.new.out long c.are_bytes.ensures c.in-Ok.ensures.ok
+
+pub returns-in-Err-clause-exact : goal.returns-in-Err-clause-exact
+returns-in-Err-clause-exact g c = λ coded s stand.
+    let a = c.args.frame.now.checked.now in
+    let conf = a.configuration in
+    let line = c.args.line.now in
+    let yes : is_rct conf.colour ≡ true = ap (λ (z : Configuration). is_rct z.colour) c.config.ensures.value ∙ ap is_rct c.in-Rct.is in
+    let all = together_all conf line.first line.count yes c.requires.together in
+    let parts = c.accepted_parts.ensures.rct conf a.table c.requires.frame.accepted (rct_is conf.colour yes) in
+    let missing = colours_missing conf line.first line.count line.y c.args.samples.now s stand yes parts.1 all.0 all.1 parts.0 c.in-Err.x c.in-Err.ensures.err in
+    let f = c.colourless.ensures.fault in
+    (c.in-Err.x, f.0, missing, f.1, f.2, refl)

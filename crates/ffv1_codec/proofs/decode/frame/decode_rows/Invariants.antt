@@ -1,0 +1,14 @@
+use Rattle.std.proofs.Common.{◌≡◌, ◌<◌}
+use Rattle.std.specs.Prelude.{IsSome}
+use Rattle.ffv1_codec.specs.Internal.Buffers.{KeepsLengths}
+use Rattle.ffv1_codec.specs.Internal.Opened.{coded_by}
+use Rattle.ffv1_codec.specs.Internal.Rows.{RowsDecoded}
+use Rattle.ffv1_codec.proofs.decode.frame.decode_rows.Given as goal
+
+abbrev pub invariant-loop-row : goal.invariant-loop-row
+invariant-loop-row g l = record {
+  same : KeepsLengths l.fn.buffers l.buffers;
+  known : 0 < l.row → IsSome l.first;
+  counted : g.S.LineSink.failures l.sink ≡ g.S.LineSink.failures l.fn.sink;
+  rows : RowsDecoded g.S.LineSink.takes g.S.LineSink.refuses l.checked (coded_by l.checked l.payload l.spans) l.fn.sink l.row l.tally l.first l.sink;
+}

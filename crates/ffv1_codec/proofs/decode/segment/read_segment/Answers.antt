@@ -1,0 +1,39 @@
+use Rattle.std.proofs.Common.{rules, ◌≡◌, ◌≤◌, length, Some}
+use Rattle.std.proofs.lemmas.Result.{on_ok_weaker}
+use Rattle.ffv1_codec.proofs.Outcomes.{both_outcomes}
+use Rattle.ffv1_codec.proofs.SegmentReads.{Laws, segment_read, segment_refused}
+use Rattle.ffv1_codec.proofs.decode.segment.read_segment.Goals as goal
+
+pub returns-clause-exact : goal.returns-clause-exact
+returns-clause-exact g c = λ past base samples y stands rolls.
+    let laws : Laws = record {
+      decides = c.kept_states.ensures.decided;
+      moves = c.kept_states.ensures.moved;
+      history = c.two_parts.ensures.history;
+      reads = c.read_is_coded.ensures;
+      append = c.counted_in_parts.ensures.append;
+      shifts = c.counted_in_parts.ensures.shifted;
+      from_nothing = c.counted_from_nothing.ensures;
+      below_both = c.two_parts.ensures.below;
+      below_long = c.slots-2.ensures.refused;
+      below_shifted = c.slots-2.ensures.shifted;
+      below_more = c.slots-2.ensures.more;
+      below_row = c.slots.ensures;
+    } in
+    let below = c.bounded.ensures.below in
+    let two = g.W.Word.samples c.args.above.now.two.now in
+    let one = g.W.Word.samples c.args.above.now.one.now in
+    let row = g.W.Word.samples c.decode-read.new.cur in
+    let is : c.args.parked.now ≡ Some c.unwrap.result = search rules in
+    let lined = rw c.wake-decoder.ensures at c.decode-read.ensures.ok in
+    let refused = rw c.wake-decoder.ensures at c.decode-read.ensures.refused in
+    rw c.park.ensures (both_outcomes c.decode-read.result lined c.decode-read.ensures.inside refused
+    (λ u line. segment_read laws c.args.bytes.now c.args.coding.now.table.now base c.args.coding.now.set.now c.args.coding.now.bits past c.args.states.now c.decode-read.new.states c.unwrap.result c.args.parked.now c.decode-read.new.decoder
+    two one row samples y below c.requires.rows is stands rolls line)
+    (λ e inside stop. segment_refused laws c.args.bytes.now c.args.coding.now.table.now base c.args.coding.now.set.now c.args.coding.now.bits past c.args.states.now c.decode-read.new.states c.unwrap.result c.args.parked.now c.decode-read.new.decoder
+    two one row samples y below c.requires.rows is stands rolls e.x inside stop))
+
+pub returns-clause-small : goal.returns-clause-small
+returns-clause-small g c =
+    let few : length (g.W.Word.samples c.decode-read.new.cur) ≤ length (g.W.Word.samples c.args.above.now.one.now) = search rules in
+    on_ok_weaker c.decode-read.result (λ lined. c.samples_below.ensures.read _ _ _ _ _ _ few lined) c.decode-read.ensures.ok

@@ -1,0 +1,11 @@
+use Rattle.std.proofs.Common.{ℕ, ◌<◌, ◌%◌, sym, subst}
+use Rattle.ffv1_slice.specs.Grid.{Division, across}
+use Rattle.ffv1_codec.proofs.Lines.{column_inside}
+use Rattle.ffv1_codec.proofs.encode.slice.Slice.cell.Goals as goal
+
+pub returns-clause-some : goal.returns-clause-some
+returns-clause-some g c =
+    let d : Division = c.of.result in
+    let n : ℕ = c.args.self.now.number in
+    let wide = c.parts.ensures.some (across d c.args.plane) (n % d.columns) (c.tiling.ensures.across d c.args.plane c.of.ensures.division) (column_inside n d.columns d.rows c.of.ensures.division.some_columns) in
+    subst (λ k. 0 < k) (sym c.cell.ensures.width) wide

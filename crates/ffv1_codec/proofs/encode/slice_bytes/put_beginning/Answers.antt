@@ -1,0 +1,22 @@
+use Rattle.std.proofs.Common.{subst}
+use Rattle.ffv1_slice.specs.declared.head.SliceHead.{SliceHead}
+use Rattle.ffv1_slice.specs.Head.{head_values, head_steps}
+use Rattle.ffv1_slice.specs.Coding.{PutsAt}
+use Rattle.ffv1_codec.specs.SliceList.{chosen_head}
+use Rattle.ffv1_codec.proofs.Beginnings.{Fresh, begun}
+use Rattle.ffv1_codec.proofs.encode.slice_bytes.put_beginning.Goals as goal
+
+pub returns-clause-ok : goal.returns-clause-ok
+returns-clause-ok g c = λ count.
+    let slice = c.args.slice.now in
+    let conf = slice.checked.now.configuration in
+    let laws : Fresh = record {
+      unsigned = c.slots.ensures.unsigned;
+      shifted_below = c.slots.ensures.shifted;
+      below = c.two_parts.ensures.below;
+      fresh = c.kept_states.ensures.fresh;
+      others = c.kept_states.ensures.others;
+      counts = c.counted_in_parts.ensures.append;
+    } in
+    let head = subst (λ (h : SliceHead). PutsAt slice.checked.now.table 1 32 c.put_key.new.encoder c.put_head.new.encoder (head_steps conf slice.number h)) c.head-head.ensures.value c.in-Ok-put_head.ensures.ok in
+    begun slice.checked.now.table slice.number count (head_values conf slice.number (chosen_head conf slice.info)) c.args.encoder.now c.put_key.new.encoder c.put_head.new.encoder laws c.requires c.in-Ok.ensures.ok head

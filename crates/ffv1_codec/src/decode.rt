@@ -1,0 +1,18 @@
+//! Frames are decoded: a frame by its rows of slices, a row by lines, and a line by the segments of
+//! the slices that it crosses. Each line is handed to a sink as soon as it is whole.
+
+mod buffers;
+mod colours;
+mod column;
+mod columns;
+mod finish;
+pub mod frame;
+mod hand;
+mod opening;
+mod overread;
+mod parts;
+mod plane_lines;
+mod row;
+mod segment;
+pub mod sinks;
+mod wide_colours;

@@ -1,0 +1,355 @@
+//! A row of slices is decoded.
+
+ghost use Rattle.std.specs.Prelude.{◌≡◌, ℕ, ◌+◌, ◌*◌, ◌≤◌, ◌<◌, List, None, IsSome, MatchResult};
+ghost use Rattle.std.specs.Prelude.{OnOk, length};
+ghost use Rattle.std.specs.List.{flat_map, range_with_len};
+ghost use Rattle.ffv1_range.specs.Symbols.{AllHeld};
+ghost use Rattle.ffv1_wire.specs.Runs.{Grows};
+ghost use Rattle.ffv1_record.specs.Held.{planes_of};
+ghost use Rattle.ffv1_codec.specs.Picture.{plane_count, width_bytes};
+ghost use Rattle.ffv1_codec.specs.SliceList.{bits_of};
+ghost use Rattle.ffv1_codec.specs.Order.{lines_down, line_events, series_of, series_events};
+ghost use Rattle.ffv1_codec.specs.Decoding.{State};
+ghost use Rattle.ffv1_codec.specs.Internal.Tied.{IsFrame, AreOpen, column_at, slots_in};
+ghost use Rattle.ffv1_codec.specs.Internal.Tied.{TiedColumns, TiedPlanes, row_slices};
+ghost use Rattle.ffv1_codec.specs.Internal.Tied.{rolling_lines, plane_group};
+ghost use Rattle.ffv1_codec.specs.Internal.Opened.{IsCutOf, coded_by};
+ghost use Rattle.ffv1_codec.specs.Internal.Buffers.{HoldBits, KeepsSlices, KeepsLengths};
+ghost use Rattle.ffv1_codec.specs.Internal.Buffers.{length_of_lines};
+ghost use Rattle.ffv1_codec.specs.Internal.Finished.{IsTogether};
+ghost use Rattle.ffv1_codec.specs.Internal.Progress.{FailsIn, LineDecoded, SeriesDecoded};
+ghost use Rattle.ffv1_codec.specs.OwnFaults.{CountsSink};
+ghost use Rattle.ffv1_codec.specs.Internal.Progress.{series_at, Decoded};
+ghost use Rattle.ffv1_codec.specs.Internal.Rows.{IsBetween, RowDecoded, open_events};
+
+use crate::decode::buffers::{Buffers, Lines, Slices};
+use crate::decode::finish::FinishedWord;
+use crate::decode::hand::hand_lines;
+use crate::decode::opening::open_row;
+use crate::decode::parts::{CodedLine, CodedPlanes, Frame};
+use crate::decode::plane_lines::read_planes;
+use crate::fault::FrameFault;
+use crate::info::Info;
+use crate::line_word::Above;
+use crate::places::places;
+use ffv1_line::laws::cell_is_read;
+use ffv1_line::reset;
+use ffv1_range::laws::{counted_from_nothing, named_states};
+use ffv1_record::Colour;
+use ffv1_record::laws::{accepted, accepted_parts};
+use ffv1_slice::Spans;
+use ffv1_wire::LineSink;
+use std::alloc::Allocator;
+
+/// Decodes a line: reads it, makes of it what is handed over, and hands it over.
+fn decode_whole_line<W: FinishedWord, A: Allocator, S: LineSink>(
+    frame: &Frame<'_, A>,
+    line: &CodedLine,
+    slices: &mut Slices<A>,
+    above: &Above<'_, W>,
+    cur: &mut [W],
+    out: &mut [u8],
+    sink: &mut S,
+) -> Result<(), FrameFault>
+    requires frame { IsFrame frame.now }
+    requires bits { W.holds (bits_of frame.now.checked.now.configuration) }
+    requires row { line.now.row < frame.now.checked.now.configuration.rows }
+    requires together { IsTogether frame.now.checked.now.configuration line.now.first
+        line.now.count }
+    requires planes { line.now.first + line.now.count
+        ≤ plane_count frame.now.checked.now.configuration }
+    requires some { 0 < line.now.count }
+    requires few { line.now.first + line.now.count ≤ 4 }
+    requires y { (i : ℕ) → i < line.now.count →
+        line.now.y < lines_down frame.now.checked.now.configuration (line.now.first + i)
+        line.now.row }
+    requires many { length slices.old.columns.items ≡ frame.now.checked.now.configuration.columns }
+    requires open { AreOpen frame.now.payload.now frame.now.checked.now.configuration.sets
+        slices.old.columns.items }
+    requires two_long { length above.now.two.now ≡ line.now.count
+        * frame.now.checked.now.configuration.width }
+    requires one_long { length above.now.one.now ≡ line.now.count
+        * frame.now.checked.now.configuration.width }
+    requires cur_long { length cur.old ≡ line.now.count
+        * frame.now.checked.now.configuration.width }
+    requires out_long { length out.old ≡ line.now.count
+        * width_bytes frame.now.checked.now.configuration }
+    requires room { length slices.old.states.items ≡ frame.now.checked.now.configuration.columns
+        * slots_in frame.now.checked.now.configuration }
+    requires held { AllHeld frame.now.checked.now.table slices.old.states.items }
+    ensures exact { (coded : ℕ → List ℕ) (next : ℕ) (initial : S) (s : State) →
+        let a = frame.now.checked.now in
+        line.now.first + line.now.count ≤ next →
+        TiedColumns a coded line.now.row next frame.now.payload.now
+        (row_slices slices.old.columns.items slices.old.states.items) s →
+        TiedPlanes a.configuration (plane_group line.now.first line.now.count) 0 0 line.now.y
+        (rolling_lines (W.samples above.now.two.now) (W.samples above.now.one.now)
+        (W.samples cur.old)) s →
+        Grows S.takes initial s.lines sink.old →
+        MatchResult result
+        (λ _. LineDecoded S.takes S.refuses a coded initial line.now.row next frame.now.payload.now
+        line.now.first line.now.count line.now.y slices.new.columns.items slices.new.states.items
+        (W.samples above.now.one.now) (W.samples cur.new) sink.new s)
+        (λ f. FailsIn S.takes S.refuses a coded initial line.now.row slices.new.columns.items
+        (line_events a.configuration line.now.row (range_with_len line.now.first line.now.count)
+        line.now.y) f sink.new s) }
+    ensures counted { CountsSink (S.failures sink.old) (S.failures sink.new) result }
+    ensures open { OnOk result (AreOpen frame.now.payload.now
+        frame.now.checked.now.configuration.sets slices.new.columns.items) }
+    ensures held { OnOk result (AllHeld frame.now.checked.now.table slices.new.states.items) }
+    ensures same { KeepsSlices slices.old slices.new }
+{
+    places();
+    accepted();
+    counted_from_nothing();
+    read_planes(
+        frame,
+        line,
+        &mut slices.columns,
+        &mut slices.states,
+        above,
+        cur,
+    )?;
+    W::finish(frame, line, cur, out)?;
+    hand_lines(frame, line, out, sink)
+}
+
+/// Decodes the lines of planes that are coded together.
+fn decode_series<W: FinishedWord, A: Allocator, S: LineSink>(
+    frame: &Frame<'_, A>,
+    planes: &CodedPlanes,
+    slices: &mut Slices<A>,
+    lines: &mut [W],
+    out: &mut [u8],
+    sink: &mut S,
+) -> Result<(), FrameFault>
+    requires frame { IsFrame frame.now }
+    requires bits { W.holds (bits_of frame.now.checked.now.configuration) }
+    requires row { planes.now.row < frame.now.checked.now.configuration.rows }
+    requires together { IsTogether frame.now.checked.now.configuration planes.now.first
+        planes.now.count }
+    requires planes { planes.now.first + planes.now.count ≤ plane_count
+        frame.now.checked.now.configuration }
+    requires some { 0 < planes.now.count }
+    requires few { planes.now.first + planes.now.count ≤ 4 }
+    requires many { length slices.old.columns.items ≡ frame.now.checked.now.configuration.columns }
+    requires open { AreOpen frame.now.payload.now frame.now.checked.now.configuration.sets
+        slices.old.columns.items }
+    requires lines_long { length lines.old ≡ 3 * (planes.now.count *
+        frame.now.checked.now.configuration.width) }
+    requires out_long { length out.old ≡ planes.now.count *
+        width_bytes frame.now.checked.now.configuration }
+    requires room { length slices.old.states.items ≡ frame.now.checked.now.configuration.columns
+        * slots_in frame.now.checked.now.configuration }
+    requires held { AllHeld frame.now.checked.now.table slices.old.states.items }
+    ensures exact { (coded : ℕ → List ℕ) (initial : S) (s : State) →
+        let a = frame.now.checked.now in
+        TiedColumns a coded planes.now.row planes.now.first frame.now.payload.now
+        (row_slices slices.old.columns.items slices.old.states.items) s →
+        Grows S.takes initial s.lines sink.old →
+        MatchResult result
+        (λ _. SeriesDecoded S.takes S.refuses a coded initial planes.now.row frame.now.payload.now
+        planes.now.first planes.now.count slices.new.columns.items slices.new.states.items sink.new
+        s)
+        (λ f. FailsIn S.takes S.refuses a coded initial planes.now.row slices.new.columns.items
+        (series_events a.configuration planes.now.row (series_at a.configuration planes.now.row
+        planes.now.first planes.now.count)) f sink.new
+        s) }
+    ensures counted { CountsSink (S.failures sink.old) (S.failures sink.new) result }
+    ensures open { OnOk result (AreOpen frame.now.payload.now
+        frame.now.checked.now.configuration.sets slices.new.columns.items) }
+    ensures held { OnOk result (AllHeld frame.now.checked.now.table slices.new.states.items) }
+    ensures same { KeepsSlices slices.old slices.new }
+{
+    places();
+    accepted();
+    accepted_parts();
+    cell_is_read();
+    W::clear(lines);
+    let size = planes.count as usize * frame.checked.config().width as usize;
+    let (mut two, rest) = lines.split_at_mut(size);
+    let (mut one, mut cur) = rest.split_at_mut(size);
+    let CodedPlanes { row, first, count } = *planes;
+    let top = frame.grid.top(first as u32, row);
+    let bottom = frame.grid.top(first as u32, row + 1);
+    for y in 0..bottom - top {
+        let line = CodedLine {
+            row,
+            first,
+            count,
+            y,
+        };
+        let above = Above { two, one };
+        decode_whole_line(frame, &line, slices, &above, cur, out, sink)?;
+        let free = two;
+        two = one;
+        one = cur;
+        cur = free;
+    }
+    Ok(())
+}
+
+/// Decodes the planes of a row, one after the other, or for RCT together.
+fn decode_planes<W: FinishedWord, A: Allocator, S: LineSink>(
+    frame: &Frame<'_, A>,
+    row: u32,
+    slices: &mut Slices<A>,
+    lines: &mut [W],
+    out: &mut [u8],
+    sink: &mut S,
+) -> Result<(), FrameFault>
+    requires frame { IsFrame frame.now }
+    requires bits { W.holds (bits_of frame.now.checked.now.configuration) }
+    requires row { row < frame.now.checked.now.configuration.rows }
+    requires many { length slices.old.columns.items ≡ frame.now.checked.now.configuration.columns }
+    requires open { AreOpen frame.now.payload.now frame.now.checked.now.configuration.sets
+        slices.old.columns.items }
+    requires lines_long { length lines.old
+        ≡ 3 * (planes_of frame.now.checked.now.configuration.colour
+        frame.now.checked.now.configuration.extra_plane
+        * frame.now.checked.now.configuration.width) }
+    requires out_long { length out.old
+        ≡ planes_of frame.now.checked.now.configuration.colour
+        frame.now.checked.now.configuration.extra_plane
+        * width_bytes frame.now.checked.now.configuration }
+    requires room { length slices.old.states.items ≡ frame.now.checked.now.configuration.columns
+        * slots_in frame.now.checked.now.configuration }
+    requires held { AllHeld frame.now.checked.now.table slices.old.states.items }
+    ensures exact { (coded : ℕ → List ℕ) (initial : S) (s : State) →
+        let a = frame.now.checked.now in
+        let events = flat_map (series_events a.configuration row)
+        (series_of a.configuration row) in
+        TiedColumns a coded row 0 frame.now.payload.now (row_slices slices.old.columns.items
+        slices.old.states.items) s →
+        Grows S.takes initial s.lines sink.old →
+        MatchResult result
+        (λ _. Decoded S.takes S.refuses a coded initial row (plane_count a.configuration)
+        frame.now.payload.now events slices.new.columns.items slices.new.states.items sink.new s)
+        (λ f. FailsIn S.takes S.refuses a coded initial row slices.new.columns.items events f
+        sink.new s) }
+    ensures counted { CountsSink (S.failures sink.old) (S.failures sink.new) result }
+    ensures same { KeepsSlices slices.old slices.new }
+{
+    accepted_parts();
+    let planes = frame.grid.planes() as u8;
+    match frame.checked.config().colour {
+        Colour::Rct => {
+            let all = CodedPlanes {
+                row,
+                first: 0,
+                count: planes,
+            };
+            decode_series(frame, &all, slices, lines, out, sink)
+        }
+        Colour::YCbCr => {
+            for plane in 0..planes {
+                let one = CodedPlanes {
+                    row,
+                    first: plane,
+                    count: 1,
+                };
+                decode_series(frame, &one, slices, lines, out, sink)?;
+            }
+            Ok(())
+        }
+    }
+}
+
+/// The same in lines of either words.
+fn decode_lines<A: Allocator, S: LineSink>(
+    frame: &Frame<'_, A>,
+    row: u32,
+    slices: &mut Slices<A>,
+    lines: &mut Lines<A>,
+    out: &mut [u8],
+    sink: &mut S,
+) -> Result<(), FrameFault>
+    requires frame { IsFrame frame.now }
+    requires bits { HoldBits lines.old (bits_of frame.now.checked.now.configuration) }
+    requires row { row < frame.now.checked.now.configuration.rows }
+    requires many { length slices.old.columns.items ≡ frame.now.checked.now.configuration.columns }
+    requires open { AreOpen frame.now.payload.now frame.now.checked.now.configuration.sets
+        slices.old.columns.items }
+    requires lines_long { length_of_lines lines.old
+        ≡ 3 * (planes_of frame.now.checked.now.configuration.colour
+        frame.now.checked.now.configuration.extra_plane
+        * frame.now.checked.now.configuration.width) }
+    requires out_long { length out.old
+        ≡ planes_of frame.now.checked.now.configuration.colour
+        frame.now.checked.now.configuration.extra_plane
+        * width_bytes frame.now.checked.now.configuration }
+    requires room { length slices.old.states.items ≡ frame.now.checked.now.configuration.columns
+        * slots_in frame.now.checked.now.configuration }
+    requires held { AllHeld frame.now.checked.now.table slices.old.states.items }
+    ensures exact { (coded : ℕ → List ℕ) (initial : S) (s : State) →
+        let a = frame.now.checked.now in
+        let events = flat_map (series_events a.configuration row)
+        (series_of a.configuration row) in
+        TiedColumns a coded row 0 frame.now.payload.now (row_slices slices.old.columns.items
+        slices.old.states.items) s →
+        Grows S.takes initial s.lines sink.old →
+        MatchResult result
+        (λ _. Decoded S.takes S.refuses a coded initial row (plane_count a.configuration)
+        frame.now.payload.now events slices.new.columns.items slices.new.states.items sink.new s)
+        (λ f. FailsIn S.takes S.refuses a coded initial row slices.new.columns.items events f
+        sink.new s) }
+    ensures counted { CountsSink (S.failures sink.old) (S.failures sink.new) result }
+    ensures same { KeepsSlices slices.old slices.new }
+    ensures long { length_of_lines lines.new ≡ length_of_lines lines.old }
+    ensures words { (bits : ℕ) → HoldBits lines.old bits → HoldBits lines.new bits }
+{
+    match lines {
+        Lines::Narrow(lines) => decode_planes(frame, row, slices, lines, out, sink),
+        Lines::Wide(lines) => decode_planes(frame, row, slices, lines, out, sink),
+    }
+}
+
+/// Decodes a row of slices.
+pub(crate) fn decode_row<A: Allocator, B: Allocator, S: LineSink>(
+    frame: &Frame<'_, A>,
+    spans: &Spans<B>,
+    row: u32,
+    buffers: &mut Buffers<A>,
+    first: &mut Option<Info>,
+    sink: &mut S,
+) -> Result<(), FrameFault>
+    requires frame { IsFrame frame.now }
+    requires row { row < frame.now.checked.now.configuration.rows }
+    requires many { length buffers.old.slices.columns.items ≡
+        frame.now.checked.now.configuration.columns }
+    requires cut { IsCutOf frame.now.checked.now frame.now.payload.now spans.now }
+    requires closed { (k : ℕ) → k < length buffers.old.slices.columns.items → (column_at
+        buffers.old.slices.columns.items k).parked ≡ None }
+    requires bits { HoldBits buffers.old.lines (bits_of frame.now.checked.now.configuration) }
+    requires lines_long { length_of_lines buffers.old.lines
+        ≡ 3 * (planes_of frame.now.checked.now.configuration.colour
+        frame.now.checked.now.configuration.extra_plane
+        * frame.now.checked.now.configuration.width) }
+    requires out_long { length buffers.old.out.items
+        ≡ planes_of frame.now.checked.now.configuration.colour
+        frame.now.checked.now.configuration.extra_plane
+        * width_bytes frame.now.checked.now.configuration }
+    requires room { length buffers.old.slices.states.items ≡
+        frame.now.checked.now.configuration.columns
+        * slots_in frame.now.checked.now.configuration }
+    ensures exact { (initial : S) (s : State) →
+        let a = frame.now.checked.now in
+        let coded : ℕ → List ℕ = coded_by a frame.now.payload.now spans.now in
+        IsBetween a.configuration first.old s → Grows S.takes initial s.lines sink.old →
+        MatchResult result
+        (λ _. RowDecoded S.takes S.refuses a coded initial row buffers.new.slices.columns.items
+        first.new sink.new s)
+        (λ f. FailsIn S.takes S.refuses a coded initial row buffers.new.slices.columns.items
+        (open_events a.configuration row) f sink.new s) }
+    ensures known { OnOk result (IsSome first.new) }
+    ensures counted { CountsSink (S.failures sink.old) (S.failures sink.new) result }
+    ensures same { KeepsLengths buffers.old buffers.new }
+{
+    named_states();
+    accepted_parts();
+    counted_from_nothing();
+    reset(&mut buffers.slices.states);
+    open_row(frame, spans, row, &mut buffers.slices.columns, first)?;
+    let Buffers { slices, lines, out } = buffers;
+    decode_lines(frame, row, slices, lines, out, sink)
+}

@@ -1,0 +1,375 @@
+//! The segment of a line that lies in one slice is read.
+
+ghost use Rattle.std.specs.Prelude.{◌≡◌, ℕ, ◌+◌, ◌-◌, ◌*◌, ◌^◌, ◌≤◌, ◌<◌, ◌⊎◌, List, IsSome, OnOk};
+ghost use Rattle.std.specs.Prelude.{IfErr, MatchResult, length, slice_index, take, [], ◌∷◌};
+ghost use Rattle.ffv1_range.specs.Symbols.{AllHeld, Step};
+ghost use Rattle.ffv1_plane.specs.Quantisation.{contexts_of};
+ghost use Rattle.ffv1_line.specs.Cell.{Rolls};
+ghost use Rattle.ffv1_codec.specs.Picture.{plane_count};
+ghost use Rattle.ffv1_codec.specs.SliceList.{class_of, base_of, bits_of, set_at};
+ghost use Rattle.ffv1_codec.specs.OwnFaults.{IsOwn};
+ghost use Rattle.ffv1_codec.specs.Order.{lines_down};
+ghost use Rattle.ffv1_codec.specs.Order.Event.{Read};
+ghost use Rattle.ffv1_codec.specs.Decoding.{State, left_of, width_in, top_of, slice_number};
+ghost use Rattle.ffv1_codec.specs.Internal.Stands.{Stands, SegmentRead, SegmentRefused, window};
+ghost use Rattle.ffv1_codec.specs.Internal.Tied.{KeepsBeside, IsFrame, IsOpen, AreOpen, bytes_in};
+ghost use Rattle.ffv1_codec.specs.Internal.Tied.{slots_in, TiedColumns, TiedLine, SegmentMade};
+ghost use Rattle.ffv1_codec.specs.Internal.Tied.{StepMade, Stopped, overread_in, row_slices};
+ghost use Rattle.ffv1_codec.specs.Internal.Tied.{rolling_lines};
+ghost use Rattle.ffv1_line.specs.Coding.{coding_by};
+
+use crate::decode::column::Column;
+use crate::decode::overread::is_overread;
+use crate::decode::parts::{Frame, Segment};
+use crate::fault::{CodecFault, FrameFault};
+use crate::line_word::{Above, LineCoding, LineWord, bits_of};
+use crate::places::places;
+use ffv1_line::TooLong;
+use ffv1_line::laws::{cell_is_read, samples_below, slots};
+use ffv1_range::laws::{
+    counted_from_nothing, counted_in_parts, kept_states, read_is_coded, two_parts,
+};
+use ffv1_range::{Parked, laws as coding};
+use ffv1_record::laws::{accepted, accepted_parts};
+use std::alloc::Allocator;
+
+/// Reads a segment: wakes a decoder on the bytes of its slice, decodes a row by the states of its
+/// class, and parks.
+fn read_segment<W: LineWord, B: Allocator>(
+    parked: &mut Option<Parked>,
+    bytes: &[u8],
+    coding: &LineCoding<'_, B>,
+    states: &mut [u8],
+    above: &Above<'_, W>,
+    cur: &mut [W],
+) -> Result<(), TooLong>
+    requires open { IsSome parked.old }
+    requires bits { W.holds coding.now.bits }
+    requires few { coding.now.bits ≤ 17 }
+    requires some { 0 < length cur.old }
+    requires two_long { length above.now.two.now ≡ length cur.old }
+    requires one_long { length above.now.one.now ≡ length cur.old }
+    requires rows { length states.old ≡ contexts_of coding.now.set.now * 32 }
+    requires held { AllHeld coding.now.table.now states.old }
+    ensures exact { (past : List Step) (base : ℕ) (samples : List ℕ) (y : ℕ) →
+        let table = coding.now.table.now in
+        let set = coding.now.set.now in
+        let row = W.samples cur.new in
+        Stands bytes.now table base parked.old states.old past →
+        Rolls (length row) samples (W.samples above.now.two.now) (W.samples above.now.one.now) y →
+        MatchResult result
+        (λ _. SegmentRead bytes.now (coding_by table set coding.now.bits) base base past samples
+        (length row) y parked.new states.new row)
+        (λ e. SegmentRefused bytes.now (coding_by table set coding.now.bits) base base past samples
+        (length row) y parked.new (take e.x row) e.x) }
+    ensures small { OnOk result ((x : ℕ) → x < length (W.samples cur.new) →
+        slice_index (W.samples cur.new) x < 2 ^ coding.now.bits) }
+    ensures inside { IfErr result (λ e. e.x < length (W.samples cur.new)) }
+    ensures open { IsSome parked.new }
+    ensures held { AllHeld coding.now.table.now states.new }
+{
+    kept_states();
+    two_parts();
+    read_is_coded();
+    counted_in_parts();
+    counted_from_nothing();
+    slots();
+    coding::slots();
+    samples_below();
+    let set = coding.set;
+    set.bounded();
+    let mut decoder = parked.take().unwrap().wake(bytes);
+    let read = W::decode(&mut decoder, coding, states, above, cur);
+    *parked = Some(decoder.park());
+    read
+}
+
+/// The class of a plane's states.
+fn class_of(plane: u8) -> usize
+    ensures value { result ≡ class_of plane }
+    ensures few { result < 3 }
+{
+    match plane {
+        0 => 0,
+        1 => 1,
+        2 => 1,
+        _ => 2,
+    }
+}
+
+/// Reads a segment of a plane, by the states of its slice.
+fn read_column<W: LineWord, A: Allocator>(
+    frame: &Frame<'_, A>,
+    plane: u8,
+    column: &mut Column,
+    states: &mut [u8],
+    above: &Above<'_, W>,
+    cur: &mut [W],
+) -> Result<(), TooLong>
+    requires frame { IsFrame frame.now }
+    requires bits { W.holds (bits_of frame.now.checked.now.configuration) }
+    requires plane { plane < plane_count frame.now.checked.now.configuration }
+    requires open { IsOpen frame.now.payload.now frame.now.checked.now.configuration.sets
+        column.old }
+    requires some { 0 < length cur.old }
+    requires two_long { length above.now.two.now ≡ length cur.old }
+    requires one_long { length above.now.one.now ≡ length cur.old }
+    requires rows { length states.old ≡ slots_in frame.now.checked.now.configuration }
+    requires held { AllHeld frame.now.checked.now.table states.old }
+    ensures exact { (past : List Step) (samples : List ℕ) (y : ℕ) →
+        let a = frame.now.checked.now in
+        let set = set_at a.configuration.sets (slice_index column.old.indexes (class_of plane)) in
+        let bytes = bytes_in frame.now.payload.now column.old in
+        let base = base_of a.configuration plane in
+        let row = W.samples cur.new in
+        Stands bytes a.table 33 column.old.parked states.old past →
+        Rolls (length row) samples (W.samples above.now.two.now) (W.samples above.now.one.now) y →
+        MatchResult result
+        (λ _. SegmentRead bytes (coding_by a.table set (bits_of a.configuration)) base 33 past
+        samples (length row) y column.new.parked states.new row)
+        (λ e. SegmentRefused bytes (coding_by a.table set (bits_of a.configuration)) base 33 past
+        samples (length row) y column.new.parked (take e.x row) e.x) }
+    ensures small { OnOk result ((x : ℕ) → x < length (W.samples cur.new) →
+        slice_index (W.samples cur.new) x < 2 ^ bits_of frame.now.checked.now.configuration) }
+    ensures inside { IfErr result (λ e. e.x < length (W.samples cur.new)) }
+    ensures open { IsSome column.new.parked }
+    ensures same { column.new ≡ record column.old { parked = column.new.parked } }
+    ensures held { AllHeld frame.now.checked.now.table states.new }
+{
+    kept_states();
+    accepted_parts();
+    let config = frame.checked.config();
+    let class = class_of(plane);
+    let set = config.sets.get(usize::from(column.indexes[class]));
+    let at = class * frame.most * 32;
+    let end = at + set.contexts() as usize * 32;
+    let bytes = &frame.payload[column.first..column.last];
+    let coding = LineCoding {
+        table: frame.checked.table(),
+        set,
+        bits: bits_of(frame.checked),
+    };
+    read_segment(
+        &mut column.parked,
+        bytes,
+        &coding,
+        &mut states[at..end],
+        above,
+        cur,
+    )
+}
+
+/// Where a segment begins and ends in a rolling line.
+fn extent<A: Allocator>(frame: &Frame<'_, A>, segment: &Segment) -> (usize, usize)
+    requires frame { IsFrame frame.now }
+    requires column { segment.now.column < frame.now.checked.now.configuration.columns }
+    requires few { segment.now.index < 4 }
+    ensures left { result.0 ≡ segment.now.index * frame.now.checked.now.configuration.width
+        + left_of frame.now.checked.now.configuration segment.now.plane segment.now.column }
+    ensures right { result.1 ≡ result.0
+        + width_in frame.now.checked.now.configuration segment.now.plane segment.now.column }
+    ensures some { result.0 < result.1 }
+    ensures inside { result.1 ≤ segment.now.index * frame.now.checked.now.configuration.width
+        + frame.now.checked.now.configuration.width }
+{
+    places();
+    accepted();
+    let plane = segment.plane as u32;
+    let k = segment.column as u32;
+    let offset = segment.index as usize * frame.checked.config().width as usize;
+    let left = offset + frame.grid.left(plane, k) as usize;
+    let right = offset + frame.grid.left(plane, k + 1) as usize;
+    (left, right)
+}
+
+/// The fault of a segment of which a symbol is refused.
+fn refusal<A: Allocator>(frame: &Frame<'_, A>, segment: &Segment, x: usize) -> FrameFault
+    requires frame { IsFrame frame.now }
+    requires row { segment.now.row < frame.now.checked.now.configuration.rows }
+    requires column { segment.now.column < frame.now.checked.now.configuration.columns }
+    requires y { segment.now.y < lines_down frame.now.checked.now.configuration
+        segment.now.plane segment.now.row }
+    requires x { x < width_in frame.now.checked.now.configuration segment.now.plane
+        segment.now.column }
+    ensures { result ≡ record {
+      fault = CodecFault.SymbolTooLong;
+      slice = slice_number frame.now.checked.now.configuration segment.now.row segment.now.column;
+      plane = segment.now.plane;
+      line = top_of frame.now.checked.now.configuration segment.now.plane segment.now.row
+          + segment.now.y;
+      x = left_of frame.now.checked.now.configuration segment.now.plane segment.now.column + x;
+    } }
+{
+    places();
+    accepted();
+    let plane = segment.plane as u32;
+    let left = frame.grid.left(plane, segment.column as u32) as usize;
+    let top = frame.grid.top(plane, segment.row);
+    FrameFault {
+        fault: CodecFault::SymbolTooLong,
+        slice: (segment.row as usize * frame.grid.columns() as usize + segment.column) as u16,
+        plane: segment.plane,
+        line: (top + segment.y) as u16,
+        x: (left + x) as u16,
+    }
+}
+
+/// Reads a segment into its place of a line. How far its slice was read is not looked at.
+fn read_on<W: LineWord, A: Allocator>(
+    frame: &Frame<'_, A>,
+    segment: &Segment,
+    columns: &mut [Column],
+    states: &mut [u8],
+    above: &Above<'_, W>,
+    cur: &mut [W],
+) -> Result<(), FrameFault>
+    requires frame { IsFrame frame.now }
+    requires bits { W.holds (bits_of frame.now.checked.now.configuration) }
+    requires row { segment.now.row < frame.now.checked.now.configuration.rows }
+    requires column { segment.now.column < frame.now.checked.now.configuration.columns }
+    requires plane { segment.now.plane < plane_count frame.now.checked.now.configuration }
+    requires few { segment.now.index < 4 }
+    requires y { segment.now.y < lines_down frame.now.checked.now.configuration
+        segment.now.plane segment.now.row }
+    requires many { length columns.old ≡ frame.now.checked.now.configuration.columns }
+    requires open { AreOpen frame.now.payload.now frame.now.checked.now.configuration.sets
+        columns.old }
+    requires two_long { segment.now.index * frame.now.checked.now.configuration.width
+        + frame.now.checked.now.configuration.width ≤ length above.now.two.now }
+    requires one_long { segment.now.index * frame.now.checked.now.configuration.width
+        + frame.now.checked.now.configuration.width ≤ length above.now.one.now }
+    requires cur_long { segment.now.index * frame.now.checked.now.configuration.width
+        + frame.now.checked.now.configuration.width ≤ length cur.old }
+    requires room { length states.old ≡ frame.now.checked.now.configuration.columns
+        * slots_in frame.now.checked.now.configuration }
+    requires held { AllHeld frame.now.checked.now.table states.old }
+    ensures exact { (coded : ℕ → List ℕ) (next : ℕ) (s : State) →
+        let a = frame.now.checked.now in
+        let offset = segment.now.index * a.configuration.width in
+        segment.now.plane < next →
+        TiedColumns a coded segment.now.row next frame.now.payload.now
+        (row_slices columns.old states.old) s →
+        TiedLine a.configuration segment.now.plane offset segment.now.column segment.now.y
+        (rolling_lines (W.samples above.now.two.now) (W.samples above.now.one.now)
+        (W.samples cur.old)) s →
+        MatchResult result
+        (λ _. SegmentMade a coded segment.now.row next frame.now.payload.now segment.now.plane
+        offset segment.now.y segment.now.column columns.new states.new
+        (W.samples above.now.two.now) (W.samples above.now.one.now) (W.samples cur.new) s)
+        (λ f. Stopped a coded columns.new
+        (Read segment.now.row segment.now.column segment.now.plane segment.now.y ∷ []) f s) }
+    ensures beside { KeepsBeside
+        (segment.now.index * frame.now.checked.now.configuration.width)
+        frame.now.checked.now.configuration.width (W.samples cur.old) (W.samples cur.new) }
+    ensures own { IfErr result IsOwn }
+    ensures open { AreOpen frame.now.payload.now frame.now.checked.now.configuration.sets
+        columns.new }
+    ensures held { AllHeld frame.now.checked.now.table states.new }
+{
+    accepted();
+    accepted_parts();
+    cell_is_read();
+    counted_from_nothing();
+    places();
+    let (left, right) = extent(frame, segment);
+    let k = segment.column;
+    let at = k * frame.slots;
+    let above = Above {
+        two: &above.two[left..right],
+        one: &above.one[left..right],
+    };
+    match read_column(
+        frame,
+        segment.plane,
+        &mut columns[k],
+        &mut states[at..at + frame.slots],
+        &above,
+        &mut cur[left..right],
+    ) {
+        Ok(()) => Ok(()),
+        Err(refused) => Err(refusal(frame, segment, refused.x)),
+    }
+}
+
+/// The fault of a segment whose slice was read too far.
+fn overread<A: Allocator>(frame: &Frame<'_, A>, segment: &Segment) -> FrameFault
+    requires frame { IsFrame frame.now }
+    requires row { segment.now.row < frame.now.checked.now.configuration.rows }
+    requires column { segment.now.column < frame.now.checked.now.configuration.columns }
+    requires y { segment.now.y < lines_down frame.now.checked.now.configuration
+        segment.now.plane segment.now.row }
+    ensures value { result ≡ overread_in frame.now.checked.now.configuration segment.now.row
+        segment.now.column segment.now.plane segment.now.y }
+    ensures own { IsOwn result }
+{
+    places();
+    accepted();
+    let top = frame.grid.top(segment.plane as u32, segment.row);
+    FrameFault {
+        fault: CodecFault::Overread,
+        slice: (segment.row as usize * frame.grid.columns() as usize + segment.column) as u16,
+        plane: segment.plane,
+        line: (top + segment.y) as u16,
+        x: 0,
+    }
+}
+
+/// Reads a segment into its place of a line, and looks at how far its slice was read.
+pub(crate) fn read_at<W: LineWord, A: Allocator>(
+    frame: &Frame<'_, A>,
+    segment: &Segment,
+    columns: &mut [Column],
+    states: &mut [u8],
+    above: &Above<'_, W>,
+    cur: &mut [W],
+) -> Result<(), FrameFault>
+    requires frame { IsFrame frame.now }
+    requires bits { W.holds (bits_of frame.now.checked.now.configuration) }
+    requires row { segment.now.row < frame.now.checked.now.configuration.rows }
+    requires column { segment.now.column < frame.now.checked.now.configuration.columns }
+    requires plane { segment.now.plane < plane_count frame.now.checked.now.configuration }
+    requires few { segment.now.index < 4 }
+    requires y { segment.now.y < lines_down frame.now.checked.now.configuration
+        segment.now.plane segment.now.row }
+    requires many { length columns.old ≡ frame.now.checked.now.configuration.columns }
+    requires open { AreOpen frame.now.payload.now frame.now.checked.now.configuration.sets
+        columns.old }
+    requires two_long { segment.now.index * frame.now.checked.now.configuration.width
+        + frame.now.checked.now.configuration.width ≤ length above.now.two.now }
+    requires one_long { segment.now.index * frame.now.checked.now.configuration.width
+        + frame.now.checked.now.configuration.width ≤ length above.now.one.now }
+    requires cur_long { segment.now.index * frame.now.checked.now.configuration.width
+        + frame.now.checked.now.configuration.width ≤ length cur.old }
+    requires room { length states.old ≡ frame.now.checked.now.configuration.columns
+        * slots_in frame.now.checked.now.configuration }
+    requires held { AllHeld frame.now.checked.now.table states.old }
+    ensures exact { (coded : ℕ → List ℕ) (next : ℕ) (s : State) →
+        let a = frame.now.checked.now in
+        let offset = segment.now.index * a.configuration.width in
+        segment.now.plane < next →
+        TiedColumns a coded segment.now.row next frame.now.payload.now
+        (row_slices columns.old states.old) s →
+        TiedLine a.configuration segment.now.plane offset segment.now.column segment.now.y
+        (rolling_lines (W.samples above.now.two.now) (W.samples above.now.one.now)
+        (W.samples cur.old)) s →
+        MatchResult result
+        (λ _. StepMade a coded segment.now.row next frame.now.payload.now segment.now.plane offset
+        segment.now.y segment.now.column columns.new states.new (W.samples above.now.two.now)
+        (W.samples above.now.one.now) (W.samples cur.new) s)
+        (λ f. Stopped a coded columns.new
+        (Read segment.now.row segment.now.column segment.now.plane segment.now.y ∷ []) f s) }
+    ensures beside { KeepsBeside
+        (segment.now.index * frame.now.checked.now.configuration.width)
+        frame.now.checked.now.configuration.width (W.samples cur.old) (W.samples cur.new) }
+    ensures own { IfErr result IsOwn }
+    ensures open { AreOpen frame.now.payload.now frame.now.checked.now.configuration.sets
+        columns.new }
+    ensures held { AllHeld frame.now.checked.now.table states.new }
+{
+    counted_from_nothing();
+    read_on(frame, segment, columns, states, above, cur)?;
+    if is_overread(frame, &columns[segment.column]) {
+        return Err(overread(frame, segment));
+    }
+    Ok(())
+}

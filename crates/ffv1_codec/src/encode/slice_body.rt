@@ -1,0 +1,324 @@
+//! The decisions of a slice are put.
+
+ghost use Rattle.std.specs.Prelude.{◌≡◌, ◌⊎◌, ◌+◌, ◌*◌, ◌<◌, ◌≤◌, ℕ, IfErr, OnOk, length, true};
+ghost use Rattle.std.specs.Prelude.{false};
+ghost use Rattle.ffv1_range.specs.Symbols.{AllHeld, shifted};
+ghost use Rattle.ffv1_plane.specs.Quantisation.{contexts_of};
+ghost use Rattle.ffv1_line.specs.Row.{row_steps, chosen_row};
+ghost use Rattle.ffv1_line.specs.Cell.{Cell};
+ghost use Rattle.ffv1_record.specs.Configuration.{is_rct};
+ghost use Rattle.ffv1_codec.specs.declared.fault.CodecFault.TheVariants as fault;
+ghost use Rattle.ffv1_codec.specs.Picture.{plane_count, cell_in, cell_height};
+ghost use Rattle.ffv1_codec.specs.SliceList.{class_of, bits_of, chosen_line, chosen_body};
+ghost use Rattle.ffv1_codec.specs.SliceList.{chosen_head};
+ghost use Rattle.ffv1_codec.specs.SliceList.{lines_of_plane, planes_of_line, lines_in};
+ghost use Rattle.ffv1_codec.specs.Internal.HasPut.{PutsAfter, PutsSamples, states_in};
+ghost use Rattle.ffv1_codec.specs.Internal.CellRows.{Loaded, AllRolled, AllLoaded};
+ghost use Rattle.ffv1_codec.specs.Internal.CellRows.{fourth_line};
+
+use crate::encode::cell_rows::{ColourWord, PlaneRows, load, load_all, restart, restart_all};
+use crate::encode::slice::{Slice, index_of};
+use crate::fault::CodecFault;
+use crate::line_word::{Above, LineCoding, LineWord, bits_of};
+use ffv1_line::RollingRows;
+use ffv1_line::laws::{rolling, slots};
+use ffv1_range::RangeEncoder;
+use ffv1_range::laws::{counted_in_parts, kept_states, two_parts};
+use ffv1_record::Colour;
+use ffv1_record::laws::{accepted, accepted_parts};
+use ffv1_slice::Grid;
+use std::alloc::Allocator;
+
+/// The class of a plane's states (RFC 9043, 3.6).
+fn class_of(plane: u32) -> usize
+    ensures { result ≡ class_of plane }
+{
+    match plane {
+        0 => 0,
+        1 => 1,
+        2 => 1,
+        _ => 2,
+    }
+}
+
+/// How colours are coded.
+fn is_rct(colour: Colour) -> bool
+    ensures { result ≡ is_rct colour }
+{
+    match colour {
+        Colour::YCbCr => false,
+        Colour::Rct => true,
+    }
+}
+
+/// A row of a cell is coded, by the states of its class, which begin at this offset of all states.
+fn put_row<W: LineWord, R: Allocator, A: Allocator>(
+    encoder: &mut RangeEncoder<R>,
+    coding: &LineCoding<'_, A>,
+    states: &mut [u8],
+    at: usize,
+    rows: &RollingRows<Vec<W, R>>,
+) -> Result<(), CodecFault>
+    requires bits { W.holds coding.now.bits }
+    requires some { 0 < length (W.samples rows.now.cur.items) }
+    requires two_long { length (W.samples rows.now.two.items)
+        ≡ length (W.samples rows.now.cur.items) }
+    requires one_long { length (W.samples rows.now.one.items)
+        ≡ length (W.samples rows.now.cur.items) }
+    requires fits { at + contexts_of coding.now.set.now * 32 ≤ length states.old }
+    requires held { AllHeld coding.now.table.now states.old }
+    ensures ok { OnOk result ((cell : Cell) (y : ℕ) → Loaded W.samples cell y rows.now →
+        PutsAfter coding.now.table.now encoder.old states.old encoder.new states.new
+        (shifted (33 + at) (row_steps coding.now.set.now cell y 0
+        (chosen_row coding.now.set.now coding.now.bits cell y cell.width)))) }
+    ensures held { OnOk result (AllHeld coding.now.table.now states.new) }
+    ensures err { IfErr result (λ f. f ≡ fault.OutOfMemory) }
+{
+    kept_states();
+    two_parts();
+    counted_in_parts();
+    slots();
+    let set = coding.set;
+    set.bounded();
+    let end = at + set.contexts() as usize * 32;
+    let above = Above {
+        two: &rows.two,
+        one: &rows.one,
+    };
+    let Ok(()) = W::encode(encoder, coding, &mut states[at..end], &above, &rows.cur) else {
+        return Err(CodecFault::OutOfMemory);
+    };
+    Ok(())
+}
+
+/// A row of a plane is coded, by the set and the states of the plane's class.
+fn put_line<W: LineWord, R: Allocator, A: Allocator, B: Allocator>(
+    encoder: &mut RangeEncoder<R>,
+    states: &mut [u8],
+    rows: &RollingRows<Vec<W, R>>,
+    slice: &Slice<'_, A, B>,
+    plane: u32,
+) -> Result<(), CodecFault>
+    requires bits { W.holds (bits_of slice.now.checked.now.configuration) }
+    requires plane { plane < plane_count slice.now.checked.now.configuration }
+    requires some { 0 < length (W.samples rows.now.cur.items) }
+    requires two_long { length (W.samples rows.now.two.items)
+        ≡ length (W.samples rows.now.cur.items) }
+    requires one_long { length (W.samples rows.now.one.items)
+        ≡ length (W.samples rows.now.cur.items) }
+    requires room { length states.old ≡ states_in slice.now.checked.now.configuration }
+    requires held { AllHeld slice.now.checked.now.table states.old }
+    ensures ok { OnOk result ((cell : ℕ → Cell) (y : ℕ) → Loaded W.samples (cell plane) y rows.now →
+        PutsAfter slice.now.checked.now.table encoder.old states.old encoder.new states.new
+        (chosen_line slice.now.checked.now.configuration
+        (chosen_head slice.now.checked.now.configuration slice.now.info) cell
+        (record { plane = plane; y = y }))) }
+    ensures held { OnOk result (AllHeld slice.now.checked.now.table states.new) }
+    ensures err { IfErr result (λ f. f ≡ fault.OutOfMemory) }
+{
+    accepted();
+    let config = slice.checked.config();
+    let class = class_of(plane);
+    let set = config.sets.get(index_of(&config.sets, class));
+    let at = 32 * (config.sets.most_contexts() as usize * class);
+    let table = slice.checked.table();
+    let bits = bits_of(slice.checked);
+    let coding = LineCoding { table, set, bits };
+    put_row(encoder, &coding, states, at, rows)?;
+    Ok(())
+}
+
+/// The lines of a plane are coded, one after the other.
+fn put_plane<W: LineWord, R: Allocator, A: Allocator, B: Allocator>(
+    encoder: &mut RangeEncoder<R>,
+    states: &mut [u8],
+    rows: &mut RollingRows<Vec<W, R>>,
+    slice: &Slice<'_, A, B>,
+    plane: u32,
+) -> Result<(), CodecFault>
+    requires bits { W.holds (bits_of slice.now.checked.now.configuration) }
+    requires plain { is_rct slice.now.checked.now.configuration.colour ≡ false }
+    requires plane { plane < plane_count slice.now.checked.now.configuration }
+    requires room { length states.old ≡ states_in slice.now.checked.now.configuration }
+    requires held { AllHeld slice.now.checked.now.table states.old }
+    ensures ok { OnOk result (PutsAfter slice.now.checked.now.table encoder.old states.old
+        encoder.new states.new (chosen_body slice.now.checked.now.configuration
+        (chosen_head slice.now.checked.now.configuration slice.now.info)
+        (cell_in slice.now.checked.now.configuration slice.now.picture.now slice.now.number)
+        (lines_of_plane (cell_height slice.now.checked.now.configuration slice.now.number plane)
+        plane))) }
+    ensures held { OnOk result (AllHeld slice.now.checked.now.table states.new) }
+    ensures err { IfErr result (λ f. f ≡ fault.OutOfMemory) }
+{
+    rolling();
+    let cell = slice.cell(plane);
+    restart(rows, cell.width as usize)?;
+    for y in 0..cell.height {
+        load(rows, slice, plane, y);
+        put_line(encoder, states, rows, slice, plane)?;
+        rows.turn();
+    }
+    Ok(())
+}
+
+/// The planes of YCbCr are coded, one after the other (RFC 9043, 4.7).
+fn put_planes<W: LineWord, R: Allocator, A: Allocator, B: Allocator>(
+    encoder: &mut RangeEncoder<R>,
+    states: &mut [u8],
+    rows: &mut RollingRows<Vec<W, R>>,
+    slice: &Slice<'_, A, B>,
+) -> Result<(), CodecFault>
+    requires bits { W.holds (bits_of slice.now.checked.now.configuration) }
+    requires plain { is_rct slice.now.checked.now.configuration.colour ≡ false }
+    requires room { length states.old ≡ states_in slice.now.checked.now.configuration }
+    requires held { AllHeld slice.now.checked.now.table states.old }
+    ensures ok { OnOk result (PutsSamples slice.now encoder.old states.old encoder.new
+        states.new) }
+    ensures err { IfErr result (λ f. f ≡ fault.OutOfMemory) }
+{
+    for plane in 0..Grid::of(slice.checked).planes() {
+        put_plane(encoder, states, rows, slice, plane)?;
+    }
+    Ok(())
+}
+
+/// Where there is a plane of transparency, a row of it is coded.
+fn put_transparency<W: LineWord, R: Allocator, A: Allocator, B: Allocator>(
+    encoder: &mut RangeEncoder<R>,
+    states: &mut [u8],
+    rows: &PlaneRows<W, R>,
+    slice: &Slice<'_, A, B>,
+    y: u32,
+) -> Result<(), CodecFault>
+    requires bits { W.holds (bits_of slice.now.checked.now.configuration) }
+    requires loaded { AllLoaded W.samples slice.now.checked.now.configuration slice.now.picture.now
+        slice.now.number y rows.now }
+    requires room { length states.old ≡ states_in slice.now.checked.now.configuration }
+    requires held { AllHeld slice.now.checked.now.table states.old }
+    ensures ok { OnOk result (PutsAfter slice.now.checked.now.table encoder.old states.old
+        encoder.new states.new (chosen_body slice.now.checked.now.configuration
+        (chosen_head slice.now.checked.now.configuration slice.now.info)
+        (cell_in slice.now.checked.now.configuration slice.now.picture.now slice.now.number)
+        (fourth_line slice.now.checked.now.configuration.extra_plane y))) }
+    ensures held { OnOk result (AllHeld slice.now.checked.now.table states.new) }
+    ensures err { IfErr result (λ f. f ≡ fault.OutOfMemory) }
+{
+    let _cell = slice.cell(3);
+    if !slice.checked.config().extra_plane {
+        return Ok(());
+    }
+    put_line(encoder, states, &rows.fourth, slice, 3)?;
+    Ok(())
+}
+
+/// Line y of Y, Cb, Cr and transparency is coded.
+fn put_colours<W: ColourWord, R: Allocator, A: Allocator, B: Allocator>(
+    encoder: &mut RangeEncoder<R>,
+    states: &mut [u8],
+    rows: &mut PlaneRows<W, R>,
+    slice: &Slice<'_, A, B>,
+    y: u32,
+) -> Result<(), CodecFault>
+    requires bits { W.holds (bits_of slice.now.checked.now.configuration) }
+    requires rct { is_rct slice.now.checked.now.configuration.colour ≡ true }
+    requires inside { y < cell_height slice.now.checked.now.configuration slice.now.number 0 }
+    requires rolled { AllRolled W.samples slice.now.checked.now.configuration slice.now.picture.now
+        slice.now.number y rows.old }
+    requires room { length states.old ≡ states_in slice.now.checked.now.configuration }
+    requires held { AllHeld slice.now.checked.now.table states.old }
+    ensures rolled { OnOk result (AllRolled W.samples slice.now.checked.now.configuration
+        slice.now.picture.now slice.now.number (y + 1) rows.new) }
+    ensures ok { OnOk result (PutsAfter slice.now.checked.now.table encoder.old states.old
+        encoder.new states.new (chosen_body slice.now.checked.now.configuration
+        (chosen_head slice.now.checked.now.configuration slice.now.info)
+        (cell_in slice.now.checked.now.configuration slice.now.picture.now slice.now.number)
+        (planes_of_line (plane_count slice.now.checked.now.configuration) y))) }
+    ensures held { OnOk result (AllHeld slice.now.checked.now.table states.new) }
+    ensures err { IfErr result (λ f. f ≡ fault.OutOfMemory) }
+{
+    accepted_parts();
+    let _config = slice.checked.config();
+    let (_y, _cb, _cr) = (slice.cell(0), slice.cell(1), slice.cell(2));
+    load_all(rows, slice, y);
+    put_line(encoder, states, &rows.first, slice, 0)?;
+    put_line(encoder, states, &rows.second, slice, 1)?;
+    put_line(encoder, states, &rows.third, slice, 2)?;
+    put_transparency(encoder, states, rows, slice, y)?;
+    rows.turn();
+    Ok(())
+}
+
+/// The lines of RCT are coded, one after the other, each plane by plane (RFC 9043, 4.7).
+fn put_lines<W: ColourWord, R: Allocator, A: Allocator, B: Allocator>(
+    encoder: &mut RangeEncoder<R>,
+    states: &mut [u8],
+    rows: &mut PlaneRows<W, R>,
+    slice: &Slice<'_, A, B>,
+) -> Result<(), CodecFault>
+    requires bits { W.holds (bits_of slice.now.checked.now.configuration) }
+    requires rct { is_rct slice.now.checked.now.configuration.colour ≡ true }
+    requires room { length states.old ≡ states_in slice.now.checked.now.configuration }
+    requires held { AllHeld slice.now.checked.now.table states.old }
+    ensures ok { OnOk result (PutsSamples slice.now encoder.old states.old encoder.new
+        states.new) }
+    ensures err { IfErr result (λ f. f ≡ fault.OutOfMemory) }
+{
+    restart_all(rows, slice)?;
+    for y in 0..slice.cell(0).height {
+        put_colours(encoder, states, rows, slice, y)?;
+    }
+    Ok(())
+}
+
+/// The rows of either words. Those that are not used take no memory.
+#[derive(Drop)]
+pub(crate) struct SliceRows<A: Allocator> {
+    /// Of up to 16 bits a coded sample.
+    pub(crate) narrow: PlaneRows<u16, A>,
+    /// Of 17 bits.
+    pub(crate) wide: PlaneRows<u32, A>,
+}
+
+/// The lines of RCT are coded, in rows of the words that hold them.
+fn put_transformed<R: Allocator, A: Allocator, B: Allocator>(
+    encoder: &mut RangeEncoder<R>,
+    states: &mut [u8],
+    rows: &mut SliceRows<R>,
+    slice: &Slice<'_, A, B>,
+) -> Result<(), CodecFault>
+    requires rct { is_rct slice.now.checked.now.configuration.colour ≡ true }
+    requires room { length states.old ≡ states_in slice.now.checked.now.configuration }
+    requires held { AllHeld slice.now.checked.now.table states.old }
+    ensures ok { OnOk result (PutsSamples slice.now encoder.old states.old encoder.new
+        states.new) }
+    ensures err { IfErr result (λ f. f ≡ fault.OutOfMemory) }
+{
+    if bits_of(slice.checked) == 17 {
+        put_lines(encoder, states, &mut rows.wide, slice)?;
+        return Ok(());
+    }
+    put_lines(encoder, states, &mut rows.narrow, slice)?;
+    Ok(())
+}
+
+/// The samples of a slice are coded.
+pub(crate) fn put_body<R: Allocator, A: Allocator, B: Allocator>(
+    encoder: &mut RangeEncoder<R>,
+    states: &mut [u8],
+    rows: &mut SliceRows<R>,
+    slice: &Slice<'_, A, B>,
+) -> Result<(), CodecFault>
+    requires room { length states.old ≡ states_in slice.now.checked.now.configuration }
+    requires held { AllHeld slice.now.checked.now.table states.old }
+    ensures ok { OnOk result (PutsSamples slice.now encoder.old states.old encoder.new
+        states.new) }
+    ensures err { IfErr result (λ f. f ≡ fault.OutOfMemory) }
+{
+    if is_rct(slice.checked.config().colour) {
+        put_transformed(encoder, states, rows, slice)?;
+        return Ok(());
+    }
+    accepted();
+    put_planes(encoder, states, &mut rows.narrow.first, slice)?;
+    Ok(())
+}

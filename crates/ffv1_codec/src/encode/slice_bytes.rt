@@ -1,0 +1,173 @@
+//! The coded bytes of a slice.
+
+ghost use Rattle.std.specs.Prelude.{◌≡◌, ◌+◌, ◌^◌, ◌<◌, ◌≤◌, ◌++◌, ℕ, IfOk, IfErr, OnOk, length};
+ghost use Rattle.std.specs.Prelude.{OnErr, replicate, vec_capacity};
+ghost use Rattle.ffv1_range.specs.Writing.{unwritten};
+ghost use Rattle.ffv1_line.specs.Length.{row_decisions};
+ghost use Rattle.ffv1_record.specs.Held.{classes_of};
+ghost use Rattle.ffv1_slice.specs.Head.{key_steps, head_steps};
+ghost use Rattle.ffv1_codec.specs.declared.fault.CodecFault.TheVariants as fault;
+ghost use Rattle.ffv1_codec.specs.SliceList.{chosen_head, chosen_slice};
+ghost use Rattle.ffv1_codec.specs.Frame.{slice_bytes};
+ghost use Rattle.ffv1_codec.specs.Length.{slice_residuals, slice_renormalisations};
+ghost use Rattle.ffv1_codec.specs.Internal.HasPut.{HasPut, states_in};
+
+use crate::encode::cell_rows::PlaneRows;
+use crate::encode::slice::Slice;
+use crate::encode::slice_body::{SliceRows, put_body};
+use crate::fault::CodecFault;
+use crate::laws::slice_lengths;
+use ffv1_range::RangeEncoder;
+use ffv1_range::laws::{
+    counted_from_nothing, counted_in_parts, kept_states, named_states, slots, two_parts,
+};
+use ffv1_record::Checked;
+use ffv1_record::laws::accepted;
+use ffv1_slice::{put_head, put_key};
+use std::alloc::{AllocError, Allocator};
+
+/// What is kept from a slice to the next: the memory of the states and of the rows.
+#[derive(Drop)]
+pub(crate) struct Scratch<A: Allocator> {
+    pub(crate) states: Vec<u8, A>,
+    pub(crate) rows: SliceRows<A>,
+}
+
+impl<A: Allocator + Copy> Scratch<A> {
+    /// Nothing is kept yet. It takes no memory.
+    pub(crate) fn new(alloc: A) -> Scratch<A> {
+        Scratch {
+            states: Vec::new(alloc),
+            rows: SliceRows {
+                narrow: PlaneRows::new(alloc),
+                wide: PlaneRows::new(alloc),
+            },
+        }
+    }
+}
+
+/// A slice that was coded.
+#[derive(Drop)]
+pub(crate) struct Coded<A: Allocator> {
+    /// Its coded bytes.
+    pub(crate) bytes: Vec<u8, A>,
+    /// How many decisions its residuals took.
+    pub(crate) decisions: u64,
+}
+
+/// How many classes of planes there are.
+fn classes_of(chroma_planes: bool, extra_plane: bool) -> usize
+    ensures value { result ≡ classes_of chroma_planes extra_plane }
+    ensures few { result ≤ 3 }
+{
+    if extra_plane {
+        return 3;
+    }
+    if chroma_planes {
+        return 2;
+    }
+    1
+}
+
+/// How many states there are, of all classes.
+fn states_in<A: Allocator>(checked: &Checked<A>) -> usize
+    ensures { result ≡ states_in checked.now.configuration }
+{
+    let config = checked.config();
+    let classes = classes_of(config.chroma_planes, config.extra_plane);
+    32 * (config.sets.most_contexts() as usize * classes)
+}
+
+/// So many fresh states (RFC 9043, 3.8.1.3), in the memory that there is where they find room in
+/// it. None of it is given back.
+fn renew<A: Allocator>(states: &mut Vec<u8, A>, count: usize) -> Result<(), AllocError>
+    ensures fresh { OnOk result (states.new.items ≡ replicate count 128) }
+    ensures room { vec_capacity states.old ≤ vec_capacity states.new }
+    ensures full { OnErr result (vec_capacity states.old < count) }
+{
+    states.resize(count, 128)?;
+    states.fill(128);
+    Ok(())
+}
+
+/// The key and the head of a slice are put.
+fn put_beginning<R: Allocator, A: Allocator, B: Allocator>(
+    encoder: &mut RangeEncoder<R>,
+    slice: &Slice<'_, A, B>,
+) -> Result<(), CodecFault>
+    requires { encoder.old ≡ unwritten }
+    ensures ok { OnOk result ((count : ℕ) → HasPut slice.now.checked.now.table
+        (key_steps slice.now.number ++ head_steps slice.now.checked.now.configuration
+        slice.now.number (chosen_head slice.now.checked.now.configuration slice.now.info))
+        encoder.new (replicate count 128)) }
+    ensures err { IfErr result (λ f. f ≡ fault.OutOfMemory) }
+{
+    kept_states();
+    counted_in_parts();
+    slots();
+    two_parts();
+    let Ok(()) = put_key(encoder, slice.checked, slice.number) else {
+        return Err(CodecFault::OutOfMemory);
+    };
+    let head = slice.head();
+    let Ok(()) = put_head(encoder, slice.checked, slice.number, &head) else {
+        return Err(CodecFault::OutOfMemory);
+    };
+    Ok(())
+}
+
+/// The decisions of a slice are put, by fresh states: its key, its head and its residuals. How
+/// many those of its residuals were.
+fn put_slice<R: Allocator, A: Allocator, B: Allocator>(
+    encoder: &mut RangeEncoder<R>,
+    states: &mut [u8],
+    rows: &mut SliceRows<R>,
+    slice: &Slice<'_, A, B>,
+) -> Result<u64, CodecFault>
+    requires new { encoder.old ≡ unwritten }
+    requires fresh { states.old ≡ replicate (states_in slice.now.checked.now.configuration) 128 }
+    ensures ok { OnOk result (HasPut slice.now.checked.now.table
+        (chosen_slice slice.now.checked.now.configuration slice.now.picture.now slice.now.info
+        slice.now.number) encoder.new states.new) }
+    ensures decisions { IfOk result (λ d. d ≡ row_decisions (slice_residuals
+        slice.now.checked.now.configuration slice.now.picture.now slice.now.info
+        slice.now.number)) }
+    ensures err { IfErr result (λ f. f ≡ fault.OutOfMemory) }
+{
+    named_states();
+    counted_from_nothing();
+    accepted();
+    slice_lengths();
+    let _table = slice.checked.table();
+    let _structure = slice.info.structure();
+    put_beginning(encoder, slice)?;
+    let before = encoder.decisions();
+    put_body(encoder, states, rows, slice)?;
+    Ok(encoder.decisions() - before)
+}
+
+/// Codes a slice: its decisions, ended by the sentinel.
+pub(crate) fn code_slice<R: Allocator + Copy, A: Allocator, B: Allocator>(
+    alloc: R,
+    scratch: &mut Scratch<R>,
+    slice: &Slice<'_, A, B>,
+) -> Result<Coded<R>, CodecFault>
+    ensures bytes { IfOk result (λ c. c.bytes.items ≡ slice_bytes slice.now.checked.now
+        slice.now.picture.now slice.now.info slice.now.number) }
+    ensures long { IfOk result (λ c. length c.bytes.items ≡ slice_renormalisations
+        slice.now.checked.now slice.now.picture.now slice.now.info slice.now.number + 1) }
+    ensures decisions { IfOk result (λ c. c.decisions ≡ row_decisions (slice_residuals
+        slice.now.checked.now.configuration slice.now.picture.now slice.now.info
+        slice.now.number)) }
+    ensures err { IfErr result (λ f. f ≡ fault.OutOfMemory) }
+    ensures room { vec_capacity scratch.old.states ≤ vec_capacity scratch.new.states }
+{
+    renew(&mut scratch.states, states_in(slice.checked))?;
+    let mut encoder = RangeEncoder::new(alloc);
+    let states = scratch.states.as_mut_slice();
+    let decisions = put_slice(&mut encoder, states, &mut scratch.rows, slice)?;
+    let Ok(bytes) = encoder.finish_sentinel() else {
+        return Err(CodecFault::OutOfMemory);
+    };
+    Ok(Coded { bytes, decisions })
+}

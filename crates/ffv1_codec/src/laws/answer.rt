@@ -1,0 +1,234 @@
+//! Laws of what a payload is answered, each the contract of a function that does nothing.
+
+ghost use Rattle.std.specs.Prelude.{◌≡◌, ◌≢◌, ℕ, ◌≤◌, true, Result, Ok, Err, List, []};
+ghost use Rattle.ffv1_wire.specs.Runs.{Grows};
+ghost use Rattle.ffv1_range.specs.declared.tally.Tally.{Tally};
+ghost use Rattle.ffv1_range.specs.Codes.{AreBytes};
+ghost use Rattle.ffv1_range.specs.History.{decisions_after};
+ghost use Rattle.ffv1_range.specs.Symbols.{Step};
+ghost use Rattle.ffv1_range.specs.Weight.{AreHeldBy};
+ghost use Rattle.ffv1_record.specs.Accepted.{Accepted, IsAccepted};
+ghost use Rattle.ffv1_record.specs.declared.config.Profile.TheVariants as profile;
+ghost use Rattle.ffv1_range.specs.Standard.{standard};
+ghost use Rattle.ffv1_range.specs.Renormalising.{decisions_a_byte};
+ghost use Rattle.ffv1_codec.specs.declared.fault.FrameFault.{FrameFault};
+ghost use Rattle.ffv1_codec.specs.Picture.{Planes, Fits};
+ghost use Rattle.ffv1_codec.specs.SliceList.{Said};
+ghost use Rattle.ffv1_codec.specs.Frame.{CodesPicture};
+ghost use Rattle.ffv1_codec.specs.Lines.{lines_of};
+ghost use Rattle.ffv1_codec.specs.Answer.{Answers, decisions_in, decided_by, no_tally};
+ghost use Rattle.ffv1_codec.specs.Answer.{HasDecided, slices_in};
+ghost use Rattle.ffv1_codec.specs.Cost.{Costs, HasCost};
+ghost use Rattle.ffv1_codec.specs.Handed.{HandsFinishes};
+ghost use Rattle.ffv1_codec.specs.Outcome.{CountOf, FaultsOf};
+ghost use Rattle.ffv1_record.specs.Held.{held_of};
+ghost use Rattle.ffv1_record.specs.declared.checked.Held.{Held};
+ghost use Rattle.ffv1_codec.specs.Bounds.{most_decisions, most_by_bytes, most_by_standard};
+ghost use Rattle.ffv1_codec.specs.Headline.{StandsOnce, AreShort, DecodesTo, Headline};
+ghost use Rattle.ffv1_codec.specs.Headline.{StandsAtEachPlace};
+ghost use Rattle.ffv1_slice.specs.Cutting.{Cuts};
+ghost use Rattle.ffv1_codec.specs.declared.fault.CodecFault.TheVariants as codec_fault;
+ghost use Rattle.ffv1_codec.specs.Damage.{IsBurst};
+ghost use Rattle.ffv1_codec.specs.DecodeFaults.{is_decode_fault};
+ghost use Rattle.ffv1_codec.specs.Decoding as decoding;
+ghost use Rattle.ffv1_codec.specs.Decoding.{State, Decodes, Offers, in_slice};
+
+use crate::laws::decoding::{decoded, handed, is_decoded, one_end};
+use crate::laws::{encoded_frame, sides};
+use ffv1_line::laws::{lengths as line_lengths, suiting_rows};
+use ffv1_range::laws::{
+    cost, decisions_by_renormalisations, decisions_renormalise, lengths as decision_lengths,
+};
+use ffv1_record::laws::{accepted, burst};
+use ffv1_slice::laws::{cutting, lengths, one_cutting};
+use ffv1_wire::LineSink;
+
+/// The lines of a picture are each row of each plane once, of each plane from the top; they
+/// determine its planes; and at each place of the planes stands that line, once, and at no other
+/// place any.
+pub fn each_line_once()
+    ensures rows { (a : Accepted) (planes : Planes) → IsAccepted a.configuration a.table →
+        StandsOnce a planes }
+    ensures planes { (a : Accepted) (planes others : Planes) → IsAccepted a.configuration a.table →
+        Fits a.configuration planes → Fits a.configuration others →
+        lines_of a.configuration planes ≡ lines_of a.configuration others → planes ≡ others }
+    ensures places { (a : Accepted) (planes : Planes) → IsAccepted a.configuration a.table →
+        StandsAtEachPlace a.configuration planes }
+{
+    sides();
+}
+
+/// A payload codes one picture at most, with one structure and aspect.
+pub fn one_picture()
+    ensures { (a : Accepted) (payload : List ℕ) (planes others : Planes) (info other : Said) →
+        IsAccepted a.configuration a.table → AreBytes payload →
+        CodesPicture a payload planes info → CodesPicture a payload others other →
+        (planes ≡ others) × (info ≡ other) }
+{
+    one_cutting();
+    is_decoded();
+    one_end();
+    each_line_once();
+}
+
+/// Where the answer is Ok, the payload codes a picture, whose lines the sink took; and a payload
+/// that codes a picture is answered Ok, or the sink refused the line that came next.
+pub fn answered<S: LineSink>()
+    ensures found { (a : Accepted) (payload : List ℕ) (old new : S) (tally : Tally) (info : Said) →
+        IsAccepted a.configuration a.table →
+        Answers S.takes S.refuses a payload old new tally (Ok info) →
+        (planes : Planes) × CodesPicture a payload planes info
+        × Grows S.takes old (lines_of a.configuration planes) new }
+    ensures only { (a : Accepted) (payload : List ℕ) (planes : Planes) (info : Said) (old new : S)
+        (tally : Tally) (result : Result Said FrameFault) →
+        IsAccepted a.configuration a.table → AreBytes payload →
+        CodesPicture a payload planes info →
+        Answers S.takes S.refuses a payload old new tally result →
+        DecodesTo S.takes S.refuses a old new result planes info }
+{
+    cutting();
+    decoded();
+    is_decoded();
+    one_end();
+}
+
+/// However decoding ends, at its end, at its first fault or at a line that is handed over, few
+/// decisions were made; so a tally tells few.
+pub fn few_decisions<S: LineSink>()
+    ensures end { (a : Accepted) (coded : ℕ → List ℕ) (t : State) →
+        IsAccepted a.configuration a.table → Decodes a coded t →
+        decisions_in t ≤ most_decisions a.configuration }
+    ensures fault { (a : Accepted) (coded : ℕ → List ℕ) (f : FrameFault) (t : State) →
+        IsAccepted a.configuration a.table → decoding.Refuses a coded f t →
+        decisions_in t ≤ most_decisions a.configuration }
+    ensures offered { (a : Accepted) (coded : ℕ → List ℕ) (r i p y : ℕ) (t : State) →
+        IsAccepted a.configuration a.table → Offers a coded r i p y t →
+        decisions_in t ≤ most_decisions a.configuration }
+    ensures answer { (a : Accepted) (payload : List ℕ) (old new : S) (tally : Tally)
+        (result : Result Said FrameFault) → IsAccepted a.configuration a.table →
+        Answers S.takes S.refuses a payload old new tally result →
+        decided_by tally ≤ most_decisions a.configuration }
+{
+    accepted();
+    suiting_rows();
+    line_lengths();
+    lengths();
+    decision_lengths();
+    sides();
+}
+
+/// In `Wide` a tally tells few decisions for the coded bytes of the payload, however decoding ends:
+/// at most `decisions_a_byte` for each of them and as many a slice, at least 169, and 63 for each
+/// sample of one line of its cell. By the standard's table these are 197 for each and 197 a slice.
+pub fn few_by_bytes<S: LineSink>()
+    ensures table { (a : Accepted) (payload : List ℕ) (old new : S) (tally : Tally)
+        (result : Result Said FrameFault) → IsAccepted a.configuration a.table →
+        a.profile ≡ profile.Wide → Answers S.takes S.refuses a payload old new tally result →
+        decided_by tally ≤ most_by_bytes (decisions_a_byte a.table.floor) a.configuration payload }
+    ensures standard { (a : Accepted) (payload : List ℕ) (old new : S) (tally : Tally)
+        (result : Result Said FrameFault) → IsAccepted a.configuration a.table →
+        a.profile ≡ profile.Wide → a.table ≡ standard →
+        Answers S.takes S.refuses a payload old new tally result →
+        decided_by tally ≤ most_by_standard a.configuration payload }
+{
+    accepted();
+    suiting_rows();
+    line_lengths();
+    lengths();
+    decision_lengths();
+    decisions_by_renormalisations();
+    decisions_renormalise();
+    sides();
+    cutting();
+}
+
+/// Each decision of a slice has a state that the table holds; and what the decisions of a frame
+/// cost, by its tally, however decoding ends: its renormalisations are little more than the weight
+/// of the decisions asks for, and little fewer.
+pub fn cost_of_frame<S: LineSink>()
+    ensures held { (a : Accepted) (past : List Step) → IsAccepted a.configuration a.table →
+        AreHeldBy a.table.floor (decisions_after a.table [] past) }
+    ensures state { (a : Accepted) (s : State) (tally : Tally) →
+        IsAccepted a.configuration a.table → decisions_in s ≤ most_decisions a.configuration →
+        HasDecided a.table s tally → Costs a.table (slices_in s) tally }
+    ensures answer { (a : Accepted) (payload : List ℕ) (old new : S) (tally : Tally)
+        (result : Result Said FrameFault) → IsAccepted a.configuration a.table →
+        Answers S.takes S.refuses a payload old new tally result → HasCost a tally }
+{
+    accepted();
+    cost();
+    few_decisions::<S>();
+}
+
+/// However a payload is answered, the sink was handed finishes of lines that the bytes of its
+/// slices code, and no other line, also before a fault and where the sink refused one.
+pub fn handed_lines<S: LineSink>()
+    ensures { (a : Accepted) (payload : List ℕ) (old new : S) (tally : Tally)
+        (result : Result Said FrameFault) → IsAccepted a.configuration a.table →
+        Answers S.takes S.refuses a payload old new tally result →
+        HandsFinishes S.takes S.refuses a payload old new }
+{
+    handed();
+}
+
+/// What decoding makes of a payload, whatever the sink: an answer Ok comes with the payload's
+/// count, and one of a fault, the sink's aside, with that first fault and what was decided before
+/// it. A payload has one count or one first fault, and no two of them.
+pub fn outcomes<S: LineSink>()
+    ensures count { (a : Accepted) (payload : List ℕ) (old new : S) (tally : Tally)
+        (info : Said) → Answers S.takes S.refuses a payload old new tally (Ok info) →
+        CountOf a payload tally }
+    ensures fault { (a : Accepted) (payload : List ℕ) (old new : S) (tally : Tally)
+        (f : FrameFault) → f.fault ≢ codec_fault.Sink →
+        Answers S.takes S.refuses a payload old new tally (Err f) → FaultsOf a payload f tally }
+    ensures one_count { (a : Accepted) (payload : List ℕ) (t u : Tally) →
+        IsAccepted a.configuration a.table → AreBytes payload → CountOf a payload t →
+        CountOf a payload u → t ≡ u }
+    ensures apart { (a : Accepted) (payload : List ℕ) (t u : Tally) (f : FrameFault) →
+        IsAccepted a.configuration a.table → AreBytes payload → CountOf a payload t →
+        FaultsOf a payload f u → ⊥ }
+    ensures one_fault { (a : Accepted) (payload : List ℕ) (t u : Tally) (f g : FrameFault) →
+        IsAccepted a.configuration a.table → AreBytes payload → FaultsOf a payload f t →
+        FaultsOf a payload g u → (f ≡ g) × (t ≡ u) }
+{
+    one_end();
+}
+
+/// Whatever the payload and the sink, a fault that is answered is one of decoding: of cutting it,
+/// of a slice's start, key or head, of a symbol or a colour, or the sink's.
+pub fn decode_faults<S: LineSink>()
+    ensures { (a : Accepted) (payload : List ℕ) (old new : S) (tally : Tally) (f : FrameFault) →
+        Answers S.takes S.refuses a payload old new tally (Err f) →
+        is_decode_fault f.fault ≡ true }
+{
+    cutting();
+}
+
+/// With parity, a payload that differs from a good one within 32 neighbouring bits of one slice,
+/// its slice_size aside, is answered by the parity of that slice, before any line and any decision.
+pub fn damaged<S: LineSink>()
+    ensures { (a : Accepted) (sent payload : List ℕ) (spans : ℕ → ℕ) (s : ℕ) (old new : S)
+        (tally : Tally) (result : Result Said FrameFault) → AreBytes sent → AreBytes payload →
+        Cuts a.configuration sent spans → IsBurst a.configuration sent payload spans s →
+        Answers S.takes S.refuses a payload old new tally result →
+        (result ≡ Err (in_slice codec_fault.SliceParity s)) × (tally ≡ no_tally) × (new ≡ old) }
+{
+    burst();
+    cutting();
+}
+
+/// What a call of the decoder is for, from its answer, its bytes, and what it holds: one statement,
+/// whatever the payload and the sink. That encoded frames are short is the encoder's.
+pub fn headline<S: LineSink>()
+    ensures { (a : Accepted) (payload : List ℕ) (old new : S) (result : Result Said FrameFault)
+        (tally : Tally) (held : Held) → IsAccepted a.configuration a.table → AreBytes payload →
+        AreShort a → Answers S.takes S.refuses a payload old new tally result →
+        held ≡ held_of a.configuration →
+        Headline S.takes S.refuses a old new result payload tally held }
+{
+    answered::<S>();
+    each_line_once();
+    encoded_frame();
+    few_decisions::<S>();
+    few_by_bytes::<S>();
+}

@@ -1,0 +1,29 @@
+use Rattle.std.proofs.Common.{ap, ◌∙◌, sym, ℕ, ℤ, ◌+◌, slice_index, map}
+use Rattle.std.proofs.lemmas.Simd.{map-map}
+use Rattle.std.proofs.lemmas.List.FromFn.{length-range_with_len}
+use Rattle.std.specs.List.{range_with_len}
+use Rattle.ffv1_plane.specs.declared.prediction.Around.{Around}
+use Rattle.ffv1_plane.specs.Context.{size_of, flip_of}
+use Rattle.ffv1_plane.specs.Residual.{chosen_of}
+use Rattle.ffv1_plane.specs.Lanes.{modulo_512}
+use Rattle.ffv1_line.specs.Beside.{beside}
+use Rattle.ffv1_line.proofs.BlockLanes.{block_lanes}
+use Rattle.ffv1_line.proofs.Narrow.{unsigned}
+use Rattle.ffv1_line.proofs.encode.block.prepare_lanes.Goals as goal
+
+pub returns : goal.returns
+returns g c =
+    let q = c.requires in
+    let p = c.args.part.now in
+    let two = p.two.now in
+    let one = p.one.now in
+    let cur = p.cur.now in
+    let x = p.from + c.args.at in
+    let places = range_with_len x 16 in
+    let long = length-range_with_len x 16 in
+    let loaded = c.around_lanes.ensures in
+    let sizes = c.choose_lanes.ensures.sizes places (beside two one cur) long loaded.around in
+    let residuals = c.choose_lanes.ensures.residuals places (beside two one cur) (slice_index cur) long loaded.around loaded.samples loaded.small in
+    block_lanes p c.args.at _ _ _ _ q.part.bits q.contexts q.residuals c.bounded.ensures.below q.done
+    (ap (map (λ (n : ℕ). n)) sizes ∙ map-map (λ (n : ℕ). n) (λ (k : ℕ). size_of p.set.now (beside two one cur k)) places)
+    (residuals ∙ ap (λ (f : Around → ℤ). map (λ (k : ℕ). modulo_512 (chosen_of p.bits (f (beside two one cur k)) (flip_of p.set.now (beside two one cur k)) (slice_index cur k))) places) (sym (unsigned p.bits q.part.bits)))

@@ -1,0 +1,102 @@
+//! Zeros at places of equal neighbours are decoded: the samples above and to the left are one.
+
+ghost use Rattle.std.specs.Prelude.{◌≡◌, ℕ, ◌<◌, slice_index};
+ghost use Rattle.ffv1_range.specs.Table.{Holds};
+ghost use Rattle.ffv1_line.specs.Internal.Along.{IsEqualContext};
+ghost use Rattle.ffv1_line.specs.Internal.Places.{MayComeAgain, Carries, StandsAt, ReadZeros};
+ghost use Rattle.ffv1_line.specs.Internal.Places.{kept_apart};
+ghost use Rattle.ffv1_line.specs.Internal.Places.{ReadZerosBy};
+ghost use Rattle.ffv1_line.specs.Coder.{decoder_by};
+
+use crate::decode::places::{Behind, Places};
+use ffv1_plane::{deep_sample, late_context, predict_late};
+use ffv1_range::RangeDecoder;
+use std::alloc::Allocator;
+
+/// The places of a block from `start` to before its last, as long as their neighbours are equal and
+/// their symbols zeros: the early sum is that of the first, and the samples above and to the left
+/// are one, which comes again. `state` is that of the first decision of a context, which all of
+/// them have. Answers the first place that is left.
+#[inline(always)]
+fn take_equal<B: Allocator>(
+    decoder: &mut RangeDecoder<'_>,
+    places: &Places<'_, B>,
+    state: &mut u8,
+    cur: &mut [u16],
+    behind: &mut Behind,
+    start: usize,
+) -> usize
+    requires may { MayComeAgain places.now state.old cur.old behind.old start }
+    ensures inside { result < places.now.count }
+    ensures begins { Carries places.now result cur.new behind.new }
+    ensures read { (size : ℕ) →
+        IsEqualContext places.now.set.now (slice_index places.now.early.now.sum start) behind.old.l
+        behind.old.ll size →
+        IsEqualContext places.now.set.now (slice_index places.now.early.now.sum start) behind.old.l
+        behind.old.l size →
+        ReadZerosBy places.now size start (kept_apart decoder.old state.old cur.old) result
+        (kept_apart decoder.new state.new cur.new) }
+    ensures held { Holds places.now.table.now state.new }
+{
+    let Places {
+        table,
+        early,
+        from,
+        count,
+        ..
+    } = *places;
+    let sum = early.sum[start];
+    for at in start..count - 1 {
+        if early.t[at] != behind.l || early.sum[at] != sum {
+            return at;
+        }
+        if !decoder.take_zero(table, state) {
+            return at;
+        }
+        cur[from + at] = behind.l;
+        behind.ll = behind.l;
+    }
+    count - 1
+}
+
+/// The places of a block from `start` on whose neighbours are equal and whose symbols are zeros:
+/// the samples above and to the left are one, and so is each that comes. Their context is one,
+/// whose state is kept apart. Answers the first place that is left, from `start` to the last one.
+#[inline(never)]
+pub(crate) fn decode_equal<B: Allocator>(
+    decoder: &mut RangeDecoder<'_>,
+    places: &Places<'_, B>,
+    states: &mut [u8],
+    cur: &mut [u16],
+    behind: &mut Behind,
+    start: usize,
+) -> usize
+    requires stands { StandsAt places.now states.old cur.old behind.old start }
+    requires left { slice_index places.now.early.now.tl start ≡ behind.old.l }
+    requires top { slice_index places.now.early.now.t start ≡ behind.old.l }
+    ensures stands { StandsAt places.now states.new cur.new behind.new result }
+    ensures read { ReadZeros places.now start (decoder_by decoder.old states.old) cur.old result
+        (decoder_by decoder.new states.new) cur.new }
+{
+    let Places {
+        set,
+        bits,
+        early,
+        ..
+    } = *places;
+    let Behind { ll, l } = *behind;
+    let sum = early.sum[start];
+    let (size, _) = late_context(set, sum, l, l, ll, false);
+    let (next, _) = late_context(set, sum, l, l, l, false);
+    // A sample of more bits, as only a row from elsewhere has, does not come again.
+    if size != next || deep_sample(predict_late(l, l, l, l), false, 0, bits) != l {
+        return start;
+    }
+    let slot = size as usize * 32;
+    let mut state = states[slot];
+    let mut local = decoder.take();
+    let left = take_equal(&mut local, places, &mut state, cur, behind, start);
+    states[slot] = state;
+    *decoder = local;
+    left
+}

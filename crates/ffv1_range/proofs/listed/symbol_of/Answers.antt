@@ -1,9 +1,0 @@
-use Rattle.std.proofs.Common.{◌≡◌, ◌+◌, ◌-◌, ◌*◌, take, drop, ap, arith}
-use Rattle.ffv1_range.specs.declared.symbol_table.TheConstants.{SYMBOLS}
-use Rattle.ffv1_range.proofs.listed.symbol_of.Goals as goal
-
-pub returns : goal.returns
-returns c =
-    let residual = c.args.residual in
-    let wide : residual * 24 + 24 - residual * 24 ≡ 24 = omega arith in
-    ap (λ k. take k (drop (residual * 24) SYMBOLS)) wide

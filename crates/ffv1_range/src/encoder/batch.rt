@@ -1,0 +1,465 @@
+//! Decisions of a list are written.
+
+ghost use Rattle.std.specs.Prelude.{◌≡◌, ℕ, ◌+◌, ◌*◌, ◌/◌, ◌^◌, ◌≤◌, ◌<◌, [], ◌∷◌, OnOk, OnErr};
+ghost use Rattle.std.specs.Prelude.{IfOk, IfErr, IsTrue, length, false, List, ◌++◌, take, drop};
+ghost use Rattle.std.specs.Prelude.{map};
+ghost use Rattle.std.specs.Prelude.{slice_index};
+ghost use Rattle.std.specs.Vec.{vec_capacity, vec_len};
+ghost use Rattle.ffv1_range.specs.Interval.{narrow, part, renormalised};
+ghost use Rattle.ffv1_range.specs.Codes.{value, AreBytes};
+ghost use Rattle.ffv1_range.specs.Symbols.{AllHeld, shifted, signed_steps};
+ghost use Rattle.ffv1_range.specs.History.{AreBelow};
+ghost use Rattle.ffv1_range.specs.Counts.{ones_in};
+ghost use Rattle.ffv1_range.specs.Listed.{step_of, steps_of, of_nine_bits};
+ghost use Rattle.ffv1_range.specs.Puts.{Puts, Grows, MayBeRefused};
+ghost use Rattle.ffv1_range.specs.Writing.{refused_writing};
+ghost use Rattle.ffv1_range.specs.Internal.Registers.{Writes, IsWriting, IsHolding, IsMarked};
+ghost use Rattle.ffv1_range.specs.Internal.Registers.{IsMarkedPart, interval_from, interval_held};
+ghost use Rattle.ffv1_range.specs.Internal.Registers.{interval_marked, standing, standing_marked};
+ghost use Rattle.ffv1_range.specs.Internal.Registers.{held_in, low_in};
+ghost use Rattle.ffv1_range.specs.declared.encoder.symbol_table.TheConstants.{SYMBOLS, LENGTHS};
+
+use crate::encoder::symbol_table::{LENGTHS, SYMBOLS};
+use crate::encoder::{FIRST_WIDTH, RangeEncoder, Span, carry, emit};
+use crate::fault::Fault;
+use crate::table::StateTable;
+use std::alloc::{AllocError, Allocator};
+
+/// What an encoder's interval has beside its bytes while a list is written: its low end, with up to
+/// four bytes that are held back, and its width. The low end is marked: one bit more, 2^31 where no
+/// byte is held back and eight places further up for each one that is, tells how many they are.
+// No count beside it: the mark is shifted with the low end, and that four bytes are held back is
+// the highest bit.
+#[derive(Clone, Copy, Drop)]
+struct Marked {
+    low: u64,
+    width: u32,
+}
+
+/// The same without a mark: how many bytes are held back stands beside the low end.
+#[derive(Clone, Copy, Drop)]
+struct Holding {
+    low: u64,
+    width: u32,
+    held: u32,
+}
+
+/// The mark where no byte is held back.
+const MARK: u64 = 1 << 31;
+
+/// The mark where four bytes are held back.
+const FULL: u64 = 1 << 63;
+
+/// The part of a decision.
+#[inline(always)]
+fn part_marked(bytes: &[u8], marked: Marked, state: u8, bit: bool) -> Marked
+    requires marked { IsMarked bytes.now marked.low marked.width }
+    requires few { held_in marked.low < 4 }
+    requires positive { 0 < state }
+    ensures interval { interval_marked bytes.now result.low result.width ≡
+        part (interval_marked bytes.now marked.low marked.width) state bit }
+    ensures part { IsMarkedPart bytes.now result.low result.width }
+{
+    let Marked { low, width } = marked;
+    let upper = width * u32::from(state) / 256;
+    let lower = width - upper;
+    if bit {
+        return Marked {
+            low: low + u64::from(lower),
+            width: upper,
+        };
+    }
+    Marked { low, width: lower }
+}
+
+/// A part that is narrower than 256 takes a byte more.
+#[inline(always)]
+fn renormalise_marked(bytes: &[u8], part: Marked) -> Marked
+    requires { IsMarkedPart bytes.now part.low part.width }
+    ensures interval { interval_marked bytes.now result.low result.width ≡
+        renormalised (interval_marked bytes.now part.low part.width) }
+    ensures marked { IsMarked bytes.now result.low result.width }
+{
+    let Marked { low, width } = part;
+    if width < 256 {
+        return Marked {
+            low: low * 256,
+            width: width * 256,
+        };
+    }
+    part
+}
+
+/// Four places of a number, big end first.
+#[inline(always)]
+fn push_word<A: Allocator>(bytes: &mut Vec<u8, A>, word: u32) -> Result<(), AllocError>
+    requires { AreBytes bytes.old.items }
+    ensures value { OnOk result (value bytes.new.items (length bytes.new.items) ≡
+        4294967296 * value bytes.old.items (length bytes.old.items) + word) }
+    ensures long { OnOk result (length bytes.new.items ≡ length bytes.old.items + 4) }
+    ensures full { OnErr result (vec_capacity bytes.old < vec_len bytes.old + 4) }
+    ensures bytes_fit { OnOk result (AreBytes bytes.new.items) }
+{
+    bytes.extend_from_slice(&word.to_be_bytes())?;
+    Ok(())
+}
+
+/// Four places more of a number with its bytes big end first. A top of 2^32 or more carries into
+/// the bytes before.
+#[inline(always)]
+fn emit_word<A: Allocator>(bytes: &mut Vec<u8, A>, top: u64) -> Result<(), AllocError>
+    requires bytes_fit { AreBytes bytes.old.items }
+    requires below { top < 8589934592 }
+    requires room { 4294967296 * value bytes.old.items (length bytes.old.items) + top <
+        4294967296 * 256 ^ length bytes.old.items }
+    ensures value { OnOk result (value bytes.new.items (length bytes.new.items) ≡
+        4294967296 * value bytes.old.items (length bytes.old.items) + top) }
+    ensures long { OnOk result (length bytes.new.items ≡ length bytes.old.items + 4) }
+    ensures full { OnErr result (vec_capacity bytes.old < vec_len bytes.old + 4) }
+    ensures bytes_fit { OnOk result (AreBytes bytes.new.items) }
+{
+    if top < 4294967296 {
+        push_word(bytes, top as u32)?;
+        return Ok(());
+    }
+    carry(bytes);
+    push_word(bytes, (top - 4294967296) as u32)?;
+    Ok(())
+}
+
+/// Narrows the interval by a decision, and gives out four bytes where they are held back.
+#[inline(always)]
+fn narrow_marked<A: Allocator>(
+    bytes: &mut Vec<u8, A>,
+    marked: &mut Marked,
+    state: u8,
+    bit: bool,
+) -> Result<(), AllocError>
+    requires marked { IsMarked bytes.old.items marked.old.low marked.old.width }
+    requires few { held_in marked.old.low < 4 }
+    requires positive { 0 < state }
+    ensures ok { OnOk result (interval_marked bytes.new.items marked.new.low marked.new.width ≡
+        narrow (interval_marked bytes.old.items marked.old.low marked.old.width) state bit) }
+    ensures refused { OnErr result (
+        (interval_marked bytes.old.items marked.old.low marked.old.width).count <
+        (narrow (interval_marked bytes.old.items marked.old.low marked.old.width) state
+        bit).count) }
+    ensures full { OnErr result (vec_capacity bytes.old < vec_len bytes.old + 4) }
+    ensures marked { OnOk result (IsMarked bytes.new.items marked.new.low marked.new.width) }
+    ensures few { OnOk result (held_in marked.new.low < 4) }
+    ensures grown { OnOk result (length bytes.old.items ≤ length bytes.new.items) }
+{
+    let part = part_marked(bytes, *marked, state, bit);
+    let next = renormalise_marked(bytes, part);
+    if next.low < FULL {
+        *marked = next;
+        return Ok(());
+    }
+    emit_word(bytes, (next.low - FULL) / 65536)?;
+    *marked = Marked {
+        low: next.low % 65536 + MARK,
+        width: next.width,
+    };
+    Ok(())
+}
+
+/// A decision of a list.
+#[inline(always)]
+fn put_listed<A: Allocator>(
+    bytes: &mut Vec<u8, A>,
+    marked: &mut Marked,
+    table: &StateTable,
+    states: &mut [u8],
+    step: u32,
+) -> Result<(), AllocError>
+    requires marked { IsMarked bytes.old.items marked.old.low marked.old.width }
+    requires few { held_in marked.old.low < 4 }
+    requires held { AllHeld table.now states.old }
+    requires slot { step / 512 < length states.old }
+    ensures writes { OnOk result (Writes table.now
+        (standing_marked bytes.old.items marked.old.low marked.old.width)
+        states.old
+        (standing_marked bytes.new.items marked.new.low marked.new.width)
+        states.new (step_of step ∷ [])) }
+    ensures refused { OnErr result (Grows table.now
+        (interval_marked bytes.old.items marked.old.low marked.old.width)
+        states.old (step_of step ∷ [])) }
+    ensures marked { OnOk result (IsMarked bytes.new.items marked.new.low marked.new.width) }
+    ensures few { OnOk result (held_in marked.new.low < 4) }
+    ensures grown { OnOk result (length bytes.old.items ≤ length bytes.new.items) }
+    ensures held { AllHeld table.now states.new }
+{
+    let slot = (step / 512) as usize;
+    let bit = step / 256 % 2 == 1;
+    let before = states[slot];
+    states[slot] = table.after_listed(before, step);
+    narrow_marked(bytes, marked, before, bit)?;
+    Ok(())
+}
+
+/// The decisions of a list, with what is held back.
+#[inline(always)]
+fn put_each<A: Allocator>(
+    bytes: &mut Vec<u8, A>,
+    marked: &mut Marked,
+    table: &StateTable,
+    states: &mut [u8],
+    list: &[u32],
+) -> Result<(), AllocError>
+    requires marked { IsMarked bytes.old.items marked.old.low marked.old.width }
+    requires few { held_in marked.old.low < 4 }
+    requires held { AllHeld table.now states.old }
+    requires slots { AreBelow (steps_of list.now) (length states.old) }
+    ensures writes { OnOk result (Writes table.now
+        (standing_marked bytes.old.items marked.old.low marked.old.width)
+        states.old
+        (standing_marked bytes.new.items marked.new.low marked.new.width)
+        states.new (steps_of list.now)) }
+    ensures refused { OnErr result (Grows table.now
+        (interval_marked bytes.old.items marked.old.low marked.old.width)
+        states.old (steps_of list.now)) }
+    ensures marked { OnOk result (IsMarked bytes.new.items marked.new.low marked.new.width) }
+    ensures few { OnOk result (held_in marked.new.low < 4) }
+    ensures grown { OnOk result (length bytes.old.items ≤ length bytes.new.items) }
+    ensures held { AllHeld table.now states.new }
+{
+    for step in list {
+        put_listed(bytes, marked, table, states, *step)?;
+    }
+    Ok(())
+}
+
+/// How many bytes are held back, by the mark.
+#[inline(always)]
+fn held_back(low: u64) -> u32
+    requires { held_in low < 4 }
+    ensures { result ≡ held_in low }
+{
+    if low < 1 << 39 {
+        return 0;
+    }
+    if low < 1 << 47 {
+        return 1;
+    }
+    if low < 1 << 55 {
+        return 2;
+    }
+    3
+}
+
+/// A low end without its mark, and beside it how many bytes are held back.
+#[inline(always)]
+fn unmark(marked: Marked) -> Holding
+    requires some { 2 ^ 31 ≤ marked.low }
+    requires few { held_in marked.low < 4 }
+    ensures low { result.low ≡ low_in marked.low }
+    ensures held { result.held ≡ held_in marked.low }
+    ensures width { result.width ≡ marked.width }
+{
+    let Marked { low, width } = marked;
+    let held = held_back(low);
+    Holding {
+        low: low - (MARK << (8 * held)),
+        width,
+        held,
+    }
+}
+
+/// Gives out the first of the bytes that are held back.
+#[inline(always)]
+fn release<A: Allocator>(bytes: &mut Vec<u8, A>, holding: &mut Holding) -> Result<(), AllocError>
+    requires holding { IsHolding bytes.old.items holding.old.low holding.old.width
+        holding.old.held }
+    requires some { 0 < holding.old.held }
+    requires few { holding.old.held < 4 }
+    ensures same { OnOk result (
+        interval_held bytes.new.items holding.new.low holding.new.width holding.new.held ≡
+        interval_held bytes.old.items holding.old.low holding.old.width holding.old.held) }
+    ensures holding { OnOk result (IsHolding bytes.new.items holding.new.low holding.new.width
+        holding.new.held) }
+    ensures less { OnOk result (holding.new.held + 1 ≡ holding.old.held) }
+    ensures full { OnErr result (vec_capacity bytes.old ≤ vec_len bytes.old) }
+{
+    let Holding { low, width, held } = *holding;
+    let places = 8 * held + 8;
+    emit(bytes, (low >> places) as u32)?;
+    *holding = Holding {
+        low: low % (1 << places),
+        width,
+        held: held - 1,
+    };
+    Ok(())
+}
+
+/// Gives out the bytes that are held back.
+#[inline(always)]
+fn release_all<A: Allocator>(
+    bytes: &mut Vec<u8, A>,
+    holding: &mut Holding,
+) -> Result<(), AllocError>
+    requires holding { IsHolding bytes.old.items holding.old.low holding.old.width
+        holding.old.held }
+    requires few { holding.old.held < 4 }
+    ensures same { OnOk result (
+        interval_held bytes.new.items holding.new.low holding.new.width holding.new.held ≡
+        interval_held bytes.old.items holding.old.low holding.old.width holding.old.held) }
+    ensures holding { OnOk result (IsHolding bytes.new.items holding.new.low holding.new.width
+        holding.new.held) }
+    ensures none { OnOk result (holding.new.held ≡ 0) }
+    ensures refused { OnErr result (0 < holding.old.held) }
+{
+    'held: while holding.held > 0 {
+        release(bytes, holding)?;
+    }
+    Ok(())
+}
+
+/// The decisions of a list, with the interval in locals.
+#[inline(always)]
+fn put_list<A: Allocator>(
+    bytes: &mut Vec<u8, A>,
+    span: &mut Span,
+    table: &StateTable,
+    states: &mut [u8],
+    list: &[u32],
+) -> Result<(), AllocError>
+    requires writing { IsWriting bytes.old.items span.old.low span.old.width }
+    requires held { AllHeld table.now states.old }
+    requires slots { AreBelow (steps_of list.now) (length states.old) }
+    ensures writes { OnOk result (Writes table.now
+        (standing bytes.old.items span.old.low span.old.width) states.old
+        (standing bytes.new.items span.new.low span.new.width) states.new (steps_of list.now)) }
+    ensures refused { OnErr result (Grows table.now
+        (interval_from bytes.old.items span.old.low span.old.width) states.old
+        (steps_of list.now)) }
+    ensures writing { OnOk result (IsWriting bytes.new.items span.new.low span.new.width) }
+    ensures held { AllHeld table.now states.new }
+{
+    let mut marked = Marked {
+        low: u64::from(span.low) + MARK,
+        width: span.width,
+    };
+    put_each(bytes, &mut marked, table, states, list)?;
+    let mut holding = unmark(marked);
+    release_all(bytes, &mut holding)?;
+    span.low = holding.low as u32;
+    span.width = holding.width;
+    Ok(())
+}
+
+/// How many decisions of a list are 1.
+// Apart from the loop that puts them: a sum alone takes four at once.
+#[inline(always)]
+fn ones_of(list: &[u32]) -> u32
+    requires { length list.now < 2 ^ 32 }
+    ensures value { result ≡ ones_in (steps_of list.now) }
+    ensures of_all { result ≤ length list.now }
+{
+    let mut ones = 0u32;
+    for step in list {
+        ones += *step / 256 % 2;
+    }
+    ones
+}
+
+/// The row of a residual of nine bits, given modulo 512, in the table of symbols.
+#[inline(always)]
+fn symbol_of(residual: usize) -> &'static [u16]
+    requires { residual < 512 }
+    ensures { result.now ≡ take 24 (drop (residual * 24) SYMBOLS) }
+{
+    &SYMBOLS[residual * 24..residual * 24 + 24]
+}
+
+/// How many decisions the residual has.
+#[inline(always)]
+fn length_of(residual: usize) -> usize
+    requires { residual < 512 }
+    ensures { result ≡ slice_index LENGTHS residual }
+{
+    LENGTHS[residual] as usize
+}
+
+/// The places of a row of numbers from `from` to before `upto`, each after a base.
+#[inline(always)]
+fn list_places(list: &mut [u32], at: usize, base: u32, row: &[u16], from: usize, upto: usize)
+    requires ordered { from ≤ upto }
+    requires row { upto ≤ length row.now }
+    requires room { at + length row.now ≤ length list.old }
+    requires small { base < 2 ^ 31 }
+    ensures { (before : List ℕ) →
+        take (at + from) list.old ≡ before ++ map (λ n. base + n) (take from row.now) →
+        take (at + upto) list.new ≡ before ++ map (λ n. base + n) (take upto row.now) }
+{
+    for k in from..upto {
+        list[at + k] = base + u32::from(row[k]);
+    }
+}
+
+/// Lists the decisions of a residual of nine bits, given modulo 512, in the states of a context,
+/// after the first `at` numbers of a list that has room for 24 more, all of which may be
+/// overwritten. Answers how many numbers the list has then, at most 19 more (RFC 9043, 3.8.1.2).
+#[inline(always)]
+pub fn list_signed(list: &mut [u32], at: usize, context: u32, residual: usize) -> usize
+    requires room { at + 24 ≤ length list.old }
+    requires context { context < 2 ^ 16 }
+    requires residual { residual < 512 }
+    ensures steps { steps_of (take result list.new) ≡ steps_of (take at list.old) ++
+        shifted (context * 32) (signed_steps (of_nine_bits residual)) }
+    ensures few { result ≤ at + 19 }
+{
+    let row = symbol_of(residual);
+    let long = length_of(residual);
+    let base = context * 16384;
+    list_places(list, at, base, row, 0, 8);
+    if long > 8 {
+        list_places(list, at, base, row, 8, 24);
+        return at + long;
+    }
+    at + long
+}
+
+impl<A: Allocator> RangeEncoder<A> {
+    /// The decisions of a list, of fewer than 2^32, by states that the table holds, by an encoder
+    /// that has not failed. A decision is its slot times 512, and 256 more where it is 1. The
+    /// states move by the decisions. Answers `OutOfMemory` where a growth was refused: the encoder
+    /// has failed for good, its counts stay, and the states are still held by the table.
+    #[inline(always)]
+    pub fn put_all(
+        &mut self,
+        table: &StateTable,
+        states: &mut [u8],
+        list: &[u32],
+    ) -> Result<(), Fault>
+        requires sound { self.old.failed ≡ false }
+        requires held { AllHeld table.now states.old }
+        requires slots { AreBelow (steps_of list.now) (length states.old) }
+        requires few { length list.now < 2 ^ 32 }
+        ensures ok { OnOk result (Puts table.now self.old states.old self.new states.new
+            (steps_of list.now)) }
+        ensures refused { OnErr result (MayBeRefused table.now self.old states.old
+            (steps_of list.now)) }
+        ensures held { AllHeld table.now states.new }
+        ensures err { IfErr result (λ f. (f ≡ Fault.OutOfMemory) × IsTrue self.new.failed) }
+        ensures kept { OnErr result (self.new.counts ≡ self.old.counts) }
+        ensures left { OnErr result (self.new ≡ refused_writing self.old) }
+    {
+        let mut span = Span {
+            low: self.low,
+            width: self.width,
+        };
+        let done = put_list(&mut self.bytes, &mut span, table, states, list);
+        let Ok(()) = done else {
+            self.bytes.clear();
+            self.low = 0;
+            self.width = FIRST_WIDTH;
+            self.failed = true;
+            return Err(Fault::OutOfMemory);
+        };
+        self.low = span.low;
+        self.width = span.width;
+        let ones = ones_of(list);
+        self.count(ones, list.len() as u32 - ones);
+        Ok(())
+    }
+}
