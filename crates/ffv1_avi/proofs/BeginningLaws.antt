@@ -11,10 +11,10 @@ use Rattle.ffv1_avi.specs.Places.{amount, extent_of, frame_at}
 use Rattle.ffv1_avi.specs.declared.place.Extent.{Extent}
 use Rattle.ffv1_avi.specs.declared.place.Extent.TheVariants.{FirstMovi, EveryRiff}
 use Rattle.ffv1_avi.specs.declared.place.Place.{Place}
-use Rattle.ffv1_reads.specs.Head.{Head}
+use Rattle.ffv1_reads.specs.Head.{Head, limit}
 use Rattle.ffv1_reads.specs.Reads.{EndsEarly, Kept, Looked, Reading, Stop, Want, given, passed, read_on, refused, taken, wanted, ◌>>=◌}
 use Rattle.ffv1_avi.specs.Padding.{content, padded}
-use Rattle.ffv1_avi.specs.Streams.{Format, Known, format_behind, format_in, format_rest, format_read, head_judged, limit, no_video, rates_in, rates_of, rates_read, record_end, skipped, stream_judged, stream_read, visit_field}
+use Rattle.ffv1_avi.specs.Streams.{Format, Known, format_behind, format_in, format_rest, format_read, head_judged, no_video, rates_in, rates_of, rates_read, record_end, skipped, stream_judged, stream_read, visit_field}
 use Rattle.ffv1_avi.specs.Walk.{Visit, entry_judged, entry_read, is_name, resumed, visited, walk, walk_up_to}
 use Rattle.ffv1_avi.proofs.FrameTurns.{read_less}
 use Rattle.ffv1_avi.proofs.HeaderLaws.{stream_end, with_frames}

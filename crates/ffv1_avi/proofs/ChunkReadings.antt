@@ -22,7 +22,7 @@ use Rattle.ffv1_avi.specs.Files.{frame_judged, frame_name, visit_movi}
 use Rattle.ffv1_avi.specs.Offsets.{FrameBegins, chunk_taken, frame_taken, movi_left, movi_taken}
 use Rattle.ffv1_avi.specs.Padding.{content, padded}
 use Rattle.ffv1_avi.specs.Places.{frame_at}
-use Rattle.ffv1_avi.specs.Streams.{limit}
+use Rattle.ffv1_reads.specs.Head.{limit}
 use Rattle.ffv1_avi.specs.Walk.{entry_judged, entry_read, is_name}
 
 -- a header

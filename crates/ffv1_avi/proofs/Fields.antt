@@ -4,7 +4,7 @@ use Rattle.std.proofs.lemmas.Bool.{le-ltb, ltb-false}
 use Rattle.ffv1_avi.specs.declared.chunk.Entry.{Entry}
 use Rattle.ffv1_reads.specs.Reads.{Looked, Reading, given, passed, read_on}
 use Rattle.ffv1_avi.specs.Padding.{content, padded}
-use Rattle.ffv1_avi.specs.Streams.{Format, Known, format_in, format_of, format_read, limit, rates_in, rates_of, rates_read, skipped, visit_field}
+use Rattle.ffv1_avi.specs.Streams.{Format, Known, format_in, format_of, format_read, rates_in, rates_of, rates_read, skipped, visit_field}
 use Rattle.ffv1_avi.specs.declared.place.Extent.{Extent}
 use Rattle.ffv1_avi.specs.Walk.{is_name}
 use Rattle.ffv1_avi.proofs.ListWalks.{Complete, IsPassed, Sound, Taking}
@@ -12,6 +12,7 @@ use Rattle.ffv1_avi.proofs.Contents.{format_complete, format_sound, format_whole
 use Rattle.ffv1_avi.proofs.PassedBytes.{content_complete, content_sound, skip_complete, skip_sound}
 use Rattle.ffv1_reads.proofs.Results.{read_on_ok}
 use Rattle.ffv1_reads.proofs.Results.{ok_is, read_on_twice}
+use Rattle.ffv1_reads.specs.Head.{limit}
 
 -- what is known after a header, and after a format
 abbrev pub rates_next : Known → List ℕ → Option (Option (ℕ × ℕ)) → Known

@@ -12,7 +12,7 @@ use Rattle.ffv1_avi.specs.Files.{found_or_on, found_read, frame_found, frame_nam
 use Rattle.ffv1_avi.specs.Places.{extent_of, first_place, frame_at}
 use Rattle.ffv1_reads.specs.Reads.{Kept, Reading, Stop, given, passed, read_on, ◌>>=◌}
 use Rattle.ffv1_avi.specs.Padding.{content, padded}
-use Rattle.ffv1_avi.specs.Streams.{limit}
+use Rattle.ffv1_reads.specs.Head.{limit}
 use Rattle.ffv1_avi.specs.Walk.{entry_read, is_name, resumed, visited, walk}
 use Rattle.ffv1_avi.proofs.ListWalks.{Complete, Ended, IsPassed, Run, Sound, Taking, entry_complete, walk_complete, walk_sound}
 use Rattle.ffv1_avi.proofs.Fields.{skipped_passed}

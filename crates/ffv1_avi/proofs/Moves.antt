@@ -9,7 +9,7 @@ use Rattle.ffv1_avi.specs.Files.{found_read, frame_found, frame_found_up_to, fra
 use Rattle.ffv1_avi.specs.Places.{amount, extent_of, frame_at, movi_at, riff_at}
 use Rattle.ffv1_reads.specs.Reads.{Stop, given, passed, read_on, taken, ◌>>=◌}
 use Rattle.ffv1_avi.specs.Padding.{padded}
-use Rattle.ffv1_avi.specs.Streams.{limit}
+use Rattle.ffv1_reads.specs.Head.{limit}
 use Rattle.ffv1_avi.specs.Walk.{Visit, entry_read, is_name, resumed, visited, walk, walk_up_to}
 use Rattle.ffv1_avi.proofs.ListWalks.{entry_sound}
 use Rattle.ffv1_reads.proofs.Results.{read_on_ok}

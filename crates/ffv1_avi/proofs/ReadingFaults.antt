@@ -9,12 +9,12 @@ use Rattle.ffv1_avi.specs.declared.place.Extent.TheVariants.{FirstMovi, EveryRif
 use Rattle.ffv1_avi.specs.declared.place.Place.{Place}
 use Rattle.ffv1_avi.specs.Extents.{AnswersBy, AnswersFrom}
 use Rattle.ffv1_avi.specs.Files.{Headers, begins, extended_read, extended_visited, found_or_on, found_read, frame_found, frame_found_up_to, frame_judged, frame_name, frame_read, header_list, header_named, header_read, list_skipped, list_visited, moved, moved_by, movi_found, movi_or_riff, movi_reached, movi_sought, name_or_end, no_headers, open_read, opened, riff_begun, riff_entered, riff_judged, riff_list, riff_named, sought_on, stream_known, stream_visited, top_read, total_read, visit_extended, visit_header, visit_movi, visit_riff, visit_top}
-use Rattle.ffv1_reads.specs.Head.{Head}
+use Rattle.ffv1_reads.specs.Head.{Head, limit}
 use Rattle.ffv1_avi.specs.Places.{amount, extent_of, frame_at, movi_at, riff_at}
 use Rattle.ffv1_avi.specs.Readers.{is_frame_fault, is_opening_fault}
 use Rattle.ffv1_reads.specs.Reads.{Kept, Looked, Met, Reading, Refused, Short, Stop, Want, given, passed, read_on, refused, taken, wanted, ◌>>=◌}
 use Rattle.ffv1_avi.specs.Padding.{content, padded}
-use Rattle.ffv1_avi.specs.Streams.{Format, Known, format_behind, format_in, format_read, format_rest, head_judged, limit, no_video, nothing_known, rates_in, rates_of, rates_read, record_end, skipped, stream_judged, stream_read, visit_field}
+use Rattle.ffv1_avi.specs.Streams.{Format, Known, format_behind, format_in, format_read, format_rest, head_judged, no_video, nothing_known, rates_in, rates_of, rates_read, record_end, skipped, stream_judged, stream_read, visit_field}
 use Rattle.ffv1_avi.specs.Walk.{Visit, entry_judged, entry_read, is_name, resumed, visited, walk, walk_up_to}
 
 -- whatever a reading meets is one of these

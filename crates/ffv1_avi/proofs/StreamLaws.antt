@@ -2,9 +2,9 @@
 use Rattle.std.proofs.Common.{◌≡◌, ◌⊎◌, inl, inr, ℕ, ◌+◌, ◌≤◌, ◌==◌, Bool, true, false, Option, Some, None, Ok, List, [], ◌∷◌, ◌++◌, length, codes, ap, ◌∙◌, sym, subst, arith, refl, add-zero}
 use Rattle.std.specs.Cmp.Lexicographic.{same_text}
 use Rattle.ffv1_avi.specs.Chunks.{AreChunks, Chunk, Says, SaysOther, chunks_text, first_of, is_named, says_of, those}
-use Rattle.ffv1_reads.specs.Head.{Head}
+use Rattle.ffv1_reads.specs.Head.{Head, limit}
 use Rattle.ffv1_reads.specs.Reads.{given, read_on, ◌>>=◌}
-use Rattle.ffv1_avi.specs.Streams.{Format, Known, format_of, head_judged, limit, no_video, nothing_known, rates_of, stream_judged, stream_read, visit_field}
+use Rattle.ffv1_avi.specs.Streams.{Format, Known, format_of, head_judged, no_video, nothing_known, rates_of, stream_judged, stream_read, visit_field}
 use Rattle.ffv1_avi.specs.declared.place.Extent.{Extent}
 use Rattle.ffv1_avi.specs.declared.place.Extent.TheVariants.{FirstMovi, EveryRiff}
 use Rattle.ffv1_avi.specs.Walk.{is_name, walk, walk_up_to}

@@ -9,9 +9,9 @@ use Rattle.ffv1_avi.specs.Chunks.{AreFrames, AreSized, AviFile, Chunk, IsChunk, 
 use Rattle.ffv1_reads.specs.Reads.{Stop}
 use Rattle.ffv1_avi.specs.declared.place.Extent.{Extent}
 use Rattle.ffv1_avi.specs.declared.place.Extent.TheVariants.{FirstMovi, EveryRiff}
-use Rattle.ffv1_reads.specs.Head.{Head}
+use Rattle.ffv1_reads.specs.Head.{Head, limit}
 use Rattle.ffv1_avi.specs.Padding.{padded}
-use Rattle.ffv1_avi.specs.Streams.{limit, record_end}
+use Rattle.ffv1_avi.specs.Streams.{record_end}
 use Rattle.ffv1_avi.specs.Written.{avih, file_of, format_size, frame_chunk, frame_size, front, head_text, movi, movi_size, number, padding, riff_size, spelled, strf, strh}
 use Rattle.ffv1_avi.proofs.PartLaws.{parts_text}
 

@@ -4,9 +4,8 @@ use Rattle.std.specs.Prelude.{◌≡◌, ℕ, ◌+◌, ◌≤◌, List, [], ◌�
 use Rattle.std.specs.Prelude.{Some}
 use Rattle.byteorder.specs.Endian.{little_number}
 use Rattle.ffv1_avi.specs.declared.place.Extent.TheVariants.{FirstMovi}
-use Rattle.ffv1_reads.specs.Head.{Head}
+use Rattle.ffv1_reads.specs.Head.{Head, limit}
 use Rattle.ffv1_avi.specs.Padding.{padded}
-use Rattle.ffv1_avi.specs.Streams.{limit}
 use Rattle.ffv1_avi.specs.Chunks.{AreChunks, AreParts, Chunk, IsStream, Part, chunk_text}
 use Rattle.ffv1_avi.specs.Chunks.{chunks_text, first_of, is_list, is_named, part_chunk, those}
 

@@ -5,10 +5,10 @@ use Rattle.std.specs.Prelude.{map, nat_lt, Option, Some, None}
 use Rattle.byteorder.specs.Endian.{little_number}
 use Rattle.ffv1_avi.specs.declared.place.Extent.{Extent}
 use Rattle.ffv1_avi.specs.declared.place.Extent.TheVariants.{FirstMovi, EveryRiff}
-use Rattle.ffv1_reads.specs.Head.{Head}
+use Rattle.ffv1_reads.specs.Head.{Head, limit}
 use Rattle.ffv1_avi.specs.Padding.{padded}
 use Rattle.ffv1_avi.specs.Walk.{is_name}
-use Rattle.ffv1_avi.specs.Streams.{limit, rates_of, format_of}
+use Rattle.ffv1_avi.specs.Streams.{rates_of, format_of}
 use Rattle.ffv1_avi.specs.Written.{most, riff_size}
 
 -- a chunk: its name, its size as it is spelled, its bytes and its padding

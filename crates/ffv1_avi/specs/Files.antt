@@ -7,13 +7,13 @@ use Rattle.ffv1_reads.specs.declared.fault.FileFault.TheVariants as fault
 use Rattle.ffv1_avi.specs.declared.place.Extent.{Extent}
 use Rattle.ffv1_avi.specs.declared.place.Extent.TheVariants.{FirstMovi, EveryRiff}
 use Rattle.ffv1_avi.specs.declared.place.Place.{Place}
-use Rattle.ffv1_reads.specs.Head.{Head}
+use Rattle.ffv1_reads.specs.Head.{Head, limit}
 use Rattle.ffv1_avi.specs.Places.{amount, extent_of, first_place, frame_at, movi_at, riff_at}
 use Rattle.ffv1_reads.specs.Reads.{Kept, Reading, given, refused, taken, passed}
 use Rattle.ffv1_avi.specs.Padding.{padded, content}
 use Rattle.ffv1_reads.specs.Reads.{◌>>=◌}
 use Rattle.ffv1_avi.specs.Walk.{is_name, Visit, walk}
-use Rattle.ffv1_avi.specs.Streams.{limit, skipped, stream_read}
+use Rattle.ffv1_avi.specs.Streams.{skipped, stream_read}
 
 -- what is known before the first movi: how many streams came that do not count, the head of the one
 -- that does, and how many frames the file has

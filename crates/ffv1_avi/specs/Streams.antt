@@ -7,16 +7,12 @@ use Rattle.byteorder.specs.Endian.{little_number}
 use Rattle.ffv1_reads.specs.declared.fault.FileFault.TheVariants as fault
 use Rattle.ffv1_avi.specs.declared.place.Extent.{Extent}
 use Rattle.ffv1_avi.specs.declared.place.Extent.TheVariants.{FirstMovi, EveryRiff}
-use Rattle.ffv1_reads.specs.Head.{Head}
+use Rattle.ffv1_reads.specs.Head.{Head, limit}
 use Rattle.ffv1_reads.specs.Reads.{Looked, Kept, Reading, Want, given, refused, taken, wanted}
 use Rattle.ffv1_reads.specs.Reads.{passed}
 use Rattle.ffv1_avi.specs.Padding.{padded, content}
 use Rattle.ffv1_reads.specs.Reads.{◌>>=◌}
 use Rattle.ffv1_avi.specs.Walk.{is_name, Visit, walk}
-
--- the most bytes of a frame, and of a format, that are read: 64 MiB
-abbrev pub limit : ℕ
-limit = 67108864
 
 -- the rate and the scale of a stream's header, where it is one of video
 abbrev pub rates_of : List ℕ → Option (ℕ × ℕ)

@@ -27,14 +27,14 @@ ghost use Rattle.ffv1_avi.specs.declared.place.Extent.TheVariants.{FirstMovi, Ev
 ghost use Rattle.ffv1_avi.specs.declared.place.Place.{Place};
 
 /// The frames are the next one and those after it; at the end there is none, and nothing is read.
-pub fn frames_in_turn()
+pub fn frames_come_in_turn()
     ensures next { (place : Place) (text : List ℕ) →
         frames_read place text ≡ read_on (frame_read place text) (more_frames frames_read) }
     ensures end { (text : List ℕ) → frame_read ended text ≡ Ok (None, text) }
 {}
 
 /// What is read is a file of that head and those frames, by its chunks.
-pub fn read_is_file()
+pub fn what_is_read_is_a_file()
     ensures { (file : List ℕ) (head : Head) (frames : List (List ℕ)) (rest : List ℕ) →
         file_read FirstMovi file ≡ Ok ((head, frames), rest) → AviFile file head frames }
 {}
@@ -42,14 +42,14 @@ pub fn read_is_file()
 /// Where every RIFF is read and the frames come to an end, nothing is left of the input, and it is
 /// a file of that head and those frames: each chunk of the stream's frames, in every movi of every
 /// RIFF, was given, in order.
-pub fn whole()
+pub fn every_riff_is_read_whole()
     ensures { (file : List ℕ) (head : Head) (frames : List (List ℕ)) (rest : List ℕ) →
         file_read EveryRiff file ≡ Ok ((head, frames), rest) →
         RiffFile file head frames × (rest ≡ []) }
 {}
 
 /// A beginning of a file that is read, up to the end of `movi`, ends where more bytes are wanted.
-pub fn beginnings()
+pub fn shorter_file_wants_more_bytes()
     ensures { (file : List ℕ) (head : Head) (frames : List (List ℕ)) (is : AviFile file head frames)
         (beginning more : List ℕ) → file ≡ (beginning ++ more) ++ is.rest → 0 < length more →
         EndsEarly (file_read FirstMovi) beginning }
@@ -58,7 +58,7 @@ pub fn beginnings()
 /// A beginning of a file of which every RIFF is read ends where more bytes are wanted, but at the
 /// edge of an RIFF. There the frames of the RIFFs before it are read, where they are not fewer than
 /// `dmlh` says; and else those are given, one by one, and then more bytes are wanted.
-pub fn beginnings_of_riffs()
+pub fn shorter_riffs_want_more_bytes()
     ensures within { (file : List ℕ) (head : Head) (frames : List (List ℕ))
         (is : RiffFile file head frames) (beginning more : List ℕ) → file ≡ beginning ++ more →
         (IsAtEdge is.riffs more → ⊥) → EndsEarly (file_read EveryRiff) beginning }
@@ -78,7 +78,7 @@ pub fn beginnings_of_riffs()
 /// four bytes that are another name are refused, and so is an RIFF that is no `AVIX`, or too small
 /// for its form; where fewer bytes than a header has are left, more are wanted. What is refused so
 /// is not read as a whole file.
-pub fn after_riffs()
+pub fn only_riffs_follow_riffs()
     ensures name { (file : List ℕ) (head : Head) (frames : List (List ℕ)) →
         RiffFile file head frames → (name rest : List ℕ) → length name ≡ 4 →
         is_name name (codes "RIFF") ≡ false →
@@ -101,7 +101,7 @@ pub fn after_riffs()
 
 /// Where `movi` comes after no stream, the file has no FFV1, and nothing after the name of `movi`
 /// is read.
-pub fn no_stream()
+pub fn movi_before_streams_is_refused()
     ensures { (file : List ℕ) (parts : List Part) (rest : List ℕ) → MoviBegins file parts rest →
         streams parts ≡ [] → open_read FirstMovi file ≡ Err (Met fault.NoFfv1 rest) }
 {}
@@ -109,7 +109,7 @@ pub fn no_stream()
 /// A chunk that passes its list is truncated, and nothing after its header is read: in `movi`
 /// after chunks that are no frames, in RIFF and in `hdrl` after chunks whose first stream, if
 /// there is one, is FFV1, and in the first stream after chunks of which no format is too long.
-pub fn long_chunk()
+pub fn long_chunk_is_truncated()
     ensures movi { (chunks : List Chunk) (left : ℕ) (name size rest : List ℕ) → AreChunks chunks →
         those (is_named (codes "LIST")) chunks ≡ [] → those (is_named (codes "00dc")) chunks ≡ [] →
         Passes left name size →
@@ -133,7 +133,7 @@ pub fn long_chunk()
 
 /// Where every RIFF is read, and `movi` comes where none of the first 100 streams is FFV1 video,
 /// the file has no FFV1, and nothing after the name of `movi` is read.
-pub fn no_stream_of_riffs()
+pub fn movi_after_other_streams_is_refused()
     ensures { (file : List ℕ) (parts : List Part) (rest : List ℕ) → MoviBegins file parts rest →
         AreOthers EveryRiff (take 100 (streams parts)) →
         HasExtended (flat_map header_chunks parts) →
@@ -145,7 +145,7 @@ pub fn no_stream_of_riffs()
 /// the one that counts; in a stream's list where none before it counts, after chunks of which no
 /// format is too long; in any `movi` after chunks that are no frames; and in RIFF after a `movi`,
 /// or in the next RIFF, after chunks that are no `movi`.
-pub fn long_chunk_of_riffs()
+pub fn long_chunk_in_riffs_is_truncated()
     ensures riff { (file : List ℕ) (parts : List Part) (left : ℕ) (name size rest : List ℕ) →
         RiffBegins file parts left ((name ++ size) ++ rest) → AreCounted 100 (streams parts) →
         HasExtended (flat_map header_chunks parts) → Passes left name size →
@@ -194,7 +194,7 @@ pub fn long_chunk_of_riffs()
 
 /// A file of a head and frames, by its chunks, is read as that head and those frames, and it has no
 /// others. Where every RIFF is read, nothing is left of it.
-pub fn file_is_read()
+pub fn file_is_read_as_its_frames()
     ensures read { (file : List ℕ) (head : Head) (frames : List (List ℕ))
         (is : AviFile file head frames) → file_read FirstMovi file ≡ Ok ((head, frames), is.rest) }
     ensures only { (file : List ℕ) (head other : Head) (frames others : List (List ℕ)) →
@@ -208,7 +208,7 @@ pub fn file_is_read()
 
 /// What is written is a file of its head and frames, by its chunks, of one RIFF, and is read back,
 /// where the first `movi` alone is read and where every RIFF is.
-pub fn written_is_read()
+pub fn written_file_is_read_back()
     ensures file { (head : Head) (frames : List (List ℕ)) → IsWritable head frames →
         AviFile (file_of head frames) head frames }
     ensures read { (head : Head) (frames : List (List ℕ)) → IsWritable head frames →

@@ -15,12 +15,9 @@ ghost use Rattle.ffv1_avi.specs.Internal.Views.{known_with};
 use crate::chunk::{Entry, is_name, next_entry, padded};
 use crate::place::Extent;
 use byteorder::{ByteOrder, LittleEndian};
-use ffv1_reads::{FileFault, fill, pass, take};
+use ffv1_reads::{FileFault, LIMIT, fill, pass, take};
 use ffv1_wire::ByteIn;
 use std::alloc::Allocator;
-
-/// The most bytes of a frame, and of a format, that are read: 64 MiB.
-pub(crate) const LIMIT: u32 = 67_108_864;
 
 /// What a head says beside its record.
 #[derive(Clone, Copy)]

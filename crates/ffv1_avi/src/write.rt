@@ -4,13 +4,13 @@ ghost use Rattle.std.specs.Prelude.{◌≡◌, ◌+◌, ◌*◌, ◌<◌, ◌≤
 ghost use Rattle.std.specs.Prelude.{flat_map, Option, None, Some, if◌then◌else◌, nat_le, nat_lt};
 ghost use Rattle.ffv1_wire.specs.Passage.{passage};
 ghost use Rattle.ffv1_reads.specs.Head.{head_of};
-ghost use Rattle.ffv1_avi.specs.Padding.{padded};
 ghost use Rattle.ffv1_avi.specs.Written.{avih, file_of, format_size, frame_chunk, frames_of, front};
 ghost use Rattle.ffv1_avi.specs.Written.{head_text, microseconds, movi, movi_size, opening};
 ghost use Rattle.ffv1_avi.specs.Written.{sizes_of, spelled, stream, strf};
 ghost use Rattle.ffv1_reads.specs.Writes.{Writes};
 ghost use Rattle.ffv1_avi.specs.Writes.{WritesFile};
 
+use crate::chunk::padded;
 use crate::field::{Field, put, put_fields, put_padding};
 use ffv1_reads::{FileFault, FileHead};
 use ffv1_wire::ByteOut;
@@ -18,14 +18,6 @@ use std::alloc::Allocator;
 
 /// The greatest size of RIFF that is written: readers may take it as a signed number of 32 bits.
 const MOST: u64 = 2_147_483_647;
-
-/// A size with its padding.
-fn padded(size: usize) -> u64
-    requires { size < 2 ^ 32 }
-    ensures { result ≡ padded size }
-{
-    size as u64 + (size % 2) as u64
-}
 
 /// The size of movi, where that of RIFF, which has so many bytes beside it, is not too great.
 fn movi_size<A: Allocator>(frames: &[Vec<u8, A>], others: u64) -> Option<u32>
@@ -39,7 +31,7 @@ fn movi_size<A: Allocator>(frames: &[Vec<u8, A>], others: u64) -> Option<u32>
         if frame.len() as u64 > MOST {
             return None;
         }
-        size += 8 + padded(frame.len());
+        size += 8 + padded(frame.len() as u32);
         if others + size > MOST {
             return None;
         }
@@ -222,7 +214,7 @@ fn put_head<W: ByteOut, A: Allocator>(
         (head_text (head_of head.now) count size) result }
 {
     let len = 40 + head.config_record.len();
-    let format = padded(len) as u32;
+    let format = padded(len as u32) as u32;
     put_opening(out, size, format)?;
     put_main_header(out, head, count)?;
     put_stream(out, head, format, count)?;
@@ -238,7 +230,7 @@ fn sizes<A: Allocator>(head: &FileHead<A>, frames: &[Vec<u8, A>]) -> Option<(u32
     if head.config_record.len() as u64 > MOST {
         return None;
     }
-    let others = 172 + padded(40 + head.config_record.len());
+    let others = 172 + padded(40 + head.config_record.len() as u32);
     let movi = movi_size(frames, others)?;
     Some((movi, others as u32 + movi))
 }

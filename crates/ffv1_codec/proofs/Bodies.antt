@@ -12,7 +12,7 @@ use Rattle.ffv1_line.specs.Cell.{Cell, Above, Shows}
 use Rattle.ffv1_line.specs.declared.cell.rows.RollingRows.{RollingRows}
 use Rattle.ffv1_record.specs.Configuration.{Configuration, is_rct}
 use Rattle.ffv1_slice.specs.declared.head.SliceHead.{SliceHead}
-use Rattle.ffv1_codec.specs.Picture.{Planes, plane_count, cell_height, coded_at, sample_at, transformed_at}
+use Rattle.ffv1_codec.specs.Picture.{plane_count, cell_height}
 use Rattle.ffv1_codec.specs.SliceList.{Line, lines_of_plane, planes_of_line, lines_in, chosen_line, chosen_body}
 use Rattle.ffv1_codec.specs.Internal.HasPut.{HasPut, PutsAfter}
 use Rattle.ffv1_codec.specs.Internal.CellRows.{Rolled, Loaded, fourth_line}
@@ -69,10 +69,6 @@ planes_in_order c n plain =
 pub lines_in_order : (c : Configuration) (n : ℕ) → is_rct c.colour ≡ true → flat_map (planes_of_line (plane_count c)) (range_with_len 0 (cell_height c n 0)) ≡ lines_in c n
 lines_in_order c n rct =
     ap (λ k. if k then flat_map (planes_of_line (plane_count c)) (range_with_len 0 (cell_height c n 0)) else flat_map (λ p. lines_of_plane (cell_height c n p) p) (range_with_len 0 (plane_count c))) (sym rct)
-
--- in YCbCr samples are coded as they are
-pub plain_at : (c : Configuration) (planes : Planes) (p u v : ℕ) → is_rct c.colour ≡ false → coded_at c planes p u v ≡ sample_at c planes p u v
-plain_at c planes p u v plain = ap (λ k. if k then transformed_at c planes p u v else sample_at c planes p u v) plain
 
 -- at a cell's top
 pub rolled_top : {W A : Type 0} (samples : List W → List ℕ) (c : Cell) (width : ℕ) (rows : RollingRows (Vec W A)) → ((d : Cell) → Above d 0 (replicate d.width 0) (replicate d.width 0)) → width ≡ c.width →

@@ -14,6 +14,8 @@ pub mod Lengths
 pub mod Counted
 pub mod Frames
 pub mod Aspects
+mod KeptBuffers
+mod KeptScratch
 mod Words
 mod Sizes
 mod WrittenParts

@@ -35,18 +35,6 @@ planes_three true false a b = refl
 planes_three chroma true a b = absurd (let no : true ≡ false = b in cc)
 planes_three false false a b = absurd (let no : false ≡ true = a in cc)
 
-pub planes_most : (chroma extra : Bool) → planes_in chroma extra ≤ 4
-planes_most chroma true = omega arith
-planes_most true false = omega arith
-planes_most false false = omega arith
-
--- how many samples the lines of all planes have
-pub lines_four : (c : Configuration) (n : ℕ) → n ≡ plane_count c * c.width → c.extra_plane ≡ true → n ≡ 4 * c.width
-lines_four c n is extra = is ∙ ap (λ k. k * c.width) (planes_four c.chroma_planes c.extra_plane extra)
-
-pub lines_three : (c : Configuration) (n : ℕ) → n ≡ plane_count c * c.width → c.chroma_planes ≡ true → c.extra_plane ≡ false → n ≡ 3 * c.width
-lines_three c n is chroma extra = is ∙ ap (λ k. k * c.width) (planes_three c.chroma_planes c.extra_plane chroma extra)
-
 pub factor_none : (p : ℕ) → factor_of 0 p ≡ 0
 factor_none zero = refl
 factor_none (suc zero) = refl

@@ -65,9 +65,6 @@ grows_more takes s m t [] l f h = (t, subst (λ z. takes z l.plane l.row l.sampl
 grows_more takes s m t (x ∷ xs) l f h = (f.0, f.1, grows_more takes f.0 m t xs l f.2 h)
 
 module _ {S : Type 0} (takes refuses : LineStep S) (a : Accepted) (coded : ℕ → List ℕ) (initial : S) (r first y : ℕ) (s : State) where
-  pub none_handed : (now : S) → Grows takes initial s.lines now → Handed takes refuses a coded initial r first 0 y now s
-  none_handed now grows = record { state = s; runs = refl; same = refl; grows = grows }
-
   module _ (n : ℕ) (now new : S) (samples : List ℕ) (done : Handed takes refuses a coded initial r first n y now s) (samples_are : get_or s.out n [] ≡ samples) where
     here : get_or done.state.out n [] ≡ samples
     here = ap (λ (z : State). get_or z.out n []) done.same ∙ samples_are

@@ -1,6 +1,5 @@
 -- A line is put in its place.
-use Rattle.std.proofs.Common.{◌≡◌, ◌≢◌, refl, ℕ, zero, suc, ◌+◌, ◌*◌, ◌<◌, ◌≤◌, ◌⊎◌, inl, inr, List, [], ◌∷◌, ◌++◌, map, length, get_or, slice_set, replicate, ap, sym, subst, ◌∙◌, arith, length-set}
-use Rattle.std.specs.List.{range_with_len}
+use Rattle.std.proofs.Common.{◌≡◌, ◌≢◌, refl, ℕ, zero, suc, ◌+◌, ◌*◌, ◌<◌, ◌≤◌, ◌⊎◌, inl, inr, List, [], ◌∷◌, ◌++◌, length, get_or, slice_set, ap, sym, subst, ◌∙◌, arith, length-set}
 use Rattle.std.proofs.lemmas.Bool.{cases_eq, cases_lt}
 use Rattle.std.proofs.lemmas.List.{map-append, map-set}
 use Rattle.std.specs.declared.vec.Vec.{Vec}
@@ -13,7 +12,6 @@ use Rattle.ffv1_codec.specs.Kept.{IsLine, with_samples, with_line}
 use Rattle.ffv1_codec.proofs.WrittenParts.{put_long, put_window, put_other}
 use Rattle.ffv1_codec.proofs.Sizes.{part_apart}
 use Rattle.ffv1_codec.proofs.ByNumber.{plane_is}
-use Rattle.ffv1_codec.proofs.Ranges.{mapped_more}
 use Rattle.ffv1_codec.proofs.SegmentTied.{plane_now, plane_other}
 
 module _ {A : Type 0} where
@@ -68,14 +66,6 @@ sizes_kept d planes p y samples are line =
         | inr other ↦ ap (λ (z : List ℕ). length z) (plane_other planes p q new other) ∙ are.sizes q h
       ];
     }
-
-pub zeros_more : (d : Division) (n : ℕ) → map (λ p. replicate {A = ℕ} (sample_bytes d.depth * (whole_of (across d p) * whole_of (down d p))) 0) (range_with_len 0 (n + 1)) ≡
-    map (λ p. replicate (sample_bytes d.depth * (whole_of (across d p) * whole_of (down d p))) 0) (range_with_len 0 n) ++ (replicate (sample_bytes d.depth * (whole_of (across d n) * whole_of (down d n))) 0 ∷ [])
-zeros_more d n =
-    let f : ℕ → List ℕ = λ p. replicate (sample_bytes d.depth * (whole_of (across d p) * whole_of (down d p))) 0 in
-    let more : suc n ≡ n + 1 = omega arith in
-    let zero_is : 0 + n ≡ n = omega arith in
-    ap (λ k. map f (range_with_len 0 k)) (sym more) ∙ mapped_more f 0 n ∙ ap (λ k. map f (range_with_len 0 n) ++ (f k ∷ [])) zero_is
 
 -- a line stands in its place, and the others are as they were
 module _ (d : Division) (planes : Planes) (p y : ℕ) (samples : List ℕ) (are : AreOf d planes) (line : IsLine d p y samples) where

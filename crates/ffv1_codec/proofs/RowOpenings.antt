@@ -1,5 +1,5 @@
 -- The slices of a row are opened one after the other: their run.
-use Rattle.std.proofs.Common.{◌≡◌, ◌≢◌, refl, ℕ, suc, ◌+◌, ◌<◌, inl, inr, Option, Some, None, List, [], ◌∷◌, ◌++◌, map, length, slice_set, get_or, replicate, ap, sym, subst, ◌∙◌, arith, length-set, get_or-set_same, get_or-set_other}
+use Rattle.std.proofs.Common.{◌≡◌, ◌≢◌, refl, ℕ, suc, ◌+◌, ◌<◌, inl, inr, Option, Some, List, [], ◌∷◌, ◌++◌, map, length, slice_set, get_or, replicate, ap, sym, subst, ◌∙◌, arith, length-set, get_or-set_same, get_or-set_other}
 use Rattle.std.specs.List.{range_with_len}
 use Rattle.std.proofs.lemmas.Bool.{cases_eq}
 use Rattle.ffv1_record.specs.Accepted.{Accepted}
@@ -19,21 +19,6 @@ use Rattle.ffv1_codec.proofs.Ranges.{mapped_more, mapped_rest}
 use Rattle.ffv1_codec.proofs.RunsInRow.{runs_append, runs_one, stops_later, stops_sooner}
 
 module _ (a : Accepted) (coded : ℕ → List ℕ) (payload : List ℕ) (r : ℕ) (s : State) where
-  pub none_opened : (columns : List Column) (first : Option Said) → length s.columns ≡ a.configuration.columns → length columns ≡ a.configuration.columns →
-      ((k : ℕ) → k < a.configuration.columns → slice_at s k ≡ unread) → ((k : ℕ) → k < length columns → (column_at columns k).parked ≡ None) → s.info ≡ first →
-      RowOpened a coded payload r 0 (row_heads columns first) s
-  none_opened columns first known long fresh closed says = record {
-    state = s;
-    runs = refl;
-    same = ap (λ z. record s { info = z }) says;
-    told = record {
-      long = known ∙ sym long;
-      each = λ k h. ap told_by (closed k h) ∙ ap (λ (z : Slice). tally_after a.table z.past) (sym (fresh k (omega (arith, h, long))));
-    };
-    each = λ k h. absurd (omega (arith, h));
-    later = λ k from h. fresh k h;
-  }
-
   module _ (n : ℕ) (columns : List Column) (first : Option Said) (column : Column) (before : RowOpened a coded payload r n (row_heads columns first) s) (inside : n < a.configuration.columns) (long : length columns ≡ a.configuration.columns) where
     known : length before.state.columns ≡ a.configuration.columns
     known = before.told.long ∙ long

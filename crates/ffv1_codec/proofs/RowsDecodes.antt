@@ -1,5 +1,5 @@
 -- Rows of slices are decoded one below the other: their run, and the answer.
-use Rattle.std.proofs.Common.{◌≡◌, refl, ℕ, zero, suc, ◌+◌, ◌<◌, ◌⊎◌, inl, inr, Option, Some, None, List, [], ◌∷◌, ◌++◌, map, length, get_or, replicate, ap, sym, subst, ◌∙◌, arith, append_assoc}
+use Rattle.std.proofs.Common.{◌≡◌, refl, ℕ, zero, suc, ◌+◌, ◌<◌, ◌⊎◌, inl, inr, Option, Some, List, [], ◌∷◌, ◌++◌, map, length, get_or, replicate, ap, sym, subst, ◌∙◌, arith, append_assoc}
 use Rattle.std.specs.List.{flat_map, range_with_len}
 use Rattle.std.proofs.lemmas.List.{length-replicate}
 use Rattle.ffv1_wire.specs.Runs.{LineStep}
@@ -15,7 +15,7 @@ use Rattle.ffv1_codec.specs.Runs.{Runs, Stops}
 use Rattle.ffv1_codec.specs.Order.{Event, row_events, events_of, series_of, series_events}
 use Rattle.ffv1_codec.specs.Order.Event.{Open, Hand, Close}
 use Rattle.ffv1_codec.specs.Decoding.{State, Slice, StepsBy, FaultsWith, at_first, unread}
-use Rattle.ffv1_codec.specs.Answer.{Ends, Faults, SinkRefuses, HasDecided, no_tally}
+use Rattle.ffv1_codec.specs.Answer.{Ends, Faults, SinkRefuses, HasDecided}
 use Rattle.ffv1_codec.specs.Internal.Tied.{AreTold}
 use Rattle.ffv1_codec.specs.Internal.Progress.{FailsIn}
 use Rattle.ffv1_codec.specs.Internal.Tallies.{tally_over}
@@ -35,9 +35,6 @@ unread_at (suc n) zero h = refl
 unread_at (suc n) (suc k) h = unread_at n k (omega (arith, h))
 
 module _ {S : Type 0} (takes refuses : LineStep S) (a : Accepted) (coded : ℕ → List ℕ) (initial : S) where
-  pub rows_none : RowsDecoded takes refuses a coded initial 0 no_tally None initial
-  rows_none = record { state = at_first a.configuration; runs = refl; columns_are = refl; says = refl; decided = refl; grows = refl }
-
   abbrev row : ℕ → List Event
   row = row_events a.configuration
 

@@ -8,11 +8,6 @@ class_room class classes most n less few =
     let all : suc class * most ≤ classes * most = mul-le-mul_right {m = suc class} {n = classes} most less in
     omega (arith, all, few)
 
-pub class_small : (class most : ℕ) → class < 3 → most ≤ 32768 → class * most ≤ 65536
-class_small class most less few =
-    let all : class * most ≤ 2 * most = mul-le-mul_right {m = class} {n = 2} most (omega (arith, less)) in
-    omega (arith, all, few)
-
 -- a window of n parts of equal size, and one further after
 pub part_apart : (j k size : ℕ) → j < k → j * size + size ≤ k * size
 part_apart j k size less =

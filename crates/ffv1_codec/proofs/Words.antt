@@ -12,7 +12,6 @@ use Rattle.ffv1_record.specs.Configuration.{Configuration}
 use Rattle.ffv1_codec.specs.Picture.{Planes, IsPicture, plane, plane_count, plane_width, plane_height, plane_samples, line_bytes, swaps, green_of, blue_of}
 use Rattle.ffv1_codec.specs.Decoding.{row_in}
 use Rattle.ffv1_codec.specs.Internal.Stands.{window}
-use Rattle.ffv1_codec.specs.Internal.Finished.{Colouring, bytes_colouring, colouring_of}
 use Rattle.ffv1_codec.proofs.WrittenParts.{window_long}
 use Rattle.ffv1_codec.proofs.JoinedLines.{take_small}
 
@@ -147,17 +146,6 @@ green_byte c is = ap (λ d. if nat_lt 8 d && (nat_lt d 16 && not c.extra_plane) 
 
 pub blue_byte : (c : Configuration) → c.depth ≡ 8 → blue_of c ≡ 2
 blue_byte c is = ap (λ d. if nat_lt 8 d && (nat_lt d 16 && not c.extra_plane) then 1 else 2) is
-
-pub colouring_byte : (c : Configuration) → c.depth ≡ 8 → colouring_of c ≡ bytes_colouring c.width c.extra_plane
-colouring_byte c is =
-    let f : ℕ → Colouring = λ d. record {
-      depth = d;
-      width = c.width;
-      green = if nat_lt 8 d && (nat_lt d 16 && not c.extra_plane) then 2 else 1;
-      blue = if nat_lt 8 d && (nat_lt d 16 && not c.extra_plane) then 1 else 2;
-      extra = c.extra_plane;
-    } in
-    ap f is
 
 -- one number of pairs of bytes more
 pub more_pairs : (row bytes : List ℕ) (x value : ℕ) → length bytes ≡ 2 * length row → x < length row → value ≡ get_or bytes (2 * x) 0 + 256 * get_or bytes (2 * x + 1) 0 →

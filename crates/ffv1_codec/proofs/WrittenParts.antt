@@ -4,8 +4,6 @@ use Rattle.std.proofs.lemmas.List.{length-take-le, get_or-take, get_or-drop, get
 use Rattle.std.proofs.Math.Seq.{drop-append-add, take-append_seam}
 use Rattle.std.proofs.lemmas.Grind.{same_number_lists}
 use Rattle.std.proofs.lemmas.Bool.{cases_lt}
-use Rattle.std.proofs.lemmas.Slice.{drop-append-drop}
-use Rattle.std.proofs.lemmas.List.{drop-drop}
 use Rattle.ffv1_range.specs.Table.{Table, Holds}
 use Rattle.ffv1_range.specs.Symbols.{AllHeld}
 use Rattle.ffv1_codec.specs.Internal.Stands.{window}
@@ -65,12 +63,6 @@ module _ (xs ys : List ℕ) (a k : ℕ) (fits : a + k ≤ length xs) (long : len
       let out : (b + i < a) ⊎ (a + k ≤ b + i) = elim apart [ inl before ↦ inl (omega (arith, before, h)) | inr behind ↦ inr (omega (arith, behind, h)) ] in
       get_or-take n (drop b (put a k xs ys)) i 0 h ∙ get_or-drop b (put a k xs ys) i 0 ∙ put_elsewhere (b + i) out
       ∙ sym (get_or-take n (drop b xs) i 0 h ∙ get_or-drop b xs i 0))
-
-  -- what lies after the part
-  pub put_rest : drop (a + k) (put a k xs ys) ≡ drop (a + k) xs
-  put_rest =
-      ap (λ n. drop (n + k) (put a k xs ys)) (sym front) ∙ drop-append-add (take a xs) (ys ++ drop k (drop a xs)) k
-      ∙ drop-append-drop k (drop a xs) ys k (omega arith) long ∙ drop-drop k a xs
 
   -- states that are held
   pub put_held : (t : Table) → AllHeld t xs → AllHeld t ys → AllHeld t (put a k xs ys)

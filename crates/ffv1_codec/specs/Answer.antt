@@ -18,15 +18,16 @@ use Rattle.ffv1_codec.specs.declared.fault.CodecFault.TheVariants as fault
 use Rattle.ffv1_codec.specs.declared.fault.FrameFault.{FrameFault}
 use Rattle.ffv1_codec.specs.SliceList.{Said}
 use Rattle.ffv1_codec.specs.Decoding as decoding
-use Rattle.ffv1_codec.specs.Decoding.{State, Slice, Decodes, Offers, of_slice, in_slice, top_of}
-use Rattle.ffv1_codec.specs.Decoding.{slice_number}
+use Rattle.ffv1_codec.specs.Decoding.{State, Slice, Decodes, Offers, fault_in, of_slice, in_slice}
+use Rattle.ffv1_codec.specs.Decoding.{top_of}
 
--- a decoder of frames, as its callers see it: its configuration, what the last call decided, and
--- how much it holds
+-- a decoder of frames, as its callers see it: its configuration, what the last call decided, how
+-- long its five vectors are, and for how much each has memory
 pub record Decoder : Type 0 where
   pub accepted : Accepted
   pub tally : Tally
   pub held : Held
+  pub capacities : Held
 
 -- the slices of a frame of which something may be known
 abbrev pub slices_in : State → List Slice
@@ -82,13 +83,7 @@ module _ {S : Type 0} (takes refuses : LineStep S) (a : Accepted) (coded : ℕ �
     pub plane : ℕ
     pub line : ℕ
     pub offers : Offers a coded row number plane line state
-    pub is : f ≡ record {
-      fault = fault.Sink;
-      slice = slice_number a.configuration row 0;
-      plane = plane;
-      line = top_of a.configuration plane row + line;
-      x = 0;
-    }
+    pub is : f ≡ fault_in a.configuration fault.Sink row 0 plane line 0
     pub decided : HasDecided a.table state tally
     pub between : S
     pub grows : Grows takes old state.lines between

@@ -119,6 +119,17 @@ of_slice slice.SliceTooLong = fault.SliceTooLong
 abbrev pub in_slice : CodecFault → ℕ → FrameFault
 in_slice f n = record { fault = f; slice = n; plane = 0; line = 0; x = 0 }
 
+-- a fault of line y of the cell that column k of row r has in plane p, at this place of the plane's
+-- line
+abbrev pub fault_in : Configuration → CodecFault → ℕ → ℕ → ℕ → ℕ → ℕ → FrameFault
+fault_in c f r k p y x = record {
+  fault = f;
+  slice = slice_number c r k;
+  plane = p;
+  line = top_of c p r + y;
+  x = x;
+}
+
 -- this is what the first slice said, or it is the first
 abbrev pub AgreesWith : Option Said → Said → Type 0
 AgreesWith None info = Unit {0}
@@ -265,13 +276,8 @@ module _ (a : Accepted) (coded : ℕ → List ℕ) where
       let q = slice_at s k in
       let width = width_in a.configuration p k in
       (qs : List ℤ) × (row : List ℕ) × StopsInLine n p width y q qs row
-      × (f ≡ record {
-        fault = fault.SymbolTooLong;
-        slice = n;
-        plane = p;
-        line = top_of a.configuration p r + y;
-        x = left_of a.configuration p k + length qs;
-      })
+      × (f ≡ fault_in a.configuration fault.SymbolTooLong r k p y
+      (left_of a.configuration p k + length qs))
       × (t ≡ put_slice s k (after_steps q (steps_of_stop q p width y qs row)))
 
   -- it is read, and its slice was read too far
@@ -281,13 +287,7 @@ module _ (a : Accepted) (coded : ℕ → List ℕ) where
       let q = slice_at s k in
       let width = width_in a.configuration p k in
       (qs : List ℤ) × (row : List ℕ) × ReadsLine n p width y q qs row
-      × (f ≡ record {
-        fault = fault.Overread;
-        slice = n;
-        plane = p;
-        line = top_of a.configuration p r + y;
-        x = 0;
-      })
+      × (f ≡ fault_in a.configuration fault.Overread r k p y 0)
       × (t ≡ put_slice s k (after_line q (steps_of_line q p width y qs row) p row))
       × IsOverread a (coded n) (q.past ++ steps_of_line q p width y qs row)
 
@@ -302,13 +302,7 @@ module _ (a : Accepted) (coded : ℕ → List ℕ) where
       (x : ℕ) × (k : ℕ)
       × IsColourless a.configuration (map (coded_line a.configuration s y) planes) x
       × Lies (across (division_of a.configuration) 0) x k
-      × (f ≡ record {
-        fault = fault.Colour;
-        slice = slice_number a.configuration r k;
-        plane = 0;
-        line = top_of a.configuration 0 r + y;
-        x = x;
-      })
+      × (f ≡ fault_in a.configuration fault.Colour r k 0 y x)
       × (t ≡ s)
   FaultsWith s (Hand r i p y) f t = ⊥
   FaultsWith s Close f t = ⊥

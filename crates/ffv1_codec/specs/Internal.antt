@@ -8,6 +8,7 @@ pub mod Opened
 pub mod Places
 pub mod Progress
 pub mod Rows
+pub mod Scratch
 pub mod Stands
 pub mod Tallies
 pub mod Tied

@@ -1,6 +1,6 @@
 -- The residuals that an encoder takes of a picture, how many bytes its frame has at most, and what
 -- is counted (RFC 9043, 3.8.1.2 and 4.4 to 4.9).
-use Rattle.std.specs.Prelude.{ℕ, ℤ, ◌+◌, ◌-◌, ◌*◌, nat_lt, false, if◌then◌else◌}
+use Rattle.std.specs.Prelude.{ℕ, ℤ, ◌+◌, ◌-◌, ◌*◌, ◌≤◌, nat_lt, false, if◌then◌else◌}
 use Rattle.std.specs.Prelude.{List, [], map, sum}
 use Rattle.std.specs.List.{flat_map, range_with_len}
 use Rattle.ffv1_range.specs.Interval.{narrow, interval_of}
@@ -70,7 +70,25 @@ frame_counts a planes info = record {
 abbrev pub uncounted : FrameCounts
 uncounted = record { decisions = 0; renormalisations = 0 }
 
--- an encoder: its configuration, and what was counted of the last frame that was answered
+-- for how much an encoder has memory from one frame to the next: for states, and for samples in all
+-- its rows of words of 16 bits, and of 32
+pub record Capacities : Type 0 where
+  pub states : ℕ
+  pub narrow : ℕ
+  pub wide : ℕ
+
+abbrev pub no_capacities : Capacities
+no_capacities = record { states = 0; narrow = 0; wide = 0 }
+
+-- none of them is smaller than before
+pub record KeepsCapacities (old new : Capacities) : Type 0 where
+  pub states : old.states ≤ new.states
+  pub narrow : old.narrow ≤ new.narrow
+  pub wide : old.wide ≤ new.wide
+
+-- an encoder: its configuration, what was counted of the last frame that was answered, and for how
+-- much it has memory
 pub record Encoding : Type 0 where
   pub accepted : Accepted
   pub counts : FrameCounts
+  pub capacities : Capacities

@@ -2,6 +2,7 @@
 
 ghost use Rattle.std.specs.Prelude.{◌≡◌};
 ghost use Rattle.ffv1_codec.specs.declared.fault.CodecFault.TheVariants as fault;
+ghost use Rattle.ffv1_codec.specs.Decoding.{in_slice};
 
 use std::alloc::AllocError;
 use thiserror::Error;
@@ -89,4 +90,19 @@ pub struct FrameFault {
     pub line: u16,
     /// The column of the plane: of a sample's symbol, or a colour.
     pub x: u16,
+}
+
+impl FrameFault {
+    /// A fault that has no other place than its slice.
+    pub(crate) fn in_slice(fault: CodecFault, slice: u16) -> FrameFault
+        ensures { result ≡ in_slice fault slice }
+    {
+        FrameFault {
+            fault,
+            slice,
+            plane: 0,
+            line: 0,
+            x: 0,
+        }
+    }
 }

@@ -23,36 +23,37 @@ pub mod answer;
 pub mod decoding;
 pub mod sink;
 
-use ffv1_line::laws::{chosen, lengths};
-use ffv1_range::laws::{lengths as step_lengths, named_states, sentinel_ending};
-use ffv1_rct::laws::{lists_in, small_in};
-use ffv1_record::laws::{accepted, accepted_parts};
-use ffv1_slice::laws::{divided, footing, joined, lengths as head_lengths, parts, tiling};
+use crate::laws;
+use ffv1_line::laws as line_laws;
+use ffv1_range::laws as range_laws;
+use ffv1_rct::laws as rct_laws;
+use ffv1_record::laws as record_laws;
+use ffv1_slice::laws as slice_laws;
 
 /// The coded samples of a picture have as many bits as its depth, and one more in RCT.
-pub fn coded_samples()
+pub fn coded_samples_fit_their_bits()
     ensures { (a : Accepted) (planes : Planes) (p x y : ℕ) → IsPicture a.configuration planes →
         coded_at a.configuration planes p x y < 2 ^ bits_of a.configuration }
 {
-    lists_in();
-    small_in();
+    rct_laws::line_transform_is_lists_at_depth();
+    rct_laws::transform_stays_in_range_at_depth();
 }
 
 /// The planes of a checked configuration are divided part by part, in RCT all alike, and their
 /// samples have 8 to 16 bits.
-pub fn sides()
+pub fn planes_are_divided_part_by_part()
     ensures { (c : Configuration) (t : Table) → IsAccepted c t → Sides c }
 {
-    accepted();
-    accepted_parts();
-    divided();
-    tiling();
-    parts();
+    record_laws::accepted_configuration_is_in_range();
+    record_laws::accepted_configuration_has_sound_parts();
+    slice_laws::accepted_pictures_are_divided();
+    slice_laws::cells_tile_their_plane();
+    slice_laws::parts_follow_one_another();
 }
 
 /// What an encoder takes of a picture: a head of the profile that says what is to be said, and
 /// residuals that suit the samples of its slice.
-pub fn chosen_slices()
+pub fn chosen_slices_suit_their_picture()
     ensures head { (a : Accepted) (info : Said) → IsAccepted a.configuration a.table →
         IsSaid info → IsHead a.profile a.configuration (chosen_head a.configuration info) }
     ensures body { (a : Accepted) (planes : Planes) (info : Said) (n : ℕ) →
@@ -62,30 +63,30 @@ pub fn chosen_slices()
         (chosen_body a.configuration (chosen_head a.configuration info)
         (cell_in a.configuration planes n) (lines_in a.configuration n)) }
 {
-    accepted();
-    coded_samples();
-    chosen();
-    divided();
-    tiling();
-    parts();
+    record_laws::accepted_configuration_is_in_range();
+    laws::coded_samples_fit_their_bits();
+    line_laws::chosen_residuals_suit_their_samples();
+    slice_laws::accepted_pictures_are_divided();
+    slice_laws::cells_tile_their_plane();
+    slice_laws::parts_follow_one_another();
 }
 
 /// The payload that an encoder writes of a picture codes the picture, where no slice has more
 /// coded bytes than its footer can say.
-pub fn encoded_frame()
+pub fn encoded_frame_codes_its_picture()
     ensures { (a : Accepted) (planes : Planes) (info : Said) →
         IsAccepted a.configuration a.table → IsPicture a.configuration planes → IsSaid info →
         (HasLongSlice a planes info → ⊥) →
         CodesPicture a (frame_of a planes info) planes info }
 {
-    chosen_slices();
-    joined();
-    named_states();
-    sentinel_ending();
+    laws::chosen_slices_suit_their_picture();
+    slice_laws::slices_are_cut_where_joined();
+    range_laws::each_decision_has_a_state();
+    range_laws::sentinel_ending_codes_its_list();
 }
 
 /// Frames that are known from outside the program: what the definition of a frame gives for them.
-pub fn worked_frames()
+pub fn worked_frames_have_known_bytes()
     ensures zero { frame_of (small_pictures colour.YCbCr false false 1 1 1 false)
         ((0 ∷ []) ∷ []) unknown ≡ 254 ∷ 123 ∷ 0 ∷ 0 ∷ 2 ∷ [] }
     ensures parity { frame_of (small_pictures colour.YCbCr false false 1 1 1 true)
@@ -114,7 +115,7 @@ pub fn worked_frames()
 /// How many decisions the residuals of a slice take: 2 n + 1 for each of n binary digits, and how
 /// many bytes a slice has before its footer: one and its renormalisations, at most as many as its
 /// decisions and 101 more, with 6 for a third set index and 2 for each place that may be above 15.
-pub fn slice_lengths()
+pub fn slice_length_follows_from_residuals()
     ensures body { (a : Accepted) (planes : Planes) (info : Said) (n : ℕ) →
         0 < a.configuration.depth → a.configuration.depth ≤ 16 →
         length (chosen_body a.configuration (chosen_head a.configuration info)
@@ -137,21 +138,21 @@ pub fn slice_lengths()
         row_decisions (slice_residuals a.configuration planes info n)
         + slice_most a.configuration }
 {
-    accepted();
-    chosen();
-    lengths();
-    step_lengths();
-    head_lengths();
-    chosen_slices();
-    divided();
-    tiling();
-    parts();
+    record_laws::accepted_configuration_is_in_range();
+    line_laws::chosen_residuals_suit_their_samples();
+    line_laws::residual_length_follows_from_digits();
+    range_laws::symbol_length_follows_from_exponent();
+    slice_laws::head_takes_few_decisions();
+    laws::chosen_slices_suit_their_picture();
+    slice_laws::accepted_pictures_are_divided();
+    slice_laws::cells_tile_their_plane();
+    slice_laws::parts_follow_one_another();
 }
 
 /// How many bytes a frame has: one and the footer's for each slice, and one for each
 /// renormalisation; at most 2 n + 1 for each residual of n binary digits, and 109 for each slice,
 /// with 6 for a third set index and 2 for each place that may be above 15.
-pub fn frame_lengths()
+pub fn frame_length_follows_from_residuals()
     ensures long { (a : Accepted) (planes : Planes) (info : Said) →
         length (frame_of a planes info) ≡ (frame_counts a planes info).renormalisations
         + a.configuration.columns * a.configuration.rows * (1 + foot_length a.configuration.ec) }
@@ -159,6 +160,6 @@ pub fn frame_lengths()
         IsAccepted a.configuration a.table → IsSaid info →
         length (frame_of a planes info) ≤ frame_most a.configuration planes info }
 {
-    slice_lengths();
-    footing();
+    laws::slice_length_follows_from_residuals();
+    slice_laws::footer_has_its_length_and_parity();
 }

@@ -27,6 +27,7 @@
 //! ```
 #![tactic(auto)]
 
+mod class;
 pub mod decode;
 pub mod encode;
 pub mod fault;

@@ -18,8 +18,7 @@ use ffv1_line::{
 };
 use ffv1_plane::QuantSet;
 use ffv1_range::{Fault, RangeDecoder, RangeEncoder, StateTable};
-use ffv1_record::laws::accepted;
-use ffv1_record::{Checked, Colour};
+use ffv1_record::{Checked, Colour, laws as record_laws};
 use std::alloc::{AllocError, Allocator};
 
 /// The two lines above one that is read.
@@ -224,7 +223,7 @@ pub(crate) fn bits_of<A: Allocator>(checked: &Checked<A>) -> u8
     ensures least { 8 ≤ result }
     ensures most { result ≤ 17 }
 {
-    accepted();
+    record_laws::accepted_configuration_is_in_range();
     let depth = checked.depth() as u8;
     match checked.config().colour {
         Colour::YCbCr => depth,

@@ -20,14 +20,14 @@ use ffv1_reads::FileFault as Fault;
 
 /// How many bytes a variable-size integer has is one more than the bits 0 before the first bit 1 of
 /// its first byte (RFC 8794, 4.1).
-pub fn width()
+pub fn first_byte_says_the_length()
     ensures { (n first : ℕ) → 1 ≤ n → n ≤ 8 → 2 ^ (8 - n) ≤ first → first < 2 ^ (9 - n) →
         length_of first ≡ n }
 {}
 
 /// Bytes of which the first says how many they are, and no others, are read as a variable-size
 /// integer.
-pub fn integers()
+pub fn integers_are_read_exactly()
     ensures read { (most left : ℕ) (bytes rest : List ℕ) → IsVint bytes → length bytes ≤ most →
         length bytes ≤ left → vint_read most left (bytes ++ rest) ≡ Ok (bytes, rest) }
     ensures only { (most left : ℕ) (text bytes rest : List ℕ) →
@@ -37,7 +37,7 @@ pub fn integers()
 
 /// An ID is spelled as a variable-size integer of at most four bytes, whose number it is with all
 /// bits. No ID is the beginning of another.
-pub fn idents()
+pub fn no_id_begins_another()
     ensures spelled { (ident : ℕ) → IsIdent ident → IsVint (ident_bytes ident)
         × (length (ident_bytes ident) ≤ 4) × (number_of (ident_bytes ident) ≡ ident) }
     ensures apart { (a b : ℕ) (xs ys : List ℕ) → IsIdent a → IsIdent b →
@@ -46,7 +46,7 @@ pub fn idents()
 
 /// A size is spelled as a variable-size integer that says it, in one byte or in eight; the unknown
 /// size says that it is unknown.
-pub fn sizes()
+pub fn spelled_size_says_its_number()
     ensures short { (n : ℕ) → n < 127 → SaysSize (short n) (Some n) }
     ensures long { (n : ℕ) → n < 2 ^ 56 - 1 → SaysSize (long n) (Some n) }
     ensures unknown { SaysSize unknown None }
@@ -54,7 +54,7 @@ pub fn sizes()
 
 /// An element that is spelled is read as it was spelled, in any parent that holds it, and its
 /// header is summed: a header alone, one of unknown size, and one with the content, which is left.
-pub fn spelled_is_read()
+pub fn spelled_element_is_read()
     ensures known { (left ident n : ℕ) (sum : Sum) (size rest : List ℕ) → IsIdent ident →
         SaysSize size (Some n) → length (ident_bytes ident ++ size) + n ≤ left →
         element_read left sum ((ident_bytes ident ++ size) ++ rest) ≡ Ok (
@@ -98,7 +98,7 @@ pub fn spelled_is_read()
 
 /// In memory an element that is spelled is the first one of what begins with it. It is found by its
 /// ID, and passed over for another one.
-pub fn spelled_is_found()
+pub fn spelled_element_is_found()
     ensures part { (ident : ℕ) (size content rest : List ℕ) → IsIdent ident →
         SaysSize size (Some (length content)) → first_part (spelled ident size content ++ rest)
         ≡ Ok (Some (record { ident = ident; content = content; rest = rest })) }
@@ -111,7 +111,7 @@ pub fn spelled_is_found()
 {}
 
 /// The bytes of a header that is read, without some of the last, end where more are wanted.
-pub fn header_beginnings()
+pub fn shorter_header_wants_more_bytes()
     ensures { (left : ℕ) (sum : Sum) (xs ys : List ℕ) (p : Element × Sum) → 0 < length ys →
         element_read left sum (xs ++ ys) ≡ Ok (p, []) →
         element_read left sum xs ≡ Err (Short Looked) }
@@ -119,7 +119,7 @@ pub fn header_beginnings()
 
 /// Known sizes, some of the standard's own (RFC 8794, 4.4 and 6.2); and two parts of a file from
 /// outside, its EBML header and the content of its Cluster, which begins with a CRC-32.
-pub fn known_rows()
+pub fn known_elements_read_as_expected()
     ensures two { (size_of (0x82 ∷ []) ≡ Some 2) × (size_of (0x40 ∷ 0x02 ∷ []) ≡ Some 2)
         × (size_of (0x20 ∷ 0 ∷ 0x02 ∷ []) ≡ Some 2)
         × (size_of (0x10 ∷ 0 ∷ 0 ∷ 0x02 ∷ []) ≡ Some 2) }
@@ -146,7 +146,7 @@ pub fn known_rows()
 {}
 
 /// Content that is passed is judged as it is in memory, whatever comes after it.
-pub fn passed_is_told()
+pub fn passed_content_is_judged_alike()
     ensures good { (content rest : List ℕ) → content_told content ≡ Ok tt →
         content_passed (length content) (content ++ rest) ≡ Ok (tt, rest) }
     ensures bad { (content rest : List ℕ) (f : FileFault) → content_told content ≡ Err f →

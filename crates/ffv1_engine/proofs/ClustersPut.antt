@@ -8,8 +8,7 @@ use Rattle.ffv1_wire.specs.Passage.{Passage}
 use Rattle.ffv1_record.specs.Accepted.{Accepted}
 use Rattle.ffv1_codec.specs.Frame.{frame_of, HasLongSlice}
 use Rattle.ffv1_codec.specs.Picture.{Planes}
-use Rattle.ffv1_avi.specs.Streams.{limit}
-use Rattle.ffv1_reads.specs.Head.{Head}
+use Rattle.ffv1_reads.specs.Head.{Head, limit}
 use Rattle.ffv1_reads.specs.Known.{Known}
 use Rattle.ffv1_reads.specs.declared.fault.FileFault.{FileFault}
 use Rattle.ffv1_reads.specs.declared.fault.FileFault.TheVariants as file_fault
@@ -20,45 +19,22 @@ use Rattle.ffv1_matroska.specs.declared.shown.Shown.{Shown}
 use Rattle.ffv1_engine.specs.declared.fault.Fault.{Fault}
 use Rattle.ffv1_engine.specs.declared.fault.Fault.TheVariants as fault
 use Rattle.ffv1_engine.specs.declared.packing.Packed.{Packed}
-use Rattle.ffv1_engine.specs.Clusters.{AreClusters, EndsFar, EndsLong, EndsPutting, PutAll, PutsAll, PutsSome, StopsPutting, StopsPuttingBy, begun_for}
-use Rattle.ffv1_engine.specs.Encoding.{Encoded, EncodesOne, EndsAt, EndsKnown, StopsBy, StopsNext}
+use Rattle.ffv1_engine.specs.Internal.Clusters.{AreClusters, EndsFar, EndsLong, EndsPutting, PutAll, PutsAll, PutsSome, StopsPutting, StopsPuttingBy, begun_for}
+use Rattle.ffv1_engine.specs.Internal.Encoding.{Encoded, EncodesOne, EndsAt, EndsKnown, StopsBy, StopsNext}
 use Rattle.ffv1_engine.specs.Faults.{Cause, cause_of, of_avi}
 use Rattle.ffv1_engine.specs.Faults.Cause.{Reading, Writing, Memory, Content}
 use Rattle.ffv1_engine.specs.PackMatroska.{is_matroska_pack_fault}
-use Rattle.ffv1_engine.specs.Pack.{is_pack_fault}
 use Rattle.ffv1_engine.specs.Packing.{AreReadable, bytes_in, frames_for, said_for}
 use Rattle.ffv1_engine.specs.Play.{WritesUpTo}
 use Rattle.ffv1_engine.specs.Video.{ReadsPictures, at_first, picture_next}
-use Rattle.ffv1_engine.specs.VideoReads.{PictureLacks, PictureWants, VideoReading}
-use Rattle.ffv1_engine.proofs.FramesTold.{take_past}
+use Rattle.ffv1_engine.specs.VideoReads.{PictureLacks, PictureWants}
+use Rattle.ffv1_engine.specs.Internal.VideoReads.{VideoReading}
+use Rattle.ffv1_engine.proofs.FramesInTurn.{take_past}
 use Rattle.ffv1_engine.proofs.PicturesEncoded.{encoded_after}
 use Rattle.ffv1_engine.proofs.PicturesRead.{joined, memory_kept, read_none}
 use Rattle.ffv1_engine.proofs.PicturesSoFar.{all_frames, encoded_all, encoded_more, ends_after, known_after, known_next, lacks_after, wants_after}
 
 -- ---- what is known of the faults
-
-pub own_wider : (f : Fault) → is_pack_fault f ≡ true → is_matroska_pack_fault f ≡ true
-own_wider fault.Rate e = refl
-own_wider fault.ChunkTooLong e = refl
-own_wider f e = e
-
-pub own_put : (p : Passage) (w v : Writer) (frame : List ℕ) (f : FileFault) → Puts p w frame v (Err f) → is_matroska_pack_fault (of_avi f) ≡ true
-own_put p w v frame file_fault.TooLarge h = refl
-own_put p w v frame file_fault.Write h = refl
-own_put p w v frame file_fault.OutOfMemory h = absurd h
-own_put p w v frame file_fault.NotAvi h = absurd h
-own_put p w v frame file_fault.NoFfv1 h = absurd h
-own_put p w v frame file_fault.Truncated h = absurd h
-own_put p w v frame file_fault.ChunkTooLong h = absurd h
-own_put p w v frame file_fault.EmptyFrame h = absurd h
-own_put p w v frame file_fault.Read h = absurd h
-own_put p w v frame file_fault.NotMatroska h = absurd h
-own_put p w v frame file_fault.BadElement h = absurd h
-own_put p w v frame file_fault.NoTracks h = absurd h
-own_put p w v frame file_fault.Encoded h = absurd h
-own_put p w v frame file_fault.Laced h = absurd h
-own_put p w v frame file_fault.Checksum h = absurd h
-own_put p w v frame file_fault.Rate h = absurd h
 
 pub own_finish : (p : Passage) (w : Writer) (f : FileFault) → Finishes p w (Err f) → is_matroska_pack_fault (of_avi f) ≡ true
 own_finish p w file_fault.Write h = refl

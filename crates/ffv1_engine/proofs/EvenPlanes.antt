@@ -7,7 +7,7 @@ use Rattle.ffv1_slice.specs.Grid.{division_of, planes_in}
 use Rattle.ffv1_codec.specs.Picture.{AreOf, Planes, plane_height, plane_width, samples_in}
 use Rattle.ffv1_y4m.specs.VideoHead.{Fits as VideoFits, colour_head, reduced}
 use Rattle.ffv1_y4m.specs.declared.head.VideoHead.{VideoHead}
-use Rattle.ffv1_engine.specs.RawPicture.{AreEven}
+use Rattle.ffv1_engine.specs.Internal.RawPicture.{AreEven}
 
 three_or_four : (chroma extra : Bool) → chroma ≡ true → (planes_in chroma extra ≡ 3) ⊎ (planes_in chroma extra ≡ 4)
 three_or_four chroma true e = inr refl

@@ -9,8 +9,7 @@ use Rattle.ffv1_engine.specs.declared.fault.Fault.{Fault}
 use Rattle.ffv1_engine.specs.declared.fault.Fault.TheVariants as fault
 use Rattle.ffv1_engine.specs.Faults.{cause_of, is_file_fault, of_record}
 use Rattle.ffv1_engine.specs.Faults.Cause.{Reading, Memory, Content}
-use Rattle.ffv1_engine.specs.Located.{LocatedFault, located_text}
-use Rattle.ffv1_engine.specs.Told.{WritesLine}
+use Rattle.ffv1_engine.specs.Located.{LocatedFault, WritesLine, located_text}
 
 record_other : (r : RecordFault) → is_file_fault (of_record r) ≡ false
 record_other record_fault.StateTable = refl

@@ -15,7 +15,8 @@ use Rattle.ffv1_words.specs.declared.order.Choice.{Choice}
 use Rattle.ffv1_engine.specs.declared.packing.Packed.{Packed}
 use Rattle.ffv1_engine.specs.declared.fault.Fault.TheVariants as fault
 use Rattle.ffv1_engine.specs.Faults.{of_avi}
-use Rattle.ffv1_engine.specs.Pack.{EncodesVideo, EndsVideo, FaultsPacked, IsPackable, Packs, RefusesPack}
+use Rattle.ffv1_engine.specs.Pack.{FaultsPacked, IsPackable, Packs, RefusesPack}
+use Rattle.ffv1_engine.specs.Internal.Pack.{EncodesVideo, EndsVideo}
 use Rattle.ffv1_engine.specs.Packing.{AllShort, IsFor, bytes_in, packed_file, packed_frames, packed_head, said_for}
 use Rattle.ffv1_engine.specs.Video.{Video}
 

@@ -7,7 +7,7 @@ use Rattle.ffv1_reads.specs.declared.fault.FileFault.{FileFault}
 use Rattle.ffv1_reads.specs.declared.fault.FileFault.TheVariants as avi_fault
 use Rattle.ffv1_files.specs.Answers as files
 use Rattle.ffv1_engine.specs.Faults.{of_avi}
-use Rattle.ffv1_engine.specs.Told.{FaultsKnown, FileStops}
+use Rattle.ffv1_engine.specs.Internal.Told.{FaultsKnown, FileStops}
 
 module _ {X : Type 0} (reading : avi.Reading X) where
   faults_known : (old new : Option (List ℕ)) (f : FileFault) → Known old new (λ text rest. files.FaultsRead reading text rest f) → FaultsKnown reading old new (of_avi f)

@@ -12,16 +12,18 @@ use Rattle.ffv1_engine.specs.declared.fault.Fault.{Fault}
 use Rattle.ffv1_engine.specs.declared.fault.Fault.TheVariants as fault
 use Rattle.ffv1_engine.specs.Faults.{Cause, cause_of}
 use Rattle.ffv1_engine.specs.Faults.Cause.{Reading, Writing, Memory, Content}
-use Rattle.ffv1_engine.specs.Opens.{LacksOpening, LacksOpeningBy, OpensStream, stream_of}
+use Rattle.ffv1_engine.specs.Opens.{LacksOpening, LacksOpeningBy}
+use Rattle.ffv1_engine.specs.Internal.Opens.{OpensStream, stream_of}
 use Rattle.ffv1_engine.specs.Play.{Played}
 use Rattle.ffv1_engine.specs.Play.End.{File, Payload, Over}
 use Rattle.ffv1_engine.specs.Stream.{AreFrames, Frame, ReadsFile}
-use Rattle.ffv1_engine.specs.Unpack.{IsUnpackFault, LacksUnpacking, LacksUnpackingBy, UnpackChanges, UnpackDone, UnpackEnds, UnpackPayload, UnpackPictureFails, UnpackRowFails, UnpackStops, UnpackStopsBy, UnpacksSome, UnpacksTo}
+use Rattle.ffv1_engine.specs.Unpack.{IsUnpackFault, UnpackChanges, UnpackDone, UnpackEnds, UnpackPayload, UnpackPictureFails, UnpackRowFails, UnpackStops, UnpackStopsBy, UnpacksSome, UnpacksTo}
+use Rattle.ffv1_engine.specs.Internal.Unpack.{LacksUnpacking, LacksUnpackingBy}
 use Rattle.ffv1_engine.specs.Unpacked.{HasText, LacksTextBy, is_ppm_stream}
-use Rattle.ffv1_engine.specs.Unpacking.{FileFaults, FormatChanges, PayloadFaults, PictureFails, RowFails, UnpackedAll, UnpackedSome, UnpackedTo, UnpackingStops, UnpackingStopsBy}
-use Rattle.ffv1_engine.proofs.FramesTold.{reads_none, reads_some}
+use Rattle.ffv1_engine.specs.Internal.Unpacking.{FileFaults, FormatChanges, PayloadFaults, PictureFails, RowFails, UnpackedAll, UnpackedSome, UnpackedTo, UnpackingStops, UnpackingStopsBy}
+use Rattle.ffv1_engine.proofs.FramesInTurn.{reads_none, reads_some}
 use Rattle.ffv1_engine.proofs.PicturesWritten.{silent}
-use Rattle.ffv1_engine.proofs.FileChecked.{begins_known, begins_some, begins_to, ends_known, no_frame, positive, some_of_end}
+use Rattle.ffv1_engine.proofs.FileRead.{begins_known, begins_some, begins_to, ends_known, no_items, positive, some_of_end}
 
 -- a file that is not opened
 lacks_opening_by : (profile : Profile) (p : Passage) (f : Fault) (why : Cause) → LacksOpeningBy profile p f why → LacksUnpackingBy profile p f why
@@ -218,7 +220,7 @@ module _ (profile : Profile) (i0 i1 i2 o0 o1 : Option (List ℕ)) (ib im ia ob o
           some = all_some;
           ends = ends_known profile i0 i1 i2 (stream_of r a) r.place frames Over opens.known all.ends;
           file = tt;
-          is = (no_frame frames (let few : length frames ≡ 0 = omega (arith, is, none) in few), refl);
+          is = (no_items frames (let few : length frames ≡ 0 = omega (arith, is, none) in few), refl);
         }))),
       )
 

@@ -12,12 +12,6 @@ module _ (p : ℕ → Bool) (k n m : ℕ) (e : n ≡ suc m) where
   pub all_more : p k ≡ true → list_all p (range_with_len k n) ≡ list_all p (range_with_len (k + 1) m)
   all_more is = ap (λ x. list_all p (range_with_len k x)) e ∙ ap (λ b. b && list_all p (range_with_len (k + 1) m)) is
 
-  pub all_fails : p k ≡ false → list_all p (range_with_len k n) ≡ false
-  all_fails is = ap (λ x. list_all p (range_with_len k x)) e ∙ ap (λ b. b && list_all p (range_with_len (k + 1) m)) is
-
-pub all_over : (p : ℕ → Bool) (k n : ℕ) → n ≡ 0 → list_all p (range_with_len k n) ≡ true
-all_over p k n e = ap (λ x. list_all p (range_with_len k x)) e
-
 -- ---- of the first that passes two tests
 
 module _ {X : Type 0} (p q : X → Bool) where
@@ -38,12 +32,6 @@ module _ {X : Type 0} (p q : X → Bool) where
     pub left_more : (k n m : ℕ) → n ≡ suc m → (q (f k) && p (f k)) ≡ false → left_of k n ≡ left_of (k + 1) m
     left_more k n m e h = ap (left_of k) e ∙ skips (f k) (map f (range_with_len (k + 1) m)) h
 
-    pub left_found : (k n m : ℕ) → n ≡ suc m → q (f k) ≡ true → p (f k) ≡ true → left_of k n ≡ Some (f k)
-    left_found k n m e is so = ap (left_of k) e ∙ takes (f k) (map f (range_with_len (k + 1) m)) is so
-
-    pub left_none : (k n : ℕ) → n ≡ 0 → left_of k n ≡ None
-    left_none k n e = ap (left_of k) e
-
 -- ---- of the first in a list of lists
 
 module _ {X : Type 0} (p : X → Bool) (f : ℕ → List X) where
@@ -59,6 +47,3 @@ module _ {X : Type 0} (p : X → Bool) (f : ℕ → List X) where
 
   pub lists_found : (k n m : ℕ) (x : X) → n ≡ suc m → find p (f k) ≡ Some x → left_in k n ≡ Some x
   lists_found k n m x e some = begins k n m e ∙ ap (λ o. option_or o (left_in (k + 1) m)) some
-
-  pub lists_none : (k n : ℕ) → n ≡ 0 → left_in k n ≡ None
-  lists_none k n e = ap (left_in k) e

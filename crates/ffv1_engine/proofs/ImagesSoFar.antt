@@ -16,13 +16,15 @@ use Rattle.ffv1_engine.specs.declared.fault.Fault.{Fault}
 use Rattle.ffv1_engine.specs.declared.fault.Fault.TheVariants as fault
 use Rattle.ffv1_engine.specs.Faults.{Cause}
 use Rattle.ffv1_engine.specs.Faults.Cause.{Reading, Writing, Memory, Content}
-use Rattle.ffv1_engine.specs.ImagesOut.{ImageFaults, ImageStopsBy, RowCut, rows_so_far}
-use Rattle.ffv1_engine.specs.Stream.{Frame, Stream}
-use Rattle.ffv1_engine.specs.Told.{FaultsKnown, PlaysFrame, ReadsEnd}
+use Rattle.ffv1_engine.specs.Internal.ImagesOut.{ImageFaults, ImageStopsBy, RowCut, rows_so_far}
+use Rattle.ffv1_engine.specs.Stream.{Frame, IsFrame, Stream, frame_payload}
+use Rattle.ffv1_engine.specs.Internal.Told.{FaultsKnown}
 use Rattle.ffv1_engine.specs.Trial.{Silent}
 use Rattle.ffv1_engine.specs.Unpacked.{AlikeBy, is_ppm_stream, lines_before, ppm_text, rows_by, text_by}
-use Rattle.ffv1_engine.specs.Unpacking.{FileFaults, PayloadFaults, RowFails, Unpacked, UnpackedAll, UnpackedSome, UnpackedTo, UnpackingStops, UnpackingStopsBy}
-use Rattle.ffv1_engine.proofs.FramesTold.{are_more, ends_file, ends_over, ends_payload, reads_more, reads_none, reads_some, take_past}
+use Rattle.ffv1_engine.specs.Internal.Unpacking.{FileFaults, PayloadFaults, RowFails, Unpacked, UnpackedAll, UnpackedSome, UnpackedTo, UnpackingStops, UnpackingStopsBy}
+use Rattle.ffv1_engine.specs.Internal.Plays.{PlaysFrame}
+use Rattle.ffv1_engine.specs.Internal.Play.{ReadsEnd}
+use Rattle.ffv1_engine.proofs.FramesInTurn.{all_more, ends_file, ends_over, ends_payload, reads_more, reads_none, reads_some, take_past}
 
 -- the text grows by the next image
 text_more : (s : Stream) (frames : List Frame) (f : Frame) →
@@ -71,9 +73,9 @@ module _ (s : Stream) (ppm : is_ppm_stream s ≡ true) (from : Place) where
         Appends o1 o2 (image_text s.accepted.configuration.depth s.accepted.configuration.width s.accepted.configuration.height f.planes) →
         Unpacked s from (between i0 i2 ib ia) (between o0 o2 ob oa) (frames ++ (f ∷ [])) last
     images_more f plays same writes = record {
-      are = are_more s.accepted frames f un.are plays.is;
+      are = all_more (IsFrame s.accepted) frames f un.are plays.is;
       alike = all_alike (frames ++ (f ∷ []));
-      read = reads_more from to last i0 i1 i2 frames f un.read plays.reads.next;
+      read = reads_more frame_payload from to last i0 i1 i2 frames f un.read plays.reads.next;
       kept = plays.reads.kept ∙ un.kept;
       written = same ∙ un.written;
       writes =

@@ -30,13 +30,13 @@ use Rattle.ffv1_y4m.specs.Sink.{PpmSink, Takes, Refuses, kept_behind, line_text,
 use Rattle.ffv1_files.specs.Places.{Place}
 use Rattle.ffv1_engine.specs.Faults.{cause_of, of_codec}
 use Rattle.ffv1_engine.specs.Faults.Cause.{Content}
-use Rattle.ffv1_engine.specs.ImagesOut.{ImageFaults, ImageStopsBy, IsSinkFor, RowCut, rows_so_far}
-use Rattle.ffv1_engine.specs.Stream.{FaultsFrame}
-use Rattle.ffv1_engine.specs.Told.{ReadsPayload}
+use Rattle.ffv1_engine.specs.Internal.ImagesOut.{ImageFaults, ImageStopsBy, IsSinkFor, RowCut, rows_so_far}
+use Rattle.ffv1_codec.specs.Outcome.{FaultsOf}
 use Rattle.ffv1_engine.specs.Unpacked.{lines_before}
+use Rattle.ffv1_engine.specs.Internal.Play.{ReadsPayload}
 use Rattle.ffv1_engine.proofs.ImageLines.{IsImage}
 use Rattle.ffv1_engine.proofs.FrameDecoded.{same_fault}
-use Rattle.ffv1_engine.proofs.FramesTold.{take_past}
+use Rattle.ffv1_engine.proofs.FramesInTurn.{take_past}
 
 -- a count that is one more is another
 not_more : (n : ℕ) → one_more n ≡ n → ⊥
@@ -49,7 +49,7 @@ counted first then last more before after = not_more first (ap one_more (sym bef
 module _ {S : Type 0} (takes refuses : LineStep S) (a : Accepted) (payload : List ℕ) (old new : S) (tally : Tally) (f : FrameFault) where
   -- the payload has a fault, and the sink took the lines before it
   pub record Faulty : Type 0 where
-    pub faulty : FaultsFrame a payload f tally
+    pub faulty : FaultsOf a payload f tally
     pub grows : Grows takes old (lines_before faulty) new
 
   -- or the sink refused the line that came next

@@ -22,9 +22,13 @@ mod VideoEnds
 mod FrameBytes
 mod FilePacked
 mod FaultsLocated
-mod FramesTold
+mod FramesInTurn
 mod Openings
 mod FrameDecoded
+mod FileRead
+mod FramesPlayed
+mod FramesTold
+mod FilePlayed
 mod FileChecked
 mod FramesJudged
 mod FileJudged
@@ -50,7 +54,6 @@ mod PixelsHashed
 mod EvenPlanes
 mod SmallDigits
 mod Md5sSoFar
-mod FileMd5
 mod TextLines
 mod GridLists
 mod GridsPass

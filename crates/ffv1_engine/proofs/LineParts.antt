@@ -8,9 +8,9 @@ use Rattle.ffv1_wire.specs.Failures.{one_more}
 use Rattle.ffv1_wire.specs.Passage.{between}
 use Rattle.ffv1_engine.specs.declared.fault.Fault.{Fault}
 use Rattle.ffv1_engine.specs.declared.fault.Fault.TheVariants as fault
-use Rattle.ffv1_engine.specs.FrameLines.{WritesPart}
-use Rattle.ffv1_engine.specs.Told.{WritesFrame}
-use Rattle.ffv1_engine.proofs.FramesTold.{take_past}
+use Rattle.ffv1_engine.specs.Internal.FrameLines.{WritesPart}
+use Rattle.ffv1_engine.specs.Internal.Told.{WritesFrame}
+use Rattle.ffv1_engine.proofs.FramesInTurn.{take_past}
 
 -- parts that were written one after the other
 pub parts_done : (o m n : Option (List ℕ)) (b c a : ℕ) (xs ys : List ℕ) → (c ≡ b) × Appends o m xs → (a ≡ c) × Appends m n ys → (a ≡ b) × Appends o n (xs ++ ys)

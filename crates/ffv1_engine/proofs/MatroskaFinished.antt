@@ -10,7 +10,7 @@ use Rattle.ffv1_matroska.specs.Written.{begun_of, finish_of, finished_of, open_o
 use Rattle.ffv1_matroska.specs.Writers.{cues_in, file_bytes, finished_opening, writing_of}
 use Rattle.ffv1_matroska.specs.declared.shown.Shown.{Shown}
 use Rattle.ffv1_engine.specs.Play.{WritesUpTo}
-use Rattle.ffv1_engine.proofs.FramesTold.{take_past}
+use Rattle.ffv1_engine.proofs.FramesInTurn.{take_past}
 
 -- the laws of `ffv1_matroska` on the end of a file
 pub record EndLaws : Type 0 where

@@ -27,15 +27,17 @@ use Rattle.ffv1_words.specs.declared.order.Choice.{Choice}
 use Rattle.ffv1_engine.specs.declared.fault.Fault.{Fault}
 use Rattle.ffv1_engine.specs.declared.fault.Fault.TheVariants as fault
 use Rattle.ffv1_engine.specs.declared.packing.Packed.{Packed}
-use Rattle.ffv1_engine.specs.Clusters.{AreClusters, EndsPutting, PutAll, PutsAll, PutsSome, StopsPutting, StopsPuttingBy}
-use Rattle.ffv1_engine.specs.Encoding.{AllKnown, PicturesKnown}
+use Rattle.ffv1_engine.specs.Internal.Clusters.{AreClusters, EndsPutting, PutAll, PutsAll, PutsSome, StopsPutting, StopsPuttingBy}
+use Rattle.ffv1_engine.specs.Internal.Encoding.{AllKnown, PicturesKnown}
 use Rattle.ffv1_engine.specs.Faults.{Cause, cause_of, of_avi, of_record}
 use Rattle.ffv1_engine.specs.Faults.Cause.{Reading, Writing, Memory, Content}
 use Rattle.ffv1_engine.specs.Grids.{choice_for}
-use Rattle.ffv1_engine.specs.PackMatroska.{EndsClusters, FaultsBefore, FinishFails, HasClusters, LacksMatroska, LacksMatroskaBy, OpensMatroska, PacksMatroska, PacksSome, RefusesMatroska, RefusesMatroskaBy, StandsAfterHead, begun_file, is_matroska_pack_fault, shown_for, whole_file}
+use Rattle.ffv1_engine.specs.PackMatroska.{EndsClusters, FaultsBefore, FinishFails, HasClusters, PacksMatroska, PacksSome, RefusesMatroska, RefusesMatroskaBy, StandsAfterHead, begun_file, is_matroska_pack_fault, shown_for, whole_file}
+use Rattle.ffv1_engine.specs.Internal.PackMatroska.{LacksMatroska, LacksMatroskaBy, OpensMatroska}
 use Rattle.ffv1_engine.specs.Packing.{AreReadable, IsFor, bytes_in, configuration_for, frames_for, head_for}
 use Rattle.ffv1_engine.specs.Video.{Begins, ReadsPictures, ReadsVideo, SaidHead, Video, at_first, is_ppm, video_head}
-use Rattle.ffv1_engine.specs.VideoReads.{HeadKnown, HeadRead, HeadRefused, HeadRefusedBy, IsHeadOf, LacksKnown, PictureLacks, PictureWants, VideoReading}
+use Rattle.ffv1_engine.specs.VideoReads.{LacksKnown, PictureLacks, PictureWants}
+use Rattle.ffv1_engine.specs.Internal.VideoReads.{HeadKnown, HeadRead, HeadRefused, HeadRefusedBy, IsHeadOf, VideoReading}
 use Rattle.ffv1_engine.proofs.KnownTexts.{known_map, known_taken}
 use Rattle.ffv1_engine.proofs.MatroskaFinished.{EndLaws, cut_cues, finished, finished_some, with_cues}
 use Rattle.ffv1_engine.proofs.PicturesRead.{joined}

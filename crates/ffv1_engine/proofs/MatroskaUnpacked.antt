@@ -7,12 +7,11 @@ use Rattle.ffv1_record.specs.Record.{record_of}
 use Rattle.ffv1_codec.specs.Frame.{frame_of}
 use Rattle.ffv1_codec.specs.Picture.{Planes}
 use Rattle.ffv1_codec.specs.SliceList.{Said}
-use Rattle.ffv1_reads.specs.Head.{Head}
+use Rattle.ffv1_reads.specs.Head.{Head, limit}
 use Rattle.ffv1_ebml.specs.Spelled.{ident_length, number_element}
 use Rattle.ffv1_files.specs.Files.{file_read, is_matroska}
 use Rattle.ffv1_files.specs.Whole.{IsWhole}
 use Rattle.ffv1_files.specs.declared.container.Scope.TheVariants.{Whole}
-use Rattle.ffv1_matroska.specs.Blocks.{limit}
 use Rattle.ffv1_matroska.specs.MatroskaFiles.{MatroskaFile}
 use Rattle.ffv1_matroska.specs.Opened as matroska
 use Rattle.ffv1_matroska.specs.Written.{begun_of, checked, display, duration_field, ebml_header, entry_element, entry_fields, finished_of, frame_duration, interlaced_of, long_element, open_of, opening, order_element, short_element, video_content}

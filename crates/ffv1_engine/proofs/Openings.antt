@@ -19,8 +19,9 @@ use Rattle.ffv1_engine.specs.declared.fault.Fault.TheVariants as fault
 use Rattle.ffv1_engine.specs.Faults.{Cause, cause_of, of_avi, of_record}
 use Rattle.ffv1_engine.specs.Faults.Cause.{Reading, Writing, Memory, Content}
 use Rattle.ffv1_engine.specs.Play.{LacksStream}
-use Rattle.ffv1_engine.specs.Opens.{OpensKnown, OpensStream, LacksOpening, LacksOpeningBy, stream_of}
-use Rattle.ffv1_engine.specs.Told.{FaultsKnown, FileStopsBy}
+use Rattle.ffv1_engine.specs.Opens.{OpensKnown, LacksOpening, LacksOpeningBy}
+use Rattle.ffv1_engine.specs.Internal.Opens.{OpensStream, stream_of}
+use Rattle.ffv1_engine.specs.Internal.Told.{FaultsKnown, FileStopsBy}
 use Rattle.ffv1_engine.proofs.FileSteps.{file_stops}
 
 record_cause : (r : RecordFault) → (r ≡ record_fault.OutOfMemory) ⊎ (cause_of (of_record r) ≡ Content)

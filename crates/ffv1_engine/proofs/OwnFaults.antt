@@ -8,27 +8,25 @@ use Rattle.ffv1_codec.specs.declared.fault.CodecFault.TheVariants as codec_fault
 use Rattle.ffv1_codec.specs.DecodeFaults.{is_decode_fault}
 use Rattle.ffv1_reads.specs.declared.fault.FileFault.{FileFault}
 use Rattle.ffv1_reads.specs.declared.fault.FileFault.TheVariants as avi_fault
-use Rattle.ffv1_files.specs.declared.container.Container.{Container}
 use Rattle.ffv1_files.specs.declared.container.Container.TheVariants as container
 use Rattle.ffv1_files.specs.declared.container.Scope.TheVariants.{FirstMovi}
 use Rattle.ffv1_files.specs.Places.{InAvi, InMatroska, Place, container_of}
 use Rattle.ffv1_files.specs.Readers as files
 use Rattle.ffv1_engine.specs.declared.profile.Profile.{Profile}
 use Rattle.ffv1_engine.specs.declared.profile.Profile.TheVariants.{Strict, Wide}
-use Rattle.ffv1_engine.specs.Containers.{IsWithin, is_container_fault, is_profile_fault}
+use Rattle.ffv1_engine.specs.Containers.{is_profile_fault}
+use Rattle.ffv1_engine.specs.Internal.Containers.{IsWithin, is_container_fault}
 use Rattle.ffv1_engine.specs.Profiles.{scope_in}
 use Rattle.ffv1_engine.specs.declared.fault.Fault.{Fault}
 use Rattle.ffv1_engine.specs.declared.fault.Fault.TheVariants as fault
-use Rattle.ffv1_y4m.specs.State.{IsHeaderFault, IsPictureFault}
-use Rattle.ffv1_y4m.specs.declared.fault.Fault.{Fault as Y4mFault}
-use Rattle.ffv1_y4m.specs.declared.fault.Fault.TheVariants as y4m_fault
-use Rattle.ffv1_engine.specs.Faults.{of_avi, of_codec, of_record, of_y4m}
+use Rattle.ffv1_engine.specs.Faults.{of_avi, of_codec, of_record}
 use Rattle.ffv1_engine.specs.Opens.{is_opening_fault}
-use Rattle.ffv1_engine.specs.Picture.{is_mono_fault}
 use Rattle.ffv1_engine.specs.Check.{IsCheckFault}
 use Rattle.ffv1_engine.specs.Show.{IsShowFault, is_show_fault, is_write}
-use Rattle.ffv1_engine.specs.Unpack.{IsUnpackFaultIn, IsWritingFault}
-use Rattle.ffv1_engine.specs.Told.{IsToldFault, WritesFrame, is_telling_fault}
+use Rattle.ffv1_engine.specs.Unpack.{IsUnpackFaultIn}
+use Rattle.ffv1_engine.specs.Internal.Unpack.{IsWritingFault}
+use Rattle.ffv1_engine.specs.Told.{is_telling_fault}
+use Rattle.ffv1_engine.specs.Internal.Told.{IsToldFault, WritesFrame}
 
 pub record_opens : (r : RecordFault) → is_opening_fault (of_record r) ≡ true
 record_opens record_fault.StateTable = refl
@@ -122,13 +120,6 @@ container_own Strict place f within own = rw within at own
 container_own Wide (InAvi place) f within own = absurd (let no : false ≡ true = own in cc)
 container_own Wide (InMatroska segment track place) f within own = own
 
--- those of telling frames are those of a command on their file
-pub told_writes : (k : Container) (f : Fault) → IsToldFault k f → IsWritingFault k f
-told_writes k f h = elim h [
-  | inl own ↦ inl (inr (inl own))
-  | inr own ↦ inr own
-]
-
 pub told_checks : (profile : Profile) (place : Place) (f : Fault) → IsWithin profile place → IsToldFault (container_of place) f → IsCheckFault profile f
 told_checks profile place f within h = elim h [
   | inl own ↦ inr (inl own)
@@ -173,13 +164,6 @@ payload_tells codec_fault.SliceTooLong decode own = absurd (let no : false ≡ t
 payload_tells codec_fault.InfoDiffers decode own = refl
 payload_tells codec_fault.Sink decode own = absurd (own refl)
 
--- a line that is not written
-pub line_tells : (line : List ℕ) (p : Passage) (f : Fault) → WritesFrame line p (Err f) → is_telling_fault f ≡ true
-line_tells line p f h = elim h [
-  | inl write ↦ subst (λ z. is_telling_fault z ≡ true) (sym write.0) refl
-  | inr none ↦ subst (λ z. is_telling_fault z ≡ true) (sym none.0) refl
-]
-
 either_left : (a b : Bool) → a ≡ true → (a || b) ≡ true
 either_left true b h = refl
 either_left false b h = absurd (let no : false ≡ true = h in cc)
@@ -213,28 +197,3 @@ line_shows cost line p f h = elim h [
     is_own : (cost : Bool) → is_show_fault cost fault.Write ≡ true
     is_own false = refl
     is_own true = refl
-
--- those of the reader of a text, which reads one picture of it
-pub header_reads : (f : Y4mFault) → IsHeaderFault f → is_mono_fault (of_y4m f) ≡ true
-header_reads y4m_fault.OutOfMemory own = absurd own
-header_reads y4m_fault.Read own = refl
-header_reads y4m_fault.Write own = absurd own
-header_reads y4m_fault.Header own = refl
-header_reads y4m_fault.Tag own = refl
-header_reads y4m_fault.Unsupported own = refl
-header_reads y4m_fault.FrameLine own = absurd own
-header_reads y4m_fault.FrameTruncated own = absurd own
-header_reads y4m_fault.SampleTooLarge own = absurd own
-header_reads y4m_fault.FormatChanged own = absurd own
-
-pub picture_reads : (f : Y4mFault) → IsPictureFault f → is_mono_fault (of_y4m f) ≡ true
-picture_reads y4m_fault.OutOfMemory own = refl
-picture_reads y4m_fault.Read own = refl
-picture_reads y4m_fault.Write own = absurd own
-picture_reads y4m_fault.Header own = absurd own
-picture_reads y4m_fault.Tag own = absurd own
-picture_reads y4m_fault.Unsupported own = absurd own
-picture_reads y4m_fault.FrameLine own = refl
-picture_reads y4m_fault.FrameTruncated own = refl
-picture_reads y4m_fault.SampleTooLarge own = refl
-picture_reads y4m_fault.FormatChanged own = absurd own

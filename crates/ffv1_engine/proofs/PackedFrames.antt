@@ -26,7 +26,8 @@ use Rattle.ffv1_codec.proofs.FromCoded.{coded_bytes}
 use Rattle.ffv1_engine.specs.Video.{SaidHead}
 use Rattle.ffv1_words.specs.declared.order.Choice.{Choice}
 use Rattle.ffv1_engine.specs.Packing.{AllShort, configuration_for, said_for}
-use Rattle.ffv1_engine.specs.Stream.{AreFrames, Decided, FaultsFrame, Frame, payloads}
+use Rattle.ffv1_codec.specs.Outcome.{CountOf, FaultsOf}
+use Rattle.ffv1_engine.specs.Stream.{AreFrames, Frame, payloads}
 use Rattle.ffv1_engine.specs.Unpacked.{AllSay, pictures}
 use Rattle.ffv1_engine.specs.VideoReads.{IsHeadBy}
 use Rattle.ffv1_engine.proofs.ByteLists.{bytes_joined, bytes_pushed, no_bytes}
@@ -141,7 +142,7 @@ module _ (laws : FrameLaws) (a : Accepted) (accepted : IsAccepted a.configuratio
 
   module _ (said : Said) where
     -- a frame is decoded to its end, and has no fault
-    decided : (planes : Planes) → Coded a said planes → (tally : Tally) × Decided a (frame_of a planes said) tally
+    decided : (planes : Planes) → Coded a said planes → (tally : Tally) × CountOf a (frame_of a planes said) tally
     decided planes coded =
         let payload = frame_of a planes said in
         let cut = laws.cut a.configuration payload coded.codes.spans coded.codes.cuts in
@@ -166,7 +167,7 @@ module _ (laws : FrameLaws) (a : Accepted) (accepted : IsAccepted a.configuratio
         let same : cut.0 ≡ os = same_ok (cut_of a.configuration payload) cut.0 os cut.1 is in
         λ s inside. ap (λ xs. slice_index xs s) (sym same) ∙ cut.3 s inside
 
-    pub no_fault : (planes : Planes) (fault : FrameFault) (tally : Tally) → Coded a said planes → FaultsFrame a (frame_of a planes said) fault tally → ⊥
+    pub no_fault : (planes : Planes) (fault : FrameFault) (tally : Tally) → Coded a said planes → FaultsOf a (frame_of a planes said) fault tally → ⊥
     no_fault planes fault tally coded (inl h) =
         let cut = laws.cut a.configuration (frame_of a planes said) coded.codes.spans coded.codes.cuts in
         not_cut (cut_of a.configuration (frame_of a planes said)) cut.0 h.0 cut.1 h.1

@@ -11,7 +11,7 @@ use Rattle.ffv1_codec.specs.Picture.{Planes}
 use Rattle.ffv1_codec.specs.declared.fault.FrameFault.{FrameFault}
 use Rattle.ffv1_files.specs.declared.container.Scope.TheVariants.{FirstMovi, Whole}
 use Rattle.ffv1_files.specs.Whole.{IsWhole}
-use Rattle.ffv1_files.specs.Places.{Place}
+use Rattle.ffv1_files.specs.Places.{Place, container_of}
 use Rattle.ffv1_avi.specs.Chunks.{AviFile, IsWritable}
 use Rattle.ffv1_files.specs.Files.{file_read, frame_read, frames_read, more_frames, open_read}
 use Rattle.ffv1_reads.specs.Head.{Head}
@@ -29,22 +29,30 @@ use Rattle.ffv1_engine.specs.declared.profile.Profile.TheVariants.{Strict, Wide}
 use Rattle.ffv1_engine.specs.Profiles.{greatest_depth, scope_in, record_profile}
 use Rattle.ffv1_engine.specs.declared.fault.Fault.{Fault}
 use Rattle.ffv1_engine.specs.declared.fault.Fault.TheVariants as fault
+use Rattle.ffv1_engine.specs.declared.frame_line.FrameLine.TheVariants as line
 use Rattle.ffv1_words.specs.declared.order.Choice.{Choice}
-use Rattle.ffv1_engine.specs.Check.{CheckStops, CheckStopsBy}
-use Rattle.ffv1_engine.specs.Show.{CostStopsBy, ShowStops, StreamStopsBy}
+use Rattle.ffv1_engine.specs.Check.{CheckStops, frame_count}
+use Rattle.ffv1_engine.specs.Checked.{LastStopsBy}
+use Rattle.ffv1_engine.specs.Show.{ShowStops, StreamStopsBy, cost_text}
 use Rattle.ffv1_engine.specs.Faults.{cause_of}
 use Rattle.ffv1_engine.specs.Faults.Cause.{Content}
 use Rattle.ffv1_avi.specs.Written.{most, riff_size}
 use Rattle.ffv1_engine.specs.Packing.{AllShort, AreReadable, IsFor, configuration_for, packed_file, packed_frames, packed_head, said_for}
-use Rattle.ffv1_engine.specs.Play.{End, EndsKnown, EndsWith, FaultsRead, IsOfFile, LacksStream, Played}
+use Rattle.ffv1_engine.specs.FrameLines.{frame_lines}
+use Rattle.ffv1_engine.specs.Located.{LocatedFault, byte_told}
+use Rattle.ffv1_engine.specs.Opens.{LacksOpeningBy}
+use Rattle.ffv1_engine.specs.Play.{End, EndsKnown, EndsWith, FaultsRead, IsFaulty, IsOfFile, LacksStream, Played}
+use Rattle.ffv1_engine.specs.Plays.{FileThen, GoesBy, PlayStopsBy}
 use Rattle.ffv1_engine.specs.Play.End.{File, Payload, Over}
 use Rattle.ffv1_engine.specs.RoundTrip.{HoldsBy, IsFileIn, IsNoContent, IsReadIn, IsUnpacked, WasPacked, canonical_by, canonical_of, video_in}
-use Rattle.ffv1_engine.specs.Stream.{AreFrames, Begins, BeginsKnown, FaultsFrame, Frame, IsRead, IsStream, ReadsFile, ReadsFrames, Stream, payloads}
+use Rattle.ffv1_codec.specs.Outcome.{FaultsOf}
+use Rattle.ffv1_engine.specs.Stream.{AreFrames, Begins, BeginsKnown, Frame, IsFrame, IsRead, IsStream, ReadsFile, ReadsFrames, Stream, frame_payload, payloads}
 use Rattle.ffv1_engine.specs.Unpack.{LacksTextIn, UnpackDone, UnpackStops, UnpackStopsBy}
 use Rattle.ffv1_engine.specs.Unpacked.{AllSay, AreAlike, HasTextBy, LacksText, LacksTextBy, is_ppm_stream, pictures, text_of}
 use Rattle.ffv1_engine.specs.Video.{IsReadVideo, IsReadVideoBy, IsVideo, IsVideoBy, ReadsVideo, Video}
 use Rattle.ffv1_engine.specs.VideoReads.{IsHeadBy}
 use Rattle.ffv1_engine.proofs.Depths.{all_within, eight_within}
+use Rattle.ffv1_engine.proofs.FilePlayed.{then_ends}
 use Rattle.ffv1_engine.proofs.FileTurns.{Opened, Others, no_fault as no_read_fault, no_more, no_stop, one_more, opened, others}
 use Rattle.ffv1_engine.proofs.PackedFrames.{AllCoded, FrameLaws, Same, all_coded, made, no_fault, same}
 use Rattle.ffv1_engine.proofs.PackedPictures.{head_given, name_given, pictures_given, said_given}
@@ -217,11 +225,11 @@ module _ (profile : Profile) (files : FileLaws profile) (frame_laws : FrameLaws)
 
     -- the payload that comes next has no fault
     not_next : (ps : List Planes) (payload : List ℕ) (more : List (List ℕ)) (f : FrameFault) (tally : Tally) → AllCoded a (said_for v.head) ps →
-        map (λ planes. frame_of a planes (said_for v.head)) ps ≡ payload ∷ more → FaultsFrame a payload f tally → ⊥
+        map (λ planes. frame_of a planes (said_for v.head)) ps ≡ payload ∷ more → FaultsOf a payload f tally → ⊥
     not_next [] payload more f tally coded e faulty = cc
     not_next (p ∷ ps) payload more f tally coded e faulty =
         let here : frame_of a p (said_for v.head) ≡ payload = cc in
-        no_fault frame_laws a g.for.accepted (said_for v.head) p f tally coded.0 (subst (λ bytes. FaultsFrame a bytes f tally) (sym here) faulty)
+        no_fault frame_laws a g.for.accepted (said_for v.head) p f tally coded.0 (subst (λ bytes. FaultsOf a bytes f tally) (sym here) faulty)
 
     -- where the file begins with frames, the others are read after them
     module _ (s : Stream) (frames : List Frame) (b : Known profile file s frames) where
@@ -251,12 +259,12 @@ module _ (profile : Profile) (files : FileLaws profile) (frame_laws : FrameLaws)
           some_in (λ planes. frame_of a planes (said_for v.head)) v.pictures (sym all) g.some
 
       -- the next payload has none
-      never_faulty : Played profile s frames → (payload rest : List ℕ) (to : Place) (f : FrameFault) (tally : Tally) → frame_read b.to b.at ≡ Ok (Some (payload, to), rest) → FaultsFrame s.accepted payload f tally → ⊥
+      never_faulty : Played profile s frames → (payload rest : List ℕ) (to : Place) (f : FrameFault) (tally : Tally) → frame_read b.to b.at ≡ Ok (Some (payload, to), rest) → FaultsOf s.accepted payload f tally → ⊥
       unfolding stream
       never_faulty played payload rest to f tally h faulty =
           let turn = one_more files.next b.to to b.at rest payload first.1.more [] h first.1.read in
           let of = same_frames played in
-          not_next of.others payload turn.0 f tally of.coded (of.more_are ∙ turn.1) (subst (λ (t : Stream). FaultsFrame t.accepted payload f tally) (the_stream s played.stream first.0) faulty)
+          not_next of.others payload turn.0 f tally of.coded (of.more_are ∙ turn.1) (subst (λ (t : Stream). FaultsOf t.accepted payload f tally) (the_stream s played.stream first.0) faulty)
 
     -- so the file has a stream
     lacks_stream : (new : Option (List ℕ)) (f : Fault) → LacksStream profile (Some file) new f → ⊥
@@ -282,7 +290,7 @@ module _ (profile : Profile) (files : FileLaws profile) (frame_laws : FrameLaws)
 
     -- no payload of it has a fault
     payload_ends : (new : Option (List ℕ)) (s : Stream) (frames : List Frame) (payload : List ℕ) (f : FrameFault) (tally : Tally) → Played profile s frames →
-        EndsKnown profile (Some file) new s frames (Payload payload f tally) → FaultsFrame s.accepted payload f tally → ⊥
+        EndsKnown profile (Some file) new s frames (Payload payload f tally) → FaultsOf s.accepted payload f tally → ⊥
     payload_ends None s frames payload f tally played h faulty = h
     payload_ends (Some rest) s frames payload f tally played (to, at, begins, (last, h)) faulty =
         never_faulty s frames (record { to = to; at = at; begins = begins }) played payload rest last f tally h faulty
@@ -303,7 +311,7 @@ module _ (profile : Profile) (files : FileLaws profile) (frame_laws : FrameLaws)
       file_ended s frames e f h = file_ends input.new s frames e f (subst (λ o. EndsKnown profile o input.new s frames e) known h)
 
       payload_ended : (s : Stream) (frames : List Frame) (payload : List ℕ) (f : FrameFault) (tally : Tally) → Played profile s frames → EndsKnown profile input.old input.new s frames (Payload payload f tally) →
-          FaultsFrame s.accepted payload f tally → ⊥
+          FaultsOf s.accepted payload f tally → ⊥
       payload_ended s frames payload f tally played h = payload_ends input.new s frames payload f tally played (subst (λ o. EndsKnown profile o input.new s frames (Payload payload f tally)) known h)
 
       -- unpack
@@ -319,30 +327,55 @@ module _ (profile : Profile) (files : FileLaws profile) (frame_laws : FrameLaws)
       pub unpack_refused : (f : Fault) → UnpackStops profile input output f → IsNoContent f
       unpack_refused f h = no_content f (λ e. no_unpack_fault f (subst (λ why. UnpackStopsBy profile input output f why) e h))
 
+      no_opening_fault : (f : Fault) → LacksOpeningBy profile input f Content → ⊥
+      no_opening_fault f h = stream_lacks f h.1
+
+      no_end : (s : Stream) (frames : List Frame) (e : End) (f : Fault) → Played profile s frames → EndsKnown profile input.old input.new s frames e → IsFaulty s.accepted e → EndsWith frames e f → ⊥
+      no_end s frames (File g) f played ends faulty is = file_ended s frames (File g) f ends tt is
+      no_end s frames Over f played ends faulty is = file_ended s frames Over f ends tt is
+      no_end s frames (Payload payload g tally) f played ends faulty is = payload_ended s frames payload g tally played ends faulty
+
       -- check
-      no_check_fault : (place : Bool) (f : Fault) → CheckStopsBy profile place input output f Content → ⊥
-      no_check_fault place f (kept, inl (none, h)) = stream_lacks f h
-      no_check_fault place f (kept, inr h) = file_ended h.stream h.frames h.end f h.ends h.file h.is
+      no_check_fault : (s : Stream) (lines : List Frame → List ℕ) (Stops : Fault → ℕ → Type 0) (byte : Bool) (f : Fault) → IsStream profile s →
+          GoesBy (IsFrame s.accepted) frame_payload (FileThen profile s.head) lines input output Stops byte f Content → ⊥
+      no_check_fault s lines Stops byte f is h = no_end s h.0 (File f) f (record { stream = is; decoded = h.3.are }) (then_ends profile s h.0 (File f) input.old input.new h.3.has) tt refl
+
+      no_last_fault : (place : Bool) (f : Fault) → LastStopsBy IsFrame frame_payload (frame_lines line.Sizes) frame_count profile place input output f Content → ⊥
+      no_last_fault place f h =
+          let over = h.1.over in
+          no_end h.1.stream [] Over f (record { stream = over.is; decoded = over.goes.are }) (then_ends profile h.1.stream [] Over input.old input.new over.goes.has) tt (refl, h.0)
 
       pub check_refused : (place : Bool) (f : Fault) → CheckStops profile place input output f → IsNoContent f
-      check_refused place f (inl h) = absurd (payload_ended h.stream h.frames h.payload h.fault h.tally h.played h.ends h.faulty)
-      check_refused place f (inr h) = no_content f (λ e. no_check_fault place f (subst (λ why. CheckStopsBy profile place input output f why) e h))
+      check_refused place f (inl h) =
+          let p = h.stops in
+          absurd (no_end h.stream p.frames (Payload p.payload p.fault p.tally) f (record { stream = h.is; decoded = p.goes.are })
+          (then_ends profile h.stream p.frames (Payload p.payload p.fault p.tally) input.old input.new p.goes.has) p.faulty p.is)
+      check_refused place f (inr (inl h)) = no_content f (λ e. no_opening_fault f (subst (λ why. LacksOpeningBy profile input f why) e h.1))
+      check_refused place f (inr (inr (inl h))) =
+          let lines = frame_lines line.Sizes h.stream.accepted.configuration in
+          let Stops = LocatedFault (scope_in profile) input in
+          no_content f (λ e. no_check_fault h.stream lines Stops (byte_told profile place) f h.is
+          (subst (λ why. GoesBy (IsFrame h.stream.accepted) frame_payload (FileThen profile h.stream.head) lines input output Stops (byte_told profile place) f why) e h.goes))
+      check_refused place f (inr (inr (inr h))) =
+          no_content f (λ e. no_last_fault place f (subst (λ why. LastStopsBy IsFrame frame_payload (frame_lines line.Sizes) frame_count profile place input output f why) e h))
 
       -- show
       no_show_fault : (f : Fault) → StreamStopsBy profile input output f Content → ⊥
-      no_show_fault f h = stream_lacks f h.2
+      no_show_fault f h = no_opening_fault f h.1
 
       stream_refused : (f : Fault) → StreamStopsBy profile input output f (cause_of f) → IsNoContent f
       stream_refused f h = no_content f (λ e. no_show_fault f (subst (λ why. StreamStopsBy profile input output f why) e h))
 
-      no_cost_fault : (f : Fault) → CostStopsBy profile input output f Content → ⊥
-      no_cost_fault f h = file_ended h.stream h.frames (File f) f h.ends tt refl
+      no_play_fault : (s : Stream) (lines : List Frame → List ℕ) (f : Fault) → IsStream profile s → PlayStopsBy (FileThen profile s.head) s.accepted lines input output f Content → ⊥
+      no_play_fault s lines f is h =
+          no_end s h.1.frames h.1.end f (record { stream = is; decoded = h.1.plays.goes.are }) (then_ends profile s h.1.frames h.1.end input.old input.new h.1.plays.goes.has) h.1.faulty h.1.is
 
       pub show_refused : (cost : Bool) (f : Fault) → ShowStops profile input output cost f → IsNoContent f
       show_refused false f h = stream_refused f h
       show_refused true f (inl h) = stream_refused f h
-      show_refused true f (inr (inl h)) = absurd (payload_ended h.stream h.frames h.payload h.fault h.tally h.costs.played h.ends h.faulty)
-      show_refused true f (inr (inr h)) = no_content f (λ e. no_cost_fault f (subst (λ why. CostStopsBy profile input output f why) e h))
+      show_refused true f (inr h) =
+          let lines = cost_text (container_of h.comes.place) h.stream in
+          no_content f (λ e. no_play_fault h.stream lines f h.is (subst (λ why. PlayStopsBy (FileThen profile h.stream.head) h.stream.accepted lines input output f why) e h.stops))
 
 -- a text that was packed is such a text
 pub reads_is : (most : ℕ) (text : List ℕ) (old new : Option (List ℕ)) (v : Video) → old ≡ Some text → ReadsVideo most old new v → IsReadVideo most text v

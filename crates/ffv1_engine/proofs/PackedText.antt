@@ -10,8 +10,7 @@ use Rattle.ffv1_record.specs.declared.fault.RecordFault.{RecordFault}
 use Rattle.ffv1_codec.specs.Picture.{Planes}
 use Rattle.ffv1_codec.specs.SliceList.{Said}
 use Rattle.ffv1_avi.specs.Chunks.{AreSized, IsWritable}
-use Rattle.ffv1_reads.specs.Head.{Head}
-use Rattle.ffv1_avi.specs.Streams.{limit}
+use Rattle.ffv1_reads.specs.Head.{Head, limit}
 use Rattle.ffv1_avi.specs.Written.{most, riff_size}
 use Rattle.ffv1_codec.specs.Frame.{frame_of}
 use Rattle.ffv1_y4m.specs.Canonical.{canonical_text}

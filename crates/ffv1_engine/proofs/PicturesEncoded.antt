@@ -10,11 +10,11 @@ use Rattle.ffv1_codec.specs.SliceList.{Said}
 use Rattle.ffv1_avi.specs.Written.{frames_of}
 use Rattle.ffv1_engine.specs.declared.fault.Fault.{Fault}
 use Rattle.ffv1_engine.specs.declared.fault.Fault.TheVariants as fault
-use Rattle.ffv1_engine.specs.Encoding.{EncodesNext, EncodesOne, StopsBy, StopsNext}
+use Rattle.ffv1_engine.specs.Internal.Encoding.{EncodesNext, EncodesOne, StopsBy, StopsNext}
 use Rattle.ffv1_engine.specs.Faults.{Cause, cause_of}
 use Rattle.ffv1_engine.specs.Faults.Cause.{Reading, Writing, Memory, Content}
 use Rattle.ffv1_engine.specs.Packing.{said_for}
-use Rattle.ffv1_engine.specs.VideoReads.{NextRead, NextRefused, NextRefusedBy, VideoReading}
+use Rattle.ffv1_engine.specs.Internal.VideoReads.{NextRead, NextRefused, NextRefusedBy, VideoReading}
 
 pub frames_behind : {A : Type 0} (old : List (Vec ℕ A)) (frame : Vec ℕ A) → frames_of (old ++ (frame ∷ [])) ≡ frames_of old ++ (frame.items ∷ [])
 frames_behind [] frame = refl

@@ -8,11 +8,12 @@ use Rattle.ffv1_y4m.specs.Reads.{Wants}
 use Rattle.ffv1_y4m.specs.Sequence.{left}
 use Rattle.ffv1_y4m.specs.declared.fault.Fault.{Fault as Y4mFault}
 use Rattle.ffv1_engine.specs.declared.fault.Fault.{Fault}
-use Rattle.ffv1_engine.specs.Encoding.{AllKnown, PicturesKnown, ReadsOne}
+use Rattle.ffv1_engine.specs.Internal.Encoding.{AllKnown, PicturesKnown, ReadsOne}
 use Rattle.ffv1_engine.specs.Faults.{of_y4m}
 use Rattle.ffv1_engine.specs.Faults.Cause.{Reading, Memory}
 use Rattle.ffv1_engine.specs.Video.{ReadsPictures, SaidHead, at_first, picture_next}
-use Rattle.ffv1_engine.specs.VideoReads.{GrowsInNext, NextKnown, NextRead, NextRefusedBy, PictureLacks, PictureWants, StopsKnown, Taken, VideoReading}
+use Rattle.ffv1_engine.specs.VideoReads.{GrowsInNext, PictureLacks, PictureWants, Taken}
+use Rattle.ffv1_engine.specs.Internal.VideoReads.{NextKnown, NextRead, NextRefusedBy, StopsKnown, VideoReading}
 use Rattle.ffv1_engine.proofs.KnownTexts.{known_map, known_taken, known_then}
 
 -- a call after another one

@@ -9,12 +9,13 @@ use Rattle.ffv1_codec.specs.Picture.{Planes}
 use Rattle.ffv1_reads.specs.Known.{Known}
 use Rattle.ffv1_engine.specs.Video.{SaidHead}
 use Rattle.ffv1_engine.specs.declared.fault.Fault.{Fault}
-use Rattle.ffv1_engine.specs.Encoding.{Encoded, EncodesAll, EncodesNext, EndsAt, EndsKnown, IsTooLong, PicturesKnown, ReadsOne, StopsBy, StopsEncoding, StopsEncodingBy, StopsNext}
+use Rattle.ffv1_engine.specs.Internal.Encoding.{Encoded, EncodesAll, EncodesNext, EndsAt, EndsKnown, IsTooLong, PicturesKnown, ReadsOne, StopsBy, StopsEncoding, StopsEncodingBy, StopsNext}
 use Rattle.ffv1_engine.specs.Faults.{Cause, cause_of}
 use Rattle.ffv1_engine.specs.Faults.Cause.{Reading, Writing, Memory, Content}
 use Rattle.ffv1_engine.specs.Packing.{AllShort, frames_for, said_for}
 use Rattle.ffv1_engine.specs.Video.{ReadsPictures, at_first, picture_next}
-use Rattle.ffv1_engine.specs.VideoReads.{NextRead, NextRefusedBy, PictureLacks, PictureWants, StopsKnown, VideoReading}
+use Rattle.ffv1_engine.specs.VideoReads.{PictureLacks, PictureWants}
+use Rattle.ffv1_engine.specs.Internal.VideoReads.{NextRead, NextRefusedBy, StopsKnown, VideoReading}
 use Rattle.ffv1_engine.proofs.KnownTexts.{known_map}
 use Rattle.ffv1_engine.proofs.PicturesRead as read
 use Rattle.ffv1_engine.proofs.PicturesRead.{ReadSo, joined, memory_kept}

@@ -30,13 +30,16 @@ use Rattle.ffv1_reads.specs.Head.{Head}
 use Rattle.ffv1_engine.specs.declared.fault.Fault.{Fault}
 use Rattle.ffv1_engine.specs.Faults.{Cause, cause_of, of_codec}
 use Rattle.ffv1_engine.specs.Faults.Cause.{Reading, Writing, Memory, Content}
-use Rattle.ffv1_engine.specs.PicturesOut.{Begun, FrameChanges, IsBegun, IsKeptFor, NextStopsBy, PayloadRefused, SaysAgain, WritesPicture, head_saying, said_in, text_behind, writer_behind}
-use Rattle.ffv1_engine.specs.Stream.{FaultsFrame, Frame, Stream}
-use Rattle.ffv1_engine.specs.Told.{FaultsKnown, FileStopsBy, PlaysFrame, ReadsEnd, ReadsPayload}
+use Rattle.ffv1_engine.specs.Internal.PicturesOut.{Begun, FrameChanges, IsBegun, IsKeptFor, NextStopsBy, PayloadRefused, SaysAgain, WritesPicture, head_saying, said_in, text_behind, writer_behind}
+use Rattle.ffv1_codec.specs.Outcome.{FaultsOf}
+use Rattle.ffv1_engine.specs.Stream.{Frame, IsFrame, Stream, frame_payload}
+use Rattle.ffv1_engine.specs.Internal.Told.{FaultsKnown, FileStopsBy}
 use Rattle.ffv1_engine.specs.Trial.{Silent}
 use Rattle.ffv1_engine.specs.Unpacked.{AlikeBy, AllSay, is_ppm_stream, lines_before, pictures, rows_by, text_by, video_of, y4m_text}
-use Rattle.ffv1_engine.specs.Unpacking.{FileFaults, FormatChanges, PayloadFaults, PictureFails, Unpacked, UnpackedAll, UnpackedSome, UnpackedTo, UnpackingStops, UnpackingStopsBy}
-use Rattle.ffv1_engine.proofs.FramesTold.{are_more, but_last_more, ends_file, ends_over, ends_payload, reads_more, reads_none, reads_some, take_past}
+use Rattle.ffv1_engine.specs.Internal.Unpacking.{FileFaults, FormatChanges, PayloadFaults, PictureFails, Unpacked, UnpackedAll, UnpackedSome, UnpackedTo, UnpackingStops, UnpackingStopsBy}
+use Rattle.ffv1_engine.specs.Internal.Plays.{PlaysFrame}
+use Rattle.ffv1_engine.specs.Internal.Play.{ReadsEnd, ReadsPayload}
+use Rattle.ffv1_engine.proofs.FramesInTurn.{all_more, but_last_more, ends_file, ends_over, ends_payload, reads_more, reads_none, reads_some, take_past}
 
 pub silent : (o : Option (List ℕ)) (n : ℕ) → Silent (between o o n n)
 silent o n = record { kept = Keeps-refl o; same = refl }
@@ -123,9 +126,9 @@ module _ (s : Stream) (h : VideoHead) (heads : (said : Said) → head_saying h s
     pub unpacked_more : (f : Frame) → PlaysFrame s.accepted to last (between i1 i2 im ia) f → SaysAgain (said_in (begun_behind depth h frames)) f.said → oa ≡ om →
         Appends o1 o2 (text_behind depth h (said_in (begun_behind depth h frames)) f.said f.planes) → Unpacked s from (between i0 i2 ib ia) (between o0 o2 ob oa) (frames ++ (f ∷ [])) last
     unpacked_more f plays again same writes = record {
-      are = are_more s.accepted frames f un.are plays.is;
+      are = all_more (IsFrame s.accepted) frames f un.are plays.is;
       alike = more_alike f again;
-      read = reads_more from to last i0 i1 i2 frames f un.read plays.reads.next;
+      read = reads_more frame_payload from to last i0 i1 i2 frames f un.read plays.reads.next;
       kept = plays.reads.kept ∙ un.kept;
       written = same ∙ un.written;
       writes =
@@ -173,9 +176,9 @@ module _ (s : Stream) (h : VideoHead) (heads : (said : Said) → head_saying h s
         record {
           frames = frames ++ (f ∷ []);
           to = last;
-          are = are_more s.accepted frames f un.are plays.is;
+          are = all_more (IsFrame s.accepted) frames f un.are plays.is;
           alike = more_alike f again;
-          read = reads_more from to last i0 i1 i2 frames f un.read plays.reads.next;
+          read = reads_more frame_payload from to last i0 i1 i2 frames f un.read plays.reads.next;
           kept = plays.reads.kept ∙ un.kept;
           written = counted ∙ ap one_more un.written;
           writes = record {
@@ -213,10 +216,10 @@ module _ (s : Stream) (h : VideoHead) (heads : (said : Said) → head_saying h s
       frames = frames;
       last = p.frame;
       to = last;
-      are = are_more s.accepted frames p.frame un.are p.plays.is;
+      are = all_more (IsFrame s.accepted) frames p.frame un.are p.plays.is;
       alike = un.alike;
       changed = λ alike. p.changed (last_alike depth h frames p.frame (alike_plain (frames ++ (p.frame ∷ [])) alike));
-      read = reads_more from to last i0 i1 i2 frames p.frame un.read p.plays.reads.next;
+      read = reads_more frame_payload from to last i0 i1 i2 frames p.frame un.read p.plays.reads.next;
       is = p.is;
       written = silent.same ∙ un.written;
       writes = Appends-kept o0 o1 o2 (text_by (is_ppm_stream s) s frames) un.writes silent.kept;
@@ -327,7 +330,7 @@ module _ (a : Accepted) (h : VideoHead) (first : Option Said) (from to : Place) 
   file_stops o n f Content stops = (silent o n, stops.0, inl stops.1)
 
   -- its payload has a fault
-  pub payload_stops : (o : Option (List ℕ)) (n : ℕ) (payload : List ℕ) (f : FrameFault) (tally : Tally) → ReadsPayload from to payload input → FaultsFrame a payload f tally →
+  pub payload_stops : (o : Option (List ℕ)) (n : ℕ) (payload : List ℕ) (f : FrameFault) (tally : Tally) → ReadsPayload from to payload input → FaultsOf a payload f tally →
       cause_of (of_codec f.fault) ≡ Content → NextStopsBy a h first from to input (between o o n n) (of_codec f.fault) (cause_of (of_codec f.fault))
   payload_stops o n payload f tally reads faulty content =
       subst (NextStopsBy a h first from to input (between o o n n) (of_codec f.fault)) (sym content)

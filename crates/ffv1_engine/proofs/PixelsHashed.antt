@@ -7,7 +7,8 @@ use Rattle.std.proofs.lemmas.Grind.{flat_map-append}
 use Rattle.std.specs.declared.vec.Vec.{Vec}
 use Rattle.ffv1_engine.specs.declared.picture_md5.Hashed.{Hashed}
 use Rattle.ffv1_codec.specs.Picture.{Planes, planes_of}
-use Rattle.ffv1_engine.specs.RawPicture.{IsOf, pixel}
+use Rattle.ffv1_engine.specs.RawPicture.{pixel}
+use Rattle.ffv1_engine.specs.Internal.RawPicture.{IsOf}
 
 range_more : (a n : ℕ) → range_with_len a (suc n) ≡ range_with_len a n ++ ((a + n) ∷ [])
 range_more a zero = let same : a ≡ a + 0 = omega arith in let f : ℕ → List ℕ = λ k. k ∷ [] in ap f same

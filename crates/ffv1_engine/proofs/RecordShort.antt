@@ -16,7 +16,7 @@ use Rattle.ffv1_record.specs.Accepted.{IsAccepted}
 use Rattle.ffv1_record.specs.Configuration.{Configuration, is_rct}
 use Rattle.ffv1_record.specs.Parity.{parity_of}
 use Rattle.ffv1_record.specs.Record.{number_steps, truth_steps, deltas_steps, coder_steps, runs_steps, set_steps, sets_steps, opening_steps, planes_steps, grid_steps, tables_steps, closing_steps, record_steps, record_decisions, coded_of, record_of}
-use Rattle.ffv1_avi.specs.Streams.{limit}
+use Rattle.ffv1_reads.specs.Head.{limit}
 use Rattle.ffv1_engine.specs.Video.{SaidHead}
 use Rattle.ffv1_words.specs.declared.order.Choice.{Choice}
 use Rattle.ffv1_words.specs.declared.order.CoderChoice.{CoderChoice}

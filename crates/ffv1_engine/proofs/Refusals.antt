@@ -2,7 +2,7 @@
 use Rattle.ffv1_wire.specs.Passage.{Passage}
 use Rattle.ffv1_engine.specs.declared.fault.Fault.{Fault}
 use Rattle.ffv1_engine.specs.declared.fault.Fault.TheVariants as fault
-use Rattle.ffv1_engine.specs.Picture.{RefusesMono}
+use Rattle.ffv1_engine.specs.Internal.Picture.{RefusesMono}
 use Rattle.ffv1_engine.specs.Trial.{TrialRefused, Silent}
 
 pub picture_refused : (input output : Passage) (f : Fault) → RefusesMono input f → Silent output → TrialRefused input output f

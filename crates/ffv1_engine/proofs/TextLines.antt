@@ -10,15 +10,17 @@ use Rattle.ffv1_reads.specs.Known.{Known}
 use Rattle.ffv1_y4m.specs.Reads.{Wants}
 use Rattle.ffv1_engine.specs.declared.fault.Fault.{Fault}
 use Rattle.ffv1_engine.specs.declared.fault.Fault.TheVariants as fault
-use Rattle.ffv1_engine.specs.Encoding.{AllKnown, PicturesKnown}
+use Rattle.ffv1_engine.specs.Internal.Encoding.{AllKnown, PicturesKnown}
 use Rattle.ffv1_engine.specs.Faults.{Cause, cause_of}
 use Rattle.ffv1_engine.specs.Faults.Cause.{Reading, Writing, Memory, Content}
-use Rattle.ffv1_engine.specs.Md5Text.{next_md5}
-use Rattle.ffv1_engine.specs.TextMd5.{EndsLines, EndsText, LineStopsBy, LinesStop, LinesStopBy, TextDone, TextSome, TextStops, TextStopsBy, WritesLines, WritesSome, lines_of, most_pictures, picture_md5}
+use Rattle.ffv1_engine.specs.Internal.Md5Text.{next_md5}
+use Rattle.ffv1_engine.specs.TextMd5.{EndsText, TextDone, TextSome, TextStops, TextStopsBy, most_pictures}
+use Rattle.ffv1_engine.specs.Internal.TextMd5.{EndsLines, LineStopsBy, LinesStop, LinesStopBy, WritesLines, WritesSome, lines_of, picture_md5}
 use Rattle.ffv1_engine.specs.Trial.{Silent}
 use Rattle.ffv1_engine.specs.Video.{ReadsPictures, Video, at_first, picture_next, video_head}
-use Rattle.ffv1_engine.specs.VideoReads.{HeadRead, HeadRefused, HeadRefusedBy, IsHeadOf, NextRead, PictureLacks, PictureWants, VideoReading}
-use Rattle.ffv1_engine.proofs.FramesTold.{take_past}
+use Rattle.ffv1_engine.specs.VideoReads.{PictureLacks, PictureWants}
+use Rattle.ffv1_engine.specs.Internal.VideoReads.{HeadRead, HeadRefused, HeadRefusedBy, IsHeadOf, NextRead, VideoReading}
+use Rattle.ffv1_engine.proofs.FramesInTurn.{take_past}
 use Rattle.ffv1_engine.proofs.KnownTexts.{known_map, known_taken}
 use Rattle.ffv1_engine.proofs.MatroskaPacked.{ImagesOnly, TextsOnly, lacks_up_to, video_known, video_then, wants_up_to}
 use Rattle.ffv1_engine.proofs.Md5sSoFar.{text_grows}

@@ -11,13 +11,15 @@ use Rattle.ffv1_engine.specs.Video.{SaidHead}
 use Rattle.ffv1_words.specs.declared.order.Choice.{Choice}
 use Rattle.ffv1_engine.specs.declared.fault.Fault.{Fault}
 use Rattle.ffv1_engine.specs.declared.fault.Fault.TheVariants as fault
-use Rattle.ffv1_engine.specs.Encoding.{AllKnown, EncodesAll, EndsAt, EndsKnown, StopsEncoding, StopsEncodingBy}
+use Rattle.ffv1_engine.specs.Internal.Encoding.{AllKnown, EncodesAll, EndsAt, EndsKnown, StopsEncoding, StopsEncodingBy}
 use Rattle.ffv1_engine.specs.Faults.{Cause, cause_of, of_record}
 use Rattle.ffv1_engine.specs.Faults.Cause.{Reading, Writing, Memory, Content}
-use Rattle.ffv1_engine.specs.Pack.{EndsBehind, FaultsPacked, HasHead, StopsVideo, StopsVideoBy}
+use Rattle.ffv1_engine.specs.Pack.{EndsBehind, FaultsPacked, HasHead}
+use Rattle.ffv1_engine.specs.Internal.Pack.{StopsVideo, StopsVideoBy}
 use Rattle.ffv1_engine.specs.Packing.{AllShort, IsFor, configuration_for, frames_for}
 use Rattle.ffv1_engine.specs.Video.{ReadsPictures, Video, at_first, picture_next}
-use Rattle.ffv1_engine.specs.VideoReads.{HeadKnown, HeadRead, HeadRefused, HeadRefusedBy, LacksKnown, VideoReading}
+use Rattle.ffv1_engine.specs.VideoReads.{LacksKnown}
+use Rattle.ffv1_engine.specs.Internal.VideoReads.{HeadKnown, HeadRead, HeadRefused, HeadRefusedBy, VideoReading}
 use Rattle.ffv1_engine.proofs.Depths.{first_or_depth}
 use Rattle.ffv1_engine.proofs.PicturesRead.{joined}
 

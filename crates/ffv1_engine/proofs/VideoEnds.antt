@@ -18,11 +18,12 @@ use Rattle.ffv1_reads.specs.Head.{Head}
 use Rattle.ffv1_avi.specs.Written.{frames_of}
 use Rattle.ffv1_y4m.specs.Header.{header_of}
 use Rattle.ffv1_words.specs.declared.order.Choice.{Choice}
-use Rattle.ffv1_engine.specs.Encoding.{AllKnown, EncodesAll}
-use Rattle.ffv1_engine.specs.Pack.{EncodesVideo, EndsVideo}
+use Rattle.ffv1_engine.specs.Internal.Encoding.{AllKnown, EncodesAll}
+use Rattle.ffv1_engine.specs.Internal.Pack.{EncodesVideo, EndsVideo}
 use Rattle.ffv1_engine.specs.Packing.{IsFor, frames_for, head_for}
 use Rattle.ffv1_engine.specs.Video.{IsReadVideoBy, ReadsPictures, ReadsVideo, at_first, is_ppm, picture_next, seen_as, video_head}
-use Rattle.ffv1_engine.specs.VideoReads.{HeadKnown, HeadRead, IsHeadBy, IsHeadOf, VideoReading}
+use Rattle.ffv1_engine.specs.VideoReads.{IsHeadBy}
+use Rattle.ffv1_engine.specs.Internal.VideoReads.{HeadKnown, HeadRead, IsHeadOf, VideoReading}
 use Rattle.ffv1_engine.proofs.PicturesRead.{joined}
 use Rattle.ffv1_engine.proofs.VideoEncoded.{next_up_to, reads_up_to, video_of}
 

@@ -15,7 +15,8 @@ use Rattle.ffv1_y4m.specs.declared.fault.Fault.TheVariants as fault
 use Rattle.ffv1_y4m.specs.declared.head.VideoHead.{VideoHead}
 use Rattle.ffv1_engine.specs.Faults.{of_y4m}
 use Rattle.ffv1_engine.specs.Video.{SaidHead, is_ppm, seen_as, video_head}
-use Rattle.ffv1_engine.specs.VideoReads.{HeadKnown, HeadRefused, LacksKnown}
+use Rattle.ffv1_engine.specs.VideoReads.{LacksKnown}
+use Rattle.ffv1_engine.specs.Internal.VideoReads.{HeadKnown, HeadRefused}
 
 -- ---- a head takes its first byte, whichever it is
 

@@ -9,7 +9,8 @@ use Rattle.ffv1_y4m.specs.declared.fault.Fault.TheVariants as fault
 use Rattle.ffv1_codec.specs.Picture.{Planes}
 use Rattle.ffv1_engine.specs.Faults.{of_y4m}
 use Rattle.ffv1_engine.specs.Video.{SaidHead, picture_next}
-use Rattle.ffv1_engine.specs.VideoReads.{GrowsInNext, NextKnown, NextRead, NextRefused, StopsKnown, VideoReading}
+use Rattle.ffv1_engine.specs.VideoReads.{GrowsInNext}
+use Rattle.ffv1_engine.specs.Internal.VideoReads.{NextKnown, NextRead, NextRefused, StopsKnown, VideoReading}
 
 abbrev pub reading : Bool → ℕ → SaidHead → Bool → Option Y4mFault → VideoReading
 reading ppm most head begun failed =

@@ -1,24 +1,11 @@
--- The container of a file: which ones a profile reads, and the faults that are its own.
-use Rattle.std.specs.Prelude.{◌≡◌, Bool, false, ⊤}
-use Rattle.ffv1_files.specs.declared.container.Container.{Container}
-use Rattle.ffv1_files.specs.declared.container.Container.TheVariants as container
-use Rattle.ffv1_files.specs.Places.{Place, container_of}
+-- The container of a file: which faults a profile has beside those of AVI.
+use Rattle.std.specs.Prelude.{Bool, false}
 use Rattle.ffv1_engine.specs.declared.profile.Profile.{Profile}
 use Rattle.ffv1_engine.specs.declared.profile.Profile.TheVariants.{Strict, Wide}
 use Rattle.ffv1_engine.specs.declared.fault.Fault.{Fault}
 use Rattle.ffv1_engine.specs.Faults.{is_matroska_fault}
 
--- the faults of a container beside those of AVI
-abbrev pub is_container_fault : Container → Fault → Bool
-is_container_fault container.Avi f = false
-is_container_fault (container.Matroska size) f = is_matroska_fault f
-
 -- those of the containers that a profile reads
 abbrev pub is_profile_fault : Profile → Fault → Bool
 is_profile_fault Strict f = false
 is_profile_fault Wide f = is_matroska_fault f
-
--- a position in a file that a profile reads
-abbrev pub IsWithin : Profile → Place → Type 0
-IsWithin Strict place = container_of place ≡ container.Avi
-IsWithin Wide place = ⊤

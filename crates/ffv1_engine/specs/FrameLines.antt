@@ -1,13 +1,9 @@
 -- The lines that are written of the frames of a file.
-use Rattle.std.specs.Prelude.{◌≡◌, ℕ, ◌*◌, Bool, true, false, List, [], ◌∷◌, ◌++◌, length, codes}
-use Rattle.std.specs.Prelude.{Result, Ok, Err, decimal}
-use Rattle.std.specs.Io.KnownBytes.{Appends}
+use Rattle.std.specs.Prelude.{ℕ, ◌*◌, Bool, true, false, List, [], ◌∷◌, ◌++◌, length, codes}
+use Rattle.std.specs.Prelude.{decimal}
 use Rattle.std.proofs.Common.{suc}
 use Rattle.ffv1_range.specs.declared.tally.Tally.{Tally}
 use Rattle.ffv1_range.specs.Counts.{saturated}
-use Rattle.ffv1_wire.specs.Failures.{one_more}
-use Rattle.ffv1_wire.specs.Passage.{Passage}
-use Rattle.ffv1_wire.specs.Writes.{AppendsBeginning}
 use Rattle.ffv1_record.specs.Configuration.{Configuration}
 use Rattle.ffv1_codec.specs.Answer.{decided_by}
 use Rattle.ffv1_codec.specs.declared.fault.FrameFault.{FrameFault}
@@ -61,11 +57,6 @@ place_line i f decisions =
 unfoldable pub offset_line : ℕ → ℕ → List ℕ
 offset_line i offset =
     (codes "fault frame " ++ decimal i) ++ (codes " byte " ++ decimal offset) ++ codes "\n"
-
--- a part of a line was written; or a write failed, which was counted, after a beginning of it
-abbrev pub WritesPart : {E : Type 0} → List ℕ → Passage → Result (Unit {0}) E → Type 0
-WritesPart text p (Ok done) = (p.after ≡ p.before) × Appends p.old p.new text
-WritesPart text p (Err failed) = (p.after ≡ one_more p.before) × AppendsBeginning p.old p.new text
 
 -- it is written where the place is asked for
 abbrev pub place_text : Bool → ℕ → FrameFault → Tally → List ℕ

@@ -66,8 +66,3 @@ md5_lines rct depth i (p ∷ ps) =
 abbrev pub md5_text : Bool → ℕ → VideoHead → List Planes → List ℕ
 md5_text rct depth h [] = []
 md5_text rct depth h (p ∷ ps) = md5_head h ++ md5_lines rct depth 0 (p ∷ ps)
-
--- the text of the picture with this number: its line, and before the first one the head
-abbrev pub next_md5 : Bool → ℕ → VideoHead → ℕ → Planes → List ℕ
-next_md5 rct depth h i planes =
-    (if i == 0 then md5_head h else []) ++ md5_line i (raw_bytes rct depth planes)

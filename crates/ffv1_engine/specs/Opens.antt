@@ -1,8 +1,7 @@
 -- A file is opened: what is known then of its head and its configuration, or why it is not.
-use Rattle.std.specs.Prelude.{◌≡◌, ◌⊎◌, ℕ, Bool, true, false, List, Option, None, Ok}
+use Rattle.std.specs.Prelude.{◌≡◌, ◌⊎◌, ℕ, Bool, true, false, List, Option, Ok}
 use Rattle.ffv1_wire.specs.Failures.{one_more}
 use Rattle.ffv1_wire.specs.Passage.{Passage}
-use Rattle.ffv1_record.specs.Accepted.{Accepted}
 use Rattle.ffv1_record.specs.Reading.{ReachesSets}
 use Rattle.ffv1_files.specs.Places.{Place}
 use Rattle.ffv1_files.specs.Files.{open_read}
@@ -10,10 +9,8 @@ use Rattle.ffv1_reads.specs.Head.{Head}
 use Rattle.ffv1_reads.specs.Reads.{Kept}
 use Rattle.ffv1_files.specs.Answers.{ReadFails, WantsMore}
 use Rattle.ffv1_files.specs.Places.{opening_may_end}
-use Rattle.ffv1_files.specs.Readers.{Standing}
 use Rattle.ffv1_reads.specs.Known.{Known}
 use Rattle.ffv1_engine.specs.declared.profile.Profile.{Profile}
-use Rattle.ffv1_engine.specs.Containers.{IsWithin}
 use Rattle.ffv1_engine.specs.Profiles.{greatest_depth, scope_in}
 use Rattle.ffv1_engine.specs.declared.fault.Fault.{Fault}
 use Rattle.ffv1_engine.specs.declared.fault.Fault.TheVariants as fault
@@ -26,18 +23,6 @@ use Rattle.ffv1_engine.specs.Play.{LacksStream}
 abbrev pub OpensKnown : Profile → Option (List ℕ) → Option (List ℕ) → Head → Place → Type 0
 OpensKnown profile old new head place = Known old new (λ file rest.
     open_read (scope_in profile) file ≡ Ok ((head, place), rest))
-
-abbrev pub stream_of : Standing → Accepted → Stream
-stream_of r a = record { head = r.head; accepted = a }
-
--- a file was opened
-pub record OpensStream (profile : Profile) (r : Standing) (a : Accepted) (p : Passage)
-    : Type 0 where
-  pub stream : IsStream profile (stream_of r a)
-  pub known : OpensKnown profile p.old p.new r.head r.place
-  pub within : IsWithin profile r.place
-  pub sound : r.fault ≡ None
-  pub kept : p.after ≡ p.before
 
 -- where the text is known, it begins with a head whose record has no fault before its first set:
 -- from there on memory is taken

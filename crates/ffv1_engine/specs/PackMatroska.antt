@@ -10,9 +10,9 @@ use Rattle.ffv1_record.specs.declared.fault.RecordFault.{RecordFault}
 use Rattle.ffv1_codec.specs.Picture.{Planes}
 use Rattle.ffv1_codec.specs.Frame.{frame_of, HasLongSlice}
 use Rattle.ffv1_reads.specs.Known.{Known}
-use Rattle.ffv1_avi.specs.Streams.{limit}
+use Rattle.ffv1_reads.specs.Head.{limit}
 use Rattle.ffv1_matroska.specs.Rates.{IsTimed}
-use Rattle.ffv1_matroska.specs.Writers.{Writing as Writer, rate_in, writing_of}
+use Rattle.ffv1_matroska.specs.Writers.{rate_in}
 use Rattle.ffv1_matroska.specs.Written.{begun_of, end_place, finish_of, finished_of, open_of}
 use Rattle.ffv1_matroska.specs.Written.{opening}
 use Rattle.ffv1_matroska.specs.WrittenPlaces.{cluster_bytes, last_place}
@@ -36,8 +36,8 @@ use Rattle.ffv1_engine.specs.Packing.{packed_frames, packed_head, said_for}
 use Rattle.ffv1_engine.specs.Play.{WritesUpTo}
 use Rattle.ffv1_engine.specs.Video.{Begins, ReadsVideo, Video, at_first, is_ppm, picture_next}
 use Rattle.ffv1_engine.specs.Video.{video_head}
-use Rattle.ffv1_engine.specs.VideoReads.{HeadRead, IsHeadBy, IsHeadOf, PictureLacks}
-use Rattle.ffv1_engine.specs.VideoReads.{PictureWants, Taken, VideoReading}
+use Rattle.ffv1_engine.specs.VideoReads.{IsHeadBy, PictureLacks}
+use Rattle.ffv1_engine.specs.VideoReads.{PictureWants, Taken}
 
 -- how the pictures of a video are shown
 abbrev pub shown_for : SaidHead → Shown
@@ -253,27 +253,3 @@ is_matroska_pack_fault f = is_pack_fault f
 abbrev pub IsMatroskaPackFault : Profile → Fault → Type 0
 IsMatroskaPackFault profile f =
     (is_matroska_pack_fault f ≡ true) ⊎ ((profile ≡ Wide) × (f ≡ fault.Depth))
-
--- a head was read, and its rate and a configuration for it are such as they have to be; the writer
--- has written nothing
-pub record OpensMatroska (most : ℕ) (choice : Choice) (p : Passage) (r : VideoReading)
-    (a : Accepted) (w : Writer) : Type 0 where
-  pub read : HeadRead most p r
-  pub head : IsHeadOf r
-  pub for : IsFor (choice_for choice r.head) r.ppm r.head a
-  pub timed : IsTimed (rate_in (head_for choice r.ppm r.head a.configuration))
-  pub fresh : w
-      ≡ writing_of (head_for choice r.ppm r.head a.configuration) (shown_for r.head) []
-
--- why not
-abbrev pub LacksMatroskaBy : ℕ → Cause → Choice → Passage → Fault → Type 0
-LacksMatroskaBy most Reading choice p f =
-    (p.after ≡ one_more p.before) × Known p.old p.new (Taken (Wants (video_head most)))
-LacksMatroskaBy most Writing choice p f = ⊥
-LacksMatroskaBy most Memory choice p f =
-    (p.after ≡ p.before) × HasHead most p.old × StandsAfterHead most p.old p.new
-LacksMatroskaBy most Content choice p f =
-    (p.after ≡ p.before) × FaultsBefore most choice p.old p.new f
-
-abbrev pub LacksMatroska : ℕ → Choice → Passage → Fault → Type 0
-LacksMatroska most choice p f = LacksMatroskaBy most (cause_of f) choice p f

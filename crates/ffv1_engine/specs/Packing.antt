@@ -12,8 +12,7 @@ use Rattle.ffv1_record.specs.declared.config.Colour.TheVariants as colour
 use Rattle.ffv1_codec.specs.Picture.{Planes}
 use Rattle.ffv1_codec.specs.SliceList.{Said}
 use Rattle.ffv1_codec.specs.Frame.{frame_of, HasLongSlice}
-use Rattle.ffv1_reads.specs.Head.{Head}
-use Rattle.ffv1_avi.specs.Streams.{limit}
+use Rattle.ffv1_reads.specs.Head.{Head, limit}
 use Rattle.ffv1_avi.specs.Written.{file_of}
 use Rattle.ffv1_engine.specs.Video.{SaidHead}
 use Rattle.ffv1_words.specs.declared.order.Choice.{Choice}

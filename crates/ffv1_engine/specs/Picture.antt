@@ -1,8 +1,6 @@
 -- The first picture of a text, where it is mono.
 use Rattle.std.specs.Prelude.{◌≡◌, ℕ, ◌*◌, ◌≤◌, if◌then◌else◌, List, [], ◌∷◌, length, Option}
 use Rattle.std.specs.Prelude.{Some, None, Result, Ok, Err, Bool, true, false}
-use Rattle.ffv1_wire.specs.Failures.{one_more}
-use Rattle.ffv1_wire.specs.Passage.{Passage}
 use Rattle.ffv1_y4m.specs.Header.{header_of}
 use Rattle.ffv1_y4m.specs.Pictures.{picture_read}
 use Rattle.ffv1_y4m.specs.Sequence.{Outcome}
@@ -59,14 +57,6 @@ ReadsMono old new m = Known old new (λ text rest. mono_of text ≡ Ok (m, rest)
 -- where the text is known, it reads as this fault, with this left
 abbrev pub FaultsMono : Option (List ℕ) → Option (List ℕ) → Fault → Type 0
 FaultsMono old new f = Known old new (λ text rest. mono_of text ≡ Err (f, rest))
-
--- why a picture was not read: a read failed, which was counted; or memory was refused; or the text
--- has this fault
-abbrev pub RefusesMono : Passage → Fault → Type 0
-RefusesMono p fault.Read = p.after ≡ one_more p.before
-RefusesMono p fault.OutOfMemory = p.after ≡ p.before
-RefusesMono p fault.Write = ⊥
-RefusesMono p f = (p.after ≡ p.before) × FaultsMono p.old p.new f
 
 -- the faults that reading one has, whatever the text
 abbrev pub is_mono_fault : Fault → Bool

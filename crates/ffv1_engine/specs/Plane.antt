@@ -6,12 +6,10 @@ use Rattle.ffv1_range.specs.Symbols.{Step}
 use Rattle.ffv1_range.specs.Table.{Table}
 use Rattle.ffv1_range.specs.History.{decisions_after}
 use Rattle.ffv1_plane.specs.Quantisation.{Set, contexts_of}
-use Rattle.ffv1_line.specs.Coding.{RowCoding, coding_by}
-use Rattle.ffv1_line.specs.Coder.{Decoder}
-use Rattle.ffv1_line.specs.Above.{RowsAbove}
-use Rattle.ffv1_line.specs.Cell.{Cell, Above, cell_of}
+use Rattle.ffv1_line.specs.Coding.{coding_by}
+use Rattle.ffv1_line.specs.Cell.{cell_of}
 use Rattle.ffv1_line.specs.Row.{cell_steps, chosen_rows}
-use Rattle.ffv1_line.specs.Coded.{CodesCellBy, StandsAfter}
+use Rattle.ffv1_line.specs.Coded.{CodesCellBy}
 
 -- the folded residuals of all samples, row by row (RFC 9043, 3.1 to 3.8)
 abbrev pub plane_residuals : Set → ℕ → ℕ → List ℕ → List (List ℤ)
@@ -43,9 +41,3 @@ abbrev pub CodesPlane : Table → Set → ℕ → ℕ → List ℕ → List ℕ 
 CodesPlane t set width height samples bytes =
     CodesCellBy bytes [] (coding_by t set 8) (replicate (contexts_of set * 32) 128)
     (cell_of width samples) (plane_residuals set width height samples)
-
--- a decoder stands before row y of a cell that its bytes code, below the rows above
-pub record StandsBefore (coding : RowCoding) (fresh : List ℕ) (c : Cell) (rows : List (List ℤ))
-    (y : ℕ) (now : Decoder) (over : RowsAbove) : Type 0 where
-  pub stands : StandsAfter [] coding fresh c rows y now
-  pub above : Above c y over.two over.one

@@ -19,7 +19,8 @@ use Rattle.ffv1_engine.specs.Profiles.{greatest_depth, scope_in}
 use Rattle.ffv1_engine.specs.declared.fault.Fault.{Fault}
 use Rattle.ffv1_engine.specs.declared.fault.Fault.TheVariants as fault
 use Rattle.ffv1_engine.specs.Faults.{of_avi, of_codec, of_record}
-use Rattle.ffv1_engine.specs.Stream.{AreFrames, Begins, FaultsFrame, Frame, IsStream}
+use Rattle.ffv1_codec.specs.Outcome.{FaultsOf}
+use Rattle.ffv1_engine.specs.Stream.{AreFrames, Begins, Frame, IsStream}
 use Rattle.ffv1_engine.specs.Stream.{Stream}
 
 -- bytes of a file have this fault, with this left; those that end where more are wanted are
@@ -73,7 +74,7 @@ EndsKnown profile old new s frames e = Known old new (λ file rest.
 -- the payload at which it ends has its fault
 abbrev pub IsFaulty : Accepted → End → Type 0
 IsFaulty a (File f) = ⊤
-IsFaulty a (Payload payload f tally) = FaultsFrame a payload f tally
+IsFaulty a (Payload payload f tally) = FaultsOf a payload f tally
 IsFaulty a Over = ⊤
 
 -- the fault that this is
@@ -94,10 +95,10 @@ pub record Played (profile : Profile) (s : Stream) (frames : List Frame) : Type 
   pub decoded : AreFrames s.accepted frames
 
 -- all but the last
-abbrev pub but_last : List Frame → List Frame
+abbrev pub but_last : {X : Type 0} → List X → List X
 but_last [] = []
-but_last (f ∷ []) = []
-but_last (f ∷ g ∷ fs) = f ∷ but_last (g ∷ fs)
+but_last (x ∷ []) = []
+but_last (x ∷ y ∷ zs) = x ∷ but_last (y ∷ zs)
 
 -- written is the text of all frames but the last, and of what stands after it a beginning
 pub record WritesUpTo (old new : Option (List ℕ)) (least : ℕ) (all : List ℕ) : Type 0 where

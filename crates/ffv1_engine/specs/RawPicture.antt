@@ -1,13 +1,8 @@
--- The bytes of a picture as FFmpeg has them in raw video, and what is known of bytes that are
--- hashed.
-use Rattle.std.specs.Prelude.{◌≡◌, ◌⊎◌, ℕ, ◌<◌, ◌==◌, Bool, true, false, if◌then◌else◌, List, []}
+-- The bytes of a picture as FFmpeg has them in raw video.
+use Rattle.std.specs.Prelude.{ℕ, ◌==◌, Bool, true, false, if◌then◌else◌, List, []}
 use Rattle.std.specs.Prelude.{◌∷◌, ◌++◌, length, map, take, drop, flat_map, slice_index}
-use Rattle.std.proofs.Common.{get_or}
 use Rattle.std.specs.List.{concat, range_with_len}
-use Rattle.md5.specs.Md5.{Holds}
-use Rattle.ffv1_range.specs.Counts.{saturated}
 use Rattle.ffv1_codec.specs.Picture.{Planes}
-use Rattle.ffv1_engine.specs.declared.picture_md5.Hashed.{Hashed}
 
 -- the samples at one position, one of each plane
 abbrev pub pixel : Planes → ℕ → List ℕ
@@ -27,14 +22,3 @@ green_first planes = take 2 (drop 1 planes) ++ (take 1 planes ++ drop 3 planes)
 abbrev pub raw_bytes : Bool → ℕ → Planes → List ℕ
 raw_bytes false depth planes = concat planes
 raw_bytes true depth planes = if depth == 8 then pixels planes else concat (green_first planes)
-
--- three or four planes of one size
-pub record AreEven (planes : Planes) : Type 0 where
-  pub count : (length planes ≡ 3) ⊎ (length planes ≡ 4)
-  pub sizes : (p q : ℕ) → p < length planes → q < length planes →
-      length (get_or planes p []) ≡ length (get_or planes q [])
-
--- these bytes are held: what their MD5 is made from, and how many they are
-pub record IsOf (h : Hashed) (bytes : List ℕ) : Type 0 where
-  pub holds : Holds h.hasher bytes
-  pub counted : h.size ≡ saturated (length bytes)

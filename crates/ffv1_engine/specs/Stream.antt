@@ -1,19 +1,14 @@
 -- The stream of a file: what its head says, its configuration, and its frames, decoded one after
 -- the other.
-use Rattle.std.specs.Prelude.{◌≡◌, ◌⊎◌, ◌≤◌, ℕ, List, [], ◌∷◌, map, slice_index, Option, Some}
-use Rattle.std.specs.Prelude.{Ok, Err}
+use Rattle.std.specs.Prelude.{◌≡◌, ◌≤◌, ℕ, List, [], ◌∷◌, map, Option, Some}
+use Rattle.std.specs.Prelude.{Ok}
 use Rattle.ffv1_range.specs.declared.tally.Tally.{Tally}
 use Rattle.ffv1_record.specs.Accepted.{Accepted, IsAccepted}
 use Rattle.ffv1_record.specs.Record.{IsRecord}
-use Rattle.ffv1_slice.specs.Cutting.{coded_of, cut_of}
-use Rattle.ffv1_slice.specs.Footer.{foot_length}
-use Rattle.ffv1_slice.specs.declared.cutting.CutFault.{CutFault}
-use Rattle.ffv1_codec.specs.Answer.{HasDecided, cut_fault, no_tally}
-use Rattle.ffv1_codec.specs.Decoding.{State, Decodes, Refuses}
+use Rattle.ffv1_codec.specs.Outcome.{CountOf}
 use Rattle.ffv1_codec.specs.Frame.{CodesPicture}
 use Rattle.ffv1_codec.specs.Picture.{Planes}
 use Rattle.ffv1_codec.specs.SliceList.{Said}
-use Rattle.ffv1_codec.specs.declared.fault.FrameFault.{FrameFault}
 use Rattle.ffv1_files.specs.Places.{Place}
 use Rattle.ffv1_avi.specs.Chunks.{AviFile}
 use Rattle.ffv1_files.specs.Files.{frame_read, open_read}
@@ -46,43 +41,24 @@ pub record Frame : Type 0 where
   pub said : Said
   pub tally : Tally
 
--- what is decided where a payload is decoded to its end
-pub record Decided (a : Accepted) (payload : List ℕ) (tally : Tally) : Type 0 where
-  pub offsets : List ℕ
-  pub cut : cut_of a.configuration payload ≡ Ok offsets
-  pub state : State
-  pub decodes : Decodes a
-      (coded_of payload (foot_length a.configuration.ec) (slice_index offsets)) state
-  pub decided : HasDecided a.table state tally
-
 -- a frame of a configuration
 pub record IsFrame (a : Accepted) (f : Frame) : Type 0 where
   pub codes : CodesPicture a f.payload f.planes f.said
-  pub decided : Decided a f.payload f.tally
+  pub decided : CountOf a f.payload f.tally
+
+-- this stands of each one
+abbrev pub AreAll : {X : Type 0} → (X → Type 0) → List X → Type 0
+AreAll Is [] = Unit {0}
+AreAll Is (x ∷ xs) = Is x × AreAll Is xs
 
 abbrev pub AreFrames : Accepted → List Frame → Type 0
-AreFrames a [] = Unit {0}
-AreFrames a (f ∷ fs) = IsFrame a f × AreFrames a fs
+AreFrames a frames = AreAll (IsFrame a) frames
+
+abbrev pub frame_payload : Frame → List ℕ
+frame_payload f = f.payload
 
 abbrev pub payloads : List Frame → List (List ℕ)
-payloads frames = map (λ (f : Frame). f.payload) frames
-
--- a payload that is cut has this first fault, and so much was decided
-pub record FaultsBehindCut (a : Accepted) (payload : List ℕ) (f : FrameFault) (tally : Tally)
-    : Type 0 where
-  pub offsets : List ℕ
-  pub cut : cut_of a.configuration payload ≡ Ok offsets
-  pub state : State
-  pub refused : Refuses a
-      (coded_of payload (foot_length a.configuration.ec) (slice_index offsets)) f state
-  pub decided : HasDecided a.table state tally
-
--- a payload has this first fault, and so much was decided
-abbrev pub FaultsFrame : Accepted → List ℕ → FrameFault → Tally → Type 0
-FaultsFrame a payload f tally =
-    ((g : CutFault) × (cut_of a.configuration payload ≡ Err g) × (f ≡ cut_fault g)
-    × (tally ≡ no_tally))
-    ⊎ FaultsBehindCut a payload f tally
+payloads frames = map frame_payload frames
 
 -- from this place of the file this text begins with these frames; then come that place and that
 -- text

@@ -11,12 +11,12 @@ use Rattle.ffv1_files.specs.Places.{Place}
 use Rattle.ffv1_engine.specs.declared.profile.Profile.{Profile}
 use Rattle.ffv1_engine.specs.declared.fault.Fault.{Fault}
 use Rattle.ffv1_engine.specs.declared.fault.Fault.TheVariants as fault
-use Rattle.ffv1_files.specs.declared.container.Container.{Container}
-use Rattle.ffv1_engine.specs.Containers.{is_container_fault, is_profile_fault}
+use Rattle.ffv1_engine.specs.Containers.{is_profile_fault}
 use Rattle.ffv1_engine.specs.Faults.{Cause, cause_of, of_codec}
 use Rattle.ffv1_engine.specs.Faults.Cause.{Reading, Writing, Memory, Content}
 use Rattle.ffv1_engine.specs.Opens.{OpeningLacks, OpeningWants, is_opening_fault}
-use Rattle.ffv1_engine.specs.Stream.{BeginsKnown, BeginsTo, FaultsFrame, Frame, IsStream, ReadsFile}
+use Rattle.ffv1_codec.specs.Outcome.{FaultsOf}
+use Rattle.ffv1_engine.specs.Stream.{BeginsKnown, BeginsTo, Frame, IsStream, ReadsFile}
 use Rattle.ffv1_engine.specs.Stream.{Stream}
 use Rattle.ffv1_engine.specs.Play.{BeginsSome, End, EndsKnown, EndsWith, IsOfFile, LacksStream}
 use Rattle.ffv1_engine.specs.Play.{Played, WritesUpTo, but_last}
@@ -33,19 +33,6 @@ pub record LacksTextIn (profile : Profile) (file : Option (List ℕ)) (f : Fault
   pub is : IsStream profile stream
   pub begins : BeginsSome profile file stream []
   pub lacks : LacksText stream f
-
--- why a file is not opened for that, by the cause: a read failed, which was counted; memory was
--- refused; or the file has no stream, or one that has no text
-abbrev pub LacksUnpackingBy : Profile → Passage → Fault → Cause → Type 0
-LacksUnpackingBy profile p f Reading =
-    (p.after ≡ one_more p.before) × OpeningWants profile p.old p.new
-LacksUnpackingBy profile p f Writing = ⊥
-LacksUnpackingBy profile p f Memory = (p.after ≡ p.before) × OpeningLacks profile p.old p.new
-LacksUnpackingBy profile p f Content =
-    (p.after ≡ p.before) × (LacksStream profile p.old p.new f ⊎ LacksTextIn profile p.old f)
-
-abbrev pub LacksUnpacking : Profile → Passage → Fault → Type 0
-LacksUnpacking profile p f = LacksUnpackingBy profile p f (cause_of f)
 
 module _ (profile : Profile) (input output : Passage) where
   -- all frames of the file, at least one, were decoded, and the text of them was written
@@ -125,7 +112,7 @@ module _ (profile : Profile) (input output : Passage) where
     pub played : Played profile stream frames
     pub alike : AreAlike stream frames
     pub ends : EndsKnown profile input.old input.new stream frames (Payload payload fault tally)
-    pub faulty : FaultsFrame stream.accepted payload fault tally
+    pub faulty : FaultsOf stream.accepted payload fault tally
     pub is : f ≡ of_codec fault.fault
     pub written : output.after ≡ output.before
     pub writes : Appends output.old output.new
@@ -200,10 +187,6 @@ abbrev pub IsUnpackFault : Fault → Type 0
 IsUnpackFault f =
     (is_opening_fault f ≡ true) ⊎ (is_telling_fault f ≡ true) ⊎ (f ≡ fault.NoFrames)
     ⊎ (f ≡ fault.FormatChanged) ⊎ (f ≡ fault.NoY4mName) ⊎ (f ≡ fault.NoPpm)
-
--- with those of the container that the frames are in
-abbrev pub IsWritingFault : Container → Fault → Type 0
-IsWritingFault container f = IsUnpackFault f ⊎ (is_container_fault container f ≡ true)
 
 -- with those of the containers that the profile reads
 abbrev pub IsUnpackFaultIn : Profile → Fault → Type 0

@@ -15,7 +15,8 @@ use Rattle.ffv1_y4m.specs.VideoHead.{is_named}
 use Rattle.ffv1_y4m.specs.declared.head.VideoHead.{VideoHead}
 use Rattle.ffv1_engine.specs.declared.fault.Fault.{Fault}
 use Rattle.ffv1_engine.specs.declared.fault.Fault.TheVariants as fault
-use Rattle.ffv1_engine.specs.Stream.{FaultsFrame, Frame, Stream}
+use Rattle.ffv1_codec.specs.Outcome.{FaultsOf}
+use Rattle.ffv1_engine.specs.Stream.{Frame, Stream}
 
 -- whether the pictures of a stream are written as PPM
 abbrev pub is_ppm_stream : Stream → Bool
@@ -95,7 +96,7 @@ LacksText s f = LacksTextBy (is_ppm_stream s) s.accepted.configuration f
 
 -- the lines that are handed over of a payload before its first fault
 abbrev pub lines_before : {a : Accepted} → {payload : List ℕ} → {f : FrameFault} → {tally : Tally} →
-    FaultsFrame a payload f tally → List Line
+    FaultsOf a payload f tally → List Line
 lines_before (inl cut) = []
 lines_before (inr behind) = behind.state.lines
 

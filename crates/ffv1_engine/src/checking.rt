@@ -5,7 +5,7 @@ ghost use Rattle.ffv1_wire.specs.Passage.{passage};
 ghost use Rattle.ffv1_engine.specs.Check.{CheckDone, CheckStops, IsCheckFault, count_line};
 ghost use Rattle.ffv1_engine.specs.CheckAll.{CheckAllDone, CheckAllStops};
 ghost use Rattle.ffv1_engine.specs.Judged.{counts_line};
-ghost use Rattle.ffv1_engine.specs.Told.{WritesFrame};
+ghost use Rattle.ffv1_engine.specs.Internal.Told.{WritesFrame};
 
 use crate::fault::Fault;
 use crate::frame_line::{FrameLine, put_count, put_counts};
@@ -13,7 +13,7 @@ use crate::judging::judge_frames;
 use crate::player::open_player_located;
 use crate::profile::Profile;
 use crate::telling::{Places, Telling, tell_byte, tell_frames};
-use ffv1_files::laws::{frames_in_turn, read_is_file};
+use ffv1_files::laws as files_laws;
 use ffv1_wire::{ByteIn, ByteOut, write_all};
 use std::alloc::Allocator;
 
@@ -78,8 +78,8 @@ pub fn check<R: ByteIn, W: ByteOut, A: Allocator + Copy>(
         (passage W.contents W.failures output.old output.new)) }
     ensures own { IfErr result (IsCheckFault profile) }
 {
-    frames_in_turn();
-    read_is_file();
+    files_laws::frames_come_in_turn();
+    files_laws::what_is_read_is_a_file();
     let byte = profile.tells_byte(place);
     let mut offset = 0u64;
     match open_player_located(alloc, profile, input, &mut offset) {
@@ -160,8 +160,8 @@ pub fn check_all<R: ByteIn, W: ByteOut, A: Allocator + Copy>(
         (passage W.contents W.failures output.old output.new)) }
     ensures own { IfErr result (IsCheckFault profile) }
 {
-    frames_in_turn();
-    read_is_file();
+    files_laws::frames_come_in_turn();
+    files_laws::what_is_read_is_a_file();
     let byte = profile.tells_byte(place);
     let mut offset = 0u64;
     match open_player_located(alloc, profile, input, &mut offset) {

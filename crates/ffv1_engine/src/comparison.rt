@@ -10,13 +10,13 @@ ghost use Rattle.ffv1_line.specs.Coding.{coding_by};
 ghost use Rattle.ffv1_line.specs.Coder.{decoder_by};
 ghost use Rattle.ffv1_line.specs.Above.{rows_above};
 ghost use Rattle.ffv1_line.specs.Cell.{Cell, Shows, cell_of};
-ghost use Rattle.ffv1_engine.specs.Plane.{plane_residuals, plane_code, StandsBefore};
+ghost use Rattle.ffv1_engine.specs.Plane.{plane_residuals, plane_code};
+ghost use Rattle.ffv1_engine.specs.Internal.Plane.{StandsBefore};
 
 use crate::fault::Fault;
-use crate::laws::code_comes_back;
+use crate::laws;
 use crate::plane::{MonoPlane, fresh_states};
-use ffv1_line::laws::{cell_comes_back, rolling};
-use ffv1_line::{Above, Coding, RollingRows, decode_line};
+use ffv1_line::{Above, Coding, RollingRows, decode_line, laws as line_laws};
 use ffv1_plane::QuantSet;
 use ffv1_range::{RangeDecoder, StateTable};
 use std::alloc::{AllocError, Allocator};
@@ -68,8 +68,8 @@ fn decode_row<A: Allocator>(
         (decoder_by decoder.new states.new)
         (rows_above rows.new.two.items rows.new.one.items) }
 {
-    cell_comes_back();
-    rolling();
+    line_laws::coded_cell_is_read_back();
+    line_laws::rows_above_roll_down_the_cell();
     let coding = Coding {
         table,
         set,
@@ -138,12 +138,12 @@ pub(crate) fn decodes_to<A: Allocator + Copy>(
     ensures same { IfOk result (λ same. same ≡ true) }
     ensures err { IfErr result (λ f. f ≡ fault.OutOfMemory) }
 {
-    code_comes_back();
-    cell_comes_back();
-    rolling();
+    laws::plane_code_is_read_back();
+    line_laws::coded_cell_is_read_back();
+    line_laws::rows_above_roll_down_the_cell();
     let table = StateTable::standard();
     let set = QuantSet::small(alloc)?;
-    set.bounded();
+    set.is_a_bounded_set();
     let mut states = fresh_states(alloc, set.contexts() as usize * 32)?;
     let Ok(mut decoder) = RangeDecoder::new(code) else {
         return Ok(false);

@@ -1,7 +1,7 @@
 //! The grid of slices of a picture for which none is chosen.
 
 ghost use Rattle.std.specs.Prelude.{◌≡◌, ◌≤◌, ◌<◌, find};
-ghost use Rattle.ffv1_engine.specs.VideoReads.{reading_of};
+ghost use Rattle.ffv1_engine.specs.Internal.VideoReads.{reading_of};
 ghost use Rattle.ffv1_y4m.specs.VideoHead.{IsReduced, IsSized, reduced};
 ghost use Rattle.ffv1_engine.specs.Grids.{are_even_edges, default_grid, greatest_part, grids_of};
 ghost use Rattle.ffv1_engine.specs.Grids.{grid_for, has_grid, slice_bytes};

@@ -9,13 +9,14 @@ ghost use Rattle.ffv1_reads.specs.Head.{head_of};
 ghost use Rattle.ffv1_avi.specs.Written.{frames_of};
 ghost use Rattle.ffv1_engine.specs.declared.fault.Fault.TheVariants as fault;
 ghost use Rattle.ffv1_engine.specs.Faults.{of_record};
-ghost use Rattle.ffv1_engine.specs.Encoding.{EncodesAll, EncodesNext, EncodesOne, StopsEncoding};
-ghost use Rattle.ffv1_engine.specs.Encoding.{StopsNext, frame_in};
+ghost use Rattle.ffv1_engine.specs.Internal.Encoding.{EncodesAll, EncodesNext, EncodesOne};
+ghost use Rattle.ffv1_engine.specs.Internal.Encoding.{StopsEncoding};
+ghost use Rattle.ffv1_engine.specs.Internal.Encoding.{StopsNext, frame_in};
 ghost use Rattle.ffv1_engine.specs.Pack.{IsPackFault, is_pack_fault};
 ghost use Rattle.ffv1_engine.specs.Packing.{IsFor, coder_for, colour_for, configuration_for};
 ghost use Rattle.ffv1_engine.specs.Packing.{head_for, said_for, set_for};
 ghost use Rattle.ffv1_engine.specs.Profiles.{greatest_depth, record_profile};
-ghost use Rattle.ffv1_engine.specs.VideoReads.{IsHeadOf, reading_of};
+ghost use Rattle.ffv1_engine.specs.Internal.VideoReads.{IsHeadOf, reading_of};
 
 use crate::fault::Fault;
 use crate::profile::Profile;
@@ -23,10 +24,9 @@ use crate::verifying::VerifyingEncoder;
 use crate::video::VideoReader;
 use ffv1_codec::{Info, Picture};
 use ffv1_plane::QuantSet;
-use ffv1_range::laws::one_table;
+use ffv1_range::laws as range_laws;
 use ffv1_reads::FileHead;
-use ffv1_record::laws::one_configuration;
-use ffv1_record::{Checked, Coder, Colour, Config, Sets, write_record};
+use ffv1_record::{Checked, Coder, Colour, Config, Sets, laws as record_laws, write_record};
 use ffv1_wire::ByteIn;
 use ffv1_words::{Choice, CoderChoice};
 use std::alloc::Allocator;
@@ -112,7 +112,7 @@ fn checked_for<A: Allocator + Copy>(
         × (f ≡ of_record g))) }
     ensures own { IfErr result (IsPackFault profile) }
 {
-    one_table();
+    range_laws::deltas_make_one_table();
     let config = config_for(alloc, choice, reader)?;
     Ok(config.check_in(profile.of_record(), reader.depth(), 16)?)
 }
@@ -135,7 +135,7 @@ pub(crate) fn encoder_for<A: Allocator + Copy>(
         × (f ≡ of_record g))) }
     ensures own { IfErr result (IsPackFault profile) }
 {
-    one_configuration();
+    record_laws::record_has_one_configuration();
     let checked = checked_for(alloc, profile, choice, reader)?;
     if !choice.verify {
         return Ok(VerifyingEncoder::new(alloc, checked));

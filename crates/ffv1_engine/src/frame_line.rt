@@ -2,7 +2,8 @@
 
 ghost use Rattle.std.specs.Prelude.{◌≡◌, ◌++◌, ◌*◌, length, codes, decimal, OnOk};
 ghost use Rattle.ffv1_engine.specs.Check.{count_line};
-ghost use Rattle.ffv1_engine.specs.FrameLines.{WritesPart, cost_line, part_of_frame, place_line};
+ghost use Rattle.ffv1_engine.specs.FrameLines.{cost_line, part_of_frame, place_line};
+ghost use Rattle.ffv1_engine.specs.Internal.FrameLines.{WritesPart};
 ghost use Rattle.ffv1_engine.specs.FrameLines.{offset_line, sizes_line};
 ghost use Rattle.ffv1_engine.specs.Judged.{counts_line, fault_word, refused_line};
 ghost use Rattle.ffv1_wire.specs.Passage.{passage};

@@ -9,25 +9,24 @@ ghost use Rattle.ffv1_slice.specs.Grid.{division_of};
 ghost use Rattle.ffv1_codec.specs.Picture.{AreOf, planes_of};
 ghost use Rattle.ffv1_files.specs.Places.{amount, container_of};
 ghost use Rattle.ffv1_engine.specs.Check.{IsCheckFault};
-ghost use Rattle.ffv1_engine.specs.FrameMd5.{Md5Done, Md5Stops};
-ghost use Rattle.ffv1_engine.specs.Md5Frames.{NextAnswers, SummedAll, SummingStops};
-ghost use Rattle.ffv1_engine.specs.Md5Text.{next_md5};
-ghost use Rattle.ffv1_engine.specs.Opens.{stream_of};
-ghost use Rattle.ffv1_engine.specs.PicturesOut.{IsKeptFor, head_saying};
-ghost use Rattle.ffv1_engine.specs.Stream.{Frame};
-ghost use Rattle.ffv1_engine.specs.Told.{IsToldFault, WritesFrame};
+ghost use Rattle.ffv1_engine.specs.FrameMd5.{Md5Done, Md5Stops, frames_md5};
+ghost use Rattle.ffv1_engine.specs.Internal.FrameMd5.{frame_md5};
+ghost use Rattle.ffv1_engine.specs.Internal.Md5Text.{next_md5};
+ghost use Rattle.ffv1_engine.specs.Internal.Opens.{stream_of};
+ghost use Rattle.ffv1_engine.specs.Internal.PicturesOut.{IsKeptFor, head_saying};
+ghost use Rattle.ffv1_engine.specs.Plays.{HasThen, PlayStops};
+ghost use Rattle.ffv1_engine.specs.Internal.Plays.{NextAnswers, PlaysAll};
+ghost use Rattle.ffv1_engine.specs.Stream.{Frame, IsFrame, frame_payload};
+ghost use Rattle.ffv1_engine.specs.Internal.Told.{IsToldFault, WritesFrame};
 
 use crate::fault::Fault;
 use crate::md5_lines::put_picture;
 use crate::pictures_out::text_head;
 use crate::player::{Player, Stop, open_player, play};
 use crate::profile::Profile;
-use ffv1_codec::laws::answer::{answered, decode_faults};
-use ffv1_codec::laws::sink::{colour_planes, kept_picture, taken_lines};
-use ffv1_codec::{Info, KeepLines};
-use ffv1_files::laws::{frames_in_turn, read_is_file};
-use ffv1_record::laws::accepted_parts;
-use ffv1_record::{Checked, Colour};
+use ffv1_codec::{Info, KeepLines, laws as codec_laws};
+use ffv1_files::laws as files_laws;
+use ffv1_record::{Checked, laws as record_laws};
 use ffv1_wire::{ByteIn, ByteOut, write_all};
 use ffv1_y4m::VideoHead;
 use std::alloc::Allocator;
@@ -48,16 +47,6 @@ impl<A: Allocator> Drop for Lines<A> {
     }
 }
 
-/// Whether the pictures of a configuration are red, green and blue.
-fn is_rct(colour: Colour) -> bool
-    ensures { result ≡ is_rct colour }
-{
-    match colour {
-        Colour::YCbCr => false,
-        Colour::Rct => true,
-    }
-}
-
 /// Writes the line of the picture of these planes, which says this, and before the first one the
 /// head.
 fn write_picture<W: ByteOut, A: Allocator>(
@@ -74,15 +63,15 @@ fn write_picture<W: ByteOut, A: Allocator>(
         (planes_of planes.now)) (passage W.contents W.failures output.old output.new) result }
     ensures same { lines.new.head ≡ lines.old.head }
 {
-    accepted_parts();
-    colour_planes();
+    record_laws::accepted_configuration_has_sound_parts();
+    codec_laws::sink::rct_planes_have_the_picture_size();
     let head = VideoHead {
         structure: info.structure(),
         sar_num: info.sar_num(),
         sar_den: info.sar_den(),
         ..lines.head
     };
-    let rct = is_rct(checked.config().colour);
+    let rct = checked.config().colour.is_rct();
     let depth = checked.depth();
     put_picture(&mut lines.text, number, &head, rct, depth, planes)?;
     if write_all(output, &lines.text).is_err() {
@@ -105,7 +94,8 @@ fn write_next<R: ByteIn, W: ByteOut, A: Allocator>(
     requires accepted { IsAccepted player.old.decoder.accepted.configuration
         player.old.decoder.accepted.table }
     requires kept { IsKeptFor player.old.decoder.accepted kept.old }
-    ensures answer { NextAnswers player.old.decoder.accepted lines.old.head number
+    ensures answer { NextAnswers player.old.decoder.accepted
+        (frame_md5 player.old.decoder.accepted lines.old.head number)
         player.old.reader.place player.new.reader.place
         (passage R.remaining R.failures input.old input.new)
         (passage W.contents W.failures output.old output.new) result }
@@ -119,10 +109,10 @@ fn write_next<R: ByteIn, W: ByteOut, A: Allocator>(
         ≡ container_of player.old.reader.place }
     ensures own { IfErr result (IsToldFault (container_of player.old.reader.place)) }
 {
-    answered::<KeepLines<A>>();
-    taken_lines();
-    kept_picture();
-    decode_faults::<KeepLines<A>>();
+    codec_laws::answer::answer_is_ok_for_coded_pictures::<KeepLines<A>>();
+    codec_laws::sink::sinks_of_own_lines_refuse_none();
+    codec_laws::sink::kept_lines_make_up_the_picture();
+    codec_laws::answer::answered_fault_is_of_decoding::<KeepLines<A>>();
     match play(player, input, kept) {
         Ok(None) => Ok(false),
         Ok(Some(info)) => {
@@ -147,11 +137,14 @@ fn write_frames<R: ByteIn, W: ByteOut, A: Allocator + Copy>(
     requires accepted { IsAccepted player.old.decoder.accepted.configuration
         player.old.decoder.accepted.table }
     ensures ok { IfOk result (λ n. (frames : List Frame) × (n ≡ saturated (length frames))
-        × SummedAll (stream_of player.old.reader player.old.decoder.accepted)
-        player.old.reader.place (passage R.remaining R.failures input.old input.new)
+        × PlaysAll (IsFrame player.old.decoder.accepted) frame_payload
+        (HasThen player.old.reader.place)
+        (frames_md5 (stream_of player.old.reader player.old.decoder.accepted))
+        (passage R.remaining R.failures input.old input.new)
         (passage W.contents W.failures output.old output.new) frames) }
-    ensures err { IfErr result (SummingStops
-        (stream_of player.old.reader player.old.decoder.accepted) player.old.reader.place
+    ensures err { IfErr result (PlayStops (HasThen player.old.reader.place)
+        player.old.decoder.accepted
+        (frames_md5 (stream_of player.old.reader player.old.decoder.accepted))
         (passage R.remaining R.failures input.old input.new)
         (passage W.contents W.failures output.old output.new)) }
     ensures own { IfErr result (IsToldFault (container_of player.old.reader.place)) }
@@ -220,8 +213,8 @@ pub fn framemd5<R: ByteIn, W: ByteOut, A: Allocator + Copy>(
         (passage W.contents W.failures output.old output.new)) }
     ensures own { IfErr result (IsCheckFault profile) }
 {
-    frames_in_turn();
-    read_is_file();
+    files_laws::frames_come_in_turn();
+    files_laws::what_is_read_is_a_file();
     let mut player = open_player(alloc, profile, input)?;
     let count = write_frames(alloc, &mut player, input, output)?;
     if count == 0 {

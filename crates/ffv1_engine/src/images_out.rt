@@ -7,21 +7,18 @@ ghost use Rattle.ffv1_range.specs.Counts.{saturated};
 ghost use Rattle.ffv1_record.specs.Accepted.{IsAccepted};
 ghost use Rattle.ffv1_record.specs.Configuration.{is_rct};
 ghost use Rattle.ffv1_files.specs.Places.{amount, container_of};
-ghost use Rattle.ffv1_engine.specs.ImagesOut.{IsSinkFor, WritesImage};
-ghost use Rattle.ffv1_engine.specs.Opens.{stream_of};
+ghost use Rattle.ffv1_engine.specs.Internal.ImagesOut.{IsSinkFor, WritesImage};
+ghost use Rattle.ffv1_engine.specs.Internal.Opens.{stream_of};
 ghost use Rattle.ffv1_engine.specs.Stream.{Frame};
-ghost use Rattle.ffv1_engine.specs.Unpack.{IsWritingFault};
-ghost use Rattle.ffv1_engine.specs.Unpacking.{UnpackedAll, UnpackingStops};
+ghost use Rattle.ffv1_engine.specs.Internal.Unpack.{IsWritingFault};
+ghost use Rattle.ffv1_engine.specs.Internal.Unpacking.{UnpackedAll, UnpackingStops};
 
 use crate::fault::Fault;
 use crate::player::{Player, Stop, play};
-use ffv1_codec::CodecFault;
-use ffv1_codec::laws::answer::{answered, decode_faults};
-use ffv1_codec::laws::sink::{colour_planes, lines_in_turn, offered_lines, sink_faults};
-use ffv1_record::laws::{accepted, accepted_parts};
+use ffv1_codec::{CodecFault, laws as codec_laws};
+use ffv1_record::laws as record_laws;
 use ffv1_wire::{ByteIn, ByteOut};
-use ffv1_y4m::PpmWriter;
-use ffv1_y4m::laws::{image_runs, line_runs, next_lines};
+use ffv1_y4m::{PpmWriter, laws as y4m_laws};
 use std::alloc::Allocator;
 
 /// Reads the next frame, and decodes it into an image. Answers false where there is none.
@@ -48,17 +45,17 @@ fn write_next<R: ByteIn, W: ByteOut, A: Allocator>(
         ≡ container_of player.old.reader.place }
     ensures own { IfErr result (IsWritingFault (container_of player.old.reader.place)) }
 {
-    answered::<PpmWriter<W, A>>();
-    decode_faults::<PpmWriter<W, A>>();
-    sink_faults::<PpmWriter<W, A>>();
-    offered_lines();
-    lines_in_turn();
-    colour_planes();
-    accepted();
-    accepted_parts();
-    image_runs::<W>();
-    line_runs::<W>();
-    next_lines::<W>();
+    codec_laws::answer::answer_is_ok_for_coded_pictures::<PpmWriter<W, A>>();
+    codec_laws::answer::answered_fault_is_of_decoding::<PpmWriter<W, A>>();
+    codec_laws::sink::sink_fault_is_a_refused_line::<PpmWriter<W, A>>();
+    codec_laws::sink::offered_lines_fit_the_configuration();
+    codec_laws::sink::lines_are_handed_in_turn();
+    codec_laws::sink::rct_planes_have_the_picture_size();
+    record_laws::accepted_configuration_is_in_range();
+    record_laws::accepted_configuration_has_sound_parts();
+    y4m_laws::image_is_written_after_the_others::<W>();
+    y4m_laws::sink_writes_the_lines_it_took::<W>();
+    y4m_laws::sink_takes_the_next_line::<W>();
     match play(player, input, sink) {
         Ok(None) => Ok(false),
         Ok(Some(_info)) => Ok(true),

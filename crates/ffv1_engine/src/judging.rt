@@ -5,19 +5,22 @@ ghost use Rattle.std.specs.Prelude.{◌≡◌, ◌++◌, ◌<◌, IfErr, IfOk, L
 ghost use Rattle.ffv1_wire.specs.Passage.{passage};
 ghost use Rattle.ffv1_record.specs.Accepted.{IsAccepted};
 ghost use Rattle.ffv1_files.specs.Places.{amount, container_of};
+ghost use Rattle.ffv1_engine.specs.Faults.{cause_of};
 ghost use Rattle.ffv1_engine.specs.FrameLines.{place_text};
-ghost use Rattle.ffv1_engine.specs.Judged.{AreCounts, HasThen, JudgeAnswers, Judged, JudgedAll};
-ghost use Rattle.ffv1_engine.specs.Judged.{JudgingStops, one_counted, refused_line};
-ghost use Rattle.ffv1_engine.specs.Located.{LocatedAfter, StaysReached};
-ghost use Rattle.ffv1_engine.specs.Told.{IsToldFault, WritesFrame};
+ghost use Rattle.ffv1_engine.specs.Judged.{IsJudged, Judged};
+ghost use Rattle.ffv1_engine.specs.Internal.Judged.{AreCounts, JudgeAnswers};
+ghost use Rattle.ffv1_engine.specs.Judged.{judged_lines, payload_of, refused_line};
+ghost use Rattle.ffv1_engine.specs.Internal.Judged.{one_counted};
+ghost use Rattle.ffv1_engine.specs.Internal.Located.{LocatedAfter, StaysReached};
+ghost use Rattle.ffv1_engine.specs.Plays.{GoesBy, HasThen};
+ghost use Rattle.ffv1_engine.specs.Internal.Plays.{PlaysAll};
+ghost use Rattle.ffv1_engine.specs.Internal.Told.{IsToldFault, WritesFrame};
 
 use crate::fault::Fault;
 use crate::frame_line::{FrameLine, put_refused, write_place};
 use crate::player::{Player, Stop, play};
 use crate::telling::{Places, tell_byte, write_line};
-use ffv1_codec::laws::answer::{answered, decode_faults};
-use ffv1_codec::laws::sink::taken_lines;
-use ffv1_codec::{CodecFault, DropLines, FrameDecoder, FrameFault};
+use ffv1_codec::{CodecFault, DropLines, FrameDecoder, FrameFault, laws as codec_laws};
 use ffv1_wire::{ByteIn, ByteOut, write_all};
 use std::alloc::Allocator;
 
@@ -111,9 +114,9 @@ fn judge_frame<R: ByteIn, W: ByteOut, A: Allocator>(
         ≡ container_of player.old.reader.place }
     ensures own { IfErr result (IsToldFault (container_of player.old.reader.place)) }
 {
-    answered::<DropLines>();
-    decode_faults::<DropLines>();
-    taken_lines();
+    codec_laws::answer::answer_is_ok_for_coded_pictures::<DropLines>();
+    codec_laws::answer::answered_fault_is_of_decoding::<DropLines>();
+    codec_laws::sink::sinks_of_own_lines_refuse_none();
     let number = counts.frames;
     let mut sink = DropLines::new(player.decoder.config());
     match play(player, input, &mut sink) {
@@ -151,14 +154,18 @@ pub(crate) fn judge_frames<R: ByteIn, W: ByteOut, A: Allocator + Copy>(
     requires accepted { IsAccepted player.old.decoder.accepted.configuration
         player.old.decoder.accepted.table }
     ensures ok { IfOk result (λ counts. (js : List Judged) × AreCounts counts js
-        × JudgedAll (HasThen player.old.reader.place) places.place player.old.decoder.accepted
+        × PlaysAll (IsJudged player.old.decoder.accepted) payload_of
+        (HasThen player.old.reader.place)
+        (judged_lines places.place player.old.decoder.accepted.configuration)
         (passage R.remaining R.failures input.old input.new)
         (passage W.contents W.failures output.old output.new) js) }
-    ensures err { IfErr result (JudgingStops (HasThen player.old.reader.place)
-        (LocatedAfter player.old.reader (passage R.remaining R.failures input.old input.new))
-        places.place places.byte player.old.decoder.accepted
+    ensures err { IfErr result (λ f. GoesBy (IsJudged player.old.decoder.accepted) payload_of
+        (HasThen player.old.reader.place)
+        (judged_lines places.place player.old.decoder.accepted.configuration)
         (passage R.remaining R.failures input.old input.new)
-        (passage W.contents W.failures output.old output.new)) }
+        (passage W.contents W.failures output.old output.new)
+        (LocatedAfter player.old.reader (passage R.remaining R.failures input.old input.new))
+        places.byte f (cause_of f)) }
     ensures own { IfErr result (IsToldFault (container_of player.old.reader.place)) }
 {
     let mut text = Vec::new(alloc);

@@ -15,7 +15,7 @@ ghost use Rattle.ffv1_engine.specs.Video.{SaidHead};
 
 /// The code of a plane codes its residuals, from fresh states, and is a start of a decoder: so each
 /// row is read back as it was.
-pub fn code_comes_back()
+pub fn plane_code_is_read_back()
     ensures coded { (t : Table) (set : Set) (width height : ℕ) (samples : List ℕ) →
         IsTable t.floor t.one → ((a : Around) → size_of set a < contexts_of set) → 0 < width →
         AreBytes samples →
@@ -28,7 +28,7 @@ pub fn code_comes_back()
 /// The default grid of Matroska is chosen among those with which a configuration is accepted: of 1
 /// to 32 columns and rows a picture may have those that pass the checks of the grid and of the
 /// edges of its slices, and whose greatest slice has fewer bytes of samples than 12 MiB.
-pub fn default_grids()
+pub fn default_grid_passes_its_checks()
     ensures { (choice : Choice) (ppm : Bool) (h : SaidHead) (columns rows : ℕ) →
         AreParts columns rows → has_grid h.depth h.head columns rows ≡ true
         ↔ (PassesGrid (configuration_for (with_parts choice columns rows) ppm h)

@@ -3,8 +3,9 @@
 ghost use Rattle.std.specs.Prelude.{◌≡◌, ◌⊎◌, ◌≤◌, [], Bool, IfOk, IfErr, None, Ok, Some, true};
 ghost use Rattle.ffv1_wire.specs.Passage.{passage};
 ghost use Rattle.ffv1_matroska.specs.Writers.{writing_of};
-ghost use Rattle.ffv1_engine.specs.Clusters.{PutsAll, StopsPutting};
-ghost use Rattle.ffv1_engine.specs.PackMatroska.{LacksMatroska, OpensMatroska, PacksMatroska};
+ghost use Rattle.ffv1_engine.specs.Internal.Clusters.{PutsAll, StopsPutting};
+ghost use Rattle.ffv1_engine.specs.PackMatroska.{PacksMatroska};
+ghost use Rattle.ffv1_engine.specs.Internal.PackMatroska.{LacksMatroska, OpensMatroska};
 ghost use Rattle.ffv1_engine.specs.PackMatroska.{RefusesMatroska};
 ghost use Rattle.ffv1_record.specs.Accepted.{IsFirstUpTo};
 ghost use Rattle.ffv1_record.specs.declared.fault.RecordFault.{RecordFault};
@@ -16,7 +17,7 @@ ghost use Rattle.ffv1_engine.specs.PackMatroska.{IsMatroskaPackFault, is_matrosk
 ghost use Rattle.ffv1_engine.specs.PackMatroska.{shown_for};
 ghost use Rattle.ffv1_engine.specs.Packing.{IsFor, configuration_for};
 ghost use Rattle.ffv1_engine.specs.Profiles.{greatest_depth};
-ghost use Rattle.ffv1_engine.specs.VideoReads.{reading_of};
+ghost use Rattle.ffv1_engine.specs.Internal.VideoReads.{reading_of};
 
 use crate::default_grid::grid_for;
 use crate::encoding::{encode_picture, encoder_for, file_head};
@@ -25,15 +26,14 @@ use crate::packing::Packed;
 use crate::profile::Profile;
 use crate::verifying::VerifyingEncoder;
 use crate::video::VideoReader;
-use ffv1_matroska::written_laws::pieces;
-use ffv1_matroska::{MatroskaWriter, Shown};
+use ffv1_matroska::{MatroskaWriter, Shown, written_laws};
 use ffv1_wire::{ByteIn, ByteOut, PatchOut};
 use ffv1_words::Choice;
-use ffv1_y4m::laws::{images, texts};
+use ffv1_y4m::laws as y4m_laws;
 use std::alloc::{Allocator, Global};
 
 /// The most bytes of a frame that a reader of files takes.
-const LIMIT: usize = 67_108_864;
+const LIMIT: usize = ffv1_reads::LIMIT as usize;
 
 /// What was packed into Matroska.
 #[derive(Clone, Copy, Debug, PartialEq, Eq)]
@@ -148,7 +148,7 @@ fn put_pictures<R: ByteIn, W: ByteOut, A: Allocator + Copy>(
         (passage W.contents W.failures output.old output.new)) }
     ensures own { IfErr result (λ f. is_matroska_pack_fault f ≡ true) }
 {
-    pieces();
+    written_laws::writes_make_up_the_file();
     let mut planes = Vec::new(alloc);
     let mut packed = Packed {
         frames: 0,
@@ -219,9 +219,9 @@ pub fn pack_matroska<R: ByteIn, W: PatchOut, A: Allocator + Copy>(
         (passage W.contents W.failures output.old output.new)) }
     ensures own { IfErr result (IsMatroskaPackFault profile) }
 {
-    texts();
-    images();
-    pieces();
+    y4m_laws::text_is_read_as_its_pictures();
+    y4m_laws::text_is_read_as_its_images();
+    written_laws::writes_make_up_the_file();
     let Opened {
         mut reader,
         mut encoder,

@@ -4,9 +4,10 @@ ghost use Rattle.std.specs.Prelude.{◌≡◌, ◌++◌, ◌<◌, true, OnOk};
 ghost use Rattle.ffv1_range.specs.Counts.{saturated};
 ghost use Rattle.ffv1_codec.specs.Picture.{planes_of};
 ghost use Rattle.ffv1_matroska.specs.Rates.{common_up_to};
-ghost use Rattle.ffv1_engine.specs.Md5Text.{aspect_of, field, line_of, md5_head, next_md5};
+ghost use Rattle.ffv1_engine.specs.Md5Text.{aspect_of, field, line_of, md5_head};
+ghost use Rattle.ffv1_engine.specs.Internal.Md5Text.{next_md5};
 ghost use Rattle.ffv1_engine.specs.Md5Text.{small_digit, small_hexadecimal, time_base};
-ghost use Rattle.ffv1_engine.specs.RawPicture.{AreEven};
+ghost use Rattle.ffv1_engine.specs.Internal.RawPicture.{AreEven};
 
 use crate::picture_md5::picture_md5;
 use crate::stream_lines::push_pair;

@@ -26,7 +26,7 @@ use std::alloc::Allocator;
 /// ```
 ///
 /// The last line says that the code was decoded to the picture's own samples. Each trial compares
-/// them, and they are the same each time (`laws::code_comes_back`).
+/// them, and they are the same each time (`laws::plane_code_is_read_back`).
 ///
 /// The picture has to be mono: `Unsupported` otherwise, once its header was judged. After the
 /// picture nothing is read. The faults are those of the text, the first one from the left

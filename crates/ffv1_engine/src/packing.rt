@@ -4,7 +4,8 @@ ghost use Rattle.std.specs.Prelude.{◌≡◌, ◌≤◌, IfOk, IfErr, true};
 ghost use Rattle.ffv1_wire.specs.Passage.{passage};
 ghost use Rattle.ffv1_reads.specs.Head.{head_of};
 ghost use Rattle.ffv1_avi.specs.Written.{frames_of};
-ghost use Rattle.ffv1_engine.specs.Pack.{EncodesVideo, Packs, RefusesPack, StopsVideo};
+ghost use Rattle.ffv1_engine.specs.Pack.{Packs, RefusesPack};
+ghost use Rattle.ffv1_engine.specs.Internal.Pack.{EncodesVideo, StopsVideo};
 ghost use Rattle.ffv1_engine.specs.Pack.{IsPackFault};
 ghost use Rattle.ffv1_engine.specs.Packing.{bytes_in};
 ghost use Rattle.ffv1_engine.specs.Profiles.{greatest_depth};
@@ -17,7 +18,7 @@ use ffv1_avi::write_avi;
 use ffv1_reads::FileHead;
 use ffv1_wire::{ByteIn, ByteOut};
 use ffv1_words::Choice;
-use ffv1_y4m::laws::{images, texts};
+use ffv1_y4m::laws as y4m_laws;
 use std::alloc::{Allocator, Global};
 
 /// What was packed.
@@ -50,8 +51,8 @@ fn encode_video<R: ByteIn, A: Allocator + Copy>(
         (passage R.remaining R.failures input.old input.new)) }
     ensures own { IfErr result (IsPackFault profile) }
 {
-    texts();
-    images();
+    y4m_laws::text_is_read_as_its_pictures();
+    y4m_laws::text_is_read_as_its_images();
     let mut reader = VideoReader::open(alloc, profile, input)?;
     let mut encoder = encoder_for(alloc, profile, choice, &reader)?;
     let head = file_head(alloc, choice, &reader, encoder.config())?;

@@ -2,7 +2,8 @@
 
 ghost use Rattle.std.specs.Prelude.{◌≡◌, ◌*◌, IfOk, IfErr, OnOk, true};
 ghost use Rattle.ffv1_wire.specs.Passage.{passage};
-ghost use Rattle.ffv1_engine.specs.Picture.{IsMono, ReadsMono, RefusesMono, is_mono_fault, mono_of};
+ghost use Rattle.ffv1_engine.specs.Picture.{IsMono, ReadsMono, is_mono_fault, mono_of};
+ghost use Rattle.ffv1_engine.specs.Internal.Picture.{RefusesMono};
 
 use crate::fault::Fault;
 use ffv1_wire::ByteIn;

@@ -5,7 +5,8 @@ ghost use Rattle.std.specs.List.{concat};
 ghost use Rattle.md5.specs.Md5.{md5};
 ghost use Rattle.ffv1_range.specs.Counts.{saturated};
 ghost use Rattle.ffv1_codec.specs.Picture.{planes_of};
-ghost use Rattle.ffv1_engine.specs.RawPicture.{AreEven, IsOf, pixels, raw_bytes};
+ghost use Rattle.ffv1_engine.specs.RawPicture.{pixels, raw_bytes};
+ghost use Rattle.ffv1_engine.specs.Internal.RawPicture.{AreEven, IsOf};
 
 use md5::{Digest, Md5};
 use std::alloc::Allocator;

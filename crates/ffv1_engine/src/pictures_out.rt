@@ -10,22 +10,21 @@ ghost use Rattle.ffv1_codec.specs.Picture.{planes_of};
 ghost use Rattle.ffv1_codec.specs.SliceList.{Said};
 ghost use Rattle.ffv1_reads.specs.Head.{head_of};
 ghost use Rattle.ffv1_files.specs.Places.{amount, container_of};
-ghost use Rattle.ffv1_engine.specs.Opens.{stream_of};
-ghost use Rattle.ffv1_engine.specs.PicturesOut.{IsBegun, IsKeptFor, WritesNext, WritesPicture};
-ghost use Rattle.ffv1_engine.specs.PicturesOut.{head_saying, said_in};
+ghost use Rattle.ffv1_engine.specs.Internal.Opens.{stream_of};
+ghost use Rattle.ffv1_engine.specs.Internal.PicturesOut.{IsBegun, IsKeptFor, WritesNext};
+ghost use Rattle.ffv1_engine.specs.Internal.PicturesOut.{WritesPicture};
+ghost use Rattle.ffv1_engine.specs.Internal.PicturesOut.{head_saying, said_in};
 ghost use Rattle.ffv1_engine.specs.Stream.{Frame};
-ghost use Rattle.ffv1_engine.specs.Unpack.{IsUnpackFault, IsWritingFault};
+ghost use Rattle.ffv1_engine.specs.Unpack.{IsUnpackFault};
+ghost use Rattle.ffv1_engine.specs.Internal.Unpack.{IsWritingFault};
 ghost use Rattle.ffv1_engine.specs.Unpacked.{video_of};
-ghost use Rattle.ffv1_engine.specs.Unpacking.{UnpackedAll, UnpackingStops};
+ghost use Rattle.ffv1_engine.specs.Internal.Unpacking.{UnpackedAll, UnpackingStops};
 
 use crate::fault::Fault;
 use crate::player::{Player, Stop, play};
-use ffv1_codec::laws::answer::{answered, decode_faults};
-use ffv1_codec::laws::sink::{kept_picture, taken_lines};
-use ffv1_codec::{Info, KeepLines};
+use ffv1_codec::{Info, KeepLines, laws as codec_laws};
 use ffv1_reads::FileHead;
-use ffv1_record::Checked;
-use ffv1_record::laws::accepted;
+use ffv1_record::{Checked, laws as record_laws};
 use ffv1_wire::{ByteIn, ByteOut};
 use ffv1_y4m::{VideoHead, Y4mWriter};
 use std::alloc::Allocator;
@@ -43,7 +42,7 @@ pub(crate) fn text_head<A: Allocator>(head: &FileHead<A>, checked: &Checked<A>) 
     ensures { (said : Said) → head_saying result said
         ≡ video_of (record { head = head_of head.now; accepted = checked.now }) said }
 {
-    accepted();
+    record_laws::accepted_configuration_is_in_range();
     let config = checked.config();
     VideoHead {
         width: config.width,
@@ -125,10 +124,10 @@ fn write_next<R: ByteIn, W: ByteOut, A: Allocator>(
         ≡ container_of player.old.reader.place }
     ensures own { IfErr result (IsWritingFault (container_of player.old.reader.place)) }
 {
-    answered::<KeepLines<A>>();
-    taken_lines();
-    kept_picture();
-    decode_faults::<KeepLines<A>>();
+    codec_laws::answer::answer_is_ok_for_coded_pictures::<KeepLines<A>>();
+    codec_laws::sink::sinks_of_own_lines_refuse_none();
+    codec_laws::sink::kept_lines_make_up_the_picture();
+    codec_laws::answer::answered_fault_is_of_decoding::<KeepLines<A>>();
     let depth = player.decoder.config().depth();
     match play(player, input, kept) {
         Ok(None) => Ok(false),

@@ -126,7 +126,7 @@ fn code_rows<A: Allocator + Copy>(
         plane.now.samples.now).count) }
     ensures err { IfErr result (λ f. f ≡ fault.OutOfMemory) }
 {
-    set.bounded();
+    set.is_a_bounded_set();
     let mut encoder = RangeEncoder::new(alloc);
     encode_rows(alloc, &mut encoder, table, set, states, plane)?;
     let decisions = encoder.decisions();

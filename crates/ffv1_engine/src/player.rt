@@ -9,11 +9,13 @@ ghost use Rattle.ffv1_record.specs.Reading.{IsRefused, ReachesSets};
 ghost use Rattle.ffv1_record.specs.declared.fault.RecordFault.TheVariants as record_fault;
 ghost use Rattle.ffv1_engine.specs.declared.fault.Fault.TheVariants as fault;
 ghost use Rattle.ffv1_engine.specs.Containers.{is_profile_fault};
-ghost use Rattle.ffv1_engine.specs.Located.{LocatedFault, LocatedStep};
+ghost use Rattle.ffv1_engine.specs.Located.{LocatedFault};
+ghost use Rattle.ffv1_engine.specs.Internal.Located.{LocatedStep};
 ghost use Rattle.ffv1_engine.specs.Profiles.{greatest_depth, scope_in};
-ghost use Rattle.ffv1_engine.specs.Opens.{OpensStream, LacksOpening, is_opening_fault};
+ghost use Rattle.ffv1_engine.specs.Opens.{LacksOpening, is_opening_fault};
+ghost use Rattle.ffv1_engine.specs.Internal.Opens.{OpensStream};
 ghost use Rattle.ffv1_engine.specs.Stream.{IsStream};
-ghost use Rattle.ffv1_engine.specs.Told.{IsOwnStop, OnPayload, StepAnswers};
+ghost use Rattle.ffv1_engine.specs.Internal.Told.{IsOwnStop, OnPayload, StepAnswers};
 
 use crate::fault::Fault;
 use crate::profile::Profile;

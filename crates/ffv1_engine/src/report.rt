@@ -1,10 +1,9 @@
 //! What `trial` prints.
 
-ghost use Rattle.std.specs.Prelude.{◌≡◌, ◌<◌, ◌*◌, ◌++◌, List, length, codes, decimal, IfOk, OnOk};
-ghost use Rattle.std.specs.Prelude.{[], ◌∷◌};
+ghost use Rattle.std.specs.Prelude.{◌≡◌, ◌<◌, ◌*◌, ◌++◌, List, length, codes, IfOk, OnOk};
 ghost use Rattle.ffv1_engine.specs.Report.{hexadecimal, digit_of, report_of, same_line};
 
-use itoa::Buffer;
+use crate::frame_line::push_number;
 use std::alloc::{AllocError, Allocator};
 
 /// The digits of hexadecimal numbers.
@@ -43,22 +42,6 @@ fn push_hexadecimal<A: Allocator>(text: &mut Vec<u8, A>, bytes: &[u8]) -> Result
     Ok(())
 }
 
-/// Appends a line of a name and a number.
-fn push_number<A: Allocator>(
-    text: &mut Vec<u8, A>,
-    name: &[u8],
-    number: u64,
-) -> Result<(), AllocError>
-    ensures { OnOk result
-        (text.new.items ≡ text.old.items ++ name.now ++ decimal number ++ 10 ∷ []) }
-{
-    let mut buffer = Buffer::new();
-    text.extend_from_slice(name)?;
-    text.extend_from_slice(buffer.format(number).as_bytes())?;
-    text.extend_from_slice(b"\n")?;
-    Ok(())
-}
-
 /// The four lines of a trial: how many samples there were and how many decisions they took, the
 /// code in hexadecimal, and whether it was decoded to the same samples.
 pub(crate) fn report<A: Allocator>(
@@ -72,8 +55,8 @@ pub(crate) fn report<A: Allocator>(
 {
     let mut text = Vec::new(alloc);
     push_number(&mut text, b"samples ", samples)?;
-    push_number(&mut text, b"decisions ", decisions)?;
-    text.extend_from_slice(b"code ")?;
+    push_number(&mut text, b"\ndecisions ", decisions)?;
+    text.extend_from_slice(b"\ncode ")?;
     push_hexadecimal(&mut text, code)?;
     let last = if same {
         b"\nsame yes\n".as_slice()

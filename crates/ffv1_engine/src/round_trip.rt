@@ -25,21 +25,18 @@ ghost use Rattle.ffv1_engine.specs.Unpack.{UnpackDone, UnpackStops};
 ghost use Rattle.ffv1_engine.specs.Profiles.{greatest_depth};
 ghost use Rattle.ffv1_engine.specs.Video.{IsReadVideo, IsVideo, Video};
 
-use ffv1_avi::laws::written_is_read as avi_is_written;
-use ffv1_codec::laws::answer::one_picture;
-use ffv1_codec::laws::decoding::{is_decoded, one_end};
-use ffv1_codec::laws::{encoded_frame, frame_lengths};
-use ffv1_files::laws::{file_is_read, frames_in_turn, written_is_read};
-use ffv1_matroska::laws::read_is_file;
-use ffv1_matroska::written_laws::written_is_read as matroska_is_written;
-use ffv1_range::laws::{counts, exponents, lengths, sentinel_ending};
-use ffv1_record::laws::{accepted, one_configuration, one_refusal, written_is_record};
-use ffv1_slice::laws::cutting;
-use ffv1_y4m::laws::{images, said_depths, said_heads, texts};
+use ffv1_avi::laws as avi_laws;
+use ffv1_codec::laws as codec_laws;
+use ffv1_files::laws as files_laws;
+use ffv1_matroska::{laws as matroska_laws, written_laws};
+use ffv1_range::laws as range_laws;
+use ffv1_record::laws as record_laws;
+use ffv1_slice::laws as slice_laws;
+use ffv1_y4m::laws as y4m_laws;
 
 /// The rate and the scale that a command line names are such as a file has: `words` makes no choice
 /// for which `packed_is_unpacked` would not speak of PPM.
-pub fn named_rate()
+pub fn named_rate_fits_a_file()
     ensures { (rows : List Row) (c : Choice) → NamesChoice rows c →
         IsRatio 4294967295 c.rate c.scale }
 {}
@@ -131,28 +128,28 @@ pub fn packed_is_unpacked()
         file_read Whole (begun_file choice v a)
         ≡ Ok ((packed_head choice v a, packed_frames v a), []) }
 {
-    accepted();
-    counts();
-    cutting();
-    encoded_frame();
-    exponents();
-    file_is_read();
-    frame_lengths();
-    frames_in_turn();
-    images();
-    is_decoded();
-    lengths();
-    one_configuration();
-    one_end();
-    one_picture();
-    one_refusal();
-    said_depths();
-    said_heads();
-    sentinel_ending();
-    texts();
-    written_is_read();
-    avi_is_written();
-    matroska_is_written();
-    read_is_file();
-    written_is_record();
+    record_laws::accepted_configuration_is_in_range();
+    range_laws::each_step_is_one_or_zero();
+    slice_laws::cutting_is_found_from_the_end();
+    codec_laws::encoded_frame_codes_its_picture();
+    range_laws::exponent_is_the_highest_bit();
+    files_laws::file_is_read_as_its_frames();
+    codec_laws::frame_length_follows_from_residuals();
+    files_laws::frames_come_in_turn();
+    y4m_laws::text_is_read_as_its_images();
+    codec_laws::decoding::coded_picture_is_decoded();
+    range_laws::symbol_length_follows_from_exponent();
+    record_laws::record_has_one_configuration();
+    codec_laws::decoding::decoding_has_one_end();
+    codec_laws::answer::payload_codes_one_picture();
+    record_laws::bytes_are_refused_for_one_reason();
+    y4m_laws::said_chroma_has_a_name();
+    y4m_laws::said_head_can_be_read();
+    range_laws::sentinel_ending_codes_its_list();
+    y4m_laws::text_is_read_as_its_pictures();
+    files_laws::written_avi_is_read_back();
+    avi_laws::written_file_is_read_back();
+    written_laws::written_file_is_read_back();
+    matroska_laws::what_is_read_is_a_file();
+    record_laws::written_bytes_are_a_record();
 }

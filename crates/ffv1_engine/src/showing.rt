@@ -6,10 +6,15 @@ ghost use Rattle.ffv1_reads.specs.Head.{head_of};
 ghost use Rattle.ffv1_files.specs.Places.{container_of};
 ghost use Rattle.ffv1_record.specs.Accepted.{IsAccepted};
 ghost use Rattle.ffv1_engine.specs.declared.frame_line.FrameLine.TheVariants as line;
-ghost use Rattle.ffv1_engine.specs.Show.{IsShowFault, NoDecoder, ShowDone, ShowStops};
-ghost use Rattle.ffv1_engine.specs.Stream.{Frame};
+ghost use Rattle.ffv1_engine.specs.FrameLines.{frame_lines};
+ghost use Rattle.ffv1_engine.specs.Internal.Located.{LocatedAfter};
+ghost use Rattle.ffv1_engine.specs.Plays.{HasThen};
+ghost use Rattle.ffv1_engine.specs.Internal.Plays.{PlaysAll};
+ghost use Rattle.ffv1_engine.specs.Show.{IsShowFault, ShowDone, ShowStops};
+ghost use Rattle.ffv1_engine.specs.Internal.Show.{NoDecoder};
+ghost use Rattle.ffv1_engine.specs.Stream.{Frame, IsFrame, frame_payload};
 ghost use Rattle.ffv1_engine.specs.StreamLines.{show_text};
-ghost use Rattle.ffv1_engine.specs.Told.{IsToldFault, TellingStops, ToldAll, WritesFrame};
+ghost use Rattle.ffv1_engine.specs.Internal.Told.{IsToldFault, TellingStops, WritesFrame};
 
 use crate::fault::Fault;
 use crate::frame_line::FrameLine;
@@ -17,8 +22,7 @@ use crate::player::{open_stream, player_of};
 use crate::profile::Profile;
 use crate::stream_lines::show_text;
 use crate::telling::{Places, Telling, tell_frames};
-use ffv1_files::laws::{frames_in_turn, read_is_file};
-use ffv1_files::{Container, FileReader};
+use ffv1_files::{Container, FileReader, laws as files_laws};
 use ffv1_reads::FileHead;
 use ffv1_record::Checked;
 use ffv1_wire::{ByteIn, ByteOut, write_all};
@@ -54,15 +58,17 @@ fn tell_costs<R: ByteIn, W: ByteOut, A: Allocator + Copy>(
     requires sound { reader.fault ≡ None }
     requires accepted { IsAccepted checked.configuration checked.table }
     ensures ok { OnOk result ((frames : List Frame)
-        × ToldAll line.Cost false checked reader.place
+        × PlaysAll (IsFrame checked) frame_payload (HasThen reader.place)
+        (frame_lines line.Cost checked.configuration)
         (passage R.remaining R.failures input.old input.new)
         (passage W.contents W.failures output.old output.new) frames) }
     ensures err { IfErr result (λ f.
         NoDecoder (passage R.remaining R.failures input.old input.new)
         (passage W.contents W.failures output.old output.new) f
-        ⊎ TellingStops line.Cost false false checked reader
+        ⊎ TellingStops (HasThen reader.place) line.Cost false checked
         (passage R.remaining R.failures input.old input.new)
-        (passage W.contents W.failures output.old output.new) f) }
+        (passage W.contents W.failures output.old output.new)
+        (LocatedAfter reader (passage R.remaining R.failures input.old input.new)) false f) }
     ensures own { IfErr result (IsToldFault (container_of reader.place)) }
 {
     let mut player = player_of(alloc, reader, checked)?;
@@ -135,8 +141,8 @@ pub fn show<R: ByteIn, W: ByteOut, A: Allocator + Copy>(
         (passage W.contents W.failures output.old output.new) cost) }
     ensures own { IfErr result (IsShowFault profile cost) }
 {
-    frames_in_turn();
-    read_is_file();
+    files_laws::frames_come_in_turn();
+    files_laws::what_is_read_is_a_file();
     let (reader, checked) = open_stream(alloc, profile, input)?;
     write_stream(alloc, output, reader.container(), reader.head(), &checked)?;
     if cost {

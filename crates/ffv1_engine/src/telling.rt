@@ -5,18 +5,20 @@ ghost use Rattle.ffv1_wire.specs.Passage.{passage};
 ghost use Rattle.ffv1_range.specs.Counts.{saturated};
 ghost use Rattle.ffv1_record.specs.Accepted.{IsAccepted};
 ghost use Rattle.ffv1_files.specs.Places.{amount, container_of};
-ghost use Rattle.ffv1_engine.specs.FrameLines.{frame_line, place_text};
-ghost use Rattle.ffv1_engine.specs.Located.{StaysReached, located_text};
-ghost use Rattle.ffv1_engine.specs.Stream.{Frame};
-ghost use Rattle.ffv1_engine.specs.Told.{FrameAnswers, TellingStops, ToldAll, WritesFrame};
-ghost use Rattle.ffv1_engine.specs.Told.{IsToldFault, WritesLine};
+ghost use Rattle.ffv1_engine.specs.FrameLines.{frame_line, frame_lines, place_text};
+ghost use Rattle.ffv1_engine.specs.Located.{WritesLine};
+ghost use Rattle.ffv1_engine.specs.Internal.Located.{LocatedAfter, StaysReached};
+ghost use Rattle.ffv1_engine.specs.Located.{located_text};
+ghost use Rattle.ffv1_engine.specs.Plays.{HasThen};
+ghost use Rattle.ffv1_engine.specs.Internal.Plays.{PlaysAll};
+ghost use Rattle.ffv1_engine.specs.Stream.{Frame, IsFrame, frame_payload};
+ghost use Rattle.ffv1_engine.specs.Internal.Told.{FrameAnswers, IsToldFault, TellingStops};
+ghost use Rattle.ffv1_engine.specs.Internal.Told.{WritesFrame};
 
 use crate::fault::Fault;
 use crate::frame_line::{FrameLine, put_cost, put_sizes, write_offset, write_place};
 use crate::player::{Player, Stop, play};
-use ffv1_codec::laws::answer::{answered, decode_faults};
-use ffv1_codec::laws::sink::taken_lines;
-use ffv1_codec::{DropLines, FrameDecoder, FrameFault};
+use ffv1_codec::{DropLines, FrameDecoder, FrameFault, laws as codec_laws};
 use ffv1_wire::{ByteIn, ByteOut, write_all};
 use std::alloc::{AllocError, Allocator};
 
@@ -154,9 +156,9 @@ fn tell_frame<R: ByteIn, W: ByteOut, A: Allocator>(
         ≡ container_of player.old.reader.place }
     ensures own { IfErr result (IsToldFault (container_of player.old.reader.place)) }
 {
-    answered::<DropLines>();
-    decode_faults::<DropLines>();
-    taken_lines();
+    codec_laws::answer::answer_is_ok_for_coded_pictures::<DropLines>();
+    codec_laws::answer::answered_fault_is_of_decoding::<DropLines>();
+    codec_laws::sink::sinks_of_own_lines_refuse_none();
     let mut sink = DropLines::new(player.decoder.config());
     match play(player, input, &mut sink) {
         Ok(None) => Ok(false),
@@ -191,14 +193,17 @@ pub(crate) fn tell_frames<R: ByteIn, W: ByteOut, A: Allocator + Copy>(
     requires accepted { IsAccepted player.old.decoder.accepted.configuration
         player.old.decoder.accepted.table }
     ensures ok { IfOk result (λ n. (frames : List Frame) × (n ≡ saturated (length frames))
-        × ToldAll telling.kind telling.places.place player.old.decoder.accepted
-        player.old.reader.place
+        × PlaysAll (IsFrame player.old.decoder.accepted) frame_payload
+        (HasThen player.old.reader.place)
+        (frame_lines telling.kind player.old.decoder.accepted.configuration)
         (passage R.remaining R.failures input.old input.new)
         (passage W.contents W.failures output.old output.new) frames) }
-    ensures err { IfErr result (TellingStops telling.kind telling.places.place
-        telling.places.byte player.old.decoder.accepted player.old.reader
+    ensures err { IfErr result (TellingStops (HasThen player.old.reader.place)
+        telling.kind telling.places.place player.old.decoder.accepted
         (passage R.remaining R.failures input.old input.new)
-        (passage W.contents W.failures output.old output.new)) }
+        (passage W.contents W.failures output.old output.new)
+        (LocatedAfter player.old.reader (passage R.remaining R.failures input.old input.new))
+        telling.places.byte) }
     ensures own { IfErr result (IsToldFault (container_of player.old.reader.place)) }
 {
     let mut text = Vec::new(alloc);

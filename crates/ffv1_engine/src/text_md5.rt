@@ -4,16 +4,17 @@ ghost use Rattle.std.specs.Prelude.{◌≡◌, IfErr, IfOk, None, OnOk, true};
 ghost use Rattle.ffv1_wire.specs.Passage.{passage};
 ghost use Rattle.ffv1_engine.specs.Pack.{is_pack_fault};
 ghost use Rattle.ffv1_engine.specs.Profiles.{greatest_depth};
-ghost use Rattle.ffv1_engine.specs.TextMd5.{LinesStop, TextDone, TextStops, WritesLine};
-ghost use Rattle.ffv1_engine.specs.TextMd5.{WritesLines};
-ghost use Rattle.ffv1_engine.specs.VideoReads.{IsHeadOf, reading_of};
+ghost use Rattle.ffv1_engine.specs.TextMd5.{TextDone, TextStops};
+ghost use Rattle.ffv1_engine.specs.Internal.TextMd5.{LinesStop, WritesLine};
+ghost use Rattle.ffv1_engine.specs.Internal.TextMd5.{WritesLines};
+ghost use Rattle.ffv1_engine.specs.Internal.VideoReads.{IsHeadOf, reading_of};
 
 use crate::fault::Fault;
 use crate::md5_lines::put_picture;
 use crate::profile::Profile;
 use crate::video::VideoReader;
 use ffv1_wire::{ByteIn, ByteOut, write_all};
-use ffv1_y4m::laws::{images, texts};
+use ffv1_y4m::laws as y4m_laws;
 use std::alloc::Allocator;
 
 /// Reads the next picture, and writes its line. Answers false where there is none.
@@ -101,8 +102,8 @@ pub fn framemd5_text<R: ByteIn, W: ByteOut, A: Allocator + Copy>(
         (passage W.contents W.failures output.old output.new)) }
     ensures own { IfErr result (λ f. is_pack_fault f ≡ true) }
 {
-    texts();
-    images();
+    y4m_laws::text_is_read_as_its_pictures();
+    y4m_laws::text_is_read_as_its_images();
     let mut reader = VideoReader::open(alloc, profile, input)?;
     let count = write_lines(alloc, &mut reader, input, output)?;
     if count == 0 {

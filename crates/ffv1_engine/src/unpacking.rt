@@ -6,19 +6,20 @@ ghost use Rattle.ffv1_range.specs.Counts.{saturated};
 ghost use Rattle.ffv1_files.specs.Places.{container_of};
 ghost use Rattle.ffv1_record.specs.Accepted.{IsAccepted};
 ghost use Rattle.ffv1_record.specs.Configuration.{configuration_of, is_rct};
-ghost use Rattle.ffv1_engine.specs.Opens.{OpensStream, stream_of};
+ghost use Rattle.ffv1_engine.specs.Internal.Opens.{OpensStream, stream_of};
 ghost use Rattle.ffv1_engine.specs.Stream.{Frame};
-ghost use Rattle.ffv1_engine.specs.Unpack.{IsUnpackFaultIn, IsWritingFault, LacksUnpacking};
+ghost use Rattle.ffv1_engine.specs.Unpack.{IsUnpackFaultIn};
+ghost use Rattle.ffv1_engine.specs.Internal.Unpack.{IsWritingFault, LacksUnpacking};
 ghost use Rattle.ffv1_engine.specs.Unpack.{UnpackDone, UnpackStops};
 ghost use Rattle.ffv1_engine.specs.Unpacked.{HasText, HasTextBy, LacksTextBy};
-ghost use Rattle.ffv1_engine.specs.Unpacking.{UnpackedAll, UnpackingStops};
+ghost use Rattle.ffv1_engine.specs.Internal.Unpacking.{UnpackedAll, UnpackingStops};
 
 use crate::fault::Fault;
 use crate::images_out::write_images;
 use crate::pictures_out::{text_head, write_pictures};
 use crate::player::{Player, open_stream, player_of};
 use crate::profile::Profile;
-use ffv1_files::laws::{frames_in_turn, read_is_file};
+use ffv1_files::laws as files_laws;
 use ffv1_reads::FileHead;
 use ffv1_record::{Checked, Colour};
 use ffv1_wire::{ByteIn, ByteOut};
@@ -130,8 +131,8 @@ pub fn unpack<R: ByteIn, W: ByteOut, A: Allocator + Copy>(
         (passage W.contents W.failures output result.0)) }
     ensures own { IfErr result.1 (IsUnpackFaultIn profile) }
 {
-    frames_in_turn();
-    read_is_file();
+    files_laws::frames_come_in_turn();
+    files_laws::what_is_read_is_a_file();
     match open_unpacking(alloc, profile, input) {
         Err(fault) => (output, Err(fault)),
         Ok(mut player) => {

@@ -5,12 +5,11 @@ ghost use Rattle.ffv1_record.specs.Accepted.{Accepted};
 ghost use Rattle.ffv1_codec.specs.Frame.{CodesPicture, HasLongSlice, frame_of};
 ghost use Rattle.ffv1_codec.specs.Picture.{AreOf, Fits, planes_of};
 ghost use Rattle.ffv1_engine.specs.declared.fault.Fault.TheVariants as fault;
-ghost use Rattle.ffv1_engine.specs.PicturesOut.{IsKeptFor};
-ghost use Rattle.ffv1_engine.specs.Verifying.{IsBackFor};
+ghost use Rattle.ffv1_engine.specs.Internal.PicturesOut.{IsKeptFor};
+ghost use Rattle.ffv1_engine.specs.Internal.Verifying.{IsBackFor};
 
 use crate::fault::Fault;
-use ffv1_codec::laws::sink::{kept_picture, taken_lines};
-use ffv1_codec::{FrameDecoder, FrameEncoder, Info, KeepLines, Picture};
+use ffv1_codec::{FrameDecoder, FrameEncoder, Info, KeepLines, Picture, laws as codec_laws};
 use ffv1_record::Checked;
 use std::alloc::{Allocator, Global};
 use std::marker::Model;
@@ -76,8 +75,8 @@ fn decodes_back<A: Allocator>(
     ensures kept { IsTrue result → IsKeptFor back.old.decoder.accepted back.new.kept }
     ensures same { back.new.decoder.accepted ≡ back.old.decoder.accepted }
 {
-    taken_lines();
-    kept_picture();
+    codec_laws::sink::sinks_of_own_lines_refuse_none();
+    codec_laws::sink::kept_lines_make_up_the_picture();
     let _table = back.decoder.config().table();
     let Ok(said) = back.decoder.decode(frame, &mut back.kept) else {
         return false;
@@ -122,7 +121,7 @@ pub(crate) struct VerifyingEncoder<A: Allocator = Global> {
 
 impl<A: Allocator> Model for VerifyingEncoder<A> {
     ghost use Rattle.std.specs.Prelude.{is_some};
-    ghost use Rattle.ffv1_engine.specs.Verifying.{IsBackFor, Verifying};
+    ghost use Rattle.ffv1_engine.specs.Internal.Verifying.{IsBackFor, Verifying};
 
     ghost Value = { Verifying };
 

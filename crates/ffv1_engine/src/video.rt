@@ -11,14 +11,13 @@ ghost use Rattle.ffv1_y4m.specs.State.{samples_of, shown};
 ghost use Rattle.ffv1_y4m.specs.VideoHead.{AreInDepth, Fits, IsHead, IsSized, colour_head};
 ghost use Rattle.ffv1_engine.specs.Pack.{is_pack_fault};
 ghost use Rattle.ffv1_engine.specs.Profiles.{greatest_depth};
-ghost use Rattle.ffv1_engine.specs.VideoReads.{HeadRead, HeadRefused, IsHeadOf, NextRead};
-ghost use Rattle.ffv1_engine.specs.VideoReads.{NextRefused, VideoReading, reading_of};
+ghost use Rattle.ffv1_engine.specs.Internal.VideoReads.{HeadRead, HeadRefused, IsHeadOf, NextRead};
+ghost use Rattle.ffv1_engine.specs.Internal.VideoReads.{NextRefused, VideoReading, reading_of};
 
 use crate::fault::Fault;
 use crate::profile::Profile;
 use ffv1_wire::{ByteIn, read_byte};
-use ffv1_y4m::laws::image_headers;
-use ffv1_y4m::{PpmReader, VideoHead, Y4mReader};
+use ffv1_y4m::{PpmReader, VideoHead, Y4mReader, laws as y4m_laws};
 use std::alloc::{Allocator, Global};
 
 /// A reader of a video: of binary PPM where the first byte is `P`, else of YUV4MPEG2. Above 8 bits
@@ -86,7 +85,7 @@ impl<A: Allocator + Copy> VideoReader<A> {
             (passage R.remaining R.failures input.old input.new)) }
         ensures own { IfErr result (λ f. is_pack_fault f ≡ true) }
     {
-        image_headers();
+        y4m_laws::image_header_takes_its_first_byte();
         let Ok(first) = read_byte(input) else {
             return Err(Fault::Read);
         };

@@ -12,50 +12,50 @@ ghost use Rattle.ffv1_files.specs.Files.{file_read, frame_read, frames_read, mor
 ghost use Rattle.ffv1_files.specs.Whole.{IsWhole};
 ghost use Rattle.ffv1_files.specs.Places.{Place};
 
-use ffv1_avi::laws as avi;
-use ffv1_matroska::laws as matroska;
+use ffv1_avi::laws as avi_laws;
+use ffv1_matroska::laws as matroska_laws;
 
 /// The frames are the next one and those after it.
-pub fn frames_in_turn()
+pub fn frames_come_in_turn()
     ensures { (place : Place) (text : List ℕ) →
         frames_read place text ≡ read_on (frame_read place text) (more_frames frames_read) }
 {
-    avi::frames_in_turn();
-    matroska::frames_in_turn();
+    avi_laws::frames_come_in_turn();
+    matroska_laws::frames_come_in_turn();
 }
 
 /// What is read is a file of that head and those frames: up to the end of the first `movi` an AVI
 /// by its chunks, after which this is left; and all of it an AVI by the chunks of every RIFF, after
 /// which nothing is left, or a Matroska file by its elements, after whose Segment this is left.
-pub fn read_is_file()
+pub fn what_is_read_is_a_file()
     ensures first { (file : List ℕ) (head : Head) (frames : List (List ℕ)) (rest : List ℕ) →
         file_read scope.FirstMovi file ≡ Ok ((head, frames), rest) →
         (is : AviFile file head frames) × (rest ≡ is.rest) }
     ensures whole { (file : List ℕ) (head : Head) (frames : List (List ℕ)) (rest : List ℕ) →
         file_read scope.Whole file ≡ Ok ((head, frames), rest) → IsWhole file head frames rest }
 {
-    avi::read_is_file();
-    avi::file_is_read();
-    avi::whole();
-    matroska::read_is_file();
+    avi_laws::what_is_read_is_a_file();
+    avi_laws::file_is_read_as_its_frames();
+    avi_laws::every_riff_is_read_whole();
+    matroska_laws::what_is_read_is_a_file();
 }
 
 /// Such a file is read so.
-pub fn file_is_read()
+pub fn file_is_read_as_its_frames()
     ensures first { (file : List ℕ) (head : Head) (frames : List (List ℕ))
         (is : AviFile file head frames) →
         file_read scope.FirstMovi file ≡ Ok ((head, frames), is.rest) }
     ensures whole { (file : List ℕ) (head : Head) (frames : List (List ℕ)) (rest : List ℕ) →
         IsWhole file head frames rest → file_read scope.Whole file ≡ Ok ((head, frames), rest) }
 {
-    avi::file_is_read();
-    matroska::file_is_read();
+    avi_laws::file_is_read_as_its_frames();
+    matroska_laws::file_is_read_as_its_frames();
 }
 
 /// An AVI that was written is read back, however far.
-pub fn written_is_read()
+pub fn written_avi_is_read_back()
     ensures { (scope : Scope) (head : Head) (frames : List (List ℕ)) → IsWritable head frames →
         file_read scope (file_of head frames) ≡ Ok ((head, frames), []) }
 {
-    avi::written_is_read();
+    avi_laws::written_file_is_read_back();
 }

@@ -28,21 +28,21 @@ ghost use Rattle.ffv1_line.specs.Coder.{Decoder, Encoder};
 ghost use Rattle.ffv1_line.specs.Above.{RowsAbove};
 
 /// The rows of a cell, one after the other, are the cell's list.
-pub fn joined()
+pub fn cell_is_its_rows_joined()
     ensures { (set : Set) (c : Cell) (y : ℕ) (rows : List (List ℤ)) (qs : List ℤ) →
         cell_steps set c y (rows ++ (qs ∷ [])) ≡ cell_steps set c y rows ++ row_steps set c
         (y + length rows) 0 qs }
 {}
 
 /// The slots of a row are those of the set's contexts.
-pub fn slots()
+pub fn row_slots_are_the_contexts_slots()
     ensures { (set : Set) (c : Cell) (y x : ℕ) (qs : List ℤ) →
         ((a : Around) → size_of set a < contexts_of set) →
         AreBelow (row_steps set c y x qs) (contexts_of set * 32) }
 {}
 
 /// A decoder that read some rows of a cell, and then the next, read these rows.
-pub fn read_next()
+pub fn reading_goes_on_row_by_row()
     ensures { (coding : RowCoding) (a b d : Decoder) (c : Cell) (rows : List (List ℤ))
         (qs : List ℤ) →
         Rows coding a b c rows → length qs ≡ c.width →
@@ -51,7 +51,7 @@ pub fn read_next()
 {}
 
 /// An encoder that wrote some rows of a cell, and then the next, wrote these rows.
-pub fn wrote_next()
+pub fn writing_goes_on_row_by_row()
     ensures { (t : Table) (set : Set) (a b d : Writing) (states between after : List ℕ) (c : Cell)
         (rows : List (List ℤ)) (qs : List ℤ) →
         Puts t a states b between (cell_steps set c 0 rows) →
@@ -61,7 +61,7 @@ pub fn wrote_next()
 
 /// What an encoder writes of a row, and of the rows of a cell, are residuals that suit their
 /// samples, one for each sample.
-pub fn chosen()
+pub fn chosen_residuals_suit_their_samples()
     ensures long { (set : Set) (bits : ℕ) (c : Cell) (y n : ℕ) →
         length (chosen_row set bits c y n) ≡ n }
     ensures suit { (set : Set) (bits : ℕ) (c : Cell) (y n : ℕ) → 0 < bits → bits < 32 →
@@ -79,7 +79,7 @@ pub fn chosen()
 /// A residual of n binary digits takes 2 n + 1 decisions, at most 63; a row and a cell take those
 /// of their residuals, at slots of the set's contexts; and each residual that an encoder takes of a
 /// cell has a symbol.
-pub fn lengths()
+pub fn residual_length_follows_from_digits()
     ensures symbol { (v : ℤ) → unsigned_abs v < 2 ^ 31 → length (signed_steps v) ≡ decisions_of v }
     ensures most { (v : ℤ) → unsigned_abs v < 2 ^ 31 → decisions_of v ≤ 63 }
     ensures row { (set : Set) (c : Cell) (y x : ℕ) (qs : List ℤ) → AreSmall qs →
@@ -100,7 +100,7 @@ pub fn lengths()
 /// After one past the bytes code one row at most, below two given rows: residuals of so many
 /// samples that suit them are one list and make one row; a row that is refused is no beginning of
 /// one that is coded, and is refused at one place.
-pub fn only_row()
+pub fn bytes_code_one_row()
     ensures one { (bytes : List ℕ) (coding : RowCoding) (base : ℕ) (past : List Step) (c d : Cell)
         (y z : ℕ) (two one : List ℕ) (ps qs : List ℤ) →
         AreBytes bytes → IsTable coding.table.floor coding.table.one → 0 < length one →
@@ -126,7 +126,7 @@ pub fn only_row()
 {}
 
 /// The same after any decisions, by any states.
-pub fn only_row_by_states()
+pub fn bytes_code_one_row_by_states()
     ensures one { (bytes : List ℕ) (before : List Decision) (coding : RowCoding) (states : List ℕ)
         (c d : Cell) (y z : ℕ) (two one : List ℕ) (ps qs : List ℤ) →
         AreBytes bytes → 0 < length one → Above c y two one → Above d z two one →
@@ -146,7 +146,7 @@ pub fn only_row_by_states()
 {}
 
 /// A row that its decoder's bytes code by its states is read as it is, and is not refused.
-pub fn row_comes_back()
+pub fn coded_row_is_read_back()
     ensures read { (coding : RowCoding) (old new : Decoder) (above : RowsAbove) (cur : List ℕ)
         (before : List Decision) (c : Cell) (y : ℕ) (qs : List ℤ) →
         0 < length above.one → Above c y above.two above.one → length cur ≡ c.width →
@@ -165,7 +165,7 @@ pub fn row_comes_back()
 {}
 
 /// So are the rows of a cell that its bytes code, one after the other.
-pub fn cell_comes_back()
+pub fn coded_cell_is_read_back()
     ensures first { (before : List Decision) (coding : RowCoding) (now : Decoder) (c : Cell)
         (rows : List (List ℤ)) → At now.reading (interval_of before) →
         CodesCellBy now.reading.bytes before coding now.states c rows →
@@ -186,7 +186,7 @@ pub fn cell_comes_back()
 
 /// What an encoder wrote is coded by either ending, after what it had written before: the rows of
 /// a cell, if they suit.
-pub fn written_is_coded()
+pub fn either_ending_codes_what_was_written()
     ensures sentinel { (before : List Decision) (coding : RowCoding) (old w : Writing)
         (states after : List ℕ) (c : Cell) (rows : List (List ℤ)) →
         AreStates before → old.interval ≡ interval_of before →
@@ -214,7 +214,7 @@ pub fn written_is_coded()
 {}
 
 /// The rows two and one above are 0 at a cell's top, and from a row to the next they move by one.
-pub fn rolling()
+pub fn rows_above_roll_down_the_cell()
     ensures top { (c : Cell) → Above c 0 (replicate c.width 0) (replicate c.width 0) }
     ensures next { (c : Cell) (y : ℕ) (two one cur : List ℕ) → Above c y two one →
         length cur ≡ c.width → Shows c (y + 2) cur c.width → Above c (y + 1) one cur }
@@ -223,7 +223,7 @@ pub fn rolling()
 {}
 
 /// A decoder that read rows, one below the other, read the cell of their samples.
-pub fn cell_is_read()
+pub fn reading_its_rows_reads_the_cell()
     ensures top { (width : ℕ) → Rolls width [] (replicate width 0) (replicate width 0) 0 }
     ensures rolls { (width n : ℕ) (samples two one cur : List ℕ) → length cur ≡ width →
         Rolls width samples two one n → Rolls width (samples ++ cur) one cur (n + 1) }
@@ -241,7 +241,7 @@ pub fn cell_is_read()
 {}
 
 /// Samples that were read have `bits` bits.
-pub fn samples_below()
+pub fn read_samples_fit_their_bits()
     ensures read { (coding : RowCoding) (old new : Decoder) (above : RowsAbove) (cur : List ℕ)
         (n : ℕ) → n ≤ length above.one →
         Lined coding old new above cur n →
@@ -254,7 +254,7 @@ pub fn samples_below()
 
 /// A residual that was read has a symbol; so a sample that was read takes at most 63 decisions, a
 /// symbol that is refused 32, and a sample of `bits` bits that was written `2 * bits + 1`.
-pub fn most_decisions()
+pub fn sample_takes_at_most_63_decisions()
     ensures small { (coding : RowCoding) (old new : Decoder) (above : RowsAbove) (cur : List ℕ)
         (n : ℕ) → n ≤ length above.one →
         (l : Lined coding old new above cur n) → AreSmall l.residuals }
@@ -276,7 +276,7 @@ pub fn most_decisions()
 {}
 
 /// A number has d binary digits where it is at least 2^(d-1) and below 2^d, and 0 has none.
-pub fn digits()
+pub fn binary_digits_bound_a_number()
     ensures least { (n : ℕ) → 0 < n → 2 ^ (binary_digits n - 1) ≤ n }
     ensures most { (n : ℕ) → n < 2 ^ binary_digits n }
     ensures none { binary_digits 0 ≡ 0 }
@@ -284,7 +284,7 @@ pub fn digits()
 
 /// Cells that agree on the rows up to one row have the same decisions of it, and the same residuals
 /// suit it.
-pub fn agreeing_cells()
+pub fn agreeing_cells_code_rows_alike()
     ensures steps { (set : Set) (c d : Cell) (y x : ℕ) (qs : List ℤ) → Agree c d y →
         row_steps set c y x qs ≡ row_steps set d y x qs }
     ensures suits { (set : Set) (bits : ℕ) (c d : Cell) (y x : ℕ) (qs : List ℤ) → Agree c d y →
@@ -292,7 +292,7 @@ pub fn agreeing_cells()
 {}
 
 /// Residuals that suit a row have a symbol each, and the row's samples have `bits` bits.
-pub fn suiting_rows()
+pub fn suiting_residuals_have_symbols()
     ensures small { (set : Set) (bits : ℕ) (c : Cell) (y x : ℕ) (qs : List ℤ) →
         AreSuiting set bits c y x qs → AreSmall qs }
     ensures below { (set : Set) (bits : ℕ) (c : Cell) (y x : ℕ) (qs : List ℤ) →

@@ -12,7 +12,7 @@ use Rattle.ffv1_ebml.specs.Vints.{number_of}
 use Rattle.ffv1_ebml.specs.declared.element.Element.{Element}
 use Rattle.ffv1_ebml.specs.declared.sum.Sum.{Sum}
 use Rattle.ffv1_ebml.specs.declared.sum.Sum.TheVariants.{Absent}
-use Rattle.ffv1_matroska.specs.Blocks.{limit}
+use Rattle.ffv1_reads.specs.Head.{limit}
 use Rattle.ffv1_matroska.specs.Elements.{AreTopLevel, IsTopLevel, TopLevel, top_text, tops_text}
 use Rattle.ffv1_matroska.specs.MatroskaFiles.{AreBefore, FileBegins, IsTracks}
 use Rattle.ffv1_matroska.specs.Opened.{begin_up_to, begun_at, ebml, ebml_read, element_or_begun, element_passed, open_read, segment_opened, told, tracks, tracks_or_passed, tracks_read}

@@ -15,13 +15,14 @@ use Rattle.ffv1_ebml.specs.declared.element.Element.{Element}
 use Rattle.ffv1_ebml.specs.declared.sum.Sum.{Sum}
 use Rattle.ffv1_ebml.specs.declared.sum.Sum.TheVariants.{Absent, Begins, Awaits}
 use Rattle.ffv1_ebml.proofs.VintLaws.{vint_sound}
-use Rattle.ffv1_matroska.specs.Blocks.{block_read, block_rest, fields_read, frame_judged, lacing_of, limit, passed_on}
+use Rattle.ffv1_matroska.specs.Blocks.{block_read, block_rest, fields_read, frame_judged, lacing_of, passed_on}
 use Rattle.ffv1_matroska.specs.Internal.{bytes_of}
 use Rattle.ffv1_matroska.specs.Offsets.{element_taken, frame_taken, step_taken}
 use Rattle.ffv1_matroska.specs.Places.{amount, closed, cluster_at, group_at, is_sound, segment_at, step_to, summed_at}
 use Rattle.ffv1_matroska.specs.Segments.{block, block_group, child_by, cluster, cluster_child, cluster_read, cluster_rest, crc_read, first_child, group_child, group_read, group_rest, header_read, is_filler, is_of_cluster, is_section, known_child, other_read, segment_child, segment_read, segment_rest, simple_block, step_read}
 use Rattle.ffv1_matroska.specs.declared.place.Place.{Place}
 use Rattle.ffv1_matroska.specs.declared.place.Step.{Step}
+use Rattle.ffv1_reads.specs.Head.{limit}
 
 -- a variable-size integer
 vint_takes : (most left : ℕ) → Takes (λ (i : List ℕ). length i ≤ left) left (λ i. left - length i) (vint_read most left)

@@ -9,7 +9,7 @@ use Rattle.ffv1_ebml.specs.Sums.{kept_summed, passed_summed, summed, taken_summe
 use Rattle.ffv1_ebml.specs.declared.element.Element.{Element}
 use Rattle.ffv1_ebml.specs.declared.sum.Sum.{Sum}
 use Rattle.ffv1_ebml.specs.declared.sum.Sum.TheVariants.{Absent, Begins, Awaits}
-use Rattle.ffv1_matroska.specs.Blocks.{block_read, block_rest, fields_read, frame_judged, lacing_of, limit, passed_on}
+use Rattle.ffv1_matroska.specs.Blocks.{block_read, block_rest, fields_read, frame_judged, lacing_of, passed_on}
 use Rattle.ffv1_matroska.specs.Files.{found_or_on, found_read, frame_found, frame_found_up_to, frame_or_on, frame_read}
 use Rattle.ffv1_reads.specs.Ends.{RefusedOrNone}
 use Rattle.ffv1_matroska.specs.Places.{amount, closed, cluster_at, cluster_entered, group_at, is_sound, segment_at, step_to, summed_at}
@@ -18,6 +18,7 @@ use Rattle.ffv1_matroska.specs.Segments.{block, block_group, child_by, cluster, 
 use Rattle.ffv1_matroska.specs.declared.place.Place.{Place}
 use Rattle.ffv1_matroska.specs.declared.place.Step.{Step}
 use Rattle.ffv1_matroska.proofs.ReadingFaults.{Basic, Meets, of_both, of_content, of_data, of_element, of_given, of_header, of_if, of_passed_summed, of_refused, of_wanted}
+use Rattle.ffv1_reads.specs.Head.{limit}
 
 basic : Basic is_frame_fault
 basic = record { truncated = refl; bad = refl; checksum = refl }

@@ -3,7 +3,7 @@ use Rattle.std.proofs.Common.{◌≡◌, ◌≤◌, ℕ, Bool, true, false, List
 use Rattle.ffv1_reads.specs.Reads.{Kept, Read, wanted}
 use Rattle.ffv1_reads.specs.Room.{RoomRead}
 use Rattle.ffv1_reads.proofs.Rooms.{room_filled}
-use Rattle.ffv1_matroska.specs.Blocks.{limit}
+use Rattle.ffv1_reads.specs.Head.{limit}
 use Rattle.ffv1_matroska.specs.Opening.{content_kept}
 
 -- there is room for it

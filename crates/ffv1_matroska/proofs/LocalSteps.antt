@@ -9,11 +9,12 @@ use Rattle.ffv1_ebml.specs.Vints.{data_of, length_of, number_of, size_of, vint_r
 use Rattle.ffv1_ebml.specs.declared.element.Element.{Element}
 use Rattle.ffv1_ebml.specs.declared.sum.Sum.{Sum}
 use Rattle.ffv1_ebml.specs.declared.sum.Sum.TheVariants.{Absent, Begins, Awaits}
-use Rattle.ffv1_matroska.specs.Blocks.{block_read, block_rest, fields_read, frame_judged, lacing_of, limit, passed_on}
+use Rattle.ffv1_matroska.specs.Blocks.{block_read, block_rest, fields_read, frame_judged, lacing_of, passed_on}
 use Rattle.ffv1_matroska.specs.Places.{closed, cluster_at, cluster_entered, group_at, is_sound, segment_at, step_to, summed_at}
 use Rattle.ffv1_matroska.specs.Segments.{block, block_group, child_by, cluster, cluster_child, cluster_read, cluster_rest, crc_read, first_child, group_child, group_read, group_rest, is_filler, is_of_cluster, is_section, known_child, other_read, segment_child, simple_block}
 use Rattle.ffv1_matroska.specs.declared.place.Place.{Place}
 use Rattle.ffv1_matroska.proofs.LocalReadings.{Local, local_given, local_if, local_passed, local_refused, local_then, local_wanted}
+use Rattle.ffv1_reads.specs.Head.{limit}
 
 -- headers and content of elements
 pub local_vint : (most left : ℕ) → Local (vint_read most left)

@@ -1,7 +1,7 @@
 -- What stands before the frames is read: the header of EBML, that of the Segment, and elements up to the first Tracks.
 use Rattle.std.proofs.Common.{◌≡◌, ◌≤◌, ◌<◌, ◌+◌, ◌-◌, ◌==◌, ◌||◌, ◌∙◌, ◌++◌, ◌∷◌, [], ℕ, suc, zero, List, Bool, true, false, nat_lt, nat_le, Option, Some, None, Result, Ok, Err, length, refl, sym, ap, arith, append_assoc, length-append}
 use Rattle.std.proofs.lemmas.Bool.{eq-eqb, le-leb, le-ltb, ne_eqb}
-use Rattle.ffv1_reads.specs.Head.{Head}
+use Rattle.ffv1_reads.specs.Head.{Head, limit}
 use Rattle.ffv1_reads.specs.Reads.{Kept, Reading, Stop, given, passed, read_on, ◌>>=◌}
 use Rattle.ffv1_reads.proofs.WantedBytes.{passed_complete, taken_complete, wanted_complete}
 use Rattle.ffv1_ebml.specs.Elements.{content_passed}
@@ -14,7 +14,7 @@ use Rattle.ffv1_ebml.specs.declared.sum.Sum.{Sum}
 use Rattle.ffv1_ebml.specs.declared.sum.Sum.TheVariants.{Absent}
 use Rattle.ffv1_ebml.proofs.ContentTold.{content_good}
 use Rattle.ffv1_ebml.proofs.VintLaws.{vint_complete}
-use Rattle.ffv1_matroska.specs.Blocks.{limit, passed_on}
+use Rattle.ffv1_matroska.specs.Blocks.{passed_on}
 use Rattle.ffv1_matroska.specs.Elements.{AreTopLevel, IsTopLevel, TopLevel, top_text, tops_text}
 use Rattle.ffv1_matroska.specs.Files.{frames_read}
 use Rattle.ffv1_matroska.specs.MatroskaFiles.{AreBefore, FileBegins, IsTracks, SaysFour}

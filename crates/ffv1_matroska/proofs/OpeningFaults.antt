@@ -8,7 +8,7 @@ use Rattle.ffv1_ebml.specs.Elements.{content_passed, data_read}
 use Rattle.ffv1_ebml.specs.Vints.{number_of}
 use Rattle.ffv1_ebml.specs.declared.element.Element.{Element}
 use Rattle.ffv1_ebml.specs.declared.sum.Sum.TheVariants.{Absent}
-use Rattle.ffv1_matroska.specs.Blocks.{limit}
+use Rattle.ffv1_reads.specs.Head.{limit}
 use Rattle.ffv1_matroska.specs.Opened.{begin_read, begin_up_to, begun_at, ebml, ebml_read, element_or_begun, element_passed, in_cluster, open_read, segment_opened, told, tracks, tracks_or_passed, tracks_read}
 use Rattle.ffv1_matroska.specs.Opening.{content_kept, header_in, ident_read, segment, segment_begun, segment_entered, top_size}
 use Rattle.ffv1_matroska.specs.Places.{amount, ended, segment_at}

@@ -12,7 +12,7 @@ use Rattle.ffv1_ebml.specs.declared.element.Data.{Data}
 use Rattle.ffv1_ebml.specs.declared.sum.Sum.{Sum}
 use Rattle.ffv1_ebml.proofs.ElementLaws.{summed_twice}
 use Rattle.ffv1_ebml.proofs.VintLaws.{vint_sound}
-use Rattle.ffv1_matroska.specs.Blocks.{block_read, block_rest, fields_read, frame_judged, lacing_of, limit, passed_on}
+use Rattle.ffv1_matroska.specs.Blocks.{block_read, block_rest, fields_read, frame_judged, lacing_of, passed_on}
 use Rattle.ffv1_matroska.specs.Elements.{Content, IsContent, IsOwn, Plain, Other, Own, content_frames, content_text}
 use Rattle.ffv1_matroska.specs.Places.{closed, frame_at, is_sound, step_to, summed_at}
 use Rattle.ffv1_matroska.specs.declared.place.Place.{Place}
@@ -20,6 +20,7 @@ use Rattle.ffv1_matroska.specs.declared.place.Step.{Step}
 use Rattle.ffv1_matroska.proofs.BlockLaws.{after_bytes, content_read}
 use Rattle.ffv1_matroska.proofs.FrameTurns.{Turn, kept_by, step_kept}
 use Rattle.ffv1_matroska.proofs.StepBounds.{err_is_no_ok}
+use Rattle.ffv1_reads.specs.Head.{limit}
 
 -- a Cluster that has nothing left was judged
 pub record WasClosed {X : Type 0} (x : X) (place : Place) (text : List ℕ) (y : X) (rest : List ℕ) : Type 0 where

@@ -12,7 +12,7 @@ use Rattle.ffv1_reads.proofs.Taking.{Any, Takes, takes_given, takes_if, takes_pa
 use Rattle.ffv1_ebml.specs.Elements.{content_passed}
 use Rattle.ffv1_ebml.specs.Vints.{number_of}
 use Rattle.ffv1_ebml.specs.declared.element.Element.{Element}
-use Rattle.ffv1_matroska.specs.Blocks.{limit}
+use Rattle.ffv1_reads.specs.Head.{limit}
 use Rattle.ffv1_matroska.specs.Internal.{bytes_of}
 use Rattle.ffv1_matroska.specs.Offsets.{BeforeFrames, BeforeSegment, FramesBegin, InSegment, OpeningStops, Spot, Start, beginning_taken, spot_taken}
 use Rattle.ffv1_matroska.specs.Opened.{begun_at, ebml_read, element_passed, in_cluster, told, tracks, tracks_or_passed, tracks_read}

@@ -8,7 +8,7 @@ use Rattle.ffv1_ebml.specs.Spelled.{IsIdent, SaysSize, ident_bytes, ident_length
 use Rattle.ffv1_ebml.specs.Vints.{IsVint, length_of, number_of}
 use Rattle.ffv1_ebml.proofs.Numbers.{length_high}
 use Rattle.ffv1_ebml.proofs.SpelledLaws.{ident_spelled, long_spelled, short_spelled}
-use Rattle.ffv1_matroska.specs.Blocks.{limit}
+use Rattle.ffv1_reads.specs.Head.{limit}
 use Rattle.ffv1_matroska.specs.Elements.{AreParts, ArePieces, AreSummed, Content, IsLeaf, IsOwn, IsPart, Leaf, Part, Piece, SaysIdent, part_text, parts_frames, parts_text, pieces_text}
 use Rattle.ffv1_matroska.specs.Segments.{block_group, cluster, simple_block}
 use Rattle.ffv1_matroska.specs.WrittenFiles.{AreWritten}

@@ -3,13 +3,12 @@ use Rattle.std.proofs.Common.{◌≡◌, ◌≤◌, ◌<◌, ◌+◌, ◌-◌, �
 use Rattle.std.proofs.lemmas.Bool.{cases_lt}
 use Rattle.std.proofs.lemmas.Grind.{flat_map-append}
 use Rattle.std.proofs.lemmas.Nat.{mul-le}
-use Rattle.ffv1_reads.specs.Head.{Head}
+use Rattle.ffv1_reads.specs.Head.{Head, limit}
 use Rattle.ffv1_ebml.specs.Contents.{first_part, found_up_to}
 use Rattle.ffv1_ebml.specs.Elements.{element_read}
 use Rattle.ffv1_ebml.specs.Spelled.{IsIdent, SaysSize, ident_bytes, ident_length, long, number_element, short}
 use Rattle.ffv1_ebml.specs.Vints.{length_of, number_of, size_of, vint_read}
 use Rattle.ffv1_ebml.proofs.SpelledLaws.{ident_spelled, long_spelled, short_spelled, unknown_spelled}
-use Rattle.ffv1_matroska.specs.Blocks.{limit}
 use Rattle.ffv1_matroska.specs.Elements.{AreParts, AreTopLevel, IsTopLevel, Part, TopLevel, part_frames, part_text, parts_frames, parts_text, top_text, tops_text}
 use Rattle.ffv1_matroska.specs.MatroskaFiles.{AreBefore, FileBegins, IsTracks, MatroskaFile, SegmentEnds, endless}
 use Rattle.ffv1_matroska.specs.Opened.{ebml, file_read, tracks}

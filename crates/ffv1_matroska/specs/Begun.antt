@@ -5,7 +5,7 @@ use Rattle.ffv1_reads.specs.declared.fault.FileFault.TheVariants as fault
 use Rattle.ffv1_ebml.specs.Contents.{content_told}
 use Rattle.ffv1_ebml.specs.Spelled.{SaysSize}
 use Rattle.ffv1_ebml.specs.Vints.{IsVint, number_of}
-use Rattle.ffv1_matroska.specs.Blocks.{limit}
+use Rattle.ffv1_reads.specs.Head.{limit}
 use Rattle.ffv1_matroska.specs.Elements.{AreLeaves, AreLoose, AreParts, ArePieces, AreTopLevel}
 use Rattle.ffv1_matroska.specs.Elements.{Leaf, Part, Piece, SaysIdent, TopLevel, leaves_text}
 use Rattle.ffv1_matroska.specs.Elements.{parts_text, pieces_text, top_text, tops_text}

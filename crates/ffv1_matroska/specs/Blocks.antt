@@ -11,10 +11,7 @@ use Rattle.ffv1_ebml.specs.declared.sum.Sum.{Sum}
 use Rattle.ffv1_matroska.specs.Places.{closed, frame_at, step_to, summed_at}
 use Rattle.ffv1_matroska.specs.declared.place.Place.{Place}
 use Rattle.ffv1_matroska.specs.declared.place.Step.{Step}
-
--- the most bytes of a frame, of Tracks and of the header of EBML
-abbrev pub limit : ℕ
-limit = 67108864
+use Rattle.ffv1_reads.specs.Head.{limit}
 
 -- so many bytes are passed
 unfoldable pub passed_on : ℕ → Place → Reading (Option Step)

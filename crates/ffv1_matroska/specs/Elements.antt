@@ -7,9 +7,10 @@ use Rattle.ffv1_ebml.specs.Contents.{content_told}
 use Rattle.ffv1_ebml.specs.Elements.{is_crc}
 use Rattle.ffv1_ebml.specs.Spelled.{SaysSize}
 use Rattle.ffv1_ebml.specs.Vints.{IsVint, data_of, number_of}
-use Rattle.ffv1_matroska.specs.Blocks.{lacing_of, limit}
+use Rattle.ffv1_matroska.specs.Blocks.{lacing_of}
 use Rattle.ffv1_matroska.specs.Segments.{block, block_group, cluster, is_filler, is_of_cluster}
 use Rattle.ffv1_matroska.specs.Segments.{is_section, simple_block}
+use Rattle.ffv1_reads.specs.Head.{limit}
 
 -- these bytes are an ID (RFC 8794, 5), which is compared with all its bits
 abbrev pub SaysIdent : List ℕ → ℕ → Type 0

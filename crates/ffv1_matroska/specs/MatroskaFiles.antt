@@ -1,10 +1,9 @@
 -- A file by its elements, apart from how it is walked (RFC 8794, 4 and 8; RFC 9559, 5).
 use Rattle.std.specs.Prelude.{◌≡◌, ◌⊎◌, ℕ, ◌≤◌, ◌<◌, List, [], ◌∷◌, ◌++◌, length}
 use Rattle.std.specs.Prelude.{Option, Some, None, Ok}
-use Rattle.ffv1_reads.specs.Head.{Head}
+use Rattle.ffv1_reads.specs.Head.{Head, limit}
 use Rattle.ffv1_ebml.specs.Spelled.{SaysSize}
 use Rattle.ffv1_ebml.specs.Vints.{IsVint, number_of}
-use Rattle.ffv1_matroska.specs.Blocks.{limit}
 use Rattle.ffv1_matroska.specs.Elements.{AreParts, AreTopLevel, Part, TopLevel, parts_frames}
 use Rattle.ffv1_matroska.specs.Elements.{parts_text, top_text, tops_text}
 use Rattle.ffv1_matroska.specs.Opened.{ebml, tracks as tracks_ident}

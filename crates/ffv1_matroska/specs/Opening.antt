@@ -10,7 +10,7 @@ use Rattle.ffv1_ebml.specs.Contents.{content_told, number_in, text_in}
 use Rattle.ffv1_ebml.specs.Elements.{data_read}
 use Rattle.ffv1_ebml.specs.Vints.{number_of}
 use Rattle.ffv1_ebml.specs.declared.sum.Sum.TheVariants.{Absent}
-use Rattle.ffv1_matroska.specs.Blocks.{limit}
+use Rattle.ffv1_reads.specs.Head.{limit}
 use Rattle.ffv1_matroska.specs.Sizes.{size_with}
 use Rattle.ffv1_matroska.specs.Tracks.{content_at, is_text, ◌>>?◌}
 use Rattle.ffv1_matroska.specs.declared.place.Place.{Place}

@@ -1,7 +1,6 @@
 -- What can be written and is read back.
 use Rattle.std.specs.Prelude.{◌≡◌, ℕ, ◌^◌, ◌<◌, ◌≤◌, All, List, [], ◌∷◌, drop, length, take}
-use Rattle.ffv1_reads.specs.Head.{Head}
-use Rattle.ffv1_matroska.specs.Blocks.{limit}
+use Rattle.ffv1_reads.specs.Head.{Head, limit}
 use Rattle.ffv1_matroska.specs.Rates.{IsTimed}
 use Rattle.ffv1_matroska.specs.Writers.{rate_in}
 use Rattle.ffv1_matroska.specs.Written.{checked, end_place, entry_element}

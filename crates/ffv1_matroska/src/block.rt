@@ -13,7 +13,7 @@ use ffv1_reads::FileFault;
 use ffv1_wire::ByteIn;
 
 /// The most bytes of a frame, of Tracks and of the header of EBML.
-pub(crate) const LIMIT: u64 = 67_108_864;
+pub(crate) const LIMIT: u64 = ffv1_reads::LIMIT as u64;
 
 /// Passes so many bytes.
 ///

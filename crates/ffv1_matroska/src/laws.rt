@@ -30,7 +30,7 @@ ghost use Rattle.ffv1_matroska.specs.declared.place.Place.{Place};
 
 /// Frame rates that are read back as they were written: 24, 25, 30, 50 and 60 a second, and those
 /// times 1000/1001 of 24, 30 and 60.
-pub fn rates()
+pub fn usual_rates_are_read_back()
     ensures film { IsTimed (record { rate = 24; scale = 1 }) }
     ensures pal { IsTimed (record { rate = 25; scale = 1 }) }
     ensures thirty { IsTimed (record { rate = 30; scale = 1 }) }
@@ -43,7 +43,7 @@ pub fn rates()
 
 /// The frames of a track are the next one and those after it; at the end there is none, and nothing
 /// is read.
-pub fn frames_in_turn()
+pub fn frames_come_in_turn()
     ensures next { (track : ℕ) (place : Place) (text : List ℕ) → frames_read track place text
         ≡ read_on (frame_read track place text) (more_frames (frames_read track)) }
     ensures end { (track : ℕ) (text : List ℕ) → frame_read track ended text ≡ Ok (None, text) }
@@ -51,7 +51,7 @@ pub fn frames_in_turn()
 
 /// A file of a head and frames, by its elements, is read as that head and those frames, and it
 /// has no others.
-pub fn file_is_read()
+pub fn file_is_read_as_its_frames()
     ensures read { (file : List ℕ) (head : Head) (frames : List (List ℕ))
         (is : MatroskaFile file head frames) → file_read file ≡ Ok ((head, frames), is.rest) }
     ensures only { (file : List ℕ) (head other : Head) (frames others : List (List ℕ)) →
@@ -61,7 +61,7 @@ pub fn file_is_read()
 
 /// Where a Cluster comes before any Tracks, or the Segment ends, the file has no Tracks, and
 /// nothing after the header of the Cluster, or after the Segment, is read.
-pub fn no_tracks()
+pub fn file_without_tracks_is_refused()
     ensures cluster { (file : List ℕ) (size : Option ℕ) (before : List TopLevel)
         (ident said rest : List ℕ) (known : Option ℕ) →
         FileBegins file size (tops_text before ++ ((ident ++ said) ++ rest)) →
@@ -80,7 +80,7 @@ pub fn no_tracks()
 /// Tracks and in a TrackEntry, which are in memory, it is met where what is looked for first does
 /// not stand before it, and nothing after the header or Tracks is read. What is refused so is not
 /// read as a whole file.
-pub fn long_element()
+pub fn long_element_is_truncated()
     ensures before { (file : List ℕ) (size : Option ℕ) (before : List TopLevel) (left : ℕ)
         (ident said rest : List ℕ) →
         FileBegins file size (tops_text before ++ ((ident ++ said) ++ rest)) →
@@ -121,7 +121,7 @@ pub fn long_element()
 /// A Cluster that begins with a CRC-32, and of which frames are given up to its end, has the sum
 /// that is stated. So bytes after its CRC-32 that were changed only within 32 neighbouring bits,
 /// each byte's low bit first, are never read to its end.
-pub fn summed_clusters()
+pub fn read_cluster_has_its_stated_sum()
     ensures sum { (track : ℕ) (place after : Place) (ident size stated content rest left : List ℕ)
         (frames : List (List ℕ)) → SaysIdent ident crc_ident → SaysSize size (Some 4) →
         length stated ≡ 4 → GivesTo track
@@ -143,7 +143,7 @@ pub fn summed_clusters()
 /// the first frames are given, one by one, and then more bytes are wanted. A beginning of one whose
 /// size is unknown ends so too, or has no Tracks, or is read as some of the first frames: nothing
 /// says then that it was cut.
-pub fn beginnings()
+pub fn shorter_file_gives_first_frames()
     ensures known { (file : List ℕ) (head : Head) (frames : List (List ℕ))
         (is : MatroskaFile file head frames) (size : ℕ) (beginning more : List ℕ) →
         is.size ≡ Some size → file ≡ (beginning ++ more) ++ is.rest → 0 < length more →
@@ -161,7 +161,7 @@ pub fn beginnings()
 
 /// What is read is a file of that head and those frames, by its elements, and what is left is
 /// what stands after its Segment.
-pub fn read_is_file()
+pub fn what_is_read_is_a_file()
     ensures { (file : List ℕ) (head : Head) (frames : List (List ℕ)) (rest : List ℕ) →
         file_read file ≡ Ok ((head, frames), rest) →
         (is : MatroskaFile file head frames) × (is.rest ≡ rest) }

@@ -30,7 +30,7 @@ ghost use Rattle.ffv1_matroska.specs.declared.write.opening.Finish.{Finish};
 /// what the last call writes, the open file; and that is the whole file once the finished opening
 /// is written over it, from so many bytes before its end on as it has. Both openings have 200
 /// bytes.
-pub fn pieces()
+pub fn writes_make_up_the_file()
     ensures none { (head : Head) (shown : Shown) → begun_of head shown [] ≡ [] }
     ensures more { (head : Head) (shown : Shown) (frames : List (List ℕ)) (frame : List ℕ) →
         begun_of head shown (frames ++ frame ∷ [])
@@ -49,7 +49,7 @@ pub fn pieces()
 
 /// Each CRC-32 that is written is right, where the record and the frames are bytes: in SeekHead,
 /// Info, Tracks, each Cluster and Cues, as any content after its CRC-32 is judged.
-pub fn sums()
+pub fn written_sums_are_right()
     ensures any { (content : List ℕ) → All (λ b. b < 256) content →
         content_told (checked content) ≡ Ok tt }
     ensures seek_head { (finish : Option Finish) → content_told (checked (seeks finish)) ≡ Ok tt }
@@ -65,7 +65,7 @@ pub fn sums()
 
 /// What is written of a head and frames that can be read back is a file of them, by its elements,
 /// and is read so to its last byte: the whole file, the open one, and the one that is begun.
-pub fn written_is_read()
+pub fn written_file_is_read_back()
     ensures finished { (head : Head) (shown : Shown) (frames : List (List ℕ)) →
         IsWritable head shown frames → MatroskaFile (finished_of head shown frames) head frames
         × (file_read (finished_of head shown frames) ≡ Ok ((head, frames), [])) }
@@ -81,7 +81,7 @@ pub fn written_is_read()
 /// after its header. SeekHead says where Info, Tracks and Cues begin, from the first byte of the
 /// Segment's content, and there they stand. The Clusters stand one after the other, and each cue of
 /// Cues says where the Cluster of its number stands.
-pub fn places()
+pub fn named_places_are_right()
     ensures segment { (head : Head) (shown : Shown) (frames : List (List ℕ)) →
         StandsAt (finished_of head shown frames) 40
         (ident_bytes segment ++ long (finish_of head shown frames).size) }
@@ -118,7 +118,7 @@ pub fn places()
 
 /// At most 8192 Clusters have a cue, of fewer than 2^56. The stride is a power of two, and half of
 /// it would be too little.
-pub fn strides()
+pub fn few_clusters_have_a_cue()
     ensures few { (head : Head) (shown : Shown) (frames : List (List ℕ)) →
         length frames < 2 ^ 56 → length (cue_places head shown frames) ≤ 8192 }
     ensures power { (count : ℕ) → (k : ℕ) × (stride_of count ≡ 2 ^ k) }
@@ -129,7 +129,7 @@ pub fn strides()
 /// An output that held nothing before the first frame, and whose bytes are known, holds the file
 /// that is begun of the frames that were put, a beginning of it after a write that failed, and at
 /// the end the whole file, or the open one.
-pub fn known_files()
+pub fn known_output_holds_the_file()
     ensures put { (head : Head) (shown : Shown) (frames : List (List ℕ)) (frame : List ℕ)
         (new : Option (List ℕ)) (m n : ℕ) (w : Writing) →
         Puts (between (Some (begun_of head shown frames)) new m n)

@@ -350,7 +350,7 @@ impl<A: Allocator> QuantSet<A> {
 
     /// A law of each set: it is five filled tables with at most 32768 contexts, and the number of
     /// each place's context is below the number of contexts.
-    pub fn bounded(&self)
+    pub fn is_a_bounded_set(&self)
         ensures set { IsSet self.now }
         ensures below { (a : Around) → size_of self.now a < contexts_of self.now }
     {

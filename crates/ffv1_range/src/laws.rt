@@ -27,19 +27,19 @@ ghost use Rattle.ffv1_range.specs.Follows.{Follows};
 ghost use Rattle.ffv1_range.specs.Puts.{Puts, MayBeRefused};
 
 /// Bytes with a start below 65280 code the empty list, and no others do.
-pub fn empty_list()
+pub fn good_start_codes_the_empty_list()
     ensures codes { (bytes : List ℕ) → value bytes 2 < 65280 → Codes bytes [] }
     ensures only { (bytes : List ℕ) → Codes bytes [] → value bytes 2 < 65280 }
 {}
 
 /// Bytes that code a list code each beginning of it.
-pub fn beginnings()
+pub fn bytes_code_each_beginning()
     ensures { (bytes : List ℕ) (xs ys : List Decision) → AreBytes bytes → AreStates ys →
         Codes bytes (xs ++ ys) → Codes bytes xs }
 {}
 
 /// Bytes that code a list code exactly one of its two continuations, whatever the state.
-pub fn one_continuation()
+pub fn bytes_code_one_continuation()
     ensures { (bytes : List ℕ) (ds : List Decision) (state : ℕ) → AreBytes bytes → IsState state →
         Codes bytes ds →
         ExactlyOne (Codes bytes (ds ++ (record { state = state; bit = false } ∷ [])))
@@ -48,14 +48,14 @@ pub fn one_continuation()
 
 /// However states are named from the decisions before, bytes with a good start code one list of
 /// each length.
-pub fn one_list()
+pub fn bytes_code_one_list_of_each_length()
     ensures { (bytes : List ℕ) (name : List Decision → ℕ) (count : ℕ) → AreBytes bytes →
         ((ds : List Decision) → IsState (name ds)) → Codes bytes [] →
         (ds : List Decision) × IsOnlyList bytes name count ds }
 {}
 
 /// The sentinel ending of a list codes it, with zeros after too.
-pub fn sentinel_ending()
+pub fn sentinel_ending_codes_its_list()
     ensures codes { (ds : List Decision) → AreStates ds → Codes (sentinel_of (interval_of ds)) ds }
     ensures bytes { (i : Interval) → AreBytes (sentinel_of i) }
     ensures zeros { (ds : List Decision) (count : ℕ) → AreStates ds →
@@ -63,14 +63,14 @@ pub fn sentinel_ending()
 {}
 
 /// The full ending of a list codes it, whatever follows.
-pub fn full_ending()
+pub fn full_ending_codes_its_list()
     ensures { (ds : List Decision) (behind : List ℕ) → AreStates ds →
         Codes (full_of (interval_of ds) ++ behind) ds }
 {}
 
 /// States that are kept in arrays, and moved at each decision, are those that the history gives:
 /// for one array of all slots, and for one that has the slots from base on, beside any others.
-pub fn kept_states()
+pub fn array_states_follow_the_history()
     ensures all { (t : Table) (count : ℕ) (steps : List Step) → AreBelow steps count →
         decided t (replicate count 128) steps ≡ decisions_after t [] steps }
     ensures fresh { (t : Table) (count base : ℕ) → HasStates t (replicate count 128) base [] }
@@ -94,7 +94,7 @@ pub fn kept_states()
 {}
 
 /// Reading and writing of some steps, and then of others, is that of both lists.
-pub fn one_after_another()
+pub fn reads_and_writes_in_turn_are_one()
     ensures follows_none { (t : Table) (r : Reading) (states : List ℕ) →
         Follows t r states r states [] }
     ensures follows_append { (t : Table) (a b c : Reading) (ss ts us : List ℕ)
@@ -110,7 +110,7 @@ pub fn one_after_another()
 {}
 
 /// Lists of decisions in two parts.
-pub fn two_parts()
+pub fn decisions_of_two_parts_join()
     ensures interval { (i : Interval) (xs ys : List Decision) →
         narrowed i (xs ++ ys) ≡ narrowed (narrowed i xs) ys }
     ensures decided { (t : Table) (states : List ℕ) (xs ys : List Step) →
@@ -125,7 +125,7 @@ pub fn two_parts()
 {}
 
 /// What a decoder has read is coded by its bytes, after the decisions that it had read before.
-pub fn read_is_coded()
+pub fn read_bytes_code_what_was_read()
     ensures { (t : Table) (old : Reading) (states : List ℕ) (new : Reading) (after : List ℕ)
         (steps : List Step) (past : List Decision) →
         At old (interval_of past) → Follows t old states new after steps →
@@ -134,7 +134,7 @@ pub fn read_is_coded()
 {}
 
 /// What an encoder has written stands after what it had written before.
-pub fn written_is_kept()
+pub fn written_decisions_follow_earlier_ones()
     ensures { (t : Table) (old : Writing) (states : List ℕ) (new : Writing) (after : List ℕ)
         (steps : List Step) (past : List Decision) →
         old.interval ≡ interval_of past → Puts t old states new after steps →
@@ -142,7 +142,7 @@ pub fn written_is_kept()
 {}
 
 /// The slots of a symbol are 32; those of one in a row of many states stand in the row.
-pub fn slots()
+pub fn symbols_stay_in_their_slots()
     ensures signed { (v : ℤ) → AreBelow (signed_steps v) 32 }
     ensures unsigned { (n : ℕ) → AreBelow (unsigned_steps n) 32 }
     ensures refused { AreBelow too_long 32 }
@@ -157,13 +157,13 @@ pub fn slots()
 {}
 
 /// An exponent is the place of the highest bit, whatever the number above 0.
-pub fn exponents()
+pub fn exponent_is_the_highest_bit()
     ensures least { (n : ℕ) → 0 < n → 2 ^ exponent n ≤ n }
     ensures most { (n : ℕ) → 0 < n → n < 2 ^ (exponent n + 1) }
 {}
 
 /// How many decisions a symbol takes.
-pub fn lengths()
+pub fn symbol_length_follows_from_exponent()
     ensures zero { length (unsigned_steps 0) ≡ 1 }
     ensures unsigned { (n : ℕ) → length (unsigned_steps (suc n)) ≡ 2 * exponent (suc n) + 2 }
     ensures sized { (n : ℕ) (negative : Bool) →
@@ -173,7 +173,7 @@ pub fn lengths()
 {}
 
 /// By a table of states each decision of a history has a state, and fresh states are held.
-pub fn named_states()
+pub fn each_decision_has_a_state()
     ensures held { (t : Table) (slot : ℕ) (past : List Step) → IsTable t.floor t.one →
         Holds t (state_of t slot past) }
     ensures named { (t : Table) (past steps : List Step) → IsTable t.floor t.one →
@@ -184,7 +184,7 @@ pub fn named_states()
 {}
 
 /// Each step is a 1 or a 0, and so is its decision.
-pub fn counts()
+pub fn each_step_is_one_or_zero()
     ensures steps { (steps : List Step) → ones_in steps + zeros_in steps ≡ length steps }
     ensures ones { (t : Table) (states : List ℕ) (steps : List Step) →
         ones (decided t states steps) ≡ ones_in steps }
@@ -199,7 +199,7 @@ pub fn counts()
 {}
 
 /// No symbol begins another one, nor one that is refused.
-pub fn one_symbol()
+pub fn no_symbol_begins_another()
     ensures apart { (v w : ℤ) (xs ys : List Step) → unsigned_abs v < 2 ^ 31 →
         unsigned_abs w < 2 ^ 31 → signed_steps v ++ xs ≡ signed_steps w ++ ys →
         (v ≡ w) × (xs ≡ ys) }
@@ -214,7 +214,7 @@ pub fn one_symbol()
 /// At states from floor to 256 less floor a code is little longer than its weight asks for: a 1
 /// loses at most the factor (floor + 1) / floor, and a 0 nothing. A last decision 0 by the state
 /// 129 changes nothing of that. And it is little shorter.
-pub fn cost()
+pub fn code_length_is_near_its_weight()
     ensures most { (floor : ℕ) (ds : List Decision) → 0 < floor → AreHeldBy floor ds →
         floor ^ ones ds * 256 ^ ((interval_of ds).count - 2) * weight ds ≤
         (256 * (floor + 1)) ^ ones ds * 256 ^ zeros ds }
@@ -228,7 +228,7 @@ pub fn cost()
 
 /// The cost of what an encoder has put, by states that its table holds, whose renormalisations are
 /// its count less 2.
-pub fn cost_of_written()
+pub fn written_code_is_near_its_weight()
     ensures most { (t : Table) (states : List ℕ) (w : Writing) (after : List ℕ)
         (steps : List Step) → IsTable t.floor t.one → AllHeld t states →
         AreBelow steps (length states) →
@@ -252,13 +252,13 @@ pub fn cost_of_written()
 {}
 
 /// The sentinel ending codes its list whatever byte follows.
-pub fn sentinel_and_a_byte()
+pub fn sentinel_ending_allows_any_next_byte()
     ensures { (ds : List Decision) (byte : ℕ) → AreStates ds → byte < 256 →
         Codes (sentinel_of (interval_of ds) ++ (byte ∷ [])) ds }
 {}
 
 /// Lists that the bytes code and that part at a decision of one state do not part there.
-pub fn one_bit()
+pub fn bytes_code_one_bit_next()
     ensures { (bytes : List ℕ) (past xs ys : List Decision) (state : ℕ) (b c : Bool) →
         AreBytes bytes → IsState state → AreStates xs → AreStates ys →
         Codes bytes (past ++ (record { state = state; bit = b } ∷ xs)) →
@@ -266,7 +266,7 @@ pub fn one_bit()
 {}
 
 /// Bytes code at most one number next, and none where they code a symbol that is refused.
-pub fn one_number()
+pub fn bytes_code_one_number_next()
     ensures one { (bytes : List ℕ) (t : Table) (states : List ℕ) (past : List Decision) (v w : ℤ) →
         AreBytes bytes → unsigned_abs v < 2 ^ 31 → unsigned_abs w < 2 ^ 31 →
         AreStates (decided t states (signed_steps v)) →
@@ -292,7 +292,7 @@ pub fn one_number()
 {}
 
 /// The same where the states are those of a history, at slots from base on.
-pub fn one_number_after()
+pub fn bytes_code_one_number_after_history()
     ensures one { (bytes : List ℕ) (t : Table) (base : ℕ) (before : List Decision)
         (past : List Step) (v w : ℤ) → AreBytes bytes → IsTable t.floor t.one →
         unsigned_abs v < 2 ^ 31 → unsigned_abs w < 2 ^ 31 →
@@ -317,7 +317,7 @@ pub fn one_number_after()
 {}
 
 /// Deltas make at most one table, and those of 0 make the standard's.
-pub fn one_table()
+pub fn deltas_make_one_table()
     ensures one { (deltas : List ℤ) (t s : Table) → IsTableOf deltas t → IsTableOf deltas s →
         t ≡ s }
     ensures standard { IsTableOf (replicate 255 (pos 0)) standard }
@@ -325,25 +325,25 @@ pub fn one_table()
 {}
 
 /// The standard's table is what its rule gives, and keeps its states.
-pub fn standard_table()
+pub fn standard_table_follows_its_rule()
     ensures rule { generated ≡ default_state_transition }
     ensures table { IsTable standard.floor standard.one }
 {}
 
 /// A decoder that is parked, and woken on the bytes that it had, is as it was.
-pub fn parking()
+pub fn parked_decoder_wakes_as_it_was()
     ensures { (r : Reading) → resumed (paused r) r.bytes ≡ r }
 {}
 
 /// What the counters of a coder show that began with nothing.
-pub fn counted_from_nothing()
+pub fn counters_from_zero_show_all_steps()
     ensures { (steps : List Step) (c : Counts) → Counted uncounted steps c →
         (c.ones ≡ saturated (ones_in steps)) × (c.zeros ≡ saturated (zeros_in steps)) ×
         (total c ≡ saturated (length steps)) }
 {}
 
 /// Counters that went on by some steps, and then by others, went on by both lists.
-pub fn counted_in_parts()
+pub fn counters_go_on_by_both_parts()
     ensures none { (c : Counts) → Counted c [] c }
     ensures append { (a b c : Counts) (xs ys : List Step) → Counted a xs b → Counted b ys c →
         Counted a (xs ++ ys) c }
@@ -355,7 +355,7 @@ pub fn counted_in_parts()
 /// an interval's width, 35/36 by the standard's table. So `decisions_a_byte` of them in a row
 /// renormalise it at least once, 197 by the standard's table; and for each renormalisation, and
 /// once more, there are fewer than so many.
-pub fn decisions_renormalise()
+pub fn decisions_in_a_row_renormalise()
     ensures normalised { (ds : List Decision) → AreStates ds → IsNormalised (interval_of ds) }
     ensures stays { (i : Interval) (state : ℕ) (bit : Bool) → IsState state → IsNormalised i →
         IsNormalised (narrow i state bit) }
@@ -382,7 +382,7 @@ pub fn decisions_renormalise()
 /// The same of the decisions of a history, of a decoder's and of an encoder's: fewer than
 /// `decisions_a_byte` for each renormalisation, and once more. Counters show no more decisions than
 /// there were.
-pub fn decisions_by_renormalisations()
+pub fn renormalisations_bound_the_decisions()
     ensures history { (t : Table) (past : List Step) → IsTable t.floor t.one →
         length past <
         decisions_a_byte t.floor * ((interval_of (decisions_after t [] past)).count - 2 + 1) }

@@ -7,13 +7,13 @@ ghost use Rattle.ffv1_rct.specs.Transform.{IsColourIn};
 ghost use Rattle.ffv1_rct.specs.Lines.{AreCoded, AreCodedIn, lumas, chromas, chromas_in};
 
 /// The quarter of the definition is rounded down, for negative numbers too.
-pub fn rounds_down()
+pub fn quarter_is_rounded_down()
     ensures least { (z : ℤ) → (pos 4 *ℤ quarter_below z) ≤ℤ z }
     ensures most { (z : ℤ) → z <ℤ ((pos 4 *ℤ quarter_below z) +ℤ pos 4) }
 {}
 
 /// The transform of a sample determines its red, green and blue, and they determine the transform.
-pub fn only()
+pub fn transform_is_one_to_one()
     ensures colour { (r g b s h d y cb cr : ℕ) → IsCoded r g b y cb cr → IsCoded s h d y cb cr →
         (s ≡ r) × (h ≡ g) × (d ≡ b) }
     ensures coded { (r g b y cb cr z db dr : ℕ) → IsCoded r g b y cb cr → IsCoded r g b z db dr →
@@ -22,7 +22,7 @@ pub fn only()
 
 /// The inverse of a line's transform is the line itself: lines of one length with the same
 /// transform at each place are the same lines.
-pub fn inverse_of_forward()
+pub fn inverse_undoes_the_transform()
     ensures { (n : ℕ) (r g b s h d y cb cr : List ℕ) → length r ≡ n → length g ≡ n → length b ≡ n →
         length s ≡ n → length h ≡ n → length d ≡ n
         → AreCoded n r g b y cb cr → AreCoded n s h d y cb cr → (s ≡ r) × (h ≡ g) × (d ≡ b) }
@@ -30,7 +30,7 @@ pub fn inverse_of_forward()
 
 /// The transform of the inverse of a line is the line itself: two transforms of one line, of its
 /// length, are the same lines.
-pub fn forward_of_inverse()
+pub fn transform_undoes_the_inverse()
     ensures { (n : ℕ) (r g b y cb cr z db dr : List ℕ) → length y ≡ n → length cb ≡ n →
         length cr ≡ n → length z ≡ n → length db ≡ n → length dr ≡ n
         → AreCoded n r g b y cb cr → AreCoded n r g b z db dr → (z ≡ y) × (db ≡ cb) × (dr ≡ cr) }
@@ -38,7 +38,7 @@ pub fn forward_of_inverse()
 
 /// The transform of a sample whose red, green and blue lie from 0 to 255: Y lies from 0 to 255, Cb
 /// and Cr from 1 to 511.
-pub fn small()
+pub fn transform_of_bytes_stays_in_range()
     ensures luma { (r g b y cb cr : ℕ) → IsColour y cb cr r g b → y < 256 }
     ensures blue { (r g b y cb cr : ℕ) → IsColour y cb cr r g b → (0 < cb) × (cb < 512) }
     ensures red { (r g b y cb cr : ℕ) → IsColour y cb cr r g b → (0 < cr) × (cr < 512) }
@@ -47,7 +47,7 @@ pub fn small()
 /// The transform of a line as one list for each of Y, Cb and Cr: lines that are the transform at
 /// each place are these lists, and of lines from 0 to 255 these lists are the transform at each
 /// place, of the same length.
-pub fn lists()
+pub fn line_transform_is_three_lists()
     ensures lists { (n : ℕ) (r g b y cb cr : List ℕ) → length r ≡ n → length g ≡ n → length b ≡ n →
         length y ≡ n → length cb ≡ n → length cr ≡ n
         → AreCoded n r g b y cb cr → (y ≡ lumas r g b) × (cb ≡ chromas b g) × (cr ≡ chromas r g) }
@@ -62,7 +62,7 @@ pub fn lists()
 
 /// At any depth the transform of a sample determines its red, green and blue, and they determine
 /// the transform.
-pub fn only_in()
+pub fn transform_is_one_to_one_at_depth()
     ensures colour { (depth r g b s h d y cb cr : ℕ) → IsCodedIn depth r g b y cb cr →
         IsCodedIn depth s h d y cb cr → (s ≡ r) × (h ≡ g) × (d ≡ b) }
     ensures coded { (depth r g b y cb cr z db dr : ℕ) → IsCodedIn depth r g b y cb cr →
@@ -71,7 +71,7 @@ pub fn only_in()
 
 /// At any depth the inverse of a line's transform is the line itself, and so is the transform of
 /// its inverse.
-pub fn lines_in()
+pub fn lines_transform_back_at_any_depth()
     ensures inverse { (depth n : ℕ) (r g b s h d y cb cr : List ℕ) → length r ≡ n →
         length g ≡ n → length b ≡ n → length s ≡ n → length h ≡ n → length d ≡ n
         → AreCodedIn depth n r g b y cb cr → AreCodedIn depth n s h d y cb cr
@@ -84,7 +84,7 @@ pub fn lines_in()
 
 /// The transform of a sample whose red, green and blue are below 2^depth: Y is below 2^depth, Cb
 /// and Cr lie from 1 to 2^(depth+1) - 1.
-pub fn small_in()
+pub fn transform_stays_in_range_at_depth()
     ensures luma { (depth r g b y cb cr : ℕ) → IsColourIn depth y cb cr r g b → y < 2 ^ depth }
     ensures blue { (depth r g b y cb cr : ℕ) → IsColourIn depth y cb cr r g b →
         (0 < cb) × (cb < 2 ^ (depth + 1)) }
@@ -95,7 +95,7 @@ pub fn small_in()
 /// The transform of a line as lists, at any depth: lines that are the transform at each place are
 /// these lists, and of lines below 2^depth these lists are the transform at each place, of the same
 /// length.
-pub fn lists_in()
+pub fn line_transform_is_lists_at_depth()
     ensures lists { (depth n : ℕ) (r g b y cb cr : List ℕ) → length r ≡ n → length g ≡ n →
         length b ≡ n → length y ≡ n → length cb ≡ n → length cr ≡ n
         → AreCodedIn depth n r g b y cb cr

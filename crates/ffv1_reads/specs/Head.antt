@@ -1,4 +1,5 @@
--- The head of a file, apart from where its record lies in memory.
+-- The head of a file, apart from where its record lies in memory; and how long what a file has may
+-- be.
 use Rattle.std.specs.Prelude.{ℕ, List}
 use Rattle.ffv1_reads.specs.declared.head.FileHead.{FileHead}
 
@@ -17,3 +18,7 @@ head_of h = record {
   scale = h.scale;
   config_record = h.config_record.items;
 }
+
+-- the most bytes of a frame, and of what a container says before its frames, that are read: 64 MiB
+abbrev pub limit : ℕ
+limit = 67108864

@@ -1,6 +1,10 @@
-//! What the head of a file says.
+//! What the head of a file says, and how long what a file has may be.
 
 use std::alloc::{Allocator, Global};
+
+/// The most bytes of a frame, and of what a container says before its frames, that are read: 64
+/// MiB.
+pub const LIMIT: u32 = 67_108_864;
 
 /// The head of a file of FFV1 frames.
 #[derive(Drop, Debug)]

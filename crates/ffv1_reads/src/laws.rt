@@ -13,7 +13,7 @@ ghost use Rattle.ffv1_reads.specs.declared.fault.FileFault.{FileFault};
 /// bytes ended, those that were read end where more are wanted. Where the end of the bytes is an
 /// answer, all of them read as that; and those that were read before a read failed there do. So it
 /// is where their end has a fault.
-pub fn known_bytes<X>()
+pub fn known_bytes_determine_the_answer<X>()
     ensures read { (reading : Reading X) (text : List ℕ) (new : Option (List ℕ)) (x : X) →
         Read reading (Some text) new x →
         (rest : List ℕ) × (new ≡ Some rest) × (reading text ≡ Ok (x, rest)) }
@@ -44,7 +44,7 @@ pub fn known_bytes<X>()
 /// bytes that are read whole, and the next one has the fault. That is the first fault of those
 /// bytes, and the only place that they have one at: no other fault comes after as many bytes, nor
 /// this one after another number of them.
-pub fn faults_at<S>()
+pub fn refusal_says_where_the_fault_is<S>()
     ensures known { (element : S → Reading S) (from : S) (text : List ℕ) (new : Option (List ℕ))
         (before after : ℕ) (f : FileFault) (to : S) (count : ℕ) →
         StopsAfter element from (record {

@@ -23,4 +23,4 @@ pub mod laws;
 
 pub use bytes::{append, fill, pass, take, take_after};
 pub use fault::FileFault;
-pub use head::FileHead;
+pub use head::{FileHead, LIMIT};

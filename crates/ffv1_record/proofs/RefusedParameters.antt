@@ -1,6 +1,5 @@
 -- A reading of parameters that tells a fault has a first parameter that is not good.
-use Rattle.std.proofs.Common.{◌≡◌, refl, ℕ, zero, suc, ◌+◌, ◌-◌, ◌*◌, ◌^◌, ◌<◌, ◌≤◌, inl, inr, Bool, true, false, not, IsTrue, IsFalse, ◌||◌, ◌==◌, List, [], ◌∷◌, ◌++◌, length, ap, sym, subst, ◌∙◌, arith, Ok, Err}
-use Rattle.std.proofs.Common.{replicate}
+use Rattle.std.proofs.Common.{◌≡◌, refl, ℕ, zero, suc, ◌+◌, ◌-◌, ◌*◌, ◌^◌, ◌<◌, ◌≤◌, inl, inr, Bool, true, false, not, IsTrue, IsFalse, ◌||◌, ◌==◌, List, [], ◌∷◌, ◌++◌, length, ap, sym, subst, ◌∙◌, arith, Ok, Err, replicate}
 use Rattle.std.proofs.lemmas.List.{length-replicate}
 use Rattle.std.proofs.lemmas.Bool.{true≢false, false≢true}
 use Rattle.ffv1_range.specs.Symbols.{Step, shifted, too_long}
@@ -25,7 +24,6 @@ use Rattle.ffv1_record.proofs.RefusedTables.{sets_err, sets_value, uncoded_err}
 
 module _ (b : List ℕ) where
   -- ---- a parameter in its place
-
   good_then : (p : Parameter) (ps : List Parameter) (past : List Step) (bits : ℕ) (c : Configuration) (f : RecordFault) (steps : List Step) (t : Spot) → p.steps bits c ≡ steps → t.past ≡ past ++ steps → p.IsGood bits c → FirstBad ps b t.past bits c f → FirstBad (p ∷ ps) b past bits c f
   good_then p ps past bits c f steps t is there good h = inr (good, subst (λ z. FirstBad ps b z bits c f) (there ∙ ap (λ z. past ++ z) (sym is)) h)
 
@@ -78,7 +76,6 @@ module _ (b : List ℕ) where
       (good_then coder_type ps two.1.past bits c f (coder_steps k) t (ap (λ (z : Coder). coder_steps z) is) read.past good rest))
 
   -- ---- planes
-
   depth_err : (most : ℕ) (s : Spot) (f : RecordFault) → depth most b s (Err f) → Symbols b s (λ steps. IsBadNumber 0 (λ n. IsTrue (is_depth most (depth_of n))) fault.Depth steps f)
   depth_err most s f h = elim (bind_err (number 0) _ b s f h) [
     | inr e ↦ let k = number_err b 0 s f e in (shifted 0 too_long, inr (refl, k.1), k.0)
@@ -250,7 +247,6 @@ module _ (b : List ℕ) where
       }
 
   -- ---- counts, tables and flags
-
   count_err : (s : Spot) (f : RecordFault) → count_of b s (Err f) → Symbols b s (λ steps. IsTooLong 0 steps f)
   count_err s f h = elim (bind_err (number 0) (λ n. done (n + 1)) b s f h) [
     | inr e ↦ let k = number_err b 0 s f e in (shifted 0 too_long, (refl, k.1), k.0)
@@ -359,7 +355,6 @@ module _ (b : List ℕ) where
   ]
 
   -- ---- all of them
-
   abbrev last_parameters : List Parameter
   last_parameters = table_parameters (ec ∷ intra ∷ [])
 

@@ -12,6 +12,9 @@ use ffv1_samples::sample_bytes;
 use std::alloc::{Allocator, Global};
 use std::marker::Model;
 
+/// How many offsets of slices are held: those of 32 by 32, and the end of the last one.
+pub const OFFSETS: usize = 1025;
+
 /// How much a decoder of pictures holds: the lengths of its vectors. The height of the pictures
 /// changes none.
 #[derive(Clone, Copy, Debug, PartialEq, Eq)]
@@ -120,13 +123,6 @@ impl<A: Allocator> Checked<A> {
         ensures { result ≡ held_of self.now.configuration }
     {
         let config = &self.config;
-        let classes = if config.extra_plane {
-            3
-        } else if config.chroma_planes {
-            2
-        } else {
-            1
-        };
         let planes = match config.colour {
             Colour::YCbCr => 1,
             Colour::Rct => { if config.extra_plane { 4 } else { 3 } }
@@ -134,11 +130,11 @@ impl<A: Allocator> Checked<A> {
         let columns = config.columns as usize;
         let width = config.width as usize;
         Held {
-            states: 32 * columns * classes * config.sets.most_contexts() as usize,
+            states: 32 * columns * config.classes() * config.sets.most_contexts() as usize,
             samples: 3 * planes * width,
             output: sample_bytes(self.depth) * (planes * width),
             columns,
-            offsets: 1025,
+            offsets: OFFSETS,
         }
     }
 }

@@ -5,6 +5,7 @@ ghost use Rattle.std.specs.Prelude.{IsFalse, IfOk, IfErr, length};
 ghost use Rattle.ffv1_range.specs.Table.{Table, IsTable};
 ghost use Rattle.ffv1_range.specs.Deltas.{IsTableOf, HaveNoTable};
 ghost use Rattle.ffv1_record.specs.Configuration.{configuration_of, at_depth, is_rct};
+ghost use Rattle.ffv1_record.specs.Held.{classes_of};
 ghost use Rattle.ffv1_record.specs.Sets.{AreSets};
 ghost use Rattle.ffv1_record.specs.Writable.{AreDeltas, IsWritable};
 ghost use Rattle.ffv1_record.specs.Accepted.{is_sized, is_subsampled, is_transparent, are_counted};
@@ -166,17 +167,33 @@ pub(crate) fn deepest(profile: Profile, most: u32) -> u32
     }
 }
 
-/// Whether the colour is RCT.
-pub(crate) fn is_rct(colour: Colour) -> bool
-    ensures { result ≡ is_rct colour }
-{
-    match colour {
-        Colour::YCbCr => false,
-        Colour::Rct => true,
+impl Colour {
+    /// Whether samples are red, green and blue.
+    pub fn is_rct(self) -> bool
+        ensures { result ≡ is_rct self }
+    {
+        match self {
+            Colour::YCbCr => false,
+            Colour::Rct => true,
+        }
     }
 }
 
 impl<A: Allocator> Config<A> {
+    /// How many classes of planes have states of their own: luma, chroma, transparency.
+    pub fn classes(&self) -> usize
+        ensures value { result ≡ classes_of self.now.chroma_planes self.now.extra_plane }
+        ensures few { result ≤ 3 }
+    {
+        if self.extra_plane {
+            return 3;
+        }
+        if self.chroma_planes {
+            return 2;
+        }
+        1
+    }
+
     /// Whether width and height are from 1 to 8192.
     fn is_sized(&self) -> bool
         ensures { result ≡ is_sized (configuration_of self.now) }

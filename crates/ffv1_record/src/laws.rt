@@ -19,9 +19,11 @@ ghost use Rattle.ffv1_record.specs.Reading.{beginning, parameters, IsRefused, Is
 ghost use Rattle.ffv1_record.specs.Reading.{ReachesSets};
 ghost use Rattle.ffv1_record.specs.Record.{IsRecord, record_of, body_of};
 
+use crate::laws;
+
 /// Bytes followed by four more have the remainder 0 exactly where the four are their parity, big
 /// end first; and the parity of bytes is 0 exactly where their remainder is.
-pub fn guarded()
+pub fn parity_makes_the_remainder_zero()
     ensures stored { (bytes : List ℕ) (n : ℕ) → AreBytes bytes → n < 2 ^ 32 →
         (remainder_of (bytes ++ digits 4 n) ≡ 0) ↔ (n ≡ parity_of bytes) }
     ensures zero { (bytes : List ℕ) → AreBytes bytes →
@@ -31,14 +33,14 @@ pub fn guarded()
 {}
 
 /// The remainder of a sum, place by place, of bytes is the sum of the remainders.
-pub fn additive()
+pub fn remainders_add_place_by_place()
     ensures { (xs ys zs : List ℕ) → length xs ≡ length zs → length ys ≡ length zs →
         value zs (length zs) ≡ bit_xor (value xs (length xs)) (value ys (length ys)) →
         remainder_of zs ≡ bit_xor (remainder_of xs) (remainder_of ys) }
 {}
 
 /// Bytes that differ, and only within 32 neighbouring bits, have different remainders.
-pub fn burst()
+pub fn bursts_change_the_remainder()
     ensures { (xs ys : List ℕ) (bits place : ℕ) → AreBytes xs → AreBytes ys →
         length xs ≡ length ys → 0 < bits → bits < 2 ^ 32 →
         bit_xor (value xs (length xs)) (value ys (length ys)) ≡ bits * 2 ^ place →
@@ -46,25 +48,25 @@ pub fn burst()
 {}
 
 /// What is written of a configuration is its record, whatever the configuration.
-pub fn written_is_record()
+pub fn written_bytes_are_a_record()
     ensures { (c : Configuration) → IsRecord (record_of c) c }
 {
-    guarded();
+    laws::parity_makes_the_remainder_zero();
 }
 
 /// What is written of an accepted configuration is read: it is its record, and no fault stands in
 /// it.
-pub fn written_is_read()
+pub fn written_record_is_read_back()
     ensures stored { (c : Configuration) (t : Table) → IsAccepted c t → IsRecord (record_of c) c }
     ensures none { (c : Configuration) (t : Table) (most : ℕ) (f : RecordFault) → IsAccepted c t →
         c.depth ≤ most → IsRefused most (record_of c) c.width c.height f → ⊥ }
 {
-    written_is_record();
+    laws::written_bytes_are_a_record();
 }
 
 /// Bytes are a record of one accepted configuration of a size at most, and that has one state
 /// transition table.
-pub fn one_configuration()
+pub fn record_has_one_configuration()
     ensures one { (bytes : List ℕ) (c d : Configuration) (t u : Table) → AreBytes bytes →
         IsAccepted c t → IsAccepted d u → c.width ≡ d.width → c.height ≡ d.height →
         IsRecord bytes c → IsRecord bytes d → c ≡ d }
@@ -73,7 +75,7 @@ pub fn one_configuration()
 
 /// A fault that stands before the first set is answered whatever memory there is: the bytes are
 /// refused with it, and `read_record` answers `OutOfMemory` for no such bytes.
-pub fn before_sets()
+pub fn faults_before_sets_need_no_memory()
     ensures refused { (most : ℕ) (bytes : List ℕ) (width height : ℕ) (f : RecordFault) →
         IsRefusedBeforeSets most bytes f → IsRefused most bytes width height f }
     ensures apart { (most : ℕ) (bytes : List ℕ) (f : RecordFault) → AreBytes bytes →
@@ -82,7 +84,7 @@ pub fn before_sets()
 
 /// Bytes are refused for one reason at most, and none that are a record of an accepted
 /// configuration of a depth up to the greatest one.
-pub fn one_refusal()
+pub fn bytes_are_refused_for_one_reason()
     ensures one { (most : ℕ) (bytes : List ℕ) (width height : ℕ) (f g : RecordFault) →
         AreBytes bytes →
         IsRefused most bytes width height f → IsRefused most bytes width height g → f ≡ g }
@@ -93,7 +95,7 @@ pub fn one_refusal()
 
 /// Which fault `Config::check` tells: one of its own seven, the one of which the configuration does
 /// not meet what it has to, and none of the faults of reading.
-pub fn first_fault()
+pub fn first_fault_is_an_unmet_check()
     ensures named { (c : Configuration) (f : RecordFault) → IsFirst checks c f → Contains checks f }
     ensures fails { (c : Configuration) (f : RecordFault) → IsFirst checks c f → Passes f c → ⊥ }
     ensures passes { (c : Configuration) (f : RecordFault) →
@@ -101,7 +103,7 @@ pub fn first_fault()
 {}
 
 /// What holds of a configuration that was checked, in numbers.
-pub fn accepted()
+pub fn accepted_configuration_is_in_range()
     ensures sizes { (c : Configuration) (t : Table) → IsAccepted c t →
         (1 ≤ c.width) × (c.width ≤ 8192) × (1 ≤ c.height) × (c.height ≤ 8192) }
     ensures depth { (c : Configuration) (t : Table) → IsAccepted c t →
@@ -119,7 +121,7 @@ pub fn accepted()
 {}
 
 /// What holds of the planes, sets and table of a configuration that was checked.
-pub fn accepted_parts()
+pub fn accepted_configuration_has_sound_parts()
     ensures rct { (c : Configuration) (t : Table) → IsAccepted c t → c.colour ≡ colour.Rct →
         (c.chroma_planes ≡ true) × (c.log2_h ≡ 0) × (c.log2_v ≡ 0) }
     ensures depth { (c : Configuration) (t : Table) → IsAccepted c t →
@@ -138,7 +140,7 @@ pub fn accepted_parts()
 /// where the bytes code good symbols of all parameters before it, and then symbols that are a fault
 /// in its place. And the other way round: a reading of parameters that is refused has such a first
 /// one, and so has a record that is refused for nothing else.
-pub fn first_bad_parameter()
+pub fn first_bad_parameter_is_the_fault()
     ensures read { (most : ℕ) (bytes : List ℕ) (width height bits : ℕ)
         (c : Configuration) (f : RecordFault) →
         AreBytes bytes → FirstBad (in_order most) bytes [] bits c f →

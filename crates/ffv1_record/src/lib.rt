@@ -37,7 +37,7 @@ pub(crate) mod tables;
 pub mod write;
 mod writer;
 
-pub use checked::{Checked, Held};
+pub use checked::{Checked, Held, OFFSETS};
 pub use config::{Coder, Colour, Config, Profile};
 pub use fault::RecordFault;
 pub use read::{read_record, read_record_in};

@@ -17,9 +17,9 @@ ghost use Rattle.ffv1_range.specs.Table.{Table};
 ghost use Rattle.ffv1_plane.specs.Quantisation.{is_filled, are_filled, contexts_of};
 
 use crate::checked::Checked;
-use crate::config::{Coder, Colour, Config, Profile, deepest, is_depth, is_rct};
+use crate::config::{Coder, Colour, Config, Profile, deepest, is_depth};
 use crate::fault::RecordFault;
-use crate::laws::guarded;
+use crate::laws;
 use crate::planes::Planes;
 use crate::reader::RecordReader;
 use crate::remainder::parity;
@@ -358,7 +358,7 @@ pub fn read_record_in<A: Allocator + Copy>(
     if bytes.len() < 5 {
         return Err(RecordFault::Short);
     }
-    guarded();
+    laws::parity_makes_the_remainder_zero();
     if parity(bytes) != 0 {
         return Err(RecordFault::Parity);
     }

@@ -49,7 +49,7 @@ impl<A: Allocator> Sets<A> {
         ensures ok { OnOk result (self.new ≡ self.old ++ set ∷ []) }
         ensures err { OnErr result (self.new ≡ self.old) }
     {
-        set.bounded();
+        set.is_a_bounded_set();
         self.sets.push(set)?;
         Ok(())
     }

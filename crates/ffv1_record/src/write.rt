@@ -17,9 +17,9 @@ ghost use Rattle.ffv1_record.specs.Record.{record_decisions, IsRecord};
 ghost use Rattle.ffv1_record.specs.Internal.Written.{Wrote};
 
 use crate::checked::Checked;
-use crate::config::{Coder, Config, is_rct};
+use crate::config::{Coder, Config};
 use crate::fault::RecordFault;
-use crate::laws::written_is_record;
+use crate::laws;
 use crate::remainder::parity;
 use crate::sets::Sets;
 use crate::writer::RecordWriter;
@@ -103,7 +103,7 @@ fn write_planes<A: Allocator, B: Allocator>(
         (λ _. planes_steps depth (configuration_of config.now)) 0 writer.old writer.new) }
     ensures err { IfErr result (λ f. f ≡ fault.OutOfMemory) }
 {
-    writer.number(one_if(is_rct(config.colour)))?;
+    writer.number(one_if(config.colour.is_rct()))?;
     writer.number(depth)?;
     writer.truth(config.chroma_planes)?;
     writer.number(config.log2_h)?;
@@ -151,7 +151,7 @@ fn write_set<A: Allocator, B: Allocator>(
     ensures ok { OnOk result (Wrote (λ base. set_steps base set.now) 160 writer.old writer.new) }
     ensures err { IfErr result (λ f. f ≡ fault.OutOfMemory) }
 {
-    set.bounded();
+    set.is_a_bounded_set();
     write_table(writer, set.runs(0))?;
     write_table(writer, set.runs(1))?;
     write_table(writer, set.runs(2))?;
@@ -276,7 +276,7 @@ pub fn write_record<A: Allocator, B: Allocator>(
     ensures writable { IfOk result (λ v. IsWritable checked.now.configuration.coder) }
     ensures err { IfErr result (λ f. f ≡ fault.OutOfMemory) }
 {
-    written_is_record();
+    laws::written_bytes_are_a_record();
     let bytes = write_sealed(alloc, checked)?;
     Ok(bytes)
 }

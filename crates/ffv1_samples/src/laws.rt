@@ -7,7 +7,7 @@ ghost use Rattle.ffv1_samples.specs.Samples.{samples_of};
 
 /// The samples of the bytes of samples are these samples, and the bytes of the samples of bytes are
 /// these bytes where no half sample stands last.
-pub fn back()
+pub fn samples_and_bytes_are_inverses()
     ensures samples { (depth : ℕ) (samples : List ℕ) →
         samples_of depth (bytes_of depth samples) ≡ samples }
     ensures bytes { (depth count : ℕ) (bytes : List ℕ) → AreBelow 256 bytes →
@@ -16,7 +16,7 @@ pub fn back()
 {}
 
 /// How long the bytes of samples are, and how many samples stand in bytes.
-pub fn lengths()
+pub fn each_sample_takes_sample_bytes()
     ensures bytes { (depth : ℕ) (samples : List ℕ) →
         length (bytes_of depth samples) ≡ sample_bytes depth * length samples }
     ensures samples { (depth count : ℕ) (bytes : List ℕ) →
@@ -25,7 +25,7 @@ pub fn lengths()
 
 /// The bytes of samples below 2 ^ 16, at a depth of 8 below 2 ^ 8, are bytes, and samples of bytes
 /// lie below 2 ^ 16.
-pub fn small()
+pub fn bytes_and_samples_stay_in_range()
     ensures bytes { (depth : ℕ) (samples : List ℕ) →
         AreBelow (2 ^ (8 * sample_bytes depth)) samples → AreBelow 256 (bytes_of depth samples) }
     ensures samples { (depth : ℕ) (bytes : List ℕ) → AreBelow 256 bytes →
@@ -34,7 +34,7 @@ pub fn small()
 
 /// Samples one after the other are their bytes one after the other, and the first samples of bytes
 /// are those of the first bytes.
-pub fn parts()
+pub fn samples_convert_part_by_part()
     ensures bytes { (depth : ℕ) (xs ys : List ℕ) →
         bytes_of depth (xs ++ ys) ≡ bytes_of depth xs ++ bytes_of depth ys }
     ensures samples { (depth count : ℕ) (xs ys : List ℕ) → length xs ≡ sample_bytes depth * count →
@@ -48,14 +48,14 @@ pub fn parts()
 {}
 
 /// A sample of two bytes, by its place.
-pub fn places()
+pub fn sample_is_two_bytes_low_first()
     ensures { (depth place : ℕ) (bytes : List ℕ) → (depth == 8) ≡ false →
         2 * place + 1 < length bytes → slice_index (samples_of depth bytes) place
         ≡ slice_index bytes (2 * place) + 256 * slice_index bytes (2 * place + 1) }
 {}
 
 /// All samples of bytes are below 2 ^ depth where each one is, and only then.
-pub fn depths()
+pub fn depth_test_is_exact()
     ensures each { (depth : ℕ) (bytes : List ℕ) → AreBelow 256 bytes →
         are_in_depth depth bytes ≡ true → AreBelow (2 ^ depth) (samples_of depth bytes) }
     ensures all { (depth : ℕ) (bytes : List ℕ) → AreBelow (2 ^ depth) (samples_of depth bytes) →

@@ -114,11 +114,13 @@ cut_of c payload =
     judged payload (c.columns * c.rows) c.ec
     (offsets_onto payload (foot_length c.ec) (c.columns * c.rows) (length payload) [])
 
--- where the slices of a payload lie
+-- where the slices of a payload lie, for how many offsets there are places, and for how many there
+-- is memory
 pub record Cut : Type 0 where
   pub offsets : List ℕ
   pub foot : ℕ
   pub room : ℕ
+  pub capacity : ℕ
 
 -- what holds of it
 pub record IsCut (c : Cut) : Type 0 where

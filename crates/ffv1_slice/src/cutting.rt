@@ -11,8 +11,7 @@ ghost use Rattle.std.proofs.Common.{suc};
 
 use crate::fault::SliceFault;
 use crate::spans::Spans;
-use ffv1_record::laws::{accepted, guarded};
-use ffv1_record::{Checked, Config, parity};
+use ffv1_record::{Checked, Config, laws as record_laws, parity};
 use std::alloc::Allocator;
 
 /// Why a payload is not cut, and in which slice. The slice is 0 where bytes are left before the
@@ -88,7 +87,7 @@ fn judge(payload: &[u8], offsets: &[usize], count: usize) -> Result<(), CutFault
     ensures err { IfErr result (λ f.
         first_damaged payload.now (slice_index offsets.now) 0 count ≡ Some f) }
 {
-    guarded();
+    record_laws::parity_makes_the_remainder_zero();
     for slice in 0..count {
         let (begin, end) = (offsets[slice], offsets[slice + 1]);
         if parity(&payload[begin..end]) != 0 {
@@ -113,7 +112,7 @@ fn slices_of<A: Allocator>(checked: &Checked<A>) -> usize
     ensures some { 0 < result }
     ensures few { result ≤ 1024 }
 {
-    accepted();
+    record_laws::accepted_configuration_is_in_range();
     let config = checked.config();
     config.columns as usize * config.rows as usize
 }
@@ -138,6 +137,7 @@ fn cut_from_end<A: Allocator, B: Allocator>(
     ensures err { IfErr result (λ f. cut_of checked.now.configuration payload.now ≡ Err f) }
     ensures cleared { OnErr result (spans.new.offsets ≡ []) }
     ensures room { spans.new.room ≡ 1025 }
+    ensures capacity { spans.new.capacity ≡ spans.old.capacity }
 {
     spans.held = 0;
     let count = slices_of(checked);
@@ -157,7 +157,8 @@ fn cut_from_end<A: Allocator, B: Allocator>(
 /// The slices are found from the last to the first: `Footer` where there are fewer bytes than a
 /// footer, or fewer before it than its slice_size, then `Leftover` where bytes are left before the
 /// first slice. With ec each slice, from the first, has the remainder 0, else `SliceParity`, and
-/// the status 0, else `SliceStatus`. It takes no memory, and after a refusal there are no spans.
+/// the status 0, else `SliceStatus`. After a refusal there are no spans. It takes no memory and
+/// gives none back, whatever it answers: the capacity stays.
 pub fn cut<A: Allocator, B: Allocator>(
     checked: &Checked<A>,
     payload: &[u8],
@@ -168,6 +169,7 @@ pub fn cut<A: Allocator, B: Allocator>(
     ensures err { IfErr result (λ f. cut_of checked.now.configuration payload.now ≡ Err f) }
     ensures cleared { OnErr result (spans.new.offsets ≡ []) }
     ensures room { spans.new.room ≡ 1025 }
+    ensures capacity { spans.new.capacity ≡ spans.old.capacity }
     ensures found { OnOk result (Cuts checked.now.configuration payload.now
         (slice_index spans.new.offsets)) }
     ensures long { OnOk result

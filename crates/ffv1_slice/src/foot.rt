@@ -9,6 +9,9 @@ use crate::footer_bytes::Footer;
 use ffv1_record::parity;
 use std::alloc::Allocator;
 
+/// The greatest number that a footer says in its three bytes.
+const GREATEST_SIZE: usize = 16777215;
+
 /// The footer of coded bytes: their number in three bytes, big end first, and with ec a status of 0
 /// and the parity, by which the whole slice has the remainder 0. Answers `SliceTooLong` exactly
 /// where there are more than 16777215 bytes; with ec alone `OutOfMemory`, where the copy whose
@@ -18,7 +21,7 @@ pub fn footer<A: Allocator>(alloc: A, coded: &[u8], ec: bool) -> Result<Footer, 
     ensures too_long { IsErrOf result SliceFault.SliceTooLong ↔ (16777215 < length coded.now) }
     ensures refused { IfErr result (HasNoFooter ec coded.now) }
 {
-    if coded.len() > 16777215 {
+    if coded.len() > GREATEST_SIZE {
         return Err(SliceFault::SliceTooLong);
     }
     let size = coded.len() as u32;

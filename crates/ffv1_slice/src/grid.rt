@@ -8,8 +8,7 @@ ghost use Rattle.ffv1_slice.specs.Grid.{planes_in, slices_in, begin_of, length_o
 ghost use Rattle.ffv1_slice.specs.Grid.{across, down};
 ghost use Rattle.ffv1_samples.specs.Samples.{sample_bytes};
 
-use ffv1_record::Checked;
-use ffv1_record::laws::accepted;
+use ffv1_record::{Checked, laws as record_laws};
 use ffv1_samples::sample_bytes;
 use std::alloc::Allocator;
 use std::marker::Model;
@@ -159,7 +158,7 @@ impl Grid {
         ensures value { result ≡ division_of checked.now.configuration }
         ensures division { IsDivision result }
     {
-        accepted();
+        record_laws::accepted_configuration_is_in_range();
         let config = checked.config();
         Grid {
             width: config.width,

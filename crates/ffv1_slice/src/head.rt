@@ -9,10 +9,8 @@ ghost use Rattle.ffv1_slice.specs.Coding.{FindsHead, MissesHead, IsAtHead};
 
 use crate::fault::SliceFault;
 use crate::values::{get_indexes, get_info, get_place, put_indexes, put_place, put_three};
-use ffv1_range::laws::named_states;
-use ffv1_range::{RangeDecoder, RangeEncoder};
-use ffv1_record::Checked;
-use ffv1_record::laws::accepted;
+use ffv1_range::{RangeDecoder, RangeEncoder, laws as range_laws};
+use ffv1_record::{Checked, laws as record_laws};
 use std::alloc::Allocator;
 
 /// What the head of a slice says, besides its place.
@@ -48,7 +46,7 @@ pub fn get_key<A: Allocator>(
     if slice != 0 {
         return Ok(());
     }
-    named_states();
+    range_laws::each_decision_has_a_state();
     let table = checked.table();
     let mut state = 128;
     if decoder.get(table, &mut state) {
@@ -75,7 +73,7 @@ pub fn put_key<A: Allocator, B: Allocator>(
     if slice != 0 {
         return Ok(());
     }
-    named_states();
+    range_laws::each_decision_has_a_state();
     let table = checked.table();
     let mut state = 128;
     let Ok(()) = encoder.put(table, &mut state, true) else {
@@ -95,8 +93,8 @@ fn read_head<A: Allocator>(
     ensures ok { IfOk result (ReadsHead checked.now slice decoder.old decoder.new) }
     ensures refused { IfErr result (StopsInHead checked.now slice decoder.old decoder.new) }
 {
-    named_states();
-    accepted();
+    range_laws::each_decision_has_a_state();
+    record_laws::accepted_configuration_is_in_range();
     let config = checked.config();
     let table = checked.table();
     let mut states = [128u8; 32];
@@ -144,7 +142,7 @@ pub fn get_head<A: Allocator>(
     ensures only { (h : SliceHead) → IsAtHead checked.now slice decoder.old h → result ≡ Ok h }
     ensures exact { IfErr result (MissesHead checked.now slice decoder.old) }
 {
-    accepted();
+    record_laws::accepted_configuration_is_in_range();
     let _config = checked.config();
     // Both arms are written out, so that the clauses are proved by arm.
     match read_head(decoder, checked, slice) {
@@ -173,8 +171,8 @@ pub fn put_head<A: Allocator, B: Allocator>(
     ensures err { IfErr result (λ f. (f ≡ SliceFault.OutOfMemory) × IsTrue encoder.new.failed) }
     ensures stays { IsTrue encoder.old.failed → IsErr result }
 {
-    named_states();
-    accepted();
+    range_laws::each_decision_has_a_state();
+    record_laws::accepted_configuration_is_in_range();
     let config = checked.config();
     let table = checked.table();
     let mut states = [128u8; 32];

@@ -23,10 +23,11 @@ ghost use Rattle.ffv1_slice.specs.Head.{CodesHead, RefusesHead, IsHead, Stops, h
 ghost use Rattle.ffv1_slice.specs.Head.{head_steps};
 ghost use Rattle.ffv1_slice.specs.Length.{head_most, numbers_most};
 
-use ffv1_record::laws::{accepted, guarded};
+use crate::laws;
+use ffv1_record::laws as record_laws;
 
 /// A payload has one cutting at most.
-pub fn one_cutting()
+pub fn payload_has_one_cutting()
     ensures { (payload : List ℕ) (foot count : ℕ) (xs ys : ℕ → ℕ) →
         IsCutting payload foot count xs → IsCutting payload foot count ys → (s : ℕ) → s ≤ count →
         xs s ≡ ys s }
@@ -34,7 +35,7 @@ pub fn one_cutting()
 
 /// What is found from the end of a payload is its cutting, each slice sound; and where it has such
 /// a cutting, that is found. So a payload that is refused has none.
-pub fn cutting()
+pub fn cutting_is_found_from_the_end()
     ensures found { (c : Configuration) (payload os : List ℕ) → cut_of c payload ≡ Ok os →
         (length os ≡ suc (c.columns * c.rows)) × Cuts c payload (slice_index os) }
     ensures only { (c : Configuration) (payload : List ℕ) (spans : ℕ → ℕ) → Cuts c payload spans →
@@ -49,17 +50,17 @@ pub fn cutting()
 {}
 
 /// Coded bytes with their footers, one slice's after the other's, are cut where they were joined.
-pub fn joined()
+pub fn slices_are_cut_where_joined()
     ensures cuts { (c : Configuration) (codes : List (List ℕ)) → AreCodedBytes codes →
         length codes ≡ c.columns * c.rows → Cuts c (joined_of c.ec codes) (offset_in c.ec codes) }
     ensures coded { (ec : Bool) (codes : List (List ℕ)) → AreCodedBytes codes →
         AreCodedIn (joined_of ec codes) (foot_length ec) (offset_in ec codes) codes }
 {
-    footing();
+    laws::footer_has_its_length_and_parity();
 }
 
 /// The parts of a side stand one after the other, from 0 to its end, and none is empty.
-pub fn parts()
+pub fn parts_follow_one_another()
     ensures first { (s : Side) → IsDivided s → begin_of s 0 ≡ 0 }
     ensures next { (s : Side) (k : ℕ) → IsDivided s → k < s.count →
         begin_of s k + length_of s k ≡ begin_of s (suc k) }
@@ -71,7 +72,7 @@ pub fn parts()
 {}
 
 /// The cells of a plane cover each of its samples once, and nothing else.
-pub fn tiling()
+pub fn cells_tile_their_plane()
     ensures across { (d : Division) (p : ℕ) → IsDivision d → IsDivided (across d p) }
     ensures down { (d : Division) (p : ℕ) → IsDivision d → IsDivided (down d p) }
     ensures covered { (d : Division) (p x y : ℕ) → IsDivision d → x < whole_of (across d p) →
@@ -81,17 +82,17 @@ pub fn tiling()
 {}
 
 /// A footer is as long as a configuration says, and with its parity a slice has the remainder 0.
-pub fn footing()
+pub fn footer_has_its_length_and_parity()
     ensures long { (ec : Bool) (bytes : List ℕ) → length (footer_of ec bytes) ≡ foot_length ec }
     ensures whole { (bytes : List ℕ) → AreBytes bytes →
         remainder_of (bytes ++ footer_of true bytes) ≡ 0 }
 {
-    guarded();
+    record_laws::parity_makes_the_remainder_zero();
 }
 
 /// A head takes few decisions, and so do numbers in the place of a head up to the first that is
 /// refused.
-pub fn lengths()
+pub fn head_takes_few_decisions()
     ensures head { (p : Profile) (c : Configuration) (t : Table) (n : ℕ) (h : SliceHead) →
         IsAccepted c t →
         IsHead p c h → n < c.columns * c.rows → length (head_steps c n h) ≤ head_most c }
@@ -99,18 +100,18 @@ pub fn lengths()
         (steps : List Step) →
         Stops (head_rules p c n) before f steps → length steps ≤ numbers_most c }
 {
-    accepted();
+    record_laws::accepted_configuration_is_in_range();
 }
 
 /// Pictures of a configuration that was checked are divided so.
-pub fn divided()
+pub fn accepted_pictures_are_divided()
     ensures { (c : Configuration) (t : Table) → IsAccepted c t → IsDivision (division_of c) }
 {
-    accepted();
+    record_laws::accepted_configuration_is_in_range();
 }
 
 /// After its key bytes code one head at most, or are refused in one way.
-pub fn one_head()
+pub fn bytes_code_one_head()
     ensures head { (bytes : List ℕ) (t : Table) (p : Profile) (c : Configuration) (n : ℕ)
         (g h : SliceHead) → AreBytes bytes → IsTable t.floor t.one → n < 2 ^ 31 →
         length c.sets ≤ 8 →

@@ -4,6 +4,7 @@ ghost use Rattle.std.specs.Prelude.{◌≡◌, IfOk, IfErr, []};
 ghost use Rattle.ffv1_slice.specs.Cutting.{span_of, IsCut};
 
 use crate::fault::SliceFault;
+use ffv1_record::OFFSETS;
 use std::alloc::{Allocator, Global};
 use std::marker::Model;
 
@@ -11,7 +12,7 @@ use std::marker::Model;
 /// room for 1025 offsets.
 ///
 /// It is seen as a `Cut`: the offsets, one more than there are slices or none, how long a footer
-/// is, and the room.
+/// is, the room, and the capacity of the vector that they stand in.
 #[derive(Drop)]
 pub struct Spans<A: Allocator = Global> {
     pub(crate) offsets: Vec<usize, A>,
@@ -20,7 +21,7 @@ pub struct Spans<A: Allocator = Global> {
 }
 
 impl<A: Allocator> Model for Spans<A> {
-    ghost use Rattle.std.specs.Prelude.{◌≤◌, length, take};
+    ghost use Rattle.std.specs.Prelude.{◌≤◌, length, take, vec_capacity};
     ghost use Rattle.ffv1_slice.specs.Cutting.{Cut, IsCut};
 
     ghost Value = { Cut };
@@ -29,6 +30,7 @@ impl<A: Allocator> Model for Spans<A> {
       offsets = take s.held s.offsets.items;
       foot = s.foot;
       room = length s.offsets.items;
+      capacity = vec_capacity s.offsets;
     } };
 
     ghost invariant = { λ s. (s.held ≤ length s.offsets.items)
@@ -36,16 +38,22 @@ impl<A: Allocator> Model for Spans<A> {
           offsets = take s.held s.offsets.items;
           foot = s.foot;
           room = length s.offsets.items;
+          capacity = vec_capacity s.offsets;
         }) };
 }
 
 impl<A: Allocator> Spans<A> {
     /// No slices, and room for 1025 offsets. Answers `OutOfMemory` where that was refused.
     pub fn new(alloc: A) -> Result<Spans<A>, SliceFault>
-        ensures ok { IfOk result (λ s. s ≡ record { offsets = []; foot = 0; room = 1025 }) }
+        ensures ok { IfOk result (λ s. s ≡ record {
+          offsets = [];
+          foot = 0;
+          room = 1025;
+          capacity = s.capacity;
+        }) }
         ensures err { IfErr result (λ f. f ≡ SliceFault.OutOfMemory) }
     {
-        let offsets = vec![in alloc; 0usize; 1025]?;
+        let offsets = vec![in alloc; 0usize; OFFSETS]?;
         Ok(Spans {
             offsets,
             held: 0,

@@ -19,7 +19,7 @@ ghost use Rattle.ffv1_y4m.specs.Reads.{Nowhere, Refused};
 /// A header that is refused has a first fault, which is the answer, and one with a first fault is
 /// refused so. That is the answer of `Y4mReader::open` where the bytes are known and no read
 /// failed.
-pub fn header_faults()
+pub fn refused_header_has_one_fault()
     ensures answered { (most : ℕ) (text : List ℕ) (new : Option (List ℕ)) (before after : ℕ)
         (f : Fault) → Refused (header_of most) Nowhere (record {
           old = Some text;
@@ -37,7 +37,7 @@ pub fn header_faults()
 
 /// The same of the picture that a text begins with, and of `Y4mReader::next` where no memory was
 /// refused.
-pub fn picture_faults()
+pub fn refused_picture_has_one_fault()
     ensures answered { (depth : ℕ) (h : VideoHead) (text : List ℕ) (new : Option (List ℕ))
         (before after : ℕ) (f : Fault) →
         Refused (picture_read depth h) (GrowsInPicture depth h) (record {
@@ -59,7 +59,7 @@ pub fn picture_faults()
 /// A text of YUV4MPEG2 is whole, or has one first fault, in one place. A reader that read its
 /// header and some pictures has reached the next one; the fault that it answers there is that of
 /// the text.
-pub fn text_faults()
+pub fn text_is_whole_or_faulty()
     ensures begins { (most : ℕ) (text : List ℕ) (said : DeepHead) (rest : List ℕ) → 8 ≤ most →
         header_of most text ≡ Ok (said, rest) →
         (count : ℕ) × ReachesPicture most text said.depth said.head rest count }
@@ -87,7 +87,7 @@ pub fn text_faults()
 /// A header of an image that is refused has a first fault, which is the answer, and one with a
 /// first fault is refused so. That is the answer of `PpmReader::open` where the bytes are known and
 /// no read failed. There is one, in one place.
-pub fn image_header_faults()
+pub fn refused_image_header_has_one_fault()
     ensures answered { (most : ℕ) (text : List ℕ) (new : Option (List ℕ)) (before after : ℕ)
         (f : Fault) → Refused (image_header most) Nowhere (record {
           old = Some text;
@@ -106,7 +106,7 @@ pub fn image_header_faults()
 
 /// The same of an image, by `PpmReader::next` where no memory was refused: of the first one, whose
 /// header was read before, the fault is that of its samples.
-pub fn image_faults()
+pub fn refused_image_has_one_fault()
     ensures first { (most : ℕ) (said : DeepHead) (text : List ℕ) (new : Option (List ℕ))
         (before after : ℕ) (f : Fault) →
         Refused (image_read most said true) (GrowsInImage most said true) (record {
@@ -138,7 +138,7 @@ pub fn image_faults()
 
 /// A text of images is whole, as it is read where depths up to that one are, or has a first fault;
 /// and it has one, in one place.
-pub fn images_faults()
+pub fn images_are_whole_or_faulty()
     ensures some { (most : ℕ) (text : List ℕ) →
         ((depth width height : ℕ) × (image : List (List ℕ)) × (images : List (List (List ℕ)))
         × IsImagesIn most text depth width height (image ∷ images) × (depth ≤ most))

@@ -26,7 +26,7 @@ use std::alloc::Allocator;
 
 /// A line is read as the depth and the head that it says, where depths up to that one are read, and
 /// what is read so says that depth and that head.
-pub fn header_lines()
+pub fn header_line_is_read_exactly()
     ensures found { (line : List ℕ) (most depth : ℕ) (h : VideoHead) → IsHeaderLine line depth h →
         depth ≤ most → head_of_line most line ≡ Ok (record { head = h; depth = depth }) }
     ensures only { (line : List ℕ) (most depth : ℕ) (h : VideoHead) →
@@ -35,12 +35,12 @@ pub fn header_lines()
 {}
 
 /// A head that a line says has sizes, numbers and chroma that are read here.
-pub fn said_heads()
+pub fn said_head_can_be_read()
     ensures { (line : List ℕ) (depth : ℕ) (h : VideoHead) → IsHeaderLine line depth h → IsHead h }
 {}
 
 /// A head that a line says has chroma that has a name at the depth that it says.
-pub fn said_depths()
+pub fn said_chroma_has_a_name()
     ensures { (line : List ℕ) (depth : ℕ) (h : VideoHead) → IsHeaderLine line depth h →
         IsNamed depth h }
 {}
@@ -48,7 +48,7 @@ pub fn said_depths()
 /// A text is read as its depth, its head and its pictures, where depths up to that one are read,
 /// and what is read so is such a text; the canonical text of a head and of pictures that fit it is
 /// one, so it reads back as them, and it is what a writer writes of them, picture by picture.
-pub fn texts()
+pub fn text_is_read_as_its_pictures()
     ensures found { (text : List ℕ) (most depth : ℕ) (h : VideoHead)
         (pictures : List (List (List ℕ))) → IsText text depth h pictures → depth ≤ most →
         (rest : List ℕ) × (header_of most text ≡ Ok (record { head = h; depth = depth }, rest))
@@ -74,7 +74,7 @@ pub fn texts()
 /// A text of images is read as the head of its sizes, its depth and its images, where depths up to
 /// that one are read, and what is read so is such a text: up to 8 bits with each header of three
 /// lines, above as Netpbm writes it. A header of three lines is one that Netpbm writes.
-pub fn images()
+pub fn text_is_read_as_its_images()
     ensures found { (text : List ℕ) (most depth width height : ℕ) (image : List (List ℕ))
         (images : List (List (List ℕ))) → IsImages text depth width height (image ∷ images) →
         depth ≤ most →
@@ -112,7 +112,7 @@ pub fn images()
 
 /// At 8 bits the third line of an image's header is 255. A header takes its first byte, whichever
 /// that is.
-pub fn image_headers()
+pub fn image_header_takes_its_first_byte()
     ensures eight { (width height : ℕ) → image_header_text 8 width height
         ≡ codes "P6\n" ++ decimal width ++ codes " " ++ decimal height ++ codes "\n255\n" }
     ensures first { (most : ℕ) → Wants (image_header most) [] }
@@ -120,7 +120,7 @@ pub fn image_headers()
 
 /// A sink that has taken whole images and takes the lines of one more has written its text after
 /// the others, and again has taken whole images.
-pub fn image_runs<W: ByteOut>()
+pub fn image_is_written_after_the_others<W: ByteOut>()
     ensures image { (red green blue : List ℕ) (s t : PpmSink W) → 1 ≤ s.height → AtImage s →
         length red ≡ s.height * bytes_for s.depth s.width →
         Grows (Takes W.contents W.failures) s
@@ -132,7 +132,7 @@ pub fn image_runs<W: ByteOut>()
 
 /// A sink has written the text of the lines that it took, and before a refusal a beginning of the
 /// text of all.
-pub fn line_runs<W: ByteOut>()
+pub fn sink_writes_the_lines_it_took<W: ByteOut>()
     ensures taken { (s t : PpmSink W) (lines : List Line) →
         Grows (Takes W.contents W.failures) s lines t →
         Appends (W.contents s.out) (W.contents t.out)
@@ -146,7 +146,7 @@ pub fn line_runs<W: ByteOut>()
 /// A sink that has taken whole images and then a beginning of the lines of one more, each in its
 /// place, takes the line that comes next there, or its write fails: a beginning of the row's text
 /// is written then, and the writer counts one failure more.
-pub fn next_lines<W: ByteOut>()
+pub fn sink_takes_the_next_line<W: ByteOut>()
     ensures next { (s t : PpmSink W) (lines : List Line) (p y : ℕ) (samples : List ℕ)
         (rest : List (ℕ × ℕ)) → AtImage s → Grows (Takes W.contents W.failures) s lines t →
         places_in lines ++ ((p, y) ∷ rest) ≡ image_places s.height →
@@ -165,7 +165,7 @@ pub fn next_lines<W: ByteOut>()
 {}
 
 /// The lines of an image stand in its order, and what they make a sink write is its text.
-pub fn lines_of_images()
+pub fn image_lines_stand_in_order()
     ensures places { (size height : ℕ) (red green blue : List ℕ) →
         places_in (image_lines size 0 height red green blue) ≡ image_places height }
     ensures text { (depth width height : ℕ) (red green blue : List ℕ) → 1 ≤ height →
@@ -176,7 +176,7 @@ pub fn lines_of_images()
 {}
 
 /// Planes that were read have room for planes of the same sizes.
-pub fn rooms<A: Allocator>()
+pub fn read_planes_keep_their_room<A: Allocator>()
     ensures left { (depth : ℕ) (h : VideoHead) (planes : List (Vec ℕ A)) →
         Fits depth h (samples_of planes) → HasRoom (plane_bytes depth h) planes }
 {}

@@ -10,7 +10,7 @@ use Rattle.ffv1_codec.specs.SliceList.{bits_of}
 use Rattle.ffv1_slice.specs.Grid.{division_of, across, Lies}
 use Rattle.ffv1_codec.specs.declared.fault.CodecFault.TheVariants as fault
 use Rattle.ffv1_codec.specs.declared.fault.FrameFault.{FrameFault}
-use Rattle.ffv1_codec.specs.Decoding.{State, Finishes, FaultsWith, coded_line, slice_number, top_of}
+use Rattle.ffv1_codec.specs.Decoding.{State, Finishes, FaultsWith, coded_line, fault_in}
 use Rattle.ffv1_codec.specs.Order.Event.{Finish}
 use Rattle.ffv1_codec.specs.declared.decode.parts.CodedLine.{CodedLine}
 use Rattle.ffv1_codec.specs.Internal.Stands.{window}
@@ -110,10 +110,4 @@ FinishesLine a line read out result =
 abbrev pub IsNoColour : Configuration → ℕ → ℕ → ℕ → FrameFault → Type 0
 IsNoColour c r y x f =
     (k : ℕ) × Lies (across (division_of c) 0) x k
-    × (f ≡ record {
-      fault = fault.Colour;
-      slice = slice_number c r k;
-      plane = 0;
-      line = top_of c 0 r + y;
-      x = x;
-    })
+    × (f ≡ fault_in c fault.Colour r k 0 y x)

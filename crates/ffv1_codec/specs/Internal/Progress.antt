@@ -15,7 +15,7 @@ use Rattle.ffv1_codec.specs.Runs.{Runs, Stops}
 use Rattle.ffv1_codec.specs.Order.{Event, Series, hand_events, line_events}
 use Rattle.ffv1_codec.specs.Order.{series_events, lines_down}
 use Rattle.ffv1_codec.specs.Order.Event.{Hand}
-use Rattle.ffv1_codec.specs.Decoding.{State, StepsBy, FaultsWith, slice_number, top_of}
+use Rattle.ffv1_codec.specs.Decoding.{State, StepsBy, FaultsWith, fault_in, top_of}
 use Rattle.ffv1_codec.specs.Internal.Stands.{window}
 use Rattle.ffv1_codec.specs.Internal.Tied.{AreTold, TiedColumns, TiedPlanes}
 use Rattle.ffv1_codec.specs.Internal.Tied.{row_slices, rolling_lines, plane_group}
@@ -38,13 +38,7 @@ series_at c r first count =
 
 -- the fault of a line that the sink refused
 abbrev pub sink_fault : Configuration → ℕ → ℕ → ℕ → FrameFault
-sink_fault c r plane line = record {
-  fault = fault.Sink;
-  slice = slice_number c r 0;
-  plane = plane;
-  line = top_of c plane r + line;
-  x = 0;
-}
+sink_fault c r plane line = fault_in c fault.Sink r 0 plane line 0
 
 module _ {S : Type 0} (takes refuses : LineStep S) (a : Accepted) (coded : ℕ → List ℕ) (initial : S)
   where

@@ -22,7 +22,7 @@ use Rattle.ffv1_codec.specs.Runs.{Runs, Stops}
 use Rattle.ffv1_codec.specs.Order.{Event, column_events}
 use Rattle.ffv1_codec.specs.Order.Event.{Read}
 use Rattle.ffv1_codec.specs.Decoding.{State, Slice, StepsBy, FaultsWith, slice_at, slice_number}
-use Rattle.ffv1_codec.specs.Decoding.{left_of, top_of, width_in}
+use Rattle.ffv1_codec.specs.Decoding.{fault_in, left_of, width_in}
 use Rattle.ffv1_codec.specs.Internal.Stands.{Stands, window, told_by, tally_after}
 use Rattle.ffv1_line.specs.declared.cell.rows.RollingRows.{RollingRows}
 
@@ -139,13 +139,7 @@ SameOthers p s t =
 
 -- the fault of a slice that was read too far, looked at after line y of its cell in plane p
 abbrev pub overread_in : Configuration → ℕ → ℕ → ℕ → ℕ → FrameFault
-overread_in c r k p y = record {
-  fault = fault.Overread;
-  slice = slice_number c r k;
-  plane = p;
-  line = top_of c p r + y;
-  x = 0;
-}
+overread_in c r k p y = fault_in c fault.Overread r k p y 0
 
 module _ (a : Accepted) (coded : ℕ → List ℕ) (r next : ℕ) (payload : List ℕ) where
   -- a segment was read, and it is to be looked at whether its slice was read too far

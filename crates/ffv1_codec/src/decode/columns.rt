@@ -9,8 +9,7 @@ ghost use Rattle.ffv1_codec.specs.Internal.Tied.{AreTold, column_at};
 ghost use Rattle.ffv1_codec.specs.Internal.Tallies.{tally_over, both};
 
 use crate::decode::column::Column;
-use ffv1_range::Tally;
-use ffv1_range::laws::counts;
+use ffv1_range::{Tally, laws as range_laws};
 
 /// Lets go of the decoders of all columns.
 pub(crate) fn close(columns: &mut [Column])
@@ -53,7 +52,7 @@ pub(crate) fn add_up(columns: &[Column], before: Tally) -> Tally
     ensures { (t : Table) (s : State) → before ≡ tally_over t s.done →
         AreTold t columns.now s → HasDecided t s result }
 {
-    counts();
+    range_laws::each_step_is_one_or_zero();
     let mut tally = before;
     for k in 0..columns.len() {
         tally = with(tally, made(&columns[k]));

@@ -14,14 +14,13 @@ ghost use Rattle.ffv1_codec.specs.SliceList.{bits_of};
 ghost use Rattle.ffv1_samples.specs.Samples.{samples_of};
 
 use crate::decode::colours::{Words, are_bytes, byte_colours, copy_to, word_colours};
-use crate::decode::parts::{CodedLine, Frame};
+use crate::decode::parts::{CodedLine, Frame, Segment};
 use crate::decode::wide_colours::wide_colours;
 use crate::fault::{CodecFault, FrameFault};
 use crate::line_word::LineWord;
-use crate::places::places;
+use crate::places;
 use crate::places_of_colours::swaps;
-use ffv1_record::Colour;
-use ffv1_record::laws::{accepted, accepted_parts};
+use ffv1_record::{Colour, laws as record_laws};
 use std::alloc::Allocator;
 
 /// The column of slices in which a sample of plane 0 lies.
@@ -31,8 +30,8 @@ fn column_of<A: Allocator>(frame: &Frame<'_, A>, x: usize) -> u32
     ensures lies { Lies (across (division_of frame.now.checked.now.configuration) 0) x result }
     ensures inside { result < frame.now.checked.now.configuration.columns }
 {
-    places();
-    accepted();
+    places::slices_lie_beside_one_another();
+    record_laws::accepted_configuration_is_in_range();
     let last = frame.grid.columns() - 1;
     for k in 0..last {
         if x < frame.grid.left(0, k + 1) as usize {
@@ -52,17 +51,16 @@ fn colourless<A: Allocator>(frame: &Frame<'_, A>, line: &CodedLine, x: usize) ->
         result }
     ensures own { IsOwn result }
 {
-    places();
-    accepted();
-    let column = column_of(frame, x);
-    let top = frame.grid.top(0, line.row);
-    FrameFault {
-        fault: CodecFault::Colour,
-        slice: (line.row * frame.grid.columns() + column) as u16,
+    places::slices_lie_beside_one_another();
+    record_laws::accepted_configuration_is_in_range();
+    let segment = Segment {
+        row: line.row,
+        column: column_of(frame, x) as usize,
         plane: 0,
-        line: (top + line.y) as u16,
-        x: x as u16,
-    }
+        index: 0,
+        y: line.y,
+    };
+    frame.fault_in(CodecFault::Colour, &segment, x)
 }
 
 /// The colours of a line for RCT.
@@ -83,8 +81,8 @@ fn finish_colours<A: Allocator>(
     ensures err { IfErr result (IsFirstWithout
         (colouring_of frame.now.checked.now.configuration) samples.now) }
 {
-    accepted();
-    accepted_parts();
+    record_laws::accepted_configuration_is_in_range();
+    record_laws::accepted_configuration_has_sound_parts();
     let width = frame.checked.config().width as usize;
     let extra = frame.checked.config().extra_plane;
     let depth = frame.checked.depth();
@@ -121,8 +119,8 @@ fn finish<A: Allocator>(
     ensures exact { FinishesLine frame.now.checked.now line.now samples.now out.new result }
     ensures own { IfErr result IsOwn }
 {
-    places();
-    accepted_parts();
+    places::slices_lie_beside_one_another();
+    record_laws::accepted_configuration_has_sound_parts();
     match frame.checked.config().colour {
         Colour::YCbCr => {
             let wide = frame.grid.width(line.first as u32) as usize;
@@ -160,8 +158,8 @@ fn finish_wide_colours<A: Allocator>(
     ensures err { IfErr result (IsFirstWithout
         (colouring_of frame.now.checked.now.configuration) samples.now) }
 {
-    accepted();
-    accepted_parts();
+    record_laws::accepted_configuration_is_in_range();
+    record_laws::accepted_configuration_has_sound_parts();
     let config = frame.checked.config();
     wide_colours(config.extra_plane, config.width as usize, samples, out)
 }
@@ -187,8 +185,8 @@ fn finish_wide<A: Allocator>(
     ensures exact { FinishesLine frame.now.checked.now line.now samples.now out.new result }
     ensures own { IfErr result IsOwn }
 {
-    accepted();
-    accepted_parts();
+    record_laws::accepted_configuration_is_in_range();
+    record_laws::accepted_configuration_has_sound_parts();
     match finish_wide_colours(frame, samples, out) {
         Ok(()) => {
             are_bytes(out);

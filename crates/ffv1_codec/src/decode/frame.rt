@@ -25,13 +25,10 @@ use crate::decode::parts::Frame;
 use crate::decode::row::decode_row;
 use crate::fault::{CodecFault, FrameFault};
 use crate::info::Info;
-use crate::laws::answer::{cost_of_frame, damaged, handed_lines, headline};
-use crate::laws::frame_lengths;
+use crate::laws;
 use crate::line_word::bits_of;
-use ffv1_range::Tally;
-use ffv1_range::laws::counts;
-use ffv1_record::Checked;
-use ffv1_record::laws::accepted;
+use ffv1_range::{Tally, laws as range_laws};
+use ffv1_record::{Checked, laws as record_laws};
 use ffv1_slice::{Spans, cut};
 use ffv1_wire::LineSink;
 use std::alloc::{AllocError, Allocator, Global};
@@ -39,8 +36,9 @@ use std::marker::Model;
 
 /// A decoder of frames of one configuration. It takes memory once, and decodes each frame in it.
 ///
-/// It is seen as a `Decoder`: its configuration, what its last call decided, and the lengths of its
-/// five vectors, which are those that the configuration asks for.
+/// It is seen as a `Decoder`: its configuration, what its last call decided, the lengths of its
+/// five vectors, which are those that the configuration asks for, and their capacities, which stay
+/// as `new` left them.
 #[derive(Drop)]
 pub struct FrameDecoder<A: Allocator = Global> {
     checked: Checked<A>,
@@ -50,10 +48,11 @@ pub struct FrameDecoder<A: Allocator = Global> {
 }
 
 impl<A: Allocator> Model for FrameDecoder<A> {
-    ghost use Rattle.std.specs.Prelude.{◌≡◌, length};
+    ghost use Rattle.std.specs.Prelude.{◌≡◌, length, vec_capacity};
     ghost use Rattle.ffv1_record.specs.Held.{held_of};
     ghost use Rattle.ffv1_codec.specs.Answer.{Decoder};
     ghost use Rattle.ffv1_codec.specs.Internal.Buffers.{HoldBits, length_of_lines};
+    ghost use Rattle.ffv1_codec.specs.Internal.Buffers.{capacity_of_lines};
     ghost use Rattle.ffv1_codec.specs.SliceList.{bits_of};
 
     ghost Value = { Decoder };
@@ -67,6 +66,13 @@ impl<A: Allocator> Model for FrameDecoder<A> {
         output = length d.buffers.out.items;
         columns = length d.buffers.slices.columns.items;
         offsets = d.spans.room;
+      };
+      capacities = record {
+        states = vec_capacity d.buffers.slices.states;
+        samples = capacity_of_lines d.buffers.lines;
+        output = vec_capacity d.buffers.out;
+        columns = vec_capacity d.buffers.slices.columns;
+        offsets = d.spans.capacity;
       };
     } };
 
@@ -148,8 +154,8 @@ fn decode_rows<A: Allocator, B: Allocator, S: LineSink>(
     ensures counted { CountsSink (S.failures sink.old) (S.failures sink.new) result }
     ensures same { KeepsLengths buffers.old buffers.new }
 {
-    accepted();
-    counts();
+    record_laws::accepted_configuration_is_in_range();
+    range_laws::each_step_is_one_or_zero();
     let frame = Frame::new(checked, payload);
     let mut first = None;
     for row in 0..frame.grid.rows() {
@@ -174,16 +180,11 @@ fn cut_payload<A: Allocator, B: Allocator>(
         × (cut_of checked.now.configuration payload.now ≡ Err c) × (f ≡ cut_fault c)) }
     ensures own { IfErr result IsOwn }
     ensures room { spans.new.room ≡ 1025 }
+    ensures capacity { spans.new.capacity ≡ spans.old.capacity }
 {
     match cut(checked, payload, spans) {
         Ok(()) => Ok(()),
-        Err(refused) => Err(FrameFault {
-            fault: codec_fault(refused.fault),
-            slice: refused.slice,
-            plane: 0,
-            line: 0,
-            x: 0,
-        }),
+        Err(refused) => Err(FrameFault::in_slice(codec_fault(refused.fault), refused.slice)),
     }
 }
 
@@ -196,6 +197,7 @@ impl<A: Allocator + Copy> FrameDecoder<A> {
           accepted = checked;
           tally = no_tally;
           held = held_of checked.configuration;
+          capacities = d.capacities;
         }) }
         ensures err { IfErr result (λ f. f ≡ fault.OutOfMemory) }
     {
@@ -269,7 +271,8 @@ impl<A: Allocator> FrameDecoder<A> {
     /// from 0, `y` from the top of the plane, its samples as bytes: one each at 8 bits, and two at
     /// more, the low byte first. In RCT a line is handed over as red, green, blue and transparency,
     /// else the planes come one after the other in each row of slices. What earlier calls left
-    /// plays no part. It takes no memory.
+    /// plays no part. It takes no memory and gives none back, whatever it answers: length and
+    /// capacity of each of the five vectors stay.
     ///
     /// It is Ok exactly where the payload codes a picture and the sink takes its lines. The fault
     /// is the first in that order, with its place: `Footer`, `Leftover`, `SliceParity` or
@@ -310,11 +313,11 @@ impl<A: Allocator> FrameDecoder<A> {
         ensures handed { HandsFinishes S.takes S.refuses self.old.accepted payload.now sink.old
             sink.new }
     {
-        headline::<S>();
-        frame_lengths();
-        damaged::<S>();
-        cost_of_frame::<S>();
-        handed_lines::<S>();
+        laws::answer::headline_holds_for_each_answer::<S>();
+        laws::frame_length_follows_from_residuals();
+        laws::answer::damage_is_found_by_parity::<S>();
+        laws::answer::frame_cost_is_near_its_weight::<S>();
+        laws::answer::sink_is_handed_only_coded_lines::<S>();
         let _table = self.checked.table();
         self.decode_held(payload, sink)
     }

@@ -12,10 +12,10 @@ ghost use Rattle.ffv1_codec.specs.Internal.Progress.{StandsIn, Handed, RefusedIn
 ghost use Rattle.ffv1_codec.specs.OwnFaults.{CountsSink};
 
 use crate::decode::column::Column;
-use crate::decode::parts::{CodedLine, Frame};
+use crate::decode::parts::{CodedLine, Frame, Segment};
 use crate::fault::{CodecFault, FrameFault};
-use crate::places::places;
-use ffv1_record::laws::accepted;
+use crate::places;
+use ffv1_record::laws as record_laws;
 use ffv1_wire::LineSink;
 use std::alloc::Allocator;
 
@@ -40,19 +40,22 @@ fn hand_line<A: Allocator, S: LineSink>(
         sink.new) }
     ensures counted { CountsSink (S.failures sink.old) (S.failures sink.new) result }
 {
-    places();
-    accepted();
+    places::slices_lie_beside_one_another();
+    record_laws::accepted_configuration_is_in_range();
     let top = frame.grid.top(plane as u32, line.row);
     let y = (top + line.y) as u16;
     match sink.line(plane, y, samples) {
         Ok(()) => Ok(()),
-        Err(_) => Err(FrameFault {
-            fault: CodecFault::Sink,
-            slice: (line.row * frame.grid.columns()) as u16,
-            plane,
-            line: y,
-            x: 0,
-        }),
+        Err(_) => {
+            let segment = Segment {
+                row: line.row,
+                column: 0,
+                plane,
+                index: 0,
+                y: line.y,
+            };
+            Err(frame.fault_in(CodecFault::Sink, &segment, 0))
+        }
     }
 }
 
@@ -83,8 +86,8 @@ pub(crate) fn hand_lines<A: Allocator, S: LineSink>(
         sink.new s) }
     ensures counted { CountsSink (S.failures sink.old) (S.failures sink.new) result }
 {
-    places();
-    accepted();
+    places::slices_lie_beside_one_another();
+    record_laws::accepted_configuration_is_in_range();
     let bytes = frame.grid.sample_bytes();
     let width = bytes * frame.checked.config().width as usize;
     for index in 0..line.count {

@@ -23,12 +23,8 @@ use crate::decode::overread::is_overread;
 use crate::decode::parts::Frame;
 use crate::fault::{CodecFault, FrameFault};
 use crate::info::Info;
-use ffv1_range::RangeDecoder;
-use ffv1_range::laws::{
-    counted_from_nothing, counted_in_parts, empty_list, kept_states, slots, two_parts,
-};
-use ffv1_record::Checked;
-use ffv1_record::laws::accepted;
+use ffv1_range::{RangeDecoder, laws as range_laws};
+use ffv1_record::{Checked, laws as record_laws};
 use ffv1_slice::{SliceFault, SliceHead, Spans, get_head, get_key};
 use std::alloc::Allocator;
 
@@ -66,7 +62,7 @@ fn read_head<A: Allocator>(
     ensures err { IfErr result (HeadRefused checked.now slice decoder.old decoder.new) }
     ensures own { IfErr result (λ f. f ≢ fault.Sink) }
 {
-    counted_in_parts();
+    range_laws::counters_go_on_by_both_parts();
     match get_key(decoder, checked, slice) {
         Ok(()) => {}
         Err(fault) => return Err(codec_fault(fault)),
@@ -127,11 +123,11 @@ fn open_column<A: Allocator, B: Allocator>(
         frame.now.checked.now.configuration.sets column.new) }
     ensures own { IfErr result (λ f. f ≢ fault.Sink) }
 {
-    kept_states();
-    two_parts();
-    slots();
-    empty_list();
-    counted_from_nothing();
+    range_laws::array_states_follow_the_history();
+    range_laws::decisions_of_two_parts_join();
+    range_laws::symbols_stay_in_their_slots();
+    range_laws::good_start_codes_the_empty_list();
+    range_laws::counters_from_zero_show_all_steps();
     let (begin, end) = spans.span(slice as usize).unwrap();
     let Ok(mut decoder) = RangeDecoder::new(&frame.payload[begin..end]) else {
         return Err(CodecFault::BadStart);
@@ -178,18 +174,12 @@ pub(crate) fn open_row<A: Allocator, B: Allocator>(
     ensures known { OnOk result (IsSome first.new) }
     ensures own { IfErr result IsOwn }
 {
-    accepted();
-    counted_from_nothing();
+    record_laws::accepted_configuration_is_in_range();
+    range_laws::counters_from_zero_show_all_steps();
     for k in 0..columns.len() {
         let slice = row * columns.len() as u32 + k as u32;
         if let Err(fault) = open_column(frame, spans, slice, &mut columns[k], first) {
-            return Err(FrameFault {
-                fault,
-                slice: slice as u16,
-                plane: 0,
-                line: 0,
-                x: 0,
-            });
+            return Err(FrameFault::in_slice(fault, slice as u16));
         }
     }
     Ok(())

@@ -1,9 +1,12 @@
 //! What stays the same while a frame is decoded.
 
-ghost use Rattle.std.specs.Prelude.{◌≡◌, ◌≤◌};
-ghost use Rattle.ffv1_record.specs.Held.{classes_of};
+ghost use Rattle.std.specs.Prelude.{◌≡◌, ◌≤◌, ◌<◌, ◌^◌};
+ghost use Rattle.ffv1_codec.specs.Decoding.{fault_in};
+ghost use Rattle.ffv1_codec.specs.Order.{lines_down};
 
-use ffv1_record::Checked;
+use crate::fault::{CodecFault, FrameFault};
+use crate::places;
+use ffv1_record::{Checked, laws as record_laws};
 use ffv1_slice::Grid;
 use std::alloc::Allocator;
 
@@ -22,20 +25,6 @@ pub struct Frame<'a, A: Allocator> {
     pub slots: usize,
 }
 
-/// How many classes of planes have states of their own.
-fn classes_of(chroma_planes: bool, extra_plane: bool) -> usize
-    ensures value { result ≡ classes_of chroma_planes extra_plane }
-    ensures few { result ≤ 3 }
-{
-    if extra_plane {
-        return 3;
-    }
-    if chroma_planes {
-        return 2;
-    }
-    1
-}
-
 impl<'a, A: Allocator> Frame<'a, A> {
     ghost use Rattle.ffv1_codec.specs.Internal.Tied.{IsFrame};
 
@@ -47,13 +36,37 @@ impl<'a, A: Allocator> Frame<'a, A> {
     {
         let config = checked.config();
         let most = config.sets.most_contexts() as usize;
-        let classes = classes_of(config.chroma_planes, config.extra_plane);
+        let classes = config.classes();
         Frame {
             checked,
             grid: Grid::of(checked),
             payload,
             most,
             slots: classes * most * 32,
+        }
+    }
+
+    /// A fault of a segment's line, at this column of its plane.
+    pub(crate) fn fault_in(&self, fault: CodecFault, segment: &Segment, x: usize) -> FrameFault
+        requires frame { IsFrame self.now }
+        requires row { segment.now.row < self.now.checked.now.configuration.rows }
+        requires column { segment.now.column < self.now.checked.now.configuration.columns }
+        requires y { segment.now.y < lines_down self.now.checked.now.configuration
+            segment.now.plane segment.now.row }
+        requires x { x < 2 ^ 16 }
+        ensures { result ≡ fault_in self.now.checked.now.configuration fault segment.now.row
+            segment.now.column segment.now.plane segment.now.y x }
+    {
+        places::slices_lie_beside_one_another();
+        record_laws::accepted_configuration_is_in_range();
+        let columns = self.grid.columns() as usize;
+        let top = self.grid.top(segment.plane as u32, segment.row);
+        FrameFault {
+            fault,
+            slice: (segment.row as usize * columns + segment.column) as u16,
+            plane: segment.plane,
+            line: (top + segment.y) as u16,
+            x: x as u16,
         }
     }
 }

@@ -17,7 +17,7 @@ use crate::decode::parts::{CodedLine, Frame, Segment};
 use crate::decode::segment::read_at;
 use crate::fault::FrameFault;
 use crate::line_word::{Above, LineWord};
-use crate::places::places;
+use crate::places;
 use std::alloc::Allocator;
 
 /// Reads a line: in each column, from the left, the segment of each plane.
@@ -70,7 +70,7 @@ pub(crate) fn read_planes<W: LineWord, A: Allocator>(
         columns.new }
     ensures held { AllHeld frame.now.checked.now.table states.new }
 {
-    places();
+    places::slices_lie_beside_one_another();
     let many = columns.len();
     'columns: for column in 0..many {
         'planes: for index in 0..line.count {

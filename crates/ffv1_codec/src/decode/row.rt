@@ -15,7 +15,7 @@ ghost use Rattle.ffv1_codec.specs.Internal.Tied.{TiedColumns, TiedPlanes, row_sl
 ghost use Rattle.ffv1_codec.specs.Internal.Tied.{rolling_lines, plane_group};
 ghost use Rattle.ffv1_codec.specs.Internal.Opened.{IsCutOf, coded_by};
 ghost use Rattle.ffv1_codec.specs.Internal.Buffers.{HoldBits, KeepsSlices, KeepsLengths};
-ghost use Rattle.ffv1_codec.specs.Internal.Buffers.{length_of_lines};
+ghost use Rattle.ffv1_codec.specs.Internal.Buffers.{capacity_of_lines, length_of_lines};
 ghost use Rattle.ffv1_codec.specs.Internal.Finished.{IsTogether};
 ghost use Rattle.ffv1_codec.specs.Internal.Progress.{FailsIn, LineDecoded, SeriesDecoded};
 ghost use Rattle.ffv1_codec.specs.OwnFaults.{CountsSink};
@@ -31,12 +31,10 @@ use crate::decode::plane_lines::read_planes;
 use crate::fault::FrameFault;
 use crate::info::Info;
 use crate::line_word::Above;
-use crate::places::places;
-use ffv1_line::laws::cell_is_read;
-use ffv1_line::reset;
-use ffv1_range::laws::{counted_from_nothing, named_states};
-use ffv1_record::Colour;
-use ffv1_record::laws::{accepted, accepted_parts};
+use crate::places;
+use ffv1_line::{laws as line_laws, reset};
+use ffv1_range::laws as range_laws;
+use ffv1_record::{Colour, laws as record_laws};
 use ffv1_slice::Spans;
 use ffv1_wire::LineSink;
 use std::alloc::Allocator;
@@ -99,9 +97,9 @@ fn decode_whole_line<W: FinishedWord, A: Allocator, S: LineSink>(
     ensures held { OnOk result (AllHeld frame.now.checked.now.table slices.new.states.items) }
     ensures same { KeepsSlices slices.old slices.new }
 {
-    places();
-    accepted();
-    counted_from_nothing();
+    places::slices_lie_beside_one_another();
+    record_laws::accepted_configuration_is_in_range();
+    range_laws::counters_from_zero_show_all_steps();
     read_planes(
         frame,
         line,
@@ -161,10 +159,10 @@ fn decode_series<W: FinishedWord, A: Allocator, S: LineSink>(
     ensures held { OnOk result (AllHeld frame.now.checked.now.table slices.new.states.items) }
     ensures same { KeepsSlices slices.old slices.new }
 {
-    places();
-    accepted();
-    accepted_parts();
-    cell_is_read();
+    places::slices_lie_beside_one_another();
+    record_laws::accepted_configuration_is_in_range();
+    record_laws::accepted_configuration_has_sound_parts();
+    line_laws::reading_its_rows_reads_the_cell();
     W::clear(lines);
     let size = planes.count as usize * frame.checked.config().width as usize;
     let (mut two, rest) = lines.split_at_mut(size);
@@ -230,7 +228,7 @@ fn decode_planes<W: FinishedWord, A: Allocator, S: LineSink>(
     ensures counted { CountsSink (S.failures sink.old) (S.failures sink.new) result }
     ensures same { KeepsSlices slices.old slices.new }
 {
-    accepted_parts();
+    record_laws::accepted_configuration_has_sound_parts();
     let planes = frame.grid.planes() as u8;
     match frame.checked.config().colour {
         Colour::Rct => {
@@ -296,6 +294,7 @@ fn decode_lines<A: Allocator, S: LineSink>(
     ensures counted { CountsSink (S.failures sink.old) (S.failures sink.new) result }
     ensures same { KeepsSlices slices.old slices.new }
     ensures long { length_of_lines lines.new ≡ length_of_lines lines.old }
+    ensures capacity { capacity_of_lines lines.new ≡ capacity_of_lines lines.old }
     ensures words { (bits : ℕ) → HoldBits lines.old bits → HoldBits lines.new bits }
 {
     match lines {
@@ -345,9 +344,9 @@ pub(crate) fn decode_row<A: Allocator, B: Allocator, S: LineSink>(
     ensures counted { CountsSink (S.failures sink.old) (S.failures sink.new) result }
     ensures same { KeepsLengths buffers.old buffers.new }
 {
-    named_states();
-    accepted_parts();
-    counted_from_nothing();
+    range_laws::each_decision_has_a_state();
+    record_laws::accepted_configuration_has_sound_parts();
+    range_laws::counters_from_zero_show_all_steps();
     reset(&mut buffers.slices.states);
     open_row(frame, spans, row, &mut buffers.slices.columns, first)?;
     let Buffers { slices, lines, out } = buffers;

@@ -10,7 +10,7 @@ ghost use Rattle.ffv1_codec.specs.SliceList.{class_of, base_of, bits_of, set_at}
 ghost use Rattle.ffv1_codec.specs.OwnFaults.{IsOwn};
 ghost use Rattle.ffv1_codec.specs.Order.{lines_down};
 ghost use Rattle.ffv1_codec.specs.Order.Event.{Read};
-ghost use Rattle.ffv1_codec.specs.Decoding.{State, left_of, width_in, top_of, slice_number};
+ghost use Rattle.ffv1_codec.specs.Decoding.{State, fault_in, left_of, width_in, slice_number};
 ghost use Rattle.ffv1_codec.specs.Internal.Stands.{Stands, SegmentRead, SegmentRefused, window};
 ghost use Rattle.ffv1_codec.specs.Internal.Tied.{KeepsBeside, IsFrame, IsOpen, AreOpen, bytes_in};
 ghost use Rattle.ffv1_codec.specs.Internal.Tied.{slots_in, TiedColumns, TiedLine, SegmentMade};
@@ -18,19 +18,16 @@ ghost use Rattle.ffv1_codec.specs.Internal.Tied.{StepMade, Stopped, overread_in,
 ghost use Rattle.ffv1_codec.specs.Internal.Tied.{rolling_lines};
 ghost use Rattle.ffv1_line.specs.Coding.{coding_by};
 
+use crate::class::class_of;
 use crate::decode::column::Column;
 use crate::decode::overread::is_overread;
 use crate::decode::parts::{Frame, Segment};
 use crate::fault::{CodecFault, FrameFault};
 use crate::line_word::{Above, LineCoding, LineWord, bits_of};
-use crate::places::places;
-use ffv1_line::TooLong;
-use ffv1_line::laws::{cell_is_read, samples_below, slots};
-use ffv1_range::laws::{
-    counted_from_nothing, counted_in_parts, kept_states, read_is_coded, two_parts,
-};
-use ffv1_range::{Parked, laws as coding};
-use ffv1_record::laws::{accepted, accepted_parts};
+use crate::places;
+use ffv1_line::{TooLong, laws as line_laws};
+use ffv1_range::{Parked, laws as range_laws};
+use ffv1_record::laws as record_laws;
 use std::alloc::Allocator;
 
 /// Reads a segment: wakes a decoder on the bytes of its slice, decodes a row by the states of its
@@ -68,33 +65,20 @@ fn read_segment<W: LineWord, B: Allocator>(
     ensures open { IsSome parked.new }
     ensures held { AllHeld coding.now.table.now states.new }
 {
-    kept_states();
-    two_parts();
-    read_is_coded();
-    counted_in_parts();
-    counted_from_nothing();
-    slots();
-    coding::slots();
-    samples_below();
+    range_laws::array_states_follow_the_history();
+    range_laws::decisions_of_two_parts_join();
+    range_laws::read_bytes_code_what_was_read();
+    range_laws::counters_go_on_by_both_parts();
+    range_laws::counters_from_zero_show_all_steps();
+    line_laws::row_slots_are_the_contexts_slots();
+    range_laws::symbols_stay_in_their_slots();
+    line_laws::read_samples_fit_their_bits();
     let set = coding.set;
-    set.bounded();
+    set.is_a_bounded_set();
     let mut decoder = parked.take().unwrap().wake(bytes);
     let read = W::decode(&mut decoder, coding, states, above, cur);
     *parked = Some(decoder.park());
     read
-}
-
-/// The class of a plane's states.
-fn class_of(plane: u8) -> usize
-    ensures value { result ≡ class_of plane }
-    ensures few { result < 3 }
-{
-    match plane {
-        0 => 0,
-        1 => 1,
-        2 => 1,
-        _ => 2,
-    }
 }
 
 /// Reads a segment of a plane, by the states of its slice.
@@ -136,10 +120,10 @@ fn read_column<W: LineWord, A: Allocator>(
     ensures same { column.new ≡ record column.old { parked = column.new.parked } }
     ensures held { AllHeld frame.now.checked.now.table states.new }
 {
-    kept_states();
-    accepted_parts();
+    range_laws::array_states_follow_the_history();
+    record_laws::accepted_configuration_has_sound_parts();
     let config = frame.checked.config();
-    let class = class_of(plane);
+    let class = class_of(plane as u32);
     let set = config.sets.get(usize::from(column.indexes[class]));
     let at = class * frame.most * 32;
     let end = at + set.contexts() as usize * 32;
@@ -172,8 +156,8 @@ fn extent<A: Allocator>(frame: &Frame<'_, A>, segment: &Segment) -> (usize, usiz
     ensures inside { result.1 ≤ segment.now.index * frame.now.checked.now.configuration.width
         + frame.now.checked.now.configuration.width }
 {
-    places();
-    accepted();
+    places::slices_lie_beside_one_another();
+    record_laws::accepted_configuration_is_in_range();
     let plane = segment.plane as u32;
     let k = segment.column as u32;
     let offset = segment.index as usize * frame.checked.config().width as usize;
@@ -191,27 +175,14 @@ fn refusal<A: Allocator>(frame: &Frame<'_, A>, segment: &Segment, x: usize) -> F
         segment.now.plane segment.now.row }
     requires x { x < width_in frame.now.checked.now.configuration segment.now.plane
         segment.now.column }
-    ensures { result ≡ record {
-      fault = CodecFault.SymbolTooLong;
-      slice = slice_number frame.now.checked.now.configuration segment.now.row segment.now.column;
-      plane = segment.now.plane;
-      line = top_of frame.now.checked.now.configuration segment.now.plane segment.now.row
-          + segment.now.y;
-      x = left_of frame.now.checked.now.configuration segment.now.plane segment.now.column + x;
-    } }
+    ensures { result ≡ fault_in frame.now.checked.now.configuration CodecFault.SymbolTooLong
+        segment.now.row segment.now.column segment.now.plane segment.now.y
+        (left_of frame.now.checked.now.configuration segment.now.plane segment.now.column + x) }
 {
-    places();
-    accepted();
-    let plane = segment.plane as u32;
-    let left = frame.grid.left(plane, segment.column as u32) as usize;
-    let top = frame.grid.top(plane, segment.row);
-    FrameFault {
-        fault: CodecFault::SymbolTooLong,
-        slice: (segment.row as usize * frame.grid.columns() as usize + segment.column) as u16,
-        plane: segment.plane,
-        line: (top + segment.y) as u16,
-        x: (left + x) as u16,
-    }
+    places::slices_lie_beside_one_another();
+    record_laws::accepted_configuration_is_in_range();
+    let left = frame.grid.left(segment.plane as u32, segment.column as u32);
+    frame.fault_in(CodecFault::SymbolTooLong, segment, left as usize + x)
 }
 
 /// Reads a segment into its place of a line. How far its slice was read is not looked at.
@@ -266,11 +237,11 @@ fn read_on<W: LineWord, A: Allocator>(
         columns.new }
     ensures held { AllHeld frame.now.checked.now.table states.new }
 {
-    accepted();
-    accepted_parts();
-    cell_is_read();
-    counted_from_nothing();
-    places();
+    record_laws::accepted_configuration_is_in_range();
+    record_laws::accepted_configuration_has_sound_parts();
+    line_laws::reading_its_rows_reads_the_cell();
+    range_laws::counters_from_zero_show_all_steps();
+    places::slices_lie_beside_one_another();
     let (left, right) = extent(frame, segment);
     let k = segment.column;
     let at = k * frame.slots;
@@ -288,29 +259,6 @@ fn read_on<W: LineWord, A: Allocator>(
     ) {
         Ok(()) => Ok(()),
         Err(refused) => Err(refusal(frame, segment, refused.x)),
-    }
-}
-
-/// The fault of a segment whose slice was read too far.
-fn overread<A: Allocator>(frame: &Frame<'_, A>, segment: &Segment) -> FrameFault
-    requires frame { IsFrame frame.now }
-    requires row { segment.now.row < frame.now.checked.now.configuration.rows }
-    requires column { segment.now.column < frame.now.checked.now.configuration.columns }
-    requires y { segment.now.y < lines_down frame.now.checked.now.configuration
-        segment.now.plane segment.now.row }
-    ensures value { result ≡ overread_in frame.now.checked.now.configuration segment.now.row
-        segment.now.column segment.now.plane segment.now.y }
-    ensures own { IsOwn result }
-{
-    places();
-    accepted();
-    let top = frame.grid.top(segment.plane as u32, segment.row);
-    FrameFault {
-        fault: CodecFault::Overread,
-        slice: (segment.row as usize * frame.grid.columns() as usize + segment.column) as u16,
-        plane: segment.plane,
-        line: (top + segment.y) as u16,
-        x: 0,
     }
 }
 
@@ -366,10 +314,10 @@ pub(crate) fn read_at<W: LineWord, A: Allocator>(
         columns.new }
     ensures held { AllHeld frame.now.checked.now.table states.new }
 {
-    counted_from_nothing();
+    range_laws::counters_from_zero_show_all_steps();
     read_on(frame, segment, columns, states, above, cur)?;
     if is_overread(frame, &columns[segment.column]) {
-        return Err(overread(frame, segment));
+        return Err(frame.fault_in(CodecFault::Overread, segment, 0));
     }
     Ok(())
 }

@@ -186,7 +186,7 @@ impl<A: Allocator> LineSink for KeepLines<A> {
 
 /// A line that is kept stands in its place, every other line of every plane is as it was, and the
 /// planes keep their sizes.
-pub fn kept_lines()
+pub fn kept_line_stands_in_its_place()
     ensures here { (s t : Kept) (p y : ℕ) (samples : List ℕ) → AreOf s.grid s.planes →
         Keeps s p y samples t →
         row_in (sample_bytes s.grid.depth * whole_of (across s.grid p)) y (plane t.planes p)

@@ -10,14 +10,14 @@ ghost use Rattle.ffv1_codec.specs.Picture.{sample_at};
 ghost use Rattle.ffv1_codec.specs.SliceList.{bits_of};
 ghost use Rattle.ffv1_codec.specs.Internal.CellRows.{Rolled, Loaded, AllRolled, AllLoaded};
 ghost use Rattle.ffv1_codec.specs.Internal.CellRows.{colour_rows, ColoursRolled, ColoursLoaded};
+ghost use Rattle.ffv1_codec.specs.Internal.Scratch.{capacity_of_planes, capacity_of_rows};
 
 use crate::encode::slice::Slice;
 use crate::line_word::LineWord;
 use crate::places_of_colours::{blue_of, green_of};
-use ffv1_line::laws::rolling;
-use ffv1_line::{RollingRows, Word};
+use ffv1_line::{RollingRows, Word, laws as line_laws};
 use ffv1_rct::{forward_line, forward_wide, forward_words};
-use ffv1_record::laws::{accepted, accepted_parts};
+use ffv1_record::laws as record_laws;
 use std::alloc::{AllocError, Allocator};
 
 /// The rolling rows of the planes that are coded line by line together: one plane after the other
@@ -31,7 +31,9 @@ pub(crate) struct PlaneRows<W: Word, A: Allocator> {
 }
 
 /// Rows of no width. They take no memory.
-fn no_rows<W: Word, A: Allocator + Copy>(alloc: A) -> RollingRows<Vec<W, A>> {
+fn no_rows<W: Word, A: Allocator + Copy>(alloc: A) -> RollingRows<Vec<W, A>>
+    ensures { capacity_of_rows result ≡ 0 }
+{
     RollingRows {
         two: Vec::new(alloc),
         one: Vec::new(alloc),
@@ -42,11 +44,12 @@ fn no_rows<W: Word, A: Allocator + Copy>(alloc: A) -> RollingRows<Vec<W, A>> {
 impl<W: Word, A: Allocator> PlaneRows<W, A> {
     /// Goes on to the next row of each plane.
     pub(crate) fn turn(&mut self)
-        ensures { (c : Configuration) (planes : Planes) (n y : ℕ) →
+        ensures rolled { (c : Configuration) (planes : Planes) (n y : ℕ) →
             AllLoaded W.samples c planes n y self.old →
             AllRolled W.samples c planes n (y + 1) self.new }
+        ensures capacity { capacity_of_planes self.new ≡ capacity_of_planes self.old }
     {
-        rolling();
+        line_laws::rows_above_roll_down_the_cell();
         self.first.turn();
         self.second.turn();
         self.third.turn();
@@ -56,7 +59,9 @@ impl<W: Word, A: Allocator> PlaneRows<W, A> {
 
 impl<W: Word, A: Allocator + Copy> PlaneRows<W, A> {
     /// Rows of no width. They take no memory.
-    pub(crate) fn new(alloc: A) -> PlaneRows<W, A> {
+    pub(crate) fn new(alloc: A) -> PlaneRows<W, A>
+        ensures { capacity_of_planes result ≡ 0 }
+    {
         PlaneRows {
             first: no_rows(alloc),
             second: no_rows(alloc),
@@ -89,11 +94,12 @@ fn restart_transparency<W: LineWord, R: Allocator, A: Allocator, B: Allocator>(
     rows: &mut RollingRows<Vec<W, R>>,
     slice: &Slice<'_, A, B>,
 ) -> Result<(), AllocError>
-    ensures { OnOk result (slice.now.checked.now.configuration.extra_plane ≡ true →
+    ensures rolled { OnOk result (slice.now.checked.now.configuration.extra_plane ≡ true →
         Rolled W.samples (cell_in slice.now.checked.now.configuration slice.now.picture.now
         slice.now.number 3) 0 rows.new) }
+    ensures capacity { capacity_of_rows rows.old ≤ capacity_of_rows rows.new }
 {
-    rolling();
+    line_laws::rows_above_roll_down_the_cell();
     if slice.checked.config().extra_plane {
         restart(rows, slice.cell(3).width as usize)?;
     }
@@ -105,10 +111,11 @@ pub(crate) fn restart_all<W: LineWord, R: Allocator, A: Allocator, B: Allocator>
     rows: &mut PlaneRows<W, R>,
     slice: &Slice<'_, A, B>,
 ) -> Result<(), AllocError>
-    ensures { OnOk result (AllRolled W.samples slice.now.checked.now.configuration
+    ensures rolled { OnOk result (AllRolled W.samples slice.now.checked.now.configuration
         slice.now.picture.now slice.now.number 0 rows.new) }
+    ensures capacity { capacity_of_planes rows.old ≤ capacity_of_planes rows.new }
 {
-    rolling();
+    line_laws::rows_above_roll_down_the_cell();
     restart(&mut rows.first, slice.cell(0).width as usize)?;
     restart(&mut rows.second, slice.cell(1).width as usize)?;
     restart(&mut rows.third, slice.cell(2).width as usize)?;
@@ -154,7 +161,8 @@ fn widen_to<W: LineWord>(depth: u32, samples: &[u8], row: &mut [W])
 /// The same into a row that is kept.
 fn fill<W: LineWord, R: Allocator>(depth: u32, samples: &[u8], row: &mut Vec<W, R>)
     requires { length samples.now ≡ sample_bytes depth * length row.old.items }
-    ensures { W.samples row.new.items ≡ samples_of depth samples.now }
+    ensures filled { W.samples row.new.items ≡ samples_of depth samples.now }
+    ensures capacity { vec_capacity row.new ≡ vec_capacity row.old }
 {
     widen_to(depth, samples, row.as_mut_slice());
 }
@@ -178,6 +186,9 @@ fn transform<R: Allocator>(
     ensures y { length y.new.items ≡ length red.now }
     ensures cb { length cb.new.items ≡ length red.now }
     ensures cr { length cr.new.items ≡ length red.now }
+    ensures y_capacity { vec_capacity y.new ≡ vec_capacity y.old }
+    ensures cb_capacity { vec_capacity cb.new ≡ vec_capacity cb.old }
+    ensures cr_capacity { vec_capacity cr.new ≡ vec_capacity cr.old }
 {
     forward_line(
         red,
@@ -252,6 +263,9 @@ fn transform_words<W: RowWord, R: Allocator>(
     ensures y { length (W.samples first.new.items) ≡ length (W.samples first.old.items) }
     ensures cb { length (W.samples second.new.items) ≡ length (W.samples first.old.items) }
     ensures cr { length (W.samples third.new.items) ≡ length (W.samples first.old.items) }
+    ensures y_capacity { vec_capacity first.new ≡ vec_capacity first.old }
+    ensures cb_capacity { vec_capacity second.new ≡ vec_capacity second.old }
+    ensures cr_capacity { vec_capacity third.new ≡ vec_capacity third.old }
 {
     W::transform(
         depth,
@@ -276,9 +290,10 @@ pub(crate) fn load<W: LineWord, R: Allocator, A: Allocator, B: Allocator>(
     requires rolled { Rolled W.samples
         (cell_in slice.now.checked.now.configuration slice.now.picture.now slice.now.number plane) y
         rows.old }
-    ensures { Loaded W.samples
+    ensures loaded { Loaded W.samples
         (cell_in slice.now.checked.now.configuration slice.now.picture.now slice.now.number plane) y
         rows.new }
+    ensures capacity { capacity_of_rows rows.new ≡ capacity_of_rows rows.old }
 {
     fill(slice.checked.depth(), slice.line(plane, y), &mut rows.cur);
 }
@@ -293,9 +308,10 @@ fn load_transparency<W: LineWord, R: Allocator, A: Allocator, B: Allocator>(
     requires rolled { slice.now.checked.now.configuration.extra_plane ≡ true →
         Rolled W.samples (cell_in slice.now.checked.now.configuration slice.now.picture.now
         slice.now.number 3) y rows.old }
-    ensures { slice.now.checked.now.configuration.extra_plane ≡ true →
+    ensures loaded { slice.now.checked.now.configuration.extra_plane ≡ true →
         Loaded W.samples (cell_in slice.now.checked.now.configuration slice.now.picture.now
         slice.now.number 3) y rows.new }
+    ensures capacity { capacity_of_rows rows.new ≡ capacity_of_rows rows.old }
 {
     if slice.checked.config().extra_plane {
         load(rows, slice, 3, y);
@@ -315,10 +331,13 @@ fn load_bytes<R: Allocator, A: Allocator, B: Allocator>(
     requires inside { y < cell_height slice.now.checked.now.configuration slice.now.number 0 }
     requires rolled { ColoursRolled ⟦<u16 as Word>⟧.samples slice.now.checked.now.configuration
         slice.now.picture.now slice.now.number y (colour_rows first.old second.old third.old) }
-    ensures { ColoursLoaded ⟦<u16 as Word>⟧.samples slice.now.checked.now.configuration
+    ensures loaded { ColoursLoaded ⟦<u16 as Word>⟧.samples slice.now.checked.now.configuration
         slice.now.picture.now slice.now.number y (colour_rows first.new second.new third.new) }
+    ensures first { capacity_of_rows first.new ≡ capacity_of_rows first.old }
+    ensures second { capacity_of_rows second.new ≡ capacity_of_rows second.old }
+    ensures third { capacity_of_rows third.new ≡ capacity_of_rows third.old }
 {
-    accepted_parts();
+    record_laws::accepted_configuration_has_sound_parts();
     let _config = slice.checked.config();
     transform(
         slice.line(0, y),
@@ -343,10 +362,13 @@ fn load_words<W: RowWord, R: Allocator, A: Allocator, B: Allocator>(
     requires inside { y < cell_height slice.now.checked.now.configuration slice.now.number 0 }
     requires rolled { ColoursRolled W.samples slice.now.checked.now.configuration
         slice.now.picture.now slice.now.number y (colour_rows first.old second.old third.old) }
-    ensures { ColoursLoaded W.samples slice.now.checked.now.configuration slice.now.picture.now
-        slice.now.number y (colour_rows first.new second.new third.new) }
+    ensures loaded { ColoursLoaded W.samples slice.now.checked.now.configuration
+        slice.now.picture.now slice.now.number y (colour_rows first.new second.new third.new) }
+    ensures first { capacity_of_rows first.new ≡ capacity_of_rows first.old }
+    ensures second { capacity_of_rows second.new ≡ capacity_of_rows second.old }
+    ensures third { capacity_of_rows third.new ≡ capacity_of_rows third.old }
 {
-    accepted_parts();
+    record_laws::accepted_configuration_has_sound_parts();
     let _config = slice.checked.config();
     let depth = slice.checked.depth();
     let green = green_of(slice.checked);
@@ -372,8 +394,11 @@ pub(crate) trait ColourWord: RowWord {
         requires inside { y < cell_height slice.now.checked.now.configuration slice.now.number 0 }
         requires rolled { ColoursRolled Self.samples slice.now.checked.now.configuration
             slice.now.picture.now slice.now.number y (colour_rows first.old second.old third.old) }
-        ensures { ColoursLoaded Self.samples slice.now.checked.now.configuration
-            slice.now.picture.now slice.now.number y (colour_rows first.new second.new third.new) };
+        ensures loaded { ColoursLoaded Self.samples slice.now.checked.now.configuration
+            slice.now.picture.now slice.now.number y (colour_rows first.new second.new third.new) }
+        ensures first { capacity_of_rows first.new ≡ capacity_of_rows first.old }
+        ensures second { capacity_of_rows second.new ≡ capacity_of_rows second.old }
+        ensures third { capacity_of_rows third.new ≡ capacity_of_rows third.old };
 }
 
 impl ColourWord for u16 {
@@ -414,8 +439,9 @@ pub(crate) fn load_all<W: ColourWord, R: Allocator, A: Allocator, B: Allocator>(
     requires inside { y < cell_height slice.now.checked.now.configuration slice.now.number 0 }
     requires rolled { AllRolled W.samples slice.now.checked.now.configuration slice.now.picture.now
         slice.now.number y rows.old }
-    ensures { AllLoaded W.samples slice.now.checked.now.configuration slice.now.picture.now
-        slice.now.number y rows.new }
+    ensures loaded { AllLoaded W.samples slice.now.checked.now.configuration
+        slice.now.picture.now slice.now.number y rows.new }
+    ensures capacity { capacity_of_planes rows.new ≡ capacity_of_planes rows.old }
 {
     W::load_colours(&mut rows.first, &mut rows.second, &mut rows.third, slice, y);
     load_transparency(&mut rows.fourth, slice, y);

@@ -8,14 +8,16 @@ ghost use Rattle.ffv1_codec.specs.Picture.{Fits};
 ghost use Rattle.ffv1_codec.specs.Frame.{slice_bytes, frame_of, CodesPicture, HasLongSlice};
 ghost use Rattle.ffv1_codec.specs.Length.{slice_counts, slice_renormalisations, frame_counts};
 ghost use Rattle.ffv1_codec.specs.Length.{frame_most, uncounted};
+ghost use Rattle.ffv1_codec.specs.Length.{KeepsCapacities, no_capacities};
 ghost use Rattle.ffv1_codec.specs.Frame.{sealed_slice};
+ghost use Rattle.ffv1_codec.specs.Internal.Scratch.{capacities_of};
 
 use crate::encode::frame_counts::FrameCounts;
 use crate::encode::slice::Slice;
 use crate::encode::slice_bytes::{Scratch, code_slice};
 use crate::fault::CodecFault;
 use crate::info::Info;
-use crate::laws::{encoded_frame, frame_lengths, slice_lengths};
+use crate::laws;
 use crate::picture::Picture;
 use ffv1_record::Checked;
 use ffv1_slice::{Grid, SliceFault, footer};
@@ -65,6 +67,7 @@ fn add_slice<R: Allocator + Copy, A: Allocator, B: Allocator>(
         ⊎ ((f ≡ fault.SliceTooLong) × (16777215 < length (slice_bytes slice.now.checked.now
         slice.now.picture.now slice.now.info slice.now.number)))) }
     ensures room { vec_capacity scratch.old.states ≤ vec_capacity scratch.new.states }
+    ensures capacity { KeepsCapacities (capacities_of scratch.old) (capacities_of scratch.new) }
 {
     let coded = code_slice(alloc, scratch, slice)?;
     let bytes = coded.bytes.as_slice();
@@ -92,8 +95,9 @@ fn put_slices<R: Allocator + Copy, A: Allocator, B: Allocator>(
     ensures err { IfErr result (λ f. (f ≡ fault.OutOfMemory)
         ⊎ ((f ≡ fault.SliceTooLong) × HasLongSlice checked.now picture.now info)) }
     ensures room { vec_capacity scratch.old.states ≤ vec_capacity scratch.new.states }
+    ensures capacity { KeepsCapacities (capacities_of scratch.old) (capacities_of scratch.new) }
 {
-    slice_lengths();
+    laws::slice_length_follows_from_residuals();
     let _table = checked.table();
     let mut decisions = 0;
     let mut renormalisations = 0;
@@ -117,8 +121,9 @@ fn put_slices<R: Allocator + Copy, A: Allocator, B: Allocator>(
 /// An encoder of the pictures of a configuration. What one frame took of memory is kept for the
 /// next; nothing else is.
 ///
-/// It is seen as an `Encoding`: the configuration with its table, and the counts of the last frame
-/// that was answered.
+/// It is seen as an `Encoding`: the configuration with its table, the counts of the last frame that
+/// was answered, and for how many states it has memory, and for how many samples in rows of words
+/// of 16 bits, and of 32.
 #[derive(Drop)]
 pub struct FrameEncoder<A: Allocator = Global> {
     checked: Checked<A>,
@@ -129,16 +134,25 @@ pub struct FrameEncoder<A: Allocator = Global> {
 
 impl<A: Allocator> Model for FrameEncoder<A> {
     ghost use Rattle.ffv1_codec.specs.Length.{Encoding};
+    ghost use Rattle.ffv1_codec.specs.Internal.Scratch.{capacities_of};
 
     ghost Value = { Encoding };
 
-    ghost view = { λ e. record { accepted = e.checked; counts = e.counts } };
+    ghost view = { λ e. record {
+      accepted = e.checked;
+      counts = e.counts;
+      capacities = capacities_of e.scratch;
+    } };
 }
 
 impl<A: Allocator + Copy> FrameEncoder<A> {
-    /// An encoder of pictures of a configuration. It takes no memory.
+    /// An encoder of pictures of a configuration. It takes no memory, and has none yet.
     pub fn new(alloc: A, checked: Checked<A>) -> FrameEncoder<A>
-        ensures { result ≡ record { accepted = checked; counts = uncounted } }
+        ensures { result ≡ record {
+          accepted = checked;
+          counts = uncounted;
+          capacities = no_capacities;
+        } }
     {
         FrameEncoder {
             checked,
@@ -176,7 +190,9 @@ impl<A: Allocator + Copy> FrameEncoder<A> {
     ///
     /// Answers `SliceTooLong` only where a slice has more than 16777215 coded bytes, and there
     /// never `Ok`; else `OutOfMemory`, where memory was refused: each frame takes some. Either
-    /// leaves the counts. Whatever was answered, the next frame is as a new encoder's.
+    /// leaves the counts. Whatever was answered, the next frame is as a new encoder's, and what was
+    /// taken for states, and for rows of words of 16 bits and of 32, is kept for it: of none of the
+    /// three there is less than before.
     pub fn encode<B: Allocator>(
         &mut self,
         picture: &Picture<B>,
@@ -194,6 +210,7 @@ impl<A: Allocator + Copy> FrameEncoder<A> {
         ensures counts { OnOk result (self.new.counts ≡
             frame_counts self.old.accepted picture.now info) }
         ensures kept { OnErr result (self.new.counts ≡ self.old.counts) }
+        ensures capacity { KeepsCapacities self.old.capacities self.new.capacities }
         ensures coded { OnOk result ((n : ℕ) →
             length (slice_bytes self.old.accepted picture.now info n) ≡
             slice_renormalisations self.old.accepted picture.now info n + 1) }
@@ -204,9 +221,9 @@ impl<A: Allocator + Copy> FrameEncoder<A> {
         ensures most { IfOk result (λ bytes. length bytes.items ≤
             frame_most self.old.accepted.configuration picture.now info) }
     {
-        encoded_frame();
-        slice_lengths();
-        frame_lengths();
+        laws::encoded_frame_codes_its_picture();
+        laws::slice_length_follows_from_residuals();
+        laws::frame_length_follows_from_residuals();
         let _planes = picture.planes();
         let _table = self.checked.table();
         let _structure = info.structure();

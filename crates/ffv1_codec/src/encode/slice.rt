@@ -9,12 +9,10 @@ ghost use Rattle.ffv1_codec.specs.SliceList.{chosen_head};
 ghost use Rattle.ffv1_codec.specs.Internal.CellRows.{IsLine};
 
 use crate::info::Info;
-use crate::laws::chosen_slices;
+use crate::laws;
 use crate::picture::Picture;
-use ffv1_record::laws::accepted;
-use ffv1_record::{Checked, Sets};
-use ffv1_slice::laws::{divided, parts, tiling};
-use ffv1_slice::{Cell, Grid, SliceHead};
+use ffv1_record::{Checked, Sets, laws as record_laws};
+use ffv1_slice::{Cell, Grid, SliceHead, laws as slice_laws};
 use std::alloc::Allocator;
 
 /// The set of a class of planes: that of its number, or the last one.
@@ -59,9 +57,9 @@ impl<'a, A: Allocator, B: Allocator> Slice<'a, A, B> {
             cell_height self.now.checked.now.configuration self.now.number plane }
         ensures some { 0 < result.width }
     {
-        divided();
-        tiling();
-        parts();
+        slice_laws::accepted_pictures_are_divided();
+        slice_laws::cells_tile_their_plane();
+        slice_laws::parts_follow_one_another();
         Grid::of(self.checked).cell(plane, self.number)
     }
 
@@ -72,8 +70,8 @@ impl<'a, A: Allocator, B: Allocator> Slice<'a, A, B> {
         ensures head { IsHead self.now.checked.now.profile
             self.now.checked.now.configuration result }
     {
-        accepted();
-        chosen_slices();
+        record_laws::accepted_configuration_is_in_range();
+        laws::chosen_slices_suit_their_picture();
         let config = self.checked.config();
         let third = if config.extra_plane {
             index_of(&config.sets, 2)
@@ -102,9 +100,9 @@ impl<'a, A: Allocator, B: Allocator> Slice<'a, A, B> {
         ensures small { AreBelow (2 ^ self.now.checked.now.configuration.depth)
             (samples_of self.now.checked.now.configuration.depth result.now) }
     {
-        divided();
-        tiling();
-        parts();
+        slice_laws::accepted_pictures_are_divided();
+        slice_laws::cells_tile_their_plane();
+        slice_laws::parts_follow_one_another();
         let grid = Grid::of(self.checked);
         let cell = grid.cell(plane, self.number);
         let samples = self.picture.planes()[plane as usize].as_slice();

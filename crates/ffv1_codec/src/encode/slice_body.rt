@@ -15,41 +15,18 @@ ghost use Rattle.ffv1_codec.specs.SliceList.{lines_of_plane, planes_of_line, lin
 ghost use Rattle.ffv1_codec.specs.Internal.HasPut.{PutsAfter, PutsSamples, states_in};
 ghost use Rattle.ffv1_codec.specs.Internal.CellRows.{Loaded, AllRolled, AllLoaded};
 ghost use Rattle.ffv1_codec.specs.Internal.CellRows.{fourth_line};
+ghost use Rattle.ffv1_codec.specs.Internal.Scratch.{capacity_of_planes, capacity_of_rows};
 
+use crate::class::class_of;
 use crate::encode::cell_rows::{ColourWord, PlaneRows, load, load_all, restart, restart_all};
 use crate::encode::slice::{Slice, index_of};
 use crate::fault::CodecFault;
 use crate::line_word::{Above, LineCoding, LineWord, bits_of};
-use ffv1_line::RollingRows;
-use ffv1_line::laws::{rolling, slots};
-use ffv1_range::RangeEncoder;
-use ffv1_range::laws::{counted_in_parts, kept_states, two_parts};
-use ffv1_record::Colour;
-use ffv1_record::laws::{accepted, accepted_parts};
+use ffv1_line::{RollingRows, laws as line_laws};
+use ffv1_range::{RangeEncoder, laws as range_laws};
+use ffv1_record::laws as record_laws;
 use ffv1_slice::Grid;
 use std::alloc::Allocator;
-
-/// The class of a plane's states (RFC 9043, 3.6).
-fn class_of(plane: u32) -> usize
-    ensures { result ≡ class_of plane }
-{
-    match plane {
-        0 => 0,
-        1 => 1,
-        2 => 1,
-        _ => 2,
-    }
-}
-
-/// How colours are coded.
-fn is_rct(colour: Colour) -> bool
-    ensures { result ≡ is_rct colour }
-{
-    match colour {
-        Colour::YCbCr => false,
-        Colour::Rct => true,
-    }
-}
 
 /// A row of a cell is coded, by the states of its class, which begin at this offset of all states.
 fn put_row<W: LineWord, R: Allocator, A: Allocator>(
@@ -74,12 +51,12 @@ fn put_row<W: LineWord, R: Allocator, A: Allocator>(
     ensures held { OnOk result (AllHeld coding.now.table.now states.new) }
     ensures err { IfErr result (λ f. f ≡ fault.OutOfMemory) }
 {
-    kept_states();
-    two_parts();
-    counted_in_parts();
-    slots();
+    range_laws::array_states_follow_the_history();
+    range_laws::decisions_of_two_parts_join();
+    range_laws::counters_go_on_by_both_parts();
+    line_laws::row_slots_are_the_contexts_slots();
     let set = coding.set;
-    set.bounded();
+    set.is_a_bounded_set();
     let end = at + set.contexts() as usize * 32;
     let above = Above {
         two: &rows.two,
@@ -116,7 +93,7 @@ fn put_line<W: LineWord, R: Allocator, A: Allocator, B: Allocator>(
     ensures held { OnOk result (AllHeld slice.now.checked.now.table states.new) }
     ensures err { IfErr result (λ f. f ≡ fault.OutOfMemory) }
 {
-    accepted();
+    record_laws::accepted_configuration_is_in_range();
     let config = slice.checked.config();
     let class = class_of(plane);
     let set = config.sets.get(index_of(&config.sets, class));
@@ -149,8 +126,9 @@ fn put_plane<W: LineWord, R: Allocator, A: Allocator, B: Allocator>(
         plane))) }
     ensures held { OnOk result (AllHeld slice.now.checked.now.table states.new) }
     ensures err { IfErr result (λ f. f ≡ fault.OutOfMemory) }
+    ensures capacity { capacity_of_rows rows.old ≤ capacity_of_rows rows.new }
 {
-    rolling();
+    line_laws::rows_above_roll_down_the_cell();
     let cell = slice.cell(plane);
     restart(rows, cell.width as usize)?;
     for y in 0..cell.height {
@@ -175,6 +153,7 @@ fn put_planes<W: LineWord, R: Allocator, A: Allocator, B: Allocator>(
     ensures ok { OnOk result (PutsSamples slice.now encoder.old states.old encoder.new
         states.new) }
     ensures err { IfErr result (λ f. f ≡ fault.OutOfMemory) }
+    ensures capacity { capacity_of_rows rows.old ≤ capacity_of_rows rows.new }
 {
     for plane in 0..Grid::of(slice.checked).planes() {
         put_plane(encoder, states, rows, slice, plane)?;
@@ -235,8 +214,9 @@ fn put_colours<W: ColourWord, R: Allocator, A: Allocator, B: Allocator>(
         (planes_of_line (plane_count slice.now.checked.now.configuration) y))) }
     ensures held { OnOk result (AllHeld slice.now.checked.now.table states.new) }
     ensures err { IfErr result (λ f. f ≡ fault.OutOfMemory) }
+    ensures capacity { capacity_of_planes rows.old ≤ capacity_of_planes rows.new }
 {
-    accepted_parts();
+    record_laws::accepted_configuration_has_sound_parts();
     let _config = slice.checked.config();
     let (_y, _cb, _cr) = (slice.cell(0), slice.cell(1), slice.cell(2));
     load_all(rows, slice, y);
@@ -262,6 +242,7 @@ fn put_lines<W: ColourWord, R: Allocator, A: Allocator, B: Allocator>(
     ensures ok { OnOk result (PutsSamples slice.now encoder.old states.old encoder.new
         states.new) }
     ensures err { IfErr result (λ f. f ≡ fault.OutOfMemory) }
+    ensures capacity { capacity_of_planes rows.old ≤ capacity_of_planes rows.new }
 {
     restart_all(rows, slice)?;
     for y in 0..slice.cell(0).height {
@@ -292,6 +273,8 @@ fn put_transformed<R: Allocator, A: Allocator, B: Allocator>(
     ensures ok { OnOk result (PutsSamples slice.now encoder.old states.old encoder.new
         states.new) }
     ensures err { IfErr result (λ f. f ≡ fault.OutOfMemory) }
+    ensures narrow { capacity_of_planes rows.old.narrow ≤ capacity_of_planes rows.new.narrow }
+    ensures wide { capacity_of_planes rows.old.wide ≤ capacity_of_planes rows.new.wide }
 {
     if bits_of(slice.checked) == 17 {
         put_lines(encoder, states, &mut rows.wide, slice)?;
@@ -313,12 +296,14 @@ pub(crate) fn put_body<R: Allocator, A: Allocator, B: Allocator>(
     ensures ok { OnOk result (PutsSamples slice.now encoder.old states.old encoder.new
         states.new) }
     ensures err { IfErr result (λ f. f ≡ fault.OutOfMemory) }
+    ensures narrow { capacity_of_planes rows.old.narrow ≤ capacity_of_planes rows.new.narrow }
+    ensures wide { capacity_of_planes rows.old.wide ≤ capacity_of_planes rows.new.wide }
 {
-    if is_rct(slice.checked.config().colour) {
+    if slice.checked.config().colour.is_rct() {
         put_transformed(encoder, states, rows, slice)?;
         return Ok(());
     }
-    accepted();
+    record_laws::accepted_configuration_is_in_range();
     put_planes(encoder, states, &mut rows.narrow.first, slice)?;
     Ok(())
 }

@@ -4,25 +4,22 @@ ghost use Rattle.std.specs.Prelude.{◌≡◌, ◌+◌, ◌^◌, ◌<◌, ◌≤
 ghost use Rattle.std.specs.Prelude.{OnErr, replicate, vec_capacity};
 ghost use Rattle.ffv1_range.specs.Writing.{unwritten};
 ghost use Rattle.ffv1_line.specs.Length.{row_decisions};
-ghost use Rattle.ffv1_record.specs.Held.{classes_of};
 ghost use Rattle.ffv1_slice.specs.Head.{key_steps, head_steps};
 ghost use Rattle.ffv1_codec.specs.declared.fault.CodecFault.TheVariants as fault;
 ghost use Rattle.ffv1_codec.specs.SliceList.{chosen_head, chosen_slice};
 ghost use Rattle.ffv1_codec.specs.Frame.{slice_bytes};
 ghost use Rattle.ffv1_codec.specs.Length.{slice_residuals, slice_renormalisations};
+ghost use Rattle.ffv1_codec.specs.Length.{KeepsCapacities, no_capacities};
 ghost use Rattle.ffv1_codec.specs.Internal.HasPut.{HasPut, states_in};
+ghost use Rattle.ffv1_codec.specs.Internal.Scratch.{capacities_of, capacity_of_planes};
 
 use crate::encode::cell_rows::PlaneRows;
 use crate::encode::slice::Slice;
 use crate::encode::slice_body::{SliceRows, put_body};
 use crate::fault::CodecFault;
-use crate::laws::slice_lengths;
-use ffv1_range::RangeEncoder;
-use ffv1_range::laws::{
-    counted_from_nothing, counted_in_parts, kept_states, named_states, slots, two_parts,
-};
-use ffv1_record::Checked;
-use ffv1_record::laws::accepted;
+use crate::laws;
+use ffv1_range::{RangeEncoder, laws as range_laws};
+use ffv1_record::{Checked, laws as record_laws};
 use ffv1_slice::{put_head, put_key};
 use std::alloc::{AllocError, Allocator};
 
@@ -35,7 +32,9 @@ pub(crate) struct Scratch<A: Allocator> {
 
 impl<A: Allocator + Copy> Scratch<A> {
     /// Nothing is kept yet. It takes no memory.
-    pub(crate) fn new(alloc: A) -> Scratch<A> {
+    pub(crate) fn new(alloc: A) -> Scratch<A>
+        ensures { capacities_of result ≡ no_capacities }
+    {
         Scratch {
             states: Vec::new(alloc),
             rows: SliceRows {
@@ -55,26 +54,12 @@ pub(crate) struct Coded<A: Allocator> {
     pub(crate) decisions: u64,
 }
 
-/// How many classes of planes there are.
-fn classes_of(chroma_planes: bool, extra_plane: bool) -> usize
-    ensures value { result ≡ classes_of chroma_planes extra_plane }
-    ensures few { result ≤ 3 }
-{
-    if extra_plane {
-        return 3;
-    }
-    if chroma_planes {
-        return 2;
-    }
-    1
-}
-
 /// How many states there are, of all classes.
 fn states_in<A: Allocator>(checked: &Checked<A>) -> usize
     ensures { result ≡ states_in checked.now.configuration }
 {
     let config = checked.config();
-    let classes = classes_of(config.chroma_planes, config.extra_plane);
+    let classes = config.classes();
     32 * (config.sets.most_contexts() as usize * classes)
 }
 
@@ -102,10 +87,10 @@ fn put_beginning<R: Allocator, A: Allocator, B: Allocator>(
         encoder.new (replicate count 128)) }
     ensures err { IfErr result (λ f. f ≡ fault.OutOfMemory) }
 {
-    kept_states();
-    counted_in_parts();
-    slots();
-    two_parts();
+    range_laws::array_states_follow_the_history();
+    range_laws::counters_go_on_by_both_parts();
+    range_laws::symbols_stay_in_their_slots();
+    range_laws::decisions_of_two_parts_join();
     let Ok(()) = put_key(encoder, slice.checked, slice.number) else {
         return Err(CodecFault::OutOfMemory);
     };
@@ -133,11 +118,13 @@ fn put_slice<R: Allocator, A: Allocator, B: Allocator>(
         slice.now.checked.now.configuration slice.now.picture.now slice.now.info
         slice.now.number)) }
     ensures err { IfErr result (λ f. f ≡ fault.OutOfMemory) }
+    ensures narrow { capacity_of_planes rows.old.narrow ≤ capacity_of_planes rows.new.narrow }
+    ensures wide { capacity_of_planes rows.old.wide ≤ capacity_of_planes rows.new.wide }
 {
-    named_states();
-    counted_from_nothing();
-    accepted();
-    slice_lengths();
+    range_laws::each_decision_has_a_state();
+    range_laws::counters_from_zero_show_all_steps();
+    record_laws::accepted_configuration_is_in_range();
+    laws::slice_length_follows_from_residuals();
     let _table = slice.checked.table();
     let _structure = slice.info.structure();
     put_beginning(encoder, slice)?;
@@ -161,6 +148,7 @@ pub(crate) fn code_slice<R: Allocator + Copy, A: Allocator, B: Allocator>(
         slice.now.number)) }
     ensures err { IfErr result (λ f. f ≡ fault.OutOfMemory) }
     ensures room { vec_capacity scratch.old.states ≤ vec_capacity scratch.new.states }
+    ensures capacity { KeepsCapacities (capacities_of scratch.old) (capacities_of scratch.new) }
 {
     renew(&mut scratch.states, states_in(slice.checked))?;
     let mut encoder = RangeEncoder::new(alloc);

@@ -33,20 +33,17 @@ ghost use Rattle.ffv1_codec.specs.DecodeFaults.{is_decode_fault};
 ghost use Rattle.ffv1_codec.specs.Decoding as decoding;
 ghost use Rattle.ffv1_codec.specs.Decoding.{State, Decodes, Offers, in_slice};
 
-use crate::laws::decoding::{decoded, handed, is_decoded, one_end};
-use crate::laws::{encoded_frame, sides};
-use ffv1_line::laws::{lengths as line_lengths, suiting_rows};
-use ffv1_range::laws::{
-    cost, decisions_by_renormalisations, decisions_renormalise, lengths as decision_lengths,
-};
-use ffv1_record::laws::{accepted, burst};
-use ffv1_slice::laws::{cutting, lengths, one_cutting};
+use crate::laws;
+use ffv1_line::laws as line_laws;
+use ffv1_range::laws as range_laws;
+use ffv1_record::laws as record_laws;
+use ffv1_slice::laws as slice_laws;
 use ffv1_wire::LineSink;
 
 /// The lines of a picture are each row of each plane once, of each plane from the top; they
 /// determine its planes; and at each place of the planes stands that line, once, and at no other
 /// place any.
-pub fn each_line_once()
+pub fn each_line_stands_once()
     ensures rows { (a : Accepted) (planes : Planes) → IsAccepted a.configuration a.table →
         StandsOnce a planes }
     ensures planes { (a : Accepted) (planes others : Planes) → IsAccepted a.configuration a.table →
@@ -55,25 +52,25 @@ pub fn each_line_once()
     ensures places { (a : Accepted) (planes : Planes) → IsAccepted a.configuration a.table →
         StandsAtEachPlace a.configuration planes }
 {
-    sides();
+    laws::planes_are_divided_part_by_part();
 }
 
 /// A payload codes one picture at most, with one structure and aspect.
-pub fn one_picture()
+pub fn payload_codes_one_picture()
     ensures { (a : Accepted) (payload : List ℕ) (planes others : Planes) (info other : Said) →
         IsAccepted a.configuration a.table → AreBytes payload →
         CodesPicture a payload planes info → CodesPicture a payload others other →
         (planes ≡ others) × (info ≡ other) }
 {
-    one_cutting();
-    is_decoded();
-    one_end();
-    each_line_once();
+    slice_laws::payload_has_one_cutting();
+    laws::decoding::coded_picture_is_decoded();
+    laws::decoding::decoding_has_one_end();
+    laws::answer::each_line_stands_once();
 }
 
 /// Where the answer is Ok, the payload codes a picture, whose lines the sink took; and a payload
 /// that codes a picture is answered Ok, or the sink refused the line that came next.
-pub fn answered<S: LineSink>()
+pub fn answer_is_ok_for_coded_pictures<S: LineSink>()
     ensures found { (a : Accepted) (payload : List ℕ) (old new : S) (tally : Tally) (info : Said) →
         IsAccepted a.configuration a.table →
         Answers S.takes S.refuses a payload old new tally (Ok info) →
@@ -86,15 +83,15 @@ pub fn answered<S: LineSink>()
         Answers S.takes S.refuses a payload old new tally result →
         DecodesTo S.takes S.refuses a old new result planes info }
 {
-    cutting();
-    decoded();
-    is_decoded();
-    one_end();
+    slice_laws::cutting_is_found_from_the_end();
+    laws::decoding::decoded_payload_codes_a_picture();
+    laws::decoding::coded_picture_is_decoded();
+    laws::decoding::decoding_has_one_end();
 }
 
 /// However decoding ends, at its end, at its first fault or at a line that is handed over, few
 /// decisions were made; so a tally tells few.
-pub fn few_decisions<S: LineSink>()
+pub fn decoding_makes_few_decisions<S: LineSink>()
     ensures end { (a : Accepted) (coded : ℕ → List ℕ) (t : State) →
         IsAccepted a.configuration a.table → Decodes a coded t →
         decisions_in t ≤ most_decisions a.configuration }
@@ -109,18 +106,18 @@ pub fn few_decisions<S: LineSink>()
         Answers S.takes S.refuses a payload old new tally result →
         decided_by tally ≤ most_decisions a.configuration }
 {
-    accepted();
-    suiting_rows();
-    line_lengths();
-    lengths();
-    decision_lengths();
-    sides();
+    record_laws::accepted_configuration_is_in_range();
+    line_laws::suiting_residuals_have_symbols();
+    line_laws::residual_length_follows_from_digits();
+    slice_laws::head_takes_few_decisions();
+    range_laws::symbol_length_follows_from_exponent();
+    laws::planes_are_divided_part_by_part();
 }
 
 /// In `Wide` a tally tells few decisions for the coded bytes of the payload, however decoding ends:
 /// at most `decisions_a_byte` for each of them and as many a slice, at least 169, and 63 for each
 /// sample of one line of its cell. By the standard's table these are 197 for each and 197 a slice.
-pub fn few_by_bytes<S: LineSink>()
+pub fn coded_bytes_bound_the_decisions<S: LineSink>()
     ensures table { (a : Accepted) (payload : List ℕ) (old new : S) (tally : Tally)
         (result : Result Said FrameFault) → IsAccepted a.configuration a.table →
         a.profile ≡ profile.Wide → Answers S.takes S.refuses a payload old new tally result →
@@ -131,21 +128,21 @@ pub fn few_by_bytes<S: LineSink>()
         Answers S.takes S.refuses a payload old new tally result →
         decided_by tally ≤ most_by_standard a.configuration payload }
 {
-    accepted();
-    suiting_rows();
-    line_lengths();
-    lengths();
-    decision_lengths();
-    decisions_by_renormalisations();
-    decisions_renormalise();
-    sides();
-    cutting();
+    record_laws::accepted_configuration_is_in_range();
+    line_laws::suiting_residuals_have_symbols();
+    line_laws::residual_length_follows_from_digits();
+    slice_laws::head_takes_few_decisions();
+    range_laws::symbol_length_follows_from_exponent();
+    range_laws::renormalisations_bound_the_decisions();
+    range_laws::decisions_in_a_row_renormalise();
+    laws::planes_are_divided_part_by_part();
+    slice_laws::cutting_is_found_from_the_end();
 }
 
 /// Each decision of a slice has a state that the table holds; and what the decisions of a frame
 /// cost, by its tally, however decoding ends: its renormalisations are little more than the weight
 /// of the decisions asks for, and little fewer.
-pub fn cost_of_frame<S: LineSink>()
+pub fn frame_cost_is_near_its_weight<S: LineSink>()
     ensures held { (a : Accepted) (past : List Step) → IsAccepted a.configuration a.table →
         AreHeldBy a.table.floor (decisions_after a.table [] past) }
     ensures state { (a : Accepted) (s : State) (tally : Tally) →
@@ -155,26 +152,26 @@ pub fn cost_of_frame<S: LineSink>()
         (result : Result Said FrameFault) → IsAccepted a.configuration a.table →
         Answers S.takes S.refuses a payload old new tally result → HasCost a tally }
 {
-    accepted();
-    cost();
-    few_decisions::<S>();
+    record_laws::accepted_configuration_is_in_range();
+    range_laws::code_length_is_near_its_weight();
+    laws::answer::decoding_makes_few_decisions::<S>();
 }
 
 /// However a payload is answered, the sink was handed finishes of lines that the bytes of its
 /// slices code, and no other line, also before a fault and where the sink refused one.
-pub fn handed_lines<S: LineSink>()
+pub fn sink_is_handed_only_coded_lines<S: LineSink>()
     ensures { (a : Accepted) (payload : List ℕ) (old new : S) (tally : Tally)
         (result : Result Said FrameFault) → IsAccepted a.configuration a.table →
         Answers S.takes S.refuses a payload old new tally result →
         HandsFinishes S.takes S.refuses a payload old new }
 {
-    handed();
+    laws::decoding::handed_lines_finish_coded_lines();
 }
 
 /// What decoding makes of a payload, whatever the sink: an answer Ok comes with the payload's
 /// count, and one of a fault, the sink's aside, with that first fault and what was decided before
 /// it. A payload has one count or one first fault, and no two of them.
-pub fn outcomes<S: LineSink>()
+pub fn payload_has_one_outcome<S: LineSink>()
     ensures count { (a : Accepted) (payload : List ℕ) (old new : S) (tally : Tally)
         (info : Said) → Answers S.takes S.refuses a payload old new tally (Ok info) →
         CountOf a payload tally }
@@ -191,44 +188,44 @@ pub fn outcomes<S: LineSink>()
         IsAccepted a.configuration a.table → AreBytes payload → FaultsOf a payload f t →
         FaultsOf a payload g u → (f ≡ g) × (t ≡ u) }
 {
-    one_end();
+    laws::decoding::decoding_has_one_end();
 }
 
 /// Whatever the payload and the sink, a fault that is answered is one of decoding: of cutting it,
 /// of a slice's start, key or head, of a symbol or a colour, or the sink's.
-pub fn decode_faults<S: LineSink>()
+pub fn answered_fault_is_of_decoding<S: LineSink>()
     ensures { (a : Accepted) (payload : List ℕ) (old new : S) (tally : Tally) (f : FrameFault) →
         Answers S.takes S.refuses a payload old new tally (Err f) →
         is_decode_fault f.fault ≡ true }
 {
-    cutting();
+    slice_laws::cutting_is_found_from_the_end();
 }
 
 /// With parity, a payload that differs from a good one within 32 neighbouring bits of one slice,
 /// its slice_size aside, is answered by the parity of that slice, before any line and any decision.
-pub fn damaged<S: LineSink>()
+pub fn damage_is_found_by_parity<S: LineSink>()
     ensures { (a : Accepted) (sent payload : List ℕ) (spans : ℕ → ℕ) (s : ℕ) (old new : S)
         (tally : Tally) (result : Result Said FrameFault) → AreBytes sent → AreBytes payload →
         Cuts a.configuration sent spans → IsBurst a.configuration sent payload spans s →
         Answers S.takes S.refuses a payload old new tally result →
         (result ≡ Err (in_slice codec_fault.SliceParity s)) × (tally ≡ no_tally) × (new ≡ old) }
 {
-    burst();
-    cutting();
+    record_laws::bursts_change_the_remainder();
+    slice_laws::cutting_is_found_from_the_end();
 }
 
 /// What a call of the decoder is for, from its answer, its bytes, and what it holds: one statement,
 /// whatever the payload and the sink. That encoded frames are short is the encoder's.
-pub fn headline<S: LineSink>()
+pub fn headline_holds_for_each_answer<S: LineSink>()
     ensures { (a : Accepted) (payload : List ℕ) (old new : S) (result : Result Said FrameFault)
         (tally : Tally) (held : Held) → IsAccepted a.configuration a.table → AreBytes payload →
         AreShort a → Answers S.takes S.refuses a payload old new tally result →
         held ≡ held_of a.configuration →
         Headline S.takes S.refuses a old new result payload tally held }
 {
-    answered::<S>();
-    each_line_once();
-    encoded_frame();
-    few_decisions::<S>();
-    few_by_bytes::<S>();
+    laws::answer::answer_is_ok_for_coded_pictures::<S>();
+    laws::answer::each_line_stands_once();
+    laws::encoded_frame_codes_its_picture();
+    laws::answer::decoding_makes_few_decisions::<S>();
+    laws::answer::coded_bytes_bound_the_decisions::<S>();
 }

@@ -21,16 +21,16 @@ ghost use Rattle.ffv1_codec.specs.Decoding.{Slice, at_first, unread};
 ghost use Rattle.ffv1_codec.specs.Order.{Event, events_of};
 ghost use Rattle.ffv1_codec.specs.Runs.{Runs};
 
-use crate::laws::sides;
-use ffv1_line::laws::{agreeing_cells, cell_is_read, only_row, rolling, suiting_rows};
-use ffv1_range::laws::{beginnings, named_states, one_bit, two_parts};
-use ffv1_rct::laws::{lists_in, only_in, small_in};
-use ffv1_record::laws::{accepted, accepted_parts};
-use ffv1_slice::laws::{divided, one_head, parts, tiling};
+use crate::laws;
+use ffv1_line::laws as line_laws;
+use ffv1_range::laws as range_laws;
+use ffv1_rct::laws as rct_laws;
+use ffv1_record::laws as record_laws;
+use ffv1_slice::laws as slice_laws;
 
 /// Decoding has one end at most: it comes to its end in one state, or is refused at one first
 /// fault; and after each beginning of its order it stands in one state.
-pub fn one_end()
+pub fn decoding_has_one_end()
     ensures end { (a : Accepted) (coded : ℕ → List ℕ) (s t : State) →
         IsAccepted a.configuration a.table → ((n : ℕ) → AreBytes (coded n)) →
         Decodes a coded s → Decodes a coded t → s ≡ t }
@@ -47,36 +47,36 @@ pub fn one_end()
         Runs (StepsBy a coded) (at_first a.configuration) before s →
         Runs (StepsBy a coded) (at_first a.configuration) before t → s ≡ t }
 {
-    only_row();
-    cell_is_read();
-    one_head();
-    beginnings();
-    one_bit();
-    named_states();
-    accepted();
-    accepted_parts();
-    divided();
-    tiling();
-    parts();
+    line_laws::bytes_code_one_row();
+    line_laws::reading_its_rows_reads_the_cell();
+    slice_laws::bytes_code_one_head();
+    range_laws::bytes_code_each_beginning();
+    range_laws::bytes_code_one_bit_next();
+    range_laws::each_decision_has_a_state();
+    record_laws::accepted_configuration_is_in_range();
+    record_laws::accepted_configuration_has_sound_parts();
+    slice_laws::accepted_pictures_are_divided();
+    slice_laws::cells_tile_their_plane();
+    slice_laws::parts_follow_one_another();
 }
 
 /// What is decoded to its end is a picture that the payload codes: its lines were handed over, and
 /// its slices said the same.
-pub fn decoded()
+pub fn decoded_payload_codes_a_picture()
     ensures { (a : Accepted) (payload : List ℕ) (spans : ℕ → ℕ) (t : State) →
         IsAccepted a.configuration a.table → Cuts a.configuration payload spans →
         Decodes a (coded_of payload (foot_length a.configuration.ec) spans) t →
         (planes : Planes) × (info : Said) × CodesPicture a payload planes info
         × (t.info ≡ Some info) × (t.lines ≡ lines_of a.configuration planes) }
 {
-    agreeing_cells();
-    suiting_rows();
-    sides();
+    line_laws::agreeing_cells_code_rows_alike();
+    line_laws::suiting_residuals_have_symbols();
+    laws::planes_are_divided_part_by_part();
 }
 
 /// A payload that codes a picture is decoded to its end: its lines are handed over, and its slices
 /// say what the picture's do; wherever it is cut as it has to be.
-pub fn is_decoded()
+pub fn coded_picture_is_decoded()
     ensures { (a : Accepted) (payload : List ℕ) (planes : Planes) (info : Said)
         (codes : CodesPicture a payload planes info) (spans : ℕ → ℕ) →
         IsAccepted a.configuration a.table → AreBytes payload →
@@ -84,22 +84,22 @@ pub fn is_decoded()
         (t : State) × Decodes a (coded_of payload (foot_length a.configuration.ec) spans) t
         × (t.info ≡ Some info) × (t.lines ≡ lines_of a.configuration planes) }
 {
-    agreeing_cells();
-    suiting_rows();
-    beginnings();
-    named_states();
-    two_parts();
-    lists_in();
-    only_in();
-    small_in();
-    sides();
+    line_laws::agreeing_cells_code_rows_alike();
+    line_laws::suiting_residuals_have_symbols();
+    range_laws::bytes_code_each_beginning();
+    range_laws::each_decision_has_a_state();
+    range_laws::decisions_of_two_parts_join();
+    rct_laws::line_transform_is_lists_at_depth();
+    rct_laws::transform_is_one_to_one_at_depth();
+    rct_laws::transform_stays_in_range_at_depth();
+    laws::planes_are_divided_part_by_part();
 }
 
 /// Wherever decoding stands, each slice is unread, or its bytes code its key, its head and the
 /// samples of its first lines; a fault is that of one event, after such a state; and at the end
 /// the bytes of each slice code all its lines, and what was decided is the sum of what was decided
 /// in each slice.
-pub fn known()
+pub fn bytes_code_what_was_decoded()
     ensures begun { (a : Accepted) (coded : ℕ → List ℕ) (before after : List Event) (s : State)
         (n : ℕ) → IsAccepted a.configuration a.table →
         events_of a.configuration ≡ before ++ after →
@@ -121,14 +121,14 @@ pub fn known()
         decisions_in t ≡ sum_by (λ n. length (get_or t.done n unread).past)
         (range_with_len 0 (a.configuration.columns * a.configuration.rows)) }
 {
-    agreeing_cells();
-    suiting_rows();
-    sides();
+    line_laws::agreeing_cells_code_rows_alike();
+    line_laws::suiting_residuals_have_symbols();
+    laws::planes_are_divided_part_by_part();
 }
 
 /// What the bytes of a slice code of its first lines, no others do: one head, and one row of
 /// samples for each of the lines.
-pub fn only_read()
+pub fn bytes_code_one_head_and_lines()
     ensures { (a : Accepted) (coded : ℕ → List ℕ) (n : ℕ) (q r : Slice) (read more : List Line) →
         IsAccepted a.configuration a.table → AreBytes (coded n) →
         n < a.configuration.columns * a.configuration.rows →
@@ -137,22 +137,22 @@ pub fn only_read()
         (q.head ≡ r.head) × (q.past ≡ r.past)
         × ShowSame (cells_of a.configuration n q) (cells_of a.configuration n r) read }
 {
-    only_row();
-    rolling();
-    agreeing_cells();
-    one_head();
-    beginnings();
-    named_states();
-    two_parts();
-    accepted();
-    sides();
+    line_laws::bytes_code_one_row();
+    line_laws::rows_above_roll_down_the_cell();
+    line_laws::agreeing_cells_code_rows_alike();
+    slice_laws::bytes_code_one_head();
+    range_laws::bytes_code_each_beginning();
+    range_laws::each_decision_has_a_state();
+    range_laws::decisions_of_two_parts_join();
+    record_laws::accepted_configuration_is_in_range();
+    laws::planes_are_divided_part_by_part();
 }
 
 /// Wherever decoding stands, at its end, before its first fault or at a line that is handed over
 /// next, each line that was handed over, and that next one, is the finish of a line that the bytes
 /// of its slices code: it is made of that line of each slice of its row, and the bytes of the slice
 /// code it.
-pub fn handed()
+pub fn handed_lines_finish_coded_lines()
     ensures reached { (a : Accepted) (coded : ℕ → List ℕ) (before after : List Event) (s : State) →
         IsAccepted a.configuration a.table → events_of a.configuration ≡ before ++ after →
         Runs (StepsBy a coded) (at_first a.configuration) before s →
@@ -168,7 +168,7 @@ pub fn handed()
         All (IsFinishOf a coded (slice_of t))
         (t.lines ++ (offered a.configuration r i p y t ∷ [])) }
 {
-    agreeing_cells();
-    suiting_rows();
-    sides();
+    line_laws::agreeing_cells_code_rows_alike();
+    line_laws::suiting_residuals_have_symbols();
+    laws::planes_are_divided_part_by_part();
 }

@@ -20,26 +20,26 @@ ghost use Rattle.ffv1_codec.specs.Decoding.{Decodes, Offers, State, StepsBy, at_
 ghost use Rattle.ffv1_codec.specs.Turns.{RefusesInTurn, TakesInTurn};
 ghost use Rattle.ffv1_codec.specs.Kept.{Dropped, Drops, DropsNot, IsLine, Keeps, KeepsNot, Kept};
 
-use crate::laws::sides;
-use ffv1_line::laws::{agreeing_cells, suiting_rows};
+use crate::laws;
+use ffv1_line::laws as line_laws;
 use ffv1_wire::LineSink;
 
 /// A line that decoding comes to, and that is handed over next, is a line of the configuration: it
 /// is of one of its planes, inside its height, and as long as the plane is wide.
-pub fn offered_lines()
+pub fn offered_lines_fit_the_configuration()
     ensures { (a : Accepted) (coded : ℕ → List ℕ) (r i p y : ℕ) (t : State) →
         IsAccepted a.configuration a.table → Offers a coded r i p y t →
         IsLine (division_of a.configuration) p (top_of a.configuration p r + y)
         (get_or t.out i []) }
 {
-    agreeing_cells();
-    suiting_rows();
-    sides();
+    line_laws::agreeing_cells_code_rows_alike();
+    line_laws::suiting_residuals_have_symbols();
+    laws::planes_are_divided_part_by_part();
 }
 
 /// So a sink of the configuration's own lines refuses none: no answer is its fault, whether the
 /// lines are kept or dropped.
-pub fn taken_lines()
+pub fn sinks_of_own_lines_refuse_none()
     ensures kept { (a : Accepted) (payload : List ℕ) (old new : Kept) (tally : Tally)
         (f : FrameFault) → IsAccepted a.configuration a.table →
         Answers Keeps KeepsNot a payload old new tally (Err f) →
@@ -49,12 +49,12 @@ pub fn taken_lines()
         Answers Drops DropsNot a payload old new tally (Err f) →
         old.grid ≡ division_of a.configuration → f.fault ≢ fault.Sink }
 {
-    offered_lines();
+    laws::sink::offered_lines_fit_the_configuration();
 }
 
 /// A sink of the configuration's own lines that kept those of a picture has its planes; and
 /// whatever lines it kept, its grid, the sizes of its planes and its count are as they were.
-pub fn kept_picture()
+pub fn kept_lines_make_up_the_picture()
     ensures picture { (a : Accepted) (planes : Planes) (old new : Kept) →
         IsAccepted a.configuration a.table → Fits a.configuration planes →
         old.grid ≡ division_of a.configuration → AreOf old.grid old.planes →
@@ -64,7 +64,7 @@ pub fn kept_picture()
         Grows Keeps old lines new →
         (new.grid ≡ old.grid) × AreOf new.grid new.planes × (new.failures ≡ old.failures) }
 {
-    sides();
+    laws::planes_are_divided_part_by_part();
 }
 
 /// Where the lines stand that are handed over, and in which order, is the configuration's alone:
@@ -72,7 +72,7 @@ pub fn kept_picture()
 /// beginning of that order, and the line that is handed over next is the next of it; at the end
 /// they are all. For RCT without transparency the order is red, green and blue of each row, the
 /// rows from the top.
-pub fn lines_in_turn()
+pub fn lines_are_handed_in_turn()
     ensures lines { (a : Accepted) (planes : Planes) →
         lines_of a.configuration planes
         ≡ map (λ (k : ℕ × ℕ). line_in a.configuration planes k.1 k.0) (places_of a.configuration) }
@@ -97,11 +97,11 @@ pub fn lines_in_turn()
         ≡ flat_map (λ y. (0, y) ∷ (1, y) ∷ (2, y) ∷ [])
         (range_with_len 0 a.configuration.height) }
 {
-    sides();
+    laws::planes_are_divided_part_by_part();
 }
 
 /// For RCT each plane is as wide and as high as the picture.
-pub fn colour_planes()
+pub fn rct_planes_have_the_picture_size()
     ensures wide { (a : Accepted) (p : ℕ) → IsAccepted a.configuration a.table →
         is_rct a.configuration.colour ≡ true →
         plane_width a.configuration p ≡ a.configuration.width }
@@ -109,14 +109,14 @@ pub fn colour_planes()
         is_rct a.configuration.colour ≡ true →
         plane_height a.configuration p ≡ a.configuration.height }
 {
-    sides();
+    laws::planes_are_divided_part_by_part();
 }
 
 /// Whatever the payload, a fault that is answered is the sink's exactly where the sink refused a
 /// line: after a beginning of the lines it refused the one that came next, a line of the
 /// configuration, and the fault names its plane and its row. After any other fault it took a
 /// beginning of the lines, and refused none.
-pub fn sink_faults<S: LineSink>()
+pub fn sink_fault_is_a_refused_line<S: LineSink>()
     ensures sink { (a : Accepted) (payload : List ℕ) (old new : S) (tally : Tally)
         (f : FrameFault) → IsAccepted a.configuration a.table →
         Answers S.takes S.refuses a payload old new tally (Err f) → f.fault ≡ fault.Sink →
@@ -125,5 +125,5 @@ pub fn sink_faults<S: LineSink>()
         (f : FrameFault) → Answers S.takes S.refuses a payload old new tally (Err f) →
         f.fault ≢ fault.Sink → TakesInTurn S.takes a.configuration old new }
 {
-    offered_lines();
+    laws::sink::offered_lines_fit_the_configuration();
 }

@@ -11,8 +11,7 @@ ghost use Rattle.ffv1_line.specs.Internal.Places.{ReadZerosBy};
 ghost use Rattle.ffv1_line.specs.Coder.{decoder_by};
 
 use crate::decode::places::{Behind, Places};
-use ffv1_plane::laws::flat;
-use ffv1_plane::{deep_sample, predict_late};
+use ffv1_plane::{deep_sample, laws as plane_laws, predict_late};
 use ffv1_range::RangeDecoder;
 use std::alloc::Allocator;
 
@@ -91,8 +90,8 @@ pub(crate) fn decode_run<B: Allocator>(
     if deep_sample(predict_late(l, l, l, l), false, 0, bits) != l {
         return start;
     }
-    set.bounded();
-    flat();
+    set.is_a_bounded_set();
+    plane_laws::flat_place_has_first_context();
     let mut state = states[0];
     let left = take_run(decoder, places, &mut state, cur, behind, start);
     states[0] = state;

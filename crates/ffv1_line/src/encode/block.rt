@@ -144,7 +144,7 @@ fn prepare_lanes<A: Allocator>(
         from,
         ..
     } = *part;
-    set.bounded();
+    set.is_a_bounded_set();
     let (around, samples) = around_lanes(two, one, cur, from + at);
     let (sizes, chosen) = choose_lanes(set, lanes, &around, samples, bits, three_tables);
     sizes.cast::<u32>().copy_to_slice(&mut contexts[at..]);

@@ -1,18 +1,23 @@
-use Rattle.std.proofs.Common.{rules, ◌≡◌}
+use Rattle.std.proofs.Common.{rules, ◌≡◌, inr}
 use Rattle.std.proofs.lemmas.Result.{err_from_is_err_and}
-use Rattle.ffv1_engine.specs.Opens.{stream_of}
-use Rattle.ffv1_engine.proofs.FileChecked.{count_stops, done, lacks_opening, no_frames, reads_file, telling_stops}
+use Rattle.ffv1_engine.specs.declared.frame_line.FrameLine.TheVariants as line
+use Rattle.ffv1_engine.specs.Check.{frame_count}
+use Rattle.ffv1_engine.specs.FrameLines.{frame_lines}
+use Rattle.ffv1_engine.specs.Internal.Opens.{stream_of}
+use Rattle.ffv1_engine.specs.Stream.{IsFrame, frame_payload}
+use Rattle.ffv1_engine.proofs.FileChecked.{count_stops, done, lacks_opening, none_told, telling_stops}
+use Rattle.ffv1_engine.proofs.FileRead.{reads_file}
 use Rattle.ffv1_engine.proofs.OwnFaults.{opening_checks, told_checks}
 use Rattle.ffv1_engine.proofs.checking.check.Goals as goal
 
 pub returns-in-Err-clause-err : goal.returns-in-Err-clause-err
 returns-in-Err-clause-err g c =
     let f = c.in-Err.fault in
-    lacks_opening c.args.profile c.args.place (g.R.ByteIn.remaining c.args.input.now) (g.R.ByteIn.remaining c.open_player_located.new.input) (g.R.ByteIn.remaining c.args.input.now)
+    inr (lacks_opening IsFrame frame_payload (frame_lines line.Sizes) frame_count c.args.profile c.args.place (g.R.ByteIn.remaining c.args.input.now) (g.R.ByteIn.remaining c.open_player_located.new.input) (g.R.ByteIn.remaining c.args.input.now)
     (g.W.ByteOut.contents c.args.output.now) (g.W.ByteOut.contents c.tell_byte.new.output) (g.W.ByteOut.contents c.args.output.now)
     (g.R.ByteIn.failures c.args.input.now) (g.R.ByteIn.failures c.open_player_located.new.input) (g.R.ByteIn.failures c.args.input.now)
     (g.W.ByteOut.failures c.args.output.now) (g.W.ByteOut.failures c.tell_byte.new.output) (g.W.ByteOut.failures c.args.output.now)
-    f c.open_player_located.new.offset c.in-Err.ensures.err c.in-Err.ensures.stopped (rw c.tells_byte-byte.ensures at c.tell_byte.ensures)
+    f c.open_player_located.new.offset c.in-Err.ensures.err c.in-Err.ensures.stopped (rw c.tells_byte-byte.ensures at c.tell_byte.ensures))
 
 pub returns-in_err-count-in-Ok-clause-err : goal.returns-in_err-count-in-Ok-clause-err
 returns-in_err-count-in-Ok-clause-err g c =
@@ -31,7 +36,7 @@ returns-then-count-eq0-clause-err g c =
     let n = g.W.ByteOut.failures c.args.output.now in
     let told = c.in_ok-count-in-Ok.ensures.ok in
     let none : c.in_ok-count-in-Ok.count ≡ 0 = search rules in
-    no_frames c.args.profile c.args.place (g.R.ByteIn.remaining c.args.input.now) (g.R.ByteIn.remaining c.open_player_located.new.input) (g.R.ByteIn.remaining c.tell_frames.new.input)
+    none_told c.args.profile c.args.place (g.R.ByteIn.remaining c.args.input.now) (g.R.ByteIn.remaining c.open_player_located.new.input) (g.R.ByteIn.remaining c.tell_frames.new.input)
     o (g.W.ByteOut.contents c.tell_frames.new.output) o (g.R.ByteIn.failures c.args.input.now) (g.R.ByteIn.failures c.open_player_located.new.input) (g.R.ByteIn.failures c.tell_frames.new.input)
     n (g.W.ByteOut.failures c.tell_frames.new.output) n c.in-Ok.player.reader c.in-Ok.player.decoder.accepted c.in-Ok.ensures.ok
     told.0 c.in_ok-count-in-Ok.count told.1 told.2 none
@@ -53,8 +58,8 @@ returns-in_ok-write_count-in-Ok-clause-ok g c =
     let told = c.in_ok-count-in-Ok.ensures.ok in
     let opens = c.in-Ok.ensures.ok in
     let reads =
-    reads_file c.frames_in_turn.ensures c.read_is_file.ensures.first c.read_is_file.ensures.whole c.args.profile (g.R.ByteIn.remaining c.args.input.now) (g.R.ByteIn.remaining c.open_player_located.new.input)
-    (g.R.ByteIn.remaining c.tell_frames.new.input) (stream_of c.in-Ok.player.reader c.in-Ok.player.decoder.accepted) c.in-Ok.player.reader.place told.0 opens.known told.2.ends in
+    reads_file c.frames_come_in_turn.ensures c.what_is_read_is_a_file.ensures.first c.what_is_read_is_a_file.ensures.whole c.args.profile (g.R.ByteIn.remaining c.args.input.now) (g.R.ByteIn.remaining c.open_player_located.new.input)
+    (g.R.ByteIn.remaining c.tell_frames.new.input) (stream_of c.in-Ok.player.reader c.in-Ok.player.decoder.accepted) c.in-Ok.player.reader.place told.0 opens.known told.2.plays.goes.has in
     done c.args.profile c.args.place (g.R.ByteIn.remaining c.args.input.now) (g.R.ByteIn.remaining c.open_player_located.new.input) (g.R.ByteIn.remaining c.tell_frames.new.input)
     (g.W.ByteOut.contents c.args.output.now) (g.W.ByteOut.contents c.tell_frames.new.output) (g.W.ByteOut.contents c.write_count.new.output)
     (g.R.ByteIn.failures c.args.input.now) (g.R.ByteIn.failures c.open_player_located.new.input) (g.R.ByteIn.failures c.tell_frames.new.input)

@@ -1,15 +1,17 @@
 use Rattle.std.proofs.Common.{rules, ◌≡◌}
 use Rattle.std.proofs.lemmas.Result.{err_from_is_err_and}
-use Rattle.ffv1_engine.proofs.FileChecked.{holds_payloads}
-use Rattle.ffv1_engine.proofs.FileJudged.{all_done, count_stops, judging_stops, lacks_opening, no_frames}
+use Rattle.ffv1_engine.proofs.FileRead.{holds_payloads}
+use Rattle.ffv1_engine.proofs.FileChecked.{goes_stops, lacks_opening}
+use Rattle.ffv1_engine.proofs.FileJudged.{all_done, count_stops, none_judged}
 use Rattle.ffv1_engine.proofs.OwnFaults.{opening_checks, told_checks}
-use Rattle.ffv1_engine.specs.Judged.{payloads_of}
+use Rattle.ffv1_engine.specs.CheckAll.{judged_count}
+use Rattle.ffv1_engine.specs.Judged.{IsJudged, judged_lines, payload_of, payloads_of}
 use Rattle.ffv1_engine.proofs.checking.check_all.Goals as goal
 
 pub returns-in-Err-clause-err : goal.returns-in-Err-clause-err
 returns-in-Err-clause-err g c =
     let f = c.in-Err.fault in
-    lacks_opening c.args.profile c.args.place (g.R.ByteIn.remaining c.args.input.now) (g.R.ByteIn.remaining c.open_player_located.new.input) (g.R.ByteIn.remaining c.args.input.now)
+    lacks_opening IsJudged payload_of (judged_lines c.args.place) judged_count c.args.profile c.args.place (g.R.ByteIn.remaining c.args.input.now) (g.R.ByteIn.remaining c.open_player_located.new.input) (g.R.ByteIn.remaining c.args.input.now)
     (g.W.ByteOut.contents c.args.output.now) (g.W.ByteOut.contents c.tell_byte.new.output) (g.W.ByteOut.contents c.args.output.now)
     (g.R.ByteIn.failures c.args.input.now) (g.R.ByteIn.failures c.open_player_located.new.input) (g.R.ByteIn.failures c.args.input.now)
     (g.W.ByteOut.failures c.args.output.now) (g.W.ByteOut.failures c.tell_byte.new.output) (g.W.ByteOut.failures c.args.output.now)
@@ -24,7 +26,7 @@ returns-in_err-counts-in-Ok-clause-err g c =
     let o = g.W.ByteOut.contents c.args.output.now in
     let n = g.W.ByteOut.failures c.args.output.now in
     rw (p.1, p.2)
-    (judging_stops c.args.profile c.args.place (g.R.ByteIn.remaining c.args.input.now) (g.R.ByteIn.remaining c.open_player_located.new.input) (g.R.ByteIn.remaining c.judge_frames.new.input)
+    (goes_stops IsJudged payload_of (judged_lines c.args.place) judged_count c.args.profile c.args.place (g.R.ByteIn.remaining c.args.input.now) (g.R.ByteIn.remaining c.open_player_located.new.input) (g.R.ByteIn.remaining c.judge_frames.new.input)
     o (g.W.ByteOut.contents c.judge_frames.new.output) o (g.R.ByteIn.failures c.args.input.now) (g.R.ByteIn.failures c.open_player_located.new.input) (g.R.ByteIn.failures c.judge_frames.new.input)
     n (g.W.ByteOut.failures c.judge_frames.new.output) n c.in-Ok.player.reader c.in-Ok.player.decoder.accepted c.in-Ok.ensures.ok c.in-Ok.ensures.located
     c.in_err-counts-in-Ok.field-0.0 (rw c.tells_byte-byte.ensures at c.in_err-counts-in-Ok.ensures.err))
@@ -40,7 +42,7 @@ returns-then-counts-eq0-clause-err g c =
     let n = g.W.ByteOut.failures c.args.output.now in
     let told = c.in_ok-counts-in-Ok.ensures.ok in
     let none : c.in_ok-counts-in-Ok.counts.frames ≡ 0 = search rules in
-    no_frames c.args.profile c.args.place (g.R.ByteIn.remaining c.args.input.now) (g.R.ByteIn.remaining c.open_player_located.new.input) (g.R.ByteIn.remaining c.judge_frames.new.input)
+    none_judged c.args.profile c.args.place (g.R.ByteIn.remaining c.args.input.now) (g.R.ByteIn.remaining c.open_player_located.new.input) (g.R.ByteIn.remaining c.judge_frames.new.input)
     o (g.W.ByteOut.contents c.judge_frames.new.output) o (g.R.ByteIn.failures c.args.input.now) (g.R.ByteIn.failures c.open_player_located.new.input) (g.R.ByteIn.failures c.judge_frames.new.input)
     n (g.W.ByteOut.failures c.judge_frames.new.output) n c.in-Ok.player.reader c.in-Ok.player.decoder.accepted c.in-Ok.ensures.ok
     told.0 c.in_ok-counts-in-Ok.counts told.1 told.2 none
@@ -67,6 +69,6 @@ returns-in_ok-write_counts-in-Ok-clause-ok g c =
     c.in-Ok.player.reader c.in-Ok.player.decoder.accepted c.in-Ok.ensures.ok
     told.0 c.in_ok-counts-in-Ok.counts told.1 told.2 c.if-counts-eq0.false
     (λ file behind rest from to at opens reads over.
-    holds_payloads c.frames_in_turn.ensures c.read_is_file.ensures.first c.read_is_file.ensures.whole c.args.profile file behind rest c.in-Ok.player.reader.head from to at (payloads_of told.0)
+    holds_payloads c.frames_come_in_turn.ensures c.what_is_read_is_a_file.ensures.first c.what_is_read_is_a_file.ensures.whole c.args.profile file behind rest c.in-Ok.player.reader.head from to at (payloads_of told.0)
     opens reads over)
     c.in_ok-write_counts-in-Ok.ensures.0 c.in_ok-write_counts-in-Ok.ensures.1

@@ -5,7 +5,8 @@ use Rattle.ffv1_line.specs.Coding.{coding_by}
 use Rattle.ffv1_line.specs.Coder.{decoder_by}
 use Rattle.ffv1_line.specs.Above.{rows_above}
 use Rattle.ffv1_line.specs.Cell.{cell_of}
-use Rattle.ffv1_engine.specs.Plane.{plane_residuals, StandsBefore}
+use Rattle.ffv1_engine.specs.Plane.{plane_residuals}
+use Rattle.ffv1_engine.specs.Internal.Plane.{StandsBefore}
 use Rattle.ffv1_engine.proofs.comparison.decode_rows.Given as goal
 
 abbrev pub invariant-loop-y : goal.invariant-loop-y

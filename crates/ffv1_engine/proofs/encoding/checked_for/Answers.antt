@@ -4,7 +4,7 @@ use Rattle.ffv1_record.specs.Configuration.{at_depth, configuration_of}
 use Rattle.std.proofs.lemmas.Result.{err_from_is_err_and}
 use Rattle.ffv1_engine.specs.Packing.{configuration_for}
 use Rattle.ffv1_engine.specs.Profiles.{greatest_depth}
-use Rattle.ffv1_engine.specs.VideoReads.{reading_of}
+use Rattle.ffv1_engine.specs.Internal.VideoReads.{reading_of}
 use Rattle.ffv1_engine.proofs.VideoChecks.{own_in}
 use Rattle.ffv1_engine.proofs.encoding.checked_for.Goals as goal
 
@@ -30,7 +30,7 @@ returns-in_err-check_in-clause-own g c =
     let k : at_depth (configuration_of c.in_ok-config.config) c.depth.result ≡ configuration_for c.args.choice.now (reading_of c.args.reader.now).ppm (reading_of c.args.reader.now).head =
     ap (at_depth (configuration_of c.in_ok-config.config)) c.depth.ensures.value ∙ c.in_ok-config.ensures.ok in
     let first = subst (λ z. IsFirstUpTo (greatest_depth c.args.profile) z f) k (rw c.of_record.ensures at c.in_err-check_in.ensures.refused) in
-    rw (p.1, p.2) (own_in c.args.profile c.args.choice.now (reading_of c.args.reader.now).ppm (reading_of c.args.reader.now).head f c.one_table.ensures.standard c.in_ok-config.ensures.head c.depth.ensures.least c.requires first)
+    rw (p.1, p.2) (own_in c.args.profile c.args.choice.now (reading_of c.args.reader.now).ppm (reading_of c.args.reader.now).head f c.deltas_make_one_table.ensures.standard c.in_ok-config.ensures.head c.depth.ensures.least c.requires first)
 
 pub returns-clause-profile : goal.returns-clause-profile
 returns-clause-profile g c = c.in_ok-check_in.ensures.profile ∙ c.of_record.ensures

@@ -3,7 +3,7 @@ use Rattle.std.proofs.lemmas.Result.{err_from_is_err_and}
 use Rattle.ffv1_codec.specs.Picture.{planes_of}
 use Rattle.ffv1_wire.specs.Passage.{passage}
 use Rattle.ffv1_y4m.specs.State.{shown}
-use Rattle.ffv1_engine.specs.VideoReads.{NextRead, reading_of}
+use Rattle.ffv1_engine.specs.Internal.VideoReads.{NextRead, reading_of}
 use Rattle.ffv1_engine.proofs.PicturesEncoded.{encoded_one, frame_stops, made_of, next_stops}
 use Rattle.ffv1_engine.proofs.VideoFits.{is_made}
 use Rattle.ffv1_engine.proofs.encoding.encode_picture.Goals as goal

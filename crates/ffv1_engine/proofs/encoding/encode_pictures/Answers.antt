@@ -2,8 +2,8 @@ use Rattle.std.proofs.lemmas.Result.{err_from_is_err_and}
 use Rattle.std.proofs.Common.{refl, ◌∙◌, subst}
 use Rattle.ffv1_wire.specs.Passage.{passage}
 use Rattle.ffv1_avi.specs.Written.{frames_of}
-use Rattle.ffv1_engine.specs.Encoding.{EncodesNext}
-use Rattle.ffv1_engine.specs.VideoReads.{reading_of}
+use Rattle.ffv1_engine.specs.Internal.Encoding.{EncodesNext}
+use Rattle.ffv1_engine.specs.Internal.VideoReads.{reading_of}
 use Rattle.ffv1_engine.proofs.ClustersPut.{encoded_none}
 use Rattle.ffv1_engine.proofs.PicturesSoFar.{encoded_all, encoded_more, encoding_stops}
 use Rattle.ffv1_engine.proofs.encoding.encode_pictures.Goals as goal

@@ -4,9 +4,9 @@ use Rattle.ffv1_wire.specs.Passage.{passage}
 use Rattle.ffv1_record.specs.Configuration.{Configuration, is_rct}
 use Rattle.ffv1_codec.specs.Picture.{Planes, planes_of}
 use Rattle.ffv1_y4m.specs.declared.head.VideoHead.{VideoHead}
-use Rattle.ffv1_engine.specs.Md5Text.{next_md5}
-use Rattle.ffv1_engine.specs.PicturesOut.{head_saying}
-use Rattle.ffv1_engine.specs.Told.{WritesFrame}
+use Rattle.ffv1_engine.specs.Internal.Md5Text.{next_md5}
+use Rattle.ffv1_engine.specs.Internal.PicturesOut.{head_saying}
+use Rattle.ffv1_engine.specs.Internal.Told.{WritesFrame}
 use Rattle.ffv1_engine.proofs.EvenPlanes.{even_planes}
 use Rattle.ffv1_engine.proofs.ImageLines.{colour_of}
 use Rattle.ffv1_engine.proofs.hashing.write_picture.Goals as goal
@@ -16,8 +16,8 @@ put_picture-requires g c = λ given.
     let a = c.args.checked.now in
     let is : is_rct a.configuration.colour ≡ true = ap (λ (k : Configuration). is_rct k.colour) c.config.ensures.value ∙ sym c.is_rct-rct.ensures ∙ given in
     let ok = c.config.ensures.accepted in
-    let parts = c.accepted_parts.ensures.rct a.configuration a.table ok (colour_of a.configuration.colour is) in
-    even_planes a.configuration (planes_of c.args.planes.now) parts.0 (λ p. c.colour_planes.ensures.wide a p ok is) (λ p. c.colour_planes.ensures.high a p ok is) c.requires
+    let parts = c.accepted_configuration_has_sound_parts.ensures.rct a.configuration a.table ok (colour_of a.configuration.colour is) in
+    even_planes a.configuration (planes_of c.args.planes.now) parts.0 (λ p. c.rct_planes_have_the_picture_size.ensures.wide a p ok is) (λ p. c.rct_planes_have_the_picture_size.ensures.high a p ok is) c.requires
 
 pub returns-clause-answer : goal.returns-clause-answer
 returns-clause-answer g c =

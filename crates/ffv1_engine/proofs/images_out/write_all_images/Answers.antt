@@ -3,9 +3,9 @@ use Rattle.std.proofs.lemmas.Result.{err_from_is_err_and}
 use Rattle.ffv1_range.specs.Counts.{saturated}
 use Rattle.ffv1_wire.specs.Passage.{passage}
 use Rattle.ffv1_engine.specs.Faults.{cause_of}
-use Rattle.ffv1_engine.specs.ImagesOut.{WritesImage}
-use Rattle.ffv1_engine.specs.Opens.{stream_of}
-use Rattle.ffv1_engine.proofs.FramesTold.{counted_more}
+use Rattle.ffv1_engine.specs.Internal.ImagesOut.{WritesImage}
+use Rattle.ffv1_engine.specs.Internal.Opens.{stream_of}
+use Rattle.ffv1_engine.proofs.FramesInTurn.{counted_more}
 use Rattle.ffv1_engine.proofs.ImagesSoFar.{images_more, images_none, images_over, images_stop}
 use Rattle.ffv1_engine.proofs.images_out.write_all_images.Goals as goal
 

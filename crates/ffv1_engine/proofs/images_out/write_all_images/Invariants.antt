@@ -1,8 +1,8 @@
 use Rattle.std.proofs.Common.{◌≡◌, None}
 use Rattle.ffv1_wire.specs.Passage.{passage}
 use Rattle.ffv1_files.specs.Places.{amount, container_of}
-use Rattle.ffv1_engine.specs.ImagesOut.{IsSinkFor}
-use Rattle.ffv1_engine.specs.Opens.{stream_of}
+use Rattle.ffv1_engine.specs.Internal.ImagesOut.{IsSinkFor}
+use Rattle.ffv1_engine.specs.Internal.Opens.{stream_of}
 use Rattle.ffv1_engine.proofs.ImagesSoFar.{ImagesSo}
 use Rattle.ffv1_engine.proofs.images_out.write_all_images.Given as goal
 

@@ -1,6 +1,6 @@
 use Rattle.std.proofs.Common.{◌∙◌, ap}
 use Rattle.ffv1_engine.specs.Faults.{of_y4m}
-use Rattle.ffv1_engine.specs.Opens.{stream_of}
+use Rattle.ffv1_engine.specs.Internal.Opens.{stream_of}
 use Rattle.ffv1_engine.proofs.ImagesSoFar.{images_lack}
 use Rattle.ffv1_engine.proofs.images_out.write_images.Goals as goal
 

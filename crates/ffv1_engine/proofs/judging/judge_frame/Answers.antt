@@ -5,13 +5,14 @@ use Rattle.ffv1_record.specs.Accepted.{Accepted}
 use Rattle.ffv1_slice.specs.Grid.{division_of}
 use Rattle.ffv1_codec.specs.Kept.{Dropped, Drops, DropsNot}
 use Rattle.ffv1_engine.specs.Faults.{cause_of, of_avi}
-use Rattle.ffv1_engine.specs.Located.{located_text}
-use Rattle.ffv1_engine.specs.Told.{WritesLine}
-use Rattle.ffv1_engine.specs.Judged.{JudgeStopsBy, one_counted}
+use Rattle.ffv1_engine.specs.Located.{WritesLine, WritesLocated, located_text}
+use Rattle.ffv1_engine.specs.Internal.Located.{LocatedAfter}
+use Rattle.ffv1_engine.specs.Judged.{IsJudged, judged_line, payload_of}
+use Rattle.ffv1_engine.specs.Internal.Judged.{JudgeStopsBy, one_counted}
 use Rattle.ffv1_engine.specs.Judged.Judged.{Decoded, Refused}
 use Rattle.ffv1_engine.specs.Stream.{Frame}
 use Rattle.ffv1_engine.proofs.FrameDecoded.{is_decided, is_faulty}
-use Rattle.ffv1_engine.proofs.FramesJudged.{lines_fail, next_refused}
+use Rattle.ffv1_engine.proofs.FramesPlayed.{file_refused, line_stops}
 use Rattle.ffv1_engine.proofs.judging.judge_frame.Goals as goal
 
 pub returns-in_err-write_line-in-Ok-Some-clause-answer :
@@ -23,14 +24,16 @@ returns-in_err-write_line-in-Ok-Some-clause-answer g c =
     let tally = c.play.new.player.decoder.tally in
     let info = c.in-Ok-Some._info in
     let answer = rw c.in-Ok-Some.field-0-is at c.in-Ok-Some.ensures.answer in
-    let found = c.answered.ensures.found a payload c.new-sink.result c.play.new.sink tally info c.requires.accepted answer.1 in
+    let found = c.answer_is_ok_for_coded_pictures.ensures.found a payload c.new-sink.result c.play.new.sink tally info c.requires.accepted answer.1 in
     let frame : Frame = record { payload = payload; planes = found.0; said = info; tally = tally } in
     let decided = is_decided Drops DropsNot a payload c.new-sink.result c.play.new.sink tally info answer.1 in
+    let reading = passage g.R.ByteIn.remaining g.R.ByteIn.failures c.args.input.now c.play.new.input in
+    let writing = passage g.W.ByteOut.contents g.W.ByteOut.failures c.args.output.now c.write_line.new.output in
     rw (p.1, p.2)
-    (lines_fail c.args.places.place c.args.places.byte a c.args.counts.now.frames c.args.player.now.reader c.play.new.player.reader.place
-    (passage g.R.ByteIn.remaining g.R.ByteIn.failures c.args.input.now c.play.new.input)
-    (passage g.W.ByteOut.contents g.W.ByteOut.failures c.args.output.now c.write_line.new.output) (Decoded frame) c.in_err-write_line-in-Ok-Some.field-0.0
-    (record { codes = found.1; decided = decided }) answer.0
+    (line_stops (IsJudged a) payload_of (judged_line c.args.places.place a.configuration c.args.counts.now.frames)
+    (λ z. WritesLocated (LocatedAfter c.args.player.now.reader reading) c.args.places.byte c.args.counts.now.frames [] z writing) c.args.player.now.reader.place c.play.new.player.reader.place
+    reading writing (Decoded frame) c.in_err-write_line-in-Ok-Some.field-0.0
+    (record { is = record { codes = found.1; decided = decided }; reads = answer.0 })
     (rw (c.play.ensures.same, c.deref.ensures.value) at c.in_err-write_line-in-Ok-Some.ensures))
 
 pub returns-in_ok-write_line-in-Ok-Some-clause-answer :
@@ -41,12 +44,14 @@ returns-in_ok-write_line-in-Ok-Some-clause-answer g c =
     let tally = c.play.new.player.decoder.tally in
     let info = c.in-Ok-Some._info in
     let answer = rw c.in-Ok-Some.field-0-is at c.in-Ok-Some.ensures.answer in
-    let found = c.answered.ensures.found a payload c.new-sink.result c.play.new.sink tally info c.requires.accepted answer.1 in
+    let found = c.answer_is_ok_for_coded_pictures.ensures.found a payload c.new-sink.result c.play.new.sink tally info c.requires.accepted answer.1 in
     let frame : Frame = record { payload = payload; planes = found.0; said = info; tally = tally } in
     let decided = is_decided Drops DropsNot a payload c.new-sink.result c.play.new.sink tally info answer.1 in
     let writes = rw (c.play.ensures.same, c.deref.ensures.value) at c.in_ok-write_line-in-Ok-Some.ensures in (
       Decoded frame,
-      record { is = record { codes = found.1; decided = decided }; reads = answer.0; written = writes.0; writes = writes.1 },
+      record { is = record { codes = found.1; decided = decided }; reads = answer.0 },
+      writes.0,
+      writes.1,
       c.count.ensures,
     )
 
@@ -60,12 +65,14 @@ returns-in_err-write_refusal-in-Err-Payload-clause-answer g c =
     let f = c.in-Err-Payload.fault in
     let answer = rw c.in-Err-Payload.field-0-is at c.in-Err-Payload.ensures.answer in
     let grid = ap (λ (z : Dropped). z.grid) c.new-sink.ensures ∙ ap (λ (z : Accepted). division_of z.configuration) c.config.ensures in
-    let own = c.taken_lines.ensures.dropped a payload c.new-sink.result c.play.new.sink tally f c.requires.accepted answer.1 grid in
+    let own = c.sinks_of_own_lines_refuse_none.ensures.dropped a payload c.new-sink.result c.play.new.sink tally f c.requires.accepted answer.1 grid in
+    let reading = passage g.R.ByteIn.remaining g.R.ByteIn.failures c.args.input.now c.play.new.input in
+    let writing = passage g.W.ByteOut.contents g.W.ByteOut.failures c.args.output.now c.write_refusal.new.output in
     rw (p.1, p.2)
-    (lines_fail c.args.places.place c.args.places.byte a c.args.counts.now.frames c.args.player.now.reader c.play.new.player.reader.place
-    (passage g.R.ByteIn.remaining g.R.ByteIn.failures c.args.input.now c.play.new.input)
-    (passage g.W.ByteOut.contents g.W.ByteOut.failures c.args.output.now c.write_refusal.new.output) (Refused payload f tally) c.in_err-write_refusal-in-Err-Payload.field-0.0
-    (is_faulty Drops DropsNot a payload c.new-sink.result c.play.new.sink tally f own answer.1) answer.0
+    (line_stops (IsJudged a) payload_of (judged_line c.args.places.place a.configuration c.args.counts.now.frames)
+    (λ z. WritesLocated (LocatedAfter c.args.player.now.reader reading) c.args.places.byte c.args.counts.now.frames [] z writing) c.args.player.now.reader.place c.play.new.player.reader.place
+    reading writing (Refused payload f tally) c.in_err-write_refusal-in-Err-Payload.field-0.0
+    (record { is = is_faulty Drops DropsNot a payload c.new-sink.result c.play.new.sink tally f own answer.1; reads = answer.0 })
     c.in_err-write_refusal-in-Err-Payload.ensures)
 
 pub returns-in_ok-write_refusal-in-Err-Payload-clause-answer :
@@ -77,15 +84,12 @@ returns-in_ok-write_refusal-in-Err-Payload-clause-answer g c =
     let f = c.in-Err-Payload.fault in
     let answer = rw c.in-Err-Payload.field-0-is at c.in-Err-Payload.ensures.answer in
     let grid = ap (λ (z : Dropped). z.grid) c.new-sink.ensures ∙ ap (λ (z : Accepted). division_of z.configuration) c.config.ensures in
-    let own = c.taken_lines.ensures.dropped a payload c.new-sink.result c.play.new.sink tally f c.requires.accepted answer.1 grid in
+    let own = c.sinks_of_own_lines_refuse_none.ensures.dropped a payload c.new-sink.result c.play.new.sink tally f c.requires.accepted answer.1 grid in
     let writes = c.in_ok-write_refusal-in-Err-Payload.ensures in (
       Refused payload f tally,
-      record {
-        is = is_faulty Drops DropsNot a payload c.new-sink.result c.play.new.sink tally f own answer.1;
-        reads = answer.0;
-        written = writes.0;
-        writes = writes.1;
-      },
+      record { is = is_faulty Drops DropsNot a payload c.new-sink.result c.play.new.sink tally f own answer.1; reads = answer.0 },
+      writes.0,
+      writes.1,
       c.count-in-Err-Payload.ensures ∙ ap (λ z. one_counted c.args.counts.now (Some z)) c.from.ensures,
     )
 
@@ -103,4 +107,4 @@ returns-in-Err-File-clause-answer g c =
     let stops = rw c.in-Err-File.field-0-is at c.in-Err-File.ensures.located in
     let writes : WritesLine [] (located_text c.args.places.byte i f to.offset) writing = rw (is, c.offset-offset.ensures) at c.tell_byte.ensures in
     subst (λ z. JudgeStopsBy c.args.places.place c.args.places.byte a i from to.place reading writing z (cause_of z)) (sym is)
-    (next_refused c.args.places.place c.args.places.byte a i from to.place to.offset reading writing f (cause_of f) refl answer.0 stops writes)
+    (file_refused (IsJudged a) payload_of (judged_line c.args.places.place a.configuration i) c.args.places.byte i from to.place to.offset reading writing f (cause_of f) refl answer.0 stops writes)

@@ -3,7 +3,7 @@ use Rattle.std.proofs.lemmas.Result.{err_from_is_err_and}
 use Rattle.ffv1_range.specs.Counts.{saturated}
 use Rattle.ffv1_wire.specs.Passage.{passage}
 use Rattle.ffv1_engine.specs.Faults.{cause_of}
-use Rattle.ffv1_engine.specs.Judged.{JudgeAnswers}
+use Rattle.ffv1_engine.specs.Internal.Judged.{JudgeAnswers}
 use Rattle.ffv1_engine.proofs.FramesJudged.{so_more, so_none, so_over, so_stops}
 use Rattle.ffv1_engine.proofs.judging.judge_frames.Goals as goal
 
@@ -45,12 +45,12 @@ loop-text-preserved g c =
     c.in_ok-judge_frame.ensures.answer) in (
       c.in_ok-judge_frame.ensures.sound,
       c.in_ok-judge_frame.ensures.same ∙ same,
-      so_more c.args.places.place c.args.player.now.decoder.accepted c.args.player.now.reader.place c.loop-text.player.reader.place c.judge_frame.new.player.reader.place c.loop-text.counts
+      so_more c.args.places.place c.args.places.byte c.args.player.now.decoder.accepted c.args.player.now.reader c.loop-text.player.reader c.judge_frame.new.player.reader.place c.loop-text.counts
           (g.R.ByteIn.remaining c.args.input.now) (g.R.ByteIn.remaining c.loop-text.input) (g.R.ByteIn.remaining c.judge_frame.new.input)
           (g.W.ByteOut.contents c.args.output.now) (g.W.ByteOut.contents c.loop-text.output) (g.W.ByteOut.contents c.judge_frame.new.output)
           (g.R.ByteIn.failures c.args.input.now) (g.R.ByteIn.failures c.loop-text.input) (g.R.ByteIn.failures c.judge_frame.new.input)
           (g.W.ByteOut.failures c.args.output.now) (g.W.ByteOut.failures c.loop-text.output) (g.W.ByteOut.failures c.judge_frame.new.output)
-          c.loop-text.invariant.2 c.judge_frame.new.counts answer.0 answer.1 answer.2,
+          c.loop-text.invariant.2 c.judge_frame.new.counts answer.0 answer.1 answer.2 answer.3 answer.4,
       c.in_ok-judge_frame.ensures.container ∙ c.loop-text.invariant.3,
       (λ scope text begun. c.in_ok-judge_frame.ensures.reached c.if-branch.true scope text (c.loop-text.invariant.4 scope text begun)),
     )
@@ -66,7 +66,7 @@ returns-clause-ok g c =
     c.in_ok-judge_frame.ensures.answer) in (
       so.js,
       rw answer.2 so.counted,
-      so_over c.args.places.place c.args.player.now.decoder.accepted c.args.player.now.reader.place c.loop-text.player.reader.place c.judge_frame.new.player.reader.place c.loop-text.counts
+      so_over c.args.places.place c.args.places.byte c.args.player.now.decoder.accepted c.args.player.now.reader c.loop-text.player.reader c.judge_frame.new.player.reader.place c.loop-text.counts
           (g.R.ByteIn.remaining c.args.input.now) (g.R.ByteIn.remaining c.loop-text.input) (g.R.ByteIn.remaining c.judge_frame.new.input)
           (g.W.ByteOut.contents c.args.output.now) (g.W.ByteOut.contents c.loop-text.output) (g.W.ByteOut.contents c.judge_frame.new.output)
           (g.R.ByteIn.failures c.args.input.now) (g.R.ByteIn.failures c.loop-text.input) (g.R.ByteIn.failures c.judge_frame.new.input)

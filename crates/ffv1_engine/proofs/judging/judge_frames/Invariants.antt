@@ -1,7 +1,7 @@
 use Rattle.std.proofs.Common.{◌≡◌, None}
 use Rattle.ffv1_wire.specs.Passage.{passage}
 use Rattle.ffv1_files.specs.Places.{amount, container_of}
-use Rattle.ffv1_engine.specs.Located.{StaysReached}
+use Rattle.ffv1_engine.specs.Internal.Located.{StaysReached}
 use Rattle.ffv1_engine.proofs.FramesJudged.{JudgedSo}
 use Rattle.ffv1_engine.proofs.judging.judge_frames.Given as goal
 

@@ -25,12 +25,12 @@ returns-then-packed-eq0-clause-err g c =
 pub returns-in_err-finished-clause-err : goal.returns-in_err-finished-clause-err
 returns-in_err-finished-clause-err g c =
     let p = err_from_is_err_and c.from_residual-in_err-finished.result c.from_residual-in_err-finished.ensures.1 in
-    let laws : EndLaws = record { cued = c.pieces.ensures.«open»; whole = c.pieces.ensures.whole; over = c.pieces.ensures.over } in
+    let laws : EndLaws = record { cued = c.writes_make_up_the_file.ensures.«open»; whole = c.writes_make_up_the_file.ensures.whole; over = c.writes_make_up_the_file.ensures.over } in
     let many : 0 < c.in_ok-packed.packed.frames = grind (arith, common_steps, c.if-packed-eq0.false) in
     let put = c.in_ok-packed.ensures.ok.put in
     let out = passage g.W.ByteOut.contents g.W.ByteOut.failures c.put_pictures.new.output c.finish.new.out in
     let finishes = c.in_err-finished.ensures.answer (ap (λ (x : Writing). x.failed) put.is) (subst (λ n. 0 < n) (put.frames_are ∙ sym (ap (λ (x : Writing). x.count) put.is)) many) in
-    rw (p.1, p.2) (finish_stops _ c.args.choice.now _ _ _ _ c.in_ok-reader.ensures.ok _ _ refl refl _ _ c.in_ok-packed.ensures.ok laws c.texts.ensures.only c.images.ensures.told out refl refl many c.in_err-finished.field-0.0 finishes)
+    rw (p.1, p.2) (finish_stops _ c.args.choice.now _ _ _ _ c.in_ok-reader.ensures.ok _ _ refl refl _ _ c.in_ok-packed.ensures.ok laws c.text_is_read_as_its_pictures.ensures.only c.text_is_read_as_its_images.ensures.told out refl refl many c.in_err-finished.field-0.0 finishes)
 
 pub returns-in_err-finished-clause-own : goal.returns-in_err-finished-clause-own
 returns-in_err-finished-clause-own g c =
@@ -43,9 +43,9 @@ returns-in_err-finished-clause-own g c =
 
 pub returns-clause-ok : goal.returns-clause-ok
 returns-clause-ok g c =
-    let laws : EndLaws = record { cued = c.pieces.ensures.«open»; whole = c.pieces.ensures.whole; over = c.pieces.ensures.over } in
+    let laws : EndLaws = record { cued = c.writes_make_up_the_file.ensures.«open»; whole = c.writes_make_up_the_file.ensures.whole; over = c.writes_make_up_the_file.ensures.over } in
     let many : 0 < c.in_ok-packed.packed.frames = grind (arith, common_steps, c.if-packed-eq0.false) in
     let put = c.in_ok-packed.ensures.ok.put in
     let out = passage g.W.ByteOut.contents g.W.ByteOut.failures c.put_pictures.new.output c.finish.new.out in
     let finishes = c.in_ok-finished.ensures.answer (ap (λ (x : Writing). x.failed) put.is) (subst (λ n. 0 < n) (put.frames_are ∙ sym (ap (λ (x : Writing). x.count) put.is)) many) in
-    packs _ c.args.choice.now _ _ _ _ c.in_ok-reader.ensures.ok _ _ refl refl _ _ c.in_ok-packed.ensures.ok laws c.texts.ensures.only c.images.ensures.told out refl refl many c.in_ok-finished.finished finishes
+    packs _ c.args.choice.now _ _ _ _ c.in_ok-reader.ensures.ok _ _ refl refl _ _ c.in_ok-packed.ensures.ok laws c.text_is_read_as_its_pictures.ensures.only c.text_is_read_as_its_images.ensures.told out refl refl many c.in_ok-finished.finished finishes

@@ -1,11 +1,11 @@
 use Rattle.std.proofs.lemmas.Result.{err_from_is_err_and}
 use Rattle.std.proofs.Common.{refl, ◌∙◌, ◌+◌, ◌<◌, ◌≤◌, ℕ, List, ap, arith, subst, sym, [], ◌∷◌, ◌++◌, length, Ok, Err}
 use Rattle.ffv1_wire.specs.Passage.{passage}
-use Rattle.ffv1_avi.specs.Streams.{limit}
+use Rattle.ffv1_reads.specs.Head.{limit}
 use Rattle.ffv1_matroska.specs.Writers.{Puts, Writing}
-use Rattle.ffv1_engine.specs.Clusters.{PutAll}
+use Rattle.ffv1_engine.specs.Internal.Clusters.{PutAll}
 use Rattle.ffv1_engine.specs.declared.packing.Packed.{Packed}
-use Rattle.ffv1_engine.specs.VideoReads.{reading_of}
+use Rattle.ffv1_engine.specs.Internal.VideoReads.{reading_of}
 use Rattle.ffv1_engine.proofs.ClustersPut.{encode_stops, encoded_more_is, encoded_none, put_long, put_more, put_none, put_stops, puts_all}
 use Rattle.ffv1_engine.proofs.matroska_packing.put_pictures.Goals as goal
 
@@ -38,7 +38,7 @@ returns-in_err-put-clause-err g c =
     let out = passage g.W.ByteOut.contents g.W.ByteOut.failures c.loop-planes.output c.put.new.out in
     let few = subst (λ (b : List ℕ). length b ≤ limit) c.as_slice-size.ensures.value c.if-size-gt-LIMIT.false in
     let puts = subst (λ b. Puts out c.loop-planes.writer b c.put.new.self (Err c.in_err-put.field-0.0)) c.as_slice.ensures.value (c.in_err-put.ensures.answer (ap (λ (x : Writing). x.failed) i.3.is)) in
-    rw (p.1, p.2) (put_stops _ _ _ _ _ _ _ _ _ i.1 i.3 _ refl refl _ c.in-Some.frame.items one c.pieces.ensures.more c.put.new.self out refl refl few c.in_err-put.field-0.0 puts)
+    rw (p.1, p.2) (put_stops _ _ _ _ _ _ _ _ _ i.1 i.3 _ refl refl _ c.in-Some.frame.items one c.writes_make_up_the_file.ensures.more c.put.new.self out refl refl few c.in_err-put.field-0.0 puts)
 
 pub loop-planes-preserved : goal.loop-planes-preserved
 loop-planes-preserved g c =
@@ -56,7 +56,7 @@ loop-planes-preserved g c =
       encoded_more_is _ _ _ _ _ _ _ _ _ i.1 i.3 _ refl refl _ c.in-Some.frame.items one,
       c.in_ok-frame.ensures.same ∙ i.2,
       subst (λ b. PutAll c.args.writer.now c.put.new.self (i.0 ++ (c.in-Some.frame.items ∷ [])) all (packed (length b))) (sym counted)
-          (put_more c.pieces.ensures.more _ _ _ _ c.in-Some.frame.items _ out _ i.3 refl refl few puts),
+          (put_more c.writes_make_up_the_file.ensures.more _ _ _ _ c.in-Some.frame.items _ out _ i.3 refl refl few puts),
       omega (arith, ends, long, i.4),
     )
 

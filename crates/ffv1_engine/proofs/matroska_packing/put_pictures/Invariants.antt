@@ -1,8 +1,8 @@
 use Rattle.std.proofs.Common.{◌≡◌, ◌-◌, ◌+◌, ◌^◌, ◌≤◌, ℕ, List}
 use Rattle.ffv1_wire.specs.Passage.{passage}
-use Rattle.ffv1_engine.specs.Clusters.{PutAll}
-use Rattle.ffv1_engine.specs.Encoding.{Encoded}
-use Rattle.ffv1_engine.specs.VideoReads.{reading_of}
+use Rattle.ffv1_engine.specs.Internal.Clusters.{PutAll}
+use Rattle.ffv1_engine.specs.Internal.Encoding.{Encoded}
+use Rattle.ffv1_engine.specs.Internal.VideoReads.{reading_of}
 use Rattle.ffv1_engine.proofs.matroska_packing.put_pictures.Given as goal
 
 abbrev pub invariant-loop-planes : goal.invariant-loop-planes

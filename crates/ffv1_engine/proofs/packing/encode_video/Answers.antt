@@ -38,4 +38,4 @@ returns-clause-ok g c =
     let for = c.in_ok-encoder.ensures.ok in
     let some : 0 < length c.encode_pictures.new.frames.items = grind (arith, common_steps, c.is_empty.ensures, c.if-is_empty.false) in
     let head = rw c.config.ensures at c.in_ok-head.ensures.ok in
-    encodes_video c.texts.ensures.only c.images.ensures.told _ c.args.choice.now _ _ _ _ _ _ refl refl c.in_ok-reader.ensures.ok c.in_ok-reader.ensures.head for c.in_ok-encode_pictures.ensures.ok (some_frames _ some) head
+    encodes_video c.text_is_read_as_its_pictures.ensures.only c.text_is_read_as_its_images.ensures.told _ c.args.choice.now _ _ _ _ _ _ refl refl c.in_ok-reader.ensures.ok c.in_ok-reader.ensures.head for c.in_ok-encode_pictures.ensures.ok (some_frames _ some) head

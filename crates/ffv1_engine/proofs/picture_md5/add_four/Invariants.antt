@@ -1,6 +1,7 @@
 use Rattle.std.specs.Prelude.{ℕ, ◌++◌, [], ◌∷◌, List, flat_map}
 use Rattle.std.specs.List.{range_with_len}
-use Rattle.ffv1_engine.specs.RawPicture.{IsOf, pixel}
+use Rattle.ffv1_engine.specs.RawPicture.{pixel}
+use Rattle.ffv1_engine.specs.Internal.RawPicture.{IsOf}
 use Rattle.ffv1_engine.proofs.picture_md5.add_four.Given as goal
 
 abbrev pub invariant-loop-at : goal.invariant-loop-at

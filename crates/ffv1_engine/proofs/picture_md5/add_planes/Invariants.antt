@@ -1,7 +1,7 @@
 use Rattle.std.proofs.Common.{ℕ, ◌++◌, List, take}
 use Rattle.std.specs.List.{concat}
 use Rattle.ffv1_codec.specs.Picture.{planes_of}
-use Rattle.ffv1_engine.specs.RawPicture.{IsOf}
+use Rattle.ffv1_engine.specs.Internal.RawPicture.{IsOf}
 use Rattle.ffv1_engine.proofs.picture_md5.add_planes.Given as goal
 
 abbrev pub invariant-loop-plane : goal.invariant-loop-plane

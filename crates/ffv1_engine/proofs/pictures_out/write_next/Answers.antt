@@ -4,12 +4,12 @@ use Rattle.ffv1_wire.specs.Passage.{passage}
 use Rattle.ffv1_record.specs.Accepted.{Accepted}
 use Rattle.ffv1_codec.specs.Kept.{Keeps, KeepsNot}
 use Rattle.ffv1_codec.specs.Picture.{Planes, planes_of}
-use Rattle.ffv1_engine.specs.PicturesOut.{IsKeptFor, NextStopsBy, WritesPicture, said_in}
+use Rattle.ffv1_engine.specs.Internal.PicturesOut.{IsKeptFor, NextStopsBy, WritesPicture, said_in}
 use Rattle.ffv1_engine.specs.Faults.{cause_of}
 use Rattle.ffv1_engine.specs.Stream.{Frame}
-use Rattle.ffv1_engine.specs.Told.{PlaysFrame}
 use Rattle.ffv1_engine.proofs.FrameDecoded.{is_decided, is_faulty}
 use Rattle.ffv1_engine.specs.Told.{is_telling_fault}
+use Rattle.ffv1_engine.specs.Internal.Plays.{PlaysFrame}
 use Rattle.ffv1_engine.proofs.OwnFaults.{payload_tells}
 use Rattle.ffv1_engine.proofs.PicturesWritten.{decode_cause, payload_stops, picture_stops}
 use Rattle.ffv1_engine.proofs.pictures_out.write_next.Goals as goal
@@ -28,8 +28,8 @@ returns-in_err-write_picture-in-Ok-Some-clause-answer g c =
     let input = passage g.R.ByteIn.remaining g.R.ByteIn.failures c.args.input.now c.play.new.input in
     let output = passage g.W.ByteOut.contents g.W.ByteOut.failures c.args.output.now c.write_picture.new.output in
     let answer = rw c.in-Ok-Some.field-0-is at c.in-Ok-Some.ensures.answer in
-    let found = c.answered.ensures.found a payload c.args.kept.now c.play.new.sink tally info c.requires.accepted answer.1 in
-    let kept = c.kept_picture.ensures.picture a found.0 c.args.kept.now c.play.new.sink c.requires.accepted found.1.picture.fits c.requires.kept.grid c.requires.kept.planes found.2 in
+    let found = c.answer_is_ok_for_coded_pictures.ensures.found a payload c.args.kept.now c.play.new.sink tally info c.requires.accepted answer.1 in
+    let kept = c.kept_lines_make_up_the_picture.ensures.picture a found.0 c.args.kept.now c.play.new.sink c.requires.accepted found.1.picture.fits c.requires.kept.grid c.requires.kept.planes found.2 in
     let planes : planes_of c.planes.result.now ≡ found.0 = sym c.planes.ensures.value ∙ kept.0 in
     let frame : Frame = record { payload = payload; planes = found.0; said = info; tally = tally } in
     let plays : PlaysFrame a c.args.player.now.reader.place c.play.new.player.reader.place input frame =
@@ -51,8 +51,8 @@ returns-in_ok-write_picture-in-Ok-Some-clause-answer g c =
     let input = passage g.R.ByteIn.remaining g.R.ByteIn.failures c.args.input.now c.play.new.input in
     let output = passage g.W.ByteOut.contents g.W.ByteOut.failures c.args.output.now c.write_picture.new.output in
     let answer = rw c.in-Ok-Some.field-0-is at c.in-Ok-Some.ensures.answer in
-    let found = c.answered.ensures.found a payload c.args.kept.now c.play.new.sink tally info c.requires.accepted answer.1 in
-    let kept = c.kept_picture.ensures.picture a found.0 c.args.kept.now c.play.new.sink c.requires.accepted found.1.picture.fits c.requires.kept.grid c.requires.kept.planes found.2 in
+    let found = c.answer_is_ok_for_coded_pictures.ensures.found a payload c.args.kept.now c.play.new.sink tally info c.requires.accepted answer.1 in
+    let kept = c.kept_lines_make_up_the_picture.ensures.picture a found.0 c.args.kept.now c.play.new.sink c.requires.accepted found.1.picture.fits c.requires.kept.grid c.requires.kept.planes found.2 in
     let planes : planes_of c.planes.result.now ≡ found.0 = sym c.planes.ensures.value ∙ kept.0 in
     let frame : Frame = record { payload = payload; planes = found.0; said = info; tally = tally } in
     let plays : PlaysFrame a c.args.player.now.reader.place c.play.new.player.reader.place input frame =
@@ -67,8 +67,8 @@ pub returns-in_ok-write_picture-in-Ok-Some-clause-kept :
 returns-in_ok-write_picture-in-Ok-Some-clause-kept g c =
     let a = c.args.player.now.decoder.accepted in
     let answer = rw c.in-Ok-Some.field-0-is at c.in-Ok-Some.ensures.answer in
-    let found = c.answered.ensures.found a c.play.new.player.payload.items c.args.kept.now c.play.new.sink c.play.new.player.decoder.tally c.in-Ok-Some.info c.requires.accepted answer.1 in
-    let kept = c.kept_picture.ensures.picture a found.0 c.args.kept.now c.play.new.sink c.requires.accepted found.1.picture.fits c.requires.kept.grid c.requires.kept.planes found.2 in
+    let found = c.answer_is_ok_for_coded_pictures.ensures.found a c.play.new.player.payload.items c.args.kept.now c.play.new.sink c.play.new.player.decoder.tally c.in-Ok-Some.info c.requires.accepted answer.1 in
+    let kept = c.kept_lines_make_up_the_picture.ensures.picture a found.0 c.args.kept.now c.play.new.sink c.requires.accepted found.1.picture.fits c.requires.kept.grid c.requires.kept.planes found.2 in
     let now : IsKeptFor a c.play.new.sink = record { grid = kept.1 ∙ c.requires.kept.grid; planes = c.planes.ensures.sizes } in
     subst (IsKeptFor a) (sym c.planes.follows.holds-at-none) now
 
@@ -81,8 +81,8 @@ returns-in-Err-Payload-clause-answer g c =
     let input = passage g.R.ByteIn.remaining g.R.ByteIn.failures c.args.input.now c.play.new.input in
     let output = passage g.W.ByteOut.contents g.W.ByteOut.failures c.args.output.now c.args.output.now in
     let answer = rw c.in-Err-Payload.field-0-is at c.in-Err-Payload.ensures.answer in
-    let own = c.taken_lines.ensures.kept a payload c.args.kept.now c.play.new.sink tally f c.requires.accepted answer.1 c.requires.kept.grid in
-    let content = decode_cause f.fault (c.decode_faults.ensures a payload c.args.kept.now c.play.new.sink tally f answer.1) own in
+    let own = c.sinks_of_own_lines_refuse_none.ensures.kept a payload c.args.kept.now c.play.new.sink tally f c.requires.accepted answer.1 c.requires.kept.grid in
+    let content = decode_cause f.fault (c.answered_fault_is_of_decoding.ensures a payload c.args.kept.now c.play.new.sink tally f answer.1) own in
     let h = c.args.text.now.head in
     let first = said_in c.args.text.now.begun in
     subst (λ z. NextStopsBy a h first c.args.player.now.reader.place c.play.new.player.reader.place input output z (cause_of z)) (sym c.from-in-Err-Payload.ensures)
@@ -96,6 +96,6 @@ returns-in-Err-Payload-clause-own g c =
     let tally = c.play.new.player.decoder.tally in
     let f = c.in-Err-Payload.fault in
     let answer = rw c.in-Err-Payload.field-0-is at c.in-Err-Payload.ensures.answer in
-    let own = c.taken_lines.ensures.kept a payload c.args.kept.now c.play.new.sink tally f c.requires.accepted answer.1 c.requires.kept.grid in
-    let decode = c.decode_faults.ensures a payload c.args.kept.now c.play.new.sink tally f answer.1 in
+    let own = c.sinks_of_own_lines_refuse_none.ensures.kept a payload c.args.kept.now c.play.new.sink tally f c.requires.accepted answer.1 c.requires.kept.grid in
+    let decode = c.answered_fault_is_of_decoding.ensures a payload c.args.kept.now c.play.new.sink tally f answer.1 in
     inl (inr (inl (ap is_telling_fault c.from-in-Err-Payload.ensures ∙ payload_tells f.fault decode own)))

@@ -4,10 +4,10 @@ use Rattle.ffv1_range.specs.Counts.{saturated}
 use Rattle.ffv1_wire.specs.Passage.{passage}
 use Rattle.ffv1_codec.specs.SliceList.{Said}
 use Rattle.ffv1_engine.specs.Faults.{cause_of}
-use Rattle.ffv1_engine.specs.Opens.{stream_of}
-use Rattle.ffv1_engine.specs.PicturesOut.{IsKeptFor, WritesNext, head_saying, said_in}
+use Rattle.ffv1_engine.specs.Internal.Opens.{stream_of}
+use Rattle.ffv1_engine.specs.Internal.PicturesOut.{IsKeptFor, WritesNext, head_saying, said_in}
 use Rattle.ffv1_engine.specs.Unpacked.{video_of}
-use Rattle.ffv1_engine.proofs.FramesTold.{counted_more}
+use Rattle.ffv1_engine.proofs.FramesInTurn.{counted_more}
 use Rattle.ffv1_engine.proofs.PicturesWritten.{UnpackedSo, begun_behind, begun_more, heads_of, unpacked_more, unpacked_none, unpacked_over, unpacking_stops, wants_memory, zeros_kept}
 use Rattle.ffv1_engine.proofs.pictures_out.write_pictures.Goals as goal
 

@@ -2,8 +2,8 @@ use Rattle.std.proofs.Common.{◌≡◌, None}
 use Rattle.ffv1_wire.specs.Passage.{passage}
 use Rattle.ffv1_codec.specs.SliceList.{Said}
 use Rattle.ffv1_files.specs.Places.{amount, container_of}
-use Rattle.ffv1_engine.specs.Opens.{stream_of}
-use Rattle.ffv1_engine.specs.PicturesOut.{IsKeptFor, head_saying}
+use Rattle.ffv1_engine.specs.Internal.Opens.{stream_of}
+use Rattle.ffv1_engine.specs.Internal.PicturesOut.{IsKeptFor, head_saying}
 use Rattle.ffv1_engine.specs.Unpacked.{video_of}
 use Rattle.ffv1_engine.proofs.PicturesWritten.{UnpackedSo}
 use Rattle.ffv1_engine.proofs.pictures_out.write_pictures.Given as goal

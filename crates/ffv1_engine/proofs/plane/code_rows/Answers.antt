@@ -12,7 +12,7 @@ use Rattle.ffv1_engine.proofs.plane.code_rows.Goals as goal
 pub returns-clause-code : goal.returns-clause-code
 returns-clause-code g c =
     let puts = rw (c.new-encoder.ensures, c.requires.fresh) at c.in_ok-encode_rows.ensures.ok in
-    let below = cell_below c.args.set.now (cell_of c.args.plane.now.width c.args.plane.now.samples.now) 0 (plane_residuals c.args.set.now c.args.plane.now.width c.args.plane.now.height c.args.plane.now.samples.now) c.bounded.ensures.below in
+    let below = cell_below c.args.set.now (cell_of c.args.plane.now.width c.args.plane.now.samples.now) 0 (plane_residuals c.args.set.now c.args.plane.now.width c.args.plane.now.height c.args.plane.now.samples.now) c.is_a_bounded_set.ensures.below in
     c.in_ok-code.ensures.fresh c.args.table.now (contexts_of c.args.set.now * 32) _ (plane_steps c.args.set.now c.args.plane.now.width c.args.plane.now.height c.args.plane.now.samples.now) below puts
 
 pub returns-clause-decisions : goal.returns-clause-decisions
@@ -30,7 +30,7 @@ pub returns-clause-long : goal.returns-clause-long
 returns-clause-long g c =
     let puts = rw (c.new-encoder.ensures, c.requires.fresh) at c.in_ok-encode_rows.ensures.ok in
     let steps = plane_steps c.args.set.now c.args.plane.now.width c.args.plane.now.height c.args.plane.now.samples.now in
-    let below = cell_below c.args.set.now (cell_of c.args.plane.now.width c.args.plane.now.samples.now) 0 (plane_residuals c.args.set.now c.args.plane.now.width c.args.plane.now.height c.args.plane.now.samples.now) c.bounded.ensures.below in
+    let below = cell_below c.args.set.now (cell_of c.args.plane.now.width c.args.plane.now.samples.now) 0 (plane_residuals c.args.set.now c.args.plane.now.width c.args.plane.now.height c.args.plane.now.samples.now) c.is_a_bounded_set.ensures.below in
     let kept = kept_is c.args.table.now (contexts_of c.args.set.now * 32) steps below in
     let interval : c.encode_rows.new.encoder.interval ≡ interval_of (decisions_after c.args.table.now [] steps) = puts.interval ∙ ap interval_of kept in
     c.in_ok-code.ensures.long ∙ ap (λ (i : Interval). (narrow i 129 false).count) interval

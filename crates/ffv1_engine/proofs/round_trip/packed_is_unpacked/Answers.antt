@@ -14,59 +14,59 @@ use Rattle.ffv1_engine.proofs.PackedIsUnpacked.{FileLaws, accepted_in, avi_is, a
 use Rattle.ffv1_engine.proofs.PackedText.{RecordLaws}
 use Rattle.ffv1_engine.proofs.round_trip.packed_is_unpacked.Goals as goal
 
-file_laws : (profile : Profile) → goal.After-written_is_record → FileLaws profile
+file_laws : (profile : Profile) → goal.After-written_bytes_are_a_record → FileLaws profile
 file_laws Strict c = record {
-  file = c.written_is_read-2.ensures.file;
-  read = c.written_is_read.ensures FirstMovi;
-  is_read = c.file_is_read.ensures.first;
-  is_whole = c.file_is_read.ensures.whole;
-  next = c.frames_in_turn.ensures;
-  said = c.said_heads.ensures;
-  named = c.said_depths.ensures;
-  canonical = c.texts.ensures.canonical;
+  file = c.written_file_is_read_back.ensures.file;
+  read = c.written_avi_is_read_back.ensures FirstMovi;
+  is_read = c.file_is_read_as_its_frames.ensures.first;
+  is_whole = c.file_is_read_as_its_frames.ensures.whole;
+  next = c.frames_come_in_turn.ensures;
+  said = c.said_head_can_be_read.ensures;
+  named = c.said_chroma_has_a_name.ensures;
+  canonical = c.text_is_read_as_its_pictures.ensures.canonical;
 }
 file_laws Wide c = record {
-  file = c.written_is_read-2.ensures.riff;
-  read = c.written_is_read.ensures Whole;
-  is_read = c.file_is_read.ensures.first;
-  is_whole = c.file_is_read.ensures.whole;
-  next = c.frames_in_turn.ensures;
-  said = c.said_heads.ensures;
-  named = c.said_depths.ensures;
-  canonical = c.texts.ensures.canonical;
+  file = c.written_file_is_read_back.ensures.riff;
+  read = c.written_avi_is_read_back.ensures Whole;
+  is_read = c.file_is_read_as_its_frames.ensures.first;
+  is_whole = c.file_is_read_as_its_frames.ensures.whole;
+  next = c.frames_come_in_turn.ensures;
+  said = c.said_head_can_be_read.ensures;
+  named = c.said_chroma_has_a_name.ensures;
+  canonical = c.text_is_read_as_its_pictures.ensures.canonical;
 }
 
-frame_laws : goal.After-written_is_record → FrameLaws
+frame_laws : goal.After-written_bytes_are_a_record → FrameLaws
 frame_laws c = record {
-  encoded = c.encoded_frame.ensures;
-  one = c.one_picture.ensures;
-  decoded = c.is_decoded.ensures;
-  apart = c.one_end.ensures.apart;
-  cut = c.cutting.ensures.only;
-  long = c.frame_lengths.ensures.long;
-  columns = λ a is. (c.accepted.ensures.columns a.configuration a.table is).0;
-  rows = λ a is. (c.accepted.ensures.rows a.configuration a.table is).0;
-  sentinel = c.sentinel_ending.ensures.bytes;
-  counts = c.counts.ensures.steps;
+  encoded = c.encoded_frame_codes_its_picture.ensures;
+  one = c.payload_codes_one_picture.ensures;
+  decoded = c.coded_picture_is_decoded.ensures;
+  apart = c.decoding_has_one_end.ensures.apart;
+  cut = c.cutting_is_found_from_the_end.ensures.only;
+  long = c.frame_length_follows_from_residuals.ensures.long;
+  columns = λ a is. (c.accepted_configuration_is_in_range.ensures.columns a.configuration a.table is).0;
+  rows = λ a is. (c.accepted_configuration_is_in_range.ensures.rows a.configuration a.table is).0;
+  sentinel = c.sentinel_ending_codes_its_list.ensures.bytes;
+  counts = c.each_step_is_one_or_zero.ensures.steps;
 }
 
-record_laws : goal.After-written_is_record → RecordLaws
+record_laws : goal.After-written_bytes_are_a_record → RecordLaws
 record_laws c = record {
-  written = c.written_is_record.ensures;
-  one = c.one_configuration.ensures.one;
-  table = c.one_configuration.ensures.table;
-  none = c.one_refusal.ensures.none;
-  symbols = record { none = c.lengths.ensures.zero; some = c.lengths.ensures.unsigned; least = c.exponents.ensures.least; same = c.lengths.ensures.shifted };
-  numbers = record { depth = c.accepted.ensures.depth; factors = c.accepted.ensures.factors; columns = c.accepted.ensures.columns; rows = c.accepted.ensures.rows };
+  written = c.written_bytes_are_a_record.ensures;
+  one = c.record_has_one_configuration.ensures.one;
+  table = c.record_has_one_configuration.ensures.table;
+  none = c.bytes_are_refused_for_one_reason.ensures.none;
+  symbols = record { none = c.symbol_length_follows_from_exponent.ensures.zero; some = c.symbol_length_follows_from_exponent.ensures.unsigned; least = c.exponent_is_the_highest_bit.ensures.least; same = c.symbol_length_follows_from_exponent.ensures.shifted };
+  numbers = record { depth = c.accepted_configuration_is_in_range.ensures.depth; factors = c.accepted_configuration_is_in_range.ensures.factors; columns = c.accepted_configuration_is_in_range.ensures.columns; rows = c.accepted_configuration_is_in_range.ensures.rows };
 }
 
-matroska_laws : goal.After-written_is_record → MatroskaLaws
+matroska_laws : goal.After-written_bytes_are_a_record → MatroskaLaws
 matroska_laws c = record {
-  finished = c.written_is_read-3.ensures.finished;
-  opened = c.written_is_read-3.ensures.«open»;
-  begun = c.written_is_read-3.ensures.begun;
-  is_file = c.read_is_file.ensures;
-  is_whole = c.file_is_read.ensures.whole;
+  finished = c.written_file_is_read_back-2.ensures.finished;
+  opened = c.written_file_is_read_back-2.ensures.«open»;
+  begun = c.written_file_is_read_back-2.ensures.begun;
+  is_file = c.what_is_read_is_a_file.ensures;
+  is_whole = c.file_is_read_as_its_frames.ensures.whole;
 }
 
 pub returns-clause-read : goal.returns-clause-read
@@ -104,7 +104,7 @@ pub returns-clause-packed : goal.returns-clause-packed
 returns-clause-packed c = packed_so
 
 pub returns-clause-strict : goal.returns-clause-strict
-returns-clause-strict c = λ choice text w. lined_by c.images.ensures.lined 8 w.packs.video.ppm text w.packs.video.head w.packs.video.pictures (omega arith) (packed_so Strict choice text w)
+returns-clause-strict c = λ choice text w. lined_by c.text_is_read_as_its_images.ensures.lined 8 w.packs.video.ppm text w.packs.video.head w.packs.video.pictures (omega arith) (packed_so Strict choice text w)
 
 pub returns-clause-ppm : goal.returns-clause-ppm
 returns-clause-ppm c = same_ppm
@@ -141,7 +141,7 @@ pub returns-clause-matroska_packed : goal.returns-clause-matroska_packed
 returns-clause-matroska_packed c = matroska_so
 
 pub returns-clause-matroska_strict : goal.returns-clause-matroska_strict
-returns-clause-matroska_strict c = λ choice text w. lined_by c.images.ensures.lined 8 w.packs.video.ppm text w.packs.video.head w.packs.video.pictures (omega arith) (matroska_so Strict choice text w)
+returns-clause-matroska_strict c = λ choice text w. lined_by c.text_is_read_as_its_images.ensures.lined 8 w.packs.video.ppm text w.packs.video.head w.packs.video.pictures (omega arith) (matroska_so Strict choice text w)
 
 pub returns-clause-matroska_ppm : goal.returns-clause-matroska_ppm
 returns-clause-matroska_ppm c = λ packing choice text w is. ppm_by w.packs.video.ppm text w.packs.video.head w.packs.video.pictures is

@@ -1,18 +1,20 @@
 use Rattle.std.proofs.Common.{◌≡◌, Err, Ok, Result, inl, inr, subst, sym}
 use Rattle.ffv1_wire.specs.Passage.{Passage}
 use Rattle.ffv1_record.specs.Accepted.{Accepted}
+use Rattle.ffv1_files.specs.Places.{container_of}
 use Rattle.ffv1_files.specs.declared.container.Container.{Container}
 use Rattle.ffv1_engine.specs.declared.fault.Fault.{Fault}
+use Rattle.ffv1_engine.specs.declared.fault.Fault.TheVariants as fault
 use Rattle.std.proofs.lemmas.Result.{err_from_is_err_and}
 use Rattle.ffv1_wire.specs.Passage.{passage}
 use Rattle.ffv1_reads.specs.Head.{Head, head_of}
 use Rattle.ffv1_engine.specs.Faults.{cause_of}
-use Rattle.ffv1_engine.specs.Opens.{stream_of}
+use Rattle.ffv1_engine.specs.Internal.Opens.{stream_of}
 use Rattle.ffv1_engine.specs.Show.{IsShowFault, ShowDone, ShowStops}
 use Rattle.ffv1_engine.specs.StreamLines.{show_text}
-use Rattle.ffv1_engine.specs.Told.{WritesFrame}
-use Rattle.ffv1_engine.proofs.FileChecked.{reads_file}
-use Rattle.ffv1_engine.proofs.FileShown.{before_costs, costs_stop, lacks_stream, no_decoder, shows, shows_costs, text_stops}
+use Rattle.ffv1_engine.specs.Internal.Told.{IsToldFault, WritesFrame}
+use Rattle.ffv1_engine.proofs.FileRead.{reads_file}
+use Rattle.ffv1_engine.proofs.FileShown.{before_costs, costs_stop, lacks_stream, no_decoder, shows, shows_costs, text_stops, told_some}
 use Rattle.ffv1_engine.proofs.OwnFaults.{line_shows, opened_shows, told_shows}
 use Rattle.ffv1_engine.proofs.showing.show.Goals as goal
 
@@ -51,10 +53,11 @@ returns-in_err-tell_costs-clause-err g c =
     let r = c.in_ok-reader.reader in
     let a = c.in_ok-reader.checked in
     let writes = lines_told a between (Ok c.in_ok-write_stream.field-0) c.head.ensures.value c.container.ensures c.in_ok-write_stream.ensures in
+    let some : f ≡ fault.NoFrames → ⊥ = λ e. told_some (container_of r.place) (subst (IsToldFault (container_of r.place)) e c.in_err-tell_costs.ensures.own) in
     rw (p.1, p.2) (subst (λ b. ShowStops c.args.profile input output b f) (sym c.if-cost.true)
     (inr (elim c.in_err-tell_costs.ensures.err [
       | inl none ↦ no_decoder _ _ _ _ _ _ _ _ _ _ _ _ _ r a c.in_ok-reader.ensures.ok writes.0 writes.1 f none
-      | inr stops ↦ costs_stop _ _ _ _ _ _ _ _ _ _ _ _ _ r a c.in_ok-reader.ensures.ok writes.0 writes.1 f stops
+      | inr stops ↦ costs_stop _ _ _ _ _ _ _ _ _ _ _ _ _ r a c.in_ok-reader.ensures.ok writes.0 writes.1 f some stops
     ])))
 
 pub returns-in_ok-tell_costs-clause-ok : goal.returns-in_ok-tell_costs-clause-ok
@@ -67,7 +70,7 @@ returns-in_ok-tell_costs-clause-ok g c =
     let opens = c.in_ok-reader.ensures.ok in
     let told = c.in_ok-tell_costs.ensures.ok in
     let writes = lines_told a between (Ok c.in_ok-write_stream.field-0) c.head.ensures.value c.container.ensures c.in_ok-write_stream.ensures in
-    let reads = reads_file c.frames_in_turn.ensures c.read_is_file.ensures.first c.read_is_file.ensures.whole c.args.profile _ _ _ (stream_of r a) r.place told.0 opens.known told.1.ends in
+    let reads = reads_file c.frames_come_in_turn.ensures c.what_is_read_is_a_file.ensures.first c.what_is_read_is_a_file.ensures.whole c.args.profile _ _ _ (stream_of r a) r.place told.0 opens.known told.1.plays.goes.has in
     subst (λ b. ShowDone c.args.profile input output b) (sym c.if-cost.true) (shows_costs _ _ _ _ _ _ _ _ _ _ _ _ _ r a opens writes.0 writes.1 told.0 told.1 reads)
 
 pub returns-in_err-write_stream-clause-own : goal.returns-in_err-write_stream-clause-own

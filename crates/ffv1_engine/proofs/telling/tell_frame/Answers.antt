@@ -4,10 +4,13 @@ use Rattle.ffv1_wire.specs.Passage.{passage}
 use Rattle.ffv1_record.specs.Accepted.{Accepted}
 use Rattle.ffv1_slice.specs.Grid.{division_of}
 use Rattle.ffv1_codec.specs.Kept.{Dropped, Drops, DropsNot}
-use Rattle.ffv1_engine.specs.Stream.{Frame}
-use Rattle.ffv1_engine.specs.Located.{located_text}
-use Rattle.ffv1_engine.specs.Told.{FrameStopsBy, WritesLine, is_telling_fault}
-use Rattle.ffv1_engine.proofs.FrameDecoded.{file_refused, frame_fails, is_decided, is_faulty}
+use Rattle.ffv1_engine.specs.Stream.{Frame, IsFrame, frame_payload}
+use Rattle.ffv1_engine.specs.Located.{WritesLine, WritesLocated, located_text}
+use Rattle.ffv1_engine.specs.Internal.Located.{LocatedAfter}
+use Rattle.ffv1_engine.specs.Told.{is_telling_fault}
+use Rattle.ffv1_engine.specs.Internal.Told.{FrameStopsBy, told_line}
+use Rattle.ffv1_engine.proofs.FrameDecoded.{is_decided, is_faulty}
+use Rattle.ffv1_engine.proofs.FramesPlayed.{file_refused, line_stops}
 use Rattle.ffv1_engine.specs.Faults.{cause_of, of_avi}
 use Rattle.ffv1_engine.specs.Faults.Cause.{Content}
 use Rattle.ffv1_engine.proofs.PicturesWritten.{decode_cause}
@@ -23,15 +26,17 @@ returns-in_err-write_line-in-Ok-Some-clause-answer g c =
     let tally = c.play.new.player.decoder.tally in
     let info = c.in-Ok-Some._info in
     let answer = rw c.in-Ok-Some.field-0-is at c.in-Ok-Some.ensures.answer in
-    let found = c.answered.ensures.found a payload c.new-sink.result c.play.new.sink tally info c.requires.accepted answer.1 in
+    let found = c.answer_is_ok_for_coded_pictures.ensures.found a payload c.new-sink.result c.play.new.sink tally info c.requires.accepted answer.1 in
     let frame : Frame = record { payload = payload; planes = found.0; said = info; tally = tally } in
     let decided = is_decided Drops DropsNot a payload c.new-sink.result c.play.new.sink tally info answer.1 in
+    let reading = passage g.R.ByteIn.remaining g.R.ByteIn.failures c.args.input.now c.play.new.input in
+    let writing = passage g.W.ByteOut.contents g.W.ByteOut.failures c.args.output.now c.write_line.new.output in
     rw (p.1, p.2)
-    (frame_fails c.args.telling.kind c.args.telling.places.place c.args.telling.places.byte a c.args.number c.args.player.now.reader c.play.new.player.reader.place
-    (passage g.R.ByteIn.remaining g.R.ByteIn.failures c.args.input.now c.play.new.input)
-    (passage g.W.ByteOut.contents g.W.ByteOut.failures c.args.output.now c.write_line.new.output) frame c.in_err-write_line-in-Ok-Some.field-0.0
+    (inr (line_stops (IsFrame a) frame_payload (told_line c.args.telling.kind a.configuration c.args.number)
+    (λ f. WritesLocated (LocatedAfter c.args.player.now.reader reading) c.args.telling.places.byte c.args.number [] f writing) c.args.player.now.reader.place c.play.new.player.reader.place
+    reading writing frame c.in_err-write_line-in-Ok-Some.field-0.0
     (record { is = record { codes = found.1; decided = decided }; reads = answer.0 })
-    (rw (c.play.ensures.same, c.deref.ensures.value) at c.in_err-write_line-in-Ok-Some.ensures))
+    (rw (c.play.ensures.same, c.deref.ensures.value) at c.in_err-write_line-in-Ok-Some.ensures)))
 
 pub returns-in_ok-write_line-in-Ok-Some-clause-answer :
     goal.returns-in_ok-write_line-in-Ok-Some-clause-answer
@@ -41,7 +46,7 @@ returns-in_ok-write_line-in-Ok-Some-clause-answer g c =
     let tally = c.play.new.player.decoder.tally in
     let info = c.in-Ok-Some._info in
     let answer = rw c.in-Ok-Some.field-0-is at c.in-Ok-Some.ensures.answer in
-    let found = c.answered.ensures.found a payload c.new-sink.result c.play.new.sink tally info c.requires.accepted answer.1 in
+    let found = c.answer_is_ok_for_coded_pictures.ensures.found a payload c.new-sink.result c.play.new.sink tally info c.requires.accepted answer.1 in
     let frame : Frame = record { payload = payload; planes = found.0; said = info; tally = tally } in
     let decided = is_decided Drops DropsNot a payload c.new-sink.result c.play.new.sink tally info answer.1 in
     let writes = rw (c.play.ensures.same, c.deref.ensures.value) at c.in_ok-write_line-in-Ok-Some.ensures in
@@ -55,17 +60,19 @@ returns-in-Err-Payload-clause-answer g c =
     let f = c.in-Err-Payload.fault in
     let answer = rw c.in-Err-Payload.field-0-is at c.in-Err-Payload.ensures.answer in
     let grid = ap (λ (z : Dropped). z.grid) c.new-sink.ensures ∙ ap (λ (z : Accepted). division_of z.configuration) c.config.ensures in
-    let own = c.taken_lines.ensures.dropped a payload c.new-sink.result c.play.new.sink tally f c.requires.accepted answer.1 grid in
+    let own = c.sinks_of_own_lines_refuse_none.ensures.dropped a payload c.new-sink.result c.play.new.sink tally f c.requires.accepted answer.1 grid in
     inl (record {
-      payload = payload;
-      fault = f;
-      tally = tally;
-      reads = answer.0;
-      faulty = is_faulty Drops DropsNot a payload c.new-sink.result c.play.new.sink tally f own answer.1;
-      is = c.from.ensures;
-      content =
-          subst (λ z. cause_of z ≡ Content) (sym c.from.ensures)
-          (decode_cause f.fault (c.decode_faults.ensures a payload c.new-sink.result c.play.new.sink tally f answer.1) own);
+      payload = record {
+        payload = payload;
+        fault = f;
+        tally = tally;
+        reads = answer.0;
+        faulty = is_faulty Drops DropsNot a payload c.new-sink.result c.play.new.sink tally f own answer.1;
+        is = c.from.ensures;
+        content =
+            subst (λ z. cause_of z ≡ Content) (sym c.from.ensures)
+            (decode_cause f.fault (c.answered_fault_is_of_decoding.ensures a payload c.new-sink.result c.play.new.sink tally f answer.1) own);
+      };
       writes = c.tell_place.ensures;
     })
 
@@ -77,8 +84,8 @@ returns-in-Err-Payload-clause-own g c =
     let f = c.in-Err-Payload.fault in
     let answer = rw c.in-Err-Payload.field-0-is at c.in-Err-Payload.ensures.answer in
     let grid = ap (λ (z : Dropped). z.grid) c.new-sink.ensures ∙ ap (λ (z : Accepted). division_of z.configuration) c.config.ensures in
-    let own = c.taken_lines.ensures.dropped a payload c.new-sink.result c.play.new.sink tally f c.requires.accepted answer.1 grid in
-    let decode = c.decode_faults.ensures a payload c.new-sink.result c.play.new.sink tally f answer.1 in
+    let own = c.sinks_of_own_lines_refuse_none.ensures.dropped a payload c.new-sink.result c.play.new.sink tally f c.requires.accepted answer.1 grid in
+    let decode = c.answered_fault_is_of_decoding.ensures a payload c.new-sink.result c.play.new.sink tally f answer.1 in
     let is = c.from.ensures in
     inl (subst (λ z. is_telling_fault z ≡ true) (sym is) (payload_tells f.fault decode own))
 
@@ -95,4 +102,5 @@ returns-in-Err-File-clause-answer g c =
     let stops = rw c.in-Err-File.field-0-is at c.in-Err-File.ensures.located in
     let writes : WritesLine [] (located_text c.args.telling.places.byte c.args.number f to.offset) writing = rw (is, c.offset-offset.ensures) at c.tell_byte.ensures in
     inr (subst (λ z. FrameStopsBy c.args.telling.kind c.args.telling.places.place c.args.telling.places.byte a c.args.number from to.place reading writing z (cause_of z)) (sym is)
-    (file_refused c.args.telling.kind c.args.telling.places.place c.args.telling.places.byte a c.args.number from to.place to.offset reading writing f (cause_of f) refl answer.0 stops writes))
+    (file_refused (IsFrame a) frame_payload (told_line c.args.telling.kind a.configuration c.args.number) c.args.telling.places.byte c.args.number from to.place to.offset reading writing f (cause_of f) refl
+    answer.0 stops writes))

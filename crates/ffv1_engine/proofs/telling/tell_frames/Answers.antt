@@ -2,21 +2,20 @@ use Rattle.std.proofs.Common.{◌≡◌, refl, Ok, subst, ◌∙◌, [], ◌∷�
 use Rattle.std.proofs.lemmas.Result.{err_from_is_err_and}
 use Rattle.ffv1_range.specs.Counts.{saturated}
 use Rattle.ffv1_wire.specs.Passage.{passage}
-use Rattle.ffv1_engine.specs.Told.{FrameAnswers}
-use Rattle.ffv1_engine.proofs.FramesTold.{counted_more, told_more, told_none, told_over, telling_stops}
+use Rattle.ffv1_engine.specs.FrameLines.{frame_lines}
+use Rattle.ffv1_engine.specs.Internal.Told.{FrameAnswers, told_line}
+use Rattle.ffv1_engine.proofs.FramesInTurn.{counted_more}
+use Rattle.ffv1_engine.proofs.FramesPlayed.{played_more, played_none, played_over}
+use Rattle.ffv1_engine.proofs.FramesTold.{all_lines, telling_stops}
 use Rattle.ffv1_engine.proofs.telling.tell_frames.Goals as goal
 
 pub loop-text-init : goal.loop-text-init
 loop-text-init g c =
-    let none : 0 ≡ saturated 0 = omega arith in (
+    let a = c.args.player.now.decoder.accepted in (
       c.requires.sound,
       refl,
-      record {
-        frames = [];
-        is = none;
-        told = told_none c.args.telling.kind c.args.telling.places.place c.args.player.now.decoder.accepted c.args.player.now.reader.place (g.R.ByteIn.remaining c.args.input.now) (g.W.ByteOut.contents c.args.output.now)
-            (g.R.ByteIn.failures c.args.input.now) (g.W.ByteOut.failures c.args.output.now);
-      },
+      played_none a (frame_lines c.args.telling.kind a.configuration) refl c.args.player.now.reader.place (g.R.ByteIn.remaining c.args.input.now) (g.W.ByteOut.contents c.args.output.now)
+          (g.R.ByteIn.failures c.args.input.now) (g.W.ByteOut.failures c.args.output.now),
       refl,
       (λ scope text begun. begun),
     )
@@ -32,7 +31,7 @@ returns-in_err-tell_frame-clause-err g c =
     (g.W.ByteOut.contents c.args.output.now) (g.W.ByteOut.contents c.loop-text.output) (g.W.ByteOut.contents c.tell_frame.new.output)
     (g.R.ByteIn.failures c.args.input.now) (g.R.ByteIn.failures c.loop-text.input) (g.R.ByteIn.failures c.tell_frame.new.input)
     (g.W.ByteOut.failures c.args.output.now) (g.W.ByteOut.failures c.loop-text.output) (g.W.ByteOut.failures c.tell_frame.new.output)
-    so.frames so.is so.told c.loop-text.invariant.4 c.in_err-tell_frame.field-0.0 (rw same at c.in_err-tell_frame.ensures.answer))
+    so c.loop-text.invariant.4 c.in_err-tell_frame.field-0.0 (rw same at c.in_err-tell_frame.ensures.answer))
 
 pub returns-in_err-tell_frame-clause-own : goal.returns-in_err-tell_frame-clause-own
 returns-in_err-tell_frame-clause-own g c =
@@ -41,6 +40,7 @@ returns-in_err-tell_frame-clause-own g c =
 
 pub loop-text-preserved : goal.loop-text-preserved
 loop-text-preserved g c =
+    let a = c.args.player.now.decoder.accepted in
     let same = c.loop-text.invariant.1 in
     let so = c.loop-text.invariant.2 in
     let reading = passage g.R.ByteIn.remaining g.R.ByteIn.failures c.loop-text.input c.tell_frame.new.input in
@@ -52,23 +52,20 @@ loop-text-preserved g c =
     let next : c.saturating_add-count.result ≡ saturated (length (so.frames ++ (f ∷ []))) = omega (arith, c.saturating_add-count.ensures, so.is, counted_more so.frames f) in (
       c.in_ok-tell_frame.ensures.sound,
       c.in_ok-tell_frame.ensures.same ∙ same,
-      record {
-        frames = so.frames ++ (f ∷ []);
-        is = next;
-        told =
-            told_more c.args.telling.kind c.args.telling.places.place c.args.player.now.decoder.accepted c.args.player.now.reader.place c.loop-text.player.reader.place c.tell_frame.new.player.reader.place
-            c.loop-text.count (g.R.ByteIn.remaining c.args.input.now) (g.R.ByteIn.remaining c.loop-text.input) (g.R.ByteIn.remaining c.tell_frame.new.input)
-            (g.W.ByteOut.contents c.args.output.now) (g.W.ByteOut.contents c.loop-text.output) (g.W.ByteOut.contents c.tell_frame.new.output)
-            (g.R.ByteIn.failures c.args.input.now) (g.R.ByteIn.failures c.loop-text.input) (g.R.ByteIn.failures c.tell_frame.new.input)
-            (g.W.ByteOut.failures c.args.output.now) (g.W.ByteOut.failures c.loop-text.output) (g.W.ByteOut.failures c.tell_frame.new.output)
-            so.frames so.is so.told f answer.1 answer.2 answer.3;
-      },
+      played_more a (frame_lines c.args.telling.kind a.configuration) c.args.player.now.reader.place c.loop-text.player.reader.place c.tell_frame.new.player.reader.place
+          c.loop-text.count (g.R.ByteIn.remaining c.args.input.now) (g.R.ByteIn.remaining c.loop-text.input) (g.R.ByteIn.remaining c.tell_frame.new.input)
+          (g.W.ByteOut.contents c.args.output.now) (g.W.ByteOut.contents c.loop-text.output) (g.W.ByteOut.contents c.tell_frame.new.output)
+          (g.R.ByteIn.failures c.args.input.now) (g.R.ByteIn.failures c.loop-text.input) (g.R.ByteIn.failures c.tell_frame.new.input)
+          (g.W.ByteOut.failures c.args.output.now) (g.W.ByteOut.failures c.loop-text.output) (g.W.ByteOut.failures c.tell_frame.new.output)
+          so (told_line c.args.telling.kind a.configuration c.loop-text.count) (λ z. all_lines c.args.telling.kind a.configuration c.loop-text.count so.frames z so.is) f
+          c.saturating_add-count.result next answer.1 answer.2 answer.3,
       c.in_ok-tell_frame.ensures.container ∙ c.loop-text.invariant.3,
       (λ scope text begun. c.in_ok-tell_frame.ensures.reached c.if-branch.true scope text (c.loop-text.invariant.4 scope text begun)),
     )
 
 pub returns-clause-ok : goal.returns-clause-ok
 returns-clause-ok g c =
+    let a = c.args.player.now.decoder.accepted in
     let same = c.loop-text.invariant.1 in
     let so = c.loop-text.invariant.2 in
     let reading = passage g.R.ByteIn.remaining g.R.ByteIn.failures c.loop-text.input c.tell_frame.new.input in
@@ -78,10 +75,10 @@ returns-clause-ok g c =
     c.in_ok-tell_frame.ensures.answer) in (
       so.frames,
       so.is,
-      told_over c.args.telling.kind c.args.telling.places.place c.args.player.now.decoder.accepted c.args.player.now.reader.place c.loop-text.player.reader.place c.tell_frame.new.player.reader.place
+      played_over a (frame_lines c.args.telling.kind a.configuration) c.args.player.now.reader.place c.loop-text.player.reader.place c.tell_frame.new.player.reader.place
           c.loop-text.count (g.R.ByteIn.remaining c.args.input.now) (g.R.ByteIn.remaining c.loop-text.input) (g.R.ByteIn.remaining c.tell_frame.new.input)
           (g.W.ByteOut.contents c.args.output.now) (g.W.ByteOut.contents c.loop-text.output) (g.W.ByteOut.contents c.tell_frame.new.output)
           (g.R.ByteIn.failures c.args.input.now) (g.R.ByteIn.failures c.loop-text.input) (g.R.ByteIn.failures c.tell_frame.new.input)
           (g.W.ByteOut.failures c.args.output.now) (g.W.ByteOut.failures c.loop-text.output) (g.W.ByteOut.failures c.tell_frame.new.output)
-          so.frames so.is so.told answer.0 answer.1,
+          so answer.0 answer.1,
     )

@@ -22,4 +22,4 @@ returns-then-count-eq0-clause-err g c =
 pub returns-clause-ok : goal.returns-clause-ok
 returns-clause-ok g c =
     let some : 0 < c.in_ok-count.count = grind (arith, common_steps, c.if-count-eq0.false) in
-    text_done _ _ _ c.in_ok-reader.ensures.ok _ _ refl refl c.in_ok-count.count c.in_ok-count.ensures.ok c.texts.ensures.only c.images.ensures.told c.in_ok-reader.ensures.head some
+    text_done _ _ _ c.in_ok-reader.ensures.ok _ _ refl refl c.in_ok-count.count c.in_ok-count.ensures.ok c.text_is_read_as_its_pictures.ensures.only c.text_is_read_as_its_images.ensures.told c.in_ok-reader.ensures.head some

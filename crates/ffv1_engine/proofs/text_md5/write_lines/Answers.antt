@@ -1,8 +1,8 @@
 use Rattle.std.proofs.Common.{◌≡◌, ◌<◌, ◌+◌, ◌^◌, refl, Ok, [], ◌∷◌, ◌++◌, subst, arith}
 use Rattle.std.proofs.lemmas.Result.{err_from_is_err_and}
 use Rattle.ffv1_wire.specs.Passage.{passage}
-use Rattle.ffv1_engine.specs.TextMd5.{WritesLine}
-use Rattle.ffv1_engine.specs.VideoReads.{reading_of}
+use Rattle.ffv1_engine.specs.Internal.TextMd5.{WritesLine}
+use Rattle.ffv1_engine.specs.Internal.VideoReads.{reading_of}
 use Rattle.ffv1_engine.proofs.PicturesRead.{read_more, read_none}
 use Rattle.ffv1_engine.proofs.TextLines.{lined_more, lined_none, lines_all, lines_full, lines_stop}
 use Rattle.ffv1_engine.proofs.text_md5.write_lines.Goals as goal

@@ -1,7 +1,7 @@
 use Rattle.std.proofs.Common.{◌-◌, ◌^◌, List}
 use Rattle.ffv1_wire.specs.Passage.{passage}
 use Rattle.ffv1_codec.specs.Picture.{Planes}
-use Rattle.ffv1_engine.specs.VideoReads.{reading_of}
+use Rattle.ffv1_engine.specs.Internal.VideoReads.{reading_of}
 use Rattle.ffv1_engine.proofs.PicturesRead.{ReadSo}
 use Rattle.ffv1_engine.proofs.TextLines.{LinedSo}
 use Rattle.ffv1_engine.proofs.text_md5.write_lines.Given as goal

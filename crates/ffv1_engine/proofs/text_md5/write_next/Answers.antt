@@ -2,9 +2,10 @@ use Rattle.std.proofs.Common.{◌≡◌, ◌∙◌, true, ap, sym, subst}
 use Rattle.ffv1_codec.specs.Picture.{planes_of}
 use Rattle.ffv1_y4m.specs.State.{samples_of}
 use Rattle.ffv1_y4m.specs.VideoHead.{Fits}
-use Rattle.ffv1_engine.specs.RawPicture.{AreEven}
+use Rattle.ffv1_engine.specs.Internal.RawPicture.{AreEven}
 use Rattle.ffv1_engine.specs.Video.{SaidHead}
-use Rattle.ffv1_engine.specs.VideoReads.{IsHeadBy, reading_of}
+use Rattle.ffv1_engine.specs.VideoReads.{IsHeadBy}
+use Rattle.ffv1_engine.specs.Internal.VideoReads.{reading_of}
 use Rattle.ffv1_engine.proofs.EvenPlanes.{even_images}
 use Rattle.ffv1_engine.proofs.text_md5.write_next.Goals as goal
 

@@ -1,6 +1,6 @@
 use Rattle.std.proofs.Common.{◌≡◌}
-use Rattle.ffv1_engine.specs.Opens.{stream_of}
-use Rattle.ffv1_engine.proofs.FileChecked.{reads_file}
+use Rattle.ffv1_engine.specs.Internal.Opens.{stream_of}
+use Rattle.ffv1_engine.proofs.FileRead.{reads_file}
 use Rattle.ffv1_engine.proofs.FileUnpacked.{done, lacks_unpacking, no_frames, unpack_stops}
 use Rattle.ffv1_engine.proofs.OwnFaults.{written_unpacks}
 use Rattle.ffv1_engine.proofs.unpacking.unpack.Goals as goal
@@ -32,7 +32,7 @@ returns-in-Ok-answer-clause-ok g c =
     let a = c.in-Ok.player.decoder.accepted in
     let opens = c.in-Ok.ensures.ok in
     let some : c.in-Ok-answer.count ≡ 0 → ⊥ = rw c.in-Ok-answer.is at c.in-Ok-answer.count-test.1 in
-    let reads = reads_file c.frames_in_turn.ensures c.read_is_file.ensures.first c.read_is_file.ensures.whole c.args.profile i0 i1 i2 (stream_of r a) r.place all.0 opens.known all.2.ends in
+    let reads = reads_file c.frames_come_in_turn.ensures c.what_is_read_is_a_file.ensures.first c.what_is_read_is_a_file.ensures.whole c.args.profile i0 i1 i2 (stream_of r a) r.place all.0 opens.known all.2.ends in
     done c.args.profile i0 i1 i2 (g.W.ByteOut.contents c.args.output) (g.W.ByteOut.contents c.write_frames-output.result.0) (g.R.ByteIn.failures c.args.input.now) (g.R.ByteIn.failures c.open_unpacking.new.input)
     (g.R.ByteIn.failures c.write_frames-output.new.input) (g.W.ByteOut.failures c.args.output) (g.W.ByteOut.failures c.write_frames-output.result.0)
     r a opens c.in-Ok.ensures.text all.0 c.in-Ok-answer.count all.1 all.2 some reads

@@ -5,12 +5,13 @@ use Rattle.ffv1_reads.specs.declared.fault.FileFault.TheVariants as fault
 use Rattle.ffv1_reads.proofs.Reading.{faults_here, goes_fault, goes_given, goes_none, goes_read, goes_refused, goes_same}
 use Rattle.ffv1_ebml.specs.Sums.{taken_summed}
 use Rattle.ffv1_ebml.specs.declared.sum.Sum.{Sum}
-use Rattle.ffv1_matroska.specs.Blocks.{fields_read, frame_judged, lacing_of, limit}
+use Rattle.ffv1_matroska.specs.Blocks.{fields_read, frame_judged, lacing_of}
 use Rattle.ffv1_matroska.specs.Places.{frame_at, summed_at}
 use Rattle.ffv1_matroska.specs.declared.place.Place.{Place}
 use Rattle.ffv1_matroska.specs.declared.place.Step.{Step}
 use Rattle.std.proofs.lemmas.Result.{err_from_is_err_and}
 use Rattle.ffv1_matroska.proofs.block.read_fields.Goals as goal
+use Rattle.ffv1_reads.specs.Head.{limit}
 
 abbrev after : ℕ → Place → List ℕ × Sum → Reading (Option Step)
 after left place p = frame_judged (slice_index p.0 2) (left - 3) (summed_at place p.1)

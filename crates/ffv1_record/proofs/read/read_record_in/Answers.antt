@@ -15,32 +15,32 @@ use Rattle.ffv1_record.proofs.read.read_record_in.Goals as goal
 pub returns-in-Ok-clause-found : goal.returns-in-Ok-clause-found
 returns-in-Ok-clause-found g c =
     let long : 5 ≤ length c.args.bytes.now = c.if-bytes-lt5.false in
-    let whole : remainder_of c.args.bytes.now ≡ 0 = (c.guarded.ensures.zero c.args.bytes.now (λ k. omega (arith, c.type_inv.bytes k))).0 (omega (arith, c.parity.ensures, c.if-parity-ne0.false)) in
+    let whole : remainder_of c.args.bytes.now ≡ 0 = (c.parity_makes_the_remainder_zero.ensures.zero c.args.bytes.now (λ k. omega (arith, c.type_inv.bytes k))).0 (omega (arith, c.parity.ensures, c.if-parity-ne0.false)) in
     rw c.in-Ok.ensures.ok (record_found (deepest c.args.profile c.args.most) c.args.bytes.now c.args.width c.args.height _ _ long whole c.in_ok-reader.ensures.ok _ (seen (λ r. at_depth (configuration_of r.0) r.1) _ _ _ _ (rw c.deepest-greatest.ensures at c.in_ok-read.ensures.gives)))
 
 pub returns-in-Ok-clause-width : goal.returns-in-Ok-clause-width
 returns-in-Ok-clause-width g c =
     let long : 5 ≤ length c.args.bytes.now = c.if-bytes-lt5.false in
-    let whole : remainder_of c.args.bytes.now ≡ 0 = (c.guarded.ensures.zero c.args.bytes.now (λ k. omega (arith, c.type_inv.bytes k))).0 (omega (arith, c.parity.ensures, c.if-parity-ne0.false)) in
+    let whole : remainder_of c.args.bytes.now ≡ 0 = (c.parity_makes_the_remainder_zero.ensures.zero c.args.bytes.now (λ k. omega (arith, c.type_inv.bytes k))).0 (omega (arith, c.parity.ensures, c.if-parity-ne0.false)) in
     rw c.in-Ok.ensures.ok (found_width (deepest c.args.profile c.args.most) c.args.bytes.now c.args.width c.args.height _ _ long whole c.in_ok-reader.ensures.ok _ (seen (λ r. at_depth (configuration_of r.0) r.1) _ _ _ _ (rw c.deepest-greatest.ensures at c.in_ok-read.ensures.gives)))
 
 pub returns-in-Ok-clause-height : goal.returns-in-Ok-clause-height
 returns-in-Ok-clause-height g c =
     let long : 5 ≤ length c.args.bytes.now = c.if-bytes-lt5.false in
-    let whole : remainder_of c.args.bytes.now ≡ 0 = (c.guarded.ensures.zero c.args.bytes.now (λ k. omega (arith, c.type_inv.bytes k))).0 (omega (arith, c.parity.ensures, c.if-parity-ne0.false)) in
+    let whole : remainder_of c.args.bytes.now ≡ 0 = (c.parity_makes_the_remainder_zero.ensures.zero c.args.bytes.now (λ k. omega (arith, c.type_inv.bytes k))).0 (omega (arith, c.parity.ensures, c.if-parity-ne0.false)) in
     rw c.in-Ok.ensures.ok (found_height (deepest c.args.profile c.args.most) c.args.bytes.now c.args.width c.args.height _ _ long whole c.in_ok-reader.ensures.ok _ (seen (λ r. at_depth (configuration_of r.0) r.1) _ _ _ _ (rw c.deepest-greatest.ensures at c.in_ok-read.ensures.gives)))
 
 pub returns-in_err-read-clause-exact : goal.returns-in_err-read-clause-exact
 returns-in_err-read-clause-exact g c =
     let long : 5 ≤ length c.args.bytes.now = c.if-bytes-lt5.false in
-    let whole : remainder_of c.args.bytes.now ≡ 0 = (c.guarded.ensures.zero c.args.bytes.now (λ k. omega (arith, c.type_inv.bytes k))).0 (omega (arith, c.parity.ensures, c.if-parity-ne0.false)) in
+    let whole : remainder_of c.args.bytes.now ≡ 0 = (c.parity_makes_the_remainder_zero.ensures.zero c.args.bytes.now (λ k. omega (arith, c.type_inv.bytes k))).0 (omega (arith, c.parity.ensures, c.if-parity-ne0.false)) in
     let p = err_from_is_err_and c.from_residual-in_err-read.result c.from_residual-in_err-read.ensures.1 in
     rw (p.1, p.2) (not_read (deepest c.args.profile c.args.most) c.args.bytes.now c.args.width c.args.height _ _ long whole c.in_ok-reader.ensures.ok _ (seen_err (λ r. at_depth (configuration_of r.0) r.1) _ _ _ _ (rw c.deepest-greatest.ensures at c.in_err-read.ensures.gives)))
 
 pub returns-in-Err-clause-exact : goal.returns-in-Err-clause-exact
 returns-in-Err-clause-exact g c =
     let long : 5 ≤ length c.args.bytes.now = c.if-bytes-lt5.false in
-    let whole : remainder_of c.args.bytes.now ≡ 0 = (c.guarded.ensures.zero c.args.bytes.now (λ k. omega (arith, c.type_inv.bytes k))).0 (omega (arith, c.parity.ensures, c.if-parity-ne0.false)) in
+    let whole : remainder_of c.args.bytes.now ≡ 0 = (c.parity_makes_the_remainder_zero.ensures.zero c.args.bytes.now (λ k. omega (arith, c.type_inv.bytes k))).0 (omega (arith, c.parity.ensures, c.if-parity-ne0.false)) in
     inr (not_checked (deepest c.args.profile c.args.most) c.args.bytes.now c.args.width c.args.height _ _ long whole c.in_ok-reader.ensures.ok _ _ (seen (λ r. at_depth (configuration_of r.0) r.1) _ _ _ _ (rw c.deepest-greatest.ensures at c.in_ok-read.ensures.gives)) c.in-Err.ensures.refused)
 
 pub returns-in_err-reader-clause-only : goal.returns-in_err-reader-clause-only
@@ -70,7 +70,7 @@ returns-in-Err-clause-only g c = λ x t wide high low is stored.
 pub returns-in_err-read-clause-memory : goal.returns-in_err-read-clause-memory
 returns-in_err-read-clause-memory g c =
     let long : 5 ≤ length c.args.bytes.now = c.if-bytes-lt5.false in
-    let whole : remainder_of c.args.bytes.now ≡ 0 = (c.guarded.ensures.zero c.args.bytes.now (λ k. omega (arith, c.type_inv.bytes k))).0 (omega (arith, c.parity.ensures, c.if-parity-ne0.false)) in
+    let whole : remainder_of c.args.bytes.now ≡ 0 = (c.parity_makes_the_remainder_zero.ensures.zero c.args.bytes.now (λ k. omega (arith, c.type_inv.bytes k))).0 (omega (arith, c.parity.ensures, c.if-parity-ne0.false)) in
     told _ c.from_residual-in_err-read.result c.from_residual-in_err-read.ensures.1
     (λ memory. let read = (rw c.deepest-greatest.ensures at (c.in_err-read.ensures.memory memory)).read (body_of c.args.bytes.now) beginning c.in_ok-reader.ensures.ok in
     record { long = long; whole = whole; start = c.in_ok-reader.ensures.start; count = read.0; behind = read.1; read = read.2 })
@@ -81,7 +81,7 @@ returns-in-Err-clause-memory g c = λ memory. absurd (c.in-Err.ensures.memory me
 pub returns-in_err-read-clause-run : goal.returns-in_err-read-clause-run
 returns-in_err-read-clause-run g c =
     let long : 5 ≤ length c.args.bytes.now = c.if-bytes-lt5.false in
-    let whole : remainder_of c.args.bytes.now ≡ 0 = (c.guarded.ensures.zero c.args.bytes.now (λ k. omega (arith, c.type_inv.bytes k))).0 (omega (arith, c.parity.ensures, c.if-parity-ne0.false)) in
+    let whole : remainder_of c.args.bytes.now ≡ 0 = (c.parity_makes_the_remainder_zero.ensures.zero c.args.bytes.now (λ k. omega (arith, c.type_inv.bytes k))).0 (omega (arith, c.parity.ensures, c.if-parity-ne0.false)) in
     told _ c.from_residual-in_err-read.result c.from_residual-in_err-read.ensures.1
     (λ memory. let read = (rw c.deepest-greatest.ensures at (c.in_err-read.ensures.run memory)).read (body_of c.args.bytes.now) beginning c.in_ok-reader.ensures.ok in
     record { long = long; whole = whole; start = c.in_ok-reader.ensures.start; run = read.0; behind = read.1; read = read.2 })

@@ -13,8 +13,8 @@ returns-in-Ok-clause-only g c = λ h at.
     let checked = c.args.checked.now in
     let conf = checked.configuration in
     let accepted = c.config-config.ensures.accepted in
-    let small = small_slice conf.columns conf.rows c.args.slice (c.accepted.ensures.columns conf checked.table accepted).1 (c.accepted.ensures.rows conf checked.table accepted).1 c.requires in
-    let few = (c.accepted.ensures.sets conf checked.table accepted).1 in
+    let small = small_slice conf.columns conf.rows c.args.slice (c.accepted_configuration_is_in_range.ensures.columns conf checked.table accepted).1 (c.accepted_configuration_is_in_range.ensures.rows conf checked.table accepted).1 c.requires in
+    let few = (c.accepted_configuration_is_in_range.ensures.sets conf checked.table accepted).1 in
     ap Ok (read_only checked.table checked.profile conf c.args.slice c.args.decoder.now c.read_head.new.decoder accepted small few at.bytes at.behind h at.codes c.in-Ok.head c.in-Ok.ensures.head c.in-Ok.ensures.ok)
 
 pub returns-in-Err-clause-only : goal.returns-in-Err-clause-only
@@ -22,8 +22,8 @@ returns-in-Err-clause-only g c = λ h at.
     let checked = c.args.checked.now in
     let conf = checked.configuration in
     let accepted = c.config-config.ensures.accepted in
-    let small = small_slice conf.columns conf.rows c.args.slice (c.accepted.ensures.columns conf checked.table accepted).1 (c.accepted.ensures.rows conf checked.table accepted).1 c.requires in
-    let few = (c.accepted.ensures.sets conf checked.table accepted).1 in
+    let small = small_slice conf.columns conf.rows c.args.slice (c.accepted_configuration_is_in_range.ensures.columns conf checked.table accepted).1 (c.accepted_configuration_is_in_range.ensures.rows conf checked.table accepted).1 c.requires in
+    let few = (c.accepted_configuration_is_in_range.ensures.sets conf checked.table accepted).1 in
     let refused = c.in-Err.ensures.refused in
     absurd (not_refused checked.table checked.profile conf c.args.slice c.args.decoder.now c.read_head.new.decoder accepted small few at.bytes at.behind h at.codes c.in-Err.fault refused.0 refused.1 refused.2)
 

@@ -8,7 +8,7 @@ use Rattle.ffv1_slice.proofs.CallsGive.{and_puts, values_below}
 use Rattle.ffv1_slice.proofs.head.put_head.Goals as goal
 
 pub put_place-requires-clause-held : goal.put_place-requires-clause-held
-put_place-requires-clause-held g c = rw c.table-table.ensures.value (c.named_states.ensures.fresh c.args.checked.now.table c.table-table.ensures.accepted.closed)
+put_place-requires-clause-held g c = rw c.table-table.ensures.value (c.each_decision_has_a_state.ensures.fresh c.args.checked.now.table c.table-table.ensures.accepted.closed)
 
 pub returns-clause-ok : goal.returns-clause-ok
 returns-clause-ok g c =

@@ -8,7 +8,7 @@ use Rattle.ffv1_slice.proofs.HeadValues.{refused_head, found_head, is_head}
 use Rattle.ffv1_slice.proofs.head.read_head.Goals as goal
 
 pub get_place-requires : goal.get_place-requires
-get_place-requires g c = record { held = rw c.table-table.ensures.value (c.named_states.ensures.fresh c.args.checked.now.table c.table-table.ensures.accepted.closed) }
+get_place-requires g c = record { held = rw c.table-table.ensures.value (c.each_decision_has_a_state.ensures.fresh c.args.checked.now.table c.table-table.ensures.accepted.closed) }
 
 pub returns-in_err-get_place-clause-refused : goal.returns-in_err-get_place-clause-refused
 returns-in_err-get_place-clause-refused g c =

@@ -4,10 +4,9 @@ ghost use Rattle.std.specs.Prelude.{◌≡◌, ◌<◌, IfOk, IfErr};
 
 use super::made::{MONO, Made, made_record, mono, mono_large};
 use ffv1_plane::QuantSet;
-use ffv1_record::laws::one_configuration;
 use ffv1_record::{
-    Checked, Coder, Colour, Config, RecordFault, Sets, parity, read_record, read_record_in,
-    write_record,
+    Checked, Coder, Colour, Config, RecordFault, Sets, laws as record_laws, parity, read_record,
+    read_record_in, write_record,
 };
 use std::alloc::Global;
 use std::process::Abort;
@@ -100,7 +99,7 @@ fn written_and_read_back(
 {
     let (width, height) = (checked.config().width, checked.config().height);
     let record = write_record(alloc, checked)?;
-    one_configuration();
+    record_laws::record_has_one_configuration();
     match read_record_in(
         alloc,
         &record,

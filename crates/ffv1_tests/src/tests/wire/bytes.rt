@@ -6,8 +6,8 @@ use super::sinks::{KeepRows, RowsOut, keep_rows};
 use crate::tests::made::shows;
 use ffv1_doubles::{FailingReader, FailingWriter, ShortWriter};
 use ffv1_wire::{
-    ByteIn, ByteOut, Failed, FromRead, Line, LineSink, SinkFault, ToWrite, hand_over, laws,
-    read_byte, read_full, skip, write_all,
+    ByteIn, ByteOut, Failed, FromRead, Line, LineSink, SinkFault, ToWrite, hand_over,
+    laws as wire_laws, read_byte, read_full, skip, write_all,
 };
 use std::alloc::Global;
 use std::io::{ErrorKind, Read, Write, repeat};
@@ -339,11 +339,11 @@ fn refused_lines(rt: HostRuntime) {
 
 #[test]
 fn laws_at_a_sink() {
-    laws::runs::<KeepRows>();
-    laws::refusals::<KeepRows>();
-    laws::moves::<KeepRows, u64>();
-    laws::keeps::<KeepRows>();
-    laws::texts::<KeepRows>();
+    wire_laws::runs_in_a_row_are_one::<KeepRows>();
+    wire_laws::refusal_after_a_run_is_one::<KeepRows>();
+    wire_laws::taken_lines_move_what_is_shown::<KeepRows, u64>();
+    wire_laws::sink_keeps_the_lines_it_took::<KeepRows>();
+    wire_laws::sink_writes_the_text_of_lines::<KeepRows>();
 }
 
 /// Writes three rows where there is room for so many bytes: whether that succeeds, whether it is

@@ -5,8 +5,7 @@ ghost use Rattle.std.specs.Io.KnownBytes.{Appends};
 ghost use Rattle.ffv1_wire.specs.Lines.{lines_of};
 ghost use Rattle.ffv1_wire.specs.Writes.{AppendsBeginning};
 
-use ffv1_wire::laws::texts;
-use ffv1_wire::{ByteOut, Line, LineSink, SinkFault, hand_over, write_all};
+use ffv1_wire::{ByteOut, Line, LineSink, SinkFault, hand_over, laws as wire_laws, write_all};
 use std::alloc::{Allocator, Global};
 
 /// A sink that writes the samples of each line.
@@ -47,7 +46,7 @@ pub fn keep_rows<A: Allocator>(sink: &mut KeepRows<A>, lines: &[Line<'_>]) -> Re
         (sink.new.samples.items ≡ sink.old.samples.items
         ++ flat_map (λ l. l.samples) (lines_of lines.entry.now)) }
 {
-    texts::<KeepRows<A>>();
+    wire_laws::sink_writes_the_text_of_lines::<KeepRows<A>>();
     hand_over(sink, lines)?;
     Ok(())
 }

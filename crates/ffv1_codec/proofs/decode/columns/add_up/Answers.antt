@@ -25,4 +25,4 @@ loop-k-preserved c = λ t s is told.
 pub returns : goal.returns
 returns c = λ t s is told.
     let all : c.loop-k.k ≡ length c.args.columns.now = omega arith in
-    decided_is c.counts.ensures.steps t s c.loop-k.tally (c.loop-k.invariant t s is told ∙ upto_all t c.args.columns.now s told c.loop-k.k all)
+    decided_is c.each_step_is_one_or_zero.ensures.steps t s c.loop-k.tally (c.loop-k.invariant t s is told ∙ upto_all t c.args.columns.now s told c.loop-k.k all)

@@ -7,6 +7,8 @@ use Rattle.ffv1_record.specs.Configuration.{Configuration, is_rct}
 use Rattle.ffv1_codec.specs.Picture.{plane_width, width_bytes}
 use Rattle.ffv1_codec.proofs.LineFinished.{together_one, together_all, rct_is, wide_none, all_small, samples_finished, colours_missing, colours_finished}
 use Rattle.ffv1_codec.proofs.WideLines.{rct_bits}
+use Rattle.ffv1_codec.proofs.decode.finish.finish.Given.{Over}
+use Rattle.ffv1_codec.proofs.decode.finish.finish.Goals.{After-sample_bytes, In-Rct}
 use Rattle.ffv1_codec.proofs.decode.finish.finish.Goals as goal
 
 room : (b s w width long count : ℕ) → b ≡ s → w ≤ width → count ≡ 1 → long ≡ count * (s * width) → b * w ≤ long
@@ -16,91 +18,72 @@ room b s w width long count same narrow one is =
     let whole : count * (s * width) ≡ 1 * (s * width) = ap (λ k. k * (s * width)) one in
     omega (arith, more, all, whole, is)
 
+-- a line of one plane
+module _ (g : Over) (c : After-sample_bytes g) where
+  plain : is_rct c.args.frame.now.checked.now.configuration.colour ≡ false
+  plain = ap (λ (z : Configuration). is_rct z.colour) c.config.ensures.value ∙ ap is_rct c.in-YCbCr.is
+
+  one : c.args.line.now.count ≡ 1
+  one = (together_one c.args.frame.now.checked.now.configuration c.args.line.now.first c.args.line.now.count plain c.requires.together).0
+
+  wide_is : c.width-wide.result ≡ plane_width c.args.frame.now.checked.now.configuration c.args.line.now.first
+  wide_is = rw c.requires.frame.grid at c.width-wide.ensures
+
+  narrow : c.width-wide.result ≤ c.args.frame.now.checked.now.configuration.width
+  narrow =
+      let a = c.args.frame.now.checked.now in
+      let are = c.slices_lie_beside_one_another.ensures.across a.configuration a.table c.args.line.now.first c.requires.frame.accepted in
+      omega (arith, wide_is, are.fits)
+
+  fits : c.width-wide.result ≤ length c.args.samples.now
+  fits =
+      let width = c.args.frame.now.checked.now.configuration.width in
+      let count : c.args.line.now.count * width ≡ width = ap (λ n. n * width) one ∙ (let m : 1 * width ≡ width = omega arith in m) in
+      omega (arith, narrow, count, c.requires.samples)
+
+  out : c.sample_bytes.result * c.width-wide.result ≤ length c.args.out.now
+  out =
+      let conf = c.args.frame.now.checked.now.configuration in
+      let same : c.sample_bytes.result ≡ sample_bytes conf.depth = c.sample_bytes.ensures.value ∙ ap (λ (d : Division). sample_bytes d.depth) c.requires.frame.grid in
+      room c.sample_bytes.result (sample_bytes conf.depth) c.width-wide.result conf.width (length c.args.out.now) c.args.line.now.count same narrow one c.requires.out
+
+-- lines of RCT
+yes : (g : Over) (c : In-Rct g) → is_rct c.args.frame.now.checked.now.configuration.colour ≡ true
+yes g c = ap (λ (z : Configuration). is_rct z.colour) c.config.ensures.value ∙ ap is_rct c.in-Rct.is
+
 pub slice_bounds-copy_to-end : goal.slice_bounds-copy_to-end
 slice_bounds-copy_to-end g c =
-    let a = c.args.frame.now.checked.now in
-    let conf = a.configuration in
-    let line = c.args.line.now in
-    let no : is_rct conf.colour ≡ false = ap (λ (z : Configuration). is_rct z.colour) c.config.ensures.value ∙ ap is_rct c.in-YCbCr.is in
-    let one = together_one conf line.first line.count no c.requires.together in
-    let wide = c.width-wide.result in
-    let wide_is : wide ≡ plane_width conf line.first = rw c.requires.frame.grid at c.width-wide.ensures in
-    let are = c.places.ensures.across conf a.table line.first c.requires.frame.accepted in
-    let count : line.count * conf.width ≡ conf.width = ap (λ n. n * conf.width) one.0 ∙ (let m : 1 * conf.width ≡ conf.width = omega arith in m) in
-    let narrow : wide ≤ conf.width = omega (arith, wide_is, are.fits) in
-    let fits : wide ≤ length c.args.samples.now = omega (arith, narrow, count, c.requires.samples) in
-    sym (length-take-le wide c.args.samples.now fits)
+    sym (length-take-le c.width-wide.result c.args.samples.now (fits g (goal.at.slice_bounds-copy_to-end g c).After-sample_bytes))
 
 pub slice_bounds-copy_to-end-in-YCbCr : goal.slice_bounds-copy_to-end-in-YCbCr
-slice_bounds-copy_to-end-in-YCbCr g c =
-    let a = c.args.frame.now.checked.now in
-    let conf = a.configuration in
-    let line = c.args.line.now in
-    let no : is_rct conf.colour ≡ false = ap (λ (z : Configuration). is_rct z.colour) c.config.ensures.value ∙ ap is_rct c.in-YCbCr.is in
-    let one = together_one conf line.first line.count no c.requires.together in
-    let wide = c.width-wide.result in
-    let wide_is : wide ≡ plane_width conf line.first = rw c.requires.frame.grid at c.width-wide.ensures in
-    let are = c.places.ensures.across conf a.table line.first c.requires.frame.accepted in
-    let count : line.count * conf.width ≡ conf.width = ap (λ n. n * conf.width) one.0 ∙ (let m : 1 * conf.width ≡ conf.width = omega arith in m) in
-    let narrow : wide ≤ conf.width = omega (arith, wide_is, are.fits) in
-    let fits : wide ≤ length c.args.samples.now = omega (arith, narrow, count, c.requires.samples) in
-    let b = c.sample_bytes.result in
-    let b_is : b ≡ sample_bytes conf.depth = c.sample_bytes.ensures.value ∙ ap (λ (d : Division). sample_bytes d.depth) c.requires.frame.grid in
-    let out : b * wide ≤ length c.args.out.now = room b (sample_bytes conf.depth) wide conf.width (length c.args.out.now) line.count b_is narrow one.0 c.requires.out in
-    out
+slice_bounds-copy_to-end-in-YCbCr g c = out g (goal.at.slice_bounds-copy_to-end-in-YCbCr g c).After-sample_bytes
 
 pub slice_bounds-copy_to-end-in-YCbCr-2 : goal.slice_bounds-copy_to-end-in-YCbCr-2
 slice_bounds-copy_to-end-in-YCbCr-2 g c =
-    let a = c.args.frame.now.checked.now in
-    let conf = a.configuration in
-    let line = c.args.line.now in
-    let no : is_rct conf.colour ≡ false = ap (λ (z : Configuration). is_rct z.colour) c.config.ensures.value ∙ ap is_rct c.in-YCbCr.is in
-    let one = together_one conf line.first line.count no c.requires.together in
-    let wide = c.width-wide.result in
-    let wide_is : wide ≡ plane_width conf line.first = rw c.requires.frame.grid at c.width-wide.ensures in
-    let are = c.places.ensures.across conf a.table line.first c.requires.frame.accepted in
-    let count : line.count * conf.width ≡ conf.width = ap (λ n. n * conf.width) one.0 ∙ (let m : 1 * conf.width ≡ conf.width = omega arith in m) in
-    let narrow : wide ≤ conf.width = omega (arith, wide_is, are.fits) in
-    let fits : wide ≤ length c.args.samples.now = omega (arith, narrow, count, c.requires.samples) in
-    let b = c.sample_bytes.result in
-    let b_is : b ≡ sample_bytes conf.depth = c.sample_bytes.ensures.value ∙ ap (λ (d : Division). sample_bytes d.depth) c.requires.frame.grid in
-    let out : b * wide ≤ length c.args.out.now = room b (sample_bytes conf.depth) wide conf.width (length c.args.out.now) line.count b_is narrow one.0 c.requires.out in
-    sym (length-take-le (b * wide) c.args.out.now out)
+    sym (length-take-le (c.sample_bytes.result * c.width-wide.result) c.args.out.now (out g (goal.at.slice_bounds-copy_to-end-in-YCbCr-2 g c).After-sample_bytes))
 
 pub returns-in-YCbCr-clause-exact : goal.returns-in-YCbCr-clause-exact
 returns-in-YCbCr-clause-exact g c = λ coded s stand.
-    let a = c.args.frame.now.checked.now in
-    let conf = a.configuration in
+    let here = (goal.at.returns-in-YCbCr-clause-exact g c).After-sample_bytes in
+    let conf = c.args.frame.now.checked.now.configuration in
     let line = c.args.line.now in
-    let no : is_rct conf.colour ≡ false = ap (λ (z : Configuration). is_rct z.colour) c.config.ensures.value ∙ ap is_rct c.in-YCbCr.is in
-    let one = together_one conf line.first line.count no c.requires.together in
     let wide = c.width-wide.result in
-    let wide_is : wide ≡ plane_width conf line.first = rw c.requires.frame.grid at c.width-wide.ensures in
-    let are = c.places.ensures.across conf a.table line.first c.requires.frame.accepted in
-    let count : line.count * conf.width ≡ conf.width = ap (λ n. n * conf.width) one.0 ∙ (let m : 1 * conf.width ≡ conf.width = omega arith in m) in
-    let narrow : wide ≤ conf.width = omega (arith, wide_is, are.fits) in
-    let fits : wide ≤ length c.args.samples.now = omega (arith, narrow, count, c.requires.samples) in
     let d_is = c.depth.ensures.value in
-    let small = all_small conf line.first line.count line.y c.args.samples.now s stand no one.0 wide wide_is fits in
+    let small = all_small conf line.first line.count line.y c.args.samples.now s stand (plain g here) (one g here) wide (wide_is g here) (fits g here) in
     let copied = c.copy_to.ensures (λ x h. subst (λ d. slice_index (take wide c.args.samples.now) x < 2 ^ d) (sym d_is) (small x h)) ∙ ap (λ d. bytes_of d (take wide c.args.samples.now)) d_is in
-    samples_finished conf line.first line.count line.y c.args.samples.now s stand no one.0 wide wide_is fits c.copy_to.new.out (drop (c.sample_bytes.result * wide) c.args.out.now) copied
+    samples_finished conf line.first line.count line.y c.args.samples.now s stand (plain g here) (one g here) wide (wide_is g here) (fits g here) c.copy_to.new.out (drop (c.sample_bytes.result * wide) c.args.out.now) copied
 
 pub finish_colours-requires-clause-shallow : goal.finish_colours-requires-clause-shallow
 finish_colours-requires-clause-shallow g c =
-    let conf = c.args.frame.now.checked.now.configuration in
-    let yes : is_rct conf.colour ≡ true = ap (λ (z : Configuration). is_rct z.colour) c.config.ensures.value ∙ ap is_rct c.in-Rct.is in
-    let bits = rct_bits conf yes in
+    let bits = rct_bits c.args.frame.now.checked.now.configuration (yes g (goal.at.finish_colours-requires-clause-shallow g c).In-Rct) in
     omega (arith, bits, c.requires.bits)
 
 pub colourless-requires-clause-x : goal.colourless-requires-clause-x
 colourless-requires-clause-x g c =
     let a = c.args.frame.now.checked.now in
-    let conf = a.configuration in
-    let line = c.args.line.now in
-    let yes : is_rct conf.colour ≡ true = ap (λ (z : Configuration). is_rct z.colour) c.config.ensures.value ∙ ap is_rct c.in-Rct.is in
-    let all = together_all conf line.first line.count yes c.requires.together in
-    let parts = c.accepted_parts.ensures.rct conf a.table c.requires.frame.accepted (rct_is conf.colour yes) in
-    let wide : plane_width conf 0 ≡ conf.width = wide_none conf 0 parts.1 in
+    let yes = yes g (goal.at.colourless-requires-clause-x g c).In-Rct in
+    let parts = c.accepted_configuration_has_sound_parts.ensures.rct a.configuration a.table c.requires.frame.accepted (rct_is a.configuration.colour yes) in
+    let wide : plane_width a.configuration 0 ≡ a.configuration.width = wide_none a.configuration 0 parts.1 in
     let end = c.in-Err.ensures.err in
     omega (arith, wide, end.inside)
 
@@ -109,9 +92,9 @@ returns-in-Ok-clause-exact g c = λ coded s stand.
     let a = c.args.frame.now.checked.now in
     let conf = a.configuration in
     let line = c.args.line.now in
-    let yes : is_rct conf.colour ≡ true = ap (λ (z : Configuration). is_rct z.colour) c.config.ensures.value ∙ ap is_rct c.in-Rct.is in
+    let yes = yes g (goal.at.returns-in-Ok-clause-exact g c).In-Rct in
     let all = together_all conf line.first line.count yes c.requires.together in
-    let parts = c.accepted_parts.ensures.rct conf a.table c.requires.frame.accepted (rct_is conf.colour yes) in
+    let parts = c.accepted_configuration_has_sound_parts.ensures.rct conf a.table c.requires.frame.accepted (rct_is conf.colour yes) in
     let long : length c.finish_colours.new.out ≡ line.count * width_bytes conf = c.finish_colours.auto.out ∙ c.requires.out in
     colours_finished conf line.first line.count line.y c.args.samples.now s stand yes parts.1 all.0 all.1 parts.0 c.finish_colours.new.out long c.are_bytes.ensures c.in-Ok.ensures.ok
 
@@ -120,9 +103,9 @@ returns-in-Err-clause-exact g c = λ coded s stand.
     let a = c.args.frame.now.checked.now in
     let conf = a.configuration in
     let line = c.args.line.now in
-    let yes : is_rct conf.colour ≡ true = ap (λ (z : Configuration). is_rct z.colour) c.config.ensures.value ∙ ap is_rct c.in-Rct.is in
+    let yes = yes g (goal.at.returns-in-Err-clause-exact g c).In-Rct in
     let all = together_all conf line.first line.count yes c.requires.together in
-    let parts = c.accepted_parts.ensures.rct conf a.table c.requires.frame.accepted (rct_is conf.colour yes) in
+    let parts = c.accepted_configuration_has_sound_parts.ensures.rct conf a.table c.requires.frame.accepted (rct_is conf.colour yes) in
     let missing = colours_missing conf line.first line.count line.y c.args.samples.now s stand yes parts.1 all.0 all.1 parts.0 c.in-Err.x c.in-Err.ensures.err in
     let f = c.colourless.ensures.fault in
     (c.in-Err.x, f.0, missing, f.1, f.2, refl)

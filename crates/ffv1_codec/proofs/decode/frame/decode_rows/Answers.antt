@@ -21,6 +21,20 @@ returns-in_err-decoded-clause-exact g c =
     rw (p.1, p.2) (rows_fail takes refuses a coded c.args.sink.now c.loop-row.row c.loop-row.tally c.loop-row.first c.loop-row.sink done c.decode_row-decoded.new.buffers.slices.columns.items c.add_up.result (λ s is told. c.add_up.ensures a.table s is (subst (λ z. AreTold a.table z s) (sym c.deref.ensures.value) told)) c.in_err-decoded.field-0.0 c.decode_row-decoded.new.sink inside
     (exact c.args.sink.now done.state B done.grows))
 
+pub returns-in_err-decoded-clause-same : goal.returns-in_err-decoded-clause-same
+returns-in_err-decoded-clause-same g c =
+    let vector = c.loop-row.buffers.slices.columns in
+    let closed : take vector.len (c.close.new.columns ++ drop (length c.close.new.columns) vector.items) ≡ c.close.new.columns =
+    with_items_is vector c.close.new.columns (c.close.auto.columns ∙ c.deref_mut.ensures.len) in
+    record {
+      slices = record { columns = c.in_err-decoded.ensures.same.slices.columns ∙ ap length closed ∙ c.close.auto.columns ∙ ap length c.deref_mut.ensures.value ∙ c.loop-row.invariant.same.slices.columns; states = c.in_err-decoded.ensures.same.slices.states ∙ c.loop-row.invariant.same.slices.states; columns_capacity = c.in_err-decoded.ensures.same.slices.columns_capacity ∙ c.loop-row.invariant.same.slices.columns_capacity; states_capacity = c.in_err-decoded.ensures.same.slices.states_capacity ∙ c.loop-row.invariant.same.slices.states_capacity };
+      lines = c.in_err-decoded.ensures.same.lines ∙ c.loop-row.invariant.same.lines;
+      words = λ bits holds. c.in_err-decoded.ensures.same.words bits (c.loop-row.invariant.same.words bits holds);
+      out = c.in_err-decoded.ensures.same.out ∙ c.loop-row.invariant.same.out;
+      lines_capacity = c.in_err-decoded.ensures.same.lines_capacity ∙ c.loop-row.invariant.same.lines_capacity;
+      out_capacity = c.in_err-decoded.ensures.same.out_capacity ∙ c.loop-row.invariant.same.out_capacity;
+    }
+
 pub loop-row-preserved : goal.loop-row-preserved
 loop-row-preserved g c =
     let a = c.args.checked.now in
@@ -36,10 +50,12 @@ loop-row-preserved g c =
     with_items_is vector c.close.new.columns (c.close.auto.columns ∙ c.deref_mut.ensures.len) in
     record {
       same = record {
-        slices = record { columns = c.in_ok-decoded.ensures.same.slices.columns ∙ ap length closed ∙ c.close.auto.columns ∙ ap length c.deref_mut.ensures.value ∙ c.loop-row.invariant.same.slices.columns; states = c.in_ok-decoded.ensures.same.slices.states ∙ c.loop-row.invariant.same.slices.states };
+        slices = record { columns = c.in_ok-decoded.ensures.same.slices.columns ∙ ap length closed ∙ c.close.auto.columns ∙ ap length c.deref_mut.ensures.value ∙ c.loop-row.invariant.same.slices.columns; states = c.in_ok-decoded.ensures.same.slices.states ∙ c.loop-row.invariant.same.slices.states; columns_capacity = c.in_ok-decoded.ensures.same.slices.columns_capacity ∙ c.loop-row.invariant.same.slices.columns_capacity; states_capacity = c.in_ok-decoded.ensures.same.slices.states_capacity ∙ c.loop-row.invariant.same.slices.states_capacity };
         lines = c.in_ok-decoded.ensures.same.lines ∙ c.loop-row.invariant.same.lines;
         words = λ bits holds. c.in_ok-decoded.ensures.same.words bits (c.loop-row.invariant.same.words bits holds);
         out = c.in_ok-decoded.ensures.same.out ∙ c.loop-row.invariant.same.out;
+        lines_capacity = c.in_ok-decoded.ensures.same.lines_capacity ∙ c.loop-row.invariant.same.lines_capacity;
+        out_capacity = c.in_ok-decoded.ensures.same.out_capacity ∙ c.loop-row.invariant.same.out_capacity;
       };
       known = λ h. c.in_ok-decoded.ensures.known;
       counted = c.in_ok-decoded.ensures.counted ∙ c.loop-row.invariant.counted;
@@ -56,4 +72,4 @@ returns-clause-exact g c =
     let done = c.loop-row.invariant.rows in
     let all : c.loop-row.row ≡ a.configuration.rows = omega (arith, rows_are) in
     let first : c.loop-row.first ≡ Some c.unwrap.result = search rules in
-    rows_end takes refuses a coded c.args.sink.now c.loop-row.row c.loop-row.tally c.loop-row.first c.loop-row.sink done c.counts.ensures.steps c.unwrap.result all first
+    rows_end takes refuses a coded c.args.sink.now c.loop-row.row c.loop-row.tally c.loop-row.first c.loop-row.sink done c.each_step_is_one_or_zero.ensures.steps c.unwrap.result all first

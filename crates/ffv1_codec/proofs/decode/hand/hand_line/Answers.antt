@@ -8,18 +8,18 @@ pub overflow_add-y : goal.overflow_add-y
 overflow_add-y g c =
     let conf = c.args.frame.now.checked.now.configuration in
     let p = c.args.plane in
-    let are = c.places.ensures.down conf c.args.frame.now.checked.now.table p c.requires.frame.accepted in
+    let are = c.slices_lie_beside_one_another.ensures.down conf c.args.frame.now.checked.now.table p c.requires.frame.accepted in
     let top : c.top-top.result ≡ top_of conf p c.args.line.now.row = rw c.requires.frame.grid at c.top-top.ensures in
     let all = inside (down (division_of conf) p) are c.args.line.now.row c.requires.row in
-    let sizes = c.accepted.ensures.sizes conf c.args.frame.now.checked.now.table c.requires.frame.accepted in
+    let sizes = c.accepted_configuration_is_in_range.ensures.sizes conf c.args.frame.now.checked.now.table c.requires.frame.accepted in
     omega (arith, top, all, sizes, c.requires.y)
 
 pub overflow_cast-y : goal.overflow_cast-y
 overflow_cast-y g c =
     let conf = c.args.frame.now.checked.now.configuration in
     let p = c.args.plane in
-    let are = c.places.ensures.down conf c.args.frame.now.checked.now.table p c.requires.frame.accepted in
+    let are = c.slices_lie_beside_one_another.ensures.down conf c.args.frame.now.checked.now.table p c.requires.frame.accepted in
     let top : c.top-top.result ≡ top_of conf p c.args.line.now.row = rw c.requires.frame.grid at c.top-top.ensures in
     let all = inside (down (division_of conf) p) are c.args.line.now.row c.requires.row in
-    let sizes = c.accepted.ensures.sizes conf c.args.frame.now.checked.now.table c.requires.frame.accepted in
+    let sizes = c.accepted_configuration_is_in_range.ensures.sizes conf c.args.frame.now.checked.now.table c.requires.frame.accepted in
     omega (arith, top, all, sizes, c.requires.y)

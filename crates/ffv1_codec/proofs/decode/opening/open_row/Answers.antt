@@ -8,8 +8,8 @@ use Rattle.ffv1_codec.proofs.Sizes.{part_apart, grid_small}
 use Rattle.ffv1_codec.proofs.RowOpenings.{one_opened, one_refused}
 use Rattle.ffv1_codec.proofs.decode.opening.open_row.Goals as goal
 
-pub overflow_cast-result : goal.overflow_cast-result
-overflow_cast-result g c =
+pub overflow_cast-slice-in-Err : goal.overflow_cast-slice-in-Err
+overflow_cast-slice-in-Err g c =
     let a = c.args.frame.now.checked.now in
     let conf = a.configuration in
     let r = c.args.row in
@@ -18,8 +18,8 @@ overflow_cast-result g c =
     let inside : n < conf.columns = omega (arith, long) in
     let number : r * length c.loop-k.columns + n ≡ slice_number conf r n = ap (λ z. r * z + n) long in
     let coded : ℕ → List ℕ = coded_by a c.args.frame.now.payload.now c.args.spans.now in
-    let columns = c.accepted.ensures.columns conf a.table c.requires.frame.accepted in
-    let rows = c.accepted.ensures.rows conf a.table c.requires.frame.accepted in
+    let columns = c.accepted_configuration_is_in_range.ensures.columns conf a.table c.requires.frame.accepted in
+    let rows = c.accepted_configuration_is_in_range.ensures.rows conf a.table c.requires.frame.accepted in
     let row = part_apart r conf.rows conf.columns c.requires.row in
     let all : conf.rows * conf.columns ≤ 1024 = grid_small conf.rows conf.columns rows.1 columns.1 in
     omega (arith, row, all, inside, number)
@@ -36,7 +36,7 @@ returns-in-Err-clause-exact g c = λ s known fresh says.
     let coded : ℕ → List ℕ = coded_by a c.args.frame.now.payload.now c.args.spans.now in
     let before = c.loop-k.invariant.row s known fresh says in
     let refused = subst (λ z. ColumnRefused a coded z c.open_column.new.column c.loop-k.first c.in-Err.fault) number c.in-Err.ensures.exact in
-    rw number (one_refused a coded c.args.frame.now.payload.now r s n c.loop-k.columns c.loop-k.first c.open_column.new.column before inside long c.in-Err.fault conf.columns inside refused)
+    rw (c.in_slice.ensures, number) (one_refused a coded c.args.frame.now.payload.now r s n c.loop-k.columns c.loop-k.first c.open_column.new.column before inside long c.in-Err.fault conf.columns inside refused)
 
 pub loop-k-preserved : goal.loop-k-preserved
 loop-k-preserved g c =
@@ -68,5 +68,5 @@ loop-k-preserved g c =
       row = λ s known fresh says.
           let before = c.loop-k.invariant.row s known fresh says in
           subst (λ z. RowOpened a coded c.args.frame.now.payload.now r z (row_heads (slice_set c.loop-k.columns n c.open_column.new.column) c.open_column.new.first) s) next
-          (one_opened a coded c.args.frame.now.payload.now r s n c.loop-k.columns c.loop-k.first c.open_column.new.column before inside long c.counted_from_nothing.ensures c.open_column.new.first opened);
+          (one_opened a coded c.args.frame.now.payload.now r s n c.loop-k.columns c.loop-k.first c.open_column.new.column before inside long c.counters_from_zero_show_all_steps.ensures c.open_column.new.first opened);
     }

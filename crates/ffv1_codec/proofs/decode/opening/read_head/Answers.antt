@@ -7,8 +7,8 @@ returns-in-Err-clause-err g c =
 
 pub returns-in-Ok-get_head-clause-ok : goal.returns-in-Ok-get_head-clause-ok
 returns-in-Ok-get_head-clause-ok g c =
-    head_read c.args.checked.now c.args.slice c.args.decoder.now c.get_key.new.decoder c.get_head.new.decoder c.requires.begins c.requires.counts c.counted_in_parts.ensures.append c.in-Ok.ensures.ok c.in-Ok-get_head.head c.in-Ok-get_head.ensures.ok c.in-Ok-get_head.ensures.found
+    head_read c.args.checked.now c.args.slice c.args.decoder.now c.get_key.new.decoder c.get_head.new.decoder c.requires.begins c.requires.counts c.counters_go_on_by_both_parts.ensures.append c.in-Ok.ensures.ok c.in-Ok-get_head.head c.in-Ok-get_head.ensures.ok c.in-Ok-get_head.ensures.found
 
 pub returns-in-Err-get_head-clause-err : goal.returns-in-Err-get_head-clause-err
 returns-in-Err-get_head-clause-err g c =
-    head_refused c.args.checked.now c.args.slice c.args.decoder.now c.get_key.new.decoder c.get_head.new.decoder c.requires.begins c.requires.counts c.counted_in_parts.ensures.append c.in-Ok.ensures.ok c.in-Err-get_head.fault c.codec_fault-in-Err-get_head.result c.codec_fault-in-Err-get_head.ensures c.in-Err-get_head.ensures.refused
+    head_refused c.args.checked.now c.args.slice c.args.decoder.now c.get_key.new.decoder c.get_head.new.decoder c.requires.begins c.requires.counts c.counters_go_on_by_both_parts.ensures.append c.in-Ok.ensures.ok c.in-Err-get_head.fault c.codec_fault-in-Err-get_head.result c.codec_fault-in-Err-get_head.ensures c.in-Err-get_head.ensures.refused

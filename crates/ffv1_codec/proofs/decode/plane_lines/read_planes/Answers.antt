@@ -44,7 +44,7 @@ planes-preserved g c =
           let cur_long : length c.planes.cur ≡ length c.args.cur.now = omega arith in
           let room : line.count * a.configuration.width ≤ length (g.W.Word.samples c.planes.cur) = omega (arith, cur_is, cur_long, c.requires.cur_long) in
           let more = plane_more a coded line.row next c.args.frame.now.payload.now line.first line.count line.y s two one k i c.planes.columns c.read_at.new.columns c.planes.states c.read_at.new.states
-          (g.W.Word.samples c.planes.cur) (g.W.Word.samples c.read_at.new.cur) few inside (λ p. c.places.ensures.across a.configuration a.table p c.requires.frame.accepted) room c.in_ok-read_at.ensures.beside before made in
+          (g.W.Word.samples c.planes.cur) (g.W.Word.samples c.read_at.new.cur) few inside (λ p. c.slices_lie_beside_one_another.ensures.across a.configuration a.table p c.requires.frame.accepted) room c.in_ok-read_at.ensures.beside before made in
           let at : suc i ≡ i + 1 = omega arith in
           subst (λ n. PlanesRead a coded line.row next c.args.frame.now.payload.now line.first line.count line.y k n c.read_at.new.columns c.read_at.new.states two one (g.W.Word.samples c.read_at.new.cur) s) at more;
     }

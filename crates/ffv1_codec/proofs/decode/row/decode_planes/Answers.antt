@@ -2,6 +2,7 @@ use Rattle.std.proofs.Common.{◌≡◌, ◌<◌, ◌∙◌, ap, true, false, ar
 use Rattle.std.proofs.lemmas.Result.{err_from_is_err_and, MatchResult-weaker}
 use Rattle.ffv1_record.specs.Configuration.{Configuration, is_rct}
 use Rattle.ffv1_codec.specs.Picture.{plane_count}
+use Rattle.ffv1_codec.proofs.KeptBuffers.{slices_kept}
 use Rattle.ffv1_codec.proofs.PlanesDecodes.{together_decoded, together_fails, plane_decoded, plane_fails, planes_decoded}
 use Rattle.ffv1_codec.proofs.decode.row.decode_planes.Goals as goal
 
@@ -29,7 +30,7 @@ loop-plane-preserved g c =
     let refuses = g.S.LineSink.refuses in
     let planes_are : c.planes-planes.result ≡ plane_count conf = rw c.requires.frame.grid at c.planes-planes.ensures in
     record {
-      same = record { columns = c.in_ok-decode_series-in-YCbCr.ensures.same.columns ∙ c.loop-plane.invariant.same.columns; states = c.in_ok-decode_series-in-YCbCr.ensures.same.states ∙ c.loop-plane.invariant.same.states };
+      same = slices_kept c.in_ok-decode_series-in-YCbCr.ensures.same c.loop-plane.invariant.same;
       opened = c.in_ok-decode_series-in-YCbCr.ensures.open;
       held = c.in_ok-decode_series-in-YCbCr.ensures.held;
       counted = c.in_ok-decode_series-in-YCbCr.ensures.counted ∙ c.loop-plane.invariant.counted;

@@ -42,5 +42,5 @@ returns-clause-exact g c = λ initial s between grows.
     let made = c.decode_lines.ensures.exact coded initial opened.state tied grown in
     let long_after = c.decode_lines.ensures.same.columns ∙ ap length columns_back ∙ long in
     MatchResult-weaker c.decode_lines.result made
-    (λ u done. row_decoded takes refuses a coded initial c.args.row payload s c.open_row.new.first c.open_row.new.columns opened c.counted_from_nothing.ensures c.decode_lines.new.slices.columns.items c.decode_lines.new.slices.states.items c.decode_lines.new.sink long_after done)
+    (λ u done. row_decoded takes refuses a coded initial c.args.row payload s c.open_row.new.first c.open_row.new.columns opened c.counters_from_zero_show_all_steps.ensures c.decode_lines.new.slices.columns.items c.decode_lines.new.slices.states.items c.decode_lines.new.sink long_after done)
     (λ f stopped. lines_fail takes refuses a coded initial c.args.row payload s c.open_row.new.first c.open_row.new.columns opened c.decode_lines.new.slices.columns.items f c.decode_lines.new.sink stopped)

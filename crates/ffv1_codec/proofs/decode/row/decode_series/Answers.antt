@@ -5,6 +5,7 @@ use Rattle.ffv1_record.specs.Configuration.{Configuration}
 use Rattle.ffv1_codec.specs.Order.{lines_down}
 use Rattle.ffv1_codec.specs.Decoding.{top_of}
 use Rattle.ffv1_codec.specs.Internal.Progress.{LinesDecoded}
+use Rattle.ffv1_codec.proofs.KeptBuffers.{slices_kept}
 use Rattle.ffv1_codec.proofs.LineFinished.{rct_is}
 use Rattle.ffv1_codec.proofs.SeriesDecodes.{lines_alike, planes_any, none_decoded, one_decoded, one_fails, all_decoded}
 use Rattle.ffv1_codec.proofs.decode.row.decode_series.Goals as goal
@@ -13,7 +14,7 @@ pub overflow_sub-y-end : goal.overflow_sub-y-end
 overflow_sub-y-end g c =
     let conf = c.args.frame.now.checked.now.configuration in
     let p = c.args.planes.now.first in
-    let are = c.places.ensures.down conf c.args.frame.now.checked.now.table p c.requires.frame.accepted in
+    let are = c.slices_lie_beside_one_another.ensures.down conf c.args.frame.now.checked.now.table p c.requires.frame.accepted in
     let top : c.top-top.result ≡ top_of conf p c.args.planes.now.row = rw c.requires.frame.grid at c.top-top.ensures in
     let bottom : c.top-bottom.result ≡ top_of conf p (c.args.planes.now.row + 1) = rw c.requires.frame.grid at c.top-bottom.ensures in
     let bottom : c.top-bottom.result ≡ top_of conf p (suc c.args.planes.now.row) = bottom ∙ ap (top_of conf p) (let same : c.args.planes.now.row + 1 ≡ suc c.args.planes.now.row = omega arith in same) in
@@ -43,13 +44,13 @@ loop-y-init g c =
       two_long = c.split_at_mut-two.ensures.front_len ∙ size_is;
       one_long = c.split_at_mut-one.ensures.front_len ∙ size_is;
       cur_long = omega (arith, c.split_at_mut-one.ensures.back_len, c.split_at_mut-two.ensures.back_len, c.clear.auto.lines, long, size_is);
-      same = record { columns = refl; states = refl };
+      same = record { columns = refl; states = refl; columns_capacity = refl; states_capacity = refl };
       opened = c.requires.open;
       held = c.requires.held;
       counted = refl;
       lines = λ coded initial s tied grows.
           none_decoded takes refuses a coded initial c.args.planes.now.row payload p c.args.planes.now.count s c.args.slices.now.columns.items c.args.slices.now.states.items size two one c.args.sink.now
-          c.cell_is_read.ensures.top (λ q. c.places.ensures.across conf a.table q c.requires.frame.accepted) two_is one_is size_is tied grows;
+          c.reading_its_rows_reads_the_cell.ensures.top (λ q. c.slices_lie_beside_one_another.ensures.across conf a.table q c.requires.frame.accepted) two_is one_is size_is tied grows;
     }
 
 pub decode_whole_line-requires-clause-y : goal.decode_whole_line-requires-clause-y
@@ -60,7 +61,7 @@ decode_whole_line-requires-clause-y g c =
     let payload = c.args.frame.now.payload.now in
     let takes = g.S.LineSink.takes in
     let refuses = g.S.LineSink.refuses in
-    let are = c.places.ensures.down conf c.args.frame.now.checked.now.table p c.requires.frame.accepted in
+    let are = c.slices_lie_beside_one_another.ensures.down conf c.args.frame.now.checked.now.table p c.requires.frame.accepted in
     let top : c.top-top.result ≡ top_of conf p c.args.planes.now.row = rw c.requires.frame.grid at c.top-top.ensures in
     let bottom : c.top-bottom.result ≡ top_of conf p (c.args.planes.now.row + 1) = rw c.requires.frame.grid at c.top-bottom.ensures in
     let bottom : c.top-bottom.result ≡ top_of conf p (suc c.args.planes.now.row) = bottom ∙ ap (top_of conf p) (let same : c.args.planes.now.row + 1 ≡ suc c.args.planes.now.row = omega arith in same) in
@@ -68,7 +69,7 @@ decode_whole_line-requires-clause-y g c =
     let height : c.top-bottom.result - c.top-top.result ≡ lines_down conf p c.args.planes.now.row = omega (arith, top, bottom, next) in
     let inside : c.loop-y.y < lines_down conf p c.args.planes.now.row = omega (arith, height) in
     λ i h.
-    let same = lines_alike conf p c.args.planes.now.count i c.args.planes.now.row c.requires.together (λ e. (c.accepted_parts.ensures.rct conf a.table c.requires.frame.accepted (rct_is conf.colour e)).2) h in
+    let same = lines_alike conf p c.args.planes.now.count i c.args.planes.now.row c.requires.together (λ e. (c.accepted_configuration_has_sound_parts.ensures.rct conf a.table c.requires.frame.accepted (rct_is conf.colour e)).2) h in
     omega (arith, same, inside)
 
 pub returns-in_err-decode_whole_line-clause-exact : goal.returns-in_err-decode_whole_line-clause-exact
@@ -82,7 +83,7 @@ returns-in_err-decode_whole_line-clause-exact g c = λ coded initial s tied grow
     let cur = g.W.Word.samples c.loop-y.cur.now in
     let takes = g.S.LineSink.takes in
     let refuses = g.S.LineSink.refuses in
-    let are = c.places.ensures.down conf c.args.frame.now.checked.now.table p c.requires.frame.accepted in
+    let are = c.slices_lie_beside_one_another.ensures.down conf c.args.frame.now.checked.now.table p c.requires.frame.accepted in
     let top : c.top-top.result ≡ top_of conf p c.args.planes.now.row = rw c.requires.frame.grid at c.top-top.ensures in
     let bottom : c.top-bottom.result ≡ top_of conf p (c.args.planes.now.row + 1) = rw c.requires.frame.grid at c.top-bottom.ensures in
     let bottom : c.top-bottom.result ≡ top_of conf p (suc c.args.planes.now.row) = bottom ∙ ap (top_of conf p) (let same : c.args.planes.now.row + 1 ≡ suc c.args.planes.now.row = omega arith in same) in
@@ -110,7 +111,7 @@ loop-y-preserved g c =
       two_long = search rules;
       one_long = search rules;
       cur_long = search rules;
-      same = record { columns = c.in_ok-decode_whole_line.ensures.same.columns ∙ c.loop-y.invariant.same.columns; states = c.in_ok-decode_whole_line.ensures.same.states ∙ c.loop-y.invariant.same.states };
+      same = slices_kept c.in_ok-decode_whole_line.ensures.same c.loop-y.invariant.same;
       opened = c.in_ok-decode_whole_line.ensures.open;
       held = c.in_ok-decode_whole_line.ensures.held;
       counted = c.in_ok-decode_whole_line.ensures.counted ∙ c.loop-y.invariant.counted;
@@ -133,7 +134,7 @@ returns-clause-exact g c = λ coded initial s tied grows.
     let one = g.W.Word.samples c.loop-y.one.now in
     let takes = g.S.LineSink.takes in
     let refuses = g.S.LineSink.refuses in
-    let are = c.places.ensures.down conf c.args.frame.now.checked.now.table p c.requires.frame.accepted in
+    let are = c.slices_lie_beside_one_another.ensures.down conf c.args.frame.now.checked.now.table p c.requires.frame.accepted in
     let top : c.top-top.result ≡ top_of conf p c.args.planes.now.row = rw c.requires.frame.grid at c.top-top.ensures in
     let bottom : c.top-bottom.result ≡ top_of conf p (c.args.planes.now.row + 1) = rw c.requires.frame.grid at c.top-bottom.ensures in
     let bottom : c.top-bottom.result ≡ top_of conf p (suc c.args.planes.now.row) = bottom ∙ ap (top_of conf p) (let same : c.args.planes.now.row + 1 ≡ suc c.args.planes.now.row = omega arith in same) in

@@ -57,10 +57,10 @@ returns-in_err-finish-clause-exact g c = λ coded next initial s less tied plane
     let exact = c.in_ok-read_planes.ensures.exact in
     let read = exact coded next s less tied planes in
     let long : length c.read_planes.new.columns ≡ a.configuration.columns = c.read_planes.auto.columns ∙ ap length c.deref_mut.ensures.value ∙ c.requires.many in
-    let told = tied_told a coded line.row next payload c.read_planes.new.columns c.read_planes.new.states read.state read.columns_are c.counted_from_nothing.ensures long in
-    let columns = c.accepted.ensures.columns a.configuration a.table c.requires.frame.accepted in
+    let told = tied_told a coded line.row next payload c.read_planes.new.columns c.read_planes.new.states read.state read.columns_are c.counters_from_zero_show_all_steps.ensures long in
+    let columns = c.accepted_configuration_is_in_range.ensures.columns a.configuration a.table c.requires.frame.accepted in
     let stand = stand_read a coded line.row next payload c.read_planes.new.columns c.read_planes.new.states two one cur line.first line.count line.y read.state read.columns_are (omega (arith, columns)) read.planes_are
-    (λ p. c.places.ensures.across a.configuration a.table p c.requires.frame.accepted) in
+    (λ p. c.slices_lie_beside_one_another.ensures.across a.configuration a.table p c.requires.frame.accepted) in
     let p = err_from_is_err_and c.from_residual-in_err-finish.result c.from_residual-in_err-finish.ensures.1 in
     rw (p.1, p.2) (subst (λ z. FailsIn takes refuses a coded initial line.row z (line_events a.configuration line.row (range_with_len line.first line.count) line.y) c.in_err-finish.field-0.0 c.args.sink.now s) (sym columns_back) (inl (finish_fails takes refuses a coded initial line.row next payload line.first line.count line.y s c.read_planes.new.columns c.read_planes.new.states two one cur c.args.sink.now grows read told c.in_err-finish.field-0.0 (c.in_err-finish.ensures.exact coded read.state stand))))
 
@@ -84,13 +84,13 @@ returns-clause-exact g c = λ coded next initial s less tied planes grows.
     let exact = c.in_ok-read_planes.ensures.exact in
     let read = exact coded next s less tied planes in
     let long : length c.read_planes.new.columns ≡ a.configuration.columns = c.read_planes.auto.columns ∙ ap length c.deref_mut.ensures.value ∙ c.requires.many in
-    let told = tied_told a coded line.row next payload c.read_planes.new.columns c.read_planes.new.states read.state read.columns_are c.counted_from_nothing.ensures long in
-    let columns = c.accepted.ensures.columns a.configuration a.table c.requires.frame.accepted in
+    let told = tied_told a coded line.row next payload c.read_planes.new.columns c.read_planes.new.states read.state read.columns_are c.counters_from_zero_show_all_steps.ensures long in
+    let columns = c.accepted_configuration_is_in_range.ensures.columns a.configuration a.table c.requires.frame.accepted in
     let stand = stand_read a coded line.row next payload c.read_planes.new.columns c.read_planes.new.states two one cur line.first line.count line.y read.state read.columns_are (omega (arith, columns)) read.planes_are
-    (λ p. c.places.ensures.across a.configuration a.table p c.requires.frame.accepted) in
+    (λ p. c.slices_lie_beside_one_another.ensures.across a.configuration a.table p c.requires.frame.accepted) in
     let made = c.in_ok-finish.ensures.exact coded read.state stand in
     let handed = c.hand_lines.ensures.exact coded initial c.read_planes.new.columns (finished takes refuses a coded initial line.row next payload line.first line.count line.y s c.read_planes.new.columns c.read_planes.new.states two one cur c.args.sink.now grows read told c.finish.new.out made) (grows_finished takes refuses a coded initial line.row next payload line.first line.count line.y s c.read_planes.new.columns c.read_planes.new.states two one cur c.args.sink.now grows read told c.finish.new.out made) (finished_told takes refuses a coded initial line.row next payload line.first line.count line.y s c.read_planes.new.columns c.read_planes.new.states two one cur c.args.sink.now grows read told c.finish.new.out made) made.stands in
     MatchResult-weaker c.hand_lines.result handed
     (λ u done. subst (λ z. LineDecoded takes refuses a coded initial line.row next payload line.first line.count line.y (take c.args.slices.now.columns.len (c.read_planes.new.columns ++ drop (length c.read_planes.new.columns) c.args.slices.now.columns.items)) z one cur c.hand_lines.new.sink s) (sym states_back)
-    (subst (λ z. LineDecoded takes refuses a coded initial line.row next payload line.first line.count line.y z c.read_planes.new.states one cur c.hand_lines.new.sink s) (sym columns_back) (line_decoded takes refuses a coded initial line.row next payload line.first line.count line.y s c.read_planes.new.columns c.read_planes.new.states two one cur c.args.sink.now grows read told c.finish.new.out made (λ p. c.places.ensures.across a.configuration a.table p c.requires.frame.accepted) c.hand_lines.new.sink done)))
+    (subst (λ z. LineDecoded takes refuses a coded initial line.row next payload line.first line.count line.y z c.read_planes.new.states one cur c.hand_lines.new.sink s) (sym columns_back) (line_decoded takes refuses a coded initial line.row next payload line.first line.count line.y s c.read_planes.new.columns c.read_planes.new.states two one cur c.args.sink.now grows read told c.finish.new.out made (λ p. c.slices_lie_beside_one_another.ensures.across a.configuration a.table p c.requires.frame.accepted) c.hand_lines.new.sink done)))
     (λ f stopped. subst (λ z. FailsIn takes refuses a coded initial line.row z (line_events a.configuration line.row (range_with_len line.first line.count) line.y) f c.hand_lines.new.sink s) (sym columns_back) (inr (hand_fails takes refuses a coded initial line.row next payload line.first line.count line.y s c.read_planes.new.columns c.read_planes.new.states two one cur c.args.sink.now grows read told c.finish.new.out made f c.hand_lines.new.sink stopped)))

@@ -10,7 +10,7 @@ returns-clause-right g c =
     let conf = c.args.frame.now.checked.now.configuration in
     let p = c.args.segment.now.plane in
     let k = c.args.segment.now.column in
-    let are = c.places.ensures.across conf c.args.frame.now.checked.now.table p c.requires.frame.accepted in
+    let are = c.slices_lie_beside_one_another.ensures.across conf c.args.frame.now.checked.now.table p c.requires.frame.accepted in
     let from : c.left.result ≡ left_of conf p k = rw c.requires.frame.grid at c.left.ensures in
     let to : c.left-2.result ≡ left_of conf p (k + 1) = rw c.requires.frame.grid at c.left-2.ensures in
     let to : c.left-2.result ≡ left_of conf p (suc k) = to ∙ ap (left_of conf p) (let same : k + 1 ≡ suc k = omega arith in same) in
@@ -22,7 +22,7 @@ returns-clause-some g c =
     let conf = c.args.frame.now.checked.now.configuration in
     let p = c.args.segment.now.plane in
     let k = c.args.segment.now.column in
-    let are = c.places.ensures.across conf c.args.frame.now.checked.now.table p c.requires.frame.accepted in
+    let are = c.slices_lie_beside_one_another.ensures.across conf c.args.frame.now.checked.now.table p c.requires.frame.accepted in
     let from : c.left.result ≡ left_of conf p k = rw c.requires.frame.grid at c.left.ensures in
     let to : c.left-2.result ≡ left_of conf p (k + 1) = rw c.requires.frame.grid at c.left-2.ensures in
     let to : c.left-2.result ≡ left_of conf p (suc k) = to ∙ ap (left_of conf p) (let same : k + 1 ≡ suc k = omega arith in same) in
@@ -35,7 +35,7 @@ returns-clause-inside g c =
     let conf = c.args.frame.now.checked.now.configuration in
     let p = c.args.segment.now.plane in
     let k = c.args.segment.now.column in
-    let are = c.places.ensures.across conf c.args.frame.now.checked.now.table p c.requires.frame.accepted in
+    let are = c.slices_lie_beside_one_another.ensures.across conf c.args.frame.now.checked.now.table p c.requires.frame.accepted in
     let to : c.left-2.result ≡ left_of conf p (k + 1) = rw c.requires.frame.grid at c.left-2.ensures in
     let to : c.left-2.result ≡ left_of conf p (suc k) = to ∙ ap (left_of conf p) (let same : k + 1 ≡ suc k = omega arith in same) in
     let next = are.next k c.requires.column in

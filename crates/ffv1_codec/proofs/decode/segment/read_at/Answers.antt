@@ -40,9 +40,9 @@ returns-then-is_overread-clause-exact g c = λ coded next s less tied line.
     get_or_default columns k c.index-columns-segment.result no_column few in
     let over = rw column_is at (c.if-is_overread.ensures.yes refl) in
     let made = c.in_ok-read_on.ensures.exact coded next s less tied line in
-    subst (λ (f : FrameFault). Stopped a coded columns (Read segment.row k segment.plane segment.y ∷ []) f s) (sym c.overread.ensures.value)
+    subst (λ (f : FrameFault). Stopped a coded columns (Read segment.row k segment.plane segment.y ∷ []) f s) (sym c.fault_in.ensures)
     (stop_looked a coded segment.row next c.args.frame.now.payload.now segment.plane (segment.index * a.configuration.width) segment.y k columns c.read_on.new.states (g.W.Word.samples c.args.above.now.two.now) (g.W.Word.samples c.args.above.now.one.now) (g.W.Word.samples c.read_on.new.cur) s made c.requires.column
-    c.counted_from_nothing.ensures over long)
+    c.counters_from_zero_show_all_steps.ensures over long)
 
 pub returns-clause-exact : goal.returns-clause-exact
 returns-clause-exact g c = λ coded next s less tied line.
@@ -57,4 +57,4 @@ returns-clause-exact g c = λ coded next s less tied line.
     let within = rw column_is at (c.if-is_overread.ensures.no refl) in
     let made = c.in_ok-read_on.ensures.exact coded next s less tied line in
     step_looked a coded segment.row next c.args.frame.now.payload.now segment.plane (segment.index * a.configuration.width) segment.y k columns c.read_on.new.states (g.W.Word.samples c.args.above.now.two.now) (g.W.Word.samples c.args.above.now.one.now) (g.W.Word.samples c.read_on.new.cur) s made c.requires.column
-    c.counted_from_nothing.ensures within
+    c.counters_from_zero_show_all_steps.ensures within

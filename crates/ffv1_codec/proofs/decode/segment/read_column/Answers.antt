@@ -68,12 +68,12 @@ returns-clause-exact g c = λ past samples y stands rolls.
     let bits : c.bits_of.result ≡ bits_of conf = c.bits_of.ensures.value in
     let counts : count ≡ contexts_of c.get-set.result.now * 32 = ap (λ z. z * 32) c.contexts.ensures.value in
     let stands_here = class_stands bytes t (base_of conf c.args.plane) c.get-set.result.now c.bits_of.result past samples (length (g.W.Word.samples c.read_segment.new.cur)) y c.args.states.now at count c.args.column.now.parked
-    base counts fits stands c.kept_states.ensures.part in
+    base counts fits stands c.array_states_follow_the_history.ensures.part in
     let read = rw (c.table.ensures.value, wide) at c.read_segment.ensures.exact in
     let read = read past (base_of conf c.args.plane) samples y stands_here rolls in
     let long : length c.read_segment.new.states ≡ count = c.read_segment.auto.states ∙ part_long at count (at + count - at) c.args.states.now wide fits in
     rw (sym set, sym bits, wide) (MatchResult-weaker c.read_segment.result read (λ u line. all_read bytes t (base_of conf c.args.plane) c.get-set.result.now c.bits_of.result past samples (length (g.W.Word.samples c.read_segment.new.cur)) y c.args.states.now at count c.args.column.now.parked
-    base counts fits stands c.kept_states.ensures.put c.read_segment.new.parked c.read_segment.new.states (g.W.Word.samples c.read_segment.new.cur) long line) (λ e stop. all_refused bytes t (base_of conf c.args.plane) (base_of conf c.args.plane) 33 c.get-set.result.now c.bits_of.result past samples (length (g.W.Word.samples c.read_segment.new.cur)) y c.read_segment.new.parked _ _ stop))
+    base counts fits stands c.array_states_follow_the_history.ensures.put c.read_segment.new.parked c.read_segment.new.states (g.W.Word.samples c.read_segment.new.cur) long line) (λ e stop. all_refused bytes t (base_of conf c.args.plane) (base_of conf c.args.plane) 33 c.get-set.result.now c.bits_of.result past samples (length (g.W.Word.samples c.read_segment.new.cur)) y c.read_segment.new.parked _ _ stop))
 
 pub returns-clause-held : goal.returns-clause-held
 returns-clause-held g c =

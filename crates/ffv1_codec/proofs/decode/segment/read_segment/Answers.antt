@@ -7,20 +7,20 @@ use Rattle.ffv1_codec.proofs.decode.segment.read_segment.Goals as goal
 pub returns-clause-exact : goal.returns-clause-exact
 returns-clause-exact g c = λ past base samples y stands rolls.
     let laws : Laws = record {
-      decides = c.kept_states.ensures.decided;
-      moves = c.kept_states.ensures.moved;
-      history = c.two_parts.ensures.history;
-      reads = c.read_is_coded.ensures;
-      append = c.counted_in_parts.ensures.append;
-      shifts = c.counted_in_parts.ensures.shifted;
-      from_nothing = c.counted_from_nothing.ensures;
-      below_both = c.two_parts.ensures.below;
-      below_long = c.slots-2.ensures.refused;
-      below_shifted = c.slots-2.ensures.shifted;
-      below_more = c.slots-2.ensures.more;
-      below_row = c.slots.ensures;
+      decides = c.array_states_follow_the_history.ensures.decided;
+      moves = c.array_states_follow_the_history.ensures.moved;
+      history = c.decisions_of_two_parts_join.ensures.history;
+      reads = c.read_bytes_code_what_was_read.ensures;
+      append = c.counters_go_on_by_both_parts.ensures.append;
+      shifts = c.counters_go_on_by_both_parts.ensures.shifted;
+      from_nothing = c.counters_from_zero_show_all_steps.ensures;
+      below_both = c.decisions_of_two_parts_join.ensures.below;
+      below_long = c.symbols_stay_in_their_slots.ensures.refused;
+      below_shifted = c.symbols_stay_in_their_slots.ensures.shifted;
+      below_more = c.symbols_stay_in_their_slots.ensures.more;
+      below_row = c.row_slots_are_the_contexts_slots.ensures;
     } in
-    let below = c.bounded.ensures.below in
+    let below = c.is_a_bounded_set.ensures.below in
     let two = g.W.Word.samples c.args.above.now.two.now in
     let one = g.W.Word.samples c.args.above.now.one.now in
     let row = g.W.Word.samples c.decode-read.new.cur in
@@ -36,4 +36,4 @@ returns-clause-exact g c = λ past base samples y stands rolls.
 pub returns-clause-small : goal.returns-clause-small
 returns-clause-small g c =
     let few : length (g.W.Word.samples c.decode-read.new.cur) ≤ length (g.W.Word.samples c.args.above.now.one.now) = search rules in
-    on_ok_weaker c.decode-read.result (λ lined. c.samples_below.ensures.read _ _ _ _ _ _ few lined) c.decode-read.ensures.ok
+    on_ok_weaker c.decode-read.result (λ lined. c.read_samples_fit_their_bits.ensures.read _ _ _ _ _ _ few lined) c.decode-read.ensures.ok

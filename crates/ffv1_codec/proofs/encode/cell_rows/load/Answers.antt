@@ -12,13 +12,13 @@ fill-requires g c =
     c.line.ensures.line.wide ∙ ap (λ d. sample_bytes d * (cell_in c.args.slice.now.checked.now.configuration c.args.slice.now.picture.now c.args.slice.now.number c.args.plane).width) (sym c.depth.ensures.value)
     ∙ ap (λ n. sample_bytes c.depth.result * n) (sym c.requires.rolled.cur_long ∙ g.met.W.Word.lengths c.args.rows.now.cur.items)
 
-pub returns : goal.returns
-returns g c =
+pub returns-clause-loaded : goal.returns-clause-loaded
+returns-clause-loaded g c =
     let slice = c.args.slice.now in
     let conf = slice.checked.now.configuration in
     let cell = cell_in conf slice.picture.now slice.number c.args.plane in
     let line = c.line.result.now in
-    let filled : g.W.Word.samples c.fill.new.row.items ≡ samples_of conf.depth line = c.fill.ensures ∙ ap (λ d. samples_of d line) c.depth.ensures.value in
+    let filled : g.W.Word.samples c.fill.new.row.items ≡ samples_of conf.depth line = c.fill.ensures.filled ∙ ap (λ d. samples_of d line) c.depth.ensures.value in
     record {
       above = c.requires.rolled.above;
       two_long = c.requires.rolled.two_long;

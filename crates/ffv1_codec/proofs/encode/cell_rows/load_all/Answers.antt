@@ -3,5 +3,5 @@ use Rattle.ffv1_codec.proofs.encode.cell_rows.load_all.Goals as goal
 pub load_colours-requires-clause-rolled : goal.load_colours-requires-clause-rolled
 load_colours-requires-clause-rolled g c = record { luma = c.requires.rolled.first; blue = c.requires.rolled.second; red = c.requires.rolled.third }
 
-pub returns : goal.returns
-returns g c = record { first = c.load_colours.ensures.luma; second = c.load_colours.ensures.blue; third = c.load_colours.ensures.red; fourth = c.load_transparency.ensures }
+pub returns-clause-loaded : goal.returns-clause-loaded
+returns-clause-loaded g c = record { first = c.load_colours.ensures.loaded.luma; second = c.load_colours.ensures.loaded.blue; third = c.load_colours.ensures.loaded.red; fourth = c.load_transparency.ensures.loaded }

@@ -10,15 +10,15 @@ use Rattle.ffv1_codec.proofs.encode.cell_rows.load_bytes.Goals as goal
 one_byte : (depth n long : ℕ) → depth ≡ 8 → long ≡ sample_bytes depth * n → long ≡ n
 one_byte depth n long is e = e ∙ ap (λ d. sample_bytes d * n) is ∙ (let once : 1 * n ≡ n = omega arith in once)
 
-pub returns : goal.returns
-returns g c =
+pub returns-clause-loaded : goal.returns-clause-loaded
+returns-clause-loaded g c =
     let slice = c.args.slice.now in
     let conf = slice.checked.now.configuration in
     let planes = slice.picture.now in
     let n = slice.number in
     let is = c.requires.depth in
     let width = (cell_in conf planes n 0).width in
-    let flat = c.accepted_parts.ensures.rct conf slice.checked.now.table c.config-config.ensures.accepted (is_colour conf.colour c.requires.rct) in
+    let flat = c.accepted_configuration_has_sound_parts.ensures.rct conf slice.checked.now.table c.config-config.ensures.accepted (is_colour conf.colour c.requires.rct) in
     let r = c.line.result.now in
     let h = c.line-2.result.now in
     let b = c.line-3.result.now in

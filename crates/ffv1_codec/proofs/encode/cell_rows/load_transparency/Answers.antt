@@ -5,5 +5,5 @@ use Rattle.ffv1_codec.proofs.encode.cell_rows.load_transparency.Goals as goal
 neither : (b : Bool) → b ≡ false → b ≡ true → ⊥
 neither b off on = cc
 
-pub returns-else-config : goal.returns-else-config
-returns-else-config g c = λ on. absurd (neither _ (ap (λ (k : Configuration). k.extra_plane) c.config.ensures.value ∙ c.if-config.false) on)
+pub returns-else-config-clause-loaded : goal.returns-else-config-clause-loaded
+returns-else-config-clause-loaded g c = λ on. absurd (neither _ (ap (λ (k : Configuration). k.extra_plane) c.config.ensures.value ∙ c.if-config.false) on)

@@ -27,7 +27,7 @@ fill-requires-2 g c =
     let conf = slice.checked.now.configuration in
     let planes = slice.picture.now in
     let n = slice.number in
-    let flat = c.accepted_parts.ensures.rct conf slice.checked.now.table c.config-config.ensures.accepted (is_colour conf.colour c.requires.rct) in
+    let flat = c.accepted_configuration_has_sound_parts.ensures.rct conf slice.checked.now.table c.config-config.ensures.accepted (is_colour conf.colour c.requires.rct) in
     let p = c.green_of-green.result in
     let wide : (cell_in conf planes n p).width ≡ length c.args.second.now.cur.items =
     same_width conf planes n p flat.1 ∙ sym (same_width conf planes n 1 flat.1) ∙ sym c.requires.rolled.blue.cur_long ∙ g.met.W.Word.lengths c.args.second.now.cur.items in
@@ -38,7 +38,7 @@ line-requires-3-clause-inside g c =
     let slice = c.args.slice.now in
     let conf = slice.checked.now.configuration in
     let n = slice.number in
-    let flat = c.accepted_parts.ensures.rct conf slice.checked.now.table c.config-config.ensures.accepted (is_colour conf.colour c.requires.rct) in
+    let flat = c.accepted_configuration_has_sound_parts.ensures.rct conf slice.checked.now.table c.config-config.ensures.accepted (is_colour conf.colour c.requires.rct) in
     subst (λ h. c.args.y < h) (sym (same_height conf n c.blue_of-blue.result flat.2)) c.requires.inside
 
 pub fill-requires-3 : goal.fill-requires-3
@@ -47,7 +47,7 @@ fill-requires-3 g c =
     let conf = slice.checked.now.configuration in
     let planes = slice.picture.now in
     let n = slice.number in
-    let flat = c.accepted_parts.ensures.rct conf slice.checked.now.table c.config-config.ensures.accepted (is_colour conf.colour c.requires.rct) in
+    let flat = c.accepted_configuration_has_sound_parts.ensures.rct conf slice.checked.now.table c.config-config.ensures.accepted (is_colour conf.colour c.requires.rct) in
     let p = c.blue_of-blue.result in
     let wide : (cell_in conf planes n p).width ≡ length c.args.third.now.cur.items =
     same_width conf planes n p flat.1 ∙ sym (same_width conf planes n 2 flat.1) ∙ sym c.requires.rolled.red.cur_long ∙ g.met.W.Word.lengths c.args.third.now.cur.items in
@@ -68,9 +68,9 @@ transform_words-requires-clause-second g c =
     let conf = slice.checked.now.configuration in
     let planes = slice.picture.now in
     let is : c.depth-depth.result ≡ conf.depth = c.depth-depth.ensures.value in
-    let flat = c.accepted_parts.ensures.rct conf slice.checked.now.table c.config-config.ensures.accepted (is_colour conf.colour c.requires.rct) in
-    filled conf planes slice.number c.green_of-green.result c.args.y c.line-2.result.now h_row flat.1 c.line-2.ensures.line (c.fill-2.ensures ∙ ap (λ k. samples_of k c.line-2.result.now) is)
-    ∙ sym (filled conf planes slice.number 0 c.args.y c.line.result.now r_row flat.1 c.line.ensures.line (c.fill.ensures ∙ ap (λ k. samples_of k c.line.result.now) is))
+    let flat = c.accepted_configuration_has_sound_parts.ensures.rct conf slice.checked.now.table c.config-config.ensures.accepted (is_colour conf.colour c.requires.rct) in
+    filled conf planes slice.number c.green_of-green.result c.args.y c.line-2.result.now h_row flat.1 c.line-2.ensures.line (c.fill-2.ensures.filled ∙ ap (λ k. samples_of k c.line-2.result.now) is)
+    ∙ sym (filled conf planes slice.number 0 c.args.y c.line.result.now r_row flat.1 c.line.ensures.line (c.fill.ensures.filled ∙ ap (λ k. samples_of k c.line.result.now) is))
 
 pub transform_words-requires-clause-third : goal.transform_words-requires-clause-third
 transform_words-requires-clause-third g c =
@@ -82,12 +82,12 @@ transform_words-requires-clause-third g c =
     let conf = slice.checked.now.configuration in
     let planes = slice.picture.now in
     let is : c.depth-depth.result ≡ conf.depth = c.depth-depth.ensures.value in
-    let flat = c.accepted_parts.ensures.rct conf slice.checked.now.table c.config-config.ensures.accepted (is_colour conf.colour c.requires.rct) in
-    filled conf planes slice.number c.blue_of-blue.result c.args.y c.line-3.result.now b_row flat.1 c.line-3.ensures.line (c.fill-3.ensures ∙ ap (λ k. samples_of k c.line-3.result.now) is)
-    ∙ sym (filled conf planes slice.number 0 c.args.y c.line.result.now r_row flat.1 c.line.ensures.line (c.fill.ensures ∙ ap (λ k. samples_of k c.line.result.now) is))
+    let flat = c.accepted_configuration_has_sound_parts.ensures.rct conf slice.checked.now.table c.config-config.ensures.accepted (is_colour conf.colour c.requires.rct) in
+    filled conf planes slice.number c.blue_of-blue.result c.args.y c.line-3.result.now b_row flat.1 c.line-3.ensures.line (c.fill-3.ensures.filled ∙ ap (λ k. samples_of k c.line-3.result.now) is)
+    ∙ sym (filled conf planes slice.number 0 c.args.y c.line.result.now r_row flat.1 c.line.ensures.line (c.fill.ensures.filled ∙ ap (λ k. samples_of k c.line.result.now) is))
 
-pub returns : goal.returns
-returns g c =
+pub returns-clause-loaded : goal.returns-clause-loaded
+returns-clause-loaded g c =
     let slice = c.args.slice.now in
     let samples = g.W.Word.samples in
     let r_row = samples c.fill.new.row.items in
@@ -100,7 +100,7 @@ returns g c =
     let d = c.depth-depth.result in
     let is : d ≡ conf.depth = c.depth-depth.ensures.value in
     let width = (cell_in conf planes n 0).width in
-    let flat = c.accepted_parts.ensures.rct conf slice.checked.now.table c.config-config.ensures.accepted (is_colour conf.colour c.requires.rct) in
+    let flat = c.accepted_configuration_has_sound_parts.ensures.rct conf slice.checked.now.table c.config-config.ensures.accepted (is_colour conf.colour c.requires.rct) in
     let r = c.line.result.now in
     let h = c.line-2.result.now in
     let b = c.line-3.result.now in
@@ -110,9 +110,9 @@ returns g c =
     let first : IsLine conf planes n 0 y r = c.line.ensures.line in
     let second : IsLine conf planes n (green_of conf) y h = subst (λ p. IsLine conf planes n p y h) c.green_of-green.ensures.value c.line-2.ensures.line in
     let third : IsLine conf planes n (blue_of conf) y b = subst (λ p. IsLine conf planes n p y b) c.blue_of-blue.ensures.value c.line-3.ensures.line in
-    let r_is : r_row ≡ samples_of conf.depth r = c.fill.ensures ∙ ap (λ k. samples_of k r) is in
-    let h_is : h_row ≡ samples_of conf.depth h = c.fill-2.ensures ∙ ap (λ k. samples_of k h) is in
-    let b_is : b_row ≡ samples_of conf.depth b = c.fill-3.ensures ∙ ap (λ k. samples_of k b) is in
+    let r_is : r_row ≡ samples_of conf.depth r = c.fill.ensures.filled ∙ ap (λ k. samples_of k r) is in
+    let h_is : h_row ≡ samples_of conf.depth h = c.fill-2.ensures.filled ∙ ap (λ k. samples_of k h) is in
+    let b_is : b_row ≡ samples_of conf.depth b = c.fill-3.ensures.filled ∙ ap (λ k. samples_of k b) is in
     let long : length r_row ≡ width = ap length r_is ∙ length_samples conf.depth width r first.wide in
     let coded = c.transform_words.ensures.coded in
     let coded : AreCodedIn conf.depth width (samples_of conf.depth r) (samples_of conf.depth h) (samples_of conf.depth b) luma blue red =

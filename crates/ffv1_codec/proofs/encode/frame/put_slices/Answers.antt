@@ -8,6 +8,7 @@ use Rattle.ffv1_codec.specs.declared.encode.frame_counts.FrameCounts.{FrameCount
 use Rattle.ffv1_codec.specs.declared.fault.CodecFault.TheVariants as fault
 use Rattle.ffv1_codec.specs.Frame.{slice_bytes}
 use Rattle.ffv1_codec.specs.Length.{slice_residuals, slice_renormalisations}
+use Rattle.ffv1_codec.proofs.KeptScratch.{kept_at_first, kept_then}
 use Rattle.ffv1_codec.proofs.Frames.{joined_next, sum_next, residuals_next, few_next, long_slice, no_long_slice, counts_are}
 use Rattle.ffv1_codec.proofs.encode.frame.put_slices.Goals as goal
 
@@ -20,6 +21,7 @@ loop-number-init g c = record {
   decisions_few = omega arith;
   renormalisations_few = omega arith;
   room = omega arith;
+  capacity = kept_at_first _;
 }
 
 pub returns-in_err-counts-clause-err : goal.returns-in_err-counts-clause-err
@@ -35,7 +37,7 @@ overflow_add-decisions g c =
     let end = c.slices-number-end.ensures.value ∙ ap slices_in c.of.ensures.value in
     let inside : c.loop-number.number < a.configuration.columns * a.configuration.rows = omega (arith, end) in
     let few : c.loop-number.number ≤ 1024 = omega (arith, c.slices-number-end.ensures.few) in
-    let small = c.slice_lengths.ensures.few a c.args.picture.now c.args.info c.loop-number.number c.table-table.ensures.accepted inside in
+    let small = c.slice_length_follows_from_residuals.ensures.few a c.args.picture.now c.args.info c.loop-number.number c.table-table.ensures.accepted inside in
     let decisions = ap (λ (k : FrameCounts). k.decisions) c.in_ok-counts.ensures.counts in
     omega (arith, few, small, decisions, c.loop-number.invariant.decisions_few)
 
@@ -53,7 +55,7 @@ loop-number-preserved g c =
     let decisions : c.in_ok-counts.counts.decisions ≡ row_decisions (slice_residuals a.configuration planes c.args.info n) = ap (λ (k : FrameCounts). k.decisions) told.counts in
     let end = c.slices-number-end.ensures.value ∙ ap slices_in c.of.ensures.value in
     let inside : n < a.configuration.columns * a.configuration.rows = omega (arith, end) in
-    let small = c.slice_lengths.ensures.few a planes c.args.info n c.table-table.ensures.accepted inside in
+    let small = c.slice_length_follows_from_residuals.ensures.few a planes c.args.info n c.table-table.ensures.accepted inside in
     let renormalisations : c.in_ok-counts.counts.renormalisations ≡ slice_renormalisations a planes c.args.info n = ap (λ (k : FrameCounts). k.renormalisations) told.counts in
     record {
       frame = joined_next a.configuration.ec (slice_bytes a planes c.args.info) n c.loop-number.frame.items c.add_slice.new.frame.items c.loop-number.invariant.frame told.ok;
@@ -63,6 +65,7 @@ loop-number-preserved g c =
       decisions_few = omega (arith, c.loop-number.invariant.decisions_few, decisions, small);
       renormalisations_few = omega (arith, c.loop-number.invariant.renormalisations_few, told.short);
       room = omega (arith, c.loop-number.invariant.room, c.add_slice.ensures.room);
+      capacity = kept_then c.loop-number.invariant.capacity c.add_slice.ensures.capacity;
     }
 
 pub returns-clause-ok : goal.returns-clause-ok

@@ -4,7 +4,8 @@ use Rattle.std.specs.List.{flat_map, range_with_len}
 use Rattle.ffv1_line.specs.Length.{row_decisions}
 use Rattle.ffv1_slice.specs.Cutting.{joined_of}
 use Rattle.ffv1_codec.specs.Frame.{slice_bytes}
-use Rattle.ffv1_codec.specs.Length.{slice_residuals, slice_renormalisations}
+use Rattle.ffv1_codec.specs.Length.{KeepsCapacities, slice_residuals, slice_renormalisations}
+use Rattle.ffv1_codec.specs.Internal.Scratch.{capacities_of}
 use Rattle.ffv1_codec.proofs.encode.frame.put_slices.Given as goal
 
 abbrev pub invariant-loop-number : goal.invariant-loop-number
@@ -19,4 +20,5 @@ invariant-loop-number g l =
       decisions_few : l.decisions ≤ l.number * 2 ^ 40;
       renormalisations_few : l.renormalisations ≤ l.number * 16777215;
       room : vec_capacity l.fn.scratch.states ≤ vec_capacity l.scratch.states;
+      capacity : KeepsCapacities (capacities_of l.fn.scratch) (capacities_of l.scratch);
     }

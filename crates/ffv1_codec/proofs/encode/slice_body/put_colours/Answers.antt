@@ -14,8 +14,8 @@ returns-clause-ok g c =
     let head = chosen_head conf slice.info in
     let cell = cell_in conf slice.picture.now slice.number in
     let y = c.args.y in
-    let loaded = c.load_all.ensures in
-    let chroma = (c.accepted_parts.ensures.rct conf t c.config-config.ensures.accepted (is_colour conf.colour c.requires.rct)).0 in
+    let loaded = c.load_all.ensures.loaded in
+    let chroma = (c.accepted_configuration_has_sound_parts.ensures.rct conf t c.config-config.ensures.accepted (is_colour conf.colour c.requires.rct)).0 in
     let rest = puts_then t _ _ _ _ _ _ _ _ (c.in_ok-put_line-3.ensures.ok cell y loaded.third) c.in_ok-put_transparency.ensures.ok in
     let rest = puts_then t _ _ _ _ _ _ _ _ (c.in_ok-put_line-2.ensures.ok cell y loaded.second) rest in
     let all = puts_then t _ _ _ _ _ _ _ _ (c.in_ok-put_line.ensures.ok cell y loaded.first) rest in
@@ -24,4 +24,4 @@ returns-clause-ok g c =
 pub returns-clause-rolled : goal.returns-clause-rolled
 returns-clause-rolled g c =
     let slice = c.args.slice.now in
-    c.turn.ensures slice.checked.now.configuration slice.picture.now slice.number c.args.y c.load_all.ensures
+    c.turn.ensures.rolled slice.checked.now.configuration slice.picture.now slice.number c.args.y c.load_all.ensures.loaded

@@ -7,7 +7,7 @@ use Rattle.ffv1_codec.proofs.Bodies.{puts_none, parts_next, lines_in_order}
 use Rattle.ffv1_codec.proofs.encode.slice_body.put_lines.Goals as goal
 
 pub loop-y-init : goal.loop-y-init
-loop-y-init g c = record { held = c.requires.held; rolled = c.in_ok-restart_all.ensures; puts = puts_none c.args.slice.now.checked.now.table c.args.encoder.now c.args.states.now }
+loop-y-init g c = record { held = c.requires.held; rolled = c.in_ok-restart_all.ensures.rolled; capacity = c.in_ok-restart_all.ensures.capacity; puts = puts_none c.args.slice.now.checked.now.table c.args.encoder.now c.args.states.now }
 
 pub loop-y-preserved : goal.loop-y-preserved
 loop-y-preserved g c =
@@ -16,6 +16,7 @@ loop-y-preserved g c =
     record {
       held = c.in_ok-put_colours.ensures.held;
       rolled = c.in_ok-put_colours.ensures.rolled;
+      capacity = omega (arith, c.loop-y.invariant.capacity, c.in_ok-put_colours.ensures.capacity);
       puts = parts_next slice.checked.now.table _ _ _ _ _ _ conf (chosen_head conf slice.info) (cell_in conf slice.picture.now slice.number) (planes_of_line (plane_count conf)) c.loop-y.y
           c.loop-y.invariant.puts c.in_ok-put_colours.ensures.ok;
     }

@@ -2,6 +2,7 @@ use Rattle.std.proofs.Common.{◌≡◌, subst, arith}
 use Rattle.ffv1_codec.specs.Picture.{cell_in, cell_height}
 use Rattle.ffv1_codec.specs.SliceList.{chosen_head, chosen_body, lines_of_plane}
 use Rattle.ffv1_codec.specs.Internal.HasPut.{PutsAfter}
+use Rattle.ffv1_codec.proofs.KeptScratch.{rows_turned}
 use Rattle.ffv1_codec.proofs.Bodies.{puts_none, plane_next, rolled_top, rolled_next}
 use Rattle.ffv1_codec.proofs.encode.slice_body.put_plane.Goals as goal
 
@@ -10,7 +11,8 @@ loop-y-init g c =
     let slice = c.args.slice.now in
     record {
       held = c.requires.held;
-      rolled = rolled_top g.W.Word.samples (cell_in slice.checked.now.configuration slice.picture.now slice.number c.args.plane) c.cell-cell.result.width c.restart.new.rows c.rolling.ensures.top c.cell-cell.ensures.width
+      capacity = omega (arith, c.in_ok-restart.ensures.two_room, c.in_ok-restart.ensures.one_room, c.in_ok-restart.ensures.cur_room);
+      rolled = rolled_top g.W.Word.samples (cell_in slice.checked.now.configuration slice.picture.now slice.number c.args.plane) c.cell-cell.result.width c.restart.new.rows c.rows_above_roll_down_the_cell.ensures.top c.cell-cell.ensures.width
           c.in_ok-restart.ensures.two c.in_ok-restart.ensures.one c.in_ok-restart.ensures.cur;
       puts = puts_none slice.checked.now.table c.args.encoder.now c.args.states.now;
     }
@@ -22,8 +24,9 @@ loop-y-preserved g c =
     let cell = cell_in conf slice.picture.now slice.number in
     record {
       held = c.in_ok-put_line.ensures.held;
-      rolled = rolled_next g.W.Word.samples (cell c.args.plane) c.loop-y.y c.load.new.rows c.turn.new.self c.rolling.ensures.next c.load.ensures c.turn.ensures.two c.turn.ensures.one c.turn.ensures.cur;
-      puts = plane_next slice.checked.now.table _ _ _ _ _ _ conf (chosen_head conf slice.info) cell c.args.plane c.loop-y.y c.loop-y.invariant.puts (c.in_ok-put_line.ensures.ok cell c.loop-y.y c.load.ensures);
+      capacity = let turned = rows_turned c.load.new.rows c.turn.new.self c.turn.ensures.two c.turn.ensures.one c.turn.ensures.cur in omega (arith, c.loop-y.invariant.capacity, c.load.ensures.capacity, turned);
+      rolled = rolled_next g.W.Word.samples (cell c.args.plane) c.loop-y.y c.load.new.rows c.turn.new.self c.rows_above_roll_down_the_cell.ensures.next c.load.ensures.loaded c.turn.ensures.two c.turn.ensures.one c.turn.ensures.cur;
+      puts = plane_next slice.checked.now.table _ _ _ _ _ _ conf (chosen_head conf slice.info) cell c.args.plane c.loop-y.y c.loop-y.invariant.puts (c.in_ok-put_line.ensures.ok cell c.loop-y.y c.load.ensures.loaded);
     }
 
 pub returns-clause-ok : goal.returns-clause-ok

@@ -8,7 +8,7 @@ use Rattle.ffv1_codec.proofs.Bodies.{puts_none, parts_next, planes_in_order}
 use Rattle.ffv1_codec.proofs.encode.slice_body.put_planes.Goals as goal
 
 pub loop-plane-init : goal.loop-plane-init
-loop-plane-init g c = record { held = c.requires.held; puts = puts_none c.args.slice.now.checked.now.table c.args.encoder.now c.args.states.now }
+loop-plane-init g c = record { held = c.requires.held; capacity = omega arith; puts = puts_none c.args.slice.now.checked.now.table c.args.encoder.now c.args.states.now }
 
 pub loop-plane-preserved : goal.loop-plane-preserved
 loop-plane-preserved g c =
@@ -16,6 +16,7 @@ loop-plane-preserved g c =
     let conf = slice.checked.now.configuration in
     record {
       held = c.in_ok-put_plane.ensures.held;
+      capacity = omega (arith, c.loop-plane.invariant.capacity, c.in_ok-put_plane.ensures.capacity);
       puts = parts_next slice.checked.now.table _ _ _ _ _ _ conf (chosen_head conf slice.info) (cell_in conf slice.picture.now slice.number) (λ p. lines_of_plane (cell_height conf slice.number p) p) c.loop-plane.plane
           c.loop-plane.invariant.puts c.in_ok-put_plane.ensures.ok;
     }

@@ -10,19 +10,19 @@ encode-requires-clause-held g c =
 pub returns-clause-ok : goal.returns-clause-ok
 returns-clause-ok g c = λ cell y loaded.
     let kept : Kept = record {
-      decided = c.kept_states.ensures.decided;
-      moved = c.kept_states.ensures.moved;
-      part = c.kept_states.ensures.part;
-      put = c.kept_states.ensures.put;
-      interval = c.two_parts.ensures.interval;
-      history = c.two_parts.ensures.history;
-      counts = c.counted_in_parts.ensures.append;
-      counts_shifted = c.counted_in_parts.ensures.shifted;
+      decided = c.array_states_follow_the_history.ensures.decided;
+      moved = c.array_states_follow_the_history.ensures.moved;
+      part = c.array_states_follow_the_history.ensures.part;
+      put = c.array_states_follow_the_history.ensures.put;
+      interval = c.decisions_of_two_parts_join.ensures.interval;
+      history = c.decisions_of_two_parts_join.ensures.history;
+      counts = c.counters_go_on_by_both_parts.ensures.append;
+      counts_shifted = c.counters_go_on_by_both_parts.ensures.shifted;
     } in
     let wide : c.args.at + c.contexts.result * 32 - c.args.at ≡ contexts_of c.args.coding.now.set.now * 32 = omega (arith, c.contexts.ensures.value) in
     let written = rw (c.deref.ensures.value, c.deref-2.ensures.value, c.deref-3.ensures.value) at c.in-Ok.ensures.ok in
     row_puts c.args.coding.now.table.now c.args.coding.now.set.now c.args.encoder.now c.encode.new.encoder c.args.states.now c.encode.new.states (g.W.Word.samples c.args.rows.now.two.items) (g.W.Word.samples c.args.rows.now.one.items) (g.W.Word.samples c.args.rows.now.cur.items) c.args.at _ c.args.coding.now.bits kept
-    (λ d y x qs. c.slots.ensures c.args.coding.now.set.now d y x qs c.bounded.ensures.below) wide c.requires.fits c.encode.auto.states written cell y loaded.above loaded.cur_long loaded.shows
+    (λ d y x qs. c.row_slots_are_the_contexts_slots.ensures c.args.coding.now.set.now d y x qs c.is_a_bounded_set.ensures.below) wide c.requires.fits c.encode.auto.states written cell y loaded.above loaded.cur_long loaded.shows
 
 pub returns-clause-held : goal.returns-clause-held
 returns-clause-held g c =

@@ -11,12 +11,12 @@ returns-clause-ok g c = λ count.
     let slice = c.args.slice.now in
     let conf = slice.checked.now.configuration in
     let laws : Fresh = record {
-      unsigned = c.slots.ensures.unsigned;
-      shifted_below = c.slots.ensures.shifted;
-      below = c.two_parts.ensures.below;
-      fresh = c.kept_states.ensures.fresh;
-      others = c.kept_states.ensures.others;
-      counts = c.counted_in_parts.ensures.append;
+      unsigned = c.symbols_stay_in_their_slots.ensures.unsigned;
+      shifted_below = c.symbols_stay_in_their_slots.ensures.shifted;
+      below = c.decisions_of_two_parts_join.ensures.below;
+      fresh = c.array_states_follow_the_history.ensures.fresh;
+      others = c.array_states_follow_the_history.ensures.others;
+      counts = c.counters_go_on_by_both_parts.ensures.append;
     } in
     let head = subst (λ (h : SliceHead). PutsAt slice.checked.now.table 1 32 c.put_key.new.encoder c.put_head.new.encoder (head_steps conf slice.number h)) c.head-head.ensures.value c.in-Ok-put_head.ensures.ok in
     begun slice.checked.now.table slice.number count (head_values conf slice.number (chosen_head conf slice.info)) c.args.encoder.now c.put_key.new.encoder c.put_head.new.encoder laws c.requires c.in-Ok.ensures.ok head

@@ -1,6 +1,6 @@
 use Rattle.std.proofs.Common.{IsTrue, sym, subst}
 use Rattle.ffv1_record.specs.Accepted.{Accepted}
-use Rattle.ffv1_engine.specs.Verifying.{IsBackFor}
+use Rattle.ffv1_engine.specs.Internal.Verifying.{IsBackFor}
 use Rattle.ffv1_engine.proofs.verifying.VerifyingEncoder.encode.Goals as goal
 
 pub invariant_of-self-2 : goal.invariant_of-self-2

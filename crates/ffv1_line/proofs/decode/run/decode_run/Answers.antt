@@ -7,12 +7,12 @@ use Rattle.ffv1_line.proofs.decode.run.decode_run.Goals as goal
 
 pub bounds-states-0 : goal.bounds-states-0
 bounds-states-0 g c =
-    let below = c.bounded.ensures.below (record { l = 0; t = 0; tl = 0; tr = 0; ll = 0; tt = 0 }) in
+    let below = c.is_a_bounded_set.ensures.below (record { l = 0; t = 0; tl = 0; tr = 0; ll = 0; tt = 0 }) in
     omega (arith, below, c.requires.stands.ready.rows)
 
 pub take_run-left-requires-clause-may : goal.take_run-left-requires-clause-may
 take_run-left-requires-clause-may g c =
-    let below = c.bounded.ensures.below (record { l = 0; t = 0; tl = 0; tr = 0; ll = 0; tt = 0 }) in
+    let below = c.is_a_bounded_set.ensures.below (record { l = 0; t = 0; tl = 0; tr = 0; ll = 0; tt = 0 }) in
     let stands = c.requires.stands in
     let fits : SFits w32 c.predict_late.result = search rules in
     record {
@@ -26,11 +26,11 @@ take_run-left-requires-clause-may g c =
     }
 
 pub take_run-left-requires-clause-run : goal.take_run-left-requires-clause-run
-take_run-left-requires-clause-run g c = record { each = c.flat.ensures c.args.places.now.set.now c.bounded.ensures.set c.requires.three_tables }
+take_run-left-requires-clause-run g c = record { each = c.flat_place_has_first_context.ensures c.args.places.now.set.now c.is_a_bounded_set.ensures.set c.requires.three_tables }
 
 pub bounds-states-0-2 : goal.bounds-states-0-2
 bounds-states-0-2 g c =
-    let below = c.bounded.ensures.below (record { l = 0; t = 0; tl = 0; tr = 0; ll = 0; tt = 0 }) in
+    let below = c.is_a_bounded_set.ensures.below (record { l = 0; t = 0; tl = 0; tr = 0; ll = 0; tt = 0 }) in
     omega (arith, below, c.requires.stands.ready.rows)
 
 pub returns-clause-stands : goal.returns-clause-stands
@@ -49,6 +49,6 @@ returns-clause-stands g c =
 
 pub returns-clause-read : goal.returns-clause-read
 returns-clause-read g c =
-    let below = c.bounded.ensures.below (record { l = 0; t = 0; tl = 0; tr = 0; ll = 0; tt = 0 }) in
+    let below = c.is_a_bounded_set.ensures.below (record { l = 0; t = 0; tl = 0; tr = 0; ll = 0; tt = 0 }) in
     let some : 0 < length c.args.states.now = omega (arith, below, c.requires.stands.ready.rows) in
     c.take_run-left.ensures.read.by c.args.states.now some refl

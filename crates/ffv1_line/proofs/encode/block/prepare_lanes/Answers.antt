@@ -24,6 +24,6 @@ returns g c =
     let loaded = c.around_lanes.ensures in
     let sizes = c.choose_lanes.ensures.sizes places (beside two one cur) long loaded.around in
     let residuals = c.choose_lanes.ensures.residuals places (beside two one cur) (slice_index cur) long loaded.around loaded.samples loaded.small in
-    block_lanes p c.args.at _ _ _ _ q.part.bits q.contexts q.residuals c.bounded.ensures.below q.done
+    block_lanes p c.args.at _ _ _ _ q.part.bits q.contexts q.residuals c.is_a_bounded_set.ensures.below q.done
     (ap (map (λ (n : ℕ). n)) sizes ∙ map-map (λ (n : ℕ). n) (λ (k : ℕ). size_of p.set.now (beside two one cur k)) places)
     (residuals ∙ ap (λ (f : Around → ℤ). map (λ (k : ℕ). modulo_512 (chosen_of p.bits (f (beside two one cur k)) (flip_of p.set.now (beside two one cur k)) (slice_index cur k))) places) (sym (unsigned p.bits q.part.bits)))

@@ -7,7 +7,7 @@ use Rattle.ffv1_codec.proofs.encode.slice.Slice.line.Goals as goal
 
 pub line_of-requires-clause-fits : goal.line_of-requires-clause-fits
 line_of-requires-clause-fits g c =
-    let laws : Sides = record { across = c.tiling.ensures.across; down = c.tiling.ensures.down; some = c.parts.ensures.some; inside = c.parts.ensures.inside } in
+    let laws : Sides = record { across = c.cells_tile_their_plane.ensures.across; down = c.cells_tile_their_plane.ensures.down; some = c.parts_follow_one_another.ensures.some; inside = c.parts_follow_one_another.ensures.inside } in
     let slice = c.args.self.now in
     let conf = slice.checked.now.configuration in
     let samples = c.as_slice-samples.result.now in
@@ -23,7 +23,7 @@ line_of-requires-clause-fits g c =
 
 pub returns-clause-line : goal.returns-clause-line
 returns-clause-line g c =
-    let laws : Sides = record { across = c.tiling.ensures.across; down = c.tiling.ensures.down; some = c.parts.ensures.some; inside = c.parts.ensures.inside } in
+    let laws : Sides = record { across = c.cells_tile_their_plane.ensures.across; down = c.cells_tile_their_plane.ensures.down; some = c.parts_follow_one_another.ensures.some; inside = c.parts_follow_one_another.ensures.inside } in
     let slice = c.args.self.now in
     let conf = slice.checked.now.configuration in
     let samples = c.as_slice-samples.result.now in
@@ -41,7 +41,7 @@ returns-clause-line g c =
 
 pub returns-clause-small : goal.returns-clause-small
 returns-clause-small g c =
-    let laws : Sides = record { across = c.tiling.ensures.across; down = c.tiling.ensures.down; some = c.parts.ensures.some; inside = c.parts.ensures.inside } in
+    let laws : Sides = record { across = c.cells_tile_their_plane.ensures.across; down = c.cells_tile_their_plane.ensures.down; some = c.parts_follow_one_another.ensures.some; inside = c.parts_follow_one_another.ensures.inside } in
     let slice = c.args.self.now in
     let conf = slice.checked.now.configuration in
     let samples = c.as_slice-samples.result.now in

@@ -4,4 +4,4 @@ use Rattle.ffv1_tests.proofs.tests.wire.sinks.keep_rows.Goals as goal
 
 pub returns : goal.returns
 returns g c =
-    c.texts.ensures.all (λ s. Some s.samples.items) (λ l. l.samples) (λ s t l h. h) c.args.sink.now c.hand_over.new.sink (lines_of c.args.lines.now) c.in_ok-hand_over.ensures.ok
+    c.sink_writes_the_text_of_lines.ensures.all (λ s. Some s.samples.items) (λ l. l.samples) (λ s t l h. h) c.args.sink.now c.hand_over.new.sink (lines_of c.args.lines.now) c.in_ok-hand_over.ensures.ok

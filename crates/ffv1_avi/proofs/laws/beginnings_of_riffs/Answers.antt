@@ -1,5 +1,0 @@
-use Rattle.ffv1_avi.proofs.EdgeLaws.{every_edge, every_within, owed_given}
-use Rattle.ffv1_avi.proofs.laws.beginnings_of_riffs.Goals as goal
-
-pub returns : goal.returns
-returns c = record { within = every_within; edge = every_edge; owed = owed_given }

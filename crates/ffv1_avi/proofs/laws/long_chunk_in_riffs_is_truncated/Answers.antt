@@ -1,0 +1,6 @@
+use Rattle.ffv1_avi.proofs.LongMovis.{after_long_at, movi_long_at, next_long_at}
+use Rattle.ffv1_avi.proofs.RiffRefusals.{every_extended_long, every_header_long, every_riff_long, every_stream_long}
+use Rattle.ffv1_avi.proofs.laws.long_chunk_in_riffs_is_truncated.Goals as goal
+
+pub returns : goal.returns
+returns c = record { riff = every_riff_long; header = every_header_long; stream = every_stream_long; extended = every_extended_long; movi = movi_long_at; after = after_long_at; next = next_long_at }

@@ -1,0 +1,5 @@
+use Rattle.ffv1_avi.proofs.EdgeLaws.{every_edge, every_within, owed_given}
+use Rattle.ffv1_avi.proofs.laws.shorter_riffs_want_more_bytes.Goals as goal
+
+pub returns : goal.returns
+returns c = record { within = every_within; edge = every_edge; owed = owed_given }

@@ -1,0 +1,14 @@
+use Rattle.std.proofs.Common.{ℕ, List, Result, Err, subst}
+use Rattle.ffv1_slice.specs.declared.cutting.CutFault.{CutFault}
+use Rattle.ffv1_slice.specs.declared.fault.SliceFault.TheVariants as fault
+use Rattle.ffv1_codec.specs.Answer.{AnswersCut}
+use Rattle.ffv1_codec.proofs.Damaged.{is_damaged}
+use Rattle.ffv1_codec.proofs.laws.answer.damage_is_found_by_parity.Goals as goal
+
+pub returns : goal.returns
+returns g c = λ a sent payload spans s old new tally result sent_are are cuts damage answer.
+    let found = is_damaged a.configuration sent payload spans s sent_are are c.bursts_change_the_remainder.ensures cuts damage in
+    let cut = c.cutting_is_found_from_the_end.ensures.because a.configuration payload (record { fault = fault.SliceParity; slice = s }) found in
+    let whole : AnswersCut g.S.LineSink.takes g.S.LineSink.refuses a payload old new tally result (Err (record { fault = fault.SliceParity; slice = s })) =
+    subst (λ (z : Result (List ℕ) CutFault). AnswersCut g.S.LineSink.takes g.S.LineSink.refuses a payload old new tally result z) cut answer in
+    (whole.0, whole.1, whole.2)

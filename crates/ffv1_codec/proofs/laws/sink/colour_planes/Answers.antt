@@ -1,8 +1,0 @@
-use Rattle.ffv1_codec.proofs.FromCoded.{high_in_rct, wide_in_rct}
-use Rattle.ffv1_codec.proofs.laws.sink.colour_planes.Goals as goal
-
-pub returns-clause-wide : goal.returns-clause-wide
-returns-clause-wide c = λ a p is rct. wide_in_rct a.configuration ((c.sides.ensures a.configuration a.table is).rct rct) p
-
-pub returns-clause-high : goal.returns-clause-high
-returns-clause-high c = λ a p is rct. high_in_rct a.configuration ((c.sides.ensures a.configuration a.table is).rct rct) p

@@ -1,8 +1,0 @@
-use Rattle.ffv1_ebml.proofs.ContentTold.{content_bad, content_good}
-use Rattle.ffv1_ebml.proofs.laws.passed_is_told.Goals as goal
-
-pub returns-clause-good : goal.returns-clause-good
-returns-clause-good c = content_good
-
-pub returns-clause-bad : goal.returns-clause-bad
-returns-clause-bad c = content_bad

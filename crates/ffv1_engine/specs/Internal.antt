@@ -1,0 +1,26 @@
+-- What ties calls within the engine to the definitions. No public clause cites it.
+pub mod Clusters
+pub mod Containers
+pub mod Encoding
+pub mod FrameLines
+pub mod FrameMd5
+pub mod ImagesOut
+pub mod Judged
+pub mod Located
+pub mod Md5Text
+pub mod Opens
+pub mod Pack
+pub mod PackMatroska
+pub mod Picture
+pub mod PicturesOut
+pub mod Plane
+pub mod Play
+pub mod Plays
+pub mod RawPicture
+pub mod Show
+pub mod TextMd5
+pub mod Told
+pub mod Unpack
+pub mod Unpacking
+pub mod Verifying
+pub mod VideoReads

@@ -1,0 +1,88 @@
+-- Images are written row by row, each while it is decoded: what the next frame answers, and what
+-- is written of it.
+use Rattle.std.specs.Prelude.{◌≡◌, ◌⊎◌, ℕ, Bool, true, false, List, [], ◌∷◌, ◌++◌, length, Result}
+use Rattle.std.specs.Prelude.{Ok, Err}
+use Rattle.std.specs.Io.KnownBytes.{Appends}
+use Rattle.ffv1_range.specs.declared.tally.Tally.{Tally}
+use Rattle.ffv1_wire.specs.Failures.{one_more}
+use Rattle.ffv1_wire.specs.Passage.{Passage}
+use Rattle.ffv1_wire.specs.Runs.{Line}
+use Rattle.ffv1_record.specs.Accepted.{Accepted}
+use Rattle.ffv1_record.specs.Configuration.{Configuration}
+use Rattle.ffv1_codec.specs.declared.fault.FrameFault.{FrameFault}
+use Rattle.ffv1_files.specs.Places.{Place}
+use Rattle.ffv1_files.specs.Files.{frame_read}
+use Rattle.ffv1_reads.specs.Head.{Head}
+use Rattle.ffv1_y4m.specs.Images.{AtImage, image_text, text_of_lines}
+use Rattle.ffv1_y4m.specs.Sink.{PpmSink}
+use Rattle.ffv1_engine.specs.declared.fault.Fault.{Fault}
+use Rattle.ffv1_engine.specs.Faults.{Cause, cause_of, of_codec}
+use Rattle.ffv1_engine.specs.Faults.Cause.{Reading, Writing, Memory, Content}
+use Rattle.ffv1_codec.specs.Outcome.{FaultsOf}
+use Rattle.ffv1_engine.specs.Stream.{Frame}
+use Rattle.ffv1_engine.specs.Play.{WritesUpTo}
+use Rattle.ffv1_engine.specs.Internal.Play.{ReadsEnd, ReadsPayload}
+use Rattle.ffv1_engine.specs.Internal.Plays.{PlaysFrame}
+use Rattle.ffv1_engine.specs.Told.{NextFails, PayloadLacks}
+use Rattle.ffv1_engine.specs.Internal.Told.{FaultsKnown}
+use Rattle.ffv1_engine.specs.Trial.{Silent}
+use Rattle.ffv1_engine.specs.Unpacked.{lines_before}
+use Rattle.ffv1_engine.specs.Unpacking.{HandsOver}
+
+-- a sink of images of a configuration's size and depth that has taken whole images
+pub record IsSinkFor {W : Type 0} (c : Configuration) (s : PpmSink W) : Type 0 where
+  pub at : AtImage s
+  pub width : s.width ≡ c.width
+  pub height : s.height ≡ c.height
+  pub depth : s.depth ≡ c.depth
+
+-- what the first lines of an image make a sink write: its header, and the rows that are whole
+abbrev pub rows_so_far : Configuration → List Line → List ℕ
+rows_so_far c lines = text_of_lines c.depth c.width c.height [] 0 lines
+
+-- of the next frame, after whole images
+module _ (a : Accepted) (from to : Place) (input output : Passage) where
+  -- a row was not written whole, which a line was to bring
+  pub record RowCut : Type 0 where
+    pub payload : List ℕ
+    pub lines : List Line
+    pub next : Line
+    pub reads : ReadsPayload from to payload input
+    pub hands : (head : Head) →
+        HandsOver (record { head = head; accepted = a }) payload lines next
+    pub written : output.after ≡ one_more output.before
+    pub writes : WritesUpTo output.old output.new (length (rows_so_far a.configuration lines))
+        (rows_so_far a.configuration (lines ++ (next ∷ [])))
+
+  -- its payload has its first fault
+  pub record ImageFaults (f : Fault) : Type 0 where
+    pub payload : List ℕ
+    pub fault : FrameFault
+    pub tally : Tally
+    pub reads : ReadsPayload from to payload input
+    pub faulty : FaultsOf a payload fault tally
+    pub is : f ≡ of_codec fault.fault
+    pub written : output.after ≡ output.before
+    pub writes : Appends output.old output.new
+        (rows_so_far a.configuration (lines_before faulty))
+
+  -- why there is no image of it, or not all of one, by the cause
+  abbrev pub ImageStopsBy : Fault → Cause → Type 0
+  ImageStopsBy f Writing = RowCut
+  ImageStopsBy f Reading =
+      Silent output × (input.after ≡ one_more input.before) × NextFails from input.old input.new
+  ImageStopsBy f Memory =
+      Silent output × (input.after ≡ input.before) × PayloadLacks from input.old input.new
+  ImageStopsBy f Content =
+      (input.after ≡ input.before)
+      × ((Silent output × FaultsKnown (frame_read from) input.old input.new f) ⊎ ImageFaults f)
+
+  -- what it answers: its image was written, there is none, or why it was not
+  abbrev pub WritesImage : Result Bool Fault → Type 0
+  WritesImage (Ok true) =
+      (frame : Frame) × PlaysFrame a from to input frame × (output.after ≡ output.before)
+      × Appends output.old output.new
+      (image_text a.configuration.depth a.configuration.width a.configuration.height
+      frame.planes)
+  WritesImage (Ok false) = ReadsEnd from input × Silent output
+  WritesImage (Err f) = ImageStopsBy f (cause_of f)

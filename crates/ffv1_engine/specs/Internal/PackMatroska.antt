@@ -1,0 +1,46 @@
+-- What is known before the first picture of a video is encoded, or why none is.
+use Rattle.std.specs.Prelude.{◌≡◌, ℕ, []}
+use Rattle.ffv1_wire.specs.Failures.{one_more}
+use Rattle.ffv1_wire.specs.Passage.{Passage}
+use Rattle.ffv1_record.specs.Accepted.{Accepted}
+use Rattle.ffv1_reads.specs.Known.{Known}
+use Rattle.ffv1_matroska.specs.Rates.{IsTimed}
+use Rattle.ffv1_matroska.specs.Writers.{Writing as Writer, rate_in, writing_of}
+use Rattle.ffv1_y4m.specs.Reads.{Wants}
+use Rattle.ffv1_words.specs.declared.order.Choice.{Choice}
+use Rattle.ffv1_engine.specs.declared.fault.Fault.{Fault}
+use Rattle.ffv1_engine.specs.Faults.{Cause, cause_of}
+use Rattle.ffv1_engine.specs.Faults.Cause.{Reading, Writing, Memory, Content}
+use Rattle.ffv1_engine.specs.Grids.{choice_for}
+use Rattle.ffv1_engine.specs.Pack.{HasHead}
+use Rattle.ffv1_engine.specs.Packing.{IsFor}
+use Rattle.ffv1_engine.specs.Packing.{head_for}
+use Rattle.ffv1_engine.specs.Video.{video_head}
+use Rattle.ffv1_engine.specs.Internal.VideoReads.{HeadRead, IsHeadOf}
+use Rattle.ffv1_engine.specs.VideoReads.{Taken}
+use Rattle.ffv1_engine.specs.Internal.VideoReads.{VideoReading}
+use Rattle.ffv1_engine.specs.PackMatroska.{FaultsBefore, StandsAfterHead, shown_for}
+
+-- a head was read, and its rate and a configuration for it are such as they have to be; the writer
+-- has written nothing
+pub record OpensMatroska (most : ℕ) (choice : Choice) (p : Passage) (r : VideoReading)
+    (a : Accepted) (w : Writer) : Type 0 where
+  pub read : HeadRead most p r
+  pub head : IsHeadOf r
+  pub for : IsFor (choice_for choice r.head) r.ppm r.head a
+  pub timed : IsTimed (rate_in (head_for choice r.ppm r.head a.configuration))
+  pub fresh : w
+      ≡ writing_of (head_for choice r.ppm r.head a.configuration) (shown_for r.head) []
+
+-- why not
+abbrev pub LacksMatroskaBy : ℕ → Cause → Choice → Passage → Fault → Type 0
+LacksMatroskaBy most Reading choice p f =
+    (p.after ≡ one_more p.before) × Known p.old p.new (Taken (Wants (video_head most)))
+LacksMatroskaBy most Writing choice p f = ⊥
+LacksMatroskaBy most Memory choice p f =
+    (p.after ≡ p.before) × HasHead most p.old × StandsAfterHead most p.old p.new
+LacksMatroskaBy most Content choice p f =
+    (p.after ≡ p.before) × FaultsBefore most choice p.old p.new f
+
+abbrev pub LacksMatroska : ℕ → Choice → Passage → Fault → Type 0
+LacksMatroska most choice p f = LacksMatroskaBy most (cause_of f) choice p f

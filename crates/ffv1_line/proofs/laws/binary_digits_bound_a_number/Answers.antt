@@ -1,0 +1,12 @@
+use Rattle.ffv1_line.proofs.MostDecisions.{digits_least, digits_below}
+use Rattle.std.proofs.Common.{refl}
+use Rattle.ffv1_line.proofs.laws.binary_digits_bound_a_number.Goals as goal
+
+pub returns-clause-least : goal.returns-clause-least
+returns-clause-least c = λ n some. digits_least n some
+
+pub returns-clause-most : goal.returns-clause-most
+returns-clause-most c = λ n. digits_below n
+
+pub returns-clause-none : goal.returns-clause-none
+returns-clause-none c = refl

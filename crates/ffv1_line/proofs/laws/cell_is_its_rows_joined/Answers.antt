@@ -1,0 +1,5 @@
+use Rattle.ffv1_line.proofs.Joined.{cell_steps-append}
+use Rattle.ffv1_line.proofs.laws.cell_is_its_rows_joined.Goals as goal
+
+pub returns : goal.returns
+returns c = λ set c y rows qs. cell_steps-append set c y rows qs

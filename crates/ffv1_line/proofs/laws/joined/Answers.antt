@@ -1,5 +1,0 @@
-use Rattle.ffv1_line.proofs.Joined.{cell_steps-append}
-use Rattle.ffv1_line.proofs.laws.joined.Goals as goal
-
-pub returns : goal.returns
-returns c = λ set c y rows qs. cell_steps-append set c y rows qs

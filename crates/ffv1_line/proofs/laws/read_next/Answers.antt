@@ -1,5 +1,0 @@
-use Rattle.ffv1_line.proofs.Joined.{rows_next}
-use Rattle.ffv1_line.proofs.laws.read_next.Goals as goal
-
-pub returns : goal.returns
-returns c = λ coding a b d c rows qs read long coded. rows_next coding a b d c rows qs read long coded

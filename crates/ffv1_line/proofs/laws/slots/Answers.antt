@@ -1,5 +1,0 @@
-use Rattle.ffv1_line.proofs.Joined.{row_below}
-use Rattle.ffv1_line.proofs.laws.slots.Goals as goal
-
-pub returns : goal.returns
-returns c = λ set c y x qs bound. row_below set c y x qs bound

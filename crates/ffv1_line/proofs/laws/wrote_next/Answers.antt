@@ -1,5 +1,0 @@
-use Rattle.ffv1_line.proofs.Joined.{puts_next}
-use Rattle.ffv1_line.proofs.laws.wrote_next.Goals as goal
-
-pub returns : goal.returns
-returns c = λ t set a b d states between after c rows qs wrote next. puts_next t set a b d states between after c rows qs wrote next

@@ -1,5 +1,0 @@
-use Rattle.ffv1_matroska.proofs.BeginningLaws.{file_cut_any, file_cut_known, stops_early}
-use Rattle.ffv1_matroska.proofs.laws.beginnings.Goals as goal
-
-pub returns : goal.returns
-returns c = record { known = file_cut_known; unknown = file_cut_any; early = stops_early }

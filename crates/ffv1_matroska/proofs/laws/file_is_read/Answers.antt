@@ -1,5 +1,0 @@
-use Rattle.ffv1_matroska.proofs.FileLaws.{file_complete, file_only}
-use Rattle.ffv1_matroska.proofs.laws.file_is_read.Goals as goal
-
-pub returns : goal.returns
-returns c = record { read = λ file head frames is. file_complete file head frames is; only = file_only }

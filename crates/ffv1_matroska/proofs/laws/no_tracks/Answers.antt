@@ -1,5 +1,0 @@
-use Rattle.ffv1_matroska.proofs.TrackLaws.{cluster_without, end_without}
-use Rattle.ffv1_matroska.proofs.laws.no_tracks.Goals as goal
-
-pub returns : goal.returns
-returns c = record { cluster = cluster_without; end = end_without }

@@ -1,5 +1,0 @@
-use Rattle.ffv1_matroska.proofs.ReadFiles.{file_sound}
-use Rattle.ffv1_matroska.proofs.laws.read_is_file.Goals as goal
-
-pub returns : goal.returns
-returns c = file_sound

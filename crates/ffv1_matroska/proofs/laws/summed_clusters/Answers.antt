@@ -1,5 +1,0 @@
-use Rattle.ffv1_matroska.proofs.SumLaws.{cluster_summed, damage_told}
-use Rattle.ffv1_matroska.proofs.laws.summed_clusters.Goals as goal
-
-pub returns : goal.returns
-returns c = record { sum = cluster_summed; damage = damage_told }

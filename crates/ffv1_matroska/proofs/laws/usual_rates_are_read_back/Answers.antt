@@ -1,0 +1,35 @@
+use Rattle.std.proofs.Common.{refl}
+use Rattle.ffv1_matroska.specs.Rates.{rate_of}
+use Rattle.ffv1_matroska.proofs.laws.usual_rates_are_read_back.Goals as goal
+
+pub returns-clause-film : goal.returns-clause-film
+unfolding rate_of
+returns-clause-film c = refl
+
+pub returns-clause-pal : goal.returns-clause-pal
+unfolding rate_of
+returns-clause-pal c = refl
+
+pub returns-clause-thirty : goal.returns-clause-thirty
+unfolding rate_of
+returns-clause-thirty c = refl
+
+pub returns-clause-fifty : goal.returns-clause-fifty
+unfolding rate_of
+returns-clause-fifty c = refl
+
+pub returns-clause-sixty : goal.returns-clause-sixty
+unfolding rate_of
+returns-clause-sixty c = refl
+
+pub returns-clause-slow_film : goal.returns-clause-slow_film
+unfolding rate_of
+returns-clause-slow_film c = refl
+
+pub returns-clause-ntsc : goal.returns-clause-ntsc
+unfolding rate_of
+returns-clause-ntsc c = refl
+
+pub returns-clause-fields : goal.returns-clause-fields
+unfolding rate_of
+returns-clause-fields c = refl

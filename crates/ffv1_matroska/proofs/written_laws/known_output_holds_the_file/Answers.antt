@@ -1,0 +1,14 @@
+use Rattle.ffv1_matroska.proofs.KnownFiles.{finished_known, open_known, put_failed, put_known}
+use Rattle.ffv1_matroska.proofs.written_laws.known_output_holds_the_file.Goals as goal
+
+pub returns-clause-put : goal.returns-clause-put
+returns-clause-put c = put_known
+
+pub returns-clause-failed : goal.returns-clause-failed
+returns-clause-failed c = put_failed
+
+pub returns-clause-finished : goal.returns-clause-finished
+returns-clause-finished c = finished_known
+
+pub returns-clause-open : goal.returns-clause-open
+returns-clause-open c = open_known

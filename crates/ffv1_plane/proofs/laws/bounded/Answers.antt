@@ -1,5 +1,0 @@
-use Rattle.ffv1_plane.proofs.Bounds.{size_below}
-use Rattle.ffv1_plane.proofs.laws.bounded.Goals as goal
-
-pub returns : goal.returns
-returns c = λ set is around. size_below set around is

@@ -1,0 +1,5 @@
+use Rattle.ffv1_plane.proofs.Levels.{runs_below-at}
+use Rattle.ffv1_plane.proofs.laws.each_run_gives_its_level.Goals as goal
+
+pub returns : goal.returns
+returns c = λ runs v k inside before behind. runs_below-at runs v k inside before behind

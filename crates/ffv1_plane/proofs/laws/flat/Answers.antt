@@ -1,5 +1,0 @@
-use Rattle.ffv1_plane.proofs.Flat.{flat_size}
-use Rattle.ffv1_plane.proofs.laws.flat.Goals as goal
-
-pub returns : goal.returns
-returns c = λ set is three around top left right. flat_size set is three around top left right

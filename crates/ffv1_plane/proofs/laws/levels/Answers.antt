@@ -1,5 +1,0 @@
-use Rattle.ffv1_plane.proofs.Levels.{runs_below-at}
-use Rattle.ffv1_plane.proofs.laws.levels.Goals as goal
-
-pub returns : goal.returns
-returns c = λ runs v k inside before behind. runs_below-at runs v k inside before behind

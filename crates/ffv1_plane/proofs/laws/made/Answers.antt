@@ -1,8 +1,0 @@
-use Rattle.ffv1_plane.proofs.Folding.{one_made}
-use Rattle.ffv1_plane.proofs.laws.made.Goals as goal
-
-pub returns-clause-one : goal.returns-clause-one
-returns-clause-one c = λ bits p flip q. one_made bits p flip q
-
-pub returns-clause-unfolded : goal.returns-clause-unfolded
-returns-clause-unfolded c = λ bits p flip s q suits. suits.makes

@@ -1,7 +1,0 @@
-use Rattle.ffv1_range.specs.Interval.{start, narrowed}
-use Rattle.ffv1_range.proofs.Nested.{narrowed-inside, narrowed-append}
-use Rattle.ffv1_range.proofs.laws.beginnings.Goals as goal
-
-pub returns : goal.returns
-returns c = λ bytes xs ys are states h.
-    narrowed-inside bytes are (narrowed start xs) ys states (rw (narrowed-append start xs ys) at h)

@@ -1,0 +1,12 @@
+use Rattle.ffv1_range.proofs.Cost.{cost, cost_sentinel}
+use Rattle.ffv1_range.proofs.CostLower.{cost_least}
+use Rattle.ffv1_range.proofs.laws.code_length_is_near_its_weight.Goals as goal
+
+pub returns-clause-most : goal.returns-clause-most
+returns-clause-most c = cost
+
+pub returns-clause-most_sentinel : goal.returns-clause-most_sentinel
+returns-clause-most_sentinel c = cost_sentinel
+
+pub returns-clause-least : goal.returns-clause-least
+returns-clause-least c = cost_least

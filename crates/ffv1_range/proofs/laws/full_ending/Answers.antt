@@ -1,6 +1,0 @@
-use Rattle.ffv1_range.specs.Interval.{interval_of}
-use Rattle.ffv1_range.proofs.EndingCodes.{fit, full-inside}
-use Rattle.ffv1_range.proofs.laws.full_ending.Goals as goal
-
-pub returns : goal.returns
-returns c = λ ds behind states. full-inside (interval_of ds) behind (fit ds states)

@@ -1,6 +1,0 @@
-use Rattle.ffv1_range.proofs.Steps.{read_on}
-use Rattle.ffv1_range.proofs.laws.read_is_coded.Goals as goal
-
-pub returns : goal.returns
-returns c = λ t old states new after steps past h f.
-    let now = read_on t old states new after steps past h f in (now, now.inside)

@@ -1,7 +1,0 @@
-use Rattle.ffv1_range.specs.Interval.{interval_of}
-use Rattle.ffv1_range.proofs.EndingCodes.{fit}
-use Rattle.ffv1_range.proofs.SentinelByte.{sentinel_byte}
-use Rattle.ffv1_range.proofs.laws.sentinel_and_a_byte.Goals as goal
-
-pub returns : goal.returns
-returns c = λ ds byte states small. sentinel_byte (interval_of ds) byte (fit ds states) small

@@ -1,0 +1,5 @@
+use Rattle.ffv1_range.proofs.Steps.{written_on}
+use Rattle.ffv1_range.proofs.laws.written_decisions_follow_earlier_ones.Goals as goal
+
+pub returns : goal.returns
+returns c = written_on

@@ -1,5 +1,0 @@
-use Rattle.ffv1_range.proofs.Steps.{written_on}
-use Rattle.ffv1_range.proofs.laws.written_is_kept.Goals as goal
-
-pub returns : goal.returns
-returns c = written_on

@@ -1,5 +1,0 @@
-use Rattle.ffv1_rct.proofs.OneLine.{one_coded}
-use Rattle.ffv1_rct.proofs.laws.forward_of_inverse.Goals as goal
-
-pub returns : goal.returns
-returns c = one_coded 8

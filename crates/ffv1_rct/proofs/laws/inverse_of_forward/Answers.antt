@@ -1,5 +1,0 @@
-use Rattle.ffv1_rct.proofs.OneLine.{one_colour}
-use Rattle.ffv1_rct.proofs.laws.inverse_of_forward.Goals as goal
-
-pub returns : goal.returns
-returns c = one_colour 8

@@ -1,0 +1,5 @@
+use Rattle.ffv1_rct.proofs.OneLine.{one_colour}
+use Rattle.ffv1_rct.proofs.laws.inverse_undoes_the_transform.Goals as goal
+
+pub returns : goal.returns
+returns c = one_colour 8

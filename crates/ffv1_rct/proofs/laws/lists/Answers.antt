@@ -1,5 +1,0 @@
-use Rattle.ffv1_rct.proofs.Lists.{lists_if_coded, coded_lists, luma_long, chroma_long}
-use Rattle.ffv1_rct.proofs.laws.lists.Goals as goal
-
-pub returns : goal.returns
-returns c = record { lists = lists_if_coded 8; coded = coded_lists 8; luma_long = luma_long; chroma_long = chroma_long 8 }

@@ -1,5 +1,0 @@
-use Rattle.ffv1_rct.proofs.Places.{only_colour, only_coded}
-use Rattle.ffv1_rct.proofs.laws.only.Goals as goal
-
-pub returns : goal.returns
-returns c = record { colour = only_colour 8; coded = only_coded 8 }

@@ -1,5 +1,0 @@
-use Rattle.ffv1_rct.proofs.Places.{only_colour, only_coded}
-use Rattle.ffv1_rct.proofs.laws.only_in.Goals as goal
-
-pub returns : goal.returns
-returns c = record { colour = only_colour; coded = only_coded }

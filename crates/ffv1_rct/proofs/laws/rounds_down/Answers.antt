@@ -1,5 +1,0 @@
-use Rattle.ffv1_rct.proofs.Places.{quarter_least, quarter_most}
-use Rattle.ffv1_rct.proofs.laws.rounds_down.Goals as goal
-
-pub returns : goal.returns
-returns c = record { least = quarter_least; most = quarter_most }

@@ -1,9 +1,0 @@
-use Rattle.ffv1_rct.proofs.Places.{small_if_colour, twice_is}
-use Rattle.ffv1_rct.proofs.laws.small_in.Goals as goal
-
-pub returns : goal.returns
-returns c = record {
-  luma = λ depth r g b y cb cr is. (small_if_colour depth r g b y cb cr is).luma;
-  blue = λ depth r g b y cb cr is. rw (twice_is depth) (small_if_colour depth r g b y cb cr is).blue;
-  red = λ depth r g b y cb cr is. rw (twice_is depth) (small_if_colour depth r g b y cb cr is).red;
-}

@@ -1,8 +1,0 @@
-use Rattle.ffv1_reads.proofs.FirstFaults.{known_fault, one_fault}
-use Rattle.ffv1_reads.proofs.laws.faults_at.Goals as goal
-
-pub returns-clause-known : goal.returns-clause-known
-returns-clause-known g c = λ element from text new before after f to count stops failed refused. known_fault element from text new before after f to count stops failed refused
-
-pub returns-clause-only : goal.returns-clause-only
-returns-clause-only g c = λ element from text f g m n one other. one_fault element from text f g m n one other

@@ -1,6 +1,0 @@
-use Rattle.ffv1_record.proofs.ParityLaws.{different}
-use Rattle.ffv1_record.proofs.laws.burst.Goals as goal
-
--- src/laws.rt:23:1
-pub returns : goal.returns
-returns c = different

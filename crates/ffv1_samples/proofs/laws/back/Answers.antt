@@ -1,5 +1,0 @@
-use Rattle.ffv1_samples.proofs.Depths.{samples_back, bytes_back}
-use Rattle.ffv1_samples.proofs.laws.back.Goals as goal
-
-pub returns : goal.returns
-returns c = record { samples = samples_back; bytes = bytes_back }

@@ -1,5 +1,0 @@
-use Rattle.ffv1_samples.proofs.Depths.{each_in_depth, in_depth_if_each}
-use Rattle.ffv1_samples.proofs.laws.depths.Goals as goal
-
-pub returns : goal.returns
-returns c = record { each = each_in_depth; all = in_depth_if_each }

@@ -1,0 +1,5 @@
+use Rattle.ffv1_samples.proofs.Depths.{samples_back, bytes_back}
+use Rattle.ffv1_samples.proofs.laws.samples_and_bytes_are_inverses.Goals as goal
+
+pub returns : goal.returns
+returns c = record { samples = samples_back; bytes = bytes_back }

@@ -1,5 +1,0 @@
-use Rattle.ffv1_samples.proofs.Depths.{bytes_small, samples_small}
-use Rattle.ffv1_samples.proofs.laws.small.Goals as goal
-
-pub returns : goal.returns
-returns c = record { bytes = bytes_small; samples = samples_small }

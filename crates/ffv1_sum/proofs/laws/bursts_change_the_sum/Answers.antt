@@ -1,0 +1,5 @@
+use Rattle.ffv1_sum.proofs.Bursts.{different}
+use Rattle.ffv1_sum.proofs.laws.bursts_change_the_sum.Goals as goal
+
+pub returns : goal.returns
+returns c = different

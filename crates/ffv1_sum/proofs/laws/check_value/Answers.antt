@@ -1,7 +1,0 @@
-use Rattle.std.proofs.Common.{refl}
-use Rattle.ffv1_sum.specs.Sum.{bit_steps}
-use Rattle.ffv1_sum.proofs.laws.check_value.Goals as goal
-
-pub returns : goal.returns
-unfolding bit_steps
-returns c = refl

@@ -1,6 +1,0 @@
-use Rattle.std.proofs.lemmas.List.Sums.{fold-append}
-use Rattle.ffv1_sum.specs.Sum.{byte_step}
-use Rattle.ffv1_sum.proofs.laws.joined.Goals as goal
-
-pub returns : goal.returns
-returns c = λ sum xs ys. fold-append byte_step sum xs ys

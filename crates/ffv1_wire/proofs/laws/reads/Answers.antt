@@ -1,5 +1,0 @@
-use Rattle.ffv1_wire.proofs.Bytes.{passes_then}
-use Rattle.ffv1_wire.proofs.laws.reads.Goals as goal
-
-pub returns-clause-passed : goal.returns-clause-passed
-returns-clause-passed c = passes_then

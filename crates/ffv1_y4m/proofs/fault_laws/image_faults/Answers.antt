@@ -1,5 +1,0 @@
-use Rattle.ffv1_y4m.proofs.ImageFaults.{first_image_answered, image_answered, image_known, image_only, image_refused, samples_only}
-use Rattle.ffv1_y4m.proofs.fault_laws.image_faults.Goals as goal
-
-pub returns : goal.returns
-returns c = record { first = first_image_answered; answered = image_answered; known = image_known; refused = image_refused; only = image_only; samples = samples_only }

@@ -1,6 +1,0 @@
-use Rattle.ffv1_y4m.proofs.FirstFaults.{picture_answered}
-use Rattle.ffv1_y4m.proofs.PictureFaults.{picture_known, picture_only, picture_refused}
-use Rattle.ffv1_y4m.proofs.fault_laws.picture_faults.Goals as goal
-
-pub returns : goal.returns
-returns c = record { answered = picture_answered; known = picture_known; refused = picture_refused; only = picture_only }

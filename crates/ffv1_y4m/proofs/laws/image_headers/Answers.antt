@@ -1,6 +1,0 @@
-use Rattle.ffv1_y4m.proofs.ImageTexts.{header_of_bytes}
-use Rattle.ffv1_y4m.proofs.PpmSteps.{header_wants}
-use Rattle.ffv1_y4m.proofs.laws.image_headers.Goals as goal
-
-pub returns : goal.returns
-returns c = record { eight = header_of_bytes; first = header_wants }

@@ -1,5 +1,0 @@
-use Rattle.ffv1_y4m.proofs.ImageRuns.{image_taken}
-use Rattle.ffv1_y4m.proofs.laws.image_runs.Goals as goal
-
-pub returns : goal.returns
-returns g c = record { image = image_taken g.W.ByteOut.contents g.W.ByteOut.failures }

@@ -1,6 +1,0 @@
-use Rattle.ffv1_y4m.specs.VideoHead.{plane_bytes}
-use Rattle.ffv1_y4m.proofs.PlaneRooms.{room_left}
-use Rattle.ffv1_y4m.proofs.laws.rooms.Goals as goal
-
-pub returns : goal.returns
-returns g c = record { left = λ depth h planes fits. room_left (plane_bytes depth h) planes fits }

@@ -1,5 +1,0 @@
-use Rattle.ffv1_y4m.proofs.SaidHeads.{said_depth}
-use Rattle.ffv1_y4m.proofs.laws.said_depths.Goals as goal
-
-pub returns : goal.returns
-returns c = said_depth

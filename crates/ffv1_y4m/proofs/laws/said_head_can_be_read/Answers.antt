@@ -1,0 +1,5 @@
+use Rattle.ffv1_y4m.proofs.SaidHeads.{said_head}
+use Rattle.ffv1_y4m.proofs.laws.said_head_can_be_read.Goals as goal
+
+pub returns : goal.returns
+returns c = said_head

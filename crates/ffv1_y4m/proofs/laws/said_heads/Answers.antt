@@ -1,5 +1,0 @@
-use Rattle.ffv1_y4m.proofs.SaidHeads.{said_head}
-use Rattle.ffv1_y4m.proofs.laws.said_heads.Goals as goal
-
-pub returns : goal.returns
-returns c = said_head
