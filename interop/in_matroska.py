@@ -1,7 +1,7 @@
 # SPDX-License-Identifier: MIT OR Apache-2.0
 """Files of Matroska: those of `pack` are read by FFmpeg, mkvmerge and MediaConch, sample for sample.
 Of files by FFmpeg and mkvmerge, and the model's of FFmpeg's frames, `check` counts the frames, and
-`unpack` gives FFmpeg's samples; what is not read has its fault, and damage is told."""
+`unpack` gives FFmpeg's samples; what is not read has its fault, and damage is found."""
 import os
 import random
 import shutil
@@ -286,7 +286,7 @@ def spans_of(data, file):
 
 
 def read_damaged(results):
-    """A bit that is flipped in a frame, or in the record, is told: by the frame's own parity, or by
+    """A bit that is flipped in a frame, or in the record, is found: by the frame's own parity, or by
     the CRC-32 of its Cluster alone; and a file that is cut."""
     chance = random.Random(9559)
     for ec in [0, 1]:

@@ -221,7 +221,7 @@ def cut(small):
 # ------------------------------------------------------------------------------------ random files
 
 def is_told(file, frames, begin, end, numbers):
-    """Whether damage within 32 neighbouring bits of a Cluster behind its CRC-32 is told, and all
+    """Whether damage within 32 neighbouring bits of a Cluster after its CRC-32 is found, and all
     frames before are there."""
     bits = 8 * (end - begin)
     width = min(numbers.randrange(1, 33), bits)

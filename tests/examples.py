@@ -65,7 +65,7 @@ def examples_of(name, blocks, wanted, program):
 
 
 def told(name, passed, printed):
-    """Whether it passed; what was printed is told where it did not."""
+    """Whether it passed; where it did not, what was printed is shown."""
     if not passed:
         print(f"{name}: found {printed!r}")
     return bool(passed)

@@ -3,7 +3,7 @@
 its seed and its number alone."""
 import random
 
-import commands
+import command_line
 import ffv1
 import files
 import make_vectors
@@ -308,7 +308,8 @@ SOME_WORDS = [
     "pack", "check", "--place=1", "---", "\u00e9", "in/x", "--progress", "--version", "-V",
     "--no-clobber", "--verify", "--container", "--container=mkv", "out.mkv",
 ]
-OUTPUTS = ["out"] * 24 + ["out.mkv"] * 16 + ["in", "./in", "no/out", "/dev/full", "-", *commands.STANDARD_OUTPUT]
+OUTPUTS = ["out"] * 24 + ["out.mkv"] * 16 + ["in", "./in", "no/out", "/dev/full", "-"]
+OUTPUTS += command_line.STANDARD_OUTPUT
 NAMES = ["pack", "unpack", "check", "show", "framemd5", "trial"]
 
 

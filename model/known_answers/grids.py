@@ -2,8 +2,8 @@
 """Which columns and rows of slices a picture is packed in, where they are chosen and where not: in
 Matroska, and in AVI, which has one slice by default. Worked out by hand: a picture of more than
 101376 pixels has at least 4 slices, and each inner edge is a multiple of the chroma factor."""
-import commands
 import files
+import packing
 
 # width, height, chroma, options, columns and rows in Matroska and in AVI
 GRIDS = [
@@ -25,4 +25,4 @@ def checks():
         choice = {"coder": 1, "contexts": "small", "columns": None, "rows": None, "ec": 1, **options}
         for by_default, wanted in [(True, matroska), (False, avi)]:
             yield (f"grid of {width} by {height} {chroma} {options}",
-                   commands.grid_of(head, choice, by_default), wanted)
+                   packing.grid_of(head, choice, by_default), wanted)

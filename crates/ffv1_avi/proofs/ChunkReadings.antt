@@ -19,7 +19,8 @@ use Rattle.ffv1_reads.proofs.Taking.{Takes, takes_given, takes_if, takes_passed,
 use Rattle.ffv1_avi.specs.declared.chunk.Entry.{Entry}
 use Rattle.ffv1_avi.specs.declared.place.Place.{Place}
 use Rattle.ffv1_avi.specs.Files.{frame_judged, frame_name, visit_movi}
-use Rattle.ffv1_avi.specs.Offsets.{FrameBegins, chunk_taken, frame_taken, movi_left, movi_taken}
+use Rattle.ffv1_avi.specs.Offsets.{chunk_taken, frame_taken, movi_left, movi_taken}
+use Rattle.ffv1_avi.specs.Internal.Offsets.{FrameBegins}
 use Rattle.ffv1_avi.specs.Padding.{content, padded}
 use Rattle.ffv1_avi.specs.Places.{frame_at}
 use Rattle.ffv1_reads.specs.Head.{limit}
@@ -150,9 +151,3 @@ still {a = a} {b = b} {c = c} left h read =
 
 pub counts_none : (offset most : ℕ) → min offset most ≡ min (offset + 0) most
 counts_none offset most = grind arith
-
-pub counts_frame : (offset count size most : ℕ) → min (min (offset + count) most + (8 + (size + size % 2))) most ≡ min (offset + (count + (8 + (0 + (size + (size % 2 + 0) + 0))))) most
-counts_frame offset count size most = grind arith
-
-pub counts_twelve : (offset count more most : ℕ) → more ≡ 12 → min (min (offset + count) most + 12) most ≡ min (offset + (count + more)) most
-counts_twelve offset count more most is = grind (arith, is)

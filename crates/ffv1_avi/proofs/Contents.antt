@@ -13,15 +13,8 @@ use Rattle.ffv1_avi.specs.declared.place.Extent.{Extent}
 use Rattle.ffv1_avi.specs.declared.place.Extent.TheVariants.{FirstMovi, EveryRiff}
 use Rattle.ffv1_avi.specs.Walk.{is_name}
 
--- bytes that are there are taken, and passed
-pub taken_long : (n : ℕ) (text : List ℕ) → n ≤ length text → taken n text ≡ Ok (take n text, drop n text)
-taken_long n text h = rw (le-ltb _ _ h) refl
-
 pub taken_short : (n : ℕ) (text : List ℕ) → length text < n → taken n text ≡ Err (Short Looked)
 taken_short n text h = rw (lt-ltb _ _ h) refl
-
-pub passed_long : (n : ℕ) (text : List ℕ) → n ≤ length text → passed n text ≡ Ok (tt, drop n text)
-passed_long n text h = rw (le-ltb _ _ h) refl
 
 pub passed_short : (n : ℕ) (text : List ℕ) → length text < n → passed n text ≡ Err (Short Looked)
 passed_short n text h = rw (lt-ltb _ _ h) refl

@@ -45,10 +45,6 @@ cut (x ∷ xs) ys (y ∷ a) b e = on_cut (cut xs ys a b (cc))
 pub early_then : {X Y : Type 0} (r : Reading X) (k : X → Reading Y) (a : List ℕ) → EndsEarly r a → EndsEarly (r >>= k) a
 early_then r k a h = (h.0, ap (λ z. read_on z k) h.1)
 
--- nor in which way it is read
-pub early_same : {X : Type 0} (r s : Reading X) (a b : List ℕ) → r a ≡ s b → EndsEarly s b → EndsEarly r a
-early_same r s a b same h = (h.0, same ∙ h.1)
-
 -- one chunk of a walk
 abbrev one_visit : {S Y : Type 0} → Visit S Y → S → Option Entry → Reading (S × Option Y)
 one_visit visit s None = given (s, None)

@@ -19,7 +19,8 @@ use Rattle.ffv1_avi.specs.declared.place.Extent.TheVariants.{FirstMovi, EveryRif
 use Rattle.ffv1_avi.specs.declared.place.Place.{Place}
 use Rattle.ffv1_avi.specs.Files.{name_or_end, riff_begun, riff_entered, riff_list, riff_named, visit_riff}
 use Rattle.ffv1_avi.specs.Internal.Ending.{RefusedOrNone}
-use Rattle.ffv1_avi.specs.Offsets.{Counts, FrameBegins, MovesTo, ReadsTo, ReadsUpTo, StopsIn, chunk_taken, movi_entered, riff_left, riff_next, riff_taken}
+use Rattle.ffv1_avi.specs.Offsets.{Counts, ReadsTo, ReadsUpTo, StopsIn, chunk_taken, movi_entered, riff_left, riff_next, riff_taken}
+use Rattle.ffv1_avi.specs.Internal.Offsets.{FrameBegins, MovesTo}
 use Rattle.ffv1_avi.specs.Padding.{padded}
 use Rattle.ffv1_avi.specs.Places.{frame_at, movi_at, riff_at}
 use Rattle.ffv1_avi.specs.Walk.{entry_read, is_name}

@@ -17,7 +17,8 @@ use Rattle.ffv1_avi.specs.declared.place.Extent.{Extent}
 use Rattle.ffv1_avi.specs.declared.place.Place.{Place}
 use Rattle.ffv1_avi.specs.declared.stream.Sizes.{Sizes}
 use Rattle.ffv1_avi.specs.Files.{Headers, begins, no_headers, visit_top}
-use Rattle.ffv1_avi.specs.Offsets.{BeforeFrames, Counts, InRiff, OpensFrom, ReadsTo, Spot, Start, TopFrom, riff_begins, spot_taken, top_left, top_taken}
+use Rattle.ffv1_avi.specs.Offsets.{BeforeFrames, Counts, InRiff, ReadsTo, Spot, Start, riff_begins, spot_taken, top_left, top_taken}
+use Rattle.ffv1_avi.specs.Internal.Offsets.{OpensFrom, TopFrom}
 use Rattle.ffv1_avi.specs.Padding.{padded}
 use Rattle.ffv1_avi.specs.Walk.{entry_read}
 use Rattle.ffv1_avi.proofs.ChunkReadings.{entry_counted}

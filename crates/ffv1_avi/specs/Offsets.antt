@@ -3,21 +3,19 @@
 -- of an RIFF. A frame that `dmlh` says and that is not there is missed where the next RIFF would
 -- begin.
 use Rattle.std.specs.Prelude.{◌≡◌, ℕ, ◌+◌, ◌-◌, ◌^◌, ◌==◌, min, Bool, true, false, if◌then◌else◌}
-use Rattle.std.specs.Prelude.{List, drop, Option, Some, None, Result, Ok, Err, ⊤}
+use Rattle.std.specs.Prelude.{List, drop, Option, Some, None, Result, Ok, Err}
 use Rattle.byteorder.specs.Endian.{little_number}
 use Rattle.ffv1_wire.specs.Passage.{Passage}
 use Rattle.ffv1_reads.specs.Head.{Head}
 use Rattle.ffv1_reads.specs.Offsets.{ReadsWhole, StopsAfter, offset_after}
-use Rattle.ffv1_reads.specs.Reads.{Kept, Read, Reading, given, refused, taken, ◌>>=◌}
+use Rattle.ffv1_reads.specs.Reads.{Kept, Reading, given, refused, taken, ◌>>=◌}
 use Rattle.ffv1_reads.specs.declared.fault.FileFault.{FileFault}
 use Rattle.ffv1_reads.specs.declared.fault.FileFault.TheVariants as fault
 use Rattle.ffv1_avi.specs.declared.chunk.Entry.{Entry}
 use Rattle.ffv1_avi.specs.declared.place.Extent.{Extent}
 use Rattle.ffv1_avi.specs.declared.place.Place.{Place}
-use Rattle.ffv1_avi.specs.declared.stream.Sizes.{Sizes}
 use Rattle.ffv1_avi.specs.Files.{Headers, begins, no_headers, riff_begun, visit_movi, visit_riff}
 use Rattle.ffv1_avi.specs.Files.{visit_top}
-use Rattle.ffv1_avi.specs.Internal.Views.{head_with}
 use Rattle.ffv1_avi.specs.Padding.{content}
 use Rattle.ffv1_avi.specs.Places.{frame_at, movi_at}
 use Rattle.ffv1_avi.specs.Readers.{Standing}
@@ -74,13 +72,6 @@ movi_taken place None =
 unfoldable pub chunk_taken : Place → Reading Place
 chunk_taken place = entry_read place.movi >>= movi_taken place
 
--- the frame that was found is in a chunk that begins at a position
-pub record FrameBegins (to : Place) (old new : Option (List ℕ)) (found : ℕ × ℕ) : Type 0 where
-  pub between : Option (List ℕ)
-  pub entry : Entry
-  pub header : Read (entry_read to.movi) old between (Some entry)
-  pub visit : Read (visit_movi to.stream tt entry) between new (tt, Some found)
-
 -- an offset counts so many bytes more, as far as 8 bytes hold it
 abbrev pub Counts : ℕ → ℕ → ℕ → Type 0
 Counts before after count =
@@ -103,39 +94,6 @@ StopsAt place p f before after = StopsIn chunk_taken place p f before after
 
 abbrev pub ReadsUpTo : Place → Option (List ℕ) → Option (List ℕ) → Place → ℕ → ℕ → Type 0
 ReadsUpTo place old new to before after = ReadsTo chunk_taken place old new to before after
-
--- up to the chunk of the frame that was found in movi; or to the end of that
-abbrev pub FindsInMovi : Place → Passage → Result (Option (ℕ × ℕ)) FileFault → ℕ → ℕ → Type 0
-FindsInMovi place p (Ok None) before after =
-    ReadsUpTo place p.old p.new (movi_left place 0) before after
-FindsInMovi place p (Ok (Some found)) before after =
-    (to : Place) × (between : Option (List ℕ)) × FrameBegins to between p.new found
-    × (frame_at to found.1 ≡ frame_at place found.1)
-    × ReadsUpTo place p.old between to before after
-FindsInMovi place p (Err f) before after = StopsAt place p f before after
-
--- up to the next movi of RIFF, which was entered; or to the end of RIFF
-abbrev pub SeeksMovi : Place → Passage → Result (Option (ℕ × ℕ)) FileFault → ℕ → ℕ → Type 0
-SeeksMovi place p (Ok None) before after =
-    ReadsUpTo (riff_left place place.riff) p.old p.new (riff_left place 0) before after
-SeeksMovi place p (Ok (Some movi)) before after =
-    ReadsUpTo (riff_left place place.riff) p.old p.new (movi_at place movi) before after
-SeeksMovi place p (Err f) before after = StopsAt (riff_left place place.riff) p f before after
-
--- up to the next movi, or RIFF
-abbrev pub MovesTo : Place → Passage → Result (Option Place) FileFault → ℕ → ℕ → Type 0
-MovesTo place p (Ok None) before after = ⊤
-MovesTo place p (Ok (Some next)) before after = ReadsUpTo place p.old p.new next before after
-MovesTo place p (Err f) before after = StopsAt place p f before after
-
--- up to the chunk of the next frame
-abbrev pub FindsFrom : Place → Passage → Result (Option (ℕ × Place)) FileFault → ℕ → ℕ → Type 0
-FindsFrom place p (Ok None) before after = ⊤
-FindsFrom place p (Ok (Some found)) before after =
-    (to : Place) × (between : Option (List ℕ)) × (left : ℕ)
-    × FrameBegins to between p.new (found.0, left) × (found.1 ≡ frame_at to left)
-    × ReadsUpTo place p.old between to before after
-FindsFrom place p (Err f) before after = StopsAt place p f before after
 
 -- the offset after a call for a frame: after the chunk of the frame that it gives; after a fault,
 -- where the chunk begins that could not be read
@@ -173,21 +131,6 @@ unfoldable pub spot_taken : Extent → Spot → Reading Spot
 spot_taken extent Start = taken 12 >>= riff_begins
 spot_taken extent (InRiff found left) = entry_read left >>= top_taken extent found
 spot_taken extent (BeforeFrames head place) = given (BeforeFrames head place)
-
--- chunks of RIFF up to the first movi, with what the stream says that counts
-abbrev pub TopFrom : Extent → ℕ → Passage → List ℕ → Result (Sizes × Place) FileFault → ℕ → ℕ →
-    Type 0
-TopFrom extent room p bytes (Ok n) before after =
-    ReadsTo (spot_taken extent) (InRiff no_headers room) p.old p.new
-    (BeforeFrames (head_with n.0 bytes) n.1) before after
-TopFrom extent room p bytes (Err f) before after =
-    StopsIn (spot_taken extent) (InRiff no_headers room) p f before after
-
--- a file up to its first movi
-abbrev pub OpensFrom : Extent → Passage → List ℕ → Result (Sizes × Place) FileFault → ℕ → Type 0
-OpensFrom extent p bytes (Ok n) offset =
-    ReadsTo (spot_taken extent) Start p.old p.new (BeforeFrames (head_with n.0 bytes) n.1) 0 offset
-OpensFrom extent p bytes (Err f) offset = StopsIn (spot_taken extent) Start p f 0 offset
 
 -- the offset after opening: of the first frame's chunk, which begins after movi's own name; after a
 -- fault, where the chunk begins that could not be read

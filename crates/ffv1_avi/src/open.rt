@@ -9,7 +9,7 @@ ghost use Rattle.ffv1_avi.specs.Files.{stream_known, stream_visited, top_read, t
 ghost use Rattle.ffv1_avi.specs.Files.{visit_extended, visit_header, visit_top};
 ghost use Rattle.ffv1_reads.specs.First.{bytes_with, passage_with};
 ghost use Rattle.ffv1_reads.specs.Head.{Head};
-ghost use Rattle.ffv1_avi.specs.Offsets.{OpensFrom, TopFrom};
+ghost use Rattle.ffv1_avi.specs.Internal.Offsets.{OpensFrom, TopFrom};
 ghost use Rattle.ffv1_avi.specs.Places.{first_place};
 ghost use Rattle.ffv1_wire.specs.Passage.{at_rest, passage};
 ghost use Rattle.ffv1_reads.specs.Reads.{Answers, taken};

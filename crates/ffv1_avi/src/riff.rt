@@ -4,7 +4,8 @@ ghost use Rattle.std.specs.Prelude.{◌≡◌, ◌+◌, ◌<◌, ◌≤◌, ℕ,
 ghost use Rattle.ffv1_avi.specs.Files.{moved, movi_sought, name_or_end, riff_begun, riff_entered};
 ghost use Rattle.ffv1_avi.specs.Files.{visit_riff};
 ghost use Rattle.ffv1_avi.specs.Internal.Ending.{AnswersOrNone, byte_or_end};
-ghost use Rattle.ffv1_avi.specs.Offsets.{MovesTo, SeeksMovi, movi_left, riff_left};
+ghost use Rattle.ffv1_avi.specs.Offsets.{movi_left, riff_left};
+ghost use Rattle.ffv1_avi.specs.Internal.Offsets.{MovesTo, SeeksMovi};
 ghost use Rattle.ffv1_avi.specs.Places.{extent_of};
 ghost use Rattle.ffv1_reads.specs.Reads.{Answers};
 ghost use Rattle.ffv1_avi.specs.Walk.{is_name};

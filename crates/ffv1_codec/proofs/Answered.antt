@@ -6,7 +6,7 @@ use Rattle.ffv1_wire.specs.Runs as wire
 use Rattle.ffv1_range.specs.declared.tally.Tally.{Tally}
 use Rattle.ffv1_record.specs.Accepted.{Accepted}
 use Rattle.ffv1_slice.specs.Footer.{foot_length}
-use Rattle.ffv1_slice.specs.Cutting.{coded_of}
+use Rattle.ffv1_slice.specs.Cutting.{Cuts, CutsTo, coded_of}
 use Rattle.ffv1_slice.specs.declared.cutting.CutFault.{CutFault}
 use Rattle.ffv1_codec.specs.declared.fault.CodecFault.TheVariants as fault
 use Rattle.ffv1_codec.specs.declared.fault.FrameFault.{FrameFault}
@@ -62,13 +62,13 @@ module _ {S : Type 0} (takes refuses : LineStep S) (a : Accepted) (payload : Lis
     pub codes : CodesPicture a payload planes info
     pub grows : Grows takes old (lines_of a.configuration planes) new
 
-  pub found : (info : Said) (cut : Result (List ℕ) CutFault) →
-      ((os : List ℕ) (t : State) → cut ≡ Ok os → Decodes a (coded_of payload (foot_length a.configuration.ec) (slice_index os)) t →
+  pub found : (info : Said) (cut : Result (List ℕ) CutFault) → CutsTo a.configuration payload cut →
+      ((os : List ℕ) (t : State) → Cuts a.configuration payload (slice_index os) → Decodes a (coded_of payload (foot_length a.configuration.ec) (slice_index os)) t →
       (planes : Planes) × (info : Said) × CodesPicture a payload planes info × (t.info ≡ Some info) × (t.lines ≡ lines_of a.configuration planes)) →
       AnswersCut takes refuses a payload old new tally (Ok info) cut → Found info
-  found info (Err f) decoded answer = absurd (not_both info (cut_fault f) (Ok info) refl answer.0)
-  found info (Ok os) decoded answer =
-      let made = decoded os answer.state refl answer.decodes in
+  found info (Err f) cuts decoded answer = absurd (not_both info (cut_fault f) (Ok info) refl answer.0)
+  found info (Ok os) cuts decoded answer =
+      let made = decoded os answer.state cuts.1 answer.decodes in
       let same : made.1 ≡ info = same_some made.1 info (sym made.3 ∙ answer.says) in
       record {
         planes = made.0;
@@ -129,15 +129,15 @@ module _ {S : Type 0} (takes refuses : LineStep S) (a : Accepted) (payload : Lis
   told : (t : Table) (s : State) → HasDecided t s tally → decisions_in s ≤ most → decided_by tally ≤ most
   told t s decided few = let all = decided.in_all in omega (arith, all, few)
 
-  pub few_told : (result : Result Said FrameFault) (cut : Result (List ℕ) CutFault) →
-      ((os : List ℕ) (s : State) → cut ≡ Ok os → Decodes a (coded_of payload (foot_length a.configuration.ec) (slice_index os)) s → decisions_in s ≤ most) →
-      ((os : List ℕ) (f : FrameFault) (s : State) → cut ≡ Ok os → decoding.Refuses a (coded_of payload (foot_length a.configuration.ec) (slice_index os)) f s → decisions_in s ≤ most) →
-      ((os : List ℕ) (r i p y : ℕ) (s : State) → cut ≡ Ok os → Offers a (coded_of payload (foot_length a.configuration.ec) (slice_index os)) r i p y s → decisions_in s ≤ most) →
+  pub few_told : (result : Result Said FrameFault) (cut : Result (List ℕ) CutFault) → CutsTo a.configuration payload cut →
+      ((os : List ℕ) (s : State) → Cuts a.configuration payload (slice_index os) → Decodes a (coded_of payload (foot_length a.configuration.ec) (slice_index os)) s → decisions_in s ≤ most) →
+      ((os : List ℕ) (f : FrameFault) (s : State) → Cuts a.configuration payload (slice_index os) → decoding.Refuses a (coded_of payload (foot_length a.configuration.ec) (slice_index os)) f s → decisions_in s ≤ most) →
+      ((os : List ℕ) (r i p y : ℕ) (s : State) → Cuts a.configuration payload (slice_index os) → Offers a (coded_of payload (foot_length a.configuration.ec) (slice_index os)) r i p y s → decisions_in s ≤ most) →
       AnswersCut takes refuses a payload old new tally result cut → decided_by tally ≤ most
-  few_told result (Err f) end fault offered answer = rw answer.1 (omega arith)
-  few_told (Ok said) (Ok os) end fault offered answer = told a.table answer.state answer.decided (end os answer.state refl answer.decodes)
-  few_told (Err f) (Ok os) end fault offered answer = elim answer [
-    | inl faults ↦ told a.table faults.state faults.decided (fault os f faults.state refl faults.refused)
+  few_told result (Err f) cuts end fault offered answer = rw answer.1 (omega arith)
+  few_told (Ok said) (Ok os) cuts end fault offered answer = told a.table answer.state answer.decided (end os answer.state cuts.1 answer.decodes)
+  few_told (Err f) (Ok os) cuts end fault offered answer = elim answer [
+    | inl faults ↦ told a.table faults.state faults.decided (fault os f faults.state cuts.1 faults.refused)
     | inr sink ↦
-        told a.table sink.state sink.decided (offered os sink.row sink.number sink.plane sink.line sink.state refl sink.offers)
+        told a.table sink.state sink.decided (offered os sink.row sink.number sink.plane sink.line sink.state cuts.1 sink.offers)
   ]

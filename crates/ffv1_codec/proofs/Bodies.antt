@@ -1,5 +1,5 @@
 -- Lines of a slice that are put one after the other.
-use Rattle.std.proofs.Common.{◌≡◌, refl, ℕ, suc, ◌+◌, Bool, true, false, if◌then◌else◌, List, [], ◌∷◌, ◌++◌, length, replicate, sym, ◌∙◌, ap, arith, subst, append_assoc, append-nil, map-id}
+use Rattle.std.proofs.Common.{◌≡◌, refl, ℕ, zero, suc, ◌+◌, Bool, true, false, if◌then◌else◌, List, [], ◌∷◌, ◌++◌, length, replicate, sym, ◌∙◌, ap, arith, subst, append_assoc, append-nil, map-id}
 use Rattle.std.specs.List.{flat_map, range_with_len}
 use Rattle.std.proofs.lemmas.Grind.{flat_map-append}
 use Rattle.std.proofs.lemmas.List.{length-replicate}
@@ -7,13 +7,16 @@ use Rattle.std.proofs.lemmas.List.FromFn.{map-range_with_len_more}
 use Rattle.std.specs.declared.vec.Vec.{Vec}
 use Rattle.ffv1_range.specs.Table.{Table}
 use Rattle.ffv1_range.specs.Writing.{Writing}
-use Rattle.ffv1_range.specs.Symbols.{Step}
+use Rattle.ffv1_range.specs.Symbols.{Step, shifted}
+use Rattle.ffv1_range.proofs.Parts.{shifted-append}
 use Rattle.ffv1_line.specs.Cell.{Cell, Above, Shows}
+use Rattle.ffv1_line.specs.Row.{row_steps, chosen_row, cell_steps, chosen_rows}
+use Rattle.ffv1_line.proofs.Cells.{cell_more}
 use Rattle.ffv1_line.specs.declared.cell.rows.RollingRows.{RollingRows}
 use Rattle.ffv1_record.specs.Configuration.{Configuration, is_rct}
 use Rattle.ffv1_slice.specs.declared.head.SliceHead.{SliceHead}
 use Rattle.ffv1_codec.specs.Picture.{plane_count, cell_height}
-use Rattle.ffv1_codec.specs.SliceList.{Line, lines_of_plane, planes_of_line, lines_in, chosen_line, chosen_body}
+use Rattle.ffv1_codec.specs.SliceList.{Line, base_of, set_in, bits_of, lines_of_plane, planes_of_line, lines_in, chosen_line, chosen_body}
 use Rattle.ffv1_codec.specs.Internal.HasPut.{HasPut, PutsAfter}
 use Rattle.ffv1_codec.specs.Internal.CellRows.{Rolled, Loaded, fourth_line}
 use Rattle.ffv1_slice.specs.Grid.{planes_in}
@@ -37,14 +40,21 @@ body_one c h cell l = sym (append-nil (chosen_line c h cell l))
 pub lines_more : (p y : ℕ) → lines_of_plane (y + 1) p ≡ lines_of_plane y p ++ (record { plane = p; y = y } ∷ [])
 lines_more p y = map-range_with_len_more (λ k. let l : Line = record { plane = p; y = k } in l) 0 y y (omega arith)
 
-pub plane_next : (t : Table) (a b d : Writing) (ss ts us : List ℕ) (c : Configuration) (h : SliceHead) (cell : ℕ → Cell) (p y : ℕ) →
-    PutsAfter t a ss b ts (chosen_body c h cell (lines_of_plane y p)) → PutsAfter t b ts d us (chosen_line c h cell (record { plane = p; y = y })) →
-    PutsAfter t a ss d us (chosen_body c h cell (lines_of_plane (y + 1) p))
-plane_next t a b d ss ts us c h cell p y first second =
-    let l : Line = record { plane = p; y = y } in
-    let same : chosen_body c h cell (lines_of_plane y p) ++ chosen_line c h cell l ≡ chosen_body c h cell (lines_of_plane (y + 1) p) =
-    ap (λ z. chosen_body c h cell (lines_of_plane y p) ++ z) (body_one c h cell l) ∙ sym (body_append c h cell (lines_of_plane y p) (l ∷ [])) ∙ ap (chosen_body c h cell) (sym (lines_more p y)) in
-    subst (PutsAfter t a ss d us) same (puts_then t a b d ss ts us _ _ first second)
+pub plane_is : (c : Configuration) (h : SliceHead) (cell : ℕ → Cell) (p n : ℕ) →
+    chosen_body c h cell (lines_of_plane n p) ≡ shifted (base_of c p) (cell_steps (set_in c h p) (cell p) 0 (chosen_rows (set_in c h p) (bits_of c) (cell p) n))
+unfolding chosen_rows
+plane_is c h cell p zero = refl
+plane_is c h cell p (suc n) =
+    let set = set_in c h p in
+    let bits = bits_of c in
+    let base = base_of c p in
+    let l : Line = record { plane = p; y = n } in
+    let more : suc n ≡ n + 1 = omega arith in
+    let before : List Step = cell_steps set (cell p) 0 (chosen_rows set bits (cell p) n) in
+    let row : List Step = row_steps set (cell p) n 0 (chosen_row set bits (cell p) n (cell p).width) in
+    ap (λ k. chosen_body c h cell (lines_of_plane k p)) more ∙ ap (chosen_body c h cell) (lines_more p n) ∙ body_append c h cell (lines_of_plane n p) (l ∷ [])
+    ∙ ap (λ z. z ++ chosen_body c h cell (l ∷ [])) (plane_is c h cell p n) ∙ ap (λ z. shifted base before ++ z) (sym (body_one c h cell l)) ∙ sym (shifted-append base before row)
+    ∙ ap (shifted base) (sym (cell_more set bits (cell p) n)) ∙ ap (λ k. shifted base (cell_steps set (cell p) 0 (chosen_rows set bits (cell p) k))) (sym more)
 
 -- one part more
 pub range_more : (n : ℕ) → range_with_len 0 (n + 1) ≡ range_with_len 0 n ++ (n ∷ [])

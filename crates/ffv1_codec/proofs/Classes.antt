@@ -4,12 +4,12 @@ use Rattle.std.proofs.Math.Nat.{mul-le-mul_left}
 use Rattle.ffv1_plane.specs.Quantisation.{Set, contexts_of}
 use Rattle.ffv1_range.specs.Symbols.{shifted}
 use Rattle.ffv1_line.specs.Cell.{Cell}
-use Rattle.ffv1_line.specs.Row.{row_steps, chosen_row}
+use Rattle.ffv1_line.specs.Row.{row_steps, chosen_row, cell_steps, chosen_rows}
 use Rattle.ffv1_record.specs.Configuration.{Configuration}
 use Rattle.ffv1_record.specs.Sets.{most_contexts}
 use Rattle.ffv1_record.specs.Held.{classes_of}
 use Rattle.ffv1_slice.specs.Grid.{planes_in}
-use Rattle.ffv1_codec.specs.SliceList.{Said, class_of, base_of, bits_of, chosen_line, set_at, set_in, chosen_index, chosen_head}
+use Rattle.ffv1_codec.specs.SliceList.{Said, class_of, base_of, set_at, set_in, chosen_index, chosen_head}
 use Rattle.ffv1_codec.specs.Internal.HasPut.{states_in}
 
 pub set_is : (sets : List Set) (k : ℕ) → set_at sets k ≡ get_or sets k []
@@ -78,22 +78,23 @@ looked_base c p sets most class index set is = ap (λ k. k * class) (is.most_is 
 pub looked_slot : (c : Configuration) (p : ℕ) (sets : List Set) (most class index : ℕ) (set : Set) → Looked c p sets most class index set → 33 + 32 * (most * class) ≡ base_of c p
 looked_slot c p sets most class index set is = ap (λ k. 33 + 32 * k) (looked_base c p sets most class index set is)
 
-pub looked_fits : (c : Configuration) (p : ℕ) (sets : List Set) (most class index : ℕ) (set : Set) (states : List ℕ) → Looked c p sets most class index set → p < planes_in c.chroma_planes c.extra_plane →
-    length states ≡ states_in c → 32 * (most * class) + contexts_of set * 32 ≤ length states
-looked_fits c p sets most class index set states is plane long =
+pub looked_fits : (c : Configuration) (p : ℕ) (sets : List Set) (most class index : ℕ) (set : Set) → Looked c p sets most class index set → p < planes_in c.chroma_planes c.extra_plane →
+    32 * (most * class) + contexts_of set * 32 ≤ states_in c
+looked_fits c p sets most class index set is plane =
     let inside : chosen_index c (class_of p) < length c.sets = omega (arith, is.index_inside, ap length is.sets_are, looked_index c p sets most class index set is) in
     let fits = class_fits c p (chosen_index c (class_of p)) plane inside in
-    omega (arith, fits, looked_base c p sets most class index set is, ap contexts_of (looked_got c p sets most class index set is), long)
+    omega (arith, fits, looked_base c p sets most class index set is, ap contexts_of (looked_got c p sets most class index set is))
 
-line_is : (cell : Cell) (y : ℕ) (s set : Set) (b bits at base : ℕ) → s ≡ set → b ≡ bits → at ≡ base →
+-- the steps of a row by what was looked up
+pub line_is : (cell : Cell) (y : ℕ) (s set : Set) (b bits at base : ℕ) → s ≡ set → b ≡ bits → at ≡ base →
     shifted at (row_steps s cell y 0 (chosen_row s b cell y cell.width)) ≡ shifted base (row_steps set cell y 0 (chosen_row set bits cell y cell.width))
 line_is cell y s set b bits at base p q r =
     ap (λ z. shifted at (row_steps z cell y 0 (chosen_row z b cell y cell.width))) p ∙ ap (λ k. shifted at (row_steps set cell y 0 (chosen_row set k cell y cell.width))) q
     ∙ ap (λ k. shifted k (row_steps set cell y 0 (chosen_row set bits cell y cell.width))) r
 
--- so the steps of a row are those of the plane's line
-pub looked_line : (c : Configuration) (info : Said) (p y : ℕ) (cell : ℕ → Cell) (sets : List Set) (most class index : ℕ) (set : Set) (bits : ℕ) → Looked c p sets most class index set → p < planes_in c.chroma_planes c.extra_plane →
-    bits ≡ bits_of c → shifted (33 + 32 * (most * class)) (row_steps set (cell p) y 0 (chosen_row set bits (cell p) y (cell p).width)) ≡ chosen_line c (chosen_head c info) cell (record { plane = p; y = y })
-looked_line c info p y cell sets most class index set bits is plane bits_are =
-    line_is (cell p) y set (set_in c (chosen_head c info) p) bits (bits_of c) (33 + 32 * (most * class)) (base_of c p)
-    (looked_set c info p sets most class index set is plane) bits_are (looked_slot c p sets most class index set is)
+-- and those of the rows of a cell
+pub cell_is : (cell : Cell) (n : ℕ) (s set : Set) (b bits at base : ℕ) → s ≡ set → b ≡ bits → at ≡ base →
+    shifted at (cell_steps s cell 0 (chosen_rows s b cell n)) ≡ shifted base (cell_steps set cell 0 (chosen_rows set bits cell n))
+cell_is cell n s set b bits at base p q r =
+    ap (λ z. shifted at (cell_steps z cell 0 (chosen_rows z b cell n))) p ∙ ap (λ k. shifted at (cell_steps set cell 0 (chosen_rows set k cell n))) q
+    ∙ ap (λ k. shifted k (cell_steps set cell 0 (chosen_rows set bits cell n))) r

@@ -7,7 +7,7 @@ use Rattle.ffv1_range.specs.declared.tally.Tally.{Tally}
 use Rattle.ffv1_record.specs.declared.config.Profile.{Profile}
 use Rattle.ffv1_record.specs.Configuration.{Configuration}
 use Rattle.ffv1_record.specs.Accepted.{Accepted}
-use Rattle.ffv1_slice.specs.Cutting.{IsRefused, coded_of}
+use Rattle.ffv1_slice.specs.Cutting.{CutsTo, IsRefused, coded_of}
 use Rattle.ffv1_slice.specs.Footer.{foot_length}
 use Rattle.ffv1_slice.specs.Head.{Rule, Stops, head_rules, index_rules, info_rules, place_rules}
 use Rattle.ffv1_slice.specs.declared.cutting.CutFault.{CutFault}
@@ -96,11 +96,11 @@ module _ (a : Accepted) (coded : ℕ → List ℕ) where
 
 -- what is answered for a payload
 pub answered_own : {S : Type 0} (takes refuses : LineStep S) (a : Accepted) (payload : List ℕ) (old new : S) (tally : Tally) (f : FrameFault) (cut : Result (List ℕ) CutFault) →
-    ((g : CutFault) → cut ≡ Err g → IsRefused a.configuration payload g) → AnswersCut takes refuses a payload old new tally (Err f) cut → IsOwn f.fault
-answered_own takes refuses a payload old new tally f (Err g) why answer =
+    CutsTo a.configuration payload cut → AnswersCut takes refuses a payload old new tally (Err f) cut → IsOwn f.fault
+answered_own takes refuses a payload old new tally f (Err g) cuts answer =
     let is : f ≡ cut_fault g = cc in
-    own_by f.fault (of_slice g.fault) (ap (λ (z : FrameFault). z.fault) is) (cut_own a.configuration payload g (why g refl))
-answered_own takes refuses a payload old new tally f (Ok os) why answer = elim answer [
+    own_by f.fault (of_slice g.fault) (ap (λ (z : FrameFault). z.fault) is) (cut_own a.configuration payload g cuts)
+answered_own takes refuses a payload old new tally f (Ok os) cuts answer = elim answer [
   | inl faults ↦ refused_own a (coded_of payload (foot_length a.configuration.ec) (slice_index os)) f faults.state faults.refused
   | inr sink ↦ own_by f.fault fault.Sink (ap (λ (z : FrameFault). z.fault) sink.is) refl
 ]

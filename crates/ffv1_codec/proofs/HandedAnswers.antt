@@ -4,7 +4,7 @@ use Rattle.std.specs.List.{All}
 use Rattle.ffv1_range.specs.declared.tally.Tally.{Tally}
 use Rattle.ffv1_wire.specs.Runs.{Grows, LineStep}
 use Rattle.ffv1_record.specs.Accepted.{Accepted}
-use Rattle.ffv1_slice.specs.Cutting.{coded_of, cut_of}
+use Rattle.ffv1_slice.specs.Cutting.{CutsTo, coded_of}
 use Rattle.ffv1_slice.specs.Footer.{foot_length}
 use Rattle.ffv1_slice.specs.declared.cutting.CutFault.{CutFault}
 use Rattle.ffv1_codec.specs.declared.fault.FrameFault.{FrameFault}
@@ -24,7 +24,7 @@ module _ (a : Accepted) (payload : List ℕ) where
     pub offer : (os : List ℕ) (r i p y : ℕ) (t : State) → Offers a (coded os) r i p y t → All (IsFinishOf a (coded os) (slice_of t)) (t.lines ++ (offered a.configuration r i p y t ∷ []))
 
   module _ {S : Type 0} (takes refuses : LineStep S) (old new : S) (tally : Tally) (laws : HandedLaws) where
-    pub hands_by_cut : (result : Result Said FrameFault) (cut : Result (List ℕ) CutFault) → cut_of a.configuration payload ≡ cut → AnswersCut takes refuses a payload old new tally result cut →
+    pub hands_by_cut : (result : Result Said FrameFault) (cut : Result (List ℕ) CutFault) → CutsTo a.configuration payload cut → AnswersCut takes refuses a payload old new tally result cut →
         HandsFinishes takes refuses a payload old new
     hands_by_cut result (Err f) is answer = inl answer.2
     hands_by_cut (Ok said) (Ok os) is answer =

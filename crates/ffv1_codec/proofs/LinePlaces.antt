@@ -14,7 +14,7 @@ use Rattle.ffv1_codec.specs.Order.{Event, Series, column_events, events_of, hand
 use Rattle.ffv1_codec.specs.Order.Event.{Open, Read, Finish, Hand, Close}
 use Rattle.ffv1_codec.specs.Runs.{Runs}
 use Rattle.ffv1_codec.specs.Decoding as decoding
-use Rattle.ffv1_codec.specs.Decoding.{State, StepsBy, FaultsWith, Decodes, Offers, at_first, top_of}
+use Rattle.ffv1_codec.specs.Decoding.{State, StepsBy, FaultsWith, Decodes, at_first, top_of}
 use Rattle.ffv1_codec.specs.Lines.{line_in, lines_of, lines_of_series, places_of, places_of_series}
 use Rattle.ffv1_codec.proofs.Machines.{stops_at}
 use Rattle.ffv1_codec.proofs.FlatLists.{flat_flat, flat_same, flat_none, map_flat}

@@ -26,7 +26,7 @@ use Rattle.ffv1_codec.specs.Order.Event.{Open, Read, Finish, Hand, Close}
 use Rattle.ffv1_codec.specs.Runs.{Steps, Runs}
 use Rattle.ffv1_codec.specs.Answer.{AnswersCut, cut_fault}
 use Rattle.ffv1_codec.specs.Decoding as decoding
-use Rattle.ffv1_codec.specs.Decoding.{State, StepsBy, FaultsWith, Finishes, FinishesBy, Offers, at_first, slice_at, top_of, width_in, unread, of_slice}
+use Rattle.ffv1_codec.specs.Decoding.{State, StepsBy, FaultsWith, Finishes, FinishesBy, Offers, at_first, slice_at, top_of, unread, of_slice}
 use Rattle.ffv1_codec.specs.Kept.{IsLine}
 use Rattle.ffv1_codec.proofs.Machines.{Each, each_both, each_left, each_right, each_range, each_map, runs_split, stops_at}
 use Rattle.ffv1_codec.proofs.LinesRead.{lines_at, columns_read, line_reads}

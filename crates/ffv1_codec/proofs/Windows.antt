@@ -31,7 +31,7 @@ pub record Kept : Type 0 where
   pub counts : (a b c : Counts) (xs ys : List Step) → Counted a xs b → Counted b ys c → Counted a (xs ++ ys) c
   pub counts_shifted : (a b : Counts) (base : ℕ) (steps : List Step) → Counted a steps b → Counted a (shifted base steps) b
 
-window_long : (states : List ℕ) (at count : ℕ) → at + count ≤ length states → length (take count (drop at states)) ≡ count
+pub window_long : (states : List ℕ) (at count : ℕ) → at + count ≤ length states → length (take count (drop at states)) ≡ count
 window_long states at count fits = length-take-le count (drop at states) (let all = length-drop at states in omega (arith, all, fits))
 
 -- a put on a part of the states

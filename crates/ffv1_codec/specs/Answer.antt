@@ -12,7 +12,7 @@ use Rattle.ffv1_range.specs.Counts.{saturated, ones_in, zeros_in}
 use Rattle.ffv1_record.specs.Accepted.{Accepted}
 use Rattle.ffv1_record.specs.declared.checked.Held.{Held}
 use Rattle.ffv1_slice.specs.Footer.{foot_length}
-use Rattle.ffv1_slice.specs.Cutting.{coded_of, cut_of}
+use Rattle.ffv1_slice.specs.Cutting.{coded_of, CutsTo}
 use Rattle.ffv1_slice.specs.declared.cutting.CutFault.{CutFault}
 use Rattle.ffv1_codec.specs.declared.fault.CodecFault.TheVariants as fault
 use Rattle.ffv1_codec.specs.declared.fault.FrameFault.{FrameFault}
@@ -102,17 +102,17 @@ cut_fault f = in_slice (of_slice f.fault) f.slice
 abbrev pub no_tally : Tally
 no_tally = record { ones = 0; zeros = 0; renormalisations = 0 }
 
--- the answer to a payload that was cut, or to one that was not
-abbrev pub AnswersCut : {S : Type 0} → LineStep S → LineStep S → Accepted → List ℕ → S → S → Tally →
-    Result Said FrameFault → Result (List ℕ) CutFault → Type 0
-AnswersCut takes refuses a payload old new tally result (Err f) =
-    (result ≡ Err (cut_fault f)) × (tally ≡ no_tally) × (new ≡ old)
-AnswersCut takes refuses a payload old new tally result (Ok offsets) =
-    AnswersCoded takes refuses a
-    (coded_of payload (foot_length a.configuration.ec) (slice_index offsets)) old new tally result
+module _ {S : Type 0} (takes refuses : LineStep S) (a : Accepted) (payload : List ℕ)
+    (old new : S) (tally : Tally) (result : Result Said FrameFault) where
+  -- the answer to a payload that was cut, or to one that was not
+  abbrev pub AnswersCut : Result (List ℕ) CutFault → Type 0
+  AnswersCut (Err f) = (result ≡ Err (cut_fault f)) × (tally ≡ no_tally) × (new ≡ old)
+  AnswersCut (Ok offsets) = AnswersCoded takes refuses a
+      (coded_of payload (foot_length a.configuration.ec) (slice_index offsets)) old new tally
+      result
 
--- the answer to a payload
-abbrev pub Answers : {S : Type 0} → LineStep S → LineStep S → Accepted → List ℕ → S → S → Tally →
-    Result Said FrameFault → Type 0
-Answers takes refuses a payload old new tally result =
-    AnswersCut takes refuses a payload old new tally result (cut_of a.configuration payload)
+  -- the answer to a payload, by what it is cut to
+  pub record Answers : Type 0 where
+    pub cut : Result (List ℕ) CutFault
+    pub cuts : CutsTo a.configuration payload cut
+    pub answer : AnswersCut cut

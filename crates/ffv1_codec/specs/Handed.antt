@@ -8,7 +8,7 @@ use Rattle.ffv1_wire.specs.Runs as wire
 use Rattle.ffv1_wire.specs.Runs.{Grows, LineStep}
 use Rattle.ffv1_record.specs.Configuration.{Configuration, is_rct}
 use Rattle.ffv1_record.specs.Accepted.{Accepted}
-use Rattle.ffv1_slice.specs.Cutting.{coded_of, cut_of}
+use Rattle.ffv1_slice.specs.Cutting.{coded_of, CutsTo}
 use Rattle.ffv1_slice.specs.Footer.{foot_length}
 use Rattle.ffv1_codec.specs.Picture.{plane, plane_count}
 use Rattle.ffv1_codec.specs.Decoding.{State, Slice, Finishes, unread, slice_number, width_in}
@@ -65,7 +65,7 @@ offered c r i p y s = record {
 -- a payload is cut, and lines are the finishes of what the bytes of its slices code
 pub record AreFinishesOf (a : Accepted) (payload : List ℕ) (lines : List wire.Line) : Type 0 where
   pub offsets : List ℕ
-  pub cut : cut_of a.configuration payload ≡ Ok offsets
+  pub cut : CutsTo a.configuration payload (Ok offsets)
   pub slice : ℕ → Slice
   pub finish : All
       (IsFinishOf a (coded_of payload (foot_length a.configuration.ec) (slice_index offsets)) slice)

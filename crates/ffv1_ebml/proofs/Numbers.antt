@@ -1,23 +1,14 @@
 -- Numbers of bytes, big end first.
-use Rattle.std.proofs.Common.{◌≡◌, ℕ, zero, suc, inl, inr, drop, ◌+◌, ◌-◌, ◌*◌, ◌^◌, ◌<◌, ◌≤◌, List, length, get_or, take, ap, ◌∙◌, refl, add-one, arith}
-use Rattle.std.proofs.Math.Nat.{pow-le-pow_right, pow-succ'}
+use Rattle.std.proofs.Common.{◌≡◌, ℕ, zero, suc, inl, inr, drop, ◌+◌, ◌-◌, ◌*◌, ◌^◌, ◌<◌, ◌≤◌, length, refl, arith}
+use Rattle.std.proofs.Math.Nat.{pow-le-pow_right}
 use Rattle.std.proofs.lemmas.Bool.{cases_lt}
-use Rattle.std.proofs.lemmas.List.Sums.{fold_more}
 use Rattle.std.specs.Int.{bytes_high_first}
-use Rattle.ffv1_ebml.specs.Vints.{number_of}
 
--- a byte more fits in one place more
-pub byte_more : (n b i : ℕ) → n < 256 ^ i → b < 256 → 256 * n + b < 256 ^ (i + 1)
-byte_more n b i h s = let e : 256 ^ (i + 1) ≡ 256 * 256 ^ i = ap (λ k. 256 ^ k) (add-one i) ∙ pow-succ' 256 i in omega (arith, e)
-
--- and in 64 bits, where there were at most seven
+-- one byte more than at most seven fits in 64 bits
 pub seven_fit : (n i : ℕ) → n < 256 ^ i → i < 8 → 256 * n + 255 < 2 ^ 64
 seven_fit n i h few =
     let most : 256 ^ i ≤ 256 ^ 7 = pow-le-pow_right {n = 256} (omega arith) {i = i} {j = 7} (omega arith) in
     omega (arith, most)
-
-pub number_more : (xs : List ℕ) (i : ℕ) → i < length xs → number_of (take (i + 1) xs) ≡ 256 * number_of (take i xs) + get_or xs i 0
-number_more xs i inside = fold_more (λ n b. 256 * n + b) 0 xs i 0 inside
 
 -- an ID of at most four bytes fits in 32 bits
 pub four_fit : (n i : ℕ) → n < 256 ^ i → i ≤ 4 → n < 2 ^ 32

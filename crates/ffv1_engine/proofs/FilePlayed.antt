@@ -16,19 +16,18 @@ use Rattle.ffv1_engine.specs.declared.fault.Fault.{Fault}
 use Rattle.ffv1_engine.specs.declared.fault.Fault.TheVariants as fault
 use Rattle.ffv1_engine.specs.Faults.{Cause, cause_of}
 use Rattle.ffv1_engine.specs.Faults.Cause.{Reading, Writing, Memory, Content}
-use Rattle.ffv1_engine.specs.Located.{LocatedFault, WritesLocated}
 use Rattle.ffv1_engine.specs.Internal.Located.{LocatedAfter}
+use Rattle.ffv1_engine.specs.Located.{LocatedFault, WritesLocated}
 use Rattle.ffv1_engine.specs.Opens.{LacksOpening, OpensKnown}
 use Rattle.ffv1_engine.specs.Internal.Opens.{OpensStream, stream_of}
-use Rattle.ffv1_engine.specs.Play.{End, EndsKnown, EndsReading}
 use Rattle.ffv1_engine.specs.Play.End.{Over}
 use Rattle.ffv1_engine.specs.Plays.{FileStops, FileThen, FramesThen, GoesBy, GoesThen, HasThen, NextEnds, NextHasFault, NextLacks, NextReadFails, NextStays, PlaysFile, PlaysThen, PlayStops, PlayStopsBy, RefusedAfter, TextFails}
 use Rattle.ffv1_engine.specs.Internal.Plays.{PlaysAll}
 use Rattle.ffv1_engine.specs.Profiles.{scope_in}
-use Rattle.ffv1_engine.specs.Stream.{Begins, Frame, IsFrame, ReadsFile, Stream, frame_payload, payloads}
+use Rattle.ffv1_engine.specs.Stream.{Frame, IsFrame, ReadsFile, Stream, frame_payload}
 use Rattle.ffv1_engine.proofs.FileRead.{no_items, positive}
 use Rattle.ffv1_engine.proofs.KnownTexts.{known_map, known_then}
-use Rattle.ffv1_engine.proofs.PicturesWritten.{silent}
+use Rattle.ffv1_engine.proofs.FramesInTurn.{silent}
 
 -- what a file has after its head is what the file has
 pub file_has : (profile : Profile) (i0 i1 i2 : Option (List ℕ)) (head : Head) (from : Place) → OpensKnown profile i0 i1 head from → (ps : List (List ℕ)) (Next : Place → List ℕ → List ℕ → Type 0) →
@@ -37,11 +36,6 @@ file_has profile i0 i1 i2 head from opens ps Next has =
     known_map i0 i2 (λ file rest. (left : List ℕ) × (open_read (scope_in profile) file ≡ Ok ((head, from), left)) × HasThen from ps Next left rest) (FileThen profile head ps Next)
     (λ file rest p. (from, p.0, p.1, p.2))
     (known_then i0 i1 i2 (λ file rest. open_read (scope_in profile) file ≡ Ok ((head, from), rest)) (HasThen from ps Next) opens has)
-
-pub then_ends : (profile : Profile) (s : Stream) (frames : List Frame) (e : End) (old new : Option (List ℕ)) → Known old new (FileThen profile s.head (payloads frames) (NextEnds e)) → EndsKnown profile old new s frames e
-then_ends profile s frames e old new has =
-    known_map old new (FileThen profile s.head (payloads frames) (NextEnds e)) (λ file rest. (to : Place) × (at : List ℕ) × Begins profile file s frames to at × EndsReading to at rest e)
-    (λ file rest p. (p.3.0, p.3.1, record { from = p.0; behind = p.1; opened = p.2; read = p.3.2 }, p.3.3)) has
 
 -- where a file is refused after what a reader has read is where the whole file is
 pub located_whole : (scope : Scope) (r : Standing) (i0 i1 i2 : Option (List ℕ)) (ib im ia : ℕ) (byte : Bool) (i : ℕ) (lines : List ℕ) (f : Fault) (output : Passage) → im ≡ ib → Reached scope i0 i1 r →
@@ -63,8 +57,9 @@ module _ {X : Type 0} (Is : X → Type 0) (payload : X → List ℕ) (text : Lis
       PlaysThen Is payload (FileThen profile r.head) text (between i0 i2 ib ia) (between o0 o1 ob om) xs Next
   plays_file xs Next h = record { goes = goes_file xs Next h.goes; wrote = record { written = h.wrote.written; writes = h.wrote.writes } }
 
-  pub fails_file : TextFails Is payload (HasThen r.place) text (between i1 i2 im ia) (between o0 o1 ob om) → TextFails Is payload (FileThen profile r.head) text (between i0 i2 ib ia) (between o0 o1 ob om)
-  fails_file h = record { xs = h.xs; goes = goes_file h.xs NextStays h.goes; kept = h.kept ∙ opens.kept; written = h.written; writes = h.writes }
+  pub fails_file : (xs : List X) → TextFails Is payload (HasThen r.place) text (between i1 i2 im ia) (between o0 o1 ob om) xs →
+      TextFails Is payload (FileThen profile r.head) text (between i0 i2 ib ia) (between o0 o1 ob om) xs
+  fails_file xs h = record { goes = goes_file xs NextStays h.goes; kept = h.kept ∙ opens.kept; written = h.written; writes = h.writes }
 
   module _ (reached : Reached (scope_in profile) i0 i1 r) (byte : Bool) where
     located : (xs : List X) (f : Fault) → RefusedAfter Is payload (HasThen r.place) text (between i1 i2 im ia) (between o0 o1 ob om) (LocatedAfter r (between i1 i2 im ia)) byte xs f →
@@ -73,7 +68,7 @@ module _ {X : Type 0} (Is : X → Type 0) (payload : X → List ℕ) (text : Lis
 
     pub refused_file : (f : Fault) (why : Cause) → GoesBy Is payload (HasThen r.place) text (between i1 i2 im ia) (between o0 o1 ob om) (LocatedAfter r (between i1 i2 im ia)) byte f why →
         GoesBy Is payload (FileThen profile r.head) text (between i0 i2 ib ia) (between o0 o1 ob om) (LocatedFault (scope_in profile) (between i0 i2 ib ia)) byte f why
-    refused_file f Writing h = fails_file h
+    refused_file f Writing h = (h.0, fails_file h.0 h.1)
     refused_file f Reading h = (h.0, located h.0 f h.1, h.2 ∙ ap one_more opens.kept, goes_file h.0 NextReadFails h.3)
     refused_file f Memory h = (h.0, h.1 ∙ opens.kept, plays_file h.0 (NextLacks Is payload) h.2)
     refused_file f Content h = (h.0, located h.0 f h.1, h.2 ∙ opens.kept, goes_file h.0 (NextHasFault f) h.3)
@@ -90,7 +85,7 @@ module _ (profile : Profile) (text : Stream → List Frame → List ℕ) (i0 i1 
 
     stops_file : (f : Fault) (why : Cause) → PlayStopsBy (HasThen r.place) a (text (stream_of r a)) (between i1 i2 im ia) (between o0 o1 ob om) f why →
         PlayStopsBy (FileThen profile r.head) a (text (stream_of r a)) (between i0 i2 ib ia) (between o0 o1 ob om) f why
-    stops_file f Writing h = fails_file (IsFrame a) frame_payload (text (stream_of r a)) profile i0 i1 i2 o0 o1 ib im ia ob om r a opens h
+    stops_file f Writing h = (h.0, fails_file (IsFrame a) frame_payload (text (stream_of r a)) profile i0 i1 i2 o0 o1 ib im ia ob om r a opens h.0 h.1)
     stops_file f Reading h = (h.0 ∙ ap one_more opens.kept, h.1, then_file h.1 NextReadFails h.2)
     stops_file f Memory h = (
       h.0 ∙ opens.kept,

@@ -10,11 +10,10 @@ use Rattle.ffv1_reads.specs.Reads as avi
 use Rattle.ffv1_engine.specs.declared.profile.Profile.{Profile}
 use Rattle.ffv1_engine.specs.Profiles.{scope_in}
 use Rattle.ffv1_engine.specs.declared.profile.Profile.TheVariants.{Strict, Wide}
+use Rattle.ffv1_reads.specs.Known.{Known}
 use Rattle.ffv1_engine.specs.Opens.{OpensKnown}
-use Rattle.ffv1_engine.specs.Play.{BeginsSome, End, EndsKnown}
-use Rattle.ffv1_engine.specs.Play.End.{Over}
-use Rattle.ffv1_engine.specs.Stream.{BeginsKnown, BeginsTo, Frame, HoldsPayloads, ReadsFile, ReadsFrames, Stream, payloads}
-use Rattle.ffv1_engine.specs.Internal.Told.{EndsFrom, ReadsKnown, ReadsSome}
+use Rattle.ffv1_engine.specs.Plays.{HasThen, NextOver}
+use Rattle.ffv1_engine.specs.Stream.{Frame, HoldsPayloads, ReadsFile, ReadsFrames, Stream, payloads}
 
 pub no_items : {X : Type 0} (xs : List X) → length xs ≡ 0 → xs ≡ []
 no_items [] e = refl
@@ -23,36 +22,6 @@ no_items (x ∷ xs) e = absurd (omega (arith, e))
 pub positive : {X : Type 0} (xs : List X) → (length xs ≡ 0 → ⊥) → 0 < length xs
 positive [] none = absurd (none refl)
 positive (x ∷ xs) none = omega arith
-
--- after the head frames begin, or end, as they do in movi
-pub begins_some : (profile : Profile) (old mid : Option (List ℕ)) (s : Stream) (from : Place) (frames : List Frame) → OpensKnown profile old mid s.head from → ReadsSome from mid frames → BeginsSome profile old s frames
-begins_some profile None mid s from frames opens reads = tt
-begins_some profile (Some file) None s from frames opens reads = absurd opens
-begins_some profile (Some file) (Some behind) s from frames opens reads = (reads.0, reads.1, record { from = from; behind = behind; opened = opens; read = reads.2 })
-
-pub begins_to : (profile : Profile) (old mid at : Option (List ℕ)) (s : Stream) (from to : Place) (frames : List Frame) → OpensKnown profile old mid s.head from → ReadsKnown from mid at frames to → BeginsTo profile old at s frames to
-begins_to profile None mid at s from to frames opens reads = tt
-begins_to profile (Some file) None at s from to frames opens reads = absurd opens
-begins_to profile (Some file) (Some behind) None s from to frames opens reads = absurd reads
-begins_to profile (Some file) (Some behind) (Some rest) s from to frames opens reads = record { from = from; behind = behind; opened = opens; read = reads }
-
-pub begins_known : (profile : Profile) (old mid new : Option (List ℕ)) (s : Stream) (from to : Place) (frames : List Frame) → OpensKnown profile old mid s.head from → ReadsKnown from mid new frames to → BeginsKnown profile old new s frames
-begins_known profile None mid new s from to frames opens reads = tt
-begins_known profile (Some file) None new s from to frames opens reads = absurd opens
-begins_known profile (Some file) (Some behind) None s from to frames opens reads = absurd reads
-begins_known profile (Some file) (Some behind) (Some rest) s from to frames opens reads = (to, record { from = from; behind = behind; opened = opens; read = reads })
-
-pub ends_known : (profile : Profile) (old mid new : Option (List ℕ)) (s : Stream) (from : Place) (frames : List Frame) (e : End) → OpensKnown profile old mid s.head from → EndsFrom from mid new frames e → EndsKnown profile old new s frames e
-ends_known profile None mid new s from frames e opens ends = tt
-ends_known profile (Some file) None new s from frames e opens ends = absurd opens
-ends_known profile (Some file) (Some behind) None s from frames e opens ends = absurd ends
-ends_known profile (Some file) (Some behind) (Some rest) s from frames e opens ends =
-    (ends.0, ends.1, record { from = from; behind = behind; opened = opens; read = ends.2 }, ends.3)
-
-pub some_of_end : (from : Place) (old new : Option (List ℕ)) (frames : List Frame) (e : End) → EndsFrom from old new frames e → ReadsSome from old frames
-some_of_end from None new frames e ends = tt
-some_of_end from (Some text) None frames e ends = absurd ends
-some_of_end from (Some text) (Some rest) frames e ends = (ends.0, ends.1, ends.2)
 
 module _ (next : (place : Place) (text : List ℕ) → frames_read place text ≡ avi.read_on (frame_read place text) (more_frames frames_read))
     (is_file : (file : List ℕ) (head : Head) (frames : List (List ℕ)) (rest : List ℕ) → file_read FirstMovi file ≡ Ok ((head, frames), rest) → (is : AviFile file head frames) × (rest ≡ is.rest))
@@ -79,7 +48,7 @@ module _ (next : (place : Place) (text : List ℕ) → frames_read place text �
       (ap (λ z. avi.read_on z (λ (p : Head × Place) (text : List ℕ). avi.read_on (frames_read p.1 text) (λ frames. avi.given (p.0, frames)))) opens
       ∙ ap (λ z. avi.read_on z (λ frames. avi.given (head, frames))) frames_are)
 
-  pub reads_file : (profile : Profile) (old mid new : Option (List ℕ)) (s : Stream) (from : Place) (frames : List Frame) → OpensKnown profile old mid s.head from → EndsFrom from mid new frames Over →
+  pub reads_file : (profile : Profile) (old mid new : Option (List ℕ)) (s : Stream) (from : Place) (frames : List Frame) → OpensKnown profile old mid s.head from → Known mid new (HasThen from (payloads frames) NextOver) →
       ReadsFile profile old new s frames
   reads_file profile None mid new s from frames opens ends = tt
   reads_file profile (Some file) None new s from frames opens ends = absurd opens

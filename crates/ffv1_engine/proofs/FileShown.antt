@@ -125,30 +125,29 @@ module _ (profile : Profile) (i0 i1 i2 o0 o1 o2 : Option (List ℕ)) (ib im ia o
       let silent = nothing_behind (lines frames) (between o1 o2 om oa) h.writes in
       then frames Next goes silent.0 silent.1
 
-  line_fails : TextFails (IsFrame a) frame_payload (HasThen r.place) lines (between i1 i2 im ia) (between o1 o2 om oa) →
-      TextFails (IsFrame a) frame_payload (FileThen profile r.head) text (between i0 i2 ib ia) (between o0 o2 ob oa)
-  line_fails h =
+  line_fails : (frames : List Frame) → TextFails (IsFrame a) frame_payload (HasThen r.place) lines (between i1 i2 im ia) (between o1 o2 om oa) frames →
+      TextFails (IsFrame a) frame_payload (FileThen profile r.head) text (between i0 i2 ib ia) (between o0 o2 ob oa) frames
+  line_fails frames h =
       let head = show_text (container_of r.place) (stream_of r a) in
-      let fewer = lines (but_last h.xs) in
-      let long : length (head ++ lines h.xs) ≡ length head + length (lines h.xs) = length-append head (lines h.xs) in
+      let fewer = lines (but_last frames) in
+      let long : length (head ++ lines frames) ≡ length head + length (lines frames) = length-append head (lines frames) in
       let short : length (head ++ fewer) ≡ length head + length fewer = length-append head fewer in
       record {
-        xs = h.xs;
-        goes = goes_then h.xs NextStays h.goes;
+        goes = goes_then frames NextStays h.goes;
         kept = h.kept ∙ opens.kept;
         written = h.written ∙ ap one_more same;
         writes = record {
           count = length head + h.writes.count;
           enough = omega (arith, short, h.writes.enough);
           short = omega (arith, long, h.writes.short);
-          writes = subst (Appends o0 o2) (sym (take_past head (lines h.xs) h.writes.count)) (behind (take h.writes.count (lines h.xs)) h.writes.writes);
+          writes = subst (Appends o0 o2) (sym (take_past head (lines frames) h.writes.count)) (behind (take h.writes.count (lines frames)) h.writes.writes);
         };
       }
 
   stops_by : (f : Fault) (why : Cause) →
       GoesBy (IsFrame a) frame_payload (HasThen r.place) lines (between i1 i2 im ia) (between o1 o2 om oa) (LocatedAfter r (between i1 i2 im ia)) false f why →
       PlayStopsBy (FileThen profile r.head) a text (between i0 i2 ib ia) (between o0 o2 ob oa) f why
-  stops_by f Writing h = line_fails h
+  stops_by f Writing h = (h.0, line_fails h.0 h.1)
   stops_by f Reading h = (h.2 ∙ ap one_more opens.kept, h.0, unlocated h.0 NextReadFails f h.1 h.3)
   stops_by f Memory h = (h.1 ∙ opens.kept, inl (h.0, then h.0 (NextLacks (IsFrame a) frame_payload) h.2.goes h.2.wrote.written h.2.wrote.writes))
   stops_by f Content h = (h.2 ∙ opens.kept, record { frames = h.0; end = File f; plays = unlocated h.0 (NextEnds (File f)) f h.1 h.3; faulty = tt; is = refl })

@@ -4,7 +4,7 @@ use Rattle.ffv1_range.specs.declared.tally.Tally.{Tally}
 use Rattle.ffv1_wire.specs.Passage.{Passage}
 use Rattle.ffv1_wire.specs.Runs.{LineStep}
 use Rattle.ffv1_record.specs.Accepted.{Accepted}
-use Rattle.ffv1_slice.specs.Cutting.{cut_of}
+use Rattle.ffv1_slice.specs.Cutting.{CutsTo}
 use Rattle.ffv1_slice.specs.declared.cutting.CutFault.{CutFault}
 use Rattle.ffv1_codec.specs.Answer.{AnswersCut, Answers, cut_fault}
 use Rattle.ffv1_codec.specs.SliceList.{Said}
@@ -21,14 +21,14 @@ pub same_fault : (f g : FrameFault) (r : Result Said FrameFault) → r ≡ Err f
 same_fault f g r e h = cc
 
 module _ {S : Type 0} (takes refuses : LineStep S) (a : Accepted) (payload : List ℕ) (old new : S) (tally : Tally) where
-  decided_by_cut : (info : Said) (cut : Result (List ℕ) CutFault) → cut_of a.configuration payload ≡ cut → AnswersCut takes refuses a payload old new tally (Ok info) cut → CountOf a payload tally
+  decided_by_cut : (info : Said) (cut : Result (List ℕ) CutFault) → CutsTo a.configuration payload cut → AnswersCut takes refuses a payload old new tally (Ok info) cut → CountOf a payload tally
   decided_by_cut info (Err f) is answer = absurd (not_both info (cut_fault f) (Ok info) refl answer.0)
   decided_by_cut info (Ok os) is answer = record { offsets = os; cut = is; state = answer.state; decodes = answer.decodes; decided = answer.decided }
 
   pub is_decided : (info : Said) → Answers takes refuses a payload old new tally (Ok info) → CountOf a payload tally
-  is_decided info answer = decided_by_cut info (cut_of a.configuration payload) refl answer
+  is_decided info answer = decided_by_cut info answer.cut answer.cuts answer.answer
 
-  faults_by_cut : (f : FrameFault) (cut : Result (List ℕ) CutFault) → cut_of a.configuration payload ≡ cut → f.fault ≢ codec_fault.Sink →
+  faults_by_cut : (f : FrameFault) (cut : Result (List ℕ) CutFault) → CutsTo a.configuration payload cut → f.fault ≢ codec_fault.Sink →
       AnswersCut takes refuses a payload old new tally (Err f) cut → FaultsOf a payload f tally
   faults_by_cut f (Err g) is own answer = inl (g, is, same_fault f (cut_fault g) (Err f) refl answer.0, answer.1)
   faults_by_cut f (Ok os) is own answer = elim answer [
@@ -37,7 +37,7 @@ module _ {S : Type 0} (takes refuses : LineStep S) (a : Accepted) (payload : Lis
   ]
 
   pub is_faulty : (f : FrameFault) → f.fault ≢ codec_fault.Sink → Answers takes refuses a payload old new tally (Err f) → FaultsOf a payload f tally
-  is_faulty f own answer = faults_by_cut f (cut_of a.configuration payload) refl own answer
+  is_faulty f own answer = faults_by_cut f answer.cut answer.cuts own answer.answer
 
 -- a line that was written, or not, where that is not told
 pub line_written : {E : Type 0} (line : List ℕ) (p : Passage) (r : Result (Unit {0}) E) → WritesPart line p r → WritesLine [] line p

@@ -1,16 +1,17 @@
 -- Lists that grow at their end, and files that are read on.
 use Rattle.std.proofs.Common.{◌≡◌, refl, ℕ, suc, ◌+◌, Option, Some, None, Ok, List, [], ◌∷◌, ◌++◌, length, map, take, ap, subst, ◌∙◌, arith}
-use Rattle.ffv1_range.specs.declared.tally.Tally.{Tally}
-use Rattle.ffv1_codec.specs.declared.fault.FrameFault.{FrameFault}
+use Rattle.std.proofs.KnownBytes.{Keeps-refl}
+use Rattle.ffv1_wire.specs.Passage.{between}
 use Rattle.ffv1_files.specs.Places.{Place}
 use Rattle.ffv1_files.specs.Files.{frame_read}
 use Rattle.ffv1_reads.specs.Known.{Known}
-use Rattle.ffv1_engine.specs.declared.fault.Fault.{Fault}
-use Rattle.ffv1_engine.specs.Stream.{AreAll, Frame, ReadsFrames}
-use Rattle.ffv1_engine.specs.Play.{but_last}
+use Rattle.ffv1_engine.specs.Stream.{AreAll, ReadsFrames}
 use Rattle.ffv1_engine.specs.Internal.Play.{NextIs}
-use Rattle.ffv1_engine.specs.Play.End.{File, Payload, Over}
-use Rattle.ffv1_engine.specs.Internal.Told.{EndsFrom, FaultsKnown, ReadsKnown, ReadsSome}
+use Rattle.ffv1_engine.specs.Play.{but_last}
+use Rattle.ffv1_engine.specs.Trial.{Silent}
+
+pub silent : (o : Option (List ℕ)) (n : ℕ) → Silent (between o o n n)
+silent o n = record { kept = Keeps-refl o; same = refl }
 
 pub take_past : (xs ys : List ℕ) (k : ℕ) → take (length xs + k) (xs ++ ys) ≡ xs ++ take k ys
 take_past [] ys k =
@@ -53,27 +54,3 @@ reads_more payload from to last None m n xs x h next = tt
 reads_more payload from to last (Some text) None n xs x h next = absurd h
 reads_more payload from to last (Some text) (Some at) None xs x h next = absurd next
 reads_more payload from to last (Some text) (Some at) (Some rest) xs x h next = frames_more payload from text xs to at x last rest h next
-
-pub reads_some : (from to : Place) (o m : Option (List ℕ)) (frames : List Frame) → ReadsKnown from o m frames to → ReadsSome from o frames
-reads_some from to None m frames h = tt
-reads_some from to (Some text) None frames h = absurd h
-reads_some from to (Some text) (Some at) frames h = (to, at, h)
-
-pub ends_over : (from to : Place) (o m n : Option (List ℕ)) (frames : List Frame) → ReadsKnown from o m frames to → NextIs to m n None → EndsFrom from o n frames Over
-ends_over from to None m n frames h next = tt
-ends_over from to (Some text) None n frames h next = absurd h
-ends_over from to (Some text) (Some at) None frames h next = absurd next
-ends_over from to (Some text) (Some at) (Some rest) frames h next = (to, at, h, next)
-
-pub ends_payload : (from to last : Place) (o m n : Option (List ℕ)) (frames : List Frame) (payload : List ℕ) (f : FrameFault) (t : Tally) → ReadsKnown from o m frames to →
-    NextIs to m n (Some (payload, last)) → EndsFrom from o n frames (Payload payload f t)
-ends_payload from to last None m n frames payload f t h next = tt
-ends_payload from to last (Some text) None n frames payload f t h next = absurd h
-ends_payload from to last (Some text) (Some at) None frames payload f t h next = absurd next
-ends_payload from to last (Some text) (Some at) (Some rest) frames payload f t h next = (to, at, h, (last, next))
-
-pub ends_file : (from to : Place) (o m n : Option (List ℕ)) (frames : List Frame) (f : Fault) → ReadsKnown from o m frames to → FaultsKnown (frame_read to) m n f → EndsFrom from o n frames (File f)
-ends_file from to None m n frames f h next = tt
-ends_file from to (Some text) None n frames f h next = absurd h
-ends_file from to (Some text) (Some at) None frames f h next = absurd next
-ends_file from to (Some text) (Some at) (Some rest) frames f h next = (to, at, h, next)

@@ -25,9 +25,8 @@ use Rattle.ffv1_engine.specs.Stream.{AreAll, Frame, IsFrame, ReadsFrames, frame_
 use Rattle.ffv1_engine.specs.Internal.Told.{FileStopsBy, WritesFrame}
 use Rattle.ffv1_engine.specs.Trial.{Silent}
 use Rattle.ffv1_engine.proofs.FaultsLocated.{memory_silent}
-use Rattle.ffv1_engine.proofs.FramesInTurn.{all_more, but_last_more, reads_more, reads_none, take_past}
+use Rattle.ffv1_engine.proofs.FramesInTurn.{all_more, but_last_more, reads_more, reads_none, silent, take_past}
 use Rattle.ffv1_engine.proofs.KnownTexts.{known_map, known_then}
-use Rattle.ffv1_engine.proofs.PicturesWritten.{silent}
 
 -- ---- payloads, and what comes after them
 
@@ -101,14 +100,13 @@ module _ {X : Type 0} (Is : X → Type 0) (payload : X → List ℕ) (text : Lis
     }
 
     pub text_fails : (x : X) → PlaysOne Is payload to last (between i1 i2 im ia) x → oa ≡ one_more om → (k : ℕ) → k < length (line x) → Appends o1 o2 (take k (line x)) →
-        TextFails Is payload (HasThen from) text (between i0 i2 ib ia) (between o0 o2 ob oa)
+        TextFails Is payload (HasThen from) text (between i0 i2 ib ia) (between o0 o2 ob oa) (xs ++ (x ∷ []))
     text_fails x here counted k short writes =
         let all = xs ++ (x ∷ []) in
         let long : length (text xs ++ line x) ≡ length (text xs) + length (line x) = length-append (text xs) (line x) in
         let enough : length (text xs) ≤ length (text xs) + k = omega arith in
         let few : length (text xs) + k < length (text xs ++ line x) = omega (arith, long, short) in
         record {
-          xs = all;
           goes = record {
             are = all_more Is xs x so.are here.is;
             has = has_stays from last i0 i2 (map payload all) (reads_more payload from to last i0 i1 i2 xs x so.read here.reads.next);
@@ -139,7 +137,7 @@ module _ {X : Type 0} (Is : X → Type 0) (payload : X → List ℕ) (text : Lis
   pub goes_by : (f : Fault) (why : Cause) →
       OneStopsBy Is payload line (λ g. WritesLocated (LocatedAfter to (between i1 i2 im ia)) byte i [] g (between o1 o2 om oa)) to.place last (between i1 i2 im ia) (between o1 o2 om oa) f why →
       GoesBy Is payload (HasThen from.place) text (between i0 i2 ib ia) (between o0 o2 ob oa) (LocatedAfter from (between i0 i2 ib ia)) byte f why
-  goes_by f Writing h = text_fails Is payload text from.place to.place last i0 i1 i2 o0 o1 o2 ib im ia ob om oa xs so line more h.0 h.1 h.2 h.3.0 h.3.1 h.3.2
+  goes_by f Writing h = (xs ++ (h.0 ∷ []), text_fails Is payload text from.place to.place last i0 i1 i2 o0 o1 o2 ib im ia ob om oa xs so line more h.0 h.1 h.2 h.3.0 h.3.1 h.3.2)
   goes_by f Reading h = (xs, located f h.0, h.1 ∙ ap one_more so.kept, comes NextReadFails h.2)
   goes_by f Memory h = (xs, h.1 ∙ so.kept, plays_on Is payload text from.place to.place last i0 i1 i2 o0 o1 o2 ib im ia ob om oa xs so (NextLacks Is payload) h.0 h.2)
   goes_by f Content h = (xs, located f h.0, h.1 ∙ so.kept, comes (NextHasFault f) h.2)
@@ -189,7 +187,8 @@ module _ (a : Accepted) (text : List Frame → List ℕ) (from to last : Place) 
     -- why it goes no further, where a refusal writes nothing
     stops_by : (f : Fault) (why : Cause) → OneStopsBy (IsFrame a) frame_payload line (λ g. Silent (between o1 o2 om oa)) to last (between i1 i2 im ia) (between o1 o2 om oa) f why →
         PlayStopsBy (HasThen from) a text (between i0 i2 ib ia) (between o0 o2 ob oa) f why
-    stops_by f Writing p = text_fails (IsFrame a) frame_payload text from to last i0 i1 i2 o0 o1 o2 ib im ia ob om oa so.frames so.so line more p.0 p.1 p.2 p.3.0 p.3.1 p.3.2
+    stops_by f Writing p =
+        (so.frames ++ (p.0 ∷ []), text_fails (IsFrame a) frame_payload text from to last i0 i1 i2 o0 o1 o2 ib im ia ob om oa so.frames so.so line more p.0 p.1 p.2 p.3.0 p.3.1 p.3.2)
     stops_by f Reading p = (p.1 ∙ ap one_more so.so.kept, so.frames, then NextReadFails p.0 p.2)
     stops_by f Memory p = (p.1 ∙ so.so.kept, inl (so.frames, then (NextLacks (IsFrame a) frame_payload) p.0 p.2))
     stops_by f Content p = (p.1 ∙ so.so.kept, record { frames = so.frames; end = File f; plays = then (NextEnds (File f)) p.0 p.2; faulty = tt; is = refl })

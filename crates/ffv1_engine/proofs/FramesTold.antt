@@ -1,4 +1,4 @@
--- Frames are told one after the other.
+-- Frames are looked at one after the other.
 use Rattle.std.proofs.Common.{◌≡◌, ℕ, suc, ◌+◌, ◌⊎◌, Bool, Option, Some, Ok, List, [], ◌∷◌, ◌++◌, length, inl, inr, ap, sym, subst, ◌∙◌, arith, append-nil, append_assoc}
 use Rattle.ffv1_range.specs.Counts.{saturated}
 use Rattle.ffv1_wire.specs.Passage.{between}

@@ -1,16 +1,13 @@
 -- Images are written one after the other.
 use Rattle.std.proofs.Common.{◌≡◌, refl, ℕ, ◌+◌, ◌<◌, ◌≤◌, true, Option, List, [], ◌∷◌, ◌++◌, length, take, inl, inr, ap, sym, subst, ◌∙◌, arith, append-nil, append_assoc, length-append}
 use Rattle.std.specs.Io.KnownBytes.{Appends}
-use Rattle.std.proofs.KnownBytes.{Appends-nil, Appends-trans, Appends-kept}
+use Rattle.std.proofs.KnownBytes.{Appends-nil, Appends-trans}
 use Rattle.ffv1_range.specs.Counts.{saturated}
 use Rattle.ffv1_wire.specs.Failures.{one_more}
 use Rattle.ffv1_wire.specs.Passage.{Passage, between}
 use Rattle.ffv1_wire.specs.Runs.{Line}
-use Rattle.ffv1_codec.specs.Answer.{no_tally}
-use Rattle.ffv1_codec.specs.Decoding.{in_slice}
-use Rattle.ffv1_codec.specs.declared.fault.CodecFault.TheVariants as codec_fault
 use Rattle.ffv1_files.specs.Places.{Place}
-use Rattle.ffv1_files.specs.Files.{frame_read}
+use Rattle.ffv1_reads.specs.Known.{Known}
 use Rattle.ffv1_y4m.specs.Images.{image_text}
 use Rattle.ffv1_engine.specs.declared.fault.Fault.{Fault}
 use Rattle.ffv1_engine.specs.declared.fault.Fault.TheVariants as fault
@@ -18,13 +15,16 @@ use Rattle.ffv1_engine.specs.Faults.{Cause}
 use Rattle.ffv1_engine.specs.Faults.Cause.{Reading, Writing, Memory, Content}
 use Rattle.ffv1_engine.specs.Internal.ImagesOut.{ImageFaults, ImageStopsBy, RowCut, rows_so_far}
 use Rattle.ffv1_engine.specs.Stream.{Frame, IsFrame, Stream, frame_payload}
-use Rattle.ffv1_engine.specs.Internal.Told.{FaultsKnown}
 use Rattle.ffv1_engine.specs.Trial.{Silent}
-use Rattle.ffv1_engine.specs.Unpacked.{AlikeBy, is_ppm_stream, lines_before, ppm_text, rows_by, text_by}
-use Rattle.ffv1_engine.specs.Internal.Unpacking.{FileFaults, PayloadFaults, RowFails, Unpacked, UnpackedAll, UnpackedSome, UnpackedTo, UnpackingStops, UnpackingStopsBy}
+use Rattle.ffv1_codec.specs.Outcome.{lines_before}
+use Rattle.ffv1_engine.specs.Unpacked.{AlikeBy, is_ppm_stream, ppm_text, rows_by, text_by, text_of}
+use Rattle.ffv1_engine.specs.Unpacking.{GoesTo, PayloadStops, RowFails, UnpackingStops, UnpackingStopsBy, UnpacksAll, UnpacksThen}
+use Rattle.ffv1_engine.specs.Plays.{HasThen, NextHasFault, NextPayloadLacks, NextReadFails}
 use Rattle.ffv1_engine.specs.Internal.Plays.{PlaysFrame}
-use Rattle.ffv1_engine.specs.Internal.Play.{ReadsEnd}
-use Rattle.ffv1_engine.proofs.FramesInTurn.{all_more, ends_file, ends_over, ends_payload, reads_more, reads_none, reads_some, take_past}
+use Rattle.ffv1_engine.specs.Internal.Play.{ReadsEnd, ReadsPayload}
+use Rattle.ffv1_engine.proofs.FramesInTurn.{take_past}
+use Rattle.ffv1_engine.proofs.FramesPlayed.{none_yet}
+use Rattle.ffv1_engine.proofs.FramesUnpacked.{Unpacked, goes_to, none_unpacked, unpacks_all, unpacks_more, unpacks_on}
 
 -- the text grows by the next image
 text_more : (s : Stream) (frames : List Frame) (f : Frame) →
@@ -51,91 +51,53 @@ module _ (s : Stream) (ppm : is_ppm_stream s ≡ true) (from : Place) where
       ∙ ap (λ z. z ++ image_text s.accepted.configuration.depth s.accepted.configuration.width s.accepted.configuration.height f.planes) (sym (images_text frames))
 
   pub images_none : (i o : Option (List ℕ)) (ib ob : ℕ) → Unpacked s from (between i i ib ib) (between o o ob ob) [] from
-  images_none i o ib ob = record {
-    are = tt;
-    alike = all_alike [];
-    read = reads_none from i;
-    kept = refl;
-    written = refl;
-    writes = subst (Appends o o) (sym (images_text [])) (Appends-nil o);
-  }
+  images_none i o ib ob = record { so = none_yet (IsFrame s.accepted) frame_payload (text_of s) (images_text []) from i o ib ob; alike = all_alike [] }
 
   -- memory for the lines that an image is written from was refused
-  pub images_lack : (i o : Option (List ℕ)) (ib ob : ℕ) (f : Fault) → f ≡ fault.OutOfMemory → UnpackingStops s from (between i i ib ib) (between o o ob ob) f
+  pub images_lack : (i o : Option (List ℕ)) (ib ob : ℕ) (f : Fault) → f ≡ fault.OutOfMemory → UnpackingStops (HasThen from) s (between i i ib ib) (between o o ob ob) f
   images_lack i o ib ob f is =
-      let none = images_none i o ib ob in
-      subst (UnpackingStops s from (between i i ib ib) (between o o ob ob)) (sym is)
-      ([], from, i, record { are = none.are; alike = none.alike; read = none.read; written = refl; writes = none.writes }, refl, inr (refl, refl))
+      subst (UnpackingStops (HasThen from) s (between i i ib ib) (between o o ob ob)) (sym is)
+      (refl, inr (none_unpacked s from i o ib ob (all_alike []) (subst (Appends o o) (sym (images_text [])) (Appends-nil o))))
+
+  abbrev image : Frame → List ℕ
+  image f = image_text s.accepted.configuration.depth s.accepted.configuration.width s.accepted.configuration.height f.planes
 
   module _ (to last : Place) (i0 i1 i2 o0 o1 o2 : Option (List ℕ)) (ib im ia ob om oa : ℕ) (frames : List Frame)
       (un : Unpacked s from (between i0 i1 ib im) (between o0 o1 ob om) frames to) where
-    pub images_more : (f : Frame) → PlaysFrame s.accepted to last (between i1 i2 im ia) f → oa ≡ om →
-        Appends o1 o2 (image_text s.accepted.configuration.depth s.accepted.configuration.width s.accepted.configuration.height f.planes) →
+    pub images_more : (f : Frame) → PlaysFrame s.accepted to last (between i1 i2 im ia) f → oa ≡ om → Appends o1 o2 (image f) →
         Unpacked s from (between i0 i2 ib ia) (between o0 o2 ob oa) (frames ++ (f ∷ [])) last
-    images_more f plays same writes = record {
-      are = all_more (IsFrame s.accepted) frames f un.are plays.is;
-      alike = all_alike (frames ++ (f ∷ []));
-      read = reads_more frame_payload from to last i0 i1 i2 frames f un.read plays.reads.next;
-      kept = plays.reads.kept ∙ un.kept;
-      written = same ∙ un.written;
-      writes =
-          subst (Appends o0 o2) (sym (whole_text frames f))
-          (Appends-trans o0 o1 o2 (text_by (is_ppm_stream s) s frames) (image_text s.accepted.configuration.depth s.accepted.configuration.width s.accepted.configuration.height f.planes) un.writes writes);
-    }
+    images_more f plays same writes = unpacks_more s from to last i0 i1 i2 o0 o1 o2 ib im ia ob om oa frames un image (whole_text frames) f plays (all_alike (frames ++ (f ∷ []))) same writes
 
-    pub images_over : ReadsEnd to (between i1 i2 im ia) → Silent (between o1 o2 om oa) → UnpackedAll s from (between i0 i2 ib ia) (between o0 o2 ob oa) frames
-    images_over over silent = record {
-      are = un.are;
-      alike = un.alike;
-      ends = ends_over from to i0 i1 i2 frames un.read over.over;
-      kept = over.kept ∙ un.kept;
-      written = silent.same ∙ un.written;
-      writes = Appends-kept o0 o1 o2 (text_by (is_ppm_stream s) s frames) un.writes silent.kept;
-    }
+    pub images_over : ReadsEnd to (between i1 i2 im ia) → Silent (between o1 o2 om oa) → UnpacksAll (HasThen from) s (between i0 i2 ib ia) (between o0 o2 ob oa) frames
+    images_over = unpacks_all s from to last i0 i1 i2 o0 o1 o2 ib im ia ob om oa frames un
 
-    some : Silent (between o1 o2 om oa) → UnpackedSome s from (between i0 i2 ib ia) (between o0 o2 ob oa) frames
-    some silent = record {
-      are = un.are;
-      alike = un.alike;
-      begins = reads_some from to i0 i1 frames un.read;
-      written = silent.same ∙ un.written;
-      writes = Appends-kept o0 o1 o2 (text_by (is_ppm_stream s) s frames) un.writes silent.kept;
-    }
+    then : (Next : Place → List ℕ → List ℕ → Type 0) → Silent (between o1 o2 om oa) → Known i1 i2 (Next to) → UnpacksThen (HasThen from) s (between i0 i2 ib ia) (between o0 o2 ob oa) frames Next
+    then = unpacks_on s from to last i0 i1 i2 o0 o1 o2 ib im ia ob om oa frames un
 
-    up_to : Silent (between o1 o2 om oa) → UnpackedTo s from (between i0 i2 ib ia) (between o0 o2 ob oa) frames to i1
-    up_to silent = record {
-      are = un.are;
-      alike = un.alike;
-      read = un.read;
-      written = silent.same ∙ un.written;
-      writes = Appends-kept o0 o1 o2 (text_by (is_ppm_stream s) s frames) un.writes silent.kept;
-    }
+    comes : (payload : List ℕ) → ReadsPayload to last payload (between i1 i2 im ia) → GoesTo (HasThen from) s (between i0 i2 ib ia) (between o0 o2 ob oa) frames payload
+    comes = goes_to s from to last i0 i1 i2 o0 o1 o2 ib im ia ob om oa frames un
 
-    row_fails : RowCut s.accepted to last (between i1 i2 im ia) (between o1 o2 om oa) → RowFails s from (between i0 i2 ib ia) (between o0 o2 ob oa)
+    row_fails : RowCut s.accepted to last (between i1 i2 im ia) (between o1 o2 om oa) → RowFails (HasThen from) s (between i0 i2 ib ia) (between o0 o2 ob oa)
     row_fails p =
         let text = text_by (is_ppm_stream s) s frames in
         let before = rows_so_far s.accepted.configuration p.lines in
         let all = rows_so_far s.accepted.configuration (p.lines ++ (p.next ∷ [])) in
-        let fault = in_slice codec_fault.Sink 0 in
         let count = length text + p.writes.count in
         let least_long : length (text ++ before) ≡ length text + length before = length-append text before in
         let all_long : length (text ++ all) ≡ length text + length all = length-append text all in
         let enough : length (text ++ before) ≤ count = omega (arith, least_long, p.writes.enough) in
         let short : count < length (text ++ all) = omega (arith, all_long, p.writes.short) in
-        let writes = subst (Appends o0 o2) (sym (take_past text all p.writes.count)) (Appends-trans o0 o1 o2 text (take p.writes.count all) un.writes p.writes.writes) in
+        let writes = subst (Appends o0 o2) (sym (take_past text all p.writes.count)) (Appends-trans o0 o1 o2 text (take p.writes.count all) un.so.writes p.writes.writes) in
         record {
           frames = frames;
-          are = un.are;
-          ppm = ppm;
           payload = p.payload;
-          fault = fault;
-          tally = no_tally;
           lines = p.lines;
           next = p.next;
-          ends = ends_payload from to last i0 i1 i2 frames p.payload fault no_tally un.read p.reads.next;
-          hands = p.hands s.head;
-          kept = p.reads.kept ∙ un.kept;
-          written = p.written ∙ ap one_more un.written;
+          ppm = ppm;
+          goes = comes p.payload p.reads;
+          hands = p.hands;
+          kept = p.reads.kept ∙ un.so.kept;
+          written = p.written ∙ ap one_more un.so.written;
           writes = record {
             count = count;
             enough = subst (λ t. length (text ++ t) ≤ count) (rows_text p.lines) enough;
@@ -144,36 +106,33 @@ module _ (s : Stream) (ppm : is_ppm_stream s ≡ true) (from : Place) where
           };
         }
 
-    payload_faults : (f : Fault) → ImageFaults s.accepted to last (between i1 i2 im ia) (between o1 o2 om oa) f → PayloadFaults s from (between i0 i2 ib ia) (between o0 o2 ob oa) f
-    payload_faults f p =
+    payload_faults : (f : Fault) → ImageFaults s.accepted to last (between i1 i2 im ia) (between o1 o2 om oa) f → PayloadStops (HasThen from) s (between i0 i2 ib ia) (between o0 o2 ob oa) f
+    payload_faults f h =
+        let p = h.payload in
         let text = text_by (is_ppm_stream s) s frames in
         let rows = rows_so_far s.accepted.configuration (lines_before p.faulty) in
         record {
           frames = frames;
-          are = un.are;
-          alike = un.alike;
           payload = p.payload;
           fault = p.fault;
           tally = p.tally;
-          ends = ends_payload from to last i0 i1 i2 frames p.payload p.fault p.tally un.read p.reads.next;
+          goes = comes p.payload p.reads;
+          alike = un.alike;
           faulty = p.faulty;
           is = p.is;
-          written = p.written ∙ un.written;
-          writes = subst (λ t. Appends o0 o2 (text ++ t)) (rows_text (lines_before p.faulty)) (Appends-trans o0 o1 o2 text rows un.writes p.writes);
+          written = h.written ∙ un.so.written;
+          writes = subst (λ t. Appends o0 o2 (text ++ t)) (rows_text (lines_before p.faulty)) (Appends-trans o0 o1 o2 text rows un.so.writes h.writes);
         }
 
-    file_faults : (f : Fault) → Silent (between o1 o2 om oa) → FaultsKnown (frame_read to) i1 i2 f → FileFaults s from (between i0 i2 ib ia) (between o0 o2 ob oa) f
-    file_faults f silent h = record { frames = frames; some = some silent; ends = ends_file from to i0 i1 i2 frames f un.read h }
-
     pub images_stop : (f : Fault) (why : Cause) → ImageStopsBy s.accepted to last (between i1 i2 im ia) (between o1 o2 om oa) f why →
-        UnpackingStopsBy s from (between i0 i2 ib ia) (between o0 o2 ob oa) f why
+        UnpackingStopsBy (HasThen from) s (between i0 i2 ib ia) (between o0 o2 ob oa) f why
     images_stop f Writing p = inr (row_fails p)
-    images_stop f Reading p = (frames, to, i1, up_to p.0, p.1 ∙ ap one_more un.kept, p.2)
-    images_stop f Memory p = (frames, to, i1, up_to p.0, p.1 ∙ un.kept, inl p.2)
+    images_stop f Reading p = (p.1 ∙ ap one_more un.so.kept, frames, then NextReadFails p.0 p.2)
+    images_stop f Memory p = (p.1 ∙ un.so.kept, inl (frames, then NextPayloadLacks p.0 p.2))
     images_stop f Content p = (
-      p.0 ∙ un.kept,
+      p.0 ∙ un.so.kept,
       elim p.1 [
-        | inl file ↦ inl (file_faults f file.0 file.1)
+        | inl file ↦ inl (frames, then (NextHasFault f) file.0 file.1)
         | inr faults ↦ inr (inl (payload_faults f faults))
       ],
     )

@@ -10,7 +10,7 @@ use Rattle.ffv1_wire.specs.Runs.{Grows, Line, LineStep}
 use Rattle.ffv1_wire.specs.Writes.{AppendsBeginning}
 use Rattle.ffv1_record.specs.Accepted.{Accepted}
 use Rattle.ffv1_record.specs.Configuration.{Configuration}
-use Rattle.ffv1_slice.specs.Cutting.{coded_of, cut_of}
+use Rattle.ffv1_slice.specs.Cutting.{CutsTo, coded_of}
 use Rattle.ffv1_slice.specs.Footer.{foot_length}
 use Rattle.ffv1_slice.specs.Grid.{division_of}
 use Rattle.ffv1_slice.specs.declared.cutting.CutFault.{CutFault}
@@ -19,7 +19,6 @@ use Rattle.ffv1_codec.specs.Decoding.{top_of}
 use Rattle.ffv1_codec.specs.Kept.{IsLine}
 use Rattle.ffv1_codec.specs.Lines.{lines_of}
 use Rattle.ffv1_codec.specs.Picture.{Planes, plane_width}
-use Rattle.ffv1_codec.specs.declared.fault.CodecFault.{CodecFault}
 use Rattle.ffv1_codec.specs.declared.fault.CodecFault.TheVariants as codec_fault
 use Rattle.ffv1_codec.specs.declared.fault.FrameFault.{FrameFault}
 use Rattle.ffv1_y4m.specs.Images.{AtImage, image_lines, image_text, text_of_lines}
@@ -27,16 +26,20 @@ use Rattle.ffv1_y4m.specs.Ppm.{bytes_for}
 use Rattle.ffv1_samples.specs.Samples.{sample_bytes}
 use Rattle.ffv1_engine.proofs.Depths.{bytes_are}
 use Rattle.ffv1_y4m.specs.Sink.{PpmSink, Takes, Refuses, kept_behind, line_text, row_with, text_with}
-use Rattle.ffv1_files.specs.Places.{Place}
-use Rattle.ffv1_engine.specs.Faults.{cause_of, of_codec}
-use Rattle.ffv1_engine.specs.Faults.Cause.{Content}
+use Rattle.ffv1_files.specs.Places.{Place, may_end}
+use Rattle.ffv1_files.specs.Files.{frame_read}
+use Rattle.ffv1_engine.specs.declared.fault.Fault.{Fault}
+use Rattle.ffv1_engine.specs.Faults.{Cause, cause_of, of_codec}
+use Rattle.ffv1_engine.specs.Faults.Cause.{Reading, Writing, Memory, Content}
 use Rattle.ffv1_engine.specs.Internal.ImagesOut.{ImageFaults, ImageStopsBy, IsSinkFor, RowCut, rows_so_far}
 use Rattle.ffv1_codec.specs.Outcome.{FaultsOf}
-use Rattle.ffv1_engine.specs.Unpacked.{lines_before}
+use Rattle.ffv1_codec.specs.Outcome.{lines_before}
 use Rattle.ffv1_engine.specs.Internal.Play.{ReadsPayload}
+use Rattle.ffv1_engine.specs.Internal.Told.{FileStopsBy}
+use Rattle.ffv1_engine.specs.Trial.{Silent}
 use Rattle.ffv1_engine.proofs.ImageLines.{IsImage}
 use Rattle.ffv1_engine.proofs.FrameDecoded.{same_fault}
-use Rattle.ffv1_engine.proofs.FramesInTurn.{take_past}
+use Rattle.ffv1_engine.proofs.FramesInTurn.{silent, take_past}
 
 -- a count that is one more is another
 not_more : (n : ℕ) → one_more n ≡ n → ⊥
@@ -55,10 +58,10 @@ module _ {S : Type 0} (takes refuses : LineStep S) (a : Accepted) (payload : Lis
   -- or the sink refused the line that came next
   pub record Refused : Type 0 where
     pub offsets : List ℕ
-    pub cut : cut_of a.configuration payload ≡ Ok offsets
+    pub cut : CutsTo a.configuration payload (Ok offsets)
     pub sink : SinkRefuses takes refuses a (coded_of payload (foot_length a.configuration.ec) (slice_index offsets)) old new tally f
 
-  either_by : (cut : Result (List ℕ) CutFault) → cut_of a.configuration payload ≡ cut → AnswersCut takes refuses a payload old new tally (Err f) cut → Faulty ⊎ Refused
+  either_by : (cut : Result (List ℕ) CutFault) → CutsTo a.configuration payload cut → AnswersCut takes refuses a payload old new tally (Err f) cut → Faulty ⊎ Refused
   either_by (Err g) is answer = inl (record { faulty = inl (g, is, same_fault f (cut_fault g) (Err f) refl answer.0, answer.1); grows = answer.2 })
   either_by (Ok os) is answer = elim answer [
     | inl faults ↦ inl (record { faulty = inr (record { offsets = os; cut = is; state = faults.state; refused = faults.refused; decided = faults.decided }); grows = faults.grows })
@@ -66,7 +69,7 @@ module _ {S : Type 0} (takes refuses : LineStep S) (a : Accepted) (payload : Lis
   ]
 
   pub either : Answers takes refuses a payload old new tally (Err f) → Faulty ⊎ Refused
-  either answer = either_by (cut_of a.configuration payload) refl answer
+  either answer = either_by answer.cut answer.cuts answer.answer
 
   pub sinks_own : Refused → f.fault ≡ codec_fault.Sink
   sinks_own r = ap (λ (z : FrameFault). z.fault) r.sink.is
@@ -110,15 +113,10 @@ module _ {W : Type 0} (contents : W → Option (List ℕ)) (failed : W → ℕ) 
       line.long ∙ ap (λ n. sample_bytes c.depth * n) wide ∙ bytes_are c.depth c.width ∙ sym (ap₂ (λ d w. bytes_for d w) is.depth is.width)
 
   module _ (a : Accepted) (from to : Place) (input : Passage) (payload : List ℕ) (reads : ReadsPayload from to payload input) (s u : PpmSink W) (tally : Tally) (f : FrameFault) (is : IsSinkFor a.configuration s) where
-    pub image_faults : (h : Faulty taking (Refuses contents failed) a payload s u tally f) → Appends (contents s.out) (contents u.out) (sink_text s (lines_before h.faulty)) → failed u.out ≡ failed s.out →
+    pub image_faults : (h : Faulty taking (Refuses contents failed) a payload s u tally f) → cause_of (of_codec f.fault) ≡ Content → Appends (contents s.out) (contents u.out) (sink_text s (lines_before h.faulty)) → failed u.out ≡ failed s.out →
         ImageFaults a from to input (between (contents s.out) (contents u.out) (failed s.out) (failed u.out)) (of_codec f.fault)
-    image_faults h writes same = record {
-      payload = payload;
-      fault = f;
-      tally = tally;
-      reads = reads;
-      faulty = h.faulty;
-      is = refl;
+    image_faults h content writes same = record {
+      payload = record { payload = payload; fault = f; tally = tally; reads = reads; faulty = h.faulty; is = refl; content = content };
       written = same;
       writes = subst (Appends (contents s.out) (contents u.out)) (rows_are a.configuration s (lines_before h.faulty) is) writes;
     }
@@ -147,7 +145,7 @@ module _ {W : Type 0} (contents : W → Option (List ℕ)) (failed : W → ℕ) 
             lines = lines;
             next = next_line;
             reads = reads;
-            hands = λ head. record {
+            hands = record {
               offsets = r.offsets;
               cut = r.cut;
               state = r.sink.state;
@@ -185,8 +183,18 @@ module _ {W : Type 0} (contents : W → Option (List ℕ)) (failed : W → ℕ) 
       let sizes = sizes_stay s t (lines_of c planes) grows in
       (subst (Appends (contents s.out) (contents t.out)) text whole.0, record { at = whole.1; width = sizes.0 ∙ is.width; height = sizes.1 ∙ is.height; depth = sizes.2 ∙ is.depth })
 
+-- a sink that took nothing
+pub sink_stays : {W : Type 0} (contents : W → Option (List ℕ)) (failed : W → ℕ) (s t : PpmSink W) → t ≡ s → Silent (between (contents s.out) (contents t.out) (failed s.out) (failed t.out))
+sink_stays {W = W} contents failed s t same =
+    subst (λ (z : PpmSink W). Silent (between (contents s.out) (contents z.out) (failed s.out) (failed z.out))) (sym same) (silent (contents s.out) (failed s.out))
+
+-- there is no frame
+pub file_stops : (a : Accepted) (from to : Place) (input output : Passage) (f : Fault) (why : Cause) → Silent output → FileStopsBy (may_end from) (frame_read from) input f why → ImageStopsBy a from to input output f why
+file_stops a from to input output f Reading none h = (none, h.0, h.1)
+file_stops a from to input output f Writing none h = absurd h
+file_stops a from to input output f Memory none h = (none, h.0, h.1)
+file_stops a from to input output f Content none h = (h.0, inl (none, h.1))
+
 -- a payload's fault
-pub payload_stops : (a : Accepted) (from to : Place) (input output : Passage) (f : CodecFault) → ImageFaults a from to input output (of_codec f) → cause_of (of_codec f) ≡ Content →
-    ImageStopsBy a from to input output (of_codec f) (cause_of (of_codec f))
-payload_stops a from to input output f faults content =
-    subst (ImageStopsBy a from to input output (of_codec f)) (sym content) (faults.reads.kept, inr faults)
+pub payload_stops : (a : Accepted) (from to : Place) (input output : Passage) (f : Fault) → ImageFaults a from to input output f → ImageStopsBy a from to input output f (cause_of f)
+payload_stops a from to input output f h = subst (ImageStopsBy a from to input output f) (sym h.payload.content) (h.payload.reads.kept, inr h)

@@ -28,6 +28,7 @@ mod FrameDecoded
 mod FileRead
 mod FramesPlayed
 mod FramesTold
+mod FramesUnpacked
 mod FilePlayed
 mod FileChecked
 mod FramesJudged

@@ -1,5 +1,5 @@
 -- The frames of a video that was packed: each codes its picture, and no others have their payloads.
-use Rattle.std.proofs.Common.{◌≡◌, refl, ℕ, suc, ◌+◌, ◌*◌, ◌<◌, ◌≤◌, Bool, true, false, Result, Ok, Err, inl, inr, List, [], ◌∷◌, ◌++◌, length, map, slice_index, Some, ap, sym, subst, ◌∙◌, arith, mul-pos}
+use Rattle.std.proofs.Common.{◌≡◌, refl, ℕ, ◌+◌, ◌*◌, ◌<◌, ◌≤◌, Bool, true, false, Result, Ok, inl, inr, List, [], ◌∷◌, ◌++◌, length, map, slice_index, Some, ap, sym, subst, ◌∙◌, arith, mul-pos}
 use Rattle.std.specs.List.{range_with_len, sum_by}
 use Rattle.std.proofs.lemmas.List.Sums.{sum_by-cons}
 use Rattle.ffv1_range.specs.Codes.{AreBytes, digits, sentinel_of}
@@ -12,7 +12,8 @@ use Rattle.ffv1_range.proofs.EndingCodes.{bytes-digits}
 use Rattle.ffv1_record.specs.Accepted.{Accepted, IsAccepted}
 use Rattle.ffv1_record.specs.Configuration.{Configuration}
 use Rattle.ffv1_record.specs.Parity.{parity_of}
-use Rattle.ffv1_slice.specs.Cutting.{Cuts, coded_of, cut_of, joined_of}
+use Rattle.ffv1_slice.specs.Cutting.{Cuts, CutsTo, IsRefused, coded_of, joined_of}
+use Rattle.ffv1_slice.specs.declared.cutting.CutFault.{CutFault}
 use Rattle.ffv1_slice.specs.Footer.{foot_length, footer_of, unsealed}
 use Rattle.ffv1_codec.specs.Answer.{slices_in, tally_of}
 use Rattle.ffv1_codec.specs.Decoding.{Decodes, Refuses, Slice, State}
@@ -44,7 +45,9 @@ pub record FrameLaws : Type 0 where
       (t : State) × Decodes a (coded_of payload (foot_length a.configuration.ec) spans) t × (t.info ≡ Some info) × (t.lines ≡ lines_of a.configuration planes)
   pub apart : (a : Accepted) (coded : ℕ → List ℕ) (s t : State) (f : FrameFault) → IsAccepted a.configuration a.table → ((n : ℕ) → AreBytes (coded n)) → Decodes a coded s → Refuses a coded f t → ⊥
   pub cut : (c : Configuration) (payload : List ℕ) (spans : ℕ → ℕ) → Cuts c payload spans →
-      (os : List ℕ) × (cut_of c payload ≡ Ok os) × (length os ≡ suc (c.columns * c.rows)) × ((s : ℕ) → s ≤ c.columns * c.rows → slice_index os s ≡ spans s)
+      (os : List ℕ) × CutsTo c payload (Ok os) × ((s : ℕ) → s ≤ c.columns * c.rows → slice_index os s ≡ spans s)
+  pub one_cut : (c : Configuration) (payload : List ℕ) (r s : Result (List ℕ) CutFault) → CutsTo c payload r → CutsTo c payload s → r ≡ s
+  pub uncut : (c : Configuration) (payload : List ℕ) (spans : ℕ → ℕ) (f : CutFault) → IsRefused c payload f → Cuts c payload spans → ⊥
   pub long : (a : Accepted) (planes : Planes) (info : Said) →
       length (frame_of a planes info) ≡ (frame_counts a planes info).renormalisations + a.configuration.columns * a.configuration.rows * (1 + foot_length a.configuration.ec)
   pub columns : (a : Accepted) → IsAccepted a.configuration a.table → 1 ≤ a.configuration.columns
@@ -52,11 +55,8 @@ pub record FrameLaws : Type 0 where
   pub sentinel : (i : Interval) → AreBytes (sentinel_of i)
   pub counts : (steps : List Step) → ones_in steps + zeros_in steps ≡ length steps
 
-same_ok : {X E : Type 0} (r : Result X E) (x y : X) → r ≡ Ok x → r ≡ Ok y → x ≡ y
-same_ok r x y e f = cc
-
-not_cut : {X E : Type 0} (r : Result X E) (x : X) (e : E) → r ≡ Ok x → r ≡ Err e → ⊥
-not_cut r x e p q = cc
+same_ok : {X E : Type 0} (x y : X) → ◌≡◌ {A = Result X E} (Ok x) (Ok y) → x ≡ y
+same_ok x y e = cc
 
 -- payloads are bytes
 footer_bytes : (ec : Bool) (bytes : List ℕ) → AreBytes (footer_of ec bytes)
@@ -146,7 +146,7 @@ module _ (laws : FrameLaws) (a : Accepted) (accepted : IsAccepted a.configuratio
     decided planes coded =
         let payload = frame_of a planes said in
         let cut = laws.cut a.configuration payload coded.codes.spans coded.codes.cuts in
-        let run = laws.decoded a payload planes said coded.codes (slice_index cut.0) accepted coded.bytes cut.3 in (
+        let run = laws.decoded a payload planes said coded.codes (slice_index cut.0) accepted coded.bytes cut.2 in (
           tally_of a.table run.0,
           record {
             offsets = cut.0;
@@ -160,17 +160,15 @@ module _ (laws : FrameLaws) (a : Accepted) (accepted : IsAccepted a.configuratio
           },
         )
 
-    other_cut : (payload os : List ℕ) (spans : ℕ → ℕ) → cut_of a.configuration payload ≡ Ok os → Cuts a.configuration payload spans →
+    other_cut : (payload os : List ℕ) (spans : ℕ → ℕ) → CutsTo a.configuration payload (Ok os) → Cuts a.configuration payload spans →
         (s : ℕ) → s ≤ a.configuration.columns * a.configuration.rows → slice_index os s ≡ spans s
     other_cut payload os spans is cuts =
         let cut = laws.cut a.configuration payload spans cuts in
-        let same : cut.0 ≡ os = same_ok (cut_of a.configuration payload) cut.0 os cut.1 is in
-        λ s inside. ap (λ xs. slice_index xs s) (sym same) ∙ cut.3 s inside
+        let same : cut.0 ≡ os = same_ok cut.0 os (laws.one_cut a.configuration payload (Ok cut.0) (Ok os) cut.1 is) in
+        λ s inside. ap (λ xs. slice_index xs s) (sym same) ∙ cut.2 s inside
 
     pub no_fault : (planes : Planes) (fault : FrameFault) (tally : Tally) → Coded a said planes → FaultsOf a (frame_of a planes said) fault tally → ⊥
-    no_fault planes fault tally coded (inl h) =
-        let cut = laws.cut a.configuration (frame_of a planes said) coded.codes.spans coded.codes.cuts in
-        not_cut (cut_of a.configuration (frame_of a planes said)) cut.0 h.0 cut.1 h.1
+    no_fault planes fault tally coded (inl h) = laws.uncut a.configuration (frame_of a planes said) coded.codes.spans h.0 h.1 coded.codes.cuts
     no_fault planes fault tally coded (inr h) =
         let payload = frame_of a planes said in
         let spans = other_cut payload h.offsets coded.codes.spans h.cut coded.codes.cuts in

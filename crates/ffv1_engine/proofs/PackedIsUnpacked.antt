@@ -15,6 +15,7 @@ use Rattle.ffv1_files.specs.Places.{Place, container_of}
 use Rattle.ffv1_avi.specs.Chunks.{AviFile, IsWritable}
 use Rattle.ffv1_files.specs.Files.{file_read, frame_read, frames_read, more_frames, open_read}
 use Rattle.ffv1_reads.specs.Head.{Head}
+use Rattle.ffv1_reads.specs.Known.{Known}
 use Rattle.ffv1_reads.specs.Reads as avi
 use Rattle.ffv1_avi.specs.Written.{file_of}
 use Rattle.ffv1_y4m.specs.Canonical.{canonical_text}
@@ -41,18 +42,18 @@ use Rattle.ffv1_engine.specs.Packing.{AllShort, AreReadable, IsFor, configuratio
 use Rattle.ffv1_engine.specs.FrameLines.{frame_lines}
 use Rattle.ffv1_engine.specs.Located.{LocatedFault, byte_told}
 use Rattle.ffv1_engine.specs.Opens.{LacksOpeningBy}
-use Rattle.ffv1_engine.specs.Play.{End, EndsKnown, EndsWith, FaultsRead, IsFaulty, IsOfFile, LacksStream, Played}
-use Rattle.ffv1_engine.specs.Plays.{FileThen, GoesBy, PlayStopsBy}
+use Rattle.ffv1_engine.specs.Play.{End, EndsWith, FaultsRead, IsFaulty, LacksStream, Played}
+use Rattle.ffv1_engine.specs.Plays.{FileThen, GoesBy, NextEnds, NextStays, PlayStopsBy}
 use Rattle.ffv1_engine.specs.Play.End.{File, Payload, Over}
 use Rattle.ffv1_engine.specs.RoundTrip.{HoldsBy, IsFileIn, IsNoContent, IsReadIn, IsUnpacked, WasPacked, canonical_by, canonical_of, video_in}
+use Rattle.ffv1_engine.specs.Stream.{AreFrames, Frame, IsFrame, IsRead, IsStream, ReadsFile, ReadsFrames, Stream, frame_payload, payloads}
 use Rattle.ffv1_codec.specs.Outcome.{FaultsOf}
-use Rattle.ffv1_engine.specs.Stream.{AreFrames, Begins, BeginsKnown, Frame, IsFrame, IsRead, IsStream, ReadsFile, ReadsFrames, Stream, frame_payload, payloads}
-use Rattle.ffv1_engine.specs.Unpack.{LacksTextIn, UnpackDone, UnpackStops, UnpackStopsBy}
+use Rattle.ffv1_engine.specs.Unpack.{LacksTextIn, UnpackDone, UnpackStops}
+use Rattle.ffv1_engine.specs.Unpacking.{UnpackingStopsBy}
 use Rattle.ffv1_engine.specs.Unpacked.{AllSay, AreAlike, HasTextBy, LacksText, LacksTextBy, is_ppm_stream, pictures, text_of}
 use Rattle.ffv1_engine.specs.Video.{IsReadVideo, IsReadVideoBy, IsVideo, IsVideoBy, ReadsVideo, Video}
 use Rattle.ffv1_engine.specs.VideoReads.{IsHeadBy}
 use Rattle.ffv1_engine.proofs.Depths.{all_within, eight_within}
-use Rattle.ffv1_engine.proofs.FilePlayed.{then_ends}
 use Rattle.ffv1_engine.proofs.FileTurns.{Opened, Others, no_fault as no_read_fault, no_more, no_stop, one_more, opened, others}
 use Rattle.ffv1_engine.proofs.PackedFrames.{AllCoded, FrameLaws, Same, all_coded, made, no_fault, same}
 use Rattle.ffv1_engine.proofs.PackedPictures.{head_given, name_given, pictures_given, said_given}
@@ -119,14 +120,21 @@ module _ (profile : Profile) (files : FileLaws profile) where
   whole_of file (Some rest) s frames h = whole_by profile file rest s frames h
 
 -- where the file is known, it begins so
-record Known (profile : Profile) (file : List ℕ) (s : Stream) (frames : List Frame) : Type 0 where
+record Begun (profile : Profile) (file : List ℕ) (s : Stream) (frames : List Frame) : Type 0 where
+  from : Place
+  behind : List ℕ
+  opened : open_read (scope_in profile) file ≡ Ok ((s.head, from), behind)
   to : Place
   at : List ℕ
-  begins : Begins profile file s frames to at
+  read : ReadsFrames from behind (payloads frames) to at
 
-begins_in : (profile : Profile) (file : List ℕ) (new : Option (List ℕ)) (s : Stream) (frames : List Frame) → BeginsKnown profile (Some file) new s frames → Known profile file s frames
-begins_in profile file None s frames h = absurd h
-begins_in profile file (Some rest) s frames h = record { to = h.0; at = rest; begins = h.1 }
+abbrev begun : (profile : Profile) (file rest : List ℕ) (s : Stream) (frames : List Frame) (Next : Place → List ℕ → List ℕ → Type 0) → FileThen profile s.head (payloads frames) Next file rest → Begun profile file s frames
+begun profile file rest s frames Next h = record { from = h.0; behind = h.1; opened = h.2; to = h.3.0; at = h.3.1; read = h.3.2 }
+
+begins_in : (profile : Profile) (file : List ℕ) (new : Option (List ℕ)) (s : Stream) (frames : List Frame) (Next : Place → List ℕ → List ℕ → Type 0) →
+    Known (Some file) new (FileThen profile s.head (payloads frames) Next) → Begun profile file s frames
+begins_in profile file None s frames Next h = absurd h
+begins_in profile file (Some rest) s frames Next h = begun profile file rest s frames Next h
 
 -- a text that is packed
 pub record Given (choice : Choice) (text : List ℕ) (v : Video) (a : Accepted) : Type 0 where
@@ -232,15 +240,15 @@ module _ (profile : Profile) (files : FileLaws profile) (frame_laws : FrameLaws)
         no_fault frame_laws a g.for.accepted (said_for v.head) p f tally coded.0 (subst (λ bytes. FaultsOf a bytes f tally) (sym here) faulty)
 
     -- where the file begins with frames, the others are read after them
-    module _ (s : Stream) (frames : List Frame) (b : Known profile file s frames) where
+    module _ (s : Stream) (frames : List Frame) (b : Begun profile file s frames) where
       first : (s.head ≡ packed_head choice v a) × Others b.to b.at (payloads frames) (packed_frames v a) []
       first =
-          let e : ((s.head, b.begins.from), b.begins.behind) ≡ ((packed_head choice v a, whole.from), whole.behind) = same_ok (open_read (scope_in profile) file) _ _ b.begins.opened whole.opened in
-          let from : b.begins.from ≡ whole.from = ap (λ (z : (Head × Place) × List ℕ). z.0.1) e in
-          let behind : b.begins.behind ≡ whole.behind = ap (λ (z : (Head × Place) × List ℕ). z.1) e in (
+          let e : ((s.head, b.from), b.behind) ≡ ((packed_head choice v a, whole.from), whole.behind) = same_ok (open_read (scope_in profile) file) _ _ b.opened whole.opened in
+          let from : b.from ≡ whole.from = ap (λ (z : (Head × Place) × List ℕ). z.0.1) e in
+          let behind : b.behind ≡ whole.behind = ap (λ (z : (Head × Place) × List ℕ). z.1) e in (
             ap (λ (z : (Head × Place) × List ℕ). z.0.0) e,
             others files.next whole.from whole.behind (payloads frames) b.to b.at (packed_frames v a) []
-                (subst (λ m. ReadsFrames m whole.behind (payloads frames) b.to b.at) from (subst (λ t. ReadsFrames b.begins.from t (payloads frames) b.to b.at) behind b.begins.read))
+                (subst (λ m. ReadsFrames m whole.behind (payloads frames) b.to b.at) from (subst (λ t. ReadsFrames b.from t (payloads frames) b.to b.at) behind b.read))
                 whole.read,
           )
 
@@ -275,31 +283,27 @@ module _ (profile : Profile) (files : FileLaws profile) (frame_laws : FrameLaws)
         none_refused profile records choice v.ppm v.head a for g.for.accepted profiled head read h.head h.refusal (ap (λ (z : (Head × Place) × List ℕ). z.0.0) e) h.refused
 
     -- which has a text
-    lacks_text : (f : Fault) → LacksTextIn profile (Some file) f → ⊥
+    lacks_text : (p : Passage) (f : Fault) → p.old ≡ Some file → LacksTextIn profile p f → ⊥
     unfolding stream
-    lacks_text f h =
-        let e = the_stream h.stream h.is (first h.stream [] (record { to = h.begins.0; at = h.begins.1; begins = h.begins.2 })).0 in
+    lacks_text p f known h =
+        let b = begins_in profile file p.new h.stream [] NextStays (subst (λ o. Known o p.new (FileThen profile h.stream.head [] NextStays)) known h.has) in
+        let e = the_stream h.stream h.is (first h.stream [] b).0 in
         text_or_none (is_ppm_stream stream) a.configuration f (text_given choice v.ppm v.head a for head named) (subst (λ s. LacksText s f) e h.lacks)
 
-    -- after its frames it ends without a fault, and not before the first
-    file_ends : (new : Option (List ℕ)) (s : Stream) (frames : List Frame) (e : End) (f : Fault) → EndsKnown profile (Some file) new s frames e → IsOfFile e → EndsWith frames e f → ⊥
-    file_ends None s frames e f h is with_ = h
-    file_ends (Some rest) s frames (File fault) f (to, at, begins, h) is with_ = never_stops s frames (record { to = to; at = at; begins = begins }) rest fault h
-    file_ends (Some rest) s frames (Payload payload fault tally) f h is with_ = is
-    file_ends (Some rest) s frames Over f (to, at, begins, h) is with_ = never_empty s frames (record { to = to; at = at; begins = begins }) rest h with_.0
-
-    -- no payload of it has a fault
-    payload_ends : (new : Option (List ℕ)) (s : Stream) (frames : List Frame) (payload : List ℕ) (f : FrameFault) (tally : Tally) → Played profile s frames →
-        EndsKnown profile (Some file) new s frames (Payload payload f tally) → FaultsOf s.accepted payload f tally → ⊥
-    payload_ends None s frames payload f tally played h faulty = h
-    payload_ends (Some rest) s frames payload f tally played (to, at, begins, (last, h)) faulty =
-        never_faulty s frames (record { to = to; at = at; begins = begins }) played payload rest last f tally h faulty
+    -- after its frames it ends without a fault, and not before the first; and no payload has one
+    ends_never : (new : Option (List ℕ)) (s : Stream) (frames : List Frame) (e : End) (f : Fault) → Played profile s frames → Known (Some file) new (FileThen profile s.head (payloads frames) (NextEnds e)) →
+        IsFaulty s.accepted e → EndsWith frames e f → ⊥
+    ends_never None s frames e f played h faulty is = h
+    ends_never (Some rest) s frames (File fault) f played h faulty is = never_stops s frames (begun profile file rest s frames (NextEnds (File fault)) h) rest fault h.3.3
+    ends_never (Some rest) s frames (Payload payload fault tally) f played h faulty is =
+        never_faulty s frames (begun profile file rest s frames (NextEnds (Payload payload fault tally)) h) played payload rest h.3.3.0 fault tally h.3.3.1 faulty
+    ends_never (Some rest) s frames Over f played h faulty is = never_empty s frames (begun profile file rest s frames (NextEnds Over) h) rest h.3.3 is.0
 
     -- and its frames say the same
-    alike : (new : Option (List ℕ)) (s : Stream) (frames : List Frame) → Played profile s frames → BeginsKnown profile (Some file) new s frames → AreAlike s frames
+    alike : (new : Option (List ℕ)) (s : Stream) (frames : List Frame) → Played profile s frames → Known (Some file) new (FileThen profile s.head (payloads frames) NextStays) → AreAlike s frames
     unfolding stream
     alike new s frames played h =
-        let b = begins_in profile file new s frames h in
+        let b = begins_in profile file new s frames NextStays h in
         let e = the_stream s played.stream (first s frames b).0 in
         subst (λ t. AreAlike t frames) (sym e) (alike_given choice v.ppm v.head a for frames (same_frames s frames b played).say)
 
@@ -307,49 +311,44 @@ module _ (profile : Profile) (files : FileLaws profile) (frame_laws : FrameLaws)
       stream_lacks : (f : Fault) → LacksStream profile input.old input.new f → ⊥
       stream_lacks f h = lacks_stream input.new f (subst (λ o. LacksStream profile o input.new f) known h)
 
-      file_ended : (s : Stream) (frames : List Frame) (e : End) (f : Fault) → EndsKnown profile input.old input.new s frames e → IsOfFile e → EndsWith frames e f → ⊥
-      file_ended s frames e f h = file_ends input.new s frames e f (subst (λ o. EndsKnown profile o input.new s frames e) known h)
-
-      payload_ended : (s : Stream) (frames : List Frame) (payload : List ℕ) (f : FrameFault) (tally : Tally) → Played profile s frames → EndsKnown profile input.old input.new s frames (Payload payload f tally) →
-          FaultsOf s.accepted payload f tally → ⊥
-      payload_ended s frames payload f tally played h = payload_ends input.new s frames payload f tally played (subst (λ o. EndsKnown profile o input.new s frames (Payload payload f tally)) known h)
-
-      -- unpack
-      no_unpack_fault : (f : Fault) → UnpackStopsBy profile input output f Content → ⊥
-      no_unpack_fault f (kept, inl (none, h)) = stream_lacks f h
-      no_unpack_fault f (kept, inr (inl (none, h))) = lacks_text f (subst (λ o. LacksTextIn profile o f) known h)
-      no_unpack_fault f (kept, inr (inr (inl h))) = file_ended h.stream h.frames h.end f h.ends h.file h.is
-      no_unpack_fault f (kept, inr (inr (inr (inl h)))) = payload_ended h.stream h.frames h.payload h.fault h.tally h.played h.ends h.faulty
-      no_unpack_fault f (kept, inr (inr (inr (inr h)))) =
-          let all = h.frames ++ (h.last ∷ []) in
-          h.changed (alike input.new h.stream all h.played (subst (λ o. BeginsKnown profile o input.new h.stream all) known h.begins))
-
-      pub unpack_refused : (f : Fault) → UnpackStops profile input output f → IsNoContent f
-      unpack_refused f h = no_content f (λ e. no_unpack_fault f (subst (λ why. UnpackStopsBy profile input output f why) e h))
+      no_end : (s : Stream) (frames : List Frame) (e : End) (f : Fault) → Played profile s frames → Known input.old input.new (FileThen profile s.head (payloads frames) (NextEnds e)) → IsFaulty s.accepted e →
+          EndsWith frames e f → ⊥
+      no_end s frames e f played h faulty is = ends_never input.new s frames e f played (subst (λ o. Known o input.new (FileThen profile s.head (payloads frames) (NextEnds e))) known h) faulty is
 
       no_opening_fault : (f : Fault) → LacksOpeningBy profile input f Content → ⊥
       no_opening_fault f h = stream_lacks f h.1
 
-      no_end : (s : Stream) (frames : List Frame) (e : End) (f : Fault) → Played profile s frames → EndsKnown profile input.old input.new s frames e → IsFaulty s.accepted e → EndsWith frames e f → ⊥
-      no_end s frames (File g) f played ends faulty is = file_ended s frames (File g) f ends tt is
-      no_end s frames Over f played ends faulty is = file_ended s frames Over f ends tt is
-      no_end s frames (Payload payload g tally) f played ends faulty is = payload_ended s frames payload g tally played ends faulty
+      -- unpack
+      no_goes : (s : Stream) (f : Fault) → IsStream profile s → UnpackingStopsBy (FileThen profile s.head) s input output f Content → ⊥
+      no_goes s f is (kept, inl (frames, h)) = no_end s frames (File f) f (record { stream = is; decoded = h.plays.goes.are }) h.plays.goes.has tt refl
+      no_goes s f is (kept, inr (inl h)) = no_end s h.frames (Payload h.payload h.fault h.tally) f (record { stream = is; decoded = h.goes.are }) h.goes.has h.faulty h.is
+      no_goes s f is (kept, inr (inr h)) =
+          let all = h.frames ++ (h.last ∷ []) in
+          h.changed (alike input.new s all (record { stream = is; decoded = h.goes.are }) (subst (λ o. Known o input.new (FileThen profile s.head (payloads all) NextStays)) known h.goes.has))
+
+      pub unpack_refused : (f : Fault) → UnpackStops profile input output f → IsNoContent f
+      unpack_refused f (inl (none, inl h)) = no_content f (λ e. no_opening_fault f (subst (λ why. LacksOpeningBy profile input f why) e h))
+      unpack_refused f (inl (none, inr h)) = absurd (lacks_text input f known h)
+      unpack_refused f (inr (inl h)) = no_content f (λ e. no_goes h.stream f h.is (subst (λ why. UnpackingStopsBy (FileThen profile h.stream.head) h.stream input output f why) e h.stops))
+      unpack_refused f (inr (inr h)) =
+          let plays = h.1.all.unpacks.plays in
+          absurd (no_end h.1.stream [] Over f (record { stream = h.1.is; decoded = plays.goes.are }) plays.goes.has tt (refl, h.0))
 
       -- check
       no_check_fault : (s : Stream) (lines : List Frame → List ℕ) (Stops : Fault → ℕ → Type 0) (byte : Bool) (f : Fault) → IsStream profile s →
           GoesBy (IsFrame s.accepted) frame_payload (FileThen profile s.head) lines input output Stops byte f Content → ⊥
-      no_check_fault s lines Stops byte f is h = no_end s h.0 (File f) f (record { stream = is; decoded = h.3.are }) (then_ends profile s h.0 (File f) input.old input.new h.3.has) tt refl
+      no_check_fault s lines Stops byte f is h = no_end s h.0 (File f) f (record { stream = is; decoded = h.3.are }) h.3.has tt refl
 
       no_last_fault : (place : Bool) (f : Fault) → LastStopsBy IsFrame frame_payload (frame_lines line.Sizes) frame_count profile place input output f Content → ⊥
       no_last_fault place f h =
           let over = h.1.over in
-          no_end h.1.stream [] Over f (record { stream = over.is; decoded = over.goes.are }) (then_ends profile h.1.stream [] Over input.old input.new over.goes.has) tt (refl, h.0)
+          no_end h.1.stream [] Over f (record { stream = over.is; decoded = over.goes.are }) over.goes.has tt (refl, h.0)
 
       pub check_refused : (place : Bool) (f : Fault) → CheckStops profile place input output f → IsNoContent f
       check_refused place f (inl h) =
           let p = h.stops in
           absurd (no_end h.stream p.frames (Payload p.payload p.fault p.tally) f (record { stream = h.is; decoded = p.goes.are })
-          (then_ends profile h.stream p.frames (Payload p.payload p.fault p.tally) input.old input.new p.goes.has) p.faulty p.is)
+          p.goes.has p.faulty p.is)
       check_refused place f (inr (inl h)) = no_content f (λ e. no_opening_fault f (subst (λ why. LacksOpeningBy profile input f why) e h.1))
       check_refused place f (inr (inr (inl h))) =
           let lines = frame_lines line.Sizes h.stream.accepted.configuration in
@@ -368,7 +367,7 @@ module _ (profile : Profile) (files : FileLaws profile) (frame_laws : FrameLaws)
 
       no_play_fault : (s : Stream) (lines : List Frame → List ℕ) (f : Fault) → IsStream profile s → PlayStopsBy (FileThen profile s.head) s.accepted lines input output f Content → ⊥
       no_play_fault s lines f is h =
-          no_end s h.1.frames h.1.end f (record { stream = is; decoded = h.1.plays.goes.are }) (then_ends profile s h.1.frames h.1.end input.old input.new h.1.plays.goes.has) h.1.faulty h.1.is
+          no_end s h.1.frames h.1.end f (record { stream = is; decoded = h.1.plays.goes.are }) h.1.plays.goes.has h.1.faulty h.1.is
 
       pub show_refused : (cost : Bool) (f : Fault) → ShowStops profile input output cost f → IsNoContent f
       show_refused false f h = stream_refused f h

@@ -1,16 +1,15 @@
 -- Pictures are written one after the other.
 use Rattle.ffv1_samples.specs.Samples.{sample_bytes}
-use Rattle.std.proofs.Common.{rules, ◌≡◌, ◌≢◌, refl, ℕ, ◌+◌, ◌*◌, ◌<◌, ◌≤◌, true, false, Option, Some, None, Err, List, get_or, replicate, [], ◌∷◌, ◌++◌, length, take, inl, inr, ap, sym, subst, ◌∙◌, arith, append-nil, append_assoc, length-append}
+use Rattle.std.proofs.Common.{rules, ◌≡◌, ◌≢◌, refl, ℕ, ◌+◌, ◌*◌, ◌<◌, true, false, Option, Some, None, Err, List, get_or, replicate, [], ◌∷◌, ◌++◌, length, inl, inr, ap, sym, subst, ◌∙◌, arith, append-nil, append_assoc}
 use Rattle.std.specs.List.{flat_map}
 use Rattle.std.proofs.lemmas.List.{length-replicate}
 use Rattle.std.proofs.lemmas.List.FromFn.{get_or-map-range_with_len, length-map-range_with_len}
 use Rattle.std.proofs.lemmas.Option.{slice_get-get_or}
 use Rattle.std.specs.Io.KnownBytes.{Appends}
-use Rattle.std.proofs.KnownBytes.{Appends-nil, Appends-trans, Appends-kept, Keeps-refl}
+use Rattle.std.proofs.KnownBytes.{Appends-nil, Appends-kept}
 use Rattle.ffv1_range.specs.Counts.{saturated}
 use Rattle.ffv1_wire.specs.Failures.{one_more}
 use Rattle.ffv1_wire.specs.Passage.{Passage, between}
-use Rattle.ffv1_range.specs.declared.tally.Tally.{Tally}
 use Rattle.ffv1_record.specs.Accepted.{Accepted}
 use Rattle.ffv1_slice.specs.Grid.{Division, across, division_of, down, whole_of}
 use Rattle.ffv1_codec.specs.DecodeFaults.{is_decode_fault}
@@ -19,7 +18,6 @@ use Rattle.ffv1_codec.specs.Picture.{AreOf, samples_in}
 use Rattle.ffv1_codec.specs.SliceList.{Said}
 use Rattle.ffv1_codec.specs.declared.fault.CodecFault.{CodecFault}
 use Rattle.ffv1_codec.specs.declared.fault.CodecFault.TheVariants as codec_fault
-use Rattle.ffv1_codec.specs.declared.fault.FrameFault.{FrameFault}
 use Rattle.ffv1_y4m.specs.Canonical.{header_text}
 use Rattle.ffv1_y4m.specs.Pictures.{picture_text}
 use Rattle.ffv1_y4m.specs.declared.head.VideoHead.{VideoHead}
@@ -27,22 +25,23 @@ use Rattle.ffv1_files.specs.Places.{Place}
 use Rattle.ffv1_files.specs.Files.{frame_read}
 use Rattle.ffv1_files.specs.Places.{may_end}
 use Rattle.ffv1_reads.specs.Head.{Head}
+use Rattle.ffv1_reads.specs.Known.{Known}
 use Rattle.ffv1_engine.specs.declared.fault.Fault.{Fault}
 use Rattle.ffv1_engine.specs.Faults.{Cause, cause_of, of_codec}
 use Rattle.ffv1_engine.specs.Faults.Cause.{Reading, Writing, Memory, Content}
-use Rattle.ffv1_engine.specs.Internal.PicturesOut.{Begun, FrameChanges, IsBegun, IsKeptFor, NextStopsBy, PayloadRefused, SaysAgain, WritesPicture, head_saying, said_in, text_behind, writer_behind}
-use Rattle.ffv1_codec.specs.Outcome.{FaultsOf}
-use Rattle.ffv1_engine.specs.Stream.{Frame, IsFrame, Stream, frame_payload}
-use Rattle.ffv1_engine.specs.Internal.Told.{FaultsKnown, FileStopsBy}
+use Rattle.ffv1_engine.specs.Internal.PicturesOut.{Begun, FrameChanges, IsBegun, IsKeptFor, NextStopsBy, SaysAgain, WritesPicture, head_saying, said_in, text_behind, writer_behind}
+use Rattle.ffv1_engine.specs.Stream.{Frame, IsFrame, Stream, frame_payload, payloads}
+use Rattle.ffv1_engine.specs.Internal.Told.{FileStopsBy}
 use Rattle.ffv1_engine.specs.Trial.{Silent}
-use Rattle.ffv1_engine.specs.Unpacked.{AlikeBy, AllSay, is_ppm_stream, lines_before, pictures, rows_by, text_by, video_of, y4m_text}
-use Rattle.ffv1_engine.specs.Internal.Unpacking.{FileFaults, FormatChanges, PayloadFaults, PictureFails, Unpacked, UnpackedAll, UnpackedSome, UnpackedTo, UnpackingStops, UnpackingStopsBy}
-use Rattle.ffv1_engine.specs.Internal.Plays.{PlaysFrame}
-use Rattle.ffv1_engine.specs.Internal.Play.{ReadsEnd, ReadsPayload}
-use Rattle.ffv1_engine.proofs.FramesInTurn.{all_more, but_last_more, ends_file, ends_over, ends_payload, reads_more, reads_none, reads_some, take_past}
-
-pub silent : (o : Option (List ℕ)) (n : ℕ) → Silent (between o o n n)
-silent o n = record { kept = Keeps-refl o; same = refl }
+use Rattle.ffv1_codec.specs.Outcome.{lines_before}
+use Rattle.ffv1_engine.specs.Unpacked.{AlikeBy, AllSay, is_ppm_stream, pictures, rows_by, text_by, text_of, video_of, y4m_text}
+use Rattle.ffv1_engine.specs.Unpacking.{FormatChanges, PayloadStops, UnpackingStops, UnpackingStopsBy, UnpacksAll, UnpacksThen}
+use Rattle.ffv1_engine.specs.Plays.{HasThen, NextHasFault, NextPayloadLacks, NextReadFails}
+use Rattle.ffv1_engine.specs.Internal.Plays.{PayloadFaults, PlaysFrame}
+use Rattle.ffv1_engine.specs.Internal.Play.{ReadsEnd}
+use Rattle.ffv1_engine.proofs.FramesInTurn.{all_more, reads_more, silent}
+use Rattle.ffv1_engine.proofs.FramesPlayed.{has_stays, none_yet}
+use Rattle.ffv1_engine.proofs.FramesUnpacked.{Unpacked, goes_to, none_unpacked, picture_fails, unpacks_all, unpacks_more, unpacks_on}
 
 -- the writer after the pictures of frames
 abbrev pub begun_behind : ℕ → VideoHead → List Frame → Begun
@@ -109,134 +108,70 @@ module _ (s : Stream) (h : VideoHead) (heads : (said : Said) → head_saying h s
       plain_text (frames ++ (f ∷ [])) ∙ text_more s h frames f heads ∙ ap (λ z. z ++ behind) (sym (plain_text frames))
 
   pub unpacked_none : (i o : Option (List ℕ)) (ib ob : ℕ) → Unpacked s from (between i i ib ib) (between o o ob ob) [] from
-  unpacked_none i o ib ob = record {
-    are = tt;
-    alike = plain_alike [] tt;
-    read = reads_none from i;
-    kept = refl;
-    written = refl;
-    writes = subst (Appends o o) (sym (plain_text [])) (Appends-nil o);
-  }
+  unpacked_none i o ib ob = record { so = none_yet (IsFrame s.accepted) frame_payload (text_of s) (plain_text []) from i o ib ob; alike = plain_alike [] tt }
 
   module _ (to last : Place) (i0 i1 i2 o0 o1 o2 : Option (List ℕ)) (ib im ia ob om oa : ℕ) (frames : List Frame)
       (un : Unpacked s from (between i0 i1 ib im) (between o0 o1 ob om) frames to) where
+    abbrev behind : Frame → List ℕ
+    behind f = text_behind depth h (said_in (begun_behind depth h frames)) f.said f.planes
+
     more_alike : (f : Frame) → SaysAgain (said_in (begun_behind depth h frames)) f.said → AlikeBy (is_ppm_stream s) (frames ++ (f ∷ []))
     more_alike f again = plain_alike (frames ++ (f ∷ [])) (alike_more depth h frames f (alike_plain frames un.alike) again)
 
-    pub unpacked_more : (f : Frame) → PlaysFrame s.accepted to last (between i1 i2 im ia) f → SaysAgain (said_in (begun_behind depth h frames)) f.said → oa ≡ om →
-        Appends o1 o2 (text_behind depth h (said_in (begun_behind depth h frames)) f.said f.planes) → Unpacked s from (between i0 i2 ib ia) (between o0 o2 ob oa) (frames ++ (f ∷ [])) last
-    unpacked_more f plays again same writes = record {
-      are = all_more (IsFrame s.accepted) frames f un.are plays.is;
-      alike = more_alike f again;
-      read = reads_more frame_payload from to last i0 i1 i2 frames f un.read plays.reads.next;
-      kept = plays.reads.kept ∙ un.kept;
-      written = same ∙ un.written;
-      writes =
-          subst (Appends o0 o2) (sym (whole_text frames f))
-          (Appends-trans o0 o1 o2 (text_by (is_ppm_stream s) s frames) (text_behind depth h (said_in (begun_behind depth h frames)) f.said f.planes) un.writes writes);
-    }
+    pub unpacked_more : (f : Frame) → PlaysFrame s.accepted to last (between i1 i2 im ia) f → SaysAgain (said_in (begun_behind depth h frames)) f.said → oa ≡ om → Appends o1 o2 (behind f) →
+        Unpacked s from (between i0 i2 ib ia) (between o0 o2 ob oa) (frames ++ (f ∷ [])) last
+    unpacked_more f plays again same writes = unpacks_more s from to last i0 i1 i2 o0 o1 o2 ib im ia ob om oa frames un behind (whole_text frames) f plays (more_alike f again) same writes
 
-    pub unpacked_over : ReadsEnd to (between i1 i2 im ia) → Silent (between o1 o2 om oa) → UnpackedAll s from (between i0 i2 ib ia) (between o0 o2 ob oa) frames
-    unpacked_over over silent = record {
-      are = un.are;
-      alike = un.alike;
-      ends = ends_over from to i0 i1 i2 frames un.read over.over;
-      kept = over.kept ∙ un.kept;
-      written = silent.same ∙ un.written;
-      writes = Appends-kept o0 o1 o2 (text_by (is_ppm_stream s) s frames) un.writes silent.kept;
-    }
+    pub unpacked_over : ReadsEnd to (between i1 i2 im ia) → Silent (between o1 o2 om oa) → UnpacksAll (HasThen from) s (between i0 i2 ib ia) (between o0 o2 ob oa) frames
+    unpacked_over = unpacks_all s from to last i0 i1 i2 o0 o1 o2 ib im ia ob om oa frames un
 
-    some : Silent (between o1 o2 om oa) → UnpackedSome s from (between i0 i2 ib ia) (between o0 o2 ob oa) frames
-    some silent = record {
-      are = un.are;
-      alike = un.alike;
-      begins = reads_some from to i0 i1 frames un.read;
-      written = silent.same ∙ un.written;
-      writes = Appends-kept o0 o1 o2 (text_by (is_ppm_stream s) s frames) un.writes silent.kept;
-    }
+    then : (Next : Place → List ℕ → List ℕ → Type 0) → Silent (between o1 o2 om oa) → Known i1 i2 (Next to) → UnpacksThen (HasThen from) s (between i0 i2 ib ia) (between o0 o2 ob oa) frames Next
+    then = unpacks_on s from to last i0 i1 i2 o0 o1 o2 ib im ia ob om oa frames un
 
-    up_to : Silent (between o1 o2 om oa) → UnpackedTo s from (between i0 i2 ib ia) (between o0 o2 ob oa) frames to i1
-    up_to silent = record {
-      are = un.are;
-      alike = un.alike;
-      read = un.read;
-      written = silent.same ∙ un.written;
-      writes = Appends-kept o0 o1 o2 (text_by (is_ppm_stream s) s frames) un.writes silent.kept;
-    }
+    kept_text : Silent (between o1 o2 om oa) → Appends o0 o2 (text_by (is_ppm_stream s) s frames)
+    kept_text none = Appends-kept o0 o1 o2 (text_by (is_ppm_stream s) s frames) un.so.writes none.kept
 
-    picture_fails : (f : Frame) → PlaysFrame s.accepted to last (between i1 i2 im ia) f → SaysAgain (said_in (begun_behind depth h frames)) f.said → oa ≡ one_more om →
-        (k : ℕ) → k < length (text_behind depth h (said_in (begun_behind depth h frames)) f.said f.planes) → Appends o1 o2 (take k (text_behind depth h (said_in (begun_behind depth h frames)) f.said f.planes)) →
-        PictureFails s from (between i0 i2 ib ia) (between o0 o2 ob oa)
-    picture_fails f plays again counted k short writes =
-        let text = text_by (is_ppm_stream s) s frames in
-        let behind = text_behind depth h (said_in (begun_behind depth h frames)) f.said f.planes in
-        let long : length (text ++ behind) ≡ length text + length behind = length-append text behind in
-        let enough : length text ≤ length text + k = omega arith in
-        let few : length text + k < length (text ++ behind) = omega (arith, long, short) in
-        record {
-          frames = frames ++ (f ∷ []);
-          to = last;
-          are = all_more (IsFrame s.accepted) frames f un.are plays.is;
-          alike = more_alike f again;
-          read = reads_more frame_payload from to last i0 i1 i2 frames f un.read plays.reads.next;
-          kept = plays.reads.kept ∙ un.kept;
-          written = counted ∙ ap one_more un.written;
-          writes = record {
-            count = length text + k;
-            enough = subst (λ fs. length (text_by (is_ppm_stream s) s fs) ≤ length text + k) (sym (but_last_more frames f)) enough;
-            short = subst (λ t. length text + k < length t) (sym (whole_text frames f)) few;
-            writes =
-                subst (λ t. Appends o0 o2 (take (length text + k) t)) (sym (whole_text frames f))
-                (subst (Appends o0 o2) (sym (take_past text behind k)) (Appends-trans o0 o1 o2 text (take k behind) un.writes writes));
-          };
-        }
-
-    payload_faults : (f : Fault) → Silent (between o1 o2 om oa) → PayloadRefused s.accepted h (said_in (begun_behind depth h frames)) to last (between i1 i2 im ia) (between o1 o2 om oa) f →
-        PayloadFaults s from (between i0 i2 ib ia) (between o0 o2 ob oa) f
-    payload_faults f silent p =
+    payload_faults : (f : Fault) → Silent (between o1 o2 om oa) → PayloadFaults s.accepted to last (between i1 i2 im ia) f → PayloadStops (HasThen from) s (between i0 i2 ib ia) (between o0 o2 ob oa) f
+    payload_faults f none p =
         let text = text_by (is_ppm_stream s) s frames in
         let rows : text ++ rows_by (is_ppm_stream s) s (lines_before p.faulty) ≡ text = ap (λ b. text ++ rows_by b s (lines_before p.faulty)) plain ∙ append-nil text in
         record {
           frames = frames;
-          are = un.are;
-          alike = un.alike;
           payload = p.payload;
           fault = p.fault;
           tally = p.tally;
-          ends = ends_payload from to last i0 i1 i2 frames p.payload p.fault p.tally un.read p.reads.next;
+          goes = goes_to s from to last i0 i1 i2 o0 o1 o2 ib im ia ob om oa frames un p.payload p.reads;
+          alike = un.alike;
           faulty = p.faulty;
           is = p.is;
-          written = silent.same ∙ un.written;
-          writes = subst (Appends o0 o2) (sym rows) (Appends-kept o0 o1 o2 text un.writes silent.kept);
+          written = none.same ∙ un.so.written;
+          writes = subst (Appends o0 o2) (sym rows) (kept_text none);
         }
 
     format_changes : (f : Fault) → Silent (between o1 o2 om oa) → FrameChanges s.accepted h (said_in (begun_behind depth h frames)) to last (between i1 i2 im ia) (between o1 o2 om oa) f →
-        FormatChanges s from (between i0 i2 ib ia) (between o0 o2 ob oa) f
-    format_changes f silent p = record {
+        FormatChanges (HasThen from) s (between i0 i2 ib ia) (between o0 o2 ob oa) f
+    format_changes f none p = record {
       frames = frames;
       last = p.frame;
-      to = last;
-      are = all_more (IsFrame s.accepted) frames p.frame un.are p.plays.is;
+      goes = record {
+        are = all_more (IsFrame s.accepted) frames p.frame un.so.are p.plays.is;
+        has = has_stays from last i0 i2 (payloads (frames ++ (p.frame ∷ []))) (reads_more frame_payload from to last i0 i1 i2 frames p.frame un.so.read p.plays.reads.next);
+      };
       alike = un.alike;
       changed = λ alike. p.changed (last_alike depth h frames p.frame (alike_plain (frames ++ (p.frame ∷ [])) alike));
-      read = reads_more frame_payload from to last i0 i1 i2 frames p.frame un.read p.plays.reads.next;
       is = p.is;
-      written = silent.same ∙ un.written;
-      writes = Appends-kept o0 o1 o2 (text_by (is_ppm_stream s) s frames) un.writes silent.kept;
+      wrote = record { written = none.same ∙ un.so.written; writes = kept_text none };
     }
 
-    file_faults : (f : Fault) → Silent (between o1 o2 om oa) → FaultsKnown (frame_read to) i1 i2 f → FileFaults s from (between i0 i2 ib ia) (between o0 o2 ob oa) f
-    file_faults f silent h = record { frames = frames; some = some silent; ends = ends_file from to i0 i1 i2 frames f un.read h }
-
     pub unpacking_stops : (f : Fault) (why : Cause) → NextStopsBy s.accepted h (said_in (begun_behind depth h frames)) to last (between i1 i2 im ia) (between o1 o2 om oa) f why →
-        UnpackingStopsBy s from (between i0 i2 ib ia) (between o0 o2 ob oa) f why
-    unpacking_stops f Writing p = inl (picture_fails p.0 p.1 p.2 p.3 p.4.0 p.4.1 p.4.2)
-    unpacking_stops f Reading p = (frames, to, i1, up_to p.0, p.1 ∙ ap one_more un.kept, p.2)
-    unpacking_stops f Memory p = (frames, to, i1, up_to p.0, p.1 ∙ un.kept, inl p.2)
+        UnpackingStopsBy (HasThen from) s (between i0 i2 ib ia) (between o0 o2 ob oa) f why
+    unpacking_stops f Writing p = inl (frames ++ (p.0 ∷ []), picture_fails s from to last i0 i1 i2 o0 o1 o2 ib im ia ob om oa frames un behind (whole_text frames) p.0 p.1 (more_alike p.0 p.2) p.3 p.4.0 p.4.1 p.4.2)
+    unpacking_stops f Reading p = (p.1 ∙ ap one_more un.so.kept, frames, then NextReadFails p.0 p.2)
+    unpacking_stops f Memory p = (p.1 ∙ un.so.kept, inl (frames, then NextPayloadLacks p.0 p.2))
     unpacking_stops f Content p = (
-      p.1 ∙ un.kept,
+      p.1 ∙ un.so.kept,
       elim p.2 [
-        | inl file ↦ inl (file_faults f p.0 file)
+        | inl file ↦ inl (frames, then (NextHasFault f) p.0 file)
         | inr more ↦ elim more [
           | inl payload ↦ inr (inl (payload_faults f p.0 payload))
           | inr changes ↦ inr (inr (format_changes f p.0 changes))
@@ -293,22 +228,11 @@ heads_of x y b a h head same heads =
 
 -- memory for the sink was refused
 pub wants_memory : (s : Stream) (from : Place) (i o : Option (List ℕ)) (ib ob : ℕ) (f : CodecFault) → is_ppm_stream s ≡ false → f ≡ codec_fault.OutOfMemory →
-    UnpackingStops s from (between i i ib ib) (between o o ob ob) (of_codec f)
+    UnpackingStops (HasThen from) s (between i i ib ib) (between o o ob ob) (of_codec f)
 wants_memory s from i o ib ob f plain is =
-    subst (λ z. UnpackingStops s from (between i i ib ib) (between o o ob ob) (of_codec z)) (sym is) (
-      [],
-      from,
-      i,
-      record {
-        are = tt;
-        alike = subst (λ b. AlikeBy b []) (sym plain) tt;
-        read = reads_none from i;
-        written = refl;
-        writes = subst (λ b. Appends o o (text_by b s [])) (sym plain) (Appends-nil o);
-      },
-      refl,
-      inr (refl, refl),
-    )
+    let no_text = subst (λ b. Appends o o (text_by b s [])) (sym plain) (Appends-nil o) in
+    subst (λ z. UnpackingStops (HasThen from) s (between i i ib ib) (between o o ob ob) (of_codec z)) (sym is)
+    (refl, inr (none_unpacked s from i o ib ob (subst (λ b. AlikeBy b []) (sym plain) tt) no_text))
 
 module _ (a : Accepted) (h : VideoHead) (first : Option Said) (from to : Place) (input : Passage) where
   -- a frame was decoded, and its picture was not written
@@ -330,11 +254,8 @@ module _ (a : Accepted) (h : VideoHead) (first : Option Said) (from to : Place) 
   file_stops o n f Content stops = (silent o n, stops.0, inl stops.1)
 
   -- its payload has a fault
-  pub payload_stops : (o : Option (List ℕ)) (n : ℕ) (payload : List ℕ) (f : FrameFault) (tally : Tally) → ReadsPayload from to payload input → FaultsOf a payload f tally →
-      cause_of (of_codec f.fault) ≡ Content → NextStopsBy a h first from to input (between o o n n) (of_codec f.fault) (cause_of (of_codec f.fault))
-  payload_stops o n payload f tally reads faulty content =
-      subst (NextStopsBy a h first from to input (between o o n n) (of_codec f.fault)) (sym content)
-      (silent o n, reads.kept, inr (inl (record { payload = payload; fault = f; tally = tally; reads = reads; faulty = faulty; is = refl })))
+  pub payload_stops : (o : Option (List ℕ)) (n : ℕ) (f : Fault) → PayloadFaults a from to input f → NextStopsBy a h first from to input (between o o n n) f (cause_of f)
+  payload_stops o n f p = subst (NextStopsBy a h first from to input (between o o n n) f) (sym p.content) (silent o n, p.reads.kept, inr (inl p))
 
 -- so many frames were unpacked
 pub record UnpackedSo (s : Stream) (h : VideoHead) (from : Place) (input output : Passage) (begun : Begun) (count : ℕ) (to : Place) : Type 0 where

@@ -20,12 +20,11 @@ use Rattle.ffv1_engine.specs.Trial.{Silent}
 use Rattle.ffv1_engine.specs.Video.{ReadsPictures, Video, at_first, picture_next, video_head}
 use Rattle.ffv1_engine.specs.VideoReads.{PictureLacks, PictureWants}
 use Rattle.ffv1_engine.specs.Internal.VideoReads.{HeadRead, HeadRefused, HeadRefusedBy, IsHeadOf, NextRead, VideoReading}
-use Rattle.ffv1_engine.proofs.FramesInTurn.{take_past}
+use Rattle.ffv1_engine.proofs.FramesInTurn.{silent, take_past}
 use Rattle.ffv1_engine.proofs.KnownTexts.{known_map, known_taken}
 use Rattle.ffv1_engine.proofs.MatroskaPacked.{ImagesOnly, TextsOnly, lacks_up_to, video_known, video_then, wants_up_to}
 use Rattle.ffv1_engine.proofs.Md5sSoFar.{text_grows}
 use Rattle.ffv1_engine.proofs.PicturesRead.{ReadSo, joined, known_next, lacks_after, memory_kept, read_all, stops_after, wants_after}
-use Rattle.ffv1_engine.proofs.PicturesWritten.{silent}
 use Rattle.ffv1_engine.proofs.VideoEncoded.{next_up_to, video_of}
 use Rattle.ffv1_engine.proofs.VideoEnds.{reads_video}
 

@@ -21,6 +21,5 @@ pub mod Show
 pub mod TextMd5
 pub mod Told
 pub mod Unpack
-pub mod Unpacking
 pub mod Verifying
 pub mod VideoReads

@@ -20,7 +20,7 @@ use Rattle.ffv1_engine.specs.declared.fault.Fault.{Fault}
 use Rattle.ffv1_engine.specs.declared.fault.Fault.TheVariants as fault
 use Rattle.ffv1_engine.specs.Faults.{of_avi, of_codec, of_record}
 use Rattle.ffv1_codec.specs.Outcome.{FaultsOf}
-use Rattle.ffv1_engine.specs.Stream.{AreFrames, Begins, Frame, IsStream}
+use Rattle.ffv1_engine.specs.Stream.{AreFrames, Frame, IsStream}
 use Rattle.ffv1_engine.specs.Stream.{Stream}
 
 -- bytes of a file have this fault, with this left; those that end where more are wanted are
@@ -52,24 +52,12 @@ pub data End : Type 0 where
   Payload : List ℕ → FrameFault → Tally → End
   Over : End
 
--- an end that is no payload's
-abbrev pub IsOfFile : End → Type 0
-IsOfFile (File f) = ⊤
-IsOfFile (Payload payload f tally) = ⊥
-IsOfFile Over = ⊤
-
 -- from this place of the file the reading of this text ends so, and this is left of it
 abbrev pub EndsReading : Place → List ℕ → List ℕ → End → Type 0
 EndsReading from text rest (File f) = FaultsRead (frame_read from) text rest f
 EndsReading from text rest (Payload payload f tally) =
     (to : Place) × (frame_read from text ≡ Ok (Some (payload, to), rest))
 EndsReading from text rest Over = frame_read from text ≡ Ok (None, rest)
-
--- where the file is known, so it ends after these frames
-abbrev pub EndsKnown : Profile → Option (List ℕ) → Option (List ℕ) → Stream → List Frame → End →
-    Type 0
-EndsKnown profile old new s frames e = Known old new (λ file rest.
-    (to : Place) × (at : List ℕ) × Begins profile file s frames to at × EndsReading to at rest e)
 
 -- the payload at which it ends has its fault
 abbrev pub IsFaulty : Accepted → End → Type 0
@@ -82,12 +70,6 @@ abbrev pub EndsWith : List Frame → End → Fault → Type 0
 EndsWith frames (File f) g = g ≡ f
 EndsWith frames (Payload payload f tally) g = g ≡ of_codec f.fault
 EndsWith frames Over g = (frames ≡ []) × (g ≡ fault.NoFrames)
-
--- the file, where it is known, begins with these frames
-abbrev pub BeginsSome : Profile → Option (List ℕ) → Stream → List Frame → Type 0
-BeginsSome profile None s frames = ⊤
-BeginsSome profile (Some file) s frames =
-    (to : Place) × (at : List ℕ) × Begins profile file s frames to at
 
 -- frames of a stream
 pub record Played (profile : Profile) (s : Stream) (frames : List Frame) : Type 0 where

@@ -97,8 +97,7 @@ module _ {X : Type 0} (Is : X → Type 0) (payload : X → List ℕ)
     pub wrote : WritesText xs
 
   -- the text of the last one was not written whole
-  pub record TextFails : Type 0 where
-    pub xs : List X
+  pub record TextFails (xs : List X) : Type 0 where
     pub goes : GoesThen xs NextStays
     pub kept : input.after ≡ input.before
     pub written : output.after ≡ one_more output.before
@@ -113,7 +112,7 @@ module _ {X : Type 0} (Is : X → Type 0) (payload : X → List ℕ)
   -- counted; a read of the next one failed, which was counted; memory was refused; or the file has
   -- this fault
   abbrev pub GoesBy : (Fault → ℕ → Type 0) → Bool → Fault → Cause → Type 0
-  GoesBy Stops byte f Writing = TextFails
+  GoesBy Stops byte f Writing = (xs : List X) × TextFails xs
   GoesBy Stops byte f Reading =
       (xs : List X) × RefusedAfter Stops byte xs f × (input.after ≡ one_more input.before)
       × GoesThen xs NextReadFails
@@ -142,7 +141,8 @@ module _ (Has : List (List ℕ) → (Place → List ℕ → List ℕ → Type 0)
   -- next frame failed, which was counted; memory was refused, after them or before the first one
   -- for what keeps a picture; or the file ends so
   abbrev pub PlayStopsBy : Fault → Cause → Type 0
-  PlayStopsBy f Writing = TextFails (IsFrame a) frame_payload Has text input output
+  PlayStopsBy f Writing =
+      (frames : List Frame) × TextFails (IsFrame a) frame_payload Has text input output frames
   PlayStopsBy f Reading =
       (input.after ≡ one_more input.before)
       × (frames : List Frame) × FramesThen frames NextReadFails

@@ -11,13 +11,13 @@ use Rattle.ffv1_codec.specs.Picture.{Planes}
 use Rattle.ffv1_codec.specs.SliceList.{Said}
 use Rattle.ffv1_files.specs.Places.{Place}
 use Rattle.ffv1_avi.specs.Chunks.{AviFile}
-use Rattle.ffv1_files.specs.Files.{frame_read, open_read}
+use Rattle.ffv1_files.specs.Files.{frame_read}
 use Rattle.ffv1_reads.specs.Head.{Head}
 use Rattle.ffv1_files.specs.Whole.{IsWhole}
 use Rattle.ffv1_reads.specs.Known.{Known}
 use Rattle.ffv1_engine.specs.declared.profile.Profile.{Profile}
 use Rattle.ffv1_engine.specs.declared.profile.Profile.TheVariants.{Strict, Wide}
-use Rattle.ffv1_engine.specs.Profiles.{greatest_depth, scope_in, record_profile}
+use Rattle.ffv1_engine.specs.Profiles.{greatest_depth, record_profile}
 
 -- the head of a file, and the configuration of its frames
 pub record Stream : Type 0 where
@@ -67,26 +67,6 @@ ReadsFrames from text [] to rest = (to ≡ from) × (rest ≡ text)
 ReadsFrames from text (frame ∷ frames) to rest =
     (after : Place) × (behind : List ℕ) × (frame_read from text ≡ Ok (Some (frame, after), behind))
     × ReadsFrames after behind frames to rest
-
--- a file begins with the head of a stream and these frames; then comes this place of it, and this
--- is left of it
-pub record Begins (profile : Profile) (file : List ℕ) (s : Stream) (frames : List Frame)
-    (to : Place) (rest : List ℕ) : Type 0 where
-  pub from : Place
-  pub behind : List ℕ
-  pub opened : open_read (scope_in profile) file ≡ Ok ((s.head, from), behind)
-  pub read : ReadsFrames from behind (payloads frames) to rest
-
--- where the file is known, it begins with these frames up to this place, and this is left of it
-abbrev pub BeginsTo : Profile → Option (List ℕ) → Option (List ℕ) → Stream → List Frame → Place →
-    Type 0
-BeginsTo profile old new s frames to = Known old new (λ file rest.
-    Begins profile file s frames to rest)
-
--- where the file is known, so it begins, and this is left of it
-abbrev pub BeginsKnown : Profile → Option (List ℕ) → Option (List ℕ) → Stream → List Frame → Type 0
-BeginsKnown profile old new s frames = Known old new (λ file rest.
-    (to : Place) × Begins profile file s frames to rest)
 
 -- a file was read to its end, with this head and these payloads, and this is left of it: an AVI by
 -- its chunks, after whose first movi that stands; or one that was read whole, an AVI by the chunks

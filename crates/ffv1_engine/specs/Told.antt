@@ -1,18 +1,12 @@
 -- The frames of a file are decoded one after the other, and a line is written of each at once: how
 -- far that goes, and why it goes no further.
 use Rattle.std.specs.Prelude.{◌≡◌, ℕ, Bool, true, false, List, length}
-use Rattle.std.specs.Prelude.{Option}
 use Rattle.ffv1_range.specs.declared.tally.Tally.{Tally}
 use Rattle.ffv1_range.specs.Counts.{saturated}
 use Rattle.ffv1_wire.specs.Passage.{Passage}
 use Rattle.ffv1_record.specs.Accepted.{Accepted}
 use Rattle.ffv1_codec.specs.declared.fault.FrameFault.{FrameFault}
-use Rattle.ffv1_files.specs.Answers.{ReadFails, WantsMore}
 use Rattle.ffv1_files.specs.Places.{Place}
-use Rattle.ffv1_files.specs.Files.{frame_read}
-use Rattle.ffv1_files.specs.Places.{may_end}
-use Rattle.ffv1_reads.specs.Reads as avi
-use Rattle.ffv1_reads.specs.Known.{Known}
 use Rattle.ffv1_engine.specs.declared.fault.Fault.{Fault}
 use Rattle.ffv1_engine.specs.declared.fault.Fault.TheVariants as fault
 use Rattle.ffv1_engine.specs.declared.frame_line.FrameLine.{FrameLine}
@@ -23,15 +17,6 @@ use Rattle.ffv1_engine.specs.Stream.{Frame, IsFrame, frame_payload}
 use Rattle.ffv1_engine.specs.Plays.{GoesThen, NextIsPayload}
 use Rattle.ffv1_engine.specs.FrameLines.{frame_lines, place_text}
 use Rattle.ffv1_engine.specs.Located.{WritesLine}
-
--- from this place of the file a read of the next frame failed
-abbrev pub NextFails : Place → Option (List ℕ) → Option (List ℕ) → Type 0
-NextFails from old new = Known old new (ReadFails (may_end from) (frame_read from))
-
--- from this place of the file memory was refused for the next payload, of which more bytes were
--- wanted
-abbrev pub PayloadLacks : Place → Option (List ℕ) → Option (List ℕ) → Type 0
-PayloadLacks from old new = Known old new (WantsMore (frame_read from) avi.Kept)
 
 -- by how a file has payloads
 module _ (Has : List (List ℕ) → (Place → List ℕ → List ℕ → Type 0) → List ℕ → List ℕ → Type 0)

@@ -1,21 +1,16 @@
 -- The text of a stream: YUV4MPEG2 where its pictures are YCbCr, and images of PPM where they are
 -- RCT.
 use Rattle.std.specs.Prelude.{◌≡◌, ℕ, Bool, true, false, List, [], ◌∷◌, map, flat_map}
-use Rattle.std.proofs.Common.{inl, inr}
-use Rattle.ffv1_range.specs.declared.tally.Tally.{Tally}
 use Rattle.ffv1_wire.specs.Runs.{Line}
-use Rattle.ffv1_record.specs.Accepted.{Accepted}
 use Rattle.ffv1_record.specs.Configuration.{Configuration, is_rct}
 use Rattle.ffv1_codec.specs.Picture.{Planes}
 use Rattle.ffv1_codec.specs.SliceList.{Said}
-use Rattle.ffv1_codec.specs.declared.fault.FrameFault.{FrameFault}
 use Rattle.ffv1_y4m.specs.Canonical.{canonical_text}
 use Rattle.ffv1_y4m.specs.Images.{image_text, text_of_lines}
 use Rattle.ffv1_y4m.specs.VideoHead.{is_named}
 use Rattle.ffv1_y4m.specs.declared.head.VideoHead.{VideoHead}
 use Rattle.ffv1_engine.specs.declared.fault.Fault.{Fault}
 use Rattle.ffv1_engine.specs.declared.fault.Fault.TheVariants as fault
-use Rattle.ffv1_codec.specs.Outcome.{FaultsOf}
 use Rattle.ffv1_engine.specs.Stream.{Frame, Stream}
 
 -- whether the pictures of a stream are written as PPM
@@ -93,12 +88,6 @@ LacksTextBy true c f = (c.extra_plane ≡ true) × (f ≡ fault.NoPpm)
 
 abbrev pub LacksText : Stream → Fault → Type 0
 LacksText s f = LacksTextBy (is_ppm_stream s) s.accepted.configuration f
-
--- the lines that are handed over of a payload before its first fault
-abbrev pub lines_before : {a : Accepted} → {payload : List ℕ} → {f : FrameFault} → {tally : Tally} →
-    FaultsOf a payload f tally → List Line
-lines_before (inl cut) = []
-lines_before (inr behind) = behind.state.lines
 
 -- what is written of a frame before its first fault: of an image the rows that were handed over
 abbrev pub rows_by : Bool → Stream → List Line → List ℕ

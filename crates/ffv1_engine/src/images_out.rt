@@ -11,7 +11,8 @@ ghost use Rattle.ffv1_engine.specs.Internal.ImagesOut.{IsSinkFor, WritesImage};
 ghost use Rattle.ffv1_engine.specs.Internal.Opens.{stream_of};
 ghost use Rattle.ffv1_engine.specs.Stream.{Frame};
 ghost use Rattle.ffv1_engine.specs.Internal.Unpack.{IsWritingFault};
-ghost use Rattle.ffv1_engine.specs.Internal.Unpacking.{UnpackedAll, UnpackingStops};
+ghost use Rattle.ffv1_engine.specs.Unpacking.{UnpackingStops, UnpacksAll};
+ghost use Rattle.ffv1_engine.specs.Plays.{HasThen};
 
 use crate::fault::Fault;
 use crate::player::{Player, Stop, play};
@@ -81,11 +82,12 @@ fn write_all_images<R: ByteIn, W: ByteOut, A: Allocator>(
     requires opaque { player.old.decoder.accepted.configuration.extra_plane ≡ false }
     requires sink { IsSinkFor player.old.decoder.accepted.configuration sink.old }
     ensures ok { IfOk result (λ n. (frames : List Frame) × (n ≡ saturated (length frames))
-        × UnpackedAll (stream_of player.old.reader player.old.decoder.accepted)
-        player.old.reader.place (passage R.remaining R.failures input.old input.new)
+        × UnpacksAll (HasThen player.old.reader.place)
+        (stream_of player.old.reader player.old.decoder.accepted)
+        (passage R.remaining R.failures input.old input.new)
         (passage W.contents W.failures sink.old.out sink.new.out) frames) }
-    ensures err { IfErr result (UnpackingStops
-        (stream_of player.old.reader player.old.decoder.accepted) player.old.reader.place
+    ensures err { IfErr result (UnpackingStops (HasThen player.old.reader.place)
+        (stream_of player.old.reader player.old.decoder.accepted)
         (passage R.remaining R.failures input.old input.new)
         (passage W.contents W.failures sink.old.out sink.new.out)) }
     ensures own { IfErr result (IsWritingFault (container_of player.old.reader.place)) }
@@ -111,11 +113,12 @@ pub(crate) fn write_images<R: ByteIn, W: ByteOut, A: Allocator + Copy>(
     requires colour { is_rct player.old.decoder.accepted.configuration.colour ≡ true }
     requires opaque { player.old.decoder.accepted.configuration.extra_plane ≡ false }
     ensures ok { IfOk result.1 (λ n. (frames : List Frame) × (n ≡ saturated (length frames))
-        × UnpackedAll (stream_of player.old.reader player.old.decoder.accepted)
-        player.old.reader.place (passage R.remaining R.failures input.old input.new)
+        × UnpacksAll (HasThen player.old.reader.place)
+        (stream_of player.old.reader player.old.decoder.accepted)
+        (passage R.remaining R.failures input.old input.new)
         (passage W.contents W.failures output result.0) frames) }
-    ensures err { IfErr result.1 (UnpackingStops
-        (stream_of player.old.reader player.old.decoder.accepted) player.old.reader.place
+    ensures err { IfErr result.1 (UnpackingStops (HasThen player.old.reader.place)
+        (stream_of player.old.reader player.old.decoder.accepted)
         (passage R.remaining R.failures input.old input.new)
         (passage W.contents W.failures output result.0)) }
     ensures own { IfErr result.1 (IsWritingFault (container_of player.old.reader.place)) }

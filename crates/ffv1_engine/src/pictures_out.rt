@@ -14,11 +14,12 @@ ghost use Rattle.ffv1_engine.specs.Internal.Opens.{stream_of};
 ghost use Rattle.ffv1_engine.specs.Internal.PicturesOut.{IsBegun, IsKeptFor, WritesNext};
 ghost use Rattle.ffv1_engine.specs.Internal.PicturesOut.{WritesPicture};
 ghost use Rattle.ffv1_engine.specs.Internal.PicturesOut.{head_saying, said_in};
+ghost use Rattle.ffv1_engine.specs.Plays.{HasThen};
 ghost use Rattle.ffv1_engine.specs.Stream.{Frame};
 ghost use Rattle.ffv1_engine.specs.Unpack.{IsUnpackFault};
 ghost use Rattle.ffv1_engine.specs.Internal.Unpack.{IsWritingFault};
 ghost use Rattle.ffv1_engine.specs.Unpacked.{video_of};
-ghost use Rattle.ffv1_engine.specs.Internal.Unpacking.{UnpackedAll, UnpackingStops};
+ghost use Rattle.ffv1_engine.specs.Unpacking.{UnpackingStops, UnpacksAll};
 
 use crate::fault::Fault;
 use crate::player::{Player, Stop, play};
@@ -153,11 +154,12 @@ pub(crate) fn write_pictures<R: ByteIn, W: ByteOut, A: Allocator + Copy>(
         player.old.decoder.accepted.table }
     requires colour { is_rct player.old.decoder.accepted.configuration.colour ≡ false }
     ensures ok { IfOk result (λ n. (frames : List Frame) × (n ≡ saturated (length frames))
-        × UnpackedAll (stream_of player.old.reader player.old.decoder.accepted)
-        player.old.reader.place (passage R.remaining R.failures input.old input.new)
+        × UnpacksAll (HasThen player.old.reader.place)
+        (stream_of player.old.reader player.old.decoder.accepted)
+        (passage R.remaining R.failures input.old input.new)
         (passage W.contents W.failures output.old output.new) frames) }
-    ensures err { IfErr result (UnpackingStops
-        (stream_of player.old.reader player.old.decoder.accepted) player.old.reader.place
+    ensures err { IfErr result (UnpackingStops (HasThen player.old.reader.place)
+        (stream_of player.old.reader player.old.decoder.accepted)
         (passage R.remaining R.failures input.old input.new)
         (passage W.contents W.failures output.old output.new)) }
     ensures own { IfErr result (IsWritingFault (container_of player.old.reader.place)) }

@@ -13,7 +13,7 @@ ghost use Rattle.ffv1_line.specs.Length.{cell_decisions};
 ghost use Rattle.ffv1_engine.specs.Plane.{plane_residuals, plane_steps, plane_end, plane_code};
 
 use crate::fault::Fault;
-use ffv1_line::{Above, Coding, RollingRows, encode_line};
+use ffv1_line::{CellRows, Coding, RollingRows, encode_cell};
 use ffv1_plane::QuantSet;
 use ffv1_range::{RangeEncoder, StateTable};
 use std::alloc::{AllocError, Allocator, Global};
@@ -28,14 +28,15 @@ pub struct Coded<A: Allocator = Global> {
 }
 
 /// A mono plane: its samples of 8 bits, row by row.
-#[derive(Clone, Copy)]
+#[derive(Drop)]
 pub(crate) struct MonoPlane<'a> {
     /// Samples of a row.
-    pub(crate) width: usize,
+    pub(crate) width: u32,
     /// Rows.
-    pub(crate) height: usize,
+    pub(crate) height: u32,
     /// All samples.
     pub(crate) samples: &'a [u8],
+    ghost whole: { length samples.now ≡ width * height },
 }
 
 /// Fresh states, so many.
@@ -55,12 +56,20 @@ fn widen(samples: &[u8], row: &mut [u16])
     }
 }
 
-/// The same into a line.
-fn load<A: Allocator>(samples: &[u8], line: &mut Vec<u16, A>)
-    requires { length samples.now ≡ length line.old.items }
-    ensures { line.new.items ≡ samples.now }
-{
-    widen(samples, line.as_mut_slice());
+impl<'a> CellRows for MonoPlane<'a> {
+    ghost cell = { λ p. cell_of p.width p.samples.now };
+
+    ghost rows = { λ p. p.height };
+
+    fn height(&self) -> u32 {
+        self.height
+    }
+
+    fn load(&self, y: u32, line: &mut [u16]) {
+        let width = self.width as usize;
+        let start = y as usize * width;
+        widen(&self.samples[start..start + width], line);
+    }
 }
 
 /// Codes the rows of a plane one after the other.
@@ -73,7 +82,6 @@ fn encode_rows<A: Allocator + Copy>(
     plane: &MonoPlane<'_>,
 ) -> Result<(), Fault>
     requires some { 0 < plane.now.width }
-    requires whole { length plane.now.samples.now ≡ plane.now.width * plane.now.height }
     requires rows { length states.old ≡ contexts_of set.now * 32 }
     requires held { AllHeld table.now states.old }
     ensures ok { OnOk result (Puts table.now encoder.old states.old encoder.new states.new
@@ -81,22 +89,13 @@ fn encode_rows<A: Allocator + Copy>(
         (chosen_rows set.now 8 (cell_of plane.now.width plane.now.samples.now) plane.now.height))) }
     ensures err { IfErr result (λ f. f ≡ fault.OutOfMemory) }
 {
-    let mut rows = RollingRows::new(alloc, plane.width)?;
+    let mut rows = RollingRows::new(alloc, plane.width as usize)?;
     let coding = Coding {
         table,
         set,
         bits: 8,
     };
-    for y in 0..plane.height {
-        let start = y * plane.width;
-        load(&plane.samples[start..start + plane.width], &mut rows.cur);
-        let above = Above {
-            two: &rows.two,
-            one: &rows.one,
-        };
-        encode_line(encoder, &coding, states, &above, &rows.cur)?;
-        rows.turn();
-    }
+    encode_cell(encoder, &coding, states, &mut rows, plane)?;
     Ok(())
 }
 
@@ -109,7 +108,6 @@ fn code_rows<A: Allocator + Copy>(
     plane: &MonoPlane<'_>,
 ) -> Result<Coded<A>, Fault>
     requires some { 0 < plane.now.width }
-    requires whole { length plane.now.samples.now ≡ plane.now.width * plane.now.height }
     requires few { plane.now.width * plane.now.height ≤ 2 ^ 26 }
     requires fresh { states.old ≡ replicate (contexts_of set.now * 32) 128 }
     requires held { AllHeld table.now states.old }
@@ -166,8 +164,8 @@ pub fn code_plane<A: Allocator + Copy>(
     let set = QuantSet::small(alloc)?;
     let mut states = fresh_states(alloc, set.contexts() as usize * 32)?;
     let plane = MonoPlane {
-        width: width as usize,
-        height: height as usize,
+        width,
+        height,
         samples,
     };
     code_rows(alloc, &table, &set, states.as_mut_slice(), &plane)

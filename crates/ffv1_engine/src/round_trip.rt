@@ -130,7 +130,7 @@ pub fn packed_is_unpacked()
 {
     record_laws::accepted_configuration_is_in_range();
     range_laws::each_step_is_one_or_zero();
-    slice_laws::cutting_is_found_from_the_end();
+    slice_laws::payload_is_cut_in_one_way();
     codec_laws::encoded_frame_codes_its_picture();
     range_laws::exponent_is_the_highest_bit();
     files_laws::file_is_read_as_its_frames();

@@ -7,12 +7,13 @@ ghost use Rattle.ffv1_files.specs.Places.{container_of};
 ghost use Rattle.ffv1_record.specs.Accepted.{IsAccepted};
 ghost use Rattle.ffv1_record.specs.Configuration.{configuration_of, is_rct};
 ghost use Rattle.ffv1_engine.specs.Internal.Opens.{OpensStream, stream_of};
+ghost use Rattle.ffv1_engine.specs.Plays.{HasThen};
 ghost use Rattle.ffv1_engine.specs.Stream.{Frame};
-ghost use Rattle.ffv1_engine.specs.Unpack.{IsUnpackFaultIn};
-ghost use Rattle.ffv1_engine.specs.Internal.Unpack.{IsWritingFault, LacksUnpacking};
+ghost use Rattle.ffv1_engine.specs.Unpack.{IsUnpackFaultIn, LacksUnpacking};
+ghost use Rattle.ffv1_engine.specs.Internal.Unpack.{IsWritingFault};
 ghost use Rattle.ffv1_engine.specs.Unpack.{UnpackDone, UnpackStops};
 ghost use Rattle.ffv1_engine.specs.Unpacked.{HasText, HasTextBy, LacksTextBy};
-ghost use Rattle.ffv1_engine.specs.Internal.Unpacking.{UnpackedAll, UnpackingStops};
+ghost use Rattle.ffv1_engine.specs.Unpacking.{UnpackingStops, UnpacksAll};
 
 use crate::fault::Fault;
 use crate::images_out::write_images;
@@ -79,11 +80,12 @@ fn write_frames<R: ByteIn, W: ByteOut, A: Allocator + Copy>(
         player.old.decoder.accepted.table }
     requires text { HasText (stream_of player.old.reader player.old.decoder.accepted) }
     ensures ok { IfOk result.1 (λ n. (frames : List Frame) × (n ≡ saturated (length frames))
-        × UnpackedAll (stream_of player.old.reader player.old.decoder.accepted)
-        player.old.reader.place (passage R.remaining R.failures input.old input.new)
+        × UnpacksAll (HasThen player.old.reader.place)
+        (stream_of player.old.reader player.old.decoder.accepted)
+        (passage R.remaining R.failures input.old input.new)
         (passage W.contents W.failures output result.0) frames) }
-    ensures err { IfErr result.1 (UnpackingStops
-        (stream_of player.old.reader player.old.decoder.accepted) player.old.reader.place
+    ensures err { IfErr result.1 (UnpackingStops (HasThen player.old.reader.place)
+        (stream_of player.old.reader player.old.decoder.accepted)
         (passage R.remaining R.failures input.old input.new)
         (passage W.contents W.failures output result.0)) }
     ensures own { IfErr result.1 (IsWritingFault (container_of player.old.reader.place)) }

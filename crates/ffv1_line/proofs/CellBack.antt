@@ -89,7 +89,7 @@ module _ (before : List Decision) (coding : RowCoding) (states : List ℕ) (c : 
         coded = subst (λ ss. CodesSteps now.reading.bytes (before ++ decided coding.table states done) coding.table ss row) (sym behind.moved) coded;
       }
 
-  pub behind_next : (y : ℕ) (now new : Decoder) (over : RowsAbove) (cur : List ℕ) → 0 < c.width → y < length rows → Above c y over.two over.one → length cur ≡ c.width →
+  behind_next : (y : ℕ) (now new : Decoder) (over : RowsAbove) (cur : List ℕ) → 0 < c.width → y < length rows → Above c y over.two over.one → length cur ≡ c.width →
       StandsAfter before coding states c rows y now → Lined coding now new over cur (length cur) →
       Shows c (suc (suc y)) cur c.width × StandsAfter before coding states c rows (suc y) new
   behind_next y now new over cur some inside above wide behind lined =
@@ -120,6 +120,15 @@ module _ (before : List Decision) (coding : RowCoding) (states : List ℕ) (c : 
       let long = (row_suits coding.set coding.bits c 0 y y rows (omega arith) inside behind.cell.suits).0 in
       row_not_refused coding now new over cur (before ++ decided coding.table states (cell_steps coding.set c 0 (take y rows))) c y x (get_or rows y [])
       (omega (arith, within, above.wide)) above long within behind.at behind.cell.fit (next_row y now inside behind) refused
+
+-- one row more
+pub back_more : (before : List Decision) (coding : RowCoding) (states : List ℕ) (c : Cell) (rows : List (List ℤ)) (y : ℕ) (now new : Decoder) (over : RowsAbove) (cur : List ℕ) → 0 < c.width → y < length rows →
+    Above c y over.two over.one → length cur ≡ c.width → StandsAfter before coding states c rows y now → Lined coding now new over cur (length cur) → Shows c (y + 2) cur c.width × StandsAfter before coding states c rows (y + 1) new
+back_more before coding states c rows y now new over cur some inside above wide behind lined =
+    let two_more : suc (suc y) ≡ y + 2 = omega arith in
+    let one_more : suc y ≡ y + 1 = omega arith in
+    let next = behind_next before coding states c rows y now new over cur some inside above wide behind lined in
+    (subst (λ n. Shows c n cur c.width) two_more next.0, subst (λ n. StandsAfter before coding states c rows n new) one_more next.1)
 
 -- what was written is coded by either ending
 module _ (before : List Decision) (t : Table) (old : Writing) (states : List ℕ) (w : Writing) (after : List ℕ) (steps : List Step)

@@ -1,5 +1,5 @@
 -- One row of a cell more.
-use Rattle.std.proofs.Common.{◌≡◌, refl, ℕ, ◌+◌, ◌*◌, ◌<◌, replicate, List, [], ◌∷◌, ◌++◌, length, get_or, arith, ap, sym, ◌∙◌, subst, suc, length-append}
+use Rattle.std.proofs.Common.{◌≡◌, refl, ℕ, ◌+◌, ◌-◌, ◌*◌, ◌<◌, replicate, List, [], ◌∷◌, ◌++◌, length, get_or, arith, ap, sym, ◌∙◌, subst, suc, length-append, append_assoc, append-nil}
 use Rattle.std.proofs.lemmas.List.{get_or_append_left, get_or-append-add, get_or-replicate, length-replicate}
 use Rattle.std.proofs.Math.Nat.{mul-le-mul_left}
 use Rattle.ffv1_range.specs.Table.{Table}
@@ -11,11 +11,15 @@ use Rattle.ffv1_line.proofs.Joined.{rows_next}
 use Rattle.std.proofs.Common.{take, drop, zero, add-one}
 use Rattle.std.proofs.lemmas.List.{get_or-take, get_or-drop}
 use Rattle.ffv1_range.specs.Writing.{Writing}
-use Rattle.ffv1_range.specs.Puts.{Puts}
+use Rattle.ffv1_range.specs.Puts.{Puts, MayBeRefused}
+use Rattle.ffv1_range.specs.Counts.{Counts}
+use Rattle.ffv1_range.specs.Symbols.{Step}
+use Rattle.ffv1_range.proofs.Counting.{counted_append}
+use Rattle.ffv1_range.proofs.Growth.{refused_first, refused_second}
 use Rattle.ffv1_range.proofs.Steps.{puts_none}
 use Rattle.ffv1_line.specs.Row.{row_steps, cell_steps, chosen_row, chosen_rows}
-use Rattle.ffv1_line.specs.Encoded.{Written}
-use Rattle.ffv1_line.proofs.Joined.{puts_next}
+use Rattle.ffv1_line.specs.Encoded.{Written, MayBeRefusedRow, CountsFirst, CountsFirstRows}
+use Rattle.ffv1_line.proofs.Joined.{puts_next, cell_steps-append}
 use Rattle.ffv1_line.specs.Coding.{RowCoding}
 use Rattle.ffv1_line.specs.Coder.{Decoder, Encoder}
 use Rattle.ffv1_line.specs.Above.{RowsAbove}
@@ -150,6 +154,62 @@ cell_next coding a b d c n over cur wide_cur wide_one shows_two shows_one shows_
     let next = subst (λ k. Puts coding.table b.writing b.states d.writing d.states (row_steps coding.set c k 0 (chosen_row coding.set coding.bits c n c.width))) (sym (length-rows coding.set coding.bits c n)) next in
     rw (chosen_next coding.set coding.bits c n) (puts_next coding.table coding.set a.writing b.writing d.writing a.states b.states d.states c (chosen_rows coding.set coding.bits c n) (chosen_row coding.set coding.bits c n c.width) puts next)
 
+-- a row of a cell by its own length
+row_of_cell : (c : Cell) (y : ℕ) (cur : List ℕ) → length cur ≡ c.width → Shows c (y + 2) cur c.width → Shows c (suc (suc y)) cur (length cur)
+row_of_cell c y cur wide shows =
+    let more : y + 2 ≡ suc (suc y) = omega arith in
+    subst (Shows c (suc (suc y)) cur) (sym wide) (subst (λ k. Shows c k cur c.width) more shows)
+
+-- the decisions of one row more
+pub cell_more : (set : Set) (bits : ℕ) (c : Cell) (n : ℕ) → cell_steps set c 0 (chosen_rows set bits c (n + 1)) ≡ cell_steps set c 0 (chosen_rows set bits c n) ++ row_steps set c n 0 (chosen_row set bits c n c.width)
+cell_more set bits c n =
+    let at : 0 + length (chosen_rows set bits c n) ≡ n = omega (arith, length-rows set bits c n) in
+    ap (cell_steps set c 0) (chosen_next set bits c n) ∙ cell_steps-append set c 0 (chosen_rows set bits c n) (chosen_row set bits c n c.width)
+    ∙ ap (λ k. cell_steps set c 0 (chosen_rows set bits c n) ++ row_steps set c k 0 (chosen_row set bits c n c.width)) at
+
+-- those of some rows more
+cell_on : (set : Set) (bits : ℕ) (c : Cell) (n k : ℕ) → (rest : List Step) × (cell_steps set c 0 (chosen_rows set bits c (n + k)) ≡ cell_steps set c 0 (chosen_rows set bits c n) ++ rest)
+cell_on set bits c n zero =
+    let same : n + 0 ≡ n = omega arith in
+    ([], ap (λ j. cell_steps set c 0 (chosen_rows set bits c j)) same ∙ sym (append-nil (cell_steps set c 0 (chosen_rows set bits c n))))
+cell_on set bits c n (suc k) =
+    let before = cell_on set bits c n k in
+    let more : n + suc k ≡ n + k + 1 = omega arith in
+    let row : List Step = row_steps set c (n + k) 0 (chosen_row set bits c (n + k) c.width) in (
+      before.0 ++ row,
+      ap (λ j. cell_steps set c 0 (chosen_rows set bits c j)) more ∙ cell_more set bits c (n + k) ∙ ap (λ l. l ++ row) before.1 ∙ append_assoc (cell_steps set c 0 (chosen_rows set bits c n)) before.0 row,
+    )
+
+-- a cell one of whose rows may be refused
+pub cell_refused : (coding : RowCoding) (a b : Encoder) (c : Cell) (y n : ℕ) (over : RowsAbove) (cur : List ℕ) → y < n → length cur ≡ c.width → Above c y over.two over.one → Shows c (y + 2) cur c.width →
+    Puts coding.table a.writing a.states b.writing b.states (cell_steps coding.set c 0 (chosen_rows coding.set coding.bits c y)) → MayBeRefusedRow coding b over cur (length cur) →
+    MayBeRefused coding.table a.writing a.states (cell_steps coding.set c 0 (chosen_rows coding.set coding.bits c n))
+cell_refused coding a b c y n over cur inside wide above shows puts refused =
+    let set = coding.set in
+    let bits = coding.bits in
+    let cell : ℕ → List Step = λ k. cell_steps set c 0 (chosen_rows set bits c k) in
+    let row : ℕ → List Step = λ k. row_steps set c y 0 (chosen_row set bits c y k) in
+    let here = subst (λ k. MayBeRefused coding.table b.writing b.states (row k)) wide (refused.may c y above (row_of_cell c y cur wide shows)) in
+    let rows = refused_second coding.table a.writing b.writing a.states b.states (cell y) (row c.width) puts here in
+    let rows = subst (MayBeRefused coding.table a.writing a.states) (sym (cell_more set bits c y)) rows in
+    let on = cell_on set bits c (y + 1) (n - (y + 1)) in
+    let all : y + 1 + (n - (y + 1)) ≡ n = omega (arith, inside) in
+    subst (MayBeRefused coding.table a.writing a.states) (sym on.1 ∙ ap cell all) (refused_first coding.table a.writing a.states (cell (y + 1)) on.0 rows)
+
+pub cell_counts : (coding : RowCoding) (a b : Encoder) (new : Counts) (c : Cell) (y n : ℕ) (over : RowsAbove) (cur : List ℕ) → y < n → length cur ≡ c.width → Above c y over.two over.one → Shows c (y + 2) cur c.width →
+    Puts coding.table a.writing a.states b.writing b.states (cell_steps coding.set c 0 (chosen_rows coding.set coding.bits c y)) → CountsFirst coding b.writing.counts new over cur →
+    CountsFirstRows coding a.writing.counts new c n
+cell_counts coding a b new c y n over cur inside wide above shows puts kept =
+    let row = row_of_cell c y cur wide shows in
+    let some : Shows c (suc (suc y)) cur kept.first = record { each = λ x h. row.each x (omega (arith, h, kept.few)) } in
+    record {
+      y = y;
+      x = kept.first;
+      above = inside;
+      before = omega (arith, kept.few, wide);
+      counted = counted_append a.writing.counts b.writing.counts new _ _ puts.counts (kept.counted c y above some);
+    }
+
 -- from a row to the next
 pub above_top : (c : Cell) → Above c 0 (replicate c.width 0) (replicate c.width 0)
 above_top c = record {
@@ -158,5 +218,8 @@ above_top c = record {
   first = record { each = λ x h. get_or-replicate {A = ℕ} c.width x 0 0 h ∙ sym (seen_above c x) };
 }
 
-pub above_next : (c : Cell) (y : ℕ) (two one cur : List ℕ) → Above c y two one → length cur ≡ c.width → Shows c (suc (suc y)) cur c.width → Above c (suc y) one cur
-above_next c y two one cur above wide shows = record { wide = wide; second = above.first; first = shows }
+pub above_more : (c : Cell) (y : ℕ) (two one cur : List ℕ) → Above c y two one → length cur ≡ c.width → Shows c (y + 2) cur c.width → Above c (y + 1) one cur
+above_more c y two one cur above wide shows =
+    let row : y + 2 ≡ suc (suc y) = omega arith in
+    let next : suc y ≡ y + 1 = omega arith in
+    subst (λ k. Above c k one cur) next (record { wide = wide; second = above.first; first = subst (λ k. Shows c k cur c.width) row shows })

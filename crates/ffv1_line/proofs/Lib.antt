@@ -14,5 +14,6 @@ pub mod CellBack
 pub mod MostDecisions
 pub mod SamplesBelow
 pub mod Agreeing
+pub mod Taken
 pub mod EqualNeighbours
 mod Zeros

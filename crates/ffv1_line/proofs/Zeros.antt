@@ -1,6 +1,9 @@
 -- Zeros of a block that were read by a state that is kept apart.
-use Rattle.std.proofs.Common.{◌≡◌, ℕ, ◌+◌, ◌*◌, List, arith, slice_set, sym, ap, subst, ◌∙◌}
+use Rattle.std.proofs.Common.{◌≡◌, ℕ, ◌+◌, ◌*◌, ◌<◌, List, length, arith, slice_set, sym, ap, subst, ◌∙◌, inl, inr, length-set, get_or-set_same, get_or-set_other}
+use Rattle.std.proofs.lemmas.Bool.{cases_eq}
 use Rattle.std.proofs.lemmas.List.{set-get_or}
+use Rattle.ffv1_range.specs.Table.{Table, Holds}
+use Rattle.ffv1_range.specs.Symbols.{AllHeld}
 use Rattle.ffv1_range.specs.Reading.{summed}
 use Rattle.ffv1_range.specs.Among.{sums_among}
 use Rattle.ffv1_line.specs.declared.decode.places.Places.{Places}
@@ -22,4 +25,13 @@ zeros_by_none p size i r = record {
   by = λ states fits is.
       let same : slice_set states (size * 32) r.state ≡ states = ap (λ s. slice_set states (size * 32) s) (sym is) ∙ set-get_or states (size * 32) 0 in
       subst (λ after. ReadZeros p i (decoder_by r.reading states) r.row i (decoder_by r.reading after) r.row) (sym same) (zeros_none p i (decoder_by r.reading states) r.row);
+}
+
+-- the state that was kept apart is one of the others again
+pub held_with : (t : Table) (states : List ℕ) (k state : ℕ) → k < length states → AllHeld t states → Holds t state → AllHeld t (slice_set states k state)
+held_with t states k state below all holds = record {
+  held = λ slot inside. elim (cases_eq slot k) [
+    | inl same ↦ rw same (subst (Holds t) (sym (get_or-set_same states k state 0 below)) holds)
+    | inr other ↦ subst (Holds t) (sym (get_or-set_other states k slot state 0 other)) (all.held slot (omega (arith, length-set states k state)))
+  ];
 }

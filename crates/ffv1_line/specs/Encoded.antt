@@ -1,5 +1,5 @@
 -- What an encoder of samples writes.
-use Rattle.std.specs.Prelude.{◌≡◌, ℕ, ◌<◌, IfErr, IsTrue, Result, List, length}
+use Rattle.std.specs.Prelude.{◌≡◌, ℕ, ◌<◌, IfErr, IsTrue, Result, List, ◌++◌, length}
 use Rattle.std.proofs.Common.{suc}
 use Rattle.ffv1_range.specs.declared.fault.Fault.{Fault}
 use Rattle.ffv1_range.specs.declared.fault.Fault.TheVariants as fault
@@ -10,7 +10,7 @@ use Rattle.ffv1_line.specs.Coding.{RowCoding}
 use Rattle.ffv1_line.specs.Coder.{Encoder}
 use Rattle.ffv1_line.specs.Above.{RowsAbove}
 use Rattle.ffv1_line.specs.Cell.{Cell, Above, Shows}
-use Rattle.ffv1_line.specs.Row.{row_steps, chosen_row}
+use Rattle.ffv1_line.specs.Row.{row_steps, chosen_row, cell_steps, chosen_rows}
 
 -- the encoder wrote the chosen residuals of the first n samples of a row, whatever the cell that it
 -- is a row of
@@ -41,3 +41,14 @@ pub record CountsFirst (coding : RowCoding) (old new : Counts) (above : RowsAbov
   pub counted : (c : Cell) (y : ℕ) → Above c y above.two above.one →
       Shows c (suc (suc y)) cur first →
       Counted old (row_steps coding.set c y 0 (chosen_row coding.set coding.bits c y first)) new
+
+-- the counters went on by the chosen residuals of the first rows of a cell's n, and of some first
+-- samples of the next one, and not of all
+pub record CountsFirstRows (coding : RowCoding) (old new : Counts) (c : Cell) (n : ℕ) : Type 0 where
+  pub y : ℕ
+  pub x : ℕ
+  pub above : y < n
+  pub before : x < c.width
+  pub counted : Counted old
+      (cell_steps coding.set c 0 (chosen_rows coding.set coding.bits c y)
+      ++ row_steps coding.set c y 0 (chosen_row coding.set coding.bits c y x)) new

@@ -5,6 +5,7 @@ pub mod Coder
 pub mod Row
 pub mod Decoded
 pub mod Encoded
+pub mod Taken
 pub mod Beside
 pub mod Length
 pub mod Coded

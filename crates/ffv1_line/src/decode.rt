@@ -7,6 +7,7 @@ ghost use Rattle.ffv1_line.specs.Decoded.{Lined, LinedToRefusal, SameFrom};
 ghost use Rattle.ffv1_line.specs.Coder.{decoder_by};
 
 mod block;
+mod cell;
 mod deep;
 mod equal;
 pub(crate) mod places;
@@ -15,12 +16,14 @@ mod row;
 mod run;
 mod sample;
 mod wide;
+mod zeros;
 
 use crate::cell::above::Above;
 use crate::coding::Coding;
 use crate::decode::deep::decode_deep;
 use crate::decode::row::decode_row;
 use crate::fault::TooLong;
+pub use cell::{RowSink, decode_cell};
 use ffv1_range::RangeDecoder;
 use std::alloc::Allocator;
 pub use wide::decode_wide;

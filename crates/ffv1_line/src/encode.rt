@@ -12,6 +12,7 @@ ghost use Rattle.ffv1_line.specs.Encoded.{FailsForGood, Written, MayBeRefusedRow
 ghost use Rattle.ffv1_line.specs.Coder.{encoder_by};
 
 mod block;
+mod cell;
 mod deep;
 pub(crate) mod part;
 mod plain;
@@ -22,6 +23,7 @@ use crate::coding::Coding;
 use crate::encode::block::{Block, LIST, PLACES, list_places, prepare};
 use crate::encode::deep::encode_deep;
 use crate::encode::part::Part;
+pub use cell::{CellRows, encode_cell};
 use ffv1_range::{Fault, RangeEncoder, StateTable};
 use std::alloc::Allocator;
 pub use wide::encode_wide;

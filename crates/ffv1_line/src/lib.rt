@@ -1,5 +1,5 @@
 // SPDX-License-Identifier: MIT OR Apache-2.0
-//! One row of one cell of a plane, coded and decoded (RFC 9043, 3.1 to 3.8 and 4.7).
+//! The rows of one cell of a plane, coded and decoded (RFC 9043, 3.1 to 3.8 and 4.7).
 //!
 //! A cell is the part of a plane that one slice holds. `encode_line` puts the residuals of a row's
 //! samples to a range encoder, and `decode_line` reads them back and makes the samples. Both are
@@ -14,6 +14,9 @@
 //! rows.turn();
 //! let bytes = encoder.finish_sentinel()?;
 //! ```
+//!
+//! `encode_cell` and `decode_cell` go so over all rows of a cell, of which each is written into a
+//! line by what has them (`CellRows`), or is handed to what takes them (`RowSink`).
 //!
 //! Samples of 17 bits lie in lines of 32 bits: `encode_wide` and `decode_wide` are the same calls
 //! for these, by a `WideCoding` and a `WideAbove`. Both kinds of lines have one plain body
@@ -36,6 +39,6 @@ pub use cell::word::Word;
 pub use coding::Coding;
 pub use coding::states::reset;
 pub use coding::wide::{WideAbove, WideCoding};
-pub use decode::{decode_line, decode_wide};
-pub use encode::{encode_line, encode_wide};
+pub use decode::{RowSink, decode_cell, decode_line, decode_wide};
+pub use encode::{CellRows, encode_cell, encode_line, encode_wide};
 pub use fault::TooLong;

@@ -18,10 +18,6 @@ pub led_none : (z : Result (List (List ℕ) × List ℕ) Stop) → led [] z ≡ 
 led_none (Ok p) = refl
 led_none (Err why) = refl
 
-pub led_twice : (xs ys : List (List ℕ)) (z : Result (List (List ℕ) × List ℕ) Stop) → led xs (led ys z) ≡ led (xs ++ ys) z
-led_twice xs ys (Ok p) = ap (λ (fs : List (List ℕ)). Ok (fs, p.1)) (sym (append_assoc xs ys p.0))
-led_twice xs ys (Err why) = refl
-
 -- a turn: the frames that it has come to, one or none, and the place after them
 abbrev pub Turn : Type 0
 Turn = Option (List (List ℕ) × Place)
@@ -159,10 +155,6 @@ frames_turn track place text =
     on_step (Err why) = refl
     on_step (Ok (None, rest)) = refl
     on_step (Ok (Some s, rest)) = on_frame s.frame s.place rest
-
--- a turn of which the frames are known
-pub turn_led : (track : ℕ) (place after : Place) (text rest : List ℕ) (frames : List (List ℕ)) → turn_read track place text ≡ Ok (Some (frames, after), rest) → frames_read track place text ≡ led frames (frames_read track after rest)
-turn_led track place after text rest frames is = frames_turn track place text ∙ ap (λ z. read_on z (turns_on track)) is
 
 -- the next frame is that of the next turn, or the next one after it
 abbrev pub next_on : ℕ → Turn → Reading (Option (List ℕ × Place))

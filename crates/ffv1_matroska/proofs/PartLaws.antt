@@ -184,9 +184,6 @@ of_cluster_apart n h = elim (cases_eq n cluster) [ inl same ↦ absurd (no same 
     no : n ≡ cluster → (is_of_cluster n || is_filler n) ≡ true → ⊥
     no same h = let P : ℕ → Type 0 = λ k. (is_of_cluster k || is_filler k) ≡ true in cc (subst P same h)
 
-section_apart : (n m : ℕ) → n ≡ m → is_section m ≡ false → is_section n ≡ false
-section_apart n m same none = ap is_section same ∙ none
-
 filler_is : (n : ℕ) → is_filler n ≡ true → (n ≡ 236) ⊎ (n ≡ crc_ident)
 unfolding is_filler
 filler_is n h = on_test (n == 236) refl

@@ -106,10 +106,6 @@ abbrev pub piece_content : Piece → List ℕ
 piece_content (Single l) = content_text l.content
 piece_content (Group ident size ls) = leaves_text ls
 
-abbrev pub piece_header : Piece → List ℕ
-piece_header (Single l) = l.ident ++ l.size
-piece_header (Group ident size ls) = ident ++ size
-
 -- a number that is one is no other
 pub differs : (n a b : ℕ) → n ≡ a → (a == b) ≡ false → (n == b) ≡ false
 differs n a b is apart = ap (λ z. z == b) is ∙ apart
@@ -248,10 +244,3 @@ pieces_part track base (p ∷ ps) m s rest are past sound =
         let none : 0 + m ≡ m = omega arith in
         ap (λ n. is_sound (cluster_at base n (summed s (piece_text p)))) none ∙ ap (λ (z : Sum). is_sound (cluster_at base m z)) (sym (summed_none (summed s (piece_text p)))) ∙ h
     on_more (q ∷ qs) each h = sound_cluster base (length (pieces_text (q ∷ qs)) + m) (summed s (piece_text p)) (omega (arith, pieces_some track q qs each.0))
-
--- all that it has
-pub pieces_complete : (track : ℕ) (base : Place) (ps : List Piece) (s : Sum) (rest : List ℕ) → ArePieces track ps → IsPast s → is_met (summed s (pieces_text ps)) ≡ true →
-    run track (cluster_at base (length (pieces_text ps)) s) (pieces_text ps ++ rest) ≡ added (pieces_frames ps) (run track (cluster_at base 0 (summed s (pieces_text ps))) rest)
-pieces_complete track base ps s rest are past met =
-    let none : length (pieces_text ps) ≡ length (pieces_text ps) + 0 = omega arith in
-    ap (λ n. run track (cluster_at base n s) (pieces_text ps ++ rest)) none ∙ pieces_part track base ps 0 s rest are past met

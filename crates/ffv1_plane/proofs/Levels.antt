@@ -124,20 +124,6 @@ pub record IsRaisedBelow (runs : List ℕ) (scale half : ℕ) (raised : List ℕ
   pub up : (j : ℕ) → j < k → get_or raised j 0 ≡ half + scale * runs_below runs j
   pub down : (j : ℕ) → 0 < j → j < k → get_or raised (256 - j) 0 ≡ half - scale * runs_below runs j
 
-pub raised_first : (runs : List ℕ) (scale half : ℕ) (raised : List ℕ) → Filled runs → length raised ≡ 256 → IsRaisedBelow runs scale half (set raised 0 half) 1
-raised_first runs scale half raised filled long =
-    let some = filled.some in
-    let first = filled.positive 0 some in
-    let step = sum_by_more (λ (x : ℕ). x) runs 0 0 some in
-    record {
-      long = length-set raised 0 half ∙ long;
-      up = λ j below.
-          let zeroth : j ≡ 0 = omega arith in
-          let low = runs_below-at runs 0 0 some (omega arith) (omega arith) in
-          rw (zeroth, low, get_or-set_same raised 0 half 0 (omega arith)) (omega arith);
-      down = λ j some below. absurd (omega arith);
-    }
-
 pub raised_more : (runs : List ℕ) (scale half : ℕ) (raised : List ℕ) (k run end level : ℕ) → 0 < k → k < 128 → IsRaisedBelow runs scale half raised k → Stands runs scale k run end level →
     IsRaisedBelow runs scale half (set (set raised k (half + level)) (256 - k) (half - level)) (k + 1)
 raised_more runs scale half raised k run end level some low so_far stands =

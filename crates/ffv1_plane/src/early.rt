@@ -244,7 +244,7 @@ impl Early {
         ensures early { AreEarly rows.now.set.now rows.now.two.now rows.now.one.now rows.now.from
             self.new.sum count }
     {
-        // A copy that no one else has, so that a store of a sum makes no loop read it again.
+        // A copy of its own: no store of a sum can change it, so no turn reads it again.
         let BlockRows {
             set,
             two,

@@ -33,10 +33,6 @@ narrowed-count i (d ∷ ds) =
     let rest = narrowed-count (narrow i d.state d.bit) ds in
     omega arith
 
--- a part that is narrow grows
-pub renormalised-grows : (i : Interval) → i.width < 256 → i.count < (renormalised i).count
-renormalised-grows i less = rw (lt-ltb i.width 256 less) (omega arith)
-
 pub grows_first : (t : Table) (i : Interval) (states : List ℕ) (xs ys : List Step) → Grows t i states xs → Grows t i states (xs ++ ys)
 grows_first t i states xs ys grows =
     let all : narrowed i (decided t states (xs ++ ys)) ≡ narrowed (narrowed i (decided t states xs)) (decided t (moved_by t states xs) ys) =

@@ -11,14 +11,6 @@ use Rattle.ffv1_range.proofs.EmittedBytes.{same_interval, value-pushed}
 pub power_next : (held : ℕ) → 256 ^ (held + 1) ≡ 256 * 256 ^ held
 power_next held = rw add-one (pow-succ' 256 held)
 
-pub power_few : (held : ℕ) → held ≤ 4 → 256 ^ held ≤ 4294967296
-power_few zero few = omega arith
-power_few (suc zero) few = omega arith
-power_few (suc (suc zero)) few = omega arith
-power_few (suc (suc (suc zero))) few = omega arith
-power_few (suc (suc (suc (suc zero)))) few = omega arith
-power_few (suc (suc (suc (suc (suc held))))) few = absurd (omega arith)
-
 pub power_thrice : (held : ℕ) → held ≤ 3 → 256 ^ held ≤ 16777216
 power_thrice zero few = omega arith
 power_thrice (suc zero) few = omega arith
@@ -33,9 +25,6 @@ places_are (suc zero) some few = refl
 places_are (suc (suc zero)) some few = refl
 places_are (suc (suc (suc zero))) some few = refl
 places_are (suc (suc (suc (suc held)))) some few = absurd (omega arith)
-
-pub small_low : (low width held : ℕ) → held ≤ 4 → low + width ≤ 131072 * 256 ^ held → low + width ≤ 562949953421312
-small_low low width held few below = omega (arith, power_few held few)
 
 pub renormalised_held : (bytes : List ℕ) (low width held : ℕ) → width < 256 →
     interval_held bytes (low * 256) (width * 256) (held + 1) ≡ renormalised (interval_held bytes low width held)

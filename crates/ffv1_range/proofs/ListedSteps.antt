@@ -1,5 +1,5 @@
 -- Steps of a list of numbers.
-use Rattle.std.proofs.Common.{◌≡◌, refl, ℕ, zero, suc, ◌+◌, ◌/◌, ◌%◌, ◌==◌, ◌<◌, ◌≤◌, List, [], ◌∷◌, ◌++◌, length, get_or, take, drop, arith, ap, ◌∙◌, sym, inl, inr, add-one}
+use Rattle.std.proofs.Common.{◌≡◌, refl, ℕ, zero, suc, ◌+◌, ◌/◌, ◌%◌, ◌==◌, ◌<◌, List, [], ◌∷◌, ◌++◌, length, get_or, take, drop, arith, ap, ◌∙◌, sym, inl, inr, add-one}
 use Rattle.std.proofs.Math.Seq.{take-suc}
 use Rattle.std.proofs.lemmas.Bool.{cases_eq}
 use Rattle.std.proofs.lemmas.List.{take-append-drop}
@@ -50,13 +50,6 @@ pub ones_next : (xs : List ℕ) (i : ℕ) → i < length xs → ones_in (steps_o
 ones_next xs i inside =
     let next = ap ones_in (steps_of-next xs i inside) ∙ ones_in-append (steps_of (take i xs)) (step_of (get_or xs i 0) ∷ []) in
     let one = one_of (get_or xs i 0 / 256) in
-    omega arith
-
-pub ones_few : (xs : List ℕ) → ones_in (steps_of xs) ≤ length xs
-ones_few [] = omega arith
-ones_few (x ∷ xs) =
-    let rest = ones_few xs in
-    let one = one_of (x / 256) in
     omega arith
 
 pub writes_listed : (t : Table) (a b c : Writing) (ss ts us list : List ℕ) (i : ℕ) → i < length list → Writes t a ss b ts (steps_of (take i list)) →

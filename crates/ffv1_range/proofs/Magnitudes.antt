@@ -30,10 +30,6 @@ pub one_reads : (t : Table) (a b c d : Reading) (ss ts us vs : List ℕ) (bit : 
 one_reads t a b c d ss ts us vs true first second third = rw raising_one (reads_append t a c d ss us vs _ _ (reads_append t a b c ss ts us _ _ first second) third)
 one_reads t a b c d ss ts us vs false first second third = rw raising_one (reads_append t a c d ss us vs _ _ (reads_append t a b c ss ts us _ _ first second) third)
 
-pub one_bit_ones : (bit : Bool) → one_if bit ≡ ones_in (mantissa_steps 1 0 (2 + one_if bit))
-one_bit_ones true = refl
-one_bit_ones false = refl
-
 -- two decisions 1 of an exponent
 pub two_reads : (t : Table) (a b c : Reading) (ss ts us : List ℕ) → Reads t a ss b ts (record { slot = 1; bit = true } ∷ []) → Reads t b ts c us (record { slot = 2; bit = true } ∷ []) →
     Reads t a ss c us (raising 2)

@@ -100,9 +100,6 @@ pairs_high (n ∷ words) (suc x) = rw (doubled_more x) (pairs_high words x)
 pub record AreBytesOf (depth x : ℕ) (out words : List ℕ) : Type 0 where
   pub each : (k : ℕ) → k < 2 * x → slice_index out k ≡ slice_index (bytes_of depth words) k
 
-pub bytes_none : (depth : ℕ) (out words : List ℕ) → AreBytesOf depth 0 out words
-bytes_none depth out words = record { each = λ k lt. absurd (omega (arith, lt)) }
-
 pub bytes_more : (depth x word : ℕ) (out after words : List ℕ) → after ≡ put out x word → 8 < depth → 2 * x + 1 < length out → word ≡ slice_index words x → AreBytesOf depth x out words → AreBytesOf depth (x + 1) after words
 bytes_more depth x word out after words placed deep room is old = record {
   each = λ k lt. ap (λ l. slice_index l k) placed ∙ elim (cases_lt k (2 * x)) [

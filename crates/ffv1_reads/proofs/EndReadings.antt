@@ -5,7 +5,7 @@ use Rattle.ffv1_wire.proofs.Bytes.{consumes_then}
 use Rattle.ffv1_wire.specs.Passage.{Passage}
 use Rattle.ffv1_reads.specs.declared.fault.FileFault.{FileFault}
 use Rattle.ffv1_reads.specs.declared.fault.FileFault.TheVariants as fault
-use Rattle.ffv1_reads.specs.Ends.{AnswersOrEnds, AnswersOrNone, Halts, ReadOrNone, RefusedOrNone, Stops}
+use Rattle.ffv1_reads.specs.Ends.{AnswersOrNone, Halts, ReadOrNone, RefusedOrNone, Stops}
 use Rattle.ffv1_reads.specs.Reads.{Answers, Read, Reading, Refused, Stop, given, read_on, ◌>>=◌}
 use Rattle.ffv1_reads.proofs.Reading.{Goes, goes_given, goes_read, goes_refused, goes_same}
 
@@ -131,25 +131,3 @@ none_last {X = X} {whole = whole} {old = old} {now = now} {before = before} {aft
 
     through : Goes whole old before r now after → Goes whole old before (r >>= λ x. given x) now after
     through h = goes_same r (r >>= λ x. given x) (λ text. again (r text)) h
-
--- what a call answers that may come to the end, without saying which
-pub answers_ends : {X Y : Type 0} (view : Y → Option X) (reading : Reading (Option X)) (p : Passage) (result : Result Y FileFault) → AnswersOrNone view reading p result → AnswersOrEnds view reading p result
-answers_ends view reading p (Ok y) (same, inl read) = (same, inl read)
-answers_ends view reading p (Ok y) (same, inr ((halts, ended), none)) = (same, inr (rw none halts, ended))
-answers_ends view reading p (Err fault.Read) (counted, inl wants) = (counted, inl wants)
-answers_ends view reading p (Err fault.Read) (counted, inr halts) = (counted, inr (None, halts))
-answers_ends view reading p (Err fault.OutOfMemory) why = why
-answers_ends view reading p (Err fault.Truncated) why = why
-answers_ends view reading p (Err fault.NotAvi) why = why
-answers_ends view reading p (Err fault.NoFfv1) why = why
-answers_ends view reading p (Err fault.ChunkTooLong) why = why
-answers_ends view reading p (Err fault.EmptyFrame) why = why
-answers_ends view reading p (Err fault.TooLarge) why = why
-answers_ends view reading p (Err fault.Write) why = why
-answers_ends view reading p (Err fault.NotMatroska) why = why
-answers_ends view reading p (Err fault.BadElement) why = why
-answers_ends view reading p (Err fault.NoTracks) why = why
-answers_ends view reading p (Err fault.Encoded) why = why
-answers_ends view reading p (Err fault.Laced) why = why
-answers_ends view reading p (Err fault.Checksum) why = why
-answers_ends view reading p (Err fault.Rate) why = why

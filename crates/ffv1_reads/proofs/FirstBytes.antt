@@ -6,10 +6,9 @@ use lib.ListN.{set}
 use Rattle.std.proofs.lemmas.Grind.{common_steps}
 use Rattle.std.specs.Io.KnownBytes.{Consumes}
 use Rattle.ffv1_reads.specs.First.{bytes_with}
-use Rattle.ffv1_reads.specs.Reads.{Answers, Faults, Lacks, Read, Reading, Refused, Looked, Stop, Want, Wants, taken, wanted}
+use Rattle.ffv1_reads.specs.Reads.{Faults, Lacks, Read, Reading, Refused, Looked, Stop, Want, Wants, taken, wanted}
 use Rattle.ffv1_reads.specs.declared.fault.FileFault.{FileFault}
 use Rattle.ffv1_reads.specs.declared.fault.FileFault.TheVariants as fault
-use Rattle.ffv1_wire.specs.Passage.{between}
 
 -- a value that is made of what was read
 abbrev pub made_of : {X Y : Type 0} → (X → Y) → Result (X × List ℕ) Stop → Result (Y × List ℕ) Stop
@@ -53,10 +52,6 @@ module _ {X Y : Type 0} (b : ℕ) (make : X → Y) (rest_of : Reading X) (whole 
     first_refused fault.Laced h = (h.0, first_faults fault.Laced h.1)
     first_refused fault.Checksum h = (h.0, first_faults fault.Checksum h.1)
     first_refused fault.Rate h = absurd h
-
-    pub first_answers : {Z : Type 0} (view : Z → X) (r : Result Z FileFault) → Answers view rest_of (between old new before after) r → Answers (λ z. make (view z)) whole (between (bytes_with (Some b) old) new before after) r
-    first_answers view (Ok z) h = (h.0, first_read (view z) h.1)
-    first_answers view (Err f) h = first_refused f h
 
 -- so many bytes of which one was read
 pub wanted_first : (w : Want) (n b : ℕ) (text : List ℕ) → wanted w (suc n) (b ∷ text) ≡ made_of (λ bytes. b ∷ bytes) (wanted w n text)

@@ -5,12 +5,11 @@ use Rattle.std.proofs.lemmas.List.{take-append-drop, take_all}
 use Rattle.std.proofs.Math.Seq.{take-append-add, take-append_seam}
 use Rattle.std.specs.Io.KnownBytes.{Consumes, IsAtEnd}
 use Rattle.ffv1_wire.proofs.Bytes.{consumes_then}
-use Rattle.ffv1_wire.specs.Reads.{Fills, FillsBeginning, Skips, SkipsBeginning}
+use Rattle.ffv1_wire.specs.Reads.{Fills, FillsBeginning}
 use Rattle.ffv1_reads.specs.declared.fault.FileFault.{FileFault}
 use Rattle.ffv1_reads.specs.declared.fault.FileFault.TheVariants as fault
-use Rattle.ffv1_reads.specs.Reads.{AppendsSome, Begins, Faults, Kept, Lacks, Looked, Met, Read, Refused, Short, Stop, Want, Wants, appended, passed, read_on, taken, wanted}
-use Rattle.ffv1_reads.proofs.WantedBytes.{passed_complete, wanted_complete, wanted_sound}
-use Rattle.ffv1_reads.proofs.Reading.{consumes_none}
+use Rattle.ffv1_reads.specs.Reads.{AppendsSome, Begins, Faults, Kept, Lacks, Looked, Met, Read, Refused, Short, Stop, Want, Wants, appended, passed, taken, wanted}
+use Rattle.ffv1_reads.proofs.WantedBytes.{wanted_complete, wanted_sound}
 use Rattle.ffv1_reads.proofs.Results.{ok_is}
 
 -- too few bytes
@@ -28,43 +27,6 @@ pub filled : (old new : Option (List ℕ)) (n : ℕ) (buf : List ℕ) → n ≡ 
 filled old new n buf all h =
     let P : List ℕ → Type 0 = λ z. Consumes old new z in
     record { bytes = buf; consumed = subst P (take_all n buf (omega (arith, all))) h.0; is = λ rest. wanted_complete Looked (length buf) buf rest refl }
-
--- or the bytes ended before
-pub filled_short : (old new : Option (List ℕ)) (n : ℕ) (buf : List ℕ) → n < length buf → Fills old new n buf → Wants (taken (length buf)) old new × IsAtEnd new
-filled_short old new n buf few h =
-    let short : length (take n buf) < length buf = omega (arith, few, length-take n buf) in
-    ((Looked, record { bytes = take n buf; consumed = h.0; is = wanted_short Looked (length buf) (take n buf) short }), h.1 few)
-
--- or a read failed
-pub filled_not : (old new : Option (List ℕ)) (buf : List ℕ) → FillsBeginning old new buf → Wants (taken (length buf)) old new
-filled_not old new buf h =
-    let short : length (take h.0 buf) < length buf = omega (arith, h.1, length-take h.0 buf) in
-    (Looked, record { bytes = take h.0 buf; consumed = h.2; is = wanted_short Looked (length buf) (take h.0 buf) short })
-
--- the same of bytes that are passed
-pub skipped_all : (old new : Option (List ℕ)) (n count : ℕ) → n ≡ count → Skips old new n count → Read (passed count) old new tt
-skipped_all old new n count all h =
-    record { bytes = h.1.0; consumed = h.1.2; is = λ rest. passed_complete count h.1.0 rest (h.1.1 ∙ all) }
-
-pub skipped_short : (old new : Option (List ℕ)) (n count : ℕ) → n < count → Skips old new n count → Wants (passed count) old new × IsAtEnd new
-skipped_short old new n count few h =
-    let short : length h.1.0 < count = omega (arith, few, h.1.1) in
-    ((Looked, record { bytes = h.1.0; consumed = h.1.2; is = passed_short count h.1.0 short }), h.2 few)
-
-pub skipped_not : (old new : Option (List ℕ)) (count : ℕ) → SkipsBeginning old new count → Wants (passed count) old new
-skipped_not old new count h =
-    let short : length h.2.0 < count = omega (arith, h.1, h.2.1) in
-    (Looked, record { bytes = h.2.0; consumed = h.2.2; is = passed_short count h.2.0 short })
-
--- nothing of what is to be kept was read
-pub append_none : (now : Option (List ℕ)) (items : List ℕ) (more : ℕ) → 0 < more → Lacks (appended items more) now now Kept
-append_none now items more some = record { bytes = []; consumed = consumes_none now; is = appended_short items more [] some }
-
--- bytes that were read after others
-pub append_all : (old new : Option (List ℕ)) (items buf : List ℕ) (more n : ℕ) → length buf ≡ more → n ≡ more → Fills old new n buf → Read (appended items more) old new (items ++ buf)
-append_all old new items buf more n long all h =
-    let P : List ℕ → Type 0 = λ z. Consumes old new z in
-    record { bytes = buf; consumed = subst P (take_all n buf (omega (arith, all, long))) h.0; is = λ rest. ap (λ z. read_on z (λ x r. Ok (items ++ x, r))) (wanted_complete Kept more buf rest long) }
 
 pub append_short : (old new : Option (List ℕ)) (items buf : List ℕ) (more n : ℕ) → length buf ≡ more → n < more → Fills old new n buf → Wants (appended items more) old new × IsAtEnd new
 append_short old new items buf more n long few h =

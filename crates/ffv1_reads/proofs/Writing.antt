@@ -1,5 +1,5 @@
 -- Bytes that are written one after the other.
-use Rattle.std.proofs.Common.{◌≡◌, ℕ, suc, ◌+◌, ◌≤◌, ◌<◌, [], ◌∷◌, Option, Some, None, Result, Ok, Err, List, ◌++◌, length, take, drop, get_or, flat_map, ap, ◌∙◌, sym, add-one, append_assoc, arith, subst}
+use Rattle.std.proofs.Common.{◌≡◌, ℕ, suc, ◌+◌, ◌≤◌, ◌<◌, [], ◌∷◌, Option, Some, None, Result, Ok, Err, List, ◌++◌, length, take, drop, get_or, flat_map, ap, ◌∙◌, sym, append_assoc, arith, subst}
 use Rattle.std.proofs.lemmas.Grind.{common_steps, flat_map-append}
 use Rattle.std.proofs.Math.Seq.{take-append-add, take-suc}
 use Rattle.std.proofs.lemmas.List.{take-append-le, take-append-drop}
@@ -84,13 +84,6 @@ flat_more f xs i d inside = rw (take-suc xs i d inside, flat_map-append f (take 
 
 pub flat_cut : {X : Type 0} (f : X → List ℕ) (xs : List X) (i : ℕ) → flat_map f (take i xs) ++ flat_map f (drop i xs) ≡ flat_map f xs
 flat_cut f xs i = sym (flat_map-append f (take i xs) (drop i xs)) ∙ ap (flat_map f) (take-append-drop i xs)
-
--- one piece more is written
-pub pieces_then : {X : Type 0} (f : X → List ℕ) (xs : List X) (i : ℕ) (d : X) (a b c : Option (List ℕ)) → i < length xs → Appends a b (flat_map f (take i xs)) → Appends b c (f (get_or xs i d)) → Appends a c (flat_map f (take (i + 1) xs))
-pieces_then f xs i d a b c inside h k =
-    let P : List ℕ → Type 0 = λ z. Appends a c z in
-    let e : flat_map f (take i xs) ++ f (get_or xs i d) ≡ flat_map f (take (i + 1) xs) = rw (add-one) (sym (flat_more f xs i d inside)) in
-    subst P e (appends_then a b c _ _ h k)
 
 -- the writing of a piece stopped
 pub pieces_stop : {X : Type 0} (f : X → List ℕ) (xs : List X) (i : ℕ) (d : X) (a b c : Option (List ℕ)) (l m n : ℕ) (e : FileFault) → i < length xs → m ≡ l → Appends a b (flat_map f (take i xs)) →

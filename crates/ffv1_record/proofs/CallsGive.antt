@@ -204,9 +204,6 @@ refuses_run a b states after n most one many = record {
       record { either = inl (n, on.0, on.1, record { either = inr (fault.Runs, rw outside refl, refl) }) };
 }
 
-pub stops_run : (a b : Source) (states after : List ℕ) (most : ℕ) (f : RecordFault) → GivesIn number a states b after (Err f) → GivesIn (λ base. number_within base 0 most fault.Runs) a states b after (Err f)
-stops_run a b states after most f one = record { gives = λ bytes base s st. record { either = inr (f, one.gives bytes base s st, refl) } }
-
 -- coder_type
 pub one_coder : (kind : ℕ) (a : Source) → kind ≡ 1 → Gives (λ c. c) (coder_of kind) a a (Ok coder.One)
 one_coder kind a one = rw one (gives_done (λ c. c) a coder.One)

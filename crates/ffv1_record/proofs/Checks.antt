@@ -1,5 +1,5 @@
 -- What the checks of a configuration say of its numbers.
-use Rattle.std.proofs.Common.{◌≡◌, refl, sym, ◌⊎◌, ℕ, zero, suc, ◌∷◌, [], length, get_or, ◌<◌, ◌≤◌, inl, inr, Bool, true, false, ◌&&◌, ◌||◌, not, ◌==◌, nat_le, IsTrue, IsFalse, rules, arith, List, ap, ◌^◌, ℤ, pos, negsuc}
+use Rattle.std.proofs.Common.{◌≡◌, refl, sym, ◌⊎◌, ℕ, zero, suc, ◌<◌, ◌≤◌, inl, inr, Bool, true, false, ◌&&◌, ◌||◌, not, ◌==◌, nat_le, IsTrue, IsFalse, rules, arith, List, ap, ◌^◌, ℤ, pos, negsuc}
 use Rattle.std.specs.Int.{w32}
 use mir.Val.{SFits}
 use Rattle.std.proofs.Math.IntN.{nat_abs}
@@ -9,7 +9,6 @@ use Rattle.std.proofs.lemmas.Bool.Decides.{nat_tests}
 use Rattle.ffv1_range.specs.Table.{Table}
 use Rattle.ffv1_range.specs.Deltas.{IsTableOf, HaveNoTable}
 use Rattle.ffv1_record.specs.Configuration.{Configuration, is_rct}
-use Rattle.ffv1_record.specs.Writable.{AreDeltas}
 use Rattle.ffv1_record.specs.Record.{depth_of}
 use Rattle.ffv1_record.specs.Accepted.{is_sized, is_depth, deepest, is_subsampled, is_divided}
 use Rattle.ffv1_record.specs.declared.config.Profile.{Profile}
@@ -140,9 +139,3 @@ pub counted : (n : ℕ) → IsTrue (nat_le 1 n && nat_le n 8) → (1 ≤ n) × (
 counted n h =
     let parts = both (nat_le 1 n) (nat_le n 8) h in
     (leb-true 1 n parts.0, leb-true n 8 parts.1)
-
--- deltas of 32 bits, none of them the least number, have symbols
-pub are_deltas : (ds : List ℤ) → ((k : ℕ) → k < length ds → SFits w32 (get_or ds k (pos 0))) → ((k : ℕ) → k < length ds → get_or ds k (pos 0) ≡ negsuc 2147483647 → ⊥) → AreDeltas ds
-are_deltas [] fits sound = tt
-are_deltas (d ∷ ds) fits sound =
-    (small_delta d (fits 0 (omega arith)) (sound 0 (omega arith)), are_deltas ds (λ k inside. fits (suc k) (omega arith)) (λ k inside. sound (suc k) (omega arith)))

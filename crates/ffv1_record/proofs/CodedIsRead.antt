@@ -2,7 +2,7 @@
 use Rattle.std.proofs.Common.{◌≡◌, refl, ℕ, ◌+◌, ◌^◌, ◌<◌, ◌≤◌, inl, inr, Bool, true, false, IsTrue, nat_le, ◌&&◌, List, [], ◌++◌, append-nil, ap, sym, subst, ◌∙◌, ℤ, Result, Ok, Err, rules}
 use Rattle.std.proofs.Math.IntN.{nat_abs}
 use Rattle.std.proofs.lemmas.Bool.{le-leb}
-use Rattle.ffv1_range.specs.Interval.{Decision, start, narrowed}
+use Rattle.ffv1_range.specs.Interval.{start, narrowed}
 use Rattle.ffv1_range.specs.Codes.{AreBytes, Inside}
 use Rattle.ffv1_range.specs.Symbols.{Step, shifted, too_long}
 use Rattle.ffv1_range.specs.History.{decisions_after}
@@ -18,10 +18,6 @@ use Rattle.ffv1_record.specs.declared.fault.RecordFault.{RecordFault}
 use Rattle.ffv1_record.specs.Record.{IsCoded, number_steps, signed_number_steps, truth_steps}
 use Rattle.ffv1_record.specs.Reader.{Reader, Spot, behind, ◌>>=◌, done, require, next_table, number, signed_number, truth, number_within, makes_table}
 use Rattle.ffv1_record.proofs.ReadIsCoded.{ok_same, not_both}
-
--- the decisions of steps after others
-behind_decisions : (past steps : List Step) → List Decision
-behind_decisions past steps = decisions_after standard past steps
 
 -- bytes that code steps code each beginning of them
 pub coded_front : (b : List ℕ) → AreBytes b → (xs ys : List Step) → IsCoded b (xs ++ ys) → IsCoded b xs

@@ -1,7 +1,7 @@
 -- The same of all parameters.
 use Rattle.std.proofs.Common.{◌≡◌, refl, ℕ, zero, suc, ◌+◌, ◌-◌, ◌*◌, ◌^◌, ◌<◌, ◌≤◌, Bool, true, false, not, IsTrue, nat_lt, nat_le, ◌&&◌, ◌||◌, ◌==◌, List, [], ◌∷◌, ◌++◌, length, sum, append_assoc, append-nil, ap, sym, subst, ◌∙◌, arith, ℤ, rules}
 use Rattle.std.specs.List.{list_all, fold}
-use Rattle.std.proofs.lemmas.Bool.{le-leb, ltb-true, leb-true, eqb-true}
+use Rattle.std.proofs.lemmas.Bool.{le-leb, leb-true, eqb-true}
 use Rattle.ffv1_range.specs.Codes.{AreBytes}
 use Rattle.ffv1_range.specs.Symbols.{Step}
 use Rattle.ffv1_range.specs.Table.{Table}
@@ -117,13 +117,6 @@ sum_cons r rs = sum_from (0 + r) rs ∙ ap (λ n. n + sum rs) zero_more
   where
     zero_more : 0 + r ≡ r
     zero_more = omega arith
-
-no_steps : (rs : List ℕ) → IsTrue (list_all (λ r. nat_lt 0 r) rs) → sum rs ≡ 0 → rs ≡ []
-no_steps [] each none = refl
-no_steps (r ∷ rs) each none =
-    let some = ltb-true 0 r (both (nat_lt 0 r) (list_all (λ r. nat_lt 0 r) rs) each).0 in
-    let all = sum_cons r rs in
-    absurd (omega arith)
 
 module _ (b : List ℕ) (are : AreBytes b) (base : ℕ) where
   pub forced_runs : (steps : ℕ) (rs acc : List ℕ) (left : ℕ) (s : Spot) → sum rs ≡ left → left ≤ steps → left ≤ 128 → IsTrue (list_all (λ r. nat_lt 0 r) rs) → Forces (runs_onto base steps left acc) b s (acc ++ rs) (behind s (runs_steps base rs))

@@ -1,7 +1,7 @@
 -- The runs of a table, one after the other.
 use Rattle.std.proofs.Common.{◌≡◌, refl, ℕ, zero, suc, ◌+◌, ◌-◌, ◌<◌, ◌≤◌, inl, inr, IsTrue, IsFalse, List, [], ◌∷◌, ◌++◌, replicate, sum, arith, Result, Ok, Err, nat_lt, nat_le}
 use Rattle.std.specs.List.{list_all, fold}
-use Rattle.ffv1_plane.specs.Quantisation.{is_filled, are_filled}
+use Rattle.ffv1_plane.specs.Quantisation.{is_filled}
 use Rattle.ffv1_record.specs.declared.fault.RecordFault.{RecordFault}
 use Rattle.ffv1_record.specs.declared.fault.RecordFault.TheVariants as fault
 use Rattle.ffv1_record.specs.Reader.{Spot, ◌>>=◌, done, next_table, number_within}
@@ -58,11 +58,6 @@ table_end view v a c states lead = record {
       let on = lead.leads b s st in
       (on.0, on.4 (Ok (view v, on.0)) (runs_done s.fresh on.1 (view v) b on.0), on.3.stands);
 }
-
--- five filled tables
-pub five_filled : (a b c d e : List ℕ) → IsTrue (is_filled a) → IsTrue (is_filled b) → IsTrue (is_filled c) → IsTrue (is_filled d) → IsTrue (is_filled e) →
-    IsTrue (are_filled (a ∷ b ∷ c ∷ d ∷ e ∷ []))
-five_filled a b c d e pa pb pc pd pe = rw (pa, pb, pc, pd, pe) refl
 
 -- the same where the number of entries left is stated otherwise
 pub table_next_at : (left less rest run : ℕ) (runs : List ℕ) (a c d : Source) (states after : List ℕ) → 0 < left → rest + (less + 1) ≡ left → run ≡ less + 1 → LeadsTable left runs a c states →

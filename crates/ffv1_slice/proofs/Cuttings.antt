@@ -6,8 +6,8 @@ use Rattle.ffv1_record.specs.Parity.{remainder_of}
 use Rattle.ffv1_slice.specs.declared.cutting.CutFault.{CutFault}
 use Rattle.ffv1_slice.specs.declared.fault.SliceFault.TheVariants as fault
 use Rattle.ffv1_slice.specs.Footer.{foot_length}
-use Rattle.ffv1_slice.specs.Cutting.{IsCutting, IsWhole, IsSound, Cuts, size_before, slice_of, cut_of}
-use Rattle.ffv1_slice.specs.Internal.Walk.{offsets_onto, first_damaged, judged_by, judged}
+use Rattle.ffv1_slice.specs.Cutting.{IsCutting, IsWhole, IsSound, Cuts, size_before, slice_of}
+use Rattle.ffv1_slice.specs.Internal.Walk.{cut_of, offsets_onto, first_damaged, judged_by, judged}
 
 pub one_cutting : (payload : List ℕ) (foot count : ℕ) (xs ys : ℕ → ℕ) → IsCutting payload foot count xs → IsCutting payload foot count ys →
     (d s : ℕ) → s + d ≡ count → xs s ≡ ys s

@@ -13,5 +13,6 @@ pub mod FirstDamaged
 pub mod Factors
 pub mod OffsetsFound
 pub mod Refusals
+pub mod OneWay
 pub mod Joined
 pub mod Keys

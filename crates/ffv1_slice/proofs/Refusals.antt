@@ -10,8 +10,8 @@ use Rattle.ffv1_slice.specs.declared.fault.SliceFault.{SliceFault}
 use Rattle.ffv1_slice.specs.declared.fault.SliceFault.TheVariants as fault
 use Rattle.ffv1_slice.specs.Footer.{foot_length}
 use Rattle.ffv1_slice.specs.Cutting.{AreBehind, IsSized, HasNoSlice, HasLeftover, IsDamage, IsDamaged, IsRefused}
-use Rattle.ffv1_slice.specs.Cutting.{IsWhole, size_before, slice_of, cut_of}
-use Rattle.ffv1_slice.specs.Internal.Walk.{offsets_onto, first_damaged, judged_by, judged}
+use Rattle.ffv1_slice.specs.Cutting.{IsWhole, size_before, slice_of}
+use Rattle.ffv1_slice.specs.Internal.Walk.{cut_of, offsets_onto, first_damaged, judged_by, judged}
 use Rattle.ffv1_slice.proofs.Cuttings.{found, some_found, one_cutting, sound_same}
 
 -- offsets that are known from number n on, and one more before them

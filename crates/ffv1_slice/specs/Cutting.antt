@@ -1,7 +1,7 @@
 -- How a payload is a row of slices, each of its coded bytes and a footer (RFC 9043, 4.4, 4.5 and
--- 4.9), and how they are found from the end.
+-- 4.9), and why another payload is refused.
 use Rattle.std.specs.Prelude.{◌≡◌, ◌≢◌, ◌⊎◌, ℕ, ◌+◌, ◌-◌, ◌*◌, ◌<◌, ◌≤◌, nat_lt, Bool}
-use Rattle.std.specs.Prelude.{true, false, if◌then◌else◌, Option, Some, None, Result}
+use Rattle.std.specs.Prelude.{true, false, if◌then◌else◌, Option, Some, None, Result, Ok, Err}
 use Rattle.std.specs.Prelude.{List, [], ◌∷◌, ◌++◌, length, take, drop, slice_index, slice_get}
 use Rattle.std.proofs.Common.{zero, suc}
 use Rattle.ffv1_record.specs.Parity.{remainder_of}
@@ -9,7 +9,6 @@ use Rattle.ffv1_record.specs.Configuration.{Configuration}
 use Rattle.ffv1_range.specs.Codes.{AreBytes}
 use Rattle.ffv1_slice.specs.Footer.{foot_length, footer_of}
 pub use Rattle.ffv1_slice.specs.Footer.{size_before, slice_of}
-use Rattle.ffv1_slice.specs.Internal.Walk.{judged, offsets_onto}
 use Rattle.ffv1_slice.specs.declared.fault.SliceFault.{SliceFault}
 use Rattle.ffv1_slice.specs.declared.fault.SliceFault.TheVariants as fault
 use Rattle.ffv1_slice.specs.declared.cutting.CutFault.{CutFault}
@@ -87,6 +86,12 @@ IsRefused c payload f =
     × HasLeftover payload (foot_length c.ec) (c.columns * c.rows))
     ⊎ IsDamaged c payload f.slice f.fault
 
+-- what a payload is cut to: the offsets of its slices and of its end, or why it is refused
+abbrev pub CutsTo : Configuration → List ℕ → Result (List ℕ) CutFault → Type 0
+CutsTo c payload (Ok offsets) =
+    (length offsets ≡ suc (c.columns * c.rows)) × Cuts c payload (slice_index offsets)
+CutsTo c payload (Err f) = IsRefused c payload f
+
 -- coded bytes with their footers, one after the other
 abbrev pub joined_of : Bool → List (List ℕ) → List ℕ
 joined_of ec [] = []
@@ -107,12 +112,6 @@ AreCodedBytes (bytes ∷ more) = AreBytes bytes × (length bytes ≤ 16777215) �
 pub record AreCodedIn (payload : List ℕ) (foot : ℕ) (spans : ℕ → ℕ) (codes : List (List ℕ))
     : Type 0 where
   pub each : (s : ℕ) → s < length codes → slice_get codes s ≡ Some (coded_of payload foot spans s)
-
--- what cutting gives: one offset more than there are slices, or the first fault
-abbrev pub cut_of : Configuration → List ℕ → Result (List ℕ) CutFault
-cut_of c payload =
-    judged payload (c.columns * c.rows) c.ec
-    (offsets_onto payload (foot_length c.ec) (c.columns * c.rows) (length payload) [])
 
 -- where the slices of a payload lie, for how many offsets there are places, and for how many there
 -- is memory

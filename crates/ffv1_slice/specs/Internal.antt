@@ -1,4 +1,4 @@
 -- What ties registers, arrays and types of the code to the definitions, and the walk that finds the
--- slices, of which public clauses name `cut_of` alone.
+-- slices. No public clause cites it.
 pub mod Values
 pub mod Walk

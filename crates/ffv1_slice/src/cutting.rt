@@ -5,8 +5,8 @@ ghost use Rattle.std.specs.Prelude.{OnOk, OnErr, IfOk, IfErr, length, take, [], 
 ghost use Rattle.ffv1_record.specs.Configuration.{configuration_of};
 ghost use Rattle.ffv1_slice.specs.Footer.{foot_length};
 ghost use Rattle.ffv1_slice.specs.Cutting.{size_before, IsCutting};
-ghost use Rattle.ffv1_slice.specs.Internal.Walk.{offsets_onto, first_damaged};
-ghost use Rattle.ffv1_slice.specs.Cutting.{cut_of, Cuts, IsRefused};
+ghost use Rattle.ffv1_slice.specs.Internal.Walk.{cut_of, offsets_onto, first_damaged};
+ghost use Rattle.ffv1_slice.specs.Cutting.{Cuts, CutsTo, IsRefused};
 ghost use Rattle.std.proofs.Common.{suc};
 
 use crate::fault::SliceFault;
@@ -164,9 +164,9 @@ pub fn cut<A: Allocator, B: Allocator>(
     payload: &[u8],
     spans: &mut Spans<B>,
 ) -> Result<(), CutFault>
-    ensures ok { OnOk result (cut_of checked.now.configuration payload.now ≡ Ok spans.new.offsets) }
+    ensures ok { OnOk result (CutsTo checked.now.configuration payload.now (Ok spans.new.offsets)) }
     ensures foot { OnOk result (spans.new.foot ≡ foot_length checked.now.configuration.ec) }
-    ensures err { IfErr result (λ f. cut_of checked.now.configuration payload.now ≡ Err f) }
+    ensures err { IfErr result (λ f. CutsTo checked.now.configuration payload.now (Err f)) }
     ensures cleared { OnErr result (spans.new.offsets ≡ []) }
     ensures room { spans.new.room ≡ 1025 }
     ensures capacity { spans.new.capacity ≡ spans.old.capacity }

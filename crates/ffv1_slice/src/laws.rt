@@ -1,7 +1,7 @@
 //! Laws of the definitions, each the contract of a function that does nothing.
 
-ghost use Rattle.std.specs.Prelude.{◌≡◌, ℕ, ◌+◌, ◌*◌, ◌^◌, ◌<◌, ◌≤◌, ◌++◌, Bool, true, List, Ok};
-ghost use Rattle.std.specs.Prelude.{Err, length, slice_index};
+ghost use Rattle.std.specs.Prelude.{◌≡◌, ℕ, ◌+◌, ◌*◌, ◌^◌, ◌<◌, ◌≤◌, ◌++◌, Bool, true, List};
+ghost use Rattle.std.specs.Prelude.{Result, Ok, length, slice_index};
 ghost use Rattle.std.proofs.Common.{suc};
 ghost use Rattle.ffv1_range.specs.Codes.{AreBytes};
 ghost use Rattle.ffv1_range.specs.Table.{Table, IsTable};
@@ -14,7 +14,7 @@ ghost use Rattle.ffv1_slice.specs.declared.fault.SliceFault.{SliceFault};
 ghost use Rattle.ffv1_slice.specs.declared.head.SliceHead.{SliceHead};
 ghost use Rattle.ffv1_record.specs.Parity.{remainder_of};
 ghost use Rattle.ffv1_slice.specs.Footer.{footer_of, foot_length};
-ghost use Rattle.ffv1_slice.specs.Cutting.{IsCutting, Cuts, cut_of, IsRefused};
+ghost use Rattle.ffv1_slice.specs.Cutting.{IsCutting, Cuts, CutsTo, IsRefused};
 ghost use Rattle.ffv1_slice.specs.Cutting.{joined_of, offset_in, AreCodedBytes, AreCodedIn};
 ghost use Rattle.ffv1_slice.specs.Grid.{Side, IsDivided, begin_of, length_of, whole_of, Lies};
 ghost use Rattle.ffv1_slice.specs.Grid.{Division, IsDivision, CoversOnce, across, down};
@@ -33,20 +33,19 @@ pub fn payload_has_one_cutting()
         xs s ≡ ys s }
 {}
 
-/// What is found from the end of a payload is its cutting, each slice sound; and where it has such
-/// a cutting, that is found. So a payload that is refused has none.
-pub fn cutting_is_found_from_the_end()
-    ensures found { (c : Configuration) (payload os : List ℕ) → cut_of c payload ≡ Ok os →
-        (length os ≡ suc (c.columns * c.rows)) × Cuts c payload (slice_index os) }
+/// A payload is cut in exactly one way: to the offsets of its slices, or it is refused, for one
+/// fault in one slice. Where it has a cutting whose slices are sound, these are its offsets, and it
+/// is not refused.
+pub fn payload_is_cut_in_one_way()
+    ensures some { (c : Configuration) (payload : List ℕ) →
+        (r : Result (List ℕ) CutFault) × CutsTo c payload r }
+    ensures one { (c : Configuration) (payload : List ℕ) (r s : Result (List ℕ) CutFault) →
+        CutsTo c payload r → CutsTo c payload s → r ≡ s }
     ensures only { (c : Configuration) (payload : List ℕ) (spans : ℕ → ℕ) → Cuts c payload spans →
-        (os : List ℕ) × (cut_of c payload ≡ Ok os) × (length os ≡ suc (c.columns * c.rows))
+        (os : List ℕ) × CutsTo c payload (Ok os)
         × ((s : ℕ) → s ≤ c.columns * c.rows → slice_index os s ≡ spans s) }
     ensures refused { (c : Configuration) (payload : List ℕ) (spans : ℕ → ℕ) (f : CutFault) →
-        cut_of c payload ≡ Err f → Cuts c payload spans → ⊥ }
-    ensures why { (c : Configuration) (payload : List ℕ) (f : CutFault) →
-        cut_of c payload ≡ Err f → IsRefused c payload f }
-    ensures because { (c : Configuration) (payload : List ℕ) (f : CutFault) →
-        IsRefused c payload f → cut_of c payload ≡ Err f }
+        IsRefused c payload f → Cuts c payload spans → ⊥ }
 {}
 
 /// Coded bytes with their footers, one slice's after the other's, are cut where they were joined.

@@ -12,10 +12,6 @@ none = record { ref_ptr = (0, 0); now = [] }
 unfoldable pub hyphens_from : ℕ → List (Bor Text) → ℕ
 hyphens_from k ps = hyphens (map (λ p. p.now) (drop k ps))
 
-pub all_paths : (ps : List (Bor Text)) → hyphens_from 0 ps ≡ hyphens (map (λ p. p.now) ps)
-unfolding hyphens_from
-all_paths ps = refl
-
 next_path : (ps : List (Bor Text)) (k : ℕ) → k < length ps → hyphens_from k ps ≡ bit_number (is_hyphen (get_or ps k none).now) + hyphens_from (suc k) ps
 unfolding hyphens_from
 next_path [] k less = absurd (omega arith)

@@ -4,7 +4,7 @@ use Rattle.std.specs.Prelude.{find}
 use Rattle.std.specs.List.{list_all, list_any}
 use Rattle.std.specs.Str.{bytes_eq}
 use Rattle.clap.specs.Facts.{explicit_source}
-use Rattle.clap.specs.Walk.{Held, Names, Outcome, Row, Rule, Step, Text, Waiting, Walk, after_flag, after_step, answers_to, arg_by_index, arg_by_long, bundle, finished, long_met, long_or_other, nothing_held, option_word, plain_word, rows_after, short_or_plain, subcommand_met, subcommand_or_other, to_positional, walk, walk_from, walked, walked_from, word_met}
+use Rattle.clap.specs.Walk.{Held, Names, Outcome, Row, Rule, Step, Text, Waiting, Walk, after_flag, after_step, answers_to, arg_by_index, arg_by_long, bundle, finished, long_met, long_or_other, nothing_held, plain_word, rows_after, short_or_plain, subcommand_met, subcommand_or_other, to_positional, walk, walk_from, walked, walked_from, word_met}
 use Rattle.clap.specs.Walk.Outcome.{done, waits, plain, refused}
 use Rattle.clap.specs.Walk.Step.{next, trailing, subcommand, value}
 use Rattle.clap.specs.Walk.Waiting.{idle, option, positional}
@@ -21,9 +21,6 @@ IsNoHelp _ = Unit {0}
 abbrev pub StopsWithoutHelp : Option (Text × List Text) → Type 0
 StopsWithoutHelp None = Unit {0}
 StopsWithoutHelp (Some p) = bytes_eq p.0 (codes "help") ≡ false
-
-option_word_on : (o : Option Rule) (name word : Text) (h : Held) → IsNoHelp (next (option_word o name word h).1)
-option_word_on o name word h = tt
 
 plain_on : (c : List Rule) (w : Waiting) (word : Text) (h : Held) → IsNoHelp (plain_word c w word h).1
 plain_on c (option name) word h = tt

@@ -30,7 +30,7 @@ static CONTAINERS: [&str; 3] = ["auto", "avi", "mkv"];
 const NAME: &str = "ffv1";
 
 /// The version of the program.
-pub const VERSION: &str = "0.1.0";
+pub const VERSION: &str = "0.2.0";
 
 const CODED_FILE: &str = "The AVI or Matroska file, or - for standard input";
 

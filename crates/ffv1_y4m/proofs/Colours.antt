@@ -1,5 +1,5 @@
 -- Samples of red, green and blue that are read block by block.
-use Rattle.std.proofs.Common.{◌≡◌, ℕ, ◌+◌, ◌*◌, ◌≤◌, ◌==◌, ◌&&◌, nat_lt, Bool, true, false, cond, Option, List, [], ◌∷◌, ◌++◌, length, get_or, take, drop, Ok, Err, refl, ap, ◌∙◌, sym, subst, arith, length-append, suc, inl, inr}
+use Rattle.std.proofs.Common.{◌≡◌, ℕ, ◌+◌, ◌*◌, ◌≤◌, ◌&&◌, nat_lt, Bool, true, false, cond, Option, List, [], ◌∷◌, ◌++◌, length, get_or, take, drop, Ok, Err, refl, ap, ◌∙◌, sym, subst, arith, length-append, suc, inl, inr}
 use Rattle.std.proofs.lemmas.Bool.{false≢true, ltb-false, true≢false}
 use Rattle.std.proofs.lemmas.Grind.{common_steps}
 use Rattle.ffv1_y4m.specs.declared.fault.Fault.{Fault}
@@ -76,9 +76,6 @@ Colours depth old new n planes = (bs : List ℕ) × (length bs ≡ 3 * n) × Con
 no_third : (b : Bool) → cond {A = List ℕ} b [] [] ≡ []
 no_third true = refl
 no_third false = refl
-
-pub colours_none : (depth : ℕ) (old : Option (List ℕ)) → Colours depth old old 0 ([] ∷ [] ∷ [] ∷ [])
-colours_none depth old = ([], refl, consumes_none old, rw (no_third (depth == 8)) refl)
 
 pub colours_more : (depth : ℕ) (old mid new : Option (List ℕ)) (n k size : ℕ) (one two three more-one more-two more-three : List ℕ) → size ≡ 3 * k → half_of depth n ≡ 0 →
     Colours depth old mid n (one ∷ two ∷ three ∷ []) → (bytes : List ℕ) → Consumes mid new bytes → length bytes ≡ size → more-one ∷ more-two ∷ more-three ∷ [] ≡ parted depth bytes →

@@ -15,7 +15,7 @@ use Rattle.ffv1_y4m.specs.Pictures.{GrowsBeforePlane, plane_read, planes_read}
 use Rattle.ffv1_y4m.specs.VideoHead.{AreInDepth}
 use Rattle.ffv1_y4m.specs.Reads.{Decides, IsNone, Says, Stands, Wants}
 use Rattle.ffv1_y4m.specs.Sequence.{Outcome, Reading, ◌>>=◌, ◌then◌, give, left}
-use Rattle.ffv1_y4m.proofs.Sequences.{consumes_none, consumes_then, moved, shortens_then, stands_first}
+use Rattle.ffv1_y4m.proofs.Sequences.{consumes_then, moved, shortens_then, stands_first}
 use Rattle.ffv1_y4m.proofs.Texts.{plane_found, plane_only, planes_found}
 
 -- the planes that were read, and those after them
@@ -44,9 +44,6 @@ planes_front depth (p ∷ done) sizes behind small =
 -- the first n planes are read, of these sizes
 abbrev pub Partway : ℕ → List ℕ → Option (List ℕ) → Option (List ℕ) → ℕ → List (List ℕ) → Type 0
 Partway depth sizes old new n planes = (map (λ plane. length plane) (take n planes) ≡ take n sizes) × Consumes old new (flat_map (λ plane. plane) (take n planes)) × AreInDepth depth (take n planes)
-
-pub partway_none : (depth : ℕ) (sizes : List ℕ) (old : Option (List ℕ)) (planes : List (List ℕ)) → Partway depth sizes old old 0 planes
-partway_none depth sizes old planes = (refl, consumes_none old, tt)
 
 -- planes in depth, and one more
 in_depth_more : (depth : ℕ) (planes : List (List ℕ)) (p : List ℕ) → AreInDepth depth planes → are_in_depth depth p ≡ true → AreInDepth depth (planes ++ p ∷ [])
@@ -88,12 +85,6 @@ too_large : (depth : ℕ) (p rest : List ℕ) → are_in_depth depth p ≡ false
 too_large depth p rest large =
     let enough : nat_lt (length (p ++ rest)) (length p) ≡ false = le-ltb _ _ (grind (arith, common_steps)) in
     rw (enough, take-append_seam p rest, drop-append_seam p rest, large) refl
-
-pub plane_large : (depth size n before after : ℕ) (old new : Option (List ℕ)) (plane : List ℕ) → length plane ≡ size → size ≤ n → Fills old new n plane → after ≡ before → are_in_depth depth plane ≡ false →
-    Stands (plane_read depth size) IsNone (moved old new before after) (Err fault.SampleTooLarge)
-plane_large depth size n before after old new plane long all read same large =
-    let whole : take n plane ≡ plane = take_all n plane (omega (arith, all, long)) in
-    record { bytes = plane; taken = rw whole at read.0; said = (same, inl (λ behind. rw (← long) (too_large depth plane behind large))) }
 
 -- a plane that was read is what was taken
 record IsTaken (depth size : ℕ) (bytes plane : List ℕ) : Type 0 where

@@ -1,5 +1,5 @@
 -- Vectors with room for planes.
-use Rattle.std.proofs.Common.{refl, cond, Bool, true, false, ◌*◌, ◌==◌, ◌≡◌, ℕ, ◌+◌, ◌<◌, ◌≤◌, List, [], ◌∷◌, length, take, drop, get_or, map, sym, subst, arith, add-one, drop-cons}
+use Rattle.std.proofs.Common.{refl, cond, Bool, true, false, ◌*◌, ◌==◌, ◌≡◌, ℕ, ◌+◌, ◌<◌, ◌≤◌, List, [], ◌∷◌, length, drop, get_or, map, sym, subst, arith, add-one, drop-cons}
 use Rattle.std.proofs.Math.ListN.{set}
 use Rattle.std.proofs.lemmas.List.{drop-set-lt, length-map}
 use Rattle.ffv1_y4m.specs.declared.head.VideoHead.{VideoHead}
@@ -7,16 +7,6 @@ use Rattle.ffv1_y4m.specs.VideoHead.{plane_bytes, plane_sizes}
 use Rattle.std.specs.declared.vec.Vec.{Vec}
 use Rattle.std.specs.Vec.{vec_capacity}
 use Rattle.ffv1_y4m.specs.State.{HasRoom, samples_of}
-
-pub room_long : {A : Type 0} (sizes : List ℕ) (planes : List (Vec ℕ A)) → HasRoom sizes planes → length sizes ≤ length planes
-room_long [] planes h = omega arith
-room_long (size ∷ sizes) [] h = absurd h
-room_long (size ∷ sizes) (plane ∷ planes) h = omega (arith, room_long sizes planes h.1)
-
-pub room_taken : {A : Type 0} (sizes : List ℕ) (planes : List (Vec ℕ A)) → HasRoom sizes planes → HasRoom sizes (take (length sizes) planes)
-room_taken [] planes h = tt
-room_taken (size ∷ sizes) [] h = absurd h
-room_taken (size ∷ sizes) (plane ∷ planes) h = (h.0, room_taken sizes planes h.1)
 
 parted : {A : Type 0} (sizes : List ℕ) (planes : List (Vec ℕ A)) (i : ℕ) (d : Vec ℕ A) → i < length sizes → i < length planes → HasRoom (drop i sizes) (drop i planes) →
     HasRoom (get_or sizes i 0 ∷ drop (i + 1) sizes) (get_or planes i d ∷ drop (i + 1) planes)

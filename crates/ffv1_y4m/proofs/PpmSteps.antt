@@ -12,7 +12,7 @@ use Rattle.ffv1_y4m.specs.Ppm.{depth_of_line, image_begun, image_head, image_hea
 use Rattle.ffv1_y4m.specs.Reads.{Decides, Nowhere, Says, Stands, Wants}
 use Rattle.ffv1_y4m.specs.Sequence.{Outcome, Reading, ◌>>=◌, ◌then◌, give, judge, left, refuse}
 use Rattle.ffv1_y4m.proofs.Lines.{line_stays, line_wants}
-use Rattle.ffv1_y4m.proofs.Sequences.{Shortens, Stays, consumes_none, consumes_kept, moved, shortens_then, stands_first, stands_given, stands_next, wants_first}
+use Rattle.ffv1_y4m.proofs.Sequences.{Shortens, Stays, consumes_none, consumes_kept, moved, shortens_then, stands_first, stands_next, wants_first}
 use Rattle.ffv1_y4m.proofs.AnswerParts.{is_fault, rest_in, value_in}
 use Rattle.ffv1_y4m.proofs.SpacedHeaders.{spaced_one, spaced_wants}
 use Rattle.std.proofs.lemmas.Bool.{le-leb, lt-leb, true≢false}
@@ -98,10 +98,6 @@ room_six most deep =
 pub maximum_stops : (most room : ℕ) (p : Passage) (f : Fault) → maximum_room most ≡ room → Stands (line_read room) Nowhere p (Err f) → Stands (maximum_read most) Nowhere p (Err f)
 maximum_stops most room p f is h = rw is (stands_first (line_read room) (λ line. give (depth_of_line most line)) Nowhere Nowhere p f (given_shortens most) (λ xs k. k) h)
 
-pub maximum_goes : (most room : ℕ) (old mid : Option (List ℕ)) (n m : ℕ) (line : List ℕ) (depth : Option ℕ) → maximum_room most ≡ room → depth ≡ depth_of_line most line → Stands (line_read room) Nowhere (moved old mid n m) (Ok line) → Stands (maximum_read most) Nowhere (moved old mid n m) (Ok depth)
-maximum_goes most room old mid n m line depth is said h =
-    rw (is, said) (stands_next (line_read room) (λ line. give (depth_of_line most line)) Nowhere Nowhere Nowhere old mid mid n m m line (Ok (depth_of_line most line)) (line_stays room line) (λ xs ys a b. b) h (stands_given (depth_of_line most line) Nowhere mid m))
-
 pub head_given : (o : Option DeepHead) (head : DeepHead) (old : Option (List ℕ)) (n : ℕ) → Some head ≡ o → Stands (some_head o) Nowhere (moved old old n n) (Ok head)
 head_given o head old n is = record { bytes = []; taken = consumes_none old; said = (refl, inl (λ behind. rw (← is) refl)) }
 
@@ -182,9 +178,6 @@ pub begun_failed : (most : ℕ) (said : DeepHead) (old new : Option (List ℕ)) 
 begun_failed most said old new n k kept same =
     let wants : Wants (image_header most then same_format said) [] = wants_first (image_header most) (same_format said) [] (header_wants most) (same_shortens said) in
     record { bytes = []; taken = consumes_kept old old new [] (consumes_none old) kept; said = (same, λ b behind. wants b behind) }
-
-pub begun_ended : (most : ℕ) (said : DeepHead) (old new : Option (List ℕ)) (n k : ℕ) → Keeps old new → IsAtEnd new → k ≡ n → Stands (image_begun most said) Nowhere (moved old new n k) (Ok false)
-begun_ended most said old new n k kept end same = record { bytes = []; taken = consumes_kept old old new [] (consumes_none old) kept; said = (same, inr (end, refl)) }
 
 -- what a header took, of which one byte at least was read
 record Started {X : Type 0} (reading : Reading X) (old new : Option (List ℕ)) (r : Result X Fault) (says : List ℕ → Type 0) : Type 0 where

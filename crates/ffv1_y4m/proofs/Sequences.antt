@@ -121,9 +121,6 @@ ended_by : {X : Type 0} (b : Reading Bool) (r : Reading X) (bytes : List ℕ) (n
 ended_by b r bytes new (inl k) = inl (λ behind. rw (k behind) refl)
 ended_by b r bytes new (inr k) = inr (k.0, rw k.1 refl)
 
-pub stands_none : {X : Type 0} (b : Reading Bool) (r : Reading X) (g more : List ℕ → Type 0) (p : Passage) → Stands b g p (Ok false) → Stands (b then where_begun r) more p (Ok None)
-stands_none b r g more p h = record { bytes = h.bytes; taken = h.taken; said = (h.said.0, ended_by b r h.bytes p.new h.said.1) }
-
 -- what a whole call answers, by what it took
 known : {X : Type 0} (r : Reading X) (old new : Option (List ℕ)) (bytes : List ℕ) (answer : Result X Fault) → Consumes old new bytes → Decides r bytes new answer → ReadsAs r old new answer
 known r None new bytes answer h (inl k) = (bytes ++ [], [], k [])

@@ -23,18 +23,11 @@ use Rattle.ffv1_y4m.proofs.SpacesRead.{Extends, byte_extends, extends_given, ext
 
 -- ---- none of the readings gives a byte back
 
-byte_shortens : (text : List ℕ) → length (left (byte_read text)) ≤ length text
-byte_shortens [] = omega arith
-byte_shortens (c ∷ cs) = omega arith
-
 abbrev pub magic_word : Reading (List ℕ)
 magic_word = byte_read then λ p. word_read 2 (p ∷ [])
 
 pub first_word_shortens : Shortens (λ p. word_read 2 (p ∷ []))
 first_word_shortens = λ p text. word_shortens 2 (p ∷ []) text
-
-magic_shortens : (text : List ℕ) → length (left (magic_read text)) ≤ length text
-magic_shortens text = shortens_then magic_word (λ word. give (is_text word (codes "P6"))) text (shortens_then byte_read (λ p. word_read 2 (p ∷ [])) text (byte_shortens text) first_word_shortens) (λ word rest. omega arith)
 
 size_shortens : (text : List ℕ) → length (left (size_read text)) ≤ length text
 size_shortens text = shortens_then (spaced_word 4) (λ word. give (size_of word)) text (spaced_shortens 4 text) (λ word rest. omega arith)
@@ -96,15 +89,6 @@ size_extends = extends_then (spaced_word 4) (λ word. give (size_of word)) (spac
 
 greatest_extends : (most : ℕ) → Extends (greatest_read most)
 greatest_extends most = extends_then (spaced_word 5) (λ word. give (depth_of_line most word)) (spaced_extends 5) (λ word. extends_given (depth_of_line most word))
-
-some_extends : (o : Option DeepHead) → Extends (some_head o)
-some_extends None = λ text x mid h behind. absurd (true≢false (ap is_fault h))
-some_extends (Some k) = extends_given k
-
-pub header_extends : (most : ℕ) → Extends (spaced_header most)
-header_extends most =
-    extends_then magic_read (after_none most) said_extends (λ magic. extends_then size_read (after_magic most magic) size_extends (λ width. extends_then size_read (after_width most magic width) size_extends
-    (λ height. extends_then (greatest_read most) (after_height magic width height) (greatest_extends most) (λ depth. some_extends (spaced_head magic width height depth)))))
 
 pub magic_stops : (most : ℕ) (p : _) (f : Fault) → Stands magic_read Nowhere p (Err f) → Stands (spaced_header most) Nowhere p (Err f)
 magic_stops most p f h = stands_first magic_read (after_none most) Nowhere Nowhere p f (none_shortens most) (λ xs k. k) h

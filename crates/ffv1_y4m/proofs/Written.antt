@@ -1,7 +1,7 @@
 -- Texts written one after the other.
 use Rattle.std.proofs.Common.{◌≡◌, ℕ, ◌+◌, ◌<◌, ◌≤◌, Option, Some, None, List, [], ◌∷◌, ◌++◌, length, take, drop, get_or, flat_map, Result, Ok, Err, ap, ◌∙◌, sym, subst, append_assoc, arith, add-one, append-nil, take-append-drop, drop-cons}
 use Rattle.std.proofs.lemmas.Grind.{common_steps, flat_map-append}
-use Rattle.std.proofs.Math.Seq.{take-append-add, take-suc}
+use Rattle.std.proofs.Math.Seq.{take-append-add}
 use Rattle.std.proofs.lemmas.List.{take-append-le}
 use Rattle.std.specs.Io.KnownBytes.{Appends}
 use Rattle.ffv1_wire.specs.Failures.{one_more}
@@ -40,23 +40,12 @@ pub writes_first : (xs ys : List ℕ) (a b : Option (List ℕ)) (n m : ℕ) (f :
     Writes xs (between a b n m) (Err f) → Writes (xs ++ ys) (between a b n m) (Err f)
 writes_first xs ys a b n m f h = (h.0, beginning_sooner a b xs ys h.1, h.2)
 
--- one part more
-parts_more : {A : Type 0} (text : A → List ℕ) (parts : List A) (i : ℕ) (d : A) → i < length parts → flat_map text (take (i + 1) parts) ≡ flat_map text (take i parts) ++ text (get_or parts i d)
-parts_more text parts i d h =
-    rw (add-one i, take-suc parts i d h) (flat_map-append text (take i parts) (get_or parts i d ∷ []) ∙ ap (λ z. flat_map text (take i parts) ++ z) (append-nil (text (get_or parts i d))))
-
 -- the part at i, and those before and after it
 parts_at : {A : Type 0} (text : A → List ℕ) (parts : List A) (i : ℕ) (d : A) → i < length parts → flat_map text parts ≡ flat_map text (take i parts) ++ (text (get_or parts i d) ++ flat_map text (drop (i + 1) parts))
 parts_at text parts i d h =
     let rest : drop i parts ≡ get_or parts i d ∷ drop (i + 1) parts = rw add-one (drop-cons parts i d h) in
     let whole : take i parts ++ (get_or parts i d ∷ drop (i + 1) parts) ≡ parts = ap (λ z. take i parts ++ z) (sym rest) ∙ take-append-drop i parts in
     sym (ap (flat_map text) whole) ∙ flat_map-append text (take i parts) (get_or parts i d ∷ drop (i + 1) parts)
-
-pub parts_step : {A : Type 0} (text : A → List ℕ) (parts : List A) (i : ℕ) (d : A) (a b c : Option (List ℕ)) (n m k : ℕ) (x : Unit {0}) → i < length parts →
-    Appends a b (flat_map text (take i parts)) → m ≡ n → Writes (text (get_or parts i d)) (between b c m k) (Ok x) → Appends a c (flat_map text (take (i + 1) parts)) × (k ≡ n)
-parts_step text parts i d a b c n m k x inside h same w =
-    let P : List ℕ → Type 0 = λ z. Appends a c z in
-    (subst P (sym (parts_more text parts i d inside)) (appends_then a b c _ _ h w.0), w.1 ∙ same)
 
 pub parts_stop : {A : Type 0} (text : A → List ℕ) (parts : List A) (i : ℕ) (d : A) (a b c : Option (List ℕ)) (n m k : ℕ) (f : Fault) → i < length parts →
     Appends a b (flat_map text (take i parts)) → m ≡ n → Writes (text (get_or parts i d)) (between b c m k) (Err f) → Writes (flat_map text parts) (between a c n k) (Err f)

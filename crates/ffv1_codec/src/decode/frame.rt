@@ -2,7 +2,7 @@
 
 ghost use Rattle.std.specs.Prelude.{◌≡◌, ℕ, List, Ok, Err, OnOk, IfOk, IfErr, length};
 ghost use Rattle.ffv1_record.specs.Held.{held_of};
-ghost use Rattle.ffv1_slice.specs.Cutting.{cut_of};
+ghost use Rattle.ffv1_slice.specs.Cutting.{CutsTo, IsRefused};
 ghost use Rattle.ffv1_slice.specs.declared.cutting.CutFault.{CutFault};
 ghost use Rattle.ffv1_codec.specs.declared.fault.CodecFault.TheVariants as fault;
 ghost use Rattle.ffv1_codec.specs.Answer.{Decoder, Answers, AnswersCoded, cut_fault, no_tally};
@@ -173,11 +173,10 @@ fn cut_payload<A: Allocator, B: Allocator>(
     payload: &[u8],
     spans: &mut Spans<B>,
 ) -> Result<(), FrameFault>
-    ensures ok { OnOk result (cut_of checked.now.configuration payload.now
-        ≡ Ok spans.new.offsets) }
+    ensures ok { OnOk result (CutsTo checked.now.configuration payload.now (Ok spans.new.offsets)) }
     ensures cut { OnOk result (IsCutOf checked.now payload.now spans.new) }
     ensures err { IfErr result (λ f. (c : CutFault)
-        × (cut_of checked.now.configuration payload.now ≡ Err c) × (f ≡ cut_fault c)) }
+        × IsRefused checked.now.configuration payload.now c × (f ≡ cut_fault c)) }
     ensures own { IfErr result IsOwn }
     ensures room { spans.new.room ≡ 1025 }
     ensures capacity { spans.new.capacity ≡ spans.old.capacity }

@@ -15,7 +15,7 @@ ghost use Rattle.ffv1_codec.specs.Internal.Scratch.{capacity_of_planes, capacity
 use crate::encode::slice::Slice;
 use crate::line_word::LineWord;
 use crate::places_of_colours::{blue_of, green_of};
-use ffv1_line::{RollingRows, Word, laws as line_laws};
+use ffv1_line::{CellRows, RollingRows, Word, laws as line_laws};
 use ffv1_rct::{forward_line, forward_wide, forward_words};
 use ffv1_record::laws as record_laws;
 use std::alloc::{AllocError, Allocator};
@@ -275,8 +275,36 @@ fn transform_words<W: RowWord, R: Allocator>(
     );
 }
 
+/// A plane of a slice whose samples are coded as they are.
+#[derive(Drop)]
+pub(crate) struct SlicePlane<'a, 's, A: Allocator, B: Allocator> {
+    pub(crate) slice: &'a Slice<'s, A, B>,
+    pub(crate) plane: u32,
+    ghost there: { plane < plane_count slice.now.checked.now.configuration },
+    ghost plain: { (u v : ℕ) →
+        coded_at slice.now.checked.now.configuration slice.now.picture.now plane u v
+        ≡ sample_at slice.now.checked.now.configuration slice.now.picture.now plane u v },
+}
+
+impl<'a, 's, A: Allocator, B: Allocator> CellRows for SlicePlane<'a, 's, A, B> {
+    ghost cell = { λ p. cell_in p.slice.now.checked.now.configuration p.slice.now.picture.now
+        p.slice.now.number p.plane };
+
+    ghost rows = { λ p. cell_height p.slice.now.checked.now.configuration p.slice.now.number
+        p.plane };
+
+    fn height(&self) -> u32 {
+        self.slice.cell(self.plane).height
+    }
+
+    fn load(&self, y: u32, line: &mut [u16]) {
+        let slice = self.slice;
+        widen_to(slice.checked.depth(), slice.line(self.plane, y), line);
+    }
+}
+
 /// Row y of a plane whose samples are coded as they are.
-pub(crate) fn load<W: LineWord, R: Allocator, A: Allocator, B: Allocator>(
+fn load<W: LineWord, R: Allocator, A: Allocator, B: Allocator>(
     rows: &mut RollingRows<Vec<W, R>>,
     slice: &Slice<'_, A, B>,
     plane: u32,

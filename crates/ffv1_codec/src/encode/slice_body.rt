@@ -1,16 +1,16 @@
 //! The decisions of a slice are put.
 
 ghost use Rattle.std.specs.Prelude.{◌≡◌, ◌⊎◌, ◌+◌, ◌*◌, ◌<◌, ◌≤◌, ℕ, IfErr, OnOk, length, true};
-ghost use Rattle.std.specs.Prelude.{false};
+ghost use Rattle.std.specs.Prelude.{false, replicate};
 ghost use Rattle.ffv1_range.specs.Symbols.{AllHeld, shifted};
 ghost use Rattle.ffv1_plane.specs.Quantisation.{contexts_of};
-ghost use Rattle.ffv1_line.specs.Row.{row_steps, chosen_row};
+ghost use Rattle.ffv1_line.specs.Row.{row_steps, chosen_row, cell_steps, chosen_rows};
 ghost use Rattle.ffv1_line.specs.Cell.{Cell};
 ghost use Rattle.ffv1_record.specs.Configuration.{is_rct};
 ghost use Rattle.ffv1_codec.specs.declared.fault.CodecFault.TheVariants as fault;
 ghost use Rattle.ffv1_codec.specs.Picture.{plane_count, cell_in, cell_height};
 ghost use Rattle.ffv1_codec.specs.SliceList.{class_of, bits_of, chosen_line, chosen_body};
-ghost use Rattle.ffv1_codec.specs.SliceList.{chosen_head};
+ghost use Rattle.ffv1_codec.specs.SliceList.{chosen_head, set_in, base_of};
 ghost use Rattle.ffv1_codec.specs.SliceList.{lines_of_plane, planes_of_line, lines_in};
 ghost use Rattle.ffv1_codec.specs.Internal.HasPut.{PutsAfter, PutsSamples, states_in};
 ghost use Rattle.ffv1_codec.specs.Internal.CellRows.{Loaded, AllRolled, AllLoaded};
@@ -18,11 +18,11 @@ ghost use Rattle.ffv1_codec.specs.Internal.CellRows.{fourth_line};
 ghost use Rattle.ffv1_codec.specs.Internal.Scratch.{capacity_of_planes, capacity_of_rows};
 
 use crate::class::class_of;
-use crate::encode::cell_rows::{ColourWord, PlaneRows, load, load_all, restart, restart_all};
+use crate::encode::cell_rows::{ColourWord, PlaneRows, SlicePlane, load_all, restart, restart_all};
 use crate::encode::slice::{Slice, index_of};
 use crate::fault::CodecFault;
 use crate::line_word::{Above, LineCoding, LineWord, bits_of};
-use ffv1_line::{RollingRows, laws as line_laws};
+use ffv1_line::{CellRows, Coding, RollingRows, encode_cell, laws as line_laws};
 use ffv1_range::{RangeEncoder, laws as range_laws};
 use ffv1_record::laws as record_laws;
 use ffv1_slice::Grid;
@@ -68,6 +68,74 @@ fn put_row<W: LineWord, R: Allocator, A: Allocator>(
     Ok(())
 }
 
+/// The rows of a cell are coded, by the states of its class, which begin at this offset of all
+/// states.
+fn put_cell<R: Allocator, A: Allocator, C: CellRows>(
+    encoder: &mut RangeEncoder<R>,
+    coding: &LineCoding<'_, A>,
+    states: &mut [u8],
+    at: usize,
+    rows: &mut RollingRows<Vec<u16, R>>,
+    cell: &C,
+) -> Result<(), CodecFault>
+    requires least { 8 ≤ coding.now.bits }
+    requires most { coding.now.bits ≤ 16 }
+    requires some { 0 < (C.cell cell.now).width }
+    requires two { rows.old.two.items ≡ replicate (C.cell cell.now).width 0 }
+    requires one { rows.old.one.items ≡ replicate (C.cell cell.now).width 0 }
+    requires cur_long { length rows.old.cur.items ≡ (C.cell cell.now).width }
+    requires fits { at + contexts_of coding.now.set.now * 32 ≤ length states.old }
+    requires held { AllHeld coding.now.table.now states.old }
+    ensures ok { OnOk result (PutsAfter coding.now.table.now encoder.old states.old encoder.new
+        states.new (shifted (33 + at) (cell_steps coding.now.set.now (C.cell cell.now) 0
+        (chosen_rows coding.now.set.now coding.now.bits (C.cell cell.now) (C.rows cell.now))))) }
+    ensures held { OnOk result (AllHeld coding.now.table.now states.new) }
+    ensures err { IfErr result (λ f. f ≡ fault.OutOfMemory) }
+    ensures capacity { capacity_of_rows rows.new ≡ capacity_of_rows rows.old }
+{
+    range_laws::array_states_follow_the_history();
+    range_laws::decisions_of_two_parts_join();
+    range_laws::counters_go_on_by_both_parts();
+    line_laws::residual_length_follows_from_digits();
+    let LineCoding { table, set, bits } = coding;
+    set.is_a_bounded_set();
+    let end = at + set.contexts() as usize * 32;
+    let coding = Coding {
+        table,
+        set,
+        bits: *bits,
+    };
+    let Ok(()) = encode_cell(encoder, &coding, &mut states[at..end], rows, cell) else {
+        return Err(CodecFault::OutOfMemory);
+    };
+    Ok(())
+}
+
+/// How the lines of a plane are coded: by the set and the bits of the plane. Also where the states
+/// of its class begin.
+fn coding_of<'a, A: Allocator, B: Allocator>(
+    slice: &Slice<'a, A, B>,
+    plane: u32,
+) -> (LineCoding<'a, A>, usize)
+    requires plane { plane < plane_count slice.now.checked.now.configuration }
+    ensures table { result.0.table.now ≡ slice.now.checked.now.table }
+    ensures set { result.0.set.now ≡ set_in slice.now.checked.now.configuration
+        (chosen_head slice.now.checked.now.configuration slice.now.info) plane }
+    ensures bits { result.0.bits ≡ bits_of slice.now.checked.now.configuration }
+    ensures at { 33 + result.1 ≡ base_of slice.now.checked.now.configuration plane }
+    ensures fits { result.1 + contexts_of result.0.set.now * 32
+        ≤ states_in slice.now.checked.now.configuration }
+{
+    record_laws::accepted_configuration_is_in_range();
+    let config = slice.checked.config();
+    let class = class_of(plane);
+    let set = config.sets.get(index_of(&config.sets, class));
+    let at = 32 * (config.sets.most_contexts() as usize * class);
+    let table = slice.checked.table();
+    let bits = bits_of(slice.checked);
+    (LineCoding { table, set, bits }, at)
+}
+
 /// A row of a plane is coded, by the set and the states of the plane's class.
 fn put_line<W: LineWord, R: Allocator, A: Allocator, B: Allocator>(
     encoder: &mut RangeEncoder<R>,
@@ -93,27 +161,19 @@ fn put_line<W: LineWord, R: Allocator, A: Allocator, B: Allocator>(
     ensures held { OnOk result (AllHeld slice.now.checked.now.table states.new) }
     ensures err { IfErr result (λ f. f ≡ fault.OutOfMemory) }
 {
-    record_laws::accepted_configuration_is_in_range();
-    let config = slice.checked.config();
-    let class = class_of(plane);
-    let set = config.sets.get(index_of(&config.sets, class));
-    let at = 32 * (config.sets.most_contexts() as usize * class);
-    let table = slice.checked.table();
-    let bits = bits_of(slice.checked);
-    let coding = LineCoding { table, set, bits };
+    let (coding, at) = coding_of(slice, plane);
     put_row(encoder, &coding, states, at, rows)?;
     Ok(())
 }
 
-/// The lines of a plane are coded, one after the other.
-fn put_plane<W: LineWord, R: Allocator, A: Allocator, B: Allocator>(
+/// The lines of a plane of YCbCr are coded, one after the other.
+fn put_plane<R: Allocator, A: Allocator, B: Allocator>(
     encoder: &mut RangeEncoder<R>,
     states: &mut [u8],
-    rows: &mut RollingRows<Vec<W, R>>,
+    rows: &mut RollingRows<Vec<u16, R>>,
     slice: &Slice<'_, A, B>,
     plane: u32,
 ) -> Result<(), CodecFault>
-    requires bits { W.holds (bits_of slice.now.checked.now.configuration) }
     requires plain { is_rct slice.now.checked.now.configuration.colour ≡ false }
     requires plane { plane < plane_count slice.now.checked.now.configuration }
     requires room { length states.old ≡ states_in slice.now.checked.now.configuration }
@@ -128,25 +188,22 @@ fn put_plane<W: LineWord, R: Allocator, A: Allocator, B: Allocator>(
     ensures err { IfErr result (λ f. f ≡ fault.OutOfMemory) }
     ensures capacity { capacity_of_rows rows.old ≤ capacity_of_rows rows.new }
 {
-    line_laws::rows_above_roll_down_the_cell();
-    let cell = slice.cell(plane);
-    restart(rows, cell.width as usize)?;
-    for y in 0..cell.height {
-        load(rows, slice, plane, y);
-        put_line(encoder, states, rows, slice, plane)?;
-        rows.turn();
-    }
+    record_laws::accepted_configuration_is_in_range();
+    let _config = slice.checked.config();
+    let (coding, at) = coding_of(slice, plane);
+    restart(rows, slice.cell(plane).width as usize)?;
+    let cell = SlicePlane { slice, plane };
+    put_cell(encoder, &coding, states, at, rows, &cell)?;
     Ok(())
 }
 
 /// The planes of YCbCr are coded, one after the other (RFC 9043, 4.7).
-fn put_planes<W: LineWord, R: Allocator, A: Allocator, B: Allocator>(
+fn put_planes<R: Allocator, A: Allocator, B: Allocator>(
     encoder: &mut RangeEncoder<R>,
     states: &mut [u8],
-    rows: &mut RollingRows<Vec<W, R>>,
+    rows: &mut RollingRows<Vec<u16, R>>,
     slice: &Slice<'_, A, B>,
 ) -> Result<(), CodecFault>
-    requires bits { W.holds (bits_of slice.now.checked.now.configuration) }
     requires plain { is_rct slice.now.checked.now.configuration.colour ≡ false }
     requires room { length states.old ≡ states_in slice.now.checked.now.configuration }
     requires held { AllHeld slice.now.checked.now.table states.old }
@@ -228,7 +285,8 @@ fn put_colours<W: ColourWord, R: Allocator, A: Allocator, B: Allocator>(
     Ok(())
 }
 
-/// The lines of RCT are coded, one after the other, each plane by plane (RFC 9043, 4.7).
+/// The lines of RCT are coded, one after the other, each plane by plane (RFC 9043, 4.7). Lines of
+/// several cells are coded in turn, so that this is no `encode_cell`.
 fn put_lines<W: ColourWord, R: Allocator, A: Allocator, B: Allocator>(
     encoder: &mut RangeEncoder<R>,
     states: &mut [u8],
@@ -303,7 +361,6 @@ pub(crate) fn put_body<R: Allocator, A: Allocator, B: Allocator>(
         put_transformed(encoder, states, rows, slice)?;
         return Ok(());
     }
-    record_laws::accepted_configuration_is_in_range();
     put_planes(encoder, states, &mut rows.narrow.first, slice)?;
     Ok(())
 }

@@ -1,6 +1,6 @@
 //! Laws of what a payload is answered, each the contract of a function that does nothing.
 
-ghost use Rattle.std.specs.Prelude.{◌≡◌, ◌≢◌, ℕ, ◌≤◌, true, Result, Ok, Err, List, []};
+ghost use Rattle.std.specs.Prelude.{◌≡◌, ◌≢◌, ◌⊎◌, ℕ, ◌≤◌, true, Result, Ok, Err, List, []};
 ghost use Rattle.ffv1_wire.specs.Runs.{Grows};
 ghost use Rattle.ffv1_range.specs.declared.tally.Tally.{Tally};
 ghost use Rattle.ffv1_range.specs.Codes.{AreBytes};
@@ -20,7 +20,7 @@ ghost use Rattle.ffv1_codec.specs.Answer.{Answers, decisions_in, decided_by, no_
 ghost use Rattle.ffv1_codec.specs.Answer.{HasDecided, slices_in};
 ghost use Rattle.ffv1_codec.specs.Cost.{Costs, HasCost};
 ghost use Rattle.ffv1_codec.specs.Handed.{HandsFinishes};
-ghost use Rattle.ffv1_codec.specs.Outcome.{CountOf, FaultsOf};
+ghost use Rattle.ffv1_codec.specs.Outcome.{CountOf, FaultsOf, RefusesNext, TakesBefore};
 ghost use Rattle.ffv1_record.specs.Held.{held_of};
 ghost use Rattle.ffv1_record.specs.declared.checked.Held.{Held};
 ghost use Rattle.ffv1_codec.specs.Bounds.{most_decisions, most_by_bytes, most_by_standard};
@@ -83,7 +83,7 @@ pub fn answer_is_ok_for_coded_pictures<S: LineSink>()
         Answers S.takes S.refuses a payload old new tally result →
         DecodesTo S.takes S.refuses a old new result planes info }
 {
-    slice_laws::cutting_is_found_from_the_end();
+    slice_laws::payload_is_cut_in_one_way();
     laws::decoding::decoded_payload_codes_a_picture();
     laws::decoding::coded_picture_is_decoded();
     laws::decoding::decoding_has_one_end();
@@ -136,7 +136,6 @@ pub fn coded_bytes_bound_the_decisions<S: LineSink>()
     range_laws::renormalisations_bound_the_decisions();
     range_laws::decisions_in_a_row_renormalise();
     laws::planes_are_divided_part_by_part();
-    slice_laws::cutting_is_found_from_the_end();
 }
 
 /// Each decision of a slice has a state that the table holds; and what the decisions of a frame
@@ -170,7 +169,8 @@ pub fn sink_is_handed_only_coded_lines<S: LineSink>()
 
 /// What decoding makes of a payload, whatever the sink: an answer Ok comes with the payload's
 /// count, and one of a fault, the sink's aside, with that first fault and what was decided before
-/// it. A payload has one count or one first fault, and no two of them.
+/// it. A payload has one count or one first fault, and no two of them. Where a fault is answered,
+/// the sink took the lines before the payload's first fault, or it refused a line that came next.
 pub fn payload_has_one_outcome<S: LineSink>()
     ensures count { (a : Accepted) (payload : List ℕ) (old new : S) (tally : Tally)
         (info : Said) → Answers S.takes S.refuses a payload old new tally (Ok info) →
@@ -178,6 +178,10 @@ pub fn payload_has_one_outcome<S: LineSink>()
     ensures fault { (a : Accepted) (payload : List ℕ) (old new : S) (tally : Tally)
         (f : FrameFault) → f.fault ≢ codec_fault.Sink →
         Answers S.takes S.refuses a payload old new tally (Err f) → FaultsOf a payload f tally }
+    ensures lines { (a : Accepted) (payload : List ℕ) (old new : S) (tally : Tally)
+        (f : FrameFault) → Answers S.takes S.refuses a payload old new tally (Err f) →
+        TakesBefore S.takes a payload f tally old new
+        ⊎ ((f.fault ≡ codec_fault.Sink) × RefusesNext S.takes S.refuses a payload old new) }
     ensures one_count { (a : Accepted) (payload : List ℕ) (t u : Tally) →
         IsAccepted a.configuration a.table → AreBytes payload → CountOf a payload t →
         CountOf a payload u → t ≡ u }
@@ -188,6 +192,7 @@ pub fn payload_has_one_outcome<S: LineSink>()
         IsAccepted a.configuration a.table → AreBytes payload → FaultsOf a payload f t →
         FaultsOf a payload g u → (f ≡ g) × (t ≡ u) }
 {
+    slice_laws::payload_is_cut_in_one_way();
     laws::decoding::decoding_has_one_end();
 }
 
@@ -197,9 +202,7 @@ pub fn answered_fault_is_of_decoding<S: LineSink>()
     ensures { (a : Accepted) (payload : List ℕ) (old new : S) (tally : Tally) (f : FrameFault) →
         Answers S.takes S.refuses a payload old new tally (Err f) →
         is_decode_fault f.fault ≡ true }
-{
-    slice_laws::cutting_is_found_from_the_end();
-}
+{}
 
 /// With parity, a payload that differs from a good one within 32 neighbouring bits of one slice,
 /// its slice_size aside, is answered by the parity of that slice, before any line and any decision.
@@ -211,7 +214,7 @@ pub fn damage_is_found_by_parity<S: LineSink>()
         (result ≡ Err (in_slice codec_fault.SliceParity s)) × (tally ≡ no_tally) × (new ≡ old) }
 {
     record_laws::bursts_change_the_remainder();
-    slice_laws::cutting_is_found_from_the_end();
+    slice_laws::payload_is_cut_in_one_way();
 }
 
 /// What a call of the decoder is for, from its answer, its bytes, and what it holds: one statement,

@@ -3,31 +3,27 @@
 use Rattle.std.specs.Prelude.{◌≡◌, ◌⊎◌, ℕ, Bool, true, false, List, [], ◌∷◌, ◌++◌, length, Result}
 use Rattle.std.specs.Prelude.{Ok, Err}
 use Rattle.std.specs.Io.KnownBytes.{Appends}
-use Rattle.ffv1_range.specs.declared.tally.Tally.{Tally}
 use Rattle.ffv1_wire.specs.Failures.{one_more}
 use Rattle.ffv1_wire.specs.Passage.{Passage}
 use Rattle.ffv1_wire.specs.Runs.{Line}
 use Rattle.ffv1_record.specs.Accepted.{Accepted}
 use Rattle.ffv1_record.specs.Configuration.{Configuration}
-use Rattle.ffv1_codec.specs.declared.fault.FrameFault.{FrameFault}
 use Rattle.ffv1_files.specs.Places.{Place}
-use Rattle.ffv1_files.specs.Files.{frame_read}
-use Rattle.ffv1_reads.specs.Head.{Head}
 use Rattle.ffv1_y4m.specs.Images.{AtImage, image_text, text_of_lines}
 use Rattle.ffv1_y4m.specs.Sink.{PpmSink}
+use Rattle.ffv1_reads.specs.Known.{Known}
 use Rattle.ffv1_engine.specs.declared.fault.Fault.{Fault}
-use Rattle.ffv1_engine.specs.Faults.{Cause, cause_of, of_codec}
+use Rattle.ffv1_engine.specs.Faults.{Cause, cause_of}
 use Rattle.ffv1_engine.specs.Faults.Cause.{Reading, Writing, Memory, Content}
-use Rattle.ffv1_codec.specs.Outcome.{FaultsOf}
 use Rattle.ffv1_engine.specs.Stream.{Frame}
-use Rattle.ffv1_engine.specs.Play.{WritesUpTo}
 use Rattle.ffv1_engine.specs.Internal.Play.{ReadsEnd, ReadsPayload}
+use Rattle.ffv1_engine.specs.Play.{WritesUpTo}
+use Rattle.ffv1_engine.specs.Plays.{NextHasFault, NextPayloadLacks, NextReadFails}
+use Rattle.ffv1_engine.specs.Internal.Plays.{PayloadFaults}
 use Rattle.ffv1_engine.specs.Internal.Plays.{PlaysFrame}
-use Rattle.ffv1_engine.specs.Told.{NextFails, PayloadLacks}
-use Rattle.ffv1_engine.specs.Internal.Told.{FaultsKnown}
 use Rattle.ffv1_engine.specs.Trial.{Silent}
-use Rattle.ffv1_engine.specs.Unpacked.{lines_before}
-use Rattle.ffv1_engine.specs.Unpacking.{HandsOver}
+use Rattle.ffv1_codec.specs.Outcome.{lines_before}
+use Rattle.ffv1_codec.specs.Outcome.{OffersLine}
 
 -- a sink of images of a configuration's size and depth that has taken whole images
 pub record IsSinkFor {W : Type 0} (c : Configuration) (s : PpmSink W) : Type 0 where
@@ -48,34 +44,30 @@ module _ (a : Accepted) (from to : Place) (input output : Passage) where
     pub lines : List Line
     pub next : Line
     pub reads : ReadsPayload from to payload input
-    pub hands : (head : Head) →
-        HandsOver (record { head = head; accepted = a }) payload lines next
+    pub hands : OffersLine a payload lines next
     pub written : output.after ≡ one_more output.before
     pub writes : WritesUpTo output.old output.new (length (rows_so_far a.configuration lines))
         (rows_so_far a.configuration (lines ++ (next ∷ [])))
 
   -- its payload has its first fault
   pub record ImageFaults (f : Fault) : Type 0 where
-    pub payload : List ℕ
-    pub fault : FrameFault
-    pub tally : Tally
-    pub reads : ReadsPayload from to payload input
-    pub faulty : FaultsOf a payload fault tally
-    pub is : f ≡ of_codec fault.fault
+    pub payload : PayloadFaults a from to input f
     pub written : output.after ≡ output.before
     pub writes : Appends output.old output.new
-        (rows_so_far a.configuration (lines_before faulty))
+        (rows_so_far a.configuration (lines_before payload.faulty))
 
   -- why there is no image of it, or not all of one, by the cause
   abbrev pub ImageStopsBy : Fault → Cause → Type 0
   ImageStopsBy f Writing = RowCut
   ImageStopsBy f Reading =
-      Silent output × (input.after ≡ one_more input.before) × NextFails from input.old input.new
+      Silent output × (input.after ≡ one_more input.before)
+      × Known input.old input.new (NextReadFails from)
   ImageStopsBy f Memory =
-      Silent output × (input.after ≡ input.before) × PayloadLacks from input.old input.new
+      Silent output × (input.after ≡ input.before)
+      × Known input.old input.new (NextPayloadLacks from)
   ImageStopsBy f Content =
       (input.after ≡ input.before)
-      × ((Silent output × FaultsKnown (frame_read from) input.old input.new f) ⊎ ImageFaults f)
+      × ((Silent output × Known input.old input.new (NextHasFault f from)) ⊎ ImageFaults f)
 
   -- what it answers: its image was written, there is none, or why it was not
   abbrev pub WritesImage : Result Bool Fault → Type 0

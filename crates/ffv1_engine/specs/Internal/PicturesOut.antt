@@ -3,7 +3,6 @@
 use Rattle.std.specs.Prelude.{◌≡◌, ◌⊎◌, ℕ, Bool, true, false, List, Option, Some, None, Result}
 use Rattle.std.specs.Prelude.{Ok, Err, ⊤}
 use Rattle.std.specs.Io.KnownBytes.{Appends}
-use Rattle.ffv1_range.specs.declared.tally.Tally.{Tally}
 use Rattle.ffv1_wire.specs.Failures.{one_more}
 use Rattle.ffv1_wire.specs.Passage.{Passage}
 use Rattle.ffv1_wire.specs.Writes.{AppendsBeginning}
@@ -12,22 +11,20 @@ use Rattle.ffv1_slice.specs.Grid.{division_of}
 use Rattle.ffv1_codec.specs.Kept.{Kept}
 use Rattle.ffv1_codec.specs.Picture.{AreOf, Planes}
 use Rattle.ffv1_codec.specs.SliceList.{Said}
-use Rattle.ffv1_codec.specs.declared.fault.FrameFault.{FrameFault}
 use Rattle.ffv1_files.specs.Places.{Place}
-use Rattle.ffv1_files.specs.Files.{frame_read}
 use Rattle.ffv1_y4m.specs.Canonical.{next_text}
 use Rattle.ffv1_y4m.specs.Writes.{Y4mWriting}
 use Rattle.ffv1_y4m.specs.declared.head.VideoHead.{VideoHead}
+use Rattle.ffv1_reads.specs.Known.{Known}
 use Rattle.ffv1_engine.specs.declared.fault.Fault.{Fault}
 use Rattle.ffv1_engine.specs.declared.fault.Fault.TheVariants as fault
-use Rattle.ffv1_engine.specs.Faults.{Cause, cause_of, of_codec}
+use Rattle.ffv1_engine.specs.Faults.{Cause, cause_of}
 use Rattle.ffv1_engine.specs.Faults.Cause.{Reading, Writing, Memory, Content}
-use Rattle.ffv1_codec.specs.Outcome.{FaultsOf}
 use Rattle.ffv1_engine.specs.Stream.{Frame}
-use Rattle.ffv1_engine.specs.Internal.Play.{ReadsEnd, ReadsPayload}
+use Rattle.ffv1_engine.specs.Internal.Play.{ReadsEnd}
+use Rattle.ffv1_engine.specs.Plays.{NextHasFault, NextPayloadLacks, NextReadFails}
+use Rattle.ffv1_engine.specs.Internal.Plays.{PayloadFaults}
 use Rattle.ffv1_engine.specs.Internal.Plays.{PlaysFrame}
-use Rattle.ffv1_engine.specs.Told.{NextFails, PayloadLacks}
-use Rattle.ffv1_engine.specs.Internal.Told.{FaultsKnown}
 use Rattle.ffv1_engine.specs.Trial.{Silent}
 
 -- the head for pictures that say this
@@ -88,15 +85,6 @@ pub record IsKeptFor (a : Accepted) (kept : Kept) : Type 0 where
 -- of the next frame, after pictures that say this
 module _ (a : Accepted) (h : VideoHead) (first : Option Said) (from to : Place)
     (input output : Passage) where
-  -- its payload has its first fault
-  pub record PayloadRefused (f : Fault) : Type 0 where
-    pub payload : List ℕ
-    pub fault : FrameFault
-    pub tally : Tally
-    pub reads : ReadsPayload from to payload input
-    pub faulty : FaultsOf a payload fault tally
-    pub is : f ≡ of_codec fault.fault
-
   -- it was decoded, and says something else
   pub record FrameChanges (f : Fault) : Type 0 where
     pub frame : Frame
@@ -112,12 +100,15 @@ module _ (a : Accepted) (h : VideoHead) (first : Option Said) (from to : Place)
       × AppendsBeginning output.old output.new
       (text_behind a.configuration.depth h first frame.said frame.planes)
   NextStopsBy f Reading =
-      Silent output × (input.after ≡ one_more input.before) × NextFails from input.old input.new
+      Silent output × (input.after ≡ one_more input.before)
+      × Known input.old input.new (NextReadFails from)
   NextStopsBy f Memory =
-      Silent output × (input.after ≡ input.before) × PayloadLacks from input.old input.new
+      Silent output × (input.after ≡ input.before)
+      × Known input.old input.new (NextPayloadLacks from)
   NextStopsBy f Content =
       Silent output × (input.after ≡ input.before)
-      × (FaultsKnown (frame_read from) input.old input.new f ⊎ PayloadRefused f ⊎ FrameChanges f)
+      × (Known input.old input.new (NextHasFault f from) ⊎ PayloadFaults a from to input f
+      ⊎ FrameChanges f)
 
   -- what its writing answers, and the text after it: its picture was written, there is none, or
   -- why it was not

@@ -1,13 +1,8 @@
--- A decoder before a row of a mono plane.
-use Rattle.std.specs.Prelude.{ℕ, List, [], ℤ}
-use Rattle.ffv1_line.specs.Coding.{RowCoding}
-use Rattle.ffv1_line.specs.Coder.{Decoder}
-use Rattle.ffv1_line.specs.Above.{RowsAbove}
-use Rattle.ffv1_line.specs.Cell.{Cell, Above}
-use Rattle.ffv1_line.specs.Coded.{StandsAfter}
+-- Rows of a mono plane that are compared with its samples.
+use Rattle.std.specs.Prelude.{ℕ, ◌≡◌, ◌≤◌, ◌↔◌, Bool, true, List, length, take, drop}
 
--- a decoder stands before row y of a cell that its bytes code, below the rows above
-pub record StandsBefore (coding : RowCoding) (fresh : List ℕ) (c : Cell) (rows : List (List ℤ))
-    (y : ℕ) (now : Decoder) (over : RowsAbove) : Type 0 where
-  pub stands : StandsAfter [] coding fresh c rows y now
-  pub above : Above c y over.two over.one
+-- a row was compared with the samples that come next, if all rows so far were the same; these are
+-- left, and this tells whether all were the same
+pub record Compared (rest : List ℕ) (same : Bool) (row left : List ℕ) (still : Bool) : Type 0 where
+  pub goes_on : length row ≤ length rest → left ≡ drop (length row) rest
+  pub tells : (still ≡ true) ↔ ((same ≡ true) × (row ≡ take (length row) rest))

@@ -27,9 +27,8 @@ use Rattle.ffv1_engine.specs.declared.frame_line.FrameLine.{FrameLine}
 use Rattle.ffv1_engine.specs.Internal.Containers.{is_container_fault}
 use Rattle.ffv1_engine.specs.Faults.{Cause, cause_of, of_avi}
 use Rattle.ffv1_engine.specs.Faults.Cause.{Reading, Writing, Memory, Content}
-use Rattle.ffv1_engine.specs.Stream.{Frame, IsFrame, ReadsFrames, frame_payload}
-use Rattle.ffv1_engine.specs.Stream.{payloads}
-use Rattle.ffv1_engine.specs.Play.{End, EndsReading, FaultsRead}
+use Rattle.ffv1_engine.specs.Stream.{Frame, IsFrame, frame_payload}
+use Rattle.ffv1_engine.specs.Play.{FaultsRead}
 use Rattle.ffv1_engine.specs.Internal.Play.{ReadsEnd, ReadsPayload}
 use Rattle.ffv1_engine.specs.Plays.{GoesBy}
 use Rattle.ffv1_engine.specs.Internal.Plays.{OneStopsBy, PayloadFaults}
@@ -77,24 +76,6 @@ StepAnswers takes refuses a from to payload tally p old new (Err (stop.File f)) 
 StepAnswers takes refuses a from to payload tally p old new (Err (stop.Payload f)) =
     ReadsPayload from to payload p × Answers takes refuses a payload old new tally (Err f)
 
--- where the text is known, from this place of the file it begins with these frames, and then comes
--- that place
-abbrev pub ReadsKnown : Place → Option (List ℕ) → Option (List ℕ) → List Frame → Place → Type 0
-ReadsKnown from old new frames to = Known old new (λ text rest.
-    ReadsFrames from text (payloads frames) to rest)
-
--- the same of some of its beginning
-abbrev pub ReadsSome : Place → Option (List ℕ) → List Frame → Type 0
-ReadsSome from None frames = ⊤
-ReadsSome from (Some text) frames =
-    (to : Place) × (at : List ℕ) × ReadsFrames from text (payloads frames) to at
-
--- where the text is known, from this place of the file it has these frames, and ends so
-abbrev pub EndsFrom : Place → Option (List ℕ) → Option (List ℕ) → List Frame → End → Type 0
-EndsFrom from old new frames e = Known old new (λ text rest.
-    (to : Place) × (at : List ℕ) × ReadsFrames from text (payloads frames) to at
-    × EndsReading to at rest e)
-
 -- the lines of frames
 abbrev pub told_line : FrameLine → Configuration → ℕ → Frame → List ℕ
 told_line kind c i f = frame_line kind c i f.payload f.tally
@@ -102,7 +83,7 @@ told_line kind c i f = frame_line kind c i f.payload f.tally
 -- by how a file has payloads
 module _ (Has : List (List ℕ) → (Place → List ℕ → List ℕ → Type 0) → List ℕ → List ℕ → Type 0)
     (kind : FrameLine) (place : Bool) (a : Accepted) (input output : Passage) where
-  -- why no further frame is told, with the offset at which the file stops: the next payload has a
+  -- why no further line is printed, with the offset at which the file stops: the next payload has a
   -- fault; or by the cause
   abbrev pub TellingStops : (Fault → ℕ → Type 0) → Bool → Fault → Type 0
   TellingStops Stops byte f =

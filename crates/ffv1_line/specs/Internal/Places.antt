@@ -1,12 +1,13 @@
 -- A block of places of a row that is decoded.
-use Rattle.std.specs.Prelude.{ℕ, ◌≡◌, ◌+◌, ◌*◌, ◌≤◌, ◌<◌, IsTrue, List, length, slice_index}
-use Rattle.std.specs.Prelude.{slice_set}
+use Rattle.std.specs.Prelude.{ℕ, ◌≡◌, ◌+◌, ◌*◌, ◌≤◌, ◌<◌, Bool, true, false, IsTrue, List, length}
+use Rattle.std.specs.Prelude.{slice_index, slice_set}
 use Rattle.ffv1_range.specs.Table.{Holds}
 use Rattle.ffv1_range.specs.Symbols.{AllHeld}
 use Rattle.ffv1_range.specs.declared.tally.Nonzeros.{Nonzeros}
 use Rattle.ffv1_range.specs.Reading.{Reading, summed}
 use Rattle.ffv1_range.specs.Among.{sums_among}
 use Rattle.ffv1_plane.specs.declared.prediction.Around.{Around}
+use Rattle.ffv1_plane.specs.declared.early.Early.{Early}
 use Rattle.ffv1_plane.specs.Quantisation.{contexts_of, HasThreeTables}
 use Rattle.ffv1_line.specs.Coding.{RowCoding, coding_by}
 use Rattle.ffv1_line.specs.Coder.{Decoder, decoder_by}
@@ -15,6 +16,7 @@ use Rattle.ffv1_line.specs.declared.decode.places.Places.{Places}
 use Rattle.ffv1_line.specs.declared.decode.places.Behind.{Behind}
 use Rattle.ffv1_line.specs.Decoded.{Lined, LinedToRefusal, SameFrom}
 use Rattle.ffv1_line.specs.Internal.Along.{AreUnsigned, IsBehind, IsFilled, ComesAgain}
+use Rattle.ffv1_line.specs.Internal.Along.{IsEqualContext, HasRunContext}
 
 -- they are places of a row that is not empty, and what the rows above decide of them is prepared
 pub record ArePlaces {B : Type 0} (p : Places B) : Type 0 where
@@ -113,8 +115,8 @@ pub record ReadZerosBy {B : Type 0} (p : Places B) (size i : ℕ) (old : KeptApa
       ReadZeros p i (decoder_by old.reading states) old.row k
       (decoder_by new.reading (slice_set states (size * 32) new.state)) new.row
 
--- from place i on zeros may be read by a state that is kept apart: the samples to the left and
--- above to the left are one, which comes again
+-- from place i on zeros may be read by a state that is kept apart: the samples to the left, above
+-- to the left and above are one, which comes again
 pub record MayComeAgain {B : Type 0} (p : Places B) (state : ℕ) (cur : List ℕ) (b : Behind)
     (i : ℕ) : Type 0 where
   pub places : ArePlaces p
@@ -123,4 +125,19 @@ pub record MayComeAgain {B : Type 0} (p : Places B) (state : ℕ) (cur : List �
   pub inside : i < p.count
   pub begins : Carries p i cur b
   pub left : slice_index p.early.now.tl i ≡ b.l
+  pub top : slice_index p.early.now.t i ≡ b.l
   pub again : ComesAgain p.bits b.l
+
+-- zeros from place i on have this context, as long as they go on: in a run the first one, else that
+-- of the early sum, also where the sample two to the left is the one too
+abbrev pub SharesContext : {B : Type 0} → Bool → Places B → ℕ → Behind → ℕ → Type 0
+SharesContext true p i b size = (size ≡ 0) × HasRunContext p.set.now
+SharesContext false p i b size =
+    IsEqualContext p.set.now (slice_index p.early.now.sum i) b.l b.ll size ×
+    IsEqualContext p.set.now (slice_index p.early.now.sum i) b.l b.l size
+
+-- they go on at place i, where the samples to the left and above to the left are l: in a run the
+-- sample above to the right is l too, else the sample above is, and the early sum is this one
+abbrev pub GoesOn : Bool → Early → ℕ → ℕ → ℕ → Type 0
+GoesOn true e sum l i = slice_index e.t (i + 1) ≡ l
+GoesOn false e sum l i = (slice_index e.t i ≡ l) × (slice_index e.sum i ≡ sum)

@@ -1,63 +1,14 @@
 //! Zeros at places of equal neighbours are decoded: the samples above and to the left are one.
 
-ghost use Rattle.std.specs.Prelude.{◌≡◌, ℕ, ◌<◌, slice_index};
-ghost use Rattle.ffv1_range.specs.Table.{Holds};
-ghost use Rattle.ffv1_line.specs.Internal.Along.{IsEqualContext};
-ghost use Rattle.ffv1_line.specs.Internal.Places.{MayComeAgain, Carries, StandsAt, ReadZeros};
-ghost use Rattle.ffv1_line.specs.Internal.Places.{kept_apart};
-ghost use Rattle.ffv1_line.specs.Internal.Places.{ReadZerosBy};
+ghost use Rattle.std.specs.Prelude.{◌≡◌, slice_index};
+ghost use Rattle.ffv1_line.specs.Internal.Places.{StandsAt, ReadZeros};
 ghost use Rattle.ffv1_line.specs.Coder.{decoder_by};
 
 use crate::decode::places::{Behind, Places};
+use crate::decode::zeros::take_zeros;
 use ffv1_plane::{deep_sample, late_context, predict_late};
 use ffv1_range::RangeDecoder;
 use std::alloc::Allocator;
-
-/// The places of a block from `start` to before its last, as long as their neighbours are equal and
-/// their symbols zeros: the early sum is that of the first, and the samples above and to the left
-/// are one, which comes again. `state` is that of the first decision of a context, which all of
-/// them have. Answers the first place that is left.
-#[inline(always)]
-fn take_equal<B: Allocator>(
-    decoder: &mut RangeDecoder<'_>,
-    places: &Places<'_, B>,
-    state: &mut u8,
-    cur: &mut [u16],
-    behind: &mut Behind,
-    start: usize,
-) -> usize
-    requires may { MayComeAgain places.now state.old cur.old behind.old start }
-    ensures inside { result < places.now.count }
-    ensures begins { Carries places.now result cur.new behind.new }
-    ensures read { (size : ℕ) →
-        IsEqualContext places.now.set.now (slice_index places.now.early.now.sum start) behind.old.l
-        behind.old.ll size →
-        IsEqualContext places.now.set.now (slice_index places.now.early.now.sum start) behind.old.l
-        behind.old.l size →
-        ReadZerosBy places.now size start (kept_apart decoder.old state.old cur.old) result
-        (kept_apart decoder.new state.new cur.new) }
-    ensures held { Holds places.now.table.now state.new }
-{
-    let Places {
-        table,
-        early,
-        from,
-        count,
-        ..
-    } = *places;
-    let sum = early.sum[start];
-    for at in start..count - 1 {
-        if early.t[at] != behind.l || early.sum[at] != sum {
-            return at;
-        }
-        if !decoder.take_zero(table, state) {
-            return at;
-        }
-        cur[from + at] = behind.l;
-        behind.ll = behind.l;
-    }
-    count - 1
-}
 
 /// The places of a block from `start` on whose neighbours are equal and whose symbols are zeros:
 /// the samples above and to the left are one, and so is each that comes. Their context is one,
@@ -95,7 +46,7 @@ pub(crate) fn decode_equal<B: Allocator>(
     let slot = size as usize * 32;
     let mut state = states[slot];
     let mut local = decoder.take();
-    let left = take_equal(&mut local, places, &mut state, cur, behind, start);
+    let left = take_zeros::<B, false>(&mut local, places, &mut state, cur, behind, start);
     states[slot] = state;
     *decoder = local;
     left

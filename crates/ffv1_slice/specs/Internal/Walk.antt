@@ -1,10 +1,12 @@
 -- How the slices of a payload are found: from the last to the first by their footers, and then
 -- judged from the first on.
-use Rattle.std.specs.Prelude.{ℕ, ◌+◌, ◌-◌, ◌==◌, nat_lt, Bool, true, false, if◌then◌else◌, Option}
-use Rattle.std.specs.Prelude.{Some, None, Result, Ok, Err, List, ◌∷◌, slice_index}
+use Rattle.std.specs.Prelude.{ℕ, ◌+◌, ◌-◌, ◌*◌, ◌==◌, nat_lt, Bool, true, false, if◌then◌else◌}
+use Rattle.std.specs.Prelude.{Option, Some, None, Result, Ok, Err, List, [], ◌∷◌, length}
+use Rattle.std.specs.Prelude.{slice_index}
 use Rattle.std.proofs.Common.{zero, suc}
+use Rattle.ffv1_record.specs.Configuration.{Configuration}
 use Rattle.ffv1_record.specs.Parity.{remainder_of}
-use Rattle.ffv1_slice.specs.Footer.{size_before, slice_of}
+use Rattle.ffv1_slice.specs.Footer.{foot_length, size_before, slice_of}
 use Rattle.ffv1_slice.specs.declared.fault.SliceFault.TheVariants as fault
 use Rattle.ffv1_slice.specs.declared.cutting.CutFault.{CutFault}
 
@@ -37,3 +39,9 @@ abbrev pub judged :
 judged payload count ec (Err f) = Err f
 judged payload count false (Ok os) = Ok os
 judged payload count true (Ok os) = judged_by (first_damaged payload (slice_index os) 0 count) os
+
+-- what is found: one offset more than there are slices, or the first fault
+abbrev pub cut_of : Configuration → List ℕ → Result (List ℕ) CutFault
+cut_of c payload =
+    judged payload (c.columns * c.rows) c.ec
+    (offsets_onto payload (foot_length c.ec) (c.columns * c.rows) (length payload) [])

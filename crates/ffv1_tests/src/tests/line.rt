@@ -4,6 +4,8 @@ ghost use Rattle.std.specs.Prelude.{◌≡◌, ◌*◌, ◌<◌, ◌≤◌, ◌�
 ghost use Rattle.ffv1_plane.specs.Quantisation.{contexts_of};
 ghost use Rattle.ffv1_range.specs.Symbols.{AreHeld, AllHeld};
 
+mod cells;
+
 use super::range::made::{put_at, put_long_exponent};
 use ffv1_line::{Above, Coding, RollingRows, TooLong, decode_line, encode_line, reset};
 use ffv1_plane::QuantSet;

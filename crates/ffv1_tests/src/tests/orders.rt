@@ -80,7 +80,7 @@ fn each_command(rt: HostRuntime) {
     names_each(&rt, rt.alloc(), &COMMANDS);
 }
 
-/// Flags, and words that are files behind two hyphens.
+/// Flags, and words that are files after two hyphens.
 static FLAGS: [(&[&str], Order<'static>); 10] = [
     (
         &["ffv1", "pack", "a", "--no-clobber", "b"],

@@ -1,6 +1,6 @@
 //! Each request for memory, each read and each write of each command, refused or cut in turn: the
-//! fault that is told, and the beginning of what is owed that stands written then. What is owed is
-//! what `model/commands.py` writes of the same input.
+//! fault that is answered, and the beginning of what is owed that stands written then. What is owed
+//! is what `model/commands.py` writes of the same input.
 
 use ffv1_doubles::{FailingReader, Scarce, ShortWriter};
 use ffv1_engine::{

@@ -3,4 +3,3 @@
 mod bytes;
 mod calls;
 mod patches;
-mod sinks;

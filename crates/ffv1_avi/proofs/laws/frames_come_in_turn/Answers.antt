@@ -1,3 +1,4 @@
+-- The frames are the next one and those after it; at the end there is none, and nothing is read.
 use Rattle.std.proofs.Common.{refl}
 use Rattle.ffv1_avi.specs.Places.{ended}
 use Rattle.ffv1_avi.proofs.FrameTurns.{frames_step}

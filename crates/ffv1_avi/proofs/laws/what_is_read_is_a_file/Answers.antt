@@ -1,3 +1,4 @@
+-- What is read is a file of that head and those frames, by its chunks.
 use Rattle.ffv1_avi.proofs.FileLaws.{file_sound}
 use Rattle.ffv1_avi.proofs.laws.what_is_read_is_a_file.Goals as goal
 

@@ -1,3 +1,5 @@
+-- What is written is a file of its head and frames, by its chunks, of one RIFF, and is read back,
+-- where the first `movi` alone is read and where every RIFF is.
 use Rattle.std.proofs.Common.{◌∙◌}
 use Rattle.ffv1_avi.proofs.EveryRiffLaws.{every_complete}
 use Rattle.ffv1_avi.proofs.FileLaws.{file_complete}
@@ -7,4 +9,11 @@ use Rattle.ffv1_avi.specs.Written.{file_of}
 use Rattle.ffv1_avi.proofs.laws.written_file_is_read_back.Goals as goal
 
 pub returns : goal.returns
-returns c = record { file = written_file; read = λ head frames is. file_complete (file_of head frames) head frames (written_file head frames is) ∙ written_rest head frames is; riff = written_riff; every = λ head frames is. every_complete (file_of head frames) head frames (written_riff head frames is) }
+returns c = record {
+  file = written_file;
+  read = λ head frames is. file_complete
+      (file_of head frames) head frames (written_file head frames is) ∙ written_rest head frames is;
+  riff = written_riff;
+  every = λ head frames is. every_complete (file_of head frames) head frames
+      (written_riff head frames is);
+}

@@ -10,8 +10,10 @@ ended size p = passed (size % 2) >>= λ _. given p.0
 
 abbrev pub invariant-loop-entry : goal.invariant-loop-entry
 invariant-loop-entry g l =
-    Goes (extended_read l.fn.frames l.fn.size) (g.R.ByteIn.remaining l.initial.input) (g.R.ByteIn.failures l.initial.input)
-    (walk visit_extended l.left l.frames >>= ended l.fn.size) (g.R.ByteIn.remaining l.input) (g.R.ByteIn.failures l.input)
+    Goes (extended_read l.fn.frames l.fn.size) (g.R.ByteIn.remaining l.initial.input)
+    (g.R.ByteIn.failures l.initial.input)
+    (walk visit_extended l.left l.frames >>= ended l.fn.size) (g.R.ByteIn.remaining l.input)
+    (g.R.ByteIn.failures l.input)
 
 abbrev pub decreases-loop-entry : goal.decreases-loop-entry
 decreases-loop-entry g l = l.left

@@ -1,4 +1,8 @@
-use Rattle.std.proofs.Common.{◌≡◌, ◌-◌, ◌&&◌, ◌++◌, ℕ, List, [], Bool, if◌then◌else◌, nat_le, true, false, codes, length, take, drop, refl, sym, ap, ◌∙◌, arith, length-drop}
+-- A file, whose first byte may have been read, up to the first movi: its sizes, its record in place
+-- of what the vector has, and where movi stands.
+use Rattle.std.proofs.Common.{◌≡◌, ◌-◌, ◌&&◌, ◌++◌, ℕ, List, [], Bool, if◌then◌else◌, nat_le, true}
+use Rattle.std.proofs.Common.{false, codes, length, take, drop, refl, sym, ap, ◌∙◌, arith}
+use Rattle.std.proofs.Common.{length-drop}
 use Rattle.std.proofs.lemmas.Bool.{le-leb, lt-leb}
 use Rattle.std.proofs.lemmas.List.{take_all}
 use Rattle.byteorder.specs.Endian.{little_number}
@@ -14,25 +18,32 @@ use Rattle.ffv1_avi.specs.Internal.Views.{head_with}
 use Rattle.ffv1_avi.specs.Walk.{is_name}
 use Rattle.ffv1_avi.proofs.Contents.{number_taken}
 use Rattle.ffv1_reads.proofs.WantedBytes.{wanted_sound}
-use Rattle.ffv1_reads.proofs.Reading.{faults_here, goes_fault, goes_last, goes_none, goes_read, goes_same}
+use Rattle.ffv1_reads.proofs.Reading.{faults_here, goes_fault, goes_last, goes_none, goes_read}
+use Rattle.ffv1_reads.proofs.Reading.{goes_same}
 use Rattle.ffv1_reads.proofs.Rooms.{room_after}
 use Rattle.std.proofs.lemmas.Result.{err_from_is_err_and}
 use Rattle.ffv1_avi.proofs.RiffReadings.{stops_here}
 use Rattle.ffv1_avi.proofs.SpotReadings.{opens_then, start_differs, start_read, start_refused}
 use Rattle.ffv1_avi.proofs.open.read_opening.Goals as goal
-use Rattle.ffv1_avi.proofs.open.read_opening.Goals.{then-not-is_name-via-then-not-is_name, then-not-is_name-via-else-not-is_name+then-not-is_name-2, then-not-is_name-via-else-not-is_name+else-not-is_name-2+then-size-lt4}
+use Rattle.ffv1_avi.proofs.open.read_opening.Goals.{then-not-is_name-via-then-not-is_name}
+use Rattle.ffv1_avi.proofs.open.read_opening.Goals.{then-not-is_name-via-else-not-is_name+then-not-is_name-2}
+use Rattle.ffv1_avi.proofs.open.read_opening.Goals.{then-not-is_name-via-else-not-is_name+else-not-is_name-2+then-size-lt4}
 
 abbrev behind : Extent → List ℕ → Reading (Head × Place)
-behind extent bytes = if begins bytes then top_read extent (little_number 4 (drop 4 bytes) - 4) else refused fault.NotAvi
+behind extent bytes = if begins bytes then top_read extent (little_number 4 (drop 4 bytes) - 4) else
+    refused fault.NotAvi
 
-opened : (extent : Extent) (text : List ℕ) → open_read extent text ≡ (taken 12 >>= behind extent) text
+opened : (extent : Extent) (text : List ℕ) → open_read extent text ≡ (taken 12 >>= behind extent)
+    text
 unfolding open_read
 opened extent text = refl
 
-begun : (extent : Extent) (bytes : List ℕ) → begins bytes ≡ true → (text : List ℕ) → behind extent bytes text ≡ top_read extent (little_number 4 (drop 4 bytes) - 4) text
+begun : (extent : Extent) (bytes : List ℕ) → begins bytes ≡ true → (text : List ℕ) → behind extent
+    bytes text ≡ top_read extent (little_number 4 (drop 4 bytes) - 4) text
 begun extent bytes is text = rw is refl
 
-not_begun : (extent : Extent) (bytes : List ℕ) → begins bytes ≡ false → (text : List ℕ) → behind extent bytes text ≡ refused fault.NotAvi text
+not_begun : (extent : Extent) (bytes : List ℕ) → begins bytes ≡ false → (text : List ℕ) → behind
+    extent bytes text ≡ refused fault.NotAvi text
 not_begun extent bytes is text = rw is refl
 
 all_three : (a b c : Bool) → a ≡ true → b ≡ true → c ≡ true → ((a && b) && c) ≡ true
@@ -50,31 +61,57 @@ no_third a b c p q r = rw (p, q, r) refl
 pub returns-then-not-is_name-clause-answer : goal.returns-then-not-is_name-clause-answer
 returns-then-not-is_name-clause-answer g c =
     let head = c.take_after.new.buf in
-    let long : length head ≡ 12 = (wanted_sound Looked 12 (c.in_ok-take_after.ensures.1.bytes ++ []) (head, []) (c.in_ok-take_after.ensures.1.is [])).1 in
-    let form : take 4 (drop 8 head) ≡ drop 8 head = take_all 4 (drop 8 head) (omega (arith, long, length-drop 8 head)) in
-    let size : c.read_u32-size.result ≡ little_number 4 (drop 4 head) = c.read_u32-size.ensures ∙ number_taken 8 (drop 4 head) (omega arith) in
+    let long : length head ≡ 12 = (wanted_sound Looked 12 (c.in_ok-take_after.ensures.1.bytes ++ [])
+    (head, []) (c.in_ok-take_after.ensures.1.is [])).1 in
+    let form : take 4 (drop 8 head) ≡ drop 8 head = take_all 4 (drop 8 head)
+    (omega (arith, long, length-drop 8 head)) in
+    let size : c.read_u32-size.result ≡ little_number 4 (drop 4 head) = c.read_u32-size.ensures ∙
+    number_taken 8 (drop 4 head) (omega arith) in
     let a = is_name (take 4 head) (codes "RIFF") in
     let b = is_name (drop 8 head) (codes "AVI ") in
     let z = nat_le 4 (little_number 4 (drop 4 head)) in
-    let other : begins head ≡ false = elim c.then-not-is_name.branch [ then-not-is_name-via-then-not-is_name w ↦ no_first a b z (sym w.if-not-is_name.ensures) | then-not-is_name-via-else-not-is_name+then-not-is_name-2 w ↦ no_second a b z (sym w.if-not-is_name.ensures) (ap (λ y. is_name y (codes "AVI ")) (sym form) ∙ sym w.if-not-is_name-2.ensures) | then-not-is_name-via-else-not-is_name+else-not-is_name-2+then-size-lt4 w ↦ no_third a b z (sym w.if-not-is_name.ensures) (ap (λ y. is_name y (codes "AVI ")) (sym form) ∙ sym w.if-not-is_name-2.ensures) (lt-leb _ _ (omega (arith, size, w.if-size-lt4.true))) ] in
-    let start = goes_same _ (taken 12 >>= behind c.args.extent) (opened c.args.extent) (goes_none (open_read c.args.extent) (bytes_with c.args.first (g.R.ByteIn.remaining c.args.input.now)) (g.R.ByteIn.failures c.args.input.now)) in
-    let here = goes_same _ (refused fault.NotAvi) (not_begun c.args.extent head other) (goes_read (taken 12) (behind c.args.extent) _ _ head start c.in_ok-take_after.ensures) in
+    let other : begins head ≡ false = elim c.then-not-is_name.branch [
+      | then-not-is_name-via-then-not-is_name w ↦ no_first a b z (sym w.if-not-is_name.ensures)
+      | then-not-is_name-via-else-not-is_name+then-not-is_name-2 w ↦ no_second a b z
+          (sym w.if-not-is_name.ensures) (ap (λ y. is_name y (codes "AVI ")) (sym form) ∙
+          sym w.if-not-is_name-2.ensures)
+      | then-not-is_name-via-else-not-is_name+else-not-is_name-2+then-size-lt4 w ↦ no_third a b z
+          (sym w.if-not-is_name.ensures) (ap (λ y. is_name y (codes "AVI ")) (sym form) ∙
+          sym w.if-not-is_name-2.ensures) (lt-leb _ _ (omega (arith, size, w.if-size-lt4.true)))
+    ] in
+    let start = goes_same _ (taken 12 >>= behind c.args.extent) (opened c.args.extent)
+    (goes_none (open_read c.args.extent) (bytes_with c.args.first
+    (g.R.ByteIn.remaining c.args.input.now)) (g.R.ByteIn.failures c.args.input.now)) in
+    let here = goes_same _ (refused fault.NotAvi) (not_begun c.args.extent head other)
+    (goes_read (taken 12) (behind c.args.extent) _ _ head start c.in_ok-take_after.ensures) in
     goes_fault fault.NotAvi here (refl, faults_here (Head × Place) fault.NotAvi _)
 
 pub returns-clause-answer : goal.returns-clause-answer
 returns-clause-answer g c =
     let head = c.take_after.new.buf in
-    let long : length head ≡ 12 = (wanted_sound Looked 12 (c.in_ok-take_after.ensures.1.bytes ++ []) (head, []) (c.in_ok-take_after.ensures.1.is [])).1 in
-    let form : take 4 (drop 8 head) ≡ drop 8 head = take_all 4 (drop 8 head) (omega (arith, long, length-drop 8 head)) in
-    let size : c.read_u32-size.result ≡ little_number 4 (drop 4 head) = c.read_u32-size.ensures ∙ number_taken 8 (drop 4 head) (omega arith) in
-    let enough : nat_le 4 (little_number 4 (drop 4 head)) ≡ true = le-leb _ _ (omega (arith, size, c.if-size-lt4.false)) in
-    let here : begins head ≡ true = all_three _ _ _ (sym c.if-not-is_name.ensures) (ap (λ y. is_name y (codes "AVI ")) (sym form) ∙ sym c.if-not-is_name-2.ensures) enough in
-    let start = goes_same _ (taken 12 >>= behind c.args.extent) (opened c.args.extent) (goes_none (open_read c.args.extent) (bytes_with c.args.first (g.R.ByteIn.remaining c.args.input.now)) (g.R.ByteIn.failures c.args.input.now)) in
-    let next = goes_same _ (top_read c.args.extent (little_number 4 (drop 4 head) - 4)) (begun c.args.extent head here) (goes_read (taken 12) (behind c.args.extent) _ _ head start c.in_ok-take_after.ensures) in
-    goes_last (top_read c.args.extent (little_number 4 (drop 4 head) - 4)) (λ (p : Sizes × Place). (head_with p.0 c.read_top.new.config.items, p.1)) _ _ c.read_top.result next (rw size at c.read_top.ensures.answer)
+    let long : length head ≡ 12 = (wanted_sound Looked 12 (c.in_ok-take_after.ensures.1.bytes ++ [])
+    (head, []) (c.in_ok-take_after.ensures.1.is [])).1 in
+    let form : take 4 (drop 8 head) ≡ drop 8 head = take_all 4 (drop 8 head)
+    (omega (arith, long, length-drop 8 head)) in
+    let size : c.read_u32-size.result ≡ little_number 4 (drop 4 head) = c.read_u32-size.ensures ∙
+    number_taken 8 (drop 4 head) (omega arith) in
+    let enough : nat_le 4 (little_number 4 (drop 4 head)) ≡ true = le-leb _ _
+    (omega (arith, size, c.if-size-lt4.false)) in
+    let here : begins head ≡ true = all_three _ _ _ (sym c.if-not-is_name.ensures)
+    (ap (λ y. is_name y (codes "AVI ")) (sym form) ∙ sym c.if-not-is_name-2.ensures) enough in
+    let start = goes_same _ (taken 12 >>= behind c.args.extent) (opened c.args.extent)
+    (goes_none (open_read c.args.extent) (bytes_with c.args.first
+    (g.R.ByteIn.remaining c.args.input.now)) (g.R.ByteIn.failures c.args.input.now)) in
+    let next = goes_same _ (top_read c.args.extent (little_number 4 (drop 4 head) - 4))
+    (begun c.args.extent head here) (goes_read (taken 12) (behind c.args.extent) _ _ head start
+    c.in_ok-take_after.ensures) in
+    goes_last (top_read c.args.extent (little_number 4 (drop 4 head) - 4))
+    (λ (p : Sizes × Place). (head_with p.0 c.read_top.new.config.items, p.1)) _ _
+    c.read_top.result next (rw size at c.read_top.ensures.answer)
 
 pub returns-clause-grown : goal.returns-clause-grown
-returns-clause-grown g c = room_after _ _ _ c.read_top.result c.in_ok-take_after.ensures.1 c.read_top.ensures.grown
+returns-clause-grown g c = room_after _ _ _ c.read_top.result c.in_ok-take_after.ensures.1
+    c.read_top.ensures.grown
 
 pub returns-in_err-take_after-clause-from : goal.returns-in_err-take_after-clause-from
 returns-in_err-take_after-clause-from g c =
@@ -85,21 +122,41 @@ returns-in_err-take_after-clause-from g c =
 pub returns-then-not-is_name-clause-from : goal.returns-then-not-is_name-clause-from
 returns-then-not-is_name-clause-from g c =
     let head = c.take_after.new.buf in
-    let long : length head ≡ 12 = (wanted_sound Looked 12 (c.in_ok-take_after.ensures.1.bytes ++ []) (head, []) (c.in_ok-take_after.ensures.1.is [])).1 in
-    let form : take 4 (drop 8 head) ≡ drop 8 head = take_all 4 (drop 8 head) (omega (arith, long, length-drop 8 head)) in
-    let size : c.read_u32-size.result ≡ little_number 4 (drop 4 head) = c.read_u32-size.ensures ∙ number_taken 8 (drop 4 head) (omega arith) in
+    let long : length head ≡ 12 = (wanted_sound Looked 12 (c.in_ok-take_after.ensures.1.bytes ++ [])
+    (head, []) (c.in_ok-take_after.ensures.1.is [])).1 in
+    let form : take 4 (drop 8 head) ≡ drop 8 head = take_all 4 (drop 8 head)
+    (omega (arith, long, length-drop 8 head)) in
+    let size : c.read_u32-size.result ≡ little_number 4 (drop 4 head) = c.read_u32-size.ensures ∙
+    number_taken 8 (drop 4 head) (omega arith) in
     let a = is_name (take 4 head) (codes "RIFF") in
     let b = is_name (drop 8 head) (codes "AVI ") in
     let z = nat_le 4 (little_number 4 (drop 4 head)) in
-    let other : begins head ≡ false = elim c.then-not-is_name.branch [ then-not-is_name-via-then-not-is_name w ↦ no_first a b z (sym w.if-not-is_name.ensures) | then-not-is_name-via-else-not-is_name+then-not-is_name-2 w ↦ no_second a b z (sym w.if-not-is_name.ensures) (ap (λ y. is_name y (codes "AVI ")) (sym form) ∙ sym w.if-not-is_name-2.ensures) | then-not-is_name-via-else-not-is_name+else-not-is_name-2+then-size-lt4 w ↦ no_third a b z (sym w.if-not-is_name.ensures) (ap (λ y. is_name y (codes "AVI ")) (sym form) ∙ sym w.if-not-is_name-2.ensures) (lt-leb _ _ (omega (arith, size, w.if-size-lt4.true))) ] in
-    stops_here fault.NotAvi (start_differs c.args.extent head _ _ _ _ other c.in_ok-take_after.ensures)
+    let other : begins head ≡ false = elim c.then-not-is_name.branch [
+      | then-not-is_name-via-then-not-is_name w ↦ no_first a b z (sym w.if-not-is_name.ensures)
+      | then-not-is_name-via-else-not-is_name+then-not-is_name-2 w ↦ no_second a b z
+          (sym w.if-not-is_name.ensures) (ap (λ y. is_name y (codes "AVI ")) (sym form) ∙
+          sym w.if-not-is_name-2.ensures)
+      | then-not-is_name-via-else-not-is_name+else-not-is_name-2+then-size-lt4 w ↦ no_third a b z
+          (sym w.if-not-is_name.ensures) (ap (λ y. is_name y (codes "AVI ")) (sym form) ∙
+          sym w.if-not-is_name-2.ensures) (lt-leb _ _ (omega (arith, size, w.if-size-lt4.true)))
+    ] in
+    stops_here fault.NotAvi (start_differs c.args.extent head _ _ _ _ other
+    c.in_ok-take_after.ensures)
 
 pub returns-clause-from : goal.returns-clause-from
 returns-clause-from g c =
     let head = c.take_after.new.buf in
-    let long : length head ≡ 12 = (wanted_sound Looked 12 (c.in_ok-take_after.ensures.1.bytes ++ []) (head, []) (c.in_ok-take_after.ensures.1.is [])).1 in
-    let form : take 4 (drop 8 head) ≡ drop 8 head = take_all 4 (drop 8 head) (omega (arith, long, length-drop 8 head)) in
-    let size : c.read_u32-size.result ≡ little_number 4 (drop 4 head) = c.read_u32-size.ensures ∙ number_taken 8 (drop 4 head) (omega arith) in
-    let enough : nat_le 4 (little_number 4 (drop 4 head)) ≡ true = le-leb _ _ (omega (arith, size, c.if-size-lt4.false)) in
-    let here : begins head ≡ true = all_three _ _ _ (sym c.if-not-is_name.ensures) (ap (λ y. is_name y (codes "AVI ")) (sym form) ∙ sym c.if-not-is_name-2.ensures) enough in
-    opens_then _ _ _ c.args.extent (little_number 4 (drop 4 head) - 4) c.read_top.new.config.items c.read_top.result c.in_ok-take_after.ensures.0 (start_read c.args.extent head here c.in_ok-take_after.ensures.1) (rw size at c.read_top.ensures.from)
+    let long : length head ≡ 12 = (wanted_sound Looked 12 (c.in_ok-take_after.ensures.1.bytes ++ [])
+    (head, []) (c.in_ok-take_after.ensures.1.is [])).1 in
+    let form : take 4 (drop 8 head) ≡ drop 8 head = take_all 4 (drop 8 head)
+    (omega (arith, long, length-drop 8 head)) in
+    let size : c.read_u32-size.result ≡ little_number 4 (drop 4 head) = c.read_u32-size.ensures ∙
+    number_taken 8 (drop 4 head) (omega arith) in
+    let enough : nat_le 4 (little_number 4 (drop 4 head)) ≡ true = le-leb _ _
+    (omega (arith, size, c.if-size-lt4.false)) in
+    let here : begins head ≡ true = all_three _ _ _ (sym c.if-not-is_name.ensures)
+    (ap (λ y. is_name y (codes "AVI ")) (sym form) ∙ sym c.if-not-is_name-2.ensures) enough in
+    opens_then _ _ _ c.args.extent (little_number 4 (drop 4 head) - 4) c.read_top.new.config.items
+    c.read_top.result c.in_ok-take_after.ensures.0
+    (start_read c.args.extent head here c.in_ok-take_after.ensures.1)
+    (rw size at c.read_top.ensures.from)

@@ -1,3 +1,4 @@
+-- The chunks of RIFF, of so many bytes, up to the first movi.
 use Rattle.std.proofs.Common.{Some, None, refl}
 use Rattle.std.proofs.lemmas.Result.{err_from_is_err_and}
 use Rattle.ffv1_reads.specs.declared.fault.FileFault.TheVariants as fault
@@ -5,59 +6,86 @@ use Rattle.ffv1_avi.specs.Files.{top_read, visit_top}
 use Rattle.ffv1_reads.specs.Head.{Head}
 use Rattle.ffv1_avi.specs.declared.place.Place.{Place}
 use Rattle.ffv1_avi.specs.Internal.Views.{headers_with, head_with}
-use Rattle.ffv1_reads.proofs.Reading.{faults_here, goes_fault, goes_given, goes_none, goes_read, goes_refused}
+use Rattle.ffv1_reads.proofs.Reading.{faults_here, goes_fault, goes_given, goes_none, goes_read}
+use Rattle.ffv1_reads.proofs.Reading.{goes_refused}
 use Rattle.ffv1_avi.proofs.ChunkByChunk.{behind_chunk, goes_end, goes_entry, goes_no_entry}
 use Rattle.ffv1_avi.proofs.open.read_top.Invariants.{ended}
 use Rattle.ffv1_reads.proofs.Rooms.{room_kept, room_none, room_then}
 use Rattle.ffv1_avi.proofs.RiffReadings.{reads_still, stops_here, stops_then}
-use Rattle.ffv1_avi.proofs.SpotReadings.{end_refused, header_refused, movi_begins, spot_next, visit_refused}
+use Rattle.ffv1_avi.proofs.SpotReadings.{end_refused, header_refused, movi_begins, spot_next}
+use Rattle.ffv1_avi.proofs.SpotReadings.{visit_refused}
 use Rattle.ffv1_avi.proofs.open.read_top.Goals as goal
 
 pub returns-in_err-entry-clause-answer : goal.returns-in_err-entry-clause-answer
 returns-in_err-entry-clause-answer g c =
     let p = err_from_is_err_and c.from_residual.result c.from_residual.ensures.1 in
     let found = headers_with c.loop-entry.found c.loop-entry.config.items in
-    rw (p.1, p.2) (goes_no_entry (visit_top c.args.extent) c.loop-entry.left found ended _ _ c.in_err-entry.field-0.0 c.loop-entry.invariant.0 c.in_err-entry.ensures.answer)
+    rw (p.1, p.2) (goes_no_entry (visit_top c.args.extent) c.loop-entry.left found ended _ _
+    c.in_err-entry.field-0.0 c.loop-entry.invariant.0 c.in_err-entry.ensures.answer)
 
 pub returns-in_err-more-clause-answer : goal.returns-in_err-more-clause-answer
 returns-in_err-more-clause-answer g c =
-    let p = err_from_is_err_and c.from_residual-in_err-more.result c.from_residual-in_err-more.ensures.1 in
+    let p = err_from_is_err_and c.from_residual-in_err-more.result
+    c.from_residual-in_err-more.ensures.1 in
     let e = c.in-Some.entry in
     let found = headers_with c.loop-entry.found c.loop-entry.config.items in
-    let here = goes_entry (visit_top c.args.extent) c.loop-entry.left found ended _ _ e c.loop-entry.invariant.0 (rw c.in-Some.is at c.in_ok-entry.ensures.answer) in
-    rw (p.1, p.2) (goes_refused (visit_top c.args.extent found e) (behind_chunk (visit_top c.args.extent) e.left ended) _ _ c.in_err-more.field-0.0 here c.in_err-more.ensures.answer)
+    let here = goes_entry (visit_top c.args.extent) c.loop-entry.left found ended _ _ e
+    c.loop-entry.invariant.0 (rw c.in-Some.is at c.in_ok-entry.ensures.answer) in
+    rw (p.1, p.2) (goes_refused (visit_top c.args.extent found e)
+    (behind_chunk (visit_top c.args.extent) e.left ended) _ _ c.in_err-more.field-0.0 here
+    c.in_err-more.ensures.answer)
 
 pub returns-in-Movi-clause-answer : goal.returns-in-Movi-clause-answer
 returns-in-Movi-clause-answer g c =
     let e = c.in-Some.entry in
     let found = headers_with c.loop-entry.found c.loop-entry.config.items in
     let head = head_with c.in-Movi.sizes c.visit_top.new.config.items in
-    let here = goes_entry (visit_top c.args.extent) c.loop-entry.left found ended _ _ e c.loop-entry.invariant.0 (rw c.in-Some.is at c.in_ok-entry.ensures.answer) in
+    let here = goes_entry (visit_top c.args.extent) c.loop-entry.left found ended _ _ e
+    c.loop-entry.invariant.0 (rw c.in-Some.is at c.in_ok-entry.ensures.answer) in
     let more = headers_with c.in-Movi.field-0 c.visit_top.new.config.items in
-    goes_given (head, c.in-Movi.place) (goes_read (visit_top c.args.extent found e) (behind_chunk (visit_top c.args.extent) e.left ended) _ _ (more, Some (head, c.in-Movi.place)) here (rw c.in-Movi.is at c.in_ok-more.ensures.answer))
+    goes_given (head, c.in-Movi.place) (goes_read (visit_top c.args.extent found e)
+    (behind_chunk (visit_top c.args.extent) e.left ended) _ _
+    (more, Some (head, c.in-Movi.place)) here (rw c.in-Movi.is at c.in_ok-more.ensures.answer))
 
 pub loop-entry-preserved : goal.loop-entry-preserved
 loop-entry-preserved g c =
     let e = c.in-Some.entry in
     let found = headers_with c.loop-entry.found c.loop-entry.config.items in
-    let here = goes_entry (visit_top c.args.extent) c.loop-entry.left found ended _ _ e c.loop-entry.invariant.0 (rw c.in-Some.is at c.in_ok-entry.ensures.answer) in (
-      goes_read (visit_top c.args.extent found e) (behind_chunk (visit_top c.args.extent) e.left ended) _ _ (headers_with c.in-On.more c.visit_top.new.config.items, None) here (rw c.in-On.is at c.in_ok-more.ensures.answer),
-      room_then c.loop-entry.invariant.1 (room_then (room_kept _ c.in_ok-entry.ensures.answer.1) c.in_ok-more.ensures.grown),
-      spot_next c.args.extent found c.loop-entry.left e (headers_with c.in-On.more c.visit_top.new.config.items) (rw c.in-Some.is at c.in_ok-entry.ensures.listed) c.loop-entry.invariant.2 (rw c.in-Some.is at c.in_ok-entry.ensures.answer).1 (rw c.in-On.is at c.in_ok-more.ensures.answer).1 (rw c.padded.ensures at c.saturating_add-in-Some.ensures),
+    let here = goes_entry (visit_top c.args.extent) c.loop-entry.left found ended _ _ e
+    c.loop-entry.invariant.0 (rw c.in-Some.is at c.in_ok-entry.ensures.answer) in (
+      goes_read (visit_top c.args.extent found e)
+          (behind_chunk (visit_top c.args.extent) e.left ended) _ _
+          (headers_with c.in-On.more c.visit_top.new.config.items, None) here
+          (rw c.in-On.is at c.in_ok-more.ensures.answer),
+      room_then c.loop-entry.invariant.1 (room_then (room_kept _ c.in_ok-entry.ensures.answer.1)
+          c.in_ok-more.ensures.grown),
+      spot_next c.args.extent found c.loop-entry.left e
+          (headers_with c.in-On.more c.visit_top.new.config.items)
+          (rw c.in-Some.is at c.in_ok-entry.ensures.listed) c.loop-entry.invariant.2
+          (rw c.in-Some.is at c.in_ok-entry.ensures.answer).1
+          (rw c.in-On.is at c.in_ok-more.ensures.answer).1
+          (rw c.padded.ensures at c.saturating_add-in-Some.ensures),
     )
 
 pub returns-clause-answer : goal.returns-clause-answer
 returns-clause-answer g c =
     let found = headers_with c.loop-entry.found c.loop-entry.config.items in
-    let here = goes_end (visit_top c.args.extent) c.loop-entry.left found ended _ _ c.loop-entry.invariant.0 (rw c.in_default.is at c.in_ok-entry.ensures.answer) in
+    let here = goes_end (visit_top c.args.extent) c.loop-entry.left found ended _ _
+    c.loop-entry.invariant.0 (rw c.in_default.is at c.in_ok-entry.ensures.answer) in
     goes_fault fault.NotAvi here (refl, faults_here (Head × Place) fault.NotAvi _)
 
 pub returns-in-Movi-clause-grown : goal.returns-in-Movi-clause-grown
-returns-in-Movi-clause-grown g c = room_then c.loop-entry.invariant.1 (room_then (room_kept _ c.in_ok-entry.ensures.answer.1) c.in_ok-more.ensures.grown)
+returns-in-Movi-clause-grown g c = room_then c.loop-entry.invariant.1
+    (room_then (room_kept _ c.in_ok-entry.ensures.answer.1) c.in_ok-more.ensures.grown)
 
 pub loop-entry-init : goal.loop-entry-init
 unfolding top_read
-loop-entry-init g c = (goes_none (top_read c.args.extent c.args.room) (g.R.ByteIn.remaining c.args.input.now) (g.R.ByteIn.failures c.args.input.now), room_none _ _, reads_still)
+loop-entry-init g c = (
+  goes_none (top_read c.args.extent c.args.room)
+      (g.R.ByteIn.remaining c.args.input.now) (g.R.ByteIn.failures c.args.input.now),
+  room_none _ _,
+  reads_still,
+)
 
 pub returns-in_err-entry-clause-from : goal.returns-in_err-entry-clause-from
 returns-in_err-entry-clause-from g c =
@@ -65,16 +93,21 @@ returns-in_err-entry-clause-from g c =
     let f = c.in_err-entry.field-0.0 in
     let inv = c.loop-entry.invariant in
     let found = headers_with c.loop-entry.found c.loop-entry.config.items in
-    rw (p.1, p.2) (stops_then f inv.0.same inv.2 (stops_here f (header_refused c.args.extent found c.loop-entry.left _ _ _ _ f c.in_err-entry.ensures.answer)))
+    rw (p.1, p.2) (stops_then f inv.0.same inv.2
+    (stops_here f (header_refused c.args.extent found c.loop-entry.left _ _ _ _ f
+    c.in_err-entry.ensures.answer)))
 
 pub returns-in_err-more-clause-from : goal.returns-in_err-more-clause-from
 returns-in_err-more-clause-from g c =
-    let p = err_from_is_err_and c.from_residual-in_err-more.result c.from_residual-in_err-more.ensures.1 in
+    let p = err_from_is_err_and c.from_residual-in_err-more.result
+    c.from_residual-in_err-more.ensures.1 in
     let f = c.in_err-more.field-0.0 in
     let inv = c.loop-entry.invariant in
     let found = headers_with c.loop-entry.found c.loop-entry.config.items in
     let e = c.in-Some.entry in
-    rw (p.1, p.2) (stops_then f inv.0.same inv.2 (stops_here f (visit_refused c.args.extent found c.loop-entry.left e _ _ _ _ _ _ f (rw c.in-Some.is at c.in_ok-entry.ensures.answer) c.in_err-more.ensures.answer)))
+    rw (p.1, p.2) (stops_then f inv.0.same inv.2
+    (stops_here f (visit_refused c.args.extent found c.loop-entry.left e _ _ _ _ _ _ f
+    (rw c.in-Some.is at c.in_ok-entry.ensures.answer) c.in_err-more.ensures.answer)))
 
 pub returns-in-Movi-clause-from : goal.returns-in-Movi-clause-from
 returns-in-Movi-clause-from g c =
@@ -82,10 +115,15 @@ returns-in-Movi-clause-from g c =
     let found = headers_with c.loop-entry.found c.loop-entry.config.items in
     let head = head_with c.in-Movi.sizes c.visit_top.new.config.items in
     let more = headers_with c.in-Movi.field-0 c.visit_top.new.config.items in
-    movi_begins c.args.extent found c.loop-entry.left e more (head, c.in-Movi.place) (rw c.in-Some.is at c.in_ok-entry.ensures.listed) c.loop-entry.invariant.2 (rw c.in-Some.is at c.in_ok-entry.ensures.answer).1 (rw c.in-Movi.is at c.in_ok-more.ensures.answer).1 c.saturating_add.ensures
+    movi_begins c.args.extent found c.loop-entry.left e more (head, c.in-Movi.place)
+    (rw c.in-Some.is at c.in_ok-entry.ensures.listed) c.loop-entry.invariant.2
+    (rw c.in-Some.is at c.in_ok-entry.ensures.answer).1
+    (rw c.in-Movi.is at c.in_ok-more.ensures.answer).1 c.saturating_add.ensures
 
 pub returns-clause-from : goal.returns-clause-from
 returns-clause-from g c =
     let inv = c.loop-entry.invariant in
     let found = headers_with c.loop-entry.found c.loop-entry.config.items in
-    stops_then fault.NotAvi inv.0.same inv.2 (stops_here fault.NotAvi (end_refused c.args.extent found c.loop-entry.left _ _ _ _ (rw c.in_default.is at c.in_ok-entry.ensures.answer)))
+    stops_then fault.NotAvi inv.0.same inv.2 (stops_here fault.NotAvi
+    (end_refused c.args.extent found c.loop-entry.left _ _ _ _
+    (rw c.in_default.is at c.in_ok-entry.ensures.answer)))

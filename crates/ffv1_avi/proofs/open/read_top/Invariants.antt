@@ -16,10 +16,15 @@ ended p = opened p.1
 
 abbrev pub invariant-loop-entry : goal.invariant-loop-entry
 invariant-loop-entry g l =
-    (Goes (top_read l.fn.extent l.fn.room) (g.R.ByteIn.remaining l.initial.input) (g.R.ByteIn.failures l.initial.input)
-    (walk (visit_top l.fn.extent) l.left (headers_with l.found l.config.items) >>= ended) (g.R.ByteIn.remaining l.input) (g.R.ByteIn.failures l.input))
-    × RoomRead (g.R.ByteIn.remaining l.initial.input) (g.R.ByteIn.remaining l.input) (vec_capacity l.initial.config) (vec_capacity l.config)
-    × ReadsTo (spot_taken l.fn.extent) (InRiff no_headers l.fn.room) (g.R.ByteIn.remaining l.initial.input) (g.R.ByteIn.remaining l.input) (InRiff (headers_with l.found l.config.items) l.left) l.initial.offset l.offset
+    (Goes (top_read l.fn.extent l.fn.room) (g.R.ByteIn.remaining l.initial.input)
+    (g.R.ByteIn.failures l.initial.input)
+    (walk (visit_top l.fn.extent) l.left (headers_with l.found l.config.items) >>= ended)
+    (g.R.ByteIn.remaining l.input) (g.R.ByteIn.failures l.input))
+    × RoomRead (g.R.ByteIn.remaining l.initial.input) (g.R.ByteIn.remaining l.input)
+    (vec_capacity l.initial.config) (vec_capacity l.config)
+    × ReadsTo (spot_taken l.fn.extent) (InRiff no_headers l.fn.room)
+    (g.R.ByteIn.remaining l.initial.input) (g.R.ByteIn.remaining l.input)
+    (InRiff (headers_with l.found l.config.items) l.left) l.initial.offset l.offset
 
 abbrev pub decreases-loop-entry : goal.decreases-loop-entry
 decreases-loop-entry g l = l.left

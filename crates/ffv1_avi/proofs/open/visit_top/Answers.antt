@@ -1,6 +1,8 @@
+-- A chunk of RIFF, before its first movi.
 use Rattle.std.proofs.Common.{◌≡◌, ◌-◌, ℕ, List, Option, None, true, false, codes, refl, sym}
 use Rattle.std.proofs.lemmas.Result.{err_from_is_err_and}
-use Rattle.ffv1_avi.specs.Files.{Headers, header_read, list_skipped, list_visited, movi_reached, visit_top}
+use Rattle.ffv1_avi.specs.Files.{Headers, header_read, list_skipped, list_visited, movi_reached}
+use Rattle.ffv1_avi.specs.Files.{visit_top}
 use Rattle.ffv1_reads.specs.Head.{Head}
 use Rattle.ffv1_avi.specs.declared.open.Top.{Top}
 use Rattle.ffv1_avi.specs.declared.place.Extent.{Extent}
@@ -10,7 +12,8 @@ use Rattle.ffv1_avi.specs.Padding.{padded}
 use Rattle.ffv1_avi.specs.Internal.Views.{headers_with, top_with}
 use Rattle.ffv1_avi.specs.Walk.{is_name}
 use Rattle.ffv1_avi.specs.declared.chunk.Entry.{Entry}
-use Rattle.ffv1_reads.proofs.Reading.{goes_given, goes_last, goes_none, goes_read, goes_refused, goes_same}
+use Rattle.ffv1_reads.proofs.Reading.{goes_given, goes_last, goes_none, goes_read, goes_refused}
+use Rattle.ffv1_reads.proofs.Reading.{goes_same}
 use Rattle.ffv1_reads.proofs.Results.{on_ok}
 use Rattle.ffv1_reads.proofs.Rooms.{room_kept, room_then}
 use Rattle.ffv1_avi.proofs.open.visit_top.Goals as goal
@@ -21,28 +24,44 @@ Next = Headers × Option (Head × Place)
 abbrev header_next : Headers → Reading Next
 header_next found = given (found, None)
 
-list_read : (extent : Extent) (s : Headers) (e : Entry) → is_name e.name (codes "LIST") ≡ true → (text : List ℕ) → visit_top extent s e text ≡ (taken 4 >>= list_visited extent s e.left e.size) text
+list_read : (extent : Extent) (s : Headers) (e : Entry) → is_name e.name (codes "LIST") ≡ true →
+    (text : List ℕ) → visit_top extent s e text ≡ (taken 4 >>= list_visited extent s e.left e.size)
+    text
 unfolding visit_top
 list_read extent s e list text = rw list refl
 
-header_named : (extent : Extent) (s : Headers) (left size : ℕ) (own : List ℕ) → is_name own (codes "hdrl") ≡ true → (text : List ℕ) → list_visited extent s left size own text ≡ (header_read extent s size >>= header_next) text
+header_named : (extent : Extent) (s : Headers) (left size : ℕ) (own : List ℕ) → is_name own
+    (codes "hdrl") ≡ true → (text : List ℕ) → list_visited extent s left size own text ≡
+    (header_read extent s size >>= header_next) text
 header_named extent s left size own is text = rw is refl
 
-movi_named : (extent : Extent) (s : Headers) (left size : ℕ) (own : List ℕ) → is_name own (codes "hdrl") ≡ false → is_name own (codes "movi") ≡ true → (text : List ℕ) → list_visited extent s left size own text ≡ movi_reached extent s left size s.head text
+movi_named : (extent : Extent) (s : Headers) (left size : ℕ) (own : List ℕ) → is_name own
+    (codes "hdrl") ≡ false → is_name own (codes "movi") ≡ true → (text : List ℕ) → list_visited
+    extent s left size own text ≡ movi_reached extent s left size s.head text
 movi_named extent s left size own other is text = rw (other, is) refl
 
-other_named : (extent : Extent) (s : Headers) (left size : ℕ) (own : List ℕ) → is_name own (codes "hdrl") ≡ false → is_name own (codes "movi") ≡ false → (text : List ℕ) → list_visited extent s left size own text ≡ list_skipped {Y = Head × Place} s size text
+other_named : (extent : Extent) (s : Headers) (left size : ℕ) (own : List ℕ) → is_name own
+    (codes "hdrl") ≡ false → is_name own (codes "movi") ≡ false → (text : List ℕ) → list_visited
+    extent s left size own text ≡ list_skipped {Y = Head × Place} s size text
 other_named extent s left size own header movi text = rw (header, movi) refl
 
 pub returns-in_err-found-clause-answer : goal.returns-in_err-found-clause-answer
 returns-in_err-found-clause-answer g c =
-    let p = err_from_is_err_and c.from_residual-in_err-found.result c.from_residual-in_err-found.ensures.1 in
+    let p = err_from_is_err_and c.from_residual-in_err-found.result
+    c.from_residual-in_err-found.ensures.1 in
     let e = c.args.entry in
     let own = c.in_ok-own.own in
     let found = headers_with c.args.found c.args.config.now.items in
-    let start = goes_same _ (taken 4 >>= list_visited c.args.extent found e.left e.size) (list_read c.args.extent found e (sym c.if-not-is_name.ensures)) (goes_none (visit_top c.args.extent found e) (g.R.ByteIn.remaining c.args.input.now) (g.R.ByteIn.failures c.args.input.now)) in
-    let here = goes_same _ (header_read c.args.extent found e.size >>= header_next) (header_named c.args.extent found e.left e.size own (sym c.if-is_name.ensures)) (goes_read (taken 4) (list_visited c.args.extent found e.left e.size) _ _ own start c.in_ok-own.ensures) in
-    rw (p.1, p.2) (goes_refused (header_read c.args.extent found e.size) header_next _ _ c.in_err-found.field-0.0 here c.in_err-found.ensures.answer)
+    let start = goes_same _ (taken 4 >>= list_visited c.args.extent found e.left e.size)
+    (list_read c.args.extent found e (sym c.if-not-is_name.ensures))
+    (goes_none (visit_top c.args.extent found e) (g.R.ByteIn.remaining c.args.input.now)
+    (g.R.ByteIn.failures c.args.input.now)) in
+    let here = goes_same _ (header_read c.args.extent found e.size >>= header_next)
+    (header_named c.args.extent found e.left e.size own (sym c.if-is_name.ensures))
+    (goes_read (taken 4) (list_visited c.args.extent found e.left e.size) _ _ own start
+    c.in_ok-own.ensures) in
+    rw (p.1, p.2) (goes_refused (header_read c.args.extent found e.size) header_next _ _
+    c.in_err-found.field-0.0 here c.in_err-found.ensures.answer)
 
 pub returns-then-is_name-clause-answer : goal.returns-then-is_name-clause-answer
 returns-then-is_name-clause-answer g c =
@@ -50,9 +69,16 @@ returns-then-is_name-clause-answer g c =
     let own = c.in_ok-own.own in
     let found = headers_with c.args.found c.args.config.now.items in
     let head = headers_with c.in_ok-found.found c.read_header.new.config.items in
-    let start = goes_same _ (taken 4 >>= list_visited c.args.extent found e.left e.size) (list_read c.args.extent found e (sym c.if-not-is_name.ensures)) (goes_none (visit_top c.args.extent found e) (g.R.ByteIn.remaining c.args.input.now) (g.R.ByteIn.failures c.args.input.now)) in
-    let here = goes_same _ (header_read c.args.extent found e.size >>= header_next) (header_named c.args.extent found e.left e.size own (sym c.if-is_name.ensures)) (goes_read (taken 4) (list_visited c.args.extent found e.left e.size) _ _ own start c.in_ok-own.ensures) in
-    goes_given (head, None) (goes_read (header_read c.args.extent found e.size) header_next _ _ head here c.in_ok-found.ensures.answer)
+    let start = goes_same _ (taken 4 >>= list_visited c.args.extent found e.left e.size)
+    (list_read c.args.extent found e (sym c.if-not-is_name.ensures))
+    (goes_none (visit_top c.args.extent found e) (g.R.ByteIn.remaining c.args.input.now)
+    (g.R.ByteIn.failures c.args.input.now)) in
+    let here = goes_same _ (header_read c.args.extent found e.size >>= header_next)
+    (header_named c.args.extent found e.left e.size own (sym c.if-is_name.ensures))
+    (goes_read (taken 4) (list_visited c.args.extent found e.left e.size) _ _ own start
+    c.in_ok-own.ensures) in
+    goes_given (head, None) (goes_read (header_read c.args.extent found e.size) header_next _ _ head
+    here c.in_ok-found.ensures.answer)
 
 pub returns-then-is_name-2-clause-answer : goal.returns-then-is_name-2-clause-answer
 returns-then-is_name-2-clause-answer g c =
@@ -60,34 +86,60 @@ returns-then-is_name-2-clause-answer g c =
     let own = c.in_ok-own.own in
     let bytes = c.args.config.now.items in
     let found = headers_with c.args.found bytes in
-    let start = goes_same _ (taken 4 >>= list_visited c.args.extent found e.left e.size) (list_read c.args.extent found e (sym c.if-not-is_name.ensures)) (goes_none (visit_top c.args.extent found e) (g.R.ByteIn.remaining c.args.input.now) (g.R.ByteIn.failures c.args.input.now)) in
-    let here = goes_same _ (movi_reached c.args.extent found e.left e.size found.head) (movi_named c.args.extent found e.left e.size own (sym c.if-is_name.ensures) (sym c.if-is_name-2.ensures)) (goes_read (taken 4) (list_visited c.args.extent found e.left e.size) _ _ own start c.in_ok-own.ensures) in
-    goes_last (movi_reached c.args.extent found e.left e.size found.head) (λ (t : Top). top_with t bytes) _ _ c.reach_movi.result here (c.reach_movi.ensures bytes _ _)
+    let start = goes_same _ (taken 4 >>= list_visited c.args.extent found e.left e.size)
+    (list_read c.args.extent found e (sym c.if-not-is_name.ensures))
+    (goes_none (visit_top c.args.extent found e) (g.R.ByteIn.remaining c.args.input.now)
+    (g.R.ByteIn.failures c.args.input.now)) in
+    let here = goes_same _ (movi_reached c.args.extent found e.left e.size found.head)
+    (movi_named c.args.extent found e.left e.size own (sym c.if-is_name.ensures)
+    (sym c.if-is_name-2.ensures)) (goes_read (taken 4)
+    (list_visited c.args.extent found e.left e.size) _ _ own start c.in_ok-own.ensures) in
+    goes_last (movi_reached c.args.extent found e.left e.size found.head)
+    (λ (t : Top). top_with t bytes) _ _ c.reach_movi.result here
+    (c.reach_movi.ensures bytes _ _)
 
 pub returns-in_err-pass-2-clause-answer : goal.returns-in_err-pass-2-clause-answer
 returns-in_err-pass-2-clause-answer g c =
-    let p = err_from_is_err_and c.from_residual-in_err-pass-2.result c.from_residual-in_err-pass-2.ensures.1 in
+    let p = err_from_is_err_and c.from_residual-in_err-pass-2.result
+    c.from_residual-in_err-pass-2.ensures.1 in
     let e = c.args.entry in
     let own = c.in_ok-own.own in
     let found = headers_with c.args.found c.args.config.now.items in
-    let start = goes_same _ (taken 4 >>= list_visited c.args.extent found e.left e.size) (list_read c.args.extent found e (sym c.if-not-is_name.ensures)) (goes_none (visit_top c.args.extent found e) (g.R.ByteIn.remaining c.args.input.now) (g.R.ByteIn.failures c.args.input.now)) in
-    let here = goes_same _ (list_skipped {Y = Head × Place} found e.size) (other_named c.args.extent found e.left e.size own (sym c.if-is_name.ensures) (sym c.if-is_name-2.ensures)) (goes_read (taken 4) (list_visited c.args.extent found e.left e.size) _ _ own start c.in_ok-own.ensures) in
-    rw (p.1, p.2) (goes_refused (passed (padded e.size - 4)) (λ _. given (found, None)) _ _ c.in_err-pass-2.field-0.0 here (rw c.padded-2.ensures at c.in_err-pass-2.ensures))
+    let start = goes_same _ (taken 4 >>= list_visited c.args.extent found e.left e.size)
+    (list_read c.args.extent found e (sym c.if-not-is_name.ensures))
+    (goes_none (visit_top c.args.extent found e) (g.R.ByteIn.remaining c.args.input.now)
+    (g.R.ByteIn.failures c.args.input.now)) in
+    let here = goes_same _ (list_skipped {Y = Head × Place} found e.size)
+    (other_named c.args.extent found e.left e.size own (sym c.if-is_name.ensures)
+    (sym c.if-is_name-2.ensures)) (goes_read (taken 4)
+    (list_visited c.args.extent found e.left e.size) _ _ own start c.in_ok-own.ensures) in
+    rw (p.1, p.2) (goes_refused (passed (padded e.size - 4)) (λ _. given (found, None)) _ _
+    c.in_err-pass-2.field-0.0 here (rw c.padded-2.ensures at c.in_err-pass-2.ensures))
 
 pub returns-clause-answer : goal.returns-clause-answer
 returns-clause-answer g c =
     let e = c.args.entry in
     let own = c.in_ok-own.own in
     let found = headers_with c.args.found c.args.config.now.items in
-    let start = goes_same _ (taken 4 >>= list_visited c.args.extent found e.left e.size) (list_read c.args.extent found e (sym c.if-not-is_name.ensures)) (goes_none (visit_top c.args.extent found e) (g.R.ByteIn.remaining c.args.input.now) (g.R.ByteIn.failures c.args.input.now)) in
-    let here = goes_same _ (list_skipped {Y = Head × Place} found e.size) (other_named c.args.extent found e.left e.size own (sym c.if-is_name.ensures) (sym c.if-is_name-2.ensures)) (goes_read (taken 4) (list_visited c.args.extent found e.left e.size) _ _ own start c.in_ok-own.ensures) in
-    goes_given (found, None) (goes_read (passed (padded e.size - 4)) (λ _. given (found, None)) _ _ tt here (rw c.padded-2.ensures at c.in_ok-pass-2.ensures))
+    let start = goes_same _ (taken 4 >>= list_visited c.args.extent found e.left e.size)
+    (list_read c.args.extent found e (sym c.if-not-is_name.ensures))
+    (goes_none (visit_top c.args.extent found e) (g.R.ByteIn.remaining c.args.input.now)
+    (g.R.ByteIn.failures c.args.input.now)) in
+    let here = goes_same _ (list_skipped {Y = Head × Place} found e.size)
+    (other_named c.args.extent found e.left e.size own (sym c.if-is_name.ensures)
+    (sym c.if-is_name-2.ensures)) (goes_read (taken 4)
+    (list_visited c.args.extent found e.left e.size) _ _ own start c.in_ok-own.ensures) in
+    goes_given (found, None) (goes_read (passed (padded e.size - 4)) (λ _. given (found, None)) _ _
+    tt here (rw c.padded-2.ensures at c.in_ok-pass-2.ensures))
 
 pub returns-then-is_name-clause-grown : goal.returns-then-is_name-clause-grown
-returns-then-is_name-clause-grown g c = room_then (room_kept _ c.in_ok-own.ensures.1) c.in_ok-found.ensures.grown
+returns-then-is_name-clause-grown g c = room_then (room_kept _ c.in_ok-own.ensures.1)
+    c.in_ok-found.ensures.grown
 
 pub returns-then-is_name-2-clause-grown : goal.returns-then-is_name-2-clause-grown
-returns-then-is_name-2-clause-grown g c = on_ok c.reach_movi.result (room_kept _ c.in_ok-own.ensures.1)
+returns-then-is_name-2-clause-grown g c = on_ok c.reach_movi.result
+    (room_kept _ c.in_ok-own.ensures.1)
 
 pub returns-clause-grown : goal.returns-clause-grown
-returns-clause-grown g c = room_then (room_kept _ c.in_ok-own.ensures.1) (room_kept _ c.in_ok-pass-2.ensures.1)
+returns-clause-grown g c = room_then (room_kept _ c.in_ok-own.ensures.1)
+    (room_kept _ c.in_ok-pass-2.ensures.1)

@@ -1,10 +1,12 @@
+-- The size of the next frame, and the place after its header; None at the end.
 use Rattle.std.proofs.Common.{◌++◌, [], ℕ, Some, None, ◌∙◌, refl, sym}
 use Rattle.std.proofs.lemmas.Result.{err_from_is_err_and}
 use Rattle.ffv1_avi.specs.declared.place.Place.{Place}
 use Rattle.ffv1_avi.specs.Files.{found_or_on, frame_found, moved, movi_found, sought_on}
 use Rattle.ffv1_avi.specs.Places.{extent_of, frame_at}
 use Rattle.ffv1_reads.specs.Reads.{◌>>=◌}
-use Rattle.ffv1_avi.proofs.EndReadings.{none_ends, none_given, none_read, none_refused, none_refused_end, read_extent, refused_extent, some_read}
+use Rattle.ffv1_avi.proofs.EndReadings.{none_ends, none_given, none_read, none_refused}
+use Rattle.ffv1_avi.proofs.EndReadings.{none_refused_end, read_extent, refused_extent, some_read}
 use Rattle.ffv1_avi.proofs.Moves.{frame_step, moved_less}
 use Rattle.ffv1_reads.proofs.Reading.{goes_none, goes_read, goes_same}
 use Rattle.ffv1_avi.proofs.RiffReadings.{reads_still, stops_then, up_to_then}
@@ -14,39 +16,57 @@ pub returns-in_err-size-clause-answer : goal.returns-in_err-size-clause-answer
 returns-in_err-size-clause-answer g c =
     let p = err_from_is_err_and c.from_residual.result c.from_residual.ensures.1 in
     let place = c.loop-size.place in
-    let start = goes_same _ (movi_found place.stream place.movi >>= found_or_on frame_found place) (frame_step place) c.loop-size.invariant.0 in
-    rw (p.1, p.2) (none_refused (extent_of c.args.place) (movi_found place.stream place.movi) (found_or_on frame_found place) _ _ c.in_err-size.field-0.0 start c.in_err-size.ensures.answer)
+    let start = goes_same _ (movi_found place.stream place.movi >>= found_or_on frame_found place)
+    (frame_step place) c.loop-size.invariant.0 in
+    rw (p.1, p.2) (none_refused (extent_of c.args.place) (movi_found place.stream place.movi)
+    (found_or_on frame_found place) _ _ c.in_err-size.field-0.0 start
+    c.in_err-size.ensures.answer)
 
 pub returns-in-Some-clause-answer : goal.returns-in-Some-clause-answer
 returns-in-Some-clause-answer g c =
     let place = c.loop-size.place in
     let found : ℕ × ℕ = (c.in-Some.size, c.in-Some.left) in
-    let start = goes_same _ (movi_found place.stream place.movi >>= found_or_on frame_found place) (frame_step place) c.loop-size.invariant.0 in
+    let start = goes_same _ (movi_found place.stream place.movi >>= found_or_on frame_found place)
+    (frame_step place) c.loop-size.invariant.0 in
     let frame : ℕ × Place = (c.in-Some.size, frame_at place c.in-Some.left) in
-    rw c.frame_at.ensures (none_given (extent_of c.args.place) (Some frame) (goes_read (movi_found place.stream place.movi) (found_or_on frame_found place) _ _ (Some found) start (rw c.in-Some.is at c.in_ok-size.ensures.answer)))
+    rw c.frame_at.ensures (none_given (extent_of c.args.place) (Some frame)
+    (goes_read (movi_found place.stream place.movi) (found_or_on frame_found place) _ _
+    (Some found) start (rw c.in-Some.is at c.in_ok-size.ensures.answer)))
 
 pub returns-in_err-next-clause-answer : goal.returns-in_err-next-clause-answer
 returns-in_err-next-clause-answer g c =
-    let p = err_from_is_err_and c.from_residual-in_err-next.result c.from_residual-in_err-next.ensures.1 in
+    let p = err_from_is_err_and c.from_residual-in_err-next.result
+    c.from_residual-in_err-next.ensures.1 in
     let place = c.loop-size.place in
     let f = c.in_err-next.field-0.0 in
-    let start = goes_same _ (movi_found place.stream place.movi >>= found_or_on frame_found place) (frame_step place) c.loop-size.invariant.0 in
-    let here = goes_read (movi_found place.stream place.movi) (found_or_on frame_found place) _ _ None start (rw c.in_default.is at c.in_ok-size.ensures.answer) in
-    rw (p.1, p.2) (none_refused_end (extent_of c.args.place) (moved place) (sought_on frame_found) _ _ f (λ text. refl) here (refused_extent (extent_of place) (extent_of c.args.place) (moved place) _ _ _ _ f c.loop-size.invariant.1 c.in_err-next.ensures.answer))
+    let start = goes_same _ (movi_found place.stream place.movi >>= found_or_on frame_found place)
+    (frame_step place) c.loop-size.invariant.0 in
+    let here = goes_read (movi_found place.stream place.movi) (found_or_on frame_found place) _ _
+    None start (rw c.in_default.is at c.in_ok-size.ensures.answer) in
+    rw (p.1, p.2) (none_refused_end (extent_of c.args.place) (moved place) (sought_on frame_found) _
+    _ f (λ text. refl) here (refused_extent (extent_of place) (extent_of c.args.place)
+    (moved place) _ _ _ _ f c.loop-size.invariant.1 c.in_err-next.ensures.answer))
 
 pub returns-in_default-2-clause-answer : goal.returns-in_default-2-clause-answer
 returns-in_default-2-clause-answer g c =
     let place = c.loop-size.place in
-    let start = goes_same _ (movi_found place.stream place.movi >>= found_or_on frame_found place) (frame_step place) c.loop-size.invariant.0 in
-    let here = goes_read (movi_found place.stream place.movi) (found_or_on frame_found place) _ _ None start (rw c.in_default.is at c.in_ok-size.ensures.answer) in
+    let start = goes_same _ (movi_found place.stream place.movi >>= found_or_on frame_found place)
+    (frame_step place) c.loop-size.invariant.0 in
+    let here = goes_read (movi_found place.stream place.movi) (found_or_on frame_found place) _ _
+    None start (rw c.in_default.is at c.in_ok-size.ensures.answer) in
     let end = rw c.in_default-2.is at c.in_ok-next.ensures.answer in
-    none_ends (extent_of c.args.place) (moved place) (sought_on frame_found) _ _ (λ text. refl) here (end.0, read_extent (extent_of place) (extent_of c.args.place) (moved place) _ _ None c.loop-size.invariant.1 end.1)
+    none_ends (extent_of c.args.place) (moved place) (sought_on frame_found) _ _ (λ text. refl) here (
+      end.0,
+      read_extent (extent_of place) (extent_of c.args.place) (moved place) _ _ None
+          c.loop-size.invariant.1 end.1,
+    )
 
 pub loop-size-smaller : goal.loop-size-smaller
 loop-size-smaller g c =
     let place = c.loop-size.place in
     let next = c.in-Some-2.next in
-    let read = some_read (extent_of place) (moved place) _ _ next (rw c.in-Some-2.is at c.in_ok-next.ensures.answer).1 in
+    let read = some_read (extent_of place) (moved place) _ _ next
+    (rw c.in-Some-2.is at c.in_ok-next.ensures.answer).1 in
     (moved_less place next (read.bytes ++ []) [] (read.is [])).0
 
 pub loop-size-preserved : goal.loop-size-preserved
@@ -55,15 +75,24 @@ loop-size-preserved g c =
     let next = c.in-Some-2.next in
     let answer = rw c.in-Some-2.is at c.in_ok-next.ensures.answer in
     let read = some_read (extent_of place) (moved place) _ _ next answer.1 in
-    let start = goes_same _ (movi_found place.stream place.movi >>= found_or_on frame_found place) (frame_step place) c.loop-size.invariant.0 in
-    let here = goes_read (movi_found place.stream place.movi) (found_or_on frame_found place) _ _ None start (rw c.in_default.is at c.in_ok-size.ensures.answer) in (
+    let start = goes_same _ (movi_found place.stream place.movi >>= found_or_on frame_found place)
+    (frame_step place) c.loop-size.invariant.0 in
+    let here = goes_read (movi_found place.stream place.movi) (found_or_on frame_found place) _ _
+    None start (rw c.in_default.is at c.in_ok-size.ensures.answer) in (
       none_read (extent_of place) (moved place) (sought_on frame_found) _ _ next here answer,
       (moved_less place next (read.bytes ++ []) [] (read.is [])).1 ∙ c.loop-size.invariant.1,
-      up_to_then c.loop-size.invariant.2 (up_to_then (rw c.in_default.is at c.in_ok-size.ensures.from) (rw c.in-Some-2.is at c.in_ok-next.ensures.from)),
+      up_to_then c.loop-size.invariant.2 (up_to_then
+          (rw c.in_default.is at c.in_ok-size.ensures.from)
+          (rw c.in-Some-2.is at c.in_ok-next.ensures.from)),
     )
 
 pub loop-size-init : goal.loop-size-init
-loop-size-init g c = (goes_none (frame_found c.args.place) (g.R.ByteIn.remaining c.args.input.now) (g.R.ByteIn.failures c.args.input.now), refl, reads_still)
+loop-size-init g c = (
+  goes_none (frame_found c.args.place) (g.R.ByteIn.remaining c.args.input.now)
+      (g.R.ByteIn.failures c.args.input.now),
+  refl,
+  reads_still,
+)
 
 pub returns-in_err-size-clause-from : goal.returns-in_err-size-clause-from
 returns-in_err-size-clause-from g c =
@@ -74,11 +103,22 @@ returns-in_err-size-clause-from g c =
 pub returns-in-Some-clause-from : goal.returns-in-Some-clause-from
 returns-in-Some-clause-from g c =
     let from = rw c.in-Some.is at c.in_ok-size.ensures.from in
-    rw c.frame_at.ensures (from.0, from.1, c.in-Some.left, from.2, sym from.3, up_to_then c.loop-size.invariant.2 from.4)
+    rw c.frame_at.ensures (
+      from.0,
+      from.1,
+      c.in-Some.left,
+      from.2,
+      sym from.3,
+      up_to_then
+          c.loop-size.invariant.2 from.4,
+    )
 
 pub returns-in_err-next-clause-from : goal.returns-in_err-next-clause-from
 returns-in_err-next-clause-from g c =
-    let p = err_from_is_err_and c.from_residual-in_err-next.result c.from_residual-in_err-next.ensures.1 in
+    let p = err_from_is_err_and c.from_residual-in_err-next.result
+    c.from_residual-in_err-next.ensures.1 in
     let inv = c.loop-size.invariant in
     let f = c.in_err-next.field-0.0 in
-    rw (p.1, p.2) (stops_then f inv.0.same inv.2 (stops_then f (rw c.in_default.is at c.in_ok-size.ensures.answer).0 (rw c.in_default.is at c.in_ok-size.ensures.from) c.in_err-next.ensures.from))
+    rw (p.1, p.2) (stops_then f inv.0.same inv.2
+    (stops_then f (rw c.in_default.is at c.in_ok-size.ensures.answer).0
+    (rw c.in_default.is at c.in_ok-size.ensures.from) c.in_err-next.ensures.from))

@@ -1,3 +1,4 @@
+-- The size of a stream's next frame, and what movi has left after it; None at its end.
 use Rattle.std.proofs.Common.{ℕ, Option, Some, None}
 use Rattle.std.proofs.lemmas.Result.{err_from_is_err_and}
 use Rattle.ffv1_avi.specs.Files.{visit_movi}
@@ -10,7 +11,8 @@ use Rattle.ffv1_reads.proofs.Reading.{goes_none}
 use Rattle.ffv1_avi.specs.Files.{movi_found}
 use Rattle.ffv1_avi.specs.Offsets.{chunk_taken, movi_left}
 use Rattle.ffv1_avi.specs.Padding.{padded}
-use Rattle.ffv1_avi.proofs.ChunkReadings.{chunk_passed, entry_end, entry_refused, counts_none, one_more, still, visit_refused}
+use Rattle.ffv1_avi.proofs.ChunkReadings.{chunk_passed, entry_end, entry_refused, counts_none}
+use Rattle.ffv1_avi.proofs.ChunkReadings.{one_more, still, visit_refused}
 use Rattle.ffv1_avi.proofs.reader.find_in_movi.Goals as goal
 
 abbrev found : Unit {0} × Option (ℕ × ℕ) → Reading (Option (ℕ × ℕ))
@@ -19,39 +21,63 @@ found p = given p.1
 pub returns-in_err-entry-clause-answer : goal.returns-in_err-entry-clause-answer
 returns-in_err-entry-clause-answer g c =
     let p = err_from_is_err_and c.from_residual.result c.from_residual.ensures.1 in
-    rw (p.1, p.2) (goes_no_entry (visit_movi c.args.place.stream) c.loop-entry.left tt found _ _ c.in_err-entry.field-0.0 c.loop-entry.invariant.0 c.in_err-entry.ensures.answer)
+    rw (p.1, p.2) (goes_no_entry (visit_movi c.args.place.stream) c.loop-entry.left tt found _ _
+    c.in_err-entry.field-0.0 c.loop-entry.invariant.0 c.in_err-entry.ensures.answer)
 
 pub returns-in_err-size-clause-answer : goal.returns-in_err-size-clause-answer
 returns-in_err-size-clause-answer g c =
-    let p = err_from_is_err_and c.from_residual-in_err-size.result c.from_residual-in_err-size.ensures.1 in
+    let p = err_from_is_err_and c.from_residual-in_err-size.result
+    c.from_residual-in_err-size.ensures.1 in
     let e = c.in-Some.entry in
-    let here = goes_entry (visit_movi c.args.place.stream) c.loop-entry.left tt found _ _ e c.loop-entry.invariant.0 (rw c.in-Some.is at c.in_ok-entry.ensures.answer) in
-    rw (p.1, p.2) (goes_refused (visit_movi c.args.place.stream tt e) (behind_chunk (visit_movi c.args.place.stream) e.left found) _ _ c.in_err-size.field-0.0 here c.in_err-size.ensures.answer)
+    let here = goes_entry (visit_movi c.args.place.stream) c.loop-entry.left tt found _ _ e
+    c.loop-entry.invariant.0 (rw c.in-Some.is at c.in_ok-entry.ensures.answer) in
+    rw (p.1, p.2) (goes_refused (visit_movi c.args.place.stream tt e)
+    (behind_chunk (visit_movi c.args.place.stream) e.left found) _ _ c.in_err-size.field-0.0
+    here c.in_err-size.ensures.answer)
 
 pub returns-in-Some-2-clause-answer : goal.returns-in-Some-2-clause-answer
 returns-in-Some-2-clause-answer g c =
     let e = c.in-Some.entry in
-    let here = goes_entry (visit_movi c.args.place.stream) c.loop-entry.left tt found _ _ e c.loop-entry.invariant.0 (rw c.in-Some.is at c.in_ok-entry.ensures.answer) in
-    goes_given (Some (c.in-Some-2.size, e.left)) (goes_read (visit_movi c.args.place.stream tt e) (behind_chunk (visit_movi c.args.place.stream) e.left found) _ _ (tt, Some (c.in-Some-2.size, e.left)) here (rw c.in-Some-2.is at c.in_ok-size.ensures.answer))
+    let here = goes_entry (visit_movi c.args.place.stream) c.loop-entry.left tt found _ _ e
+    c.loop-entry.invariant.0 (rw c.in-Some.is at c.in_ok-entry.ensures.answer) in
+    goes_given (Some (c.in-Some-2.size, e.left))
+    (goes_read (visit_movi c.args.place.stream tt e)
+    (behind_chunk (visit_movi c.args.place.stream) e.left found) _ _
+    (tt, Some (c.in-Some-2.size, e.left)) here
+    (rw c.in-Some-2.is at c.in_ok-size.ensures.answer))
 
 pub loop-entry-preserved : goal.loop-entry-preserved
 loop-entry-preserved g c =
     let e = c.in-Some.entry in
-    let here = goes_entry (visit_movi c.args.place.stream) c.loop-entry.left tt found _ _ e c.loop-entry.invariant.0 (rw c.in-Some.is at c.in_ok-entry.ensures.answer) in
+    let here = goes_entry (visit_movi c.args.place.stream) c.loop-entry.left tt found _ _ e
+    c.loop-entry.invariant.0 (rw c.in-Some.is at c.in_ok-entry.ensures.answer) in
     let inv = c.loop-entry.invariant in
     let now = movi_left c.args.place c.loop-entry.left in
     let header = (rw c.in-Some.is at c.in_ok-entry.ensures.answer).1 in
-    let visit = (rw c.in_default-2.is at c.in_ok-size.ensures.answer).1 in
-    (goes_read (visit_movi c.args.place.stream tt e) (behind_chunk (visit_movi c.args.place.stream) e.left found) _ _ (tt, None) here (rw c.in_default-2.is at c.in_ok-size.ensures.answer), (_, counts_more inv.1.1 (chunk_passed now e header visit), λ n is. c.saturating_add.ensures ∙ rw (c.padded.ensures, inv.1.2 n is) (one_more n inv.1.0 (padded e.size) (2 ^ 64 - 1))))
+    let visit = (rw c.in_default-2.is at c.in_ok-size.ensures.answer).1 in (
+      goes_read (visit_movi c.args.place.stream tt e)
+          (behind_chunk (visit_movi c.args.place.stream) e.left found) _ _ (tt, None) here
+          (rw c.in_default-2.is at c.in_ok-size.ensures.answer),
+      (
+        _,
+        counts_more inv.1.1 (chunk_passed now e header visit),
+        λ n is. c.saturating_add.ensures
+            ∙ rw (c.padded.ensures, inv.1.2 n is) (one_more n inv.1.0 (padded e.size) (2 ^ 64 - 1)),
+      ),
+    )
 
 pub returns-clause-answer : goal.returns-clause-answer
 returns-clause-answer g c =
-    goes_given None (goes_end (visit_movi c.args.place.stream) c.loop-entry.left tt found _ _ c.loop-entry.invariant.0 (rw c.in_default.is at c.in_ok-entry.ensures.answer))
+    goes_given None (goes_end (visit_movi c.args.place.stream) c.loop-entry.left tt found _ _
+    c.loop-entry.invariant.0 (rw c.in_default.is at c.in_ok-entry.ensures.answer))
 
 pub loop-entry-init : goal.loop-entry-init
 unfolding movi_found
-loop-entry-init g c =
-    (goes_none (movi_found c.args.place.stream c.args.place.movi) (g.R.ByteIn.remaining c.args.input.now) (g.R.ByteIn.failures c.args.input.now), (0, reads_none chunk_taken c.args.place _, λ n is. is ∙ counts_none n (2 ^ 64 - 1)))
+loop-entry-init g c = (
+  goes_none (movi_found c.args.place.stream c.args.place.movi)
+      (g.R.ByteIn.remaining c.args.input.now) (g.R.ByteIn.failures c.args.input.now),
+  (0, reads_none chunk_taken c.args.place _, λ n is. is ∙ counts_none n (2 ^ 64 - 1)),
+)
 
 pub returns-in_err-entry-clause-from : goal.returns-in_err-entry-clause-from
 returns-in_err-entry-clause-from g c =
@@ -59,16 +85,30 @@ returns-in_err-entry-clause-from g c =
     let inv = c.loop-entry.invariant in
     let f = c.in_err-entry.field-0.0 in
     let now = movi_left c.args.place c.loop-entry.left in
-    rw (p.1, p.2) (now, inv.1.0, stops_after _ f inv.0.same inv.1.1 (entry_refused now _ _ _ _ f c.in_err-entry.ensures.answer), inv.1.2)
+    rw (p.1, p.2) (
+      now,
+      inv.1.0,
+      stops_after _ f inv.0.same inv.1.1
+          (entry_refused now _ _ _ _ f c.in_err-entry.ensures.answer),
+      inv.1.2,
+    )
 
 pub returns-in_err-size-clause-from : goal.returns-in_err-size-clause-from
 returns-in_err-size-clause-from g c =
-    let p = err_from_is_err_and c.from_residual-in_err-size.result c.from_residual-in_err-size.ensures.1 in
+    let p = err_from_is_err_and c.from_residual-in_err-size.result
+    c.from_residual-in_err-size.ensures.1 in
     let inv = c.loop-entry.invariant in
     let f = c.in_err-size.field-0.0 in
     let now = movi_left c.args.place c.loop-entry.left in
     let e = c.in-Some.entry in
-    rw (p.1, p.2) (now, inv.1.0, stops_after _ f inv.0.same inv.1.1 (visit_refused now e _ _ _ _ _ _ f (rw c.in-Some.is at c.in_ok-entry.ensures.answer) c.in_err-size.ensures.answer), inv.1.2)
+    rw (p.1, p.2) (
+      now,
+      inv.1.0,
+      stops_after _ f inv.0.same inv.1.1
+          (visit_refused now e _ _ _ _ _ _ f (rw c.in-Some.is at c.in_ok-entry.ensures.answer)
+          c.in_err-size.ensures.answer),
+      inv.1.2,
+    )
 
 pub returns-clause-from : goal.returns-clause-from
 returns-clause-from g c =

@@ -1,4 +1,6 @@
-use Rattle.std.proofs.Common.{◌≡◌, ◌+◌, ◌≤◌, ◌++◌, ℕ, List, [], true, codes, length, take, drop, inr, refl, sym, ap, ◌∙◌, arith, length-drop}
+-- The size and the form of an RIFF after the first, after its name.
+use Rattle.std.proofs.Common.{◌≡◌, ◌+◌, ◌≤◌, ◌++◌, ℕ, List, [], true, codes, length, take, drop}
+use Rattle.std.proofs.Common.{inr, refl, sym, ap, ◌∙◌, arith, length-drop}
 use Rattle.std.proofs.lemmas.Bool.{le-leb, le-ltb}
 use Rattle.std.proofs.lemmas.List.{take_all}
 use Rattle.byteorder.specs.Endian.{little_number}
@@ -12,19 +14,32 @@ use Rattle.ffv1_reads.proofs.Reading.{faults_here, goes_fault, goes_none, goes_r
 use Rattle.std.proofs.Common.{Option}
 use Rattle.ffv1_avi.proofs.riff.enter_riff.Goals as goal
 
-too_far : (place : Place) (head : List ℕ) → is_name (drop 4 head) (codes "AVIX") ≡ true → 4 ≤ little_number 4 head → place.input ≤ 8 + little_number 4 head → (text : List ℕ) → riff_judged place head text ≡ refused fault.Truncated text
-too_far place head named room far text = rw (named, le-leb 4 (little_number 4 head) room, le-ltb (8 + little_number 4 head) place.input far) refl
+too_far : (place : Place) (head : List ℕ) → is_name (drop 4 head) (codes "AVIX") ≡ true → 4 ≤
+    little_number 4 head → place.input ≤ 8 + little_number 4 head → (text : List ℕ) → riff_judged
+    place head text ≡ refused fault.Truncated text
+too_far place head named room far text = rw (
+  named,
+  le-leb 4 (little_number 4 head) room,
+  le-ltb
+      (8 + little_number 4 head) place.input far,
+) refl
 
 pub returns-then-place-whole : goal.returns-then-place-whole
 returns-then-place-whole g c =
     let place = c.args.place in
     let head = c.take.new.buf in
-    let long : length head ≡ 8 = (wanted_sound Looked 8 (c.in_ok-take.ensures.1.bytes ++ []) (head, []) (c.in_ok-take.ensures.1.is [])).1 in
-    let form : take 4 (drop 4 head) ≡ drop 4 head = take_all 4 (drop 4 head) (omega (arith, long, length-drop 4 head)) in
-    let named : is_name (drop 4 head) (codes "AVIX") ≡ true = ap (λ y. is_name y (codes "AVIX")) (sym form) ∙ sym c.if-not-is_name.ensures in
+    let long : length head ≡ 8 = (wanted_sound Looked 8 (c.in_ok-take.ensures.1.bytes ++ [])
+    (head, []) (c.in_ok-take.ensures.1.is [])).1 in
+    let form : take 4 (drop 4 head) ≡ drop 4 head = take_all 4 (drop 4 head)
+    (omega (arith, long, length-drop 4 head)) in
+    let named : is_name (drop 4 head) (codes "AVIX") ≡ true = ap (λ y. is_name y (codes "AVIX"))
+    (sym form) ∙ sym c.if-not-is_name.ensures in
     let size : c.read_u32-size.result ≡ little_number 4 head = c.read_u32-size.ensures in
     let room : 4 ≤ little_number 4 head = omega (arith, size, c.if-size-lt4.false) in
-    let far : place.input ≤ 8 + little_number 4 head = omega (arith, size, c.from-whole.ensures, c.if-place-whole.true) in
-    let start = goes_none (taken 8 >>= riff_judged place) (g.R.ByteIn.remaining c.args.input.now) (g.R.ByteIn.failures c.args.input.now) in
-    let here = goes_same _ (refused fault.Truncated) (too_far place head named room far) (goes_read (taken 8) (riff_judged place) _ _ head start c.in_ok-take.ensures) in
+    let far : place.input ≤ 8 + little_number 4 head =
+    omega (arith, size, c.from-whole.ensures, c.if-place-whole.true) in
+    let start = goes_none (taken 8 >>= riff_judged place) (g.R.ByteIn.remaining c.args.input.now)
+    (g.R.ByteIn.failures c.args.input.now) in
+    let here = goes_same _ (refused fault.Truncated) (too_far place head named room far)
+    (goes_read (taken 8) (riff_judged place) _ _ head start c.in_ok-take.ensures) in
     goes_fault fault.Truncated here (refl, inr (faults_here (Option Place) fault.Truncated _))

@@ -1,3 +1,4 @@
+-- The next byte, or None at the end of the input.
 use Rattle.std.proofs.Common.{ℕ, List, [], ◌∷◌, Option, Some, None, inl, inr, refl, sym}
 use Rattle.std.specs.Io.KnownBytes.{Consumes, Keeps}
 use Rattle.ffv1_wire.specs.Reads.{GivesByte}
@@ -15,7 +16,8 @@ stops_here : (old new : Option (List ℕ)) → Keeps old new → Stops byte_or_e
 unfolding byte_or_end
 stops_here old new kept = record { bytes = []; consumed = kept_none old new kept; is = refl }
 
-answered : (old new : Option (List ℕ)) (b : Option ℕ) → GivesByte old new b → ReadOrNone EveryRiff byte_or_end old new b
+answered : (old new : Option (List ℕ)) (b : Option ℕ) → GivesByte old new b → ReadOrNone EveryRiff
+    byte_or_end old new b
 unfolding byte_or_end
 answered old new None h = inr ((stops_here old new h.0, h.1), refl)
 answered old new (Some b) h = inl (record { bytes = b ∷ []; consumed = h; is = λ rest. refl })

@@ -1,3 +1,4 @@
+-- Where frames are sought next after the end of a movi; None at the end.
 use Rattle.std.proofs.Common.{◌<◌, ℕ, [], Option, Some, None, inl, refl, arith}
 use Rattle.std.proofs.lemmas.Result.{err_from_is_err_and}
 use Rattle.ffv1_avi.specs.declared.place.Extent.TheVariants.{EveryRiff}
@@ -12,28 +13,52 @@ use Rattle.ffv1_reads.proofs.Reading.{consumes_none, goes_none, goes_read, goes_
 use Rattle.ffv1_avi.proofs.riff.move_on.Goals as goal
 
 pub returns-then-place-eq0-clause-answer : goal.returns-then-place-eq0-clause-answer
-returns-then-place-eq0-clause-answer g c = (refl, inl (record { bytes = []; consumed = consumes_none (g.R.ByteIn.remaining c.args.input.now); is = moved_first c.args.place c.if-place-eq0.true }))
+returns-then-place-eq0-clause-answer g c = (
+  refl,
+  inl
+      (record {
+        bytes = [];
+        consumed = consumes_none (g.R.ByteIn.remaining c.args.input.now);
+        is =
+            moved_first c.args.place c.if-place-eq0.true;
+      }),
+)
 
 pub returns-in_err-movi-clause-answer : goal.returns-in_err-movi-clause-answer
 returns-in_err-movi-clause-answer g c =
     let p = err_from_is_err_and c.from_residual.result c.from_residual.ensures.1 in
     let place = c.args.place in
-    let start = goes_same _ (movi_sought place.riff >>= movi_or_riff place) (moved_every place c.if-place-eq0.false) (goes_none (moved place) (g.R.ByteIn.remaining c.args.input.now) (g.R.ByteIn.failures c.args.input.now)) in
-    rw (p.1, p.2) (none_refused (extent_of place) (movi_sought place.riff) (movi_or_riff place) _ _ c.in_err-movi.field-0.0 start c.in_err-movi.ensures.answer)
+    let start = goes_same _ (movi_sought place.riff >>= movi_or_riff place)
+    (moved_every place c.if-place-eq0.false)
+    (goes_none (moved place) (g.R.ByteIn.remaining c.args.input.now)
+    (g.R.ByteIn.failures c.args.input.now)) in
+    rw (p.1, p.2) (none_refused (extent_of place) (movi_sought place.riff) (movi_or_riff place) _ _
+    c.in_err-movi.field-0.0 start c.in_err-movi.ensures.answer)
 
 pub returns-in_default-clause-answer : goal.returns-in_default-clause-answer
 returns-in_default-clause-answer g c =
     let place = c.args.place in
-    let start = goes_same _ (movi_sought place.riff >>= movi_or_riff place) (moved_every place c.if-place-eq0.false) (goes_none (moved place) (g.R.ByteIn.remaining c.args.input.now) (g.R.ByteIn.failures c.args.input.now)) in
-    let here = goes_read (movi_sought place.riff) (movi_or_riff place) _ _ None start (rw c.in_default.is at c.in_ok-movi.ensures.answer) in
-    rw (extent_every place c.if-place-eq0.false) (none_last EveryRiff (riff_begun place) (λ (q : Option Place). q) _ _ c.count_riff.result here c.count_riff.ensures.answer)
+    let start = goes_same _ (movi_sought place.riff >>= movi_or_riff place)
+    (moved_every place c.if-place-eq0.false)
+    (goes_none (moved place) (g.R.ByteIn.remaining c.args.input.now)
+    (g.R.ByteIn.failures c.args.input.now)) in
+    let here = goes_read (movi_sought place.riff) (movi_or_riff place) _ _ None start
+    (rw c.in_default.is at c.in_ok-movi.ensures.answer) in
+    rw (extent_every place c.if-place-eq0.false)
+    (none_last EveryRiff (riff_begun place) (λ (q : Option Place). q) _ _ c.count_riff.result
+    here c.count_riff.ensures.answer)
 
 pub returns-clause-answer : goal.returns-clause-answer
 returns-clause-answer g c =
     let place = c.args.place in
     let movi : ℕ × ℕ = (c.in-Some.movi, c.in-Some.riff) in
-    let start = goes_same _ (movi_sought place.riff >>= movi_or_riff place) (moved_every place c.if-place-eq0.false) (goes_none (moved place) (g.R.ByteIn.remaining c.args.input.now) (g.R.ByteIn.failures c.args.input.now)) in
-    none_given (extent_of place) (Some (movi_at place movi)) (goes_read (movi_sought place.riff) (movi_or_riff place) _ _ (Some movi) start (rw c.in-Some.is at c.in_ok-movi.ensures.answer))
+    let start = goes_same _ (movi_sought place.riff >>= movi_or_riff place)
+    (moved_every place c.if-place-eq0.false)
+    (goes_none (moved place) (g.R.ByteIn.remaining c.args.input.now)
+    (g.R.ByteIn.failures c.args.input.now)) in
+    none_given (extent_of place) (Some (movi_at place movi))
+    (goes_read (movi_sought place.riff) (movi_or_riff place) _ _ (Some movi) start
+    (rw c.in-Some.is at c.in_ok-movi.ensures.answer))
 
 pub returns-in_err-movi-clause-from : goal.returns-in_err-movi-clause-from
 returns-in_err-movi-clause-from g c =
@@ -44,7 +69,8 @@ returns-in_err-movi-clause-from g c =
 pub returns-in_default-clause-from : goal.returns-in_default-clause-from
 returns-in_default-clause-from g c =
     let some : 0 < c.args.place.input = omega (arith, c.if-place-eq0.false) in
-    moves_then _ _ _ c.count_riff.result (rw c.in_default.is at c.in_ok-movi.ensures.answer).0 (rw c.in_default.is at c.in_ok-movi.ensures.from some) (c.count_riff.ensures.from some)
+    moves_then _ _ _ c.count_riff.result (rw c.in_default.is at c.in_ok-movi.ensures.answer).0
+    (rw c.in_default.is at c.in_ok-movi.ensures.from some) (c.count_riff.ensures.from some)
 
 pub returns-clause-from : goal.returns-clause-from
 returns-clause-from g c =

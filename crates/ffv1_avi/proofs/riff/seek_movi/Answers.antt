@@ -1,3 +1,4 @@
+-- The bytes of the next movi of RIFF, and what that has left after it; None at its end.
 use Rattle.std.proofs.Common.{ℕ, Option, Some, None}
 use Rattle.std.proofs.lemmas.Result.{err_from_is_err_and}
 use Rattle.ffv1_avi.specs.Files.{movi_sought, visit_riff}
@@ -5,7 +6,8 @@ use Rattle.ffv1_reads.specs.Reads.{Reading, given}
 use Rattle.ffv1_reads.proofs.Reading.{goes_given, goes_none, goes_read, goes_refused}
 use Rattle.ffv1_avi.proofs.ChunkByChunk.{behind_chunk, goes_end, goes_entry, goes_no_entry}
 use Rattle.ffv1_avi.proofs.ChunkReadings.{entry_end, still}
-use Rattle.ffv1_avi.proofs.RiffReadings.{movi_next, passed_next, reads_still, riff_entry_refused, riff_visit_refused, stops_here, stops_then}
+use Rattle.ffv1_avi.proofs.RiffReadings.{movi_next, passed_next, reads_still, riff_entry_refused}
+use Rattle.ffv1_avi.proofs.RiffReadings.{riff_visit_refused, stops_here, stops_then}
 use Rattle.ffv1_avi.proofs.riff.seek_movi.Goals as goal
 
 abbrev found : Unit {0} × Option (ℕ × ℕ) → Reading (Option (ℕ × ℕ))
@@ -13,64 +15,89 @@ found p = given p.1
 
 pub loop-entry-init : goal.loop-entry-init
 unfolding movi_sought
-loop-entry-init g c = (goes_none (movi_sought c.args.place.riff) (g.R.ByteIn.remaining c.args.input.now) (g.R.ByteIn.failures c.args.input.now), λ more. reads_still)
+loop-entry-init g c = (
+  goes_none (movi_sought c.args.place.riff)
+      (g.R.ByteIn.remaining c.args.input.now) (g.R.ByteIn.failures c.args.input.now),
+  λ more.
+      reads_still,
+)
 
 pub returns-in_err-entry-clause-answer : goal.returns-in_err-entry-clause-answer
 returns-in_err-entry-clause-answer g c =
     let p = err_from_is_err_and c.from_residual.result c.from_residual.ensures.1 in
-    rw (p.1, p.2) (goes_no_entry visit_riff c.loop-entry.left tt found _ _ c.in_err-entry.field-0.0 c.loop-entry.invariant.0 c.in_err-entry.ensures.answer)
+    rw (p.1, p.2) (goes_no_entry visit_riff c.loop-entry.left tt found _ _ c.in_err-entry.field-0.0
+    c.loop-entry.invariant.0 c.in_err-entry.ensures.answer)
 
 pub returns-in_err-movi-clause-answer : goal.returns-in_err-movi-clause-answer
 returns-in_err-movi-clause-answer g c =
-    let p = err_from_is_err_and c.from_residual-in_err-movi.result c.from_residual-in_err-movi.ensures.1 in
+    let p = err_from_is_err_and c.from_residual-in_err-movi.result
+    c.from_residual-in_err-movi.ensures.1 in
     let e = c.in-Some.entry in
-    let here = goes_entry visit_riff c.loop-entry.left tt found _ _ e c.loop-entry.invariant.0 (rw c.in-Some.is at c.in_ok-entry.ensures.answer) in
-    rw (p.1, p.2) (goes_refused (visit_riff tt e) (behind_chunk visit_riff e.left found) _ _ c.in_err-movi.field-0.0 here c.in_err-movi.ensures)
+    let here = goes_entry visit_riff c.loop-entry.left tt found _ _ e c.loop-entry.invariant.0
+    (rw c.in-Some.is at c.in_ok-entry.ensures.answer) in
+    rw (p.1, p.2) (goes_refused (visit_riff tt e) (behind_chunk visit_riff e.left found) _ _
+    c.in_err-movi.field-0.0 here c.in_err-movi.ensures)
 
 pub returns-in-Some-2-clause-answer : goal.returns-in-Some-2-clause-answer
 returns-in-Some-2-clause-answer g c =
     let e = c.in-Some.entry in
-    let here = goes_entry visit_riff c.loop-entry.left tt found _ _ e c.loop-entry.invariant.0 (rw c.in-Some.is at c.in_ok-entry.ensures.answer) in
-    goes_given (Some c.in-Some-2.movi) (goes_read (visit_riff tt e) (behind_chunk visit_riff e.left found) _ _ (tt, Some c.in-Some-2.movi) here (rw c.in-Some-2.is at c.in_ok-movi.ensures))
+    let here = goes_entry visit_riff c.loop-entry.left tt found _ _ e c.loop-entry.invariant.0
+    (rw c.in-Some.is at c.in_ok-entry.ensures.answer) in
+    goes_given (Some c.in-Some-2.movi) (goes_read (visit_riff tt e)
+    (behind_chunk visit_riff e.left found) _ _ (tt, Some c.in-Some-2.movi) here
+    (rw c.in-Some-2.is at c.in_ok-movi.ensures))
 
 pub loop-entry-preserved : goal.loop-entry-preserved
 loop-entry-preserved g c =
     let e = c.in-Some.entry in
-    let here = goes_entry visit_riff c.loop-entry.left tt found _ _ e c.loop-entry.invariant.0 (rw c.in-Some.is at c.in_ok-entry.ensures.answer) in
+    let here = goes_entry visit_riff c.loop-entry.left tt found _ _ e c.loop-entry.invariant.0
+    (rw c.in-Some.is at c.in_ok-entry.ensures.answer) in
     let header = (rw c.in-Some.is at c.in_ok-entry.ensures.answer).1 in
     let visit = (rw c.in_default-2.is at c.in_ok-movi.ensures).1 in (
-      goes_read (visit_riff tt e) (behind_chunk visit_riff e.left found) _ _ (tt, None) here (rw c.in_default-2.is at c.in_ok-movi.ensures),
-      λ more. passed_next c.args.place c.loop-entry.left e more (rw c.in-Some.is at c.in_ok-entry.ensures.listed) (c.loop-entry.invariant.1 more) header visit (rw c.padded.ensures at c.saturating_add-in-Some.ensures),
+      goes_read (visit_riff tt e) (behind_chunk visit_riff e.left found) _ _ (tt, None) here
+          (rw c.in_default-2.is at c.in_ok-movi.ensures),
+      λ more. passed_next c.args.place c.loop-entry.left e more
+          (rw c.in-Some.is at c.in_ok-entry.ensures.listed) (c.loop-entry.invariant.1 more) header
+          visit (rw c.padded.ensures at c.saturating_add-in-Some.ensures),
     )
 
 pub returns-clause-answer : goal.returns-clause-answer
 returns-clause-answer g c =
-    goes_given None (goes_end visit_riff c.loop-entry.left tt found _ _ c.loop-entry.invariant.0 (rw c.in_default.is at c.in_ok-entry.ensures.answer))
+    goes_given None (goes_end visit_riff c.loop-entry.left tt found _ _ c.loop-entry.invariant.0
+    (rw c.in_default.is at c.in_ok-entry.ensures.answer))
 
 pub returns-in_err-entry-clause-from : goal.returns-in_err-entry-clause-from
 returns-in_err-entry-clause-from g c =
     let p = err_from_is_err_and c.from_residual.result c.from_residual.ensures.1 in
     let f = c.in_err-entry.field-0.0 in
     let inv = c.loop-entry.invariant in
-    rw (p.1, p.2) (λ more. stops_then f inv.0.same (inv.1 more) (stops_here f (riff_entry_refused c.args.place c.loop-entry.left more _ _ _ _ f c.in_err-entry.ensures.answer)))
+    rw (p.1, p.2) (λ more. stops_then f inv.0.same (inv.1 more)
+    (stops_here f (riff_entry_refused c.args.place c.loop-entry.left more _ _ _ _ f
+    c.in_err-entry.ensures.answer)))
 
 pub returns-in_err-movi-clause-from : goal.returns-in_err-movi-clause-from
 returns-in_err-movi-clause-from g c =
-    let p = err_from_is_err_and c.from_residual-in_err-movi.result c.from_residual-in_err-movi.ensures.1 in
+    let p = err_from_is_err_and c.from_residual-in_err-movi.result
+    c.from_residual-in_err-movi.ensures.1 in
     let f = c.in_err-movi.field-0.0 in
     let e = c.in-Some.entry in
     let inv = c.loop-entry.invariant in
-    rw (p.1, p.2) (λ more. stops_then f inv.0.same (inv.1 more) (stops_here f (riff_visit_refused c.args.place c.loop-entry.left more e _ _ _ _ _ _ f (rw c.in-Some.is at c.in_ok-entry.ensures.answer) c.in_err-movi.ensures)))
+    rw (p.1, p.2) (λ more. stops_then f inv.0.same (inv.1 more)
+    (stops_here f (riff_visit_refused c.args.place c.loop-entry.left more e _ _ _ _ _ _ f
+    (rw c.in-Some.is at c.in_ok-entry.ensures.answer) c.in_err-movi.ensures)))
 
 pub returns-in-Some-2-clause-from : goal.returns-in-Some-2-clause-from
 returns-in-Some-2-clause-from g c =
     let e = c.in-Some.entry in
     let header = (rw c.in-Some.is at c.in_ok-entry.ensures.answer).1 in
     let visit = (rw c.in-Some-2.is at c.in_ok-movi.ensures).1 in
-    λ more. movi_next c.args.place c.loop-entry.left e c.in-Some-2.movi more (rw c.in-Some.is at c.in_ok-entry.ensures.listed) (c.loop-entry.invariant.1 more) header visit c.saturating_add.ensures
+    λ more. movi_next c.args.place c.loop-entry.left e c.in-Some-2.movi more
+    (rw c.in-Some.is at c.in_ok-entry.ensures.listed) (c.loop-entry.invariant.1 more) header
+    visit c.saturating_add.ensures
 
 pub returns-clause-from : goal.returns-clause-from
 returns-clause-from g c =
     let read = (rw c.in_default.is at c.in_ok-entry.ensures.answer).1 in
     let end = entry_end c.loop-entry.left read in
-    λ more. (let h = c.loop-entry.invariant.1 more in (h.0, rw end at (still c.loop-entry.left h.1 read), h.2))
+    λ more. (let h = c.loop-entry.invariant.1 more in
+    (h.0, rw end at (still c.loop-entry.left h.1 read), h.2))

@@ -15,9 +15,12 @@ judged extent k = stream_judged extent k.0.rates k.0.format
 
 abbrev pub invariant-loop-entry : goal.invariant-loop-entry
 invariant-loop-entry g l =
-    (Goes (stream_read l.fn.extent l.fn.room) (g.R.ByteIn.remaining l.initial.input) (g.R.ByteIn.failures l.initial.input)
-    (walk (visit_field l.fn.extent) l.left (known_with l.fields l.config.items) >>= judged l.fn.extent) (g.R.ByteIn.remaining l.input) (g.R.ByteIn.failures l.input))
-    × RoomRead (g.R.ByteIn.remaining l.initial.input) (g.R.ByteIn.remaining l.input) (vec_capacity l.initial.config) (vec_capacity l.config)
+    (Goes (stream_read l.fn.extent l.fn.room) (g.R.ByteIn.remaining l.initial.input)
+    (g.R.ByteIn.failures l.initial.input)
+    (walk (visit_field l.fn.extent) l.left (known_with l.fields l.config.items) >>= judged
+    l.fn.extent) (g.R.ByteIn.remaining l.input) (g.R.ByteIn.failures l.input))
+    × RoomRead (g.R.ByteIn.remaining l.initial.input) (g.R.ByteIn.remaining l.input)
+    (vec_capacity l.initial.config) (vec_capacity l.config)
 
 abbrev pub decreases-loop-entry : goal.decreases-loop-entry
 decreases-loop-entry g l = l.left

@@ -1,3 +1,4 @@
+-- A chunk of a stream's list.
 use Rattle.std.proofs.Common.{◌≡◌, true, codes, sym, []}
 use Rattle.ffv1_avi.specs.Streams.{visit_field}
 use Rattle.ffv1_avi.specs.Walk.{is_name}
@@ -13,4 +14,5 @@ returns-then-is_name-clause-answer g c =
     rw named (c.visit_rates.ensures c.args.config.now.items)
 
 pub returns-then-is_name-clause-grown : goal.returns-then-is_name-clause-grown
-returns-then-is_name-clause-grown g c = room_answered (λ (k : Fields). known_next k []) _ _ _ c.visit_rates.result (c.visit_rates.ensures [])
+returns-then-is_name-clause-grown g c = room_answered (λ (k : Fields). known_next k []) _ _ _
+    c.visit_rates.result (c.visit_rates.ensures [])

@@ -1,3 +1,4 @@
+-- The size of movi, where that of RIFF, which has so many bytes beside it, is not too great.
 use Rattle.std.proofs.Common.{◌≡◌, ◌+◌, ◌<◌, length, get_or, arith, refl}
 use Rattle.std.proofs.lemmas.Bool.{lt-leb}
 use Rattle.ffv1_avi.specs.Written.{frames_of, frame_size, movi_size}
@@ -9,8 +10,10 @@ returns-then-len-gt-MOST g c =
     let i = c.loop-frame.frame-index in
     let more = movi_more c.args.frames.now i c.frame-item.result c.loop-frame-test.true in
     let part = movi_part c.args.frames.now (i + 1) in
-    let long : 2147483647 < length (get_or c.args.frames.now i c.frame-item.result).items = rw (← c.frame-item.is) (omega (arith, c.if-len-gt-MOST.true, c.len.ensures)) in
-    let big : 2147483647 < c.args.others + movi_size (frames_of c.args.frames.now) = omega (arith, more, part, long) in
+    let long : 2147483647 < length (get_or c.args.frames.now i c.frame-item.result).items =
+    rw (← c.frame-item.is) (omega (arith, c.if-len-gt-MOST.true, c.len.ensures)) in
+    let big : 2147483647 < c.args.others + movi_size (frames_of c.args.frames.now) =
+    omega (arith, more, part, long) in
     rw (lt-leb _ _ big) refl
 
 pub returns-then-others-size-gt-MOST : goal.returns-then-others-size-gt-MOST
@@ -18,6 +21,9 @@ returns-then-others-size-gt-MOST g c =
     let i = c.loop-frame.frame-index in
     let more = movi_more c.args.frames.now i c.frame-item.result c.loop-frame-test.true in
     let part = movi_part c.args.frames.now (i + 1) in
-    let same : c.padded.result + 8 ≡ frame_size (get_or c.args.frames.now i c.frame-item.result).items = rw (← c.frame-item.is) (omega (arith, c.padded.ensures, c.len-in-loop-frame.ensures)) in
-    let big : 2147483647 < c.args.others + movi_size (frames_of c.args.frames.now) = omega (arith, more, part, same, c.if-others-size-gt-MOST.true, c.loop-frame.invariant.0) in
+    let same : c.padded.result + 8 ≡ frame_size
+    (get_or c.args.frames.now i c.frame-item.result).items = rw (← c.frame-item.is)
+    (omega (arith, c.padded.ensures, c.len-in-loop-frame.ensures)) in
+    let big : 2147483647 < c.args.others + movi_size (frames_of c.args.frames.now) =
+    omega (arith, more, part, same, c.if-others-size-gt-MOST.true, c.loop-frame.invariant.0) in
     rw (lt-leb _ _ big) refl

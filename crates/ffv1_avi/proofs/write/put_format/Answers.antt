@@ -1,3 +1,5 @@
+-- The format, BITMAPINFOHEADER, of such a size, up to the record that stands after it (RFC 9043,
+-- 4.3.3).
 use Rattle.ffv1_avi.proofs.write.put_format.Goals as goal
 
 pub returns : goal.returns

@@ -1,3 +1,4 @@
+-- A frame's chunk.
 use Rattle.std.proofs.Common.{List, ℕ, [], ◌∷◌, ◌++◌, length, codes, ◌∙◌}
 use Rattle.std.proofs.lemmas.Result.{err_from_is_err_and}
 use Rattle.ffv1_avi.specs.Written.{number, padding, spelled}
@@ -12,15 +13,18 @@ unfolding fields
 returns-in_err-put_fields g c =
     let p = err_from_is_err_and c.from_residual.result c.from_residual.ensures.1 in
     let frame = c.args.frame.now in
-    rw (p.1, p.2) (writes_stop _ _ _ _ (fields frame ++ frame) (padding (length frame)) _ (writes_stop _ _ _ _ (fields frame) frame _ c.in_err-put_fields.ensures))
+    rw (p.1, p.2) (writes_stop _ _ _ _ (fields frame ++ frame) (padding (length frame)) _
+    (writes_stop _ _ _ _ (fields frame) frame _ c.in_err-put_fields.ensures))
 
 pub returns-in_err-put : goal.returns-in_err-put
 unfolding fields
 returns-in_err-put g c =
-    let p = err_from_is_err_and c.from_residual-in_err-put.result c.from_residual-in_err-put.ensures.1 in
+    let p = err_from_is_err_and c.from_residual-in_err-put.result
+    c.from_residual-in_err-put.ensures.1 in
     let frame = c.args.frame.now in
     let h = c.in_ok-put_fields.ensures in
-    rw (p.1, p.2) (writes_stop _ _ _ _ (fields frame ++ frame) (padding (length frame)) _ (stops_then _ _ _ _ _ _ (fields frame) frame _ h.0 h.1 c.in_err-put.ensures))
+    rw (p.1, p.2) (writes_stop _ _ _ _ (fields frame ++ frame) (padding (length frame)) _
+    (stops_then _ _ _ _ _ _ (fields frame) frame _ h.0 h.1 c.in_err-put.ensures))
 
 pub returns : goal.returns
 unfolding fields
@@ -28,4 +32,5 @@ returns g c =
     let frame = c.args.frame.now in
     let h = c.in_ok-put_fields.ensures in
     let k = c.in_ok-put.ensures in
-    writes_then _ _ _ _ _ _ (fields frame ++ frame) (padding (length frame)) c.put_padding.result (k.0 ∙ h.0) (appends_then _ _ _ (fields frame) frame h.1 k.1) c.put_padding.ensures
+    writes_then _ _ _ _ _ _ (fields frame ++ frame) (padding (length frame)) c.put_padding.result
+    (k.0 ∙ h.0) (appends_then _ _ _ (fields frame) frame h.1 k.1) c.put_padding.ensures

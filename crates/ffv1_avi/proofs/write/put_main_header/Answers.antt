@@ -1,3 +1,4 @@
+-- The main header, AVIMAINHEADER of the AVI RIFF File Reference, for so many frames.
 use Rattle.ffv1_avi.proofs.write.put_main_header.Goals as goal
 
 pub returns : goal.returns

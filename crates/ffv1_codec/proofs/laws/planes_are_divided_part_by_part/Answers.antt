@@ -1,3 +1,5 @@
+-- The planes of a checked configuration are divided part by part, in RCT all alike, and their
+-- samples have 8 to 16 bits.
 use Rattle.ffv1_slice.specs.Grid.{Side, IsDivided, across, down, division_of}
 use Rattle.ffv1_codec.specs.Sides.{Tiles}
 use Rattle.ffv1_codec.proofs.EventsOf.{is_rct_is}
@@ -13,12 +15,16 @@ returns c = λ conf t is.
       some = λ k. c.parts_follow_one_another.ensures.some s k divided;
     } in
     record {
-      columns_tile = λ p. tiles (across (division_of conf) p) (c.cells_tile_their_plane.ensures.across (division_of conf) p division);
-      rows_tile = λ p. tiles (down (division_of conf) p) (c.cells_tile_their_plane.ensures.down (division_of conf) p division);
+      columns_tile = λ p. tiles (across (division_of conf) p)
+          (c.cells_tile_their_plane.ensures.across (division_of conf) p division);
+      rows_tile = λ p. tiles (down (division_of conf) p)
+          (c.cells_tile_their_plane.ensures.down (division_of conf) p division);
       part = λ p x inside.
-          let one = c.parts_follow_one_another.ensures.one (across (division_of conf) p) x (c.cells_tile_their_plane.ensures.across (division_of conf) p division) inside in
+          let one = c.parts_follow_one_another.ensures.one (across (division_of conf) p) x
+          (c.cells_tile_their_plane.ensures.across (division_of conf) p division) inside in
           record { part = one.0; lies = one.1 };
-      rct = λ e. let facts = c.accepted_configuration_has_sound_parts.ensures.rct conf t is (is_rct_is conf.colour e) in record { chroma = facts.0; h = facts.1; v = facts.2 };
+      rct = λ e. let facts = c.accepted_configuration_has_sound_parts.ensures.rct conf t is
+          (is_rct_is conf.colour e) in record { chroma = facts.0; h = facts.1; v = facts.2 };
       shallow = (c.accepted_configuration_is_in_range.ensures.depth conf t is).0;
       deep = (c.accepted_configuration_is_in_range.ensures.depth conf t is).1;
       columns = (c.accepted_configuration_is_in_range.ensures.columns conf t is).0;

@@ -1,3 +1,4 @@
+-- Frames that are known from outside the program: what the definition of a frame gives for them.
 use Rattle.std.proofs.Common.{refl}
 use Rattle.ffv1_range.specs.Symbols.{raising, halvings}
 use Rattle.ffv1_plane.specs.Context.{size_of, flip_of}

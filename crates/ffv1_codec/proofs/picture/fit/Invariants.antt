@@ -7,7 +7,9 @@ use Rattle.ffv1_codec.proofs.picture.fit.Given as goal
 
 abbrev pub invariant-loop-plane : goal.invariant-loop-plane
 invariant-loop-plane g l = record {
-  sizes : (p : ℕ) → p < l.plane → length (plane (planes_of l.planes) p) ≡ sample_bytes l.grid.depth * (whole_of (across l.grid p) * whole_of (down l.grid p));
+  sizes : (p : ℕ) → p < l.plane → length (plane (planes_of l.planes) p) ≡ sample_bytes l.grid.depth
+      * (whole_of (across l.grid p) * whole_of (down l.grid p));
   bytes : (p i : ℕ) → p < l.plane → slice_index (plane (planes_of l.planes) p) i < 256;
-  small : (p : ℕ) → p < l.plane → AreBelow (2 ^ l.grid.depth) (samples_of l.grid.depth (plane (planes_of l.planes) p));
+  small : (p : ℕ) → p < l.plane → AreBelow (2 ^ l.grid.depth)
+      (samples_of l.grid.depth (plane (planes_of l.planes) p));
 }

@@ -1,3 +1,4 @@
+-- The slices of a row lie beside one another in each plane, and rows below one another.
 use Rattle.std.proofs.Common.{ℕ, zero, suc, ◌≤◌, arith}
 use Rattle.ffv1_slice.specs.Grid.{division_of, across, down, factor_of, reduced}
 use Rattle.ffv1_codec.proofs.places.slices_lie_beside_one_another.Goals as goal
@@ -25,7 +26,8 @@ returns-clause-across c = λ conf t p is.
       next = λ k h. c.parts_follow_one_another.ensures.next s k side h;
       some = λ k h. c.parts_follow_one_another.ensures.some s k side h;
       last = c.parts_follow_one_another.ensures.last s side;
-      fits = reduced_fits (factor_of conf.log2_h p) conf.width (factor_small conf.log2_h p d.log2_h);
+      fits = reduced_fits (factor_of conf.log2_h p) conf.width
+          (factor_small conf.log2_h p d.log2_h);
     }
 
 pub returns-clause-down : goal.returns-clause-down
@@ -38,5 +40,6 @@ returns-clause-down c = λ conf t p is.
       next = λ k h. c.parts_follow_one_another.ensures.next s k side h;
       some = λ k h. c.parts_follow_one_another.ensures.some s k side h;
       last = c.parts_follow_one_another.ensures.last s side;
-      fits = reduced_fits (factor_of conf.log2_v p) conf.height (factor_small conf.log2_v p d.log2_v);
+      fits = reduced_fits (factor_of conf.log2_v p) conf.height
+          (factor_small conf.log2_v p d.log2_v);
     }

@@ -1,3 +1,4 @@
+-- How many bytes a plane has.
 use Rattle.std.proofs.Common.{ℕ, ◌*◌, ◌<◌, ◌≤◌, ◌∙◌, ap, sym, subst, arith}
 use Rattle.std.proofs.Math.Nat.{mul-le-mul_left}
 use Rattle.ffv1_samples.specs.Samples.{sample_bytes}
@@ -16,13 +17,18 @@ pub overflow_mul-result : goal.overflow_mul-result
 overflow_mul-result c =
     let d = c.args.grid.now in
     let p = c.args.plane in
-    let wide : c.width.result ≤ 8192 = subst (λ n. n ≤ 8192) (sym c.width.ensures) (whole_wide d p c.requires) in
-    let high : c.height.result ≤ 8192 = subst (λ n. n ≤ 8192) (sym c.height.ensures) (whole_high d p c.requires) in
-    let few = room c.sample_bytes.result c.width.result c.height.result c.sample_bytes.ensures.most wide high in
+    let wide : c.width.result ≤ 8192 = subst (λ n. n ≤ 8192) (sym c.width.ensures)
+    (whole_wide d p c.requires) in
+    let high : c.height.result ≤ 8192 = subst (λ n. n ≤ 8192) (sym c.height.ensures)
+    (whole_high d p c.requires) in
+    let few = room c.sample_bytes.result c.width.result c.height.result c.sample_bytes.ensures.most
+    wide high in
     omega (arith, few)
 
 pub returns : goal.returns
 returns c =
     let d = c.args.grid.now in
     let p = c.args.plane in
-    ap (λ b. b * (c.width.result * c.height.result)) c.sample_bytes.ensures.value ∙ ap (λ w. sample_bytes d.depth * (w * c.height.result)) c.width.ensures ∙ ap (λ h. sample_bytes d.depth * (whole_of (across d p) * h)) c.height.ensures
+    ap (λ b. b * (c.width.result * c.height.result)) c.sample_bytes.ensures.value ∙
+    ap (λ w. sample_bytes d.depth * (w * c.height.result)) c.width.ensures ∙
+    ap (λ h. sample_bytes d.depth * (whole_of (across d p) * h)) c.height.ensures

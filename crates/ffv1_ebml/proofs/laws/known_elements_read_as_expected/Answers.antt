@@ -1,3 +1,5 @@
+-- Known sizes, some of the standard's own (RFC 8794, 4.4 and 6.2); and two parts of a file from
+-- outside, its EBML header and the content of its Cluster, which begins with a CRC-32.
 use Rattle.std.proofs.Common.{refl}
 use Rattle.ffv1_sum.specs.Sum.{bit_steps}
 use Rattle.ffv1_ebml.specs.Contents.{first_part, found_up_to}

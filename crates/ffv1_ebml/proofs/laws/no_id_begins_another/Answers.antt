@@ -1,3 +1,5 @@
+-- An ID is spelled as a variable-size integer of at most four bytes, whose number it is with all
+-- bits.
 use Rattle.ffv1_ebml.proofs.SpelledLaws.{ident_spelled, idents_apart}
 use Rattle.ffv1_ebml.proofs.laws.no_id_begins_another.Goals as goal
 

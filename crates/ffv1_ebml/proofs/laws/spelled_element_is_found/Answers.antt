@@ -1,3 +1,4 @@
+-- In memory an element that is spelled is the first one of what begins with it.
 use Rattle.ffv1_ebml.proofs.ElementLaws.{found_first, found_past, part_spelled}
 use Rattle.ffv1_ebml.proofs.laws.spelled_element_is_found.Goals as goal
 

@@ -1,3 +1,5 @@
+-- An element that is spelled is read as it was spelled, in any parent that holds it, and its header
+-- is summed: a header alone, one of unknown size, and one with the content, which is left.
 use Rattle.ffv1_ebml.proofs.ElementLaws.{element_spelled, known_spelled, unknown_is_read}
 use Rattle.ffv1_ebml.proofs.laws.spelled_element_is_read.Goals as goal
 

@@ -1,3 +1,4 @@
+-- The header of an element with this ID and so many bytes of content, its size in eight bytes.
 use Rattle.std.proofs.Common.{refl}
 use Rattle.ffv1_ebml.specs.Spelled.{long}
 use Rattle.ffv1_ebml.proofs.spell.long_header.Goals as goal

@@ -1,3 +1,4 @@
+-- The header of an element with this ID and of unknown size, in eight bytes.
 use Rattle.std.proofs.Common.{refl}
 use Rattle.ffv1_ebml.specs.Spelled.{long}
 use Rattle.ffv1_ebml.proofs.spell.unknown_header.Goals as goal

@@ -1,3 +1,4 @@
+-- Passes so many bytes, and goes on with a sum.
 use Rattle.std.proofs.Common.{◌≡◌, ◌≤◌, ◌-◌, ◌++◌, [], length, take, drop, fold, arith}
 use Rattle.std.proofs.lemmas.Grind.{common_steps}
 use Rattle.std.proofs.lemmas.Result.{err_from_is_err_and}
@@ -17,9 +18,13 @@ returns-in_err-take g c =
     let left = c.loop-left.left in
     let sum = c.loop-left.sum in
     let fits : n ≤ left = grind (arith, common_steps, c.min-len.ensures) in
-    let long : length (take n c.loop-left.room) ≡ n = grind (arith, common_steps, c.min-len.ensures) in
-    let start = goes_same _ (piece_then n left sum) (passed_piece n left sum fits) c.loop-left.invariant in
-    rw (p.1, p.2) (goes_refused (taken n) (λ bytes. passed_so_far (left - n) (fold byte_step sum bytes)) _ _ c.in_err-take.field-0.0 start (rw long at c.in_err-take.ensures))
+    let long : length (take n c.loop-left.room) ≡ n = grind
+    (arith, common_steps, c.min-len.ensures) in
+    let start = goes_same _ (piece_then n left sum) (passed_piece n left sum fits)
+    c.loop-left.invariant in
+    rw (p.1, p.2) (goes_refused (taken n) (λ bytes. passed_so_far (left - n)
+    (fold byte_step sum bytes)) _ _ c.in_err-take.field-0.0 start
+    (rw long at c.in_err-take.ensures))
 
 pub loop-left-preserved : goal.loop-left-preserved
 loop-left-preserved g c =
@@ -28,10 +33,15 @@ loop-left-preserved g c =
     let sum = c.loop-left.sum in
     let buf = c.take.new.buf in
     let fits : n ≤ left = grind (arith, common_steps, c.min-len.ensures) in
-    let long : length (take n c.loop-left.room) ≡ n = grind (arith, common_steps, c.min-len.ensures) in
-    let start = goes_same _ (piece_then n left sum) (passed_piece n left sum fits) c.loop-left.invariant in
+    let long : length (take n c.loop-left.room) ≡ n = grind
+    (arith, common_steps, c.min-len.ensures) in
+    let start = goes_same _ (piece_then n left sum) (passed_piece n left sum fits)
+    c.loop-left.invariant in
     let read = rw long at c.in_ok-take.ensures in
-    let few : length buf ≡ n = (wanted_sound Looked n (read.1.bytes ++ []) (buf, []) (read.1.is [])).1 in
-    let next = goes_read (taken n) (λ bytes. passed_so_far (left - n) (fold byte_step sum bytes)) _ _ buf start read in
-    let all : take n (buf ++ drop n c.loop-left.room) ≡ buf = cut_front n buf (drop n c.loop-left.room) few in
+    let few : length buf ≡ n = (wanted_sound Looked n (read.1.bytes ++ []) (buf, [])
+    (read.1.is [])).1 in
+    let next = goes_read (taken n) (λ bytes. passed_so_far (left - n) (fold byte_step sum bytes)) _
+    _ buf start read in
+    let all : take n (buf ++ drop n c.loop-left.room) ≡ buf = cut_front n buf
+    (drop n c.loop-left.room) few in
     rw (c.more-sum.ensures, all) next

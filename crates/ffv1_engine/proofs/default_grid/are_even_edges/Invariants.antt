@@ -6,7 +6,8 @@ use Rattle.ffv1_engine.proofs.default_grid.are_even_edges.Given as goal
 
 abbrev pub invariant-loop-k : goal.invariant-loop-k
 invariant-loop-k l =
-    (list_all (λ k. edge k l.size l.count % 2 ^ l.log2 == 0) (range_with_len l.k (l.count - l.k)) ≡ are_even_edges l.size l.count l.log2)
+    (list_all (λ k. edge k l.size l.count % 2 ^ l.log2 == 0) (range_with_len l.k (l.count - l.k)) ≡
+    are_even_edges l.size l.count l.log2)
     × (1 ≤ l.k)
 
 abbrev pub decreases-loop-k : goal.decreases-loop-k

@@ -6,7 +6,9 @@ use Rattle.ffv1_engine.proofs.default_grid.grid_of.Given as goal
 
 abbrev pub invariant-loop-columns : goal.invariant-loop-columns
 invariant-loop-columns l =
-    (left_of (λ (g : Grid). has_grid l.depth l.head g.0 g.1) (λ g. (g.0 * g.1 == l.slices) && nat_le g.1 32) (λ columns. (columns, l.slices / columns)) l.columns (33 - l.columns)
+    (left_of (λ (g : Grid). has_grid l.depth l.head g.0 g.1)
+    (λ g. (g.0 * g.1 == l.slices) && nat_le g.1 32) (λ columns. (columns, l.slices / columns))
+    l.columns (33 - l.columns)
     ≡ find (λ (g : Grid). has_grid l.depth l.head g.0 g.1) (grids_of l.slices))
     × (1 ≤ l.columns) × (l.columns ≤ 33)
 

@@ -7,7 +7,9 @@ use Rattle.ffv1_engine.proofs.encoding.encode_pictures.Given as goal
 
 abbrev pub invariant-loop-planes : goal.invariant-loop-planes
 invariant-loop-planes g l =
-    Encoded (passage g.R.ByteIn.remaining g.R.ByteIn.failures l.initial.input l.input) l.initial.encoder.accepted (reading_of l.initial.reader) (reading_of l.reader) (frames_of l.frames.items)
+    Encoded (passage g.R.ByteIn.remaining g.R.ByteIn.failures l.initial.input l.input)
+    l.initial.encoder.accepted (reading_of l.initial.reader) (reading_of l.reader)
+    (frames_of l.frames.items)
     × (l.encoder.accepted ≡ l.initial.encoder.accepted)
 
 abbrev pub decreases-loop-planes : goal.decreases-loop-planes

@@ -1,3 +1,4 @@
+-- Reads the next frame, decodes it, and writes the line of its picture.
 use Rattle.std.proofs.Common.{◌≡◌, Ok, Err, inl, inr, ap, sym, subst, ◌∙◌}
 use Rattle.std.proofs.lemmas.Result.{err_from_is_err_and}
 use Rattle.ffv1_wire.specs.Passage.{passage}
@@ -19,7 +20,8 @@ use Rattle.ffv1_engine.specs.Internal.Told.{WritesFrame}
 use Rattle.ffv1_engine.proofs.FrameDecoded.{is_decided, is_faulty}
 use Rattle.ffv1_engine.proofs.FramesPlayed.{file_stops, line_stops}
 use Rattle.ffv1_engine.proofs.OwnFaults.{payload_tells}
-use Rattle.ffv1_engine.proofs.PicturesWritten.{decode_cause, silent}
+use Rattle.ffv1_engine.proofs.PicturesWritten.{decode_cause}
+use Rattle.ffv1_engine.proofs.FramesInTurn.{silent}
 use Rattle.ffv1_engine.proofs.hashing.write_next.Goals as goal
 
 pub write_picture-requires : goal.write_picture-requires
@@ -27,11 +29,17 @@ write_picture-requires g c =
     let a = c.args.player.now.decoder.accepted in
     let sink = c.play.new.sink in
     let answer = rw c.in-Ok-Some.field-0-is at c.in-Ok-Some.ensures.answer in
-    let found = c.answer_is_ok_for_coded_pictures.ensures.found a c.play.new.player.payload.items c.args.kept.now sink c.play.new.player.decoder.tally c.in-Ok-Some.info c.requires.accepted answer.1 in
-    let kept = c.kept_lines_make_up_the_picture.ensures.picture a found.0 c.args.kept.now sink c.requires.accepted found.1.picture.fits c.requires.kept.grid c.requires.kept.planes found.2 in
+    let found = c.answer_is_ok_for_coded_pictures.ensures.found a c.play.new.player.payload.items
+    c.args.kept.now sink c.play.new.player.decoder.tally c.in-Ok-Some.info c.requires.accepted
+    answer.1 in
+    let kept = c.kept_lines_make_up_the_picture.ensures.picture a found.0 c.args.kept.now sink
+    c.requires.accepted found.1.picture.fits c.requires.kept.grid c.requires.kept.planes
+    found.2 in
     let same : c.config-checked.result.now ≡ a = c.config-checked.ensures ∙ c.play.ensures.same in
-    let grid : sink.grid ≡ division_of c.config-checked.result.now.configuration = kept.1 ∙ c.requires.kept.grid ∙ ap (λ (x : Accepted). division_of x.configuration) (sym same) in
-    subst (AreOf (division_of c.config-checked.result.now.configuration)) c.planes.ensures.value (subst (λ (d : Division). AreOf d sink.planes) grid c.planes.ensures.sizes)
+    let grid : sink.grid ≡ division_of c.config-checked.result.now.configuration = kept.1 ∙
+    c.requires.kept.grid ∙ ap (λ (x : Accepted). division_of x.configuration) (sym same) in
+    subst (AreOf (division_of c.config-checked.result.now.configuration)) c.planes.ensures.value
+    (subst (λ (d : Division). AreOf d sink.planes) grid c.planes.ensures.sizes)
 
 pub returns-in_err-write_picture-in-Ok-Some-clause-answer :
     goal.returns-in_err-write_picture-in-Ok-Some-clause-answer
@@ -43,21 +51,45 @@ returns-in_err-write_picture-in-Ok-Some-clause-answer g c =
     let tally = c.play.new.player.decoder.tally in
     let info = c.in-Ok-Some.info in
     let f = c.in_err-write_picture-in-Ok-Some.field-0.0 in
-    let input = passage g.R.ByteIn.remaining g.R.ByteIn.failures c.args.input.now c.play.new.input in
-    let output = passage g.W.ByteOut.contents g.W.ByteOut.failures c.args.output.now c.write_picture.new.output in
+    let input = passage g.R.ByteIn.remaining g.R.ByteIn.failures c.args.input.now
+    c.play.new.input in
+    let output = passage g.W.ByteOut.contents g.W.ByteOut.failures c.args.output.now
+    c.write_picture.new.output in
     let answer = rw c.in-Ok-Some.field-0-is at c.in-Ok-Some.ensures.answer in
-    let found = c.answer_is_ok_for_coded_pictures.ensures.found a payload c.args.kept.now c.play.new.sink tally info c.requires.accepted answer.1 in
-    let kept = c.kept_lines_make_up_the_picture.ensures.picture a found.0 c.args.kept.now c.play.new.sink c.requires.accepted found.1.picture.fits c.requires.kept.grid c.requires.kept.planes found.2 in
+    let found = c.answer_is_ok_for_coded_pictures.ensures.found a payload c.args.kept.now
+    c.play.new.sink tally info c.requires.accepted answer.1 in
+    let kept = c.kept_lines_make_up_the_picture.ensures.picture a found.0 c.args.kept.now
+    c.play.new.sink c.requires.accepted found.1.picture.fits c.requires.kept.grid
+    c.requires.kept.planes found.2 in
     let planes : planes_of c.planes.result.now ≡ found.0 = sym c.planes.ensures.value ∙ kept.0 in
-    let frame : Frame = record { payload = payload; planes = found.0; said = info; tally = tally } in
-    let plays : PlaysFrame a c.args.player.now.reader.place c.play.new.player.reader.place input frame =
-    record { is = record { codes = found.1; decided = is_decided Keeps KeepsNot a payload c.args.kept.now c.play.new.sink tally info answer.1 }; reads = answer.0 } in
+    let frame : Frame = record {
+      payload = payload;
+      planes = found.0;
+      said = info;
+      tally = tally;
+    } in
+    let plays : PlaysFrame a c.args.player.now.reader.place c.play.new.player.reader.place input
+    frame =
+    record {
+      is = record {
+        codes = found.1;
+        decided = is_decided Keeps KeepsNot a payload
+            c.args.kept.now c.play.new.sink tally info answer.1;
+      };
+      reads = answer.0;
+    } in
     let same : c.config-checked.result.now ≡ a = c.config-checked.ensures ∙ c.play.ensures.same in
-    let writes = subst (λ (z : Planes). WritesFrame (next_md5 (is_rct a.configuration.colour) a.configuration.depth (head_saying h info) c.args.number z) output (Err f)) planes
-    (subst (λ (x : Accepted). WritesFrame (next_md5 (is_rct x.configuration.colour) x.configuration.depth (head_saying h info) c.args.number (planes_of c.planes.result.now)) output (Err f)) same
+    let writes = subst (λ (z : Planes). WritesFrame
+    (next_md5 (is_rct a.configuration.colour) a.configuration.depth (head_saying h info)
+    c.args.number z) output (Err f)) planes
+    (subst (λ (x : Accepted). WritesFrame (next_md5 (is_rct x.configuration.colour)
+    x.configuration.depth (head_saying h info) c.args.number (planes_of c.planes.result.now))
+    output (Err f)) same
     c.in_err-write_picture-in-Ok-Some.ensures.answer) in
     rw (p.1, p.2)
-    (inr (line_stops (IsFrame a) frame_payload (frame_md5 a h c.args.number) (λ z. Silent output) c.args.player.now.reader.place c.play.new.player.reader.place input output frame f plays writes))
+    (inr (line_stops (IsFrame a) frame_payload (frame_md5 a h c.args.number) (λ z. Silent output)
+    c.args.player.now.reader.place c.play.new.player.reader.place input output frame f plays
+    writes))
 
 pub returns-in_ok-write_picture-in-Ok-Some-clause-answer :
     goal.returns-in_ok-write_picture-in-Ok-Some-clause-answer
@@ -67,18 +99,40 @@ returns-in_ok-write_picture-in-Ok-Some-clause-answer g c =
     let payload = c.play.new.player.payload.items in
     let tally = c.play.new.player.decoder.tally in
     let info = c.in-Ok-Some.info in
-    let input = passage g.R.ByteIn.remaining g.R.ByteIn.failures c.args.input.now c.play.new.input in
-    let output = passage g.W.ByteOut.contents g.W.ByteOut.failures c.args.output.now c.write_picture.new.output in
+    let input = passage g.R.ByteIn.remaining g.R.ByteIn.failures c.args.input.now
+    c.play.new.input in
+    let output = passage g.W.ByteOut.contents g.W.ByteOut.failures c.args.output.now
+    c.write_picture.new.output in
     let answer = rw c.in-Ok-Some.field-0-is at c.in-Ok-Some.ensures.answer in
-    let found = c.answer_is_ok_for_coded_pictures.ensures.found a payload c.args.kept.now c.play.new.sink tally info c.requires.accepted answer.1 in
-    let kept = c.kept_lines_make_up_the_picture.ensures.picture a found.0 c.args.kept.now c.play.new.sink c.requires.accepted found.1.picture.fits c.requires.kept.grid c.requires.kept.planes found.2 in
+    let found = c.answer_is_ok_for_coded_pictures.ensures.found a payload c.args.kept.now
+    c.play.new.sink tally info c.requires.accepted answer.1 in
+    let kept = c.kept_lines_make_up_the_picture.ensures.picture a found.0 c.args.kept.now
+    c.play.new.sink c.requires.accepted found.1.picture.fits c.requires.kept.grid
+    c.requires.kept.planes found.2 in
     let planes : planes_of c.planes.result.now ≡ found.0 = sym c.planes.ensures.value ∙ kept.0 in
-    let frame : Frame = record { payload = payload; planes = found.0; said = info; tally = tally } in
-    let plays : PlaysFrame a c.args.player.now.reader.place c.play.new.player.reader.place input frame =
-    record { is = record { codes = found.1; decided = is_decided Keeps KeepsNot a payload c.args.kept.now c.play.new.sink tally info answer.1 }; reads = answer.0 } in
+    let frame : Frame = record {
+      payload = payload;
+      planes = found.0;
+      said = info;
+      tally = tally;
+    } in
+    let plays : PlaysFrame a c.args.player.now.reader.place c.play.new.player.reader.place input
+    frame =
+    record {
+      is = record {
+        codes = found.1;
+        decided = is_decided Keeps KeepsNot a payload
+            c.args.kept.now c.play.new.sink tally info answer.1;
+      };
+      reads = answer.0;
+    } in
     let same : c.config-checked.result.now ≡ a = c.config-checked.ensures ∙ c.play.ensures.same in
-    let writes = subst (λ (z : Planes). WritesFrame (next_md5 (is_rct a.configuration.colour) a.configuration.depth (head_saying h info) c.args.number z) output (Ok tt)) planes
-    (subst (λ (x : Accepted). WritesFrame (next_md5 (is_rct x.configuration.colour) x.configuration.depth (head_saying h info) c.args.number (planes_of c.planes.result.now)) output (Ok tt)) same
+    let writes = subst (λ (z : Planes). WritesFrame
+    (next_md5 (is_rct a.configuration.colour) a.configuration.depth (head_saying h info)
+    c.args.number z) output (Ok tt)) planes
+    (subst (λ (x : Accepted). WritesFrame (next_md5 (is_rct x.configuration.colour)
+    x.configuration.depth (head_saying h info) c.args.number (planes_of c.planes.result.now))
+    output (Ok tt)) same
     c.in_ok-write_picture-in-Ok-Some.ensures.answer) in
     (frame, plays, writes.0, writes.1)
 
@@ -87,9 +141,17 @@ pub returns-in_ok-write_picture-in-Ok-Some-clause-kept :
 returns-in_ok-write_picture-in-Ok-Some-clause-kept g c =
     let a = c.args.player.now.decoder.accepted in
     let answer = rw c.in-Ok-Some.field-0-is at c.in-Ok-Some.ensures.answer in
-    let found = c.answer_is_ok_for_coded_pictures.ensures.found a c.play.new.player.payload.items c.args.kept.now c.play.new.sink c.play.new.player.decoder.tally c.in-Ok-Some.info c.requires.accepted answer.1 in
-    let kept = c.kept_lines_make_up_the_picture.ensures.picture a found.0 c.args.kept.now c.play.new.sink c.requires.accepted found.1.picture.fits c.requires.kept.grid c.requires.kept.planes found.2 in
-    let now : IsKeptFor a c.play.new.sink = record { grid = kept.1 ∙ c.requires.kept.grid; planes = c.planes.ensures.sizes } in
+    let found = c.answer_is_ok_for_coded_pictures.ensures.found a c.play.new.player.payload.items
+    c.args.kept.now c.play.new.sink c.play.new.player.decoder.tally c.in-Ok-Some.info
+    c.requires.accepted answer.1 in
+    let kept = c.kept_lines_make_up_the_picture.ensures.picture a found.0 c.args.kept.now
+    c.play.new.sink c.requires.accepted found.1.picture.fits c.requires.kept.grid
+    c.requires.kept.planes found.2 in
+    let now : IsKeptFor a c.play.new.sink = record {
+      grid = kept.1 ∙ c.requires.kept.grid;
+      planes =
+          c.planes.ensures.sizes;
+    } in
     subst (IsKeptFor a) (sym c.planes.follows.holds-at-none) now
 
 pub returns-in-Err-File-clause-answer : goal.returns-in-Err-File-clause-answer
@@ -97,11 +159,17 @@ returns-in-Err-File-clause-answer g c =
     let a = c.args.player.now.decoder.accepted in
     let line = frame_md5 a c.args.lines.now.head c.args.number in
     let f = of_avi c.in-Err-File.fault in
-    let input = passage g.R.ByteIn.remaining g.R.ByteIn.failures c.args.input.now c.play.new.input in
-    let output = passage g.W.ByteOut.contents g.W.ByteOut.failures c.args.output.now c.args.output.now in
+    let input = passage g.R.ByteIn.remaining g.R.ByteIn.failures c.args.input.now
+    c.play.new.input in
+    let output = passage g.W.ByteOut.contents g.W.ByteOut.failures c.args.output.now
+    c.args.output.now in
     let answer = rw c.in-Err-File.field-0-is at c.in-Err-File.ensures.answer in
-    inr (subst (λ z. OneStopsBy (IsFrame a) frame_payload line (λ y. Silent output) c.args.player.now.reader.place c.play.new.player.reader.place input output z (cause_of z)) (sym c.from.ensures)
-    (file_stops (IsFrame a) frame_payload line c.args.player.now.reader.place c.play.new.player.reader.place input (g.W.ByteOut.contents c.args.output.now) (g.W.ByteOut.failures c.args.output.now)
+    inr (subst (λ z. OneStopsBy (IsFrame a) frame_payload line (λ y. Silent output)
+    c.args.player.now.reader.place c.play.new.player.reader.place input output z (cause_of z))
+    (sym c.from.ensures)
+    (file_stops (IsFrame a) frame_payload line c.args.player.now.reader.place
+    c.play.new.player.reader.place input (g.W.ByteOut.contents c.args.output.now)
+    (g.W.ByteOut.failures c.args.output.now)
     f (cause_of f) answer.0))
 
 pub returns-in-Err-Payload-clause-answer : goal.returns-in-Err-Payload-clause-answer
@@ -111,8 +179,10 @@ returns-in-Err-Payload-clause-answer g c =
     let tally = c.play.new.player.decoder.tally in
     let f = c.in-Err-Payload.fault in
     let answer = rw c.in-Err-Payload.field-0-is at c.in-Err-Payload.ensures.answer in
-    let own = c.sinks_of_own_lines_refuse_none.ensures.kept a payload c.args.kept.now c.play.new.sink tally f c.requires.accepted answer.1 c.requires.kept.grid in
-    let content = decode_cause f.fault (c.answered_fault_is_of_decoding.ensures a payload c.args.kept.now c.play.new.sink tally f answer.1) own in
+    let own = c.sinks_of_own_lines_refuse_none.ensures.kept a payload c.args.kept.now
+    c.play.new.sink tally f c.requires.accepted answer.1 c.requires.kept.grid in
+    let content = decode_cause f.fault (c.answered_fault_is_of_decoding.ensures a payload
+    c.args.kept.now c.play.new.sink tally f answer.1) own in
     let is = c.from-in-Err-Payload.ensures in
     inl (
       silent (g.W.ByteOut.contents c.args.output.now) (g.W.ByteOut.failures c.args.output.now),
@@ -121,7 +191,8 @@ returns-in-Err-Payload-clause-answer g c =
         fault = f;
         tally = tally;
         reads = answer.0;
-        faulty = is_faulty Keeps KeepsNot a payload c.args.kept.now c.play.new.sink tally f own answer.1;
+        faulty = is_faulty Keeps KeepsNot a payload c.args.kept.now c.play.new.sink tally f own
+            answer.1;
         is = is;
         content = subst (λ z. cause_of z ≡ Content) (sym is) content;
       },
@@ -134,6 +205,8 @@ returns-in-Err-Payload-clause-own g c =
     let tally = c.play.new.player.decoder.tally in
     let f = c.in-Err-Payload.fault in
     let answer = rw c.in-Err-Payload.field-0-is at c.in-Err-Payload.ensures.answer in
-    let own = c.sinks_of_own_lines_refuse_none.ensures.kept a payload c.args.kept.now c.play.new.sink tally f c.requires.accepted answer.1 c.requires.kept.grid in
-    let decode = c.answered_fault_is_of_decoding.ensures a payload c.args.kept.now c.play.new.sink tally f answer.1 in
+    let own = c.sinks_of_own_lines_refuse_none.ensures.kept a payload c.args.kept.now
+    c.play.new.sink tally f c.requires.accepted answer.1 c.requires.kept.grid in
+    let decode = c.answered_fault_is_of_decoding.ensures a payload c.args.kept.now c.play.new.sink
+    tally f answer.1 in
     inl (ap is_telling_fault c.from-in-Err-Payload.ensures ∙ payload_tells f.fault decode own)

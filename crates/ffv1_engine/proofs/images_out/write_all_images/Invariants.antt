@@ -12,7 +12,8 @@ invariant-loop-count g l =
     × IsSinkFor l.fn.player.decoder.accepted.configuration l.sink
     × ImagesSo (stream_of l.fn.player.reader l.fn.player.decoder.accepted) l.fn.player.reader.place
     (passage g.R.ByteIn.remaining g.R.ByteIn.failures l.initial.input l.input)
-    (passage g.W.ByteOut.contents g.W.ByteOut.failures l.initial.sink.out l.sink.out) l.count l.player.reader.place
+    (passage g.W.ByteOut.contents g.W.ByteOut.failures l.initial.sink.out l.sink.out) l.count
+    l.player.reader.place
     × (container_of l.player.reader.place ≡ container_of l.fn.player.reader.place)
 
 abbrev pub decreases-loop-count : goal.decreases-loop-count

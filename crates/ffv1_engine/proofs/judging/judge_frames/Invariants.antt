@@ -10,9 +10,11 @@ invariant-loop-text g l =
     (l.player.reader.fault ≡ None) × (l.player.decoder.accepted ≡ l.fn.player.decoder.accepted)
     × JudgedSo l.places.place l.fn.player.decoder.accepted l.fn.player.reader.place
     (passage g.R.ByteIn.remaining g.R.ByteIn.failures l.initial.input l.input)
-    (passage g.W.ByteOut.contents g.W.ByteOut.failures l.initial.output l.output) l.counts l.player.reader.place
+    (passage g.W.ByteOut.contents g.W.ByteOut.failures l.initial.output l.output) l.counts
+    l.player.reader.place
     × (container_of l.player.reader.place ≡ container_of l.fn.player.reader.place)
-    × StaysReached l.fn.player.reader l.player.reader (passage g.R.ByteIn.remaining g.R.ByteIn.failures l.initial.input l.input)
+    × StaysReached l.fn.player.reader l.player.reader
+    (passage g.R.ByteIn.remaining g.R.ByteIn.failures l.initial.input l.input)
 
 abbrev pub decreases-loop-text : goal.decreases-loop-text
 decreases-loop-text g l = amount l.player.reader.place

@@ -1,3 +1,4 @@
+-- The lines before those of the pictures, in place of what the text has.
 use Rattle.std.proofs.Common.{refl}
 use Rattle.ffv1_engine.specs.Md5Text.{md5_head}
 use Rattle.ffv1_engine.proofs.md5_lines.put_head.Goals as goal

@@ -6,4 +6,5 @@ use Rattle.ffv1_engine.proofs.picture_md5.add_four.Given as goal
 
 abbrev pub invariant-loop-at : goal.invariant-loop-at
 invariant-loop-at l =
-    (m : List ℕ) → IsOf l.initial.hashed m → IsOf l.hashed (m ++ flat_map (pixel (l.red ∷ l.green ∷ l.blue ∷ l.extra ∷ [])) (range_with_len 0 l.at))
+    (m : List ℕ) → IsOf l.initial.hashed m → IsOf l.hashed
+    (m ++ flat_map (pixel (l.red ∷ l.green ∷ l.blue ∷ l.extra ∷ [])) (range_with_len 0 l.at))

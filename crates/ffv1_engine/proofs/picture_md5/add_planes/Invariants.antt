@@ -6,4 +6,5 @@ use Rattle.ffv1_engine.proofs.picture_md5.add_planes.Given as goal
 
 abbrev pub invariant-loop-plane : goal.invariant-loop-plane
 invariant-loop-plane g l =
-    (m : List ℕ) → IsOf l.initial.hashed m → IsOf l.hashed (m ++ concat (planes_of (take l.plane-index l.planes)))
+    (m : List ℕ) → IsOf l.initial.hashed m → IsOf l.hashed
+    (m ++ concat (planes_of (take l.plane-index l.planes)))

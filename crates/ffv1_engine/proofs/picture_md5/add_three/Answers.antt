@@ -1,3 +1,4 @@
+-- A sample of each of three planes after them, place after place.
 use Rattle.std.proofs.Common.{refl, [], ◌∷◌, ◌++◌}
 use Rattle.std.specs.List.{flat_map, range_with_len}
 use Rattle.ffv1_engine.specs.RawPicture.{pixel}
@@ -7,4 +8,6 @@ use Rattle.ffv1_engine.proofs.picture_md5.add_three.Goals as goal
 pub loop-at-preserved : goal.loop-at-preserved
 loop-at-preserved c = λ m is.
     let planes = c.args.red.now ∷ c.args.green.now ∷ c.args.blue.now ∷ [] in
-    pixels_more c.add.new.hashed planes m _ c.loop-at.at refl (c.add.ensures (m ++ flat_map (pixel planes) (range_with_len 0 c.loop-at.at)) (c.loop-at.invariant m is))
+    pixels_more c.add.new.hashed planes m _ c.loop-at.at refl
+    (c.add.ensures (m ++ flat_map (pixel planes) (range_with_len 0 c.loop-at.at))
+    (c.loop-at.invariant m is))

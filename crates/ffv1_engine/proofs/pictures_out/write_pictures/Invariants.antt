@@ -12,10 +12,13 @@ abbrev pub invariant-loop-kept : goal.invariant-loop-kept
 invariant-loop-kept g l =
     (l.player.reader.fault ≡ None) × (l.player.decoder.accepted ≡ l.fn.player.decoder.accepted)
     × IsKeptFor l.fn.player.decoder.accepted l.kept
-    × ((said : Said) → head_saying l.text.head said ≡ video_of (stream_of l.fn.player.reader l.fn.player.decoder.accepted) said)
-    × UnpackedSo (stream_of l.fn.player.reader l.fn.player.decoder.accepted) l.text.head l.fn.player.reader.place
+    × ((said : Said) → head_saying l.text.head said ≡ video_of
+    (stream_of l.fn.player.reader l.fn.player.decoder.accepted) said)
+    × UnpackedSo (stream_of l.fn.player.reader l.fn.player.decoder.accepted) l.text.head
+    l.fn.player.reader.place
     (passage g.R.ByteIn.remaining g.R.ByteIn.failures l.initial.input l.input)
-    (passage g.W.ByteOut.contents g.W.ByteOut.failures l.initial.output l.output) l.text.begun l.count l.player.reader.place
+    (passage g.W.ByteOut.contents g.W.ByteOut.failures l.initial.output l.output) l.text.begun
+    l.count l.player.reader.place
     × (container_of l.player.reader.place ≡ container_of l.fn.player.reader.place)
 
 abbrev pub decreases-loop-kept : goal.decreases-loop-kept

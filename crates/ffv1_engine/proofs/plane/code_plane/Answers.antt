@@ -1,3 +1,6 @@
+-- Codes a mono plane of `width` times `height` samples of 8 bits, row by row, as the content of one
+-- slice: with the standard's state transition table, the small quantisation table set and fresh
+-- states, without keyframe and head, ended by the sentinel (RFC 9043, 3.8.1 and 4.7).
 use Rattle.std.proofs.Common.{arith}
 use Rattle.std.proofs.lemmas.Grind.{common_steps}
 use Rattle.ffv1_engine.proofs.plane.code_plane.Goals as goal

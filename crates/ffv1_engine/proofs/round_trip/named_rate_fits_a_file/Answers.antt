@@ -1,3 +1,5 @@
+-- The rate and the scale that a command line names are such as a file has: `words` makes no choice
+-- for which `packed_is_unpacked` would not speak of PPM.
 use Rattle.std.proofs.Common.{◌≡◌, ◌∙◌, sym, arith, false}
 use Rattle.std.specs.Prelude.{◌==◌}
 use Rattle.std.proofs.lemmas.Bool.{ne_eqb}

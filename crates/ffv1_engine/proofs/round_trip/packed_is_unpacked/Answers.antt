@@ -1,3 +1,4 @@
+-- A text that `pack` has packed, no frame of it longer than 67108864 bytes, is unpacked again.
 use Rattle.std.proofs.Common.{arith, refl}
 use Rattle.ffv1_engine.specs.Grids.{choice_for}
 use Rattle.ffv1_engine.specs.Profiles.{greatest_depth}
@@ -9,8 +10,13 @@ use Rattle.ffv1_matroska.specs.MatroskaFiles.{MatroskaFile}
 use Rattle.ffv1_engine.specs.MatroskaRoundTrip.{matroska_file}
 use Rattle.ffv1_engine.specs.Packing.{packed_file}
 use Rattle.ffv1_engine.specs.RoundTrip.{IsFileIn}
-use Rattle.ffv1_engine.proofs.MatroskaUnpacked.{MatroskaLaws, accepted_wide, begun_read, file_is, file_reads, given as of_matroska, packed_so as matroska_so, read_wide, writable}
-use Rattle.ffv1_engine.proofs.PackedIsUnpacked.{FileLaws, accepted_in, avi_is, avi_reads, check_refused, given, holds, lined_by, packed_so, ppm_by, read_in, same_by, same_ppm, same_video, show_refused, unpack_refused, written}
+use Rattle.ffv1_engine.proofs.MatroskaUnpacked.{MatroskaLaws, accepted_wide, begun_read, file_is}
+use Rattle.ffv1_engine.proofs.MatroskaUnpacked.{file_reads, given as of_matroska}
+use Rattle.ffv1_engine.proofs.MatroskaUnpacked.{packed_so as matroska_so, read_wide, writable}
+use Rattle.ffv1_engine.proofs.PackedIsUnpacked.{FileLaws, accepted_in, avi_is, avi_reads}
+use Rattle.ffv1_engine.proofs.PackedIsUnpacked.{check_refused, given, holds, lined_by, packed_so}
+use Rattle.ffv1_engine.proofs.PackedIsUnpacked.{ppm_by, read_in, same_by, same_ppm, same_video}
+use Rattle.ffv1_engine.proofs.PackedIsUnpacked.{show_refused, unpack_refused, written}
 use Rattle.ffv1_engine.proofs.PackedText.{RecordLaws}
 use Rattle.ffv1_engine.proofs.round_trip.packed_is_unpacked.Goals as goal
 
@@ -42,9 +48,12 @@ frame_laws c = record {
   one = c.payload_codes_one_picture.ensures;
   decoded = c.coded_picture_is_decoded.ensures;
   apart = c.decoding_has_one_end.ensures.apart;
-  cut = c.cutting_is_found_from_the_end.ensures.only;
+  cut = c.payload_is_cut_in_one_way.ensures.only;
+  one_cut = c.payload_is_cut_in_one_way.ensures.one;
+  uncut = c.payload_is_cut_in_one_way.ensures.refused;
   long = c.frame_length_follows_from_residuals.ensures.long;
-  columns = λ a is. (c.accepted_configuration_is_in_range.ensures.columns a.configuration a.table is).0;
+  columns = λ a is. (c.accepted_configuration_is_in_range.ensures.columns a.configuration a.table
+      is).0;
   rows = λ a is. (c.accepted_configuration_is_in_range.ensures.rows a.configuration a.table is).0;
   sentinel = c.sentinel_ending_codes_its_list.ensures.bytes;
   counts = c.each_step_is_one_or_zero.ensures.steps;
@@ -56,8 +65,24 @@ record_laws c = record {
   one = c.record_has_one_configuration.ensures.one;
   table = c.record_has_one_configuration.ensures.table;
   none = c.bytes_are_refused_for_one_reason.ensures.none;
-  symbols = record { none = c.symbol_length_follows_from_exponent.ensures.zero; some = c.symbol_length_follows_from_exponent.ensures.unsigned; least = c.exponent_is_the_highest_bit.ensures.least; same = c.symbol_length_follows_from_exponent.ensures.shifted };
-  numbers = record { depth = c.accepted_configuration_is_in_range.ensures.depth; factors = c.accepted_configuration_is_in_range.ensures.factors; columns = c.accepted_configuration_is_in_range.ensures.columns; rows = c.accepted_configuration_is_in_range.ensures.rows };
+  symbols = record {
+    none = c.symbol_length_follows_from_exponent.ensures.zero;
+    some =
+        c.symbol_length_follows_from_exponent.ensures.unsigned;
+    least =
+        c.exponent_is_the_highest_bit.ensures.least;
+    same =
+        c.symbol_length_follows_from_exponent.ensures.shifted;
+  };
+  numbers = record {
+    depth = c.accepted_configuration_is_in_range.ensures.depth;
+    factors =
+        c.accepted_configuration_is_in_range.ensures.factors;
+    columns =
+        c.accepted_configuration_is_in_range.ensures.columns;
+    rows =
+        c.accepted_configuration_is_in_range.ensures.rows;
+  };
 }
 
 matroska_laws : goal.After-written_bytes_are_a_record → MatroskaLaws
@@ -74,28 +99,44 @@ returns-clause-read c = read_in
 
 pub returns-clause-holds : goal.returns-clause-holds
 returns-clause-holds c = λ packing profile choice text w read.
-    holds profile (file_laws profile c) (frame_laws c) (record_laws c) choice text w.packs.video (accepted_in profile w) refl read (given packing profile choice text w) (packed_file choice w.packs.video (accepted_in profile w))
-    (avi_reads packing profile (file_laws profile c) (frame_laws c) (record_laws c) choice text w read) (IsFileIn profile) (avi_is packing profile (file_laws profile c) (frame_laws c) (record_laws c) choice text w read)
+    holds profile (file_laws profile c) (frame_laws c) (record_laws c) choice text w.packs.video
+    (accepted_in profile w) refl read (given packing profile choice text w)
+    (packed_file choice w.packs.video (accepted_in profile w))
+    (avi_reads packing profile (file_laws profile c) (frame_laws c) (record_laws c) choice text w
+    read) (IsFileIn profile) (avi_is packing profile (file_laws profile c) (frame_laws c)
+    (record_laws c) choice text w read)
 
 pub returns-clause-written : goal.returns-clause-written
 returns-clause-written c = λ packing profile choice text w input output count read.
-    written profile (file_laws profile c) (frame_laws c) (record_laws c) choice text w.packs.video (accepted_in profile w) refl read (given packing profile choice text w) (packed_file choice w.packs.video (accepted_in profile w))
-    (avi_reads packing profile (file_laws profile c) (frame_laws c) (record_laws c) choice text w read) input output count
+    written profile (file_laws profile c) (frame_laws c) (record_laws c) choice text w.packs.video
+    (accepted_in profile w) refl read (given packing profile choice text w)
+    (packed_file choice w.packs.video (accepted_in profile w))
+    (avi_reads packing profile (file_laws profile c) (frame_laws c) (record_laws c) choice text w
+    read) input output count
 
 pub returns-clause-refused : goal.returns-clause-refused
 returns-clause-refused c = λ packing profile choice text w input output f read known stops.
-    unpack_refused profile (file_laws profile c) (frame_laws c) (record_laws c) choice text w.packs.video (accepted_in profile w) refl read (given packing profile choice text w) (packed_file choice w.packs.video (accepted_in profile w))
-    (avi_reads packing profile (file_laws profile c) (frame_laws c) (record_laws c) choice text w read) input output known f stops
+    unpack_refused profile (file_laws profile c) (frame_laws c) (record_laws c) choice text
+    w.packs.video (accepted_in profile w) refl read (given packing profile choice text w)
+    (packed_file choice w.packs.video (accepted_in profile w))
+    (avi_reads packing profile (file_laws profile c) (frame_laws c) (record_laws c) choice text w
+    read) input output known f stops
 
 pub returns-clause-checked : goal.returns-clause-checked
 returns-clause-checked c = λ packing profile choice text w place input output f read known stops.
-    check_refused profile (file_laws profile c) (frame_laws c) (record_laws c) choice text w.packs.video (accepted_in profile w) refl read (given packing profile choice text w) (packed_file choice w.packs.video (accepted_in profile w))
-    (avi_reads packing profile (file_laws profile c) (frame_laws c) (record_laws c) choice text w read) input output known place f stops
+    check_refused profile (file_laws profile c) (frame_laws c) (record_laws c) choice text
+    w.packs.video (accepted_in profile w) refl read (given packing profile choice text w)
+    (packed_file choice w.packs.video (accepted_in profile w))
+    (avi_reads packing profile (file_laws profile c) (frame_laws c) (record_laws c) choice text w
+    read) input output known place f stops
 
 pub returns-clause-shown : goal.returns-clause-shown
 returns-clause-shown c = λ packing profile choice text w cost input output f read known stops.
-    show_refused profile (file_laws profile c) (frame_laws c) (record_laws c) choice text w.packs.video (accepted_in profile w) refl read (given packing profile choice text w) (packed_file choice w.packs.video (accepted_in profile w))
-    (avi_reads packing profile (file_laws profile c) (frame_laws c) (record_laws c) choice text w read) input output known cost f stops
+    show_refused profile (file_laws profile c) (frame_laws c) (record_laws c) choice text
+    w.packs.video (accepted_in profile w) refl read (given packing profile choice text w)
+    (packed_file choice w.packs.video (accepted_in profile w))
+    (avi_reads packing profile (file_laws profile c) (frame_laws c) (record_laws c) choice text w
+    read) input output known cost f stops
 
 pub returns-clause-same : goal.returns-clause-same
 returns-clause-same c = same_video (file_laws Strict c)
@@ -104,47 +145,69 @@ pub returns-clause-packed : goal.returns-clause-packed
 returns-clause-packed c = packed_so
 
 pub returns-clause-strict : goal.returns-clause-strict
-returns-clause-strict c = λ choice text w. lined_by c.text_is_read_as_its_images.ensures.lined 8 w.packs.video.ppm text w.packs.video.head w.packs.video.pictures (omega arith) (packed_so Strict choice text w)
+returns-clause-strict c = λ choice text w. lined_by c.text_is_read_as_its_images.ensures.lined 8
+    w.packs.video.ppm text w.packs.video.head w.packs.video.pictures (omega arith)
+    (packed_so Strict choice text w)
 
 pub returns-clause-ppm : goal.returns-clause-ppm
 returns-clause-ppm c = same_ppm
 
 pub returns-clause-matroska_holds : goal.returns-clause-matroska_holds
 returns-clause-matroska_holds c = λ packing choice text w.
-    holds Wide (file_laws Wide c) (frame_laws c) (record_laws c) (choice_for choice w.packs.video.head) text w.packs.video (accepted_wide w) refl (read_wide packing choice text w) (of_matroska packing choice text w) (matroska_file w)
-    (file_reads packing (frame_laws c) (record_laws c) (matroska_laws c) choice text w) MatroskaFile (file_is packing (frame_laws c) (record_laws c) (matroska_laws c) choice text w)
+    holds Wide (file_laws Wide c) (frame_laws c) (record_laws c)
+    (choice_for choice w.packs.video.head) text w.packs.video (accepted_wide w) refl
+    (read_wide packing choice text w) (of_matroska packing choice text w) (matroska_file w)
+    (file_reads packing (frame_laws c) (record_laws c) (matroska_laws c) choice text w) MatroskaFile
+    (file_is packing (frame_laws c) (record_laws c) (matroska_laws c) choice text w)
 
 pub returns-clause-matroska_written : goal.returns-clause-matroska_written
 returns-clause-matroska_written c = λ packing choice text w.
-    written Wide (file_laws Wide c) (frame_laws c) (record_laws c) (choice_for choice w.packs.video.head) text w.packs.video (accepted_wide w) refl (read_wide packing choice text w) (of_matroska packing choice text w) (matroska_file w)
+    written Wide (file_laws Wide c) (frame_laws c) (record_laws c)
+    (choice_for choice w.packs.video.head) text w.packs.video (accepted_wide w) refl
+    (read_wide packing choice text w) (of_matroska packing choice text w) (matroska_file w)
     (file_reads packing (frame_laws c) (record_laws c) (matroska_laws c) choice text w)
 
 pub returns-clause-matroska_refused : goal.returns-clause-matroska_refused
 returns-clause-matroska_refused c = λ packing choice text w input output f known stops.
-    unpack_refused Wide (file_laws Wide c) (frame_laws c) (record_laws c) (choice_for choice w.packs.video.head) text w.packs.video (accepted_wide w) refl (read_wide packing choice text w) (of_matroska packing choice text w) (matroska_file w)
-    (file_reads packing (frame_laws c) (record_laws c) (matroska_laws c) choice text w) input output known f stops
+    unpack_refused Wide (file_laws Wide c) (frame_laws c) (record_laws c)
+    (choice_for choice w.packs.video.head) text w.packs.video (accepted_wide w) refl
+    (read_wide packing choice text w) (of_matroska packing choice text w) (matroska_file w)
+    (file_reads packing (frame_laws c) (record_laws c) (matroska_laws c) choice text w) input output
+    known f stops
 
 pub returns-clause-matroska_checked : goal.returns-clause-matroska_checked
 returns-clause-matroska_checked c = λ packing choice text w place input output f known stops.
-    check_refused Wide (file_laws Wide c) (frame_laws c) (record_laws c) (choice_for choice w.packs.video.head) text w.packs.video (accepted_wide w) refl (read_wide packing choice text w) (of_matroska packing choice text w) (matroska_file w)
-    (file_reads packing (frame_laws c) (record_laws c) (matroska_laws c) choice text w) input output known place f stops
+    check_refused Wide (file_laws Wide c) (frame_laws c) (record_laws c)
+    (choice_for choice w.packs.video.head) text w.packs.video (accepted_wide w) refl
+    (read_wide packing choice text w) (of_matroska packing choice text w) (matroska_file w)
+    (file_reads packing (frame_laws c) (record_laws c) (matroska_laws c) choice text w) input output
+    known place f stops
 
 pub returns-clause-matroska_shown : goal.returns-clause-matroska_shown
 returns-clause-matroska_shown c = λ packing choice text w cost input output f known stops.
-    show_refused Wide (file_laws Wide c) (frame_laws c) (record_laws c) (choice_for choice w.packs.video.head) text w.packs.video (accepted_wide w) refl (read_wide packing choice text w) (of_matroska packing choice text w) (matroska_file w)
-    (file_reads packing (frame_laws c) (record_laws c) (matroska_laws c) choice text w) input output known cost f stops
+    show_refused Wide (file_laws Wide c) (frame_laws c) (record_laws c)
+    (choice_for choice w.packs.video.head) text w.packs.video (accepted_wide w) refl
+    (read_wide packing choice text w) (of_matroska packing choice text w) (matroska_file w)
+    (file_reads packing (frame_laws c) (record_laws c) (matroska_laws c) choice text w) input output
+    known cost f stops
 
 pub returns-clause-matroska_same : goal.returns-clause-matroska_same
-returns-clause-matroska_same c = λ packing choice text w. same_by (file_laws Wide c) (greatest_depth packing) w.packs.video.ppm text w.packs.video.head w.packs.video.pictures (matroska_so packing choice text w)
+returns-clause-matroska_same c = λ packing choice text w. same_by (file_laws Wide c)
+    (greatest_depth packing) w.packs.video.ppm text w.packs.video.head w.packs.video.pictures
+    (matroska_so packing choice text w)
 
 pub returns-clause-matroska_packed : goal.returns-clause-matroska_packed
 returns-clause-matroska_packed c = matroska_so
 
 pub returns-clause-matroska_strict : goal.returns-clause-matroska_strict
-returns-clause-matroska_strict c = λ choice text w. lined_by c.text_is_read_as_its_images.ensures.lined 8 w.packs.video.ppm text w.packs.video.head w.packs.video.pictures (omega arith) (matroska_so Strict choice text w)
+returns-clause-matroska_strict c = λ choice text w. lined_by
+    c.text_is_read_as_its_images.ensures.lined 8 w.packs.video.ppm text w.packs.video.head
+    w.packs.video.pictures (omega arith) (matroska_so Strict choice text w)
 
 pub returns-clause-matroska_ppm : goal.returns-clause-matroska_ppm
-returns-clause-matroska_ppm c = λ packing choice text w is. ppm_by w.packs.video.ppm text w.packs.video.head w.packs.video.pictures is
+returns-clause-matroska_ppm c = λ packing choice text w is. ppm_by w.packs.video.ppm text
+    w.packs.video.head w.packs.video.pictures is
 
 pub returns-clause-begun : goal.returns-clause-begun
-returns-clause-begun c = λ choice v a has some rated. begun_read (matroska_laws c) choice v a some (writable (frame_laws c) (record_laws c) choice v a has some rated)
+returns-clause-begun c = λ choice v a has some rated. begun_read (matroska_laws c) choice v a some
+    (writable (frame_laws c) (record_laws c) choice v a has some rated)

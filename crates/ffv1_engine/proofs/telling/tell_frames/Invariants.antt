@@ -9,11 +9,14 @@ use Rattle.ffv1_engine.proofs.telling.tell_frames.Given as goal
 abbrev pub invariant-loop-text : goal.invariant-loop-text
 invariant-loop-text g l =
     (l.player.reader.fault ≡ None) × (l.player.decoder.accepted ≡ l.fn.player.decoder.accepted)
-    × PlayedSo l.fn.player.decoder.accepted (frame_lines l.telling.kind l.fn.player.decoder.accepted.configuration) l.fn.player.reader.place
+    × PlayedSo l.fn.player.decoder.accepted (frame_lines l.telling.kind
+    l.fn.player.decoder.accepted.configuration) l.fn.player.reader.place
     (passage g.R.ByteIn.remaining g.R.ByteIn.failures l.initial.input l.input)
-    (passage g.W.ByteOut.contents g.W.ByteOut.failures l.initial.output l.output) l.count l.player.reader.place
+    (passage g.W.ByteOut.contents g.W.ByteOut.failures l.initial.output l.output) l.count
+    l.player.reader.place
     × (container_of l.player.reader.place ≡ container_of l.fn.player.reader.place)
-    × StaysReached l.fn.player.reader l.player.reader (passage g.R.ByteIn.remaining g.R.ByteIn.failures l.initial.input l.input)
+    × StaysReached l.fn.player.reader l.player.reader
+    (passage g.R.ByteIn.remaining g.R.ByteIn.failures l.initial.input l.input)
 
 abbrev pub decreases-loop-text : goal.decreases-loop-text
 decreases-loop-text g l = amount l.player.reader.place

@@ -1,3 +1,4 @@
+-- Writes the line of the place where a frame is refused, where it is asked for.
 use Rattle.ffv1_wire.specs.Passage.{passage}
 use Rattle.ffv1_codec.specs.Answer.{decided_by}
 use Rattle.ffv1_engine.specs.FrameLines.{place_line}
@@ -8,4 +9,6 @@ pub returns : goal.returns
 returns g c =
     rw c.if-not-place.false
     (line_written (place_line c.args.number c.args.fault (decided_by c.args.decoder.now.tally))
-    (passage g.W.ByteOut.contents g.W.ByteOut.failures c.args.output.now c.write_place-told.new.output) c.write_place-told.result (rw c.decisions.ensures at c.write_place-told.ensures))
+    (passage g.W.ByteOut.contents g.W.ByteOut.failures c.args.output.now
+    c.write_place-told.new.output) c.write_place-told.result
+    (rw c.decisions.ensures at c.write_place-told.ensures))

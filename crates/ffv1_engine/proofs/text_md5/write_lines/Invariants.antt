@@ -9,8 +9,10 @@ use Rattle.ffv1_engine.proofs.text_md5.write_lines.Given as goal
 abbrev pub invariant-loop-text : goal.invariant-loop-text
 invariant-loop-text g l =
     (pictures : List Planes)
-    × ReadSo (passage g.R.ByteIn.remaining g.R.ByteIn.failures l.initial.input l.input) (reading_of l.initial.reader) (reading_of l.reader) pictures
-    × LinedSo (reading_of l.initial.reader) (passage g.W.ByteOut.contents g.W.ByteOut.failures l.initial.output l.output) pictures l.count
+    × ReadSo (passage g.R.ByteIn.remaining g.R.ByteIn.failures l.initial.input l.input)
+    (reading_of l.initial.reader) (reading_of l.reader) pictures
+    × LinedSo (reading_of l.initial.reader) (passage g.W.ByteOut.contents g.W.ByteOut.failures
+    l.initial.output l.output) pictures l.count
 
 abbrev pub decreases-loop-text : goal.decreases-loop-text
 decreases-loop-text g l = 2 ^ 64 - l.count

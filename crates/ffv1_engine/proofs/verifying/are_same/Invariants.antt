@@ -3,4 +3,5 @@ use Rattle.ffv1_codec.specs.Picture.{planes_of}
 use Rattle.ffv1_engine.proofs.verifying.are_same.Given as goal
 
 abbrev pub invariant-loop-plane : goal.invariant-loop-plane
-invariant-loop-plane g l = IsTrue l.same ↔ (take l.plane (planes_of l.planes) ≡ take l.plane (planes_of l.others))
+invariant-loop-plane g l = IsTrue l.same ↔ (take l.plane (planes_of l.planes) ≡ take l.plane
+    (planes_of l.others))

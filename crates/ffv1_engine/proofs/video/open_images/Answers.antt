@@ -1,3 +1,5 @@
+-- Reads the header of the first image of a PPM, of a depth that the profile reads: three lines, or
+-- at `Wide` as Netpbm writes it.
 use Rattle.ffv1_engine.proofs.video.open_images.Goals as goal
 
 pub returns-in-Strict-clause-answer : goal.returns-in-Strict-clause-answer

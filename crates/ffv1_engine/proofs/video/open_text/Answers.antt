@@ -1,3 +1,4 @@
+-- Reads the header of a YUV4MPEG2, of a depth that the profile reads.
 use Rattle.ffv1_engine.proofs.video.open_text.Goals as goal
 
 pub returns-in-Strict-clause-answer : goal.returns-in-Strict-clause-answer

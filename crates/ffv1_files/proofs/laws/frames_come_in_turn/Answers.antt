@@ -1,3 +1,4 @@
+-- The frames are the next one and those after it.
 use Rattle.ffv1_files.proofs.FileLaws.{in_turn}
 use Rattle.ffv1_files.proofs.laws.frames_come_in_turn.Goals as goal
 

@@ -1,3 +1,5 @@
+-- A row of a cell of 8 or 9 bits, by an encoder that has not failed, by a body of its own for each
+-- depth and each kind of set.
 use Rattle.std.proofs.Common.{◌≡◌, ◌∙◌, length, arith}
 use Rattle.ffv1_range.proofs.Growth.{on_err}
 use Rattle.ffv1_line.proofs.Rows.{written_none}
@@ -15,7 +17,8 @@ parts-init g c = record {
 
 pub encode_block-requires-clause-part : goal.encode_block-requires-clause-part
 encode_block-requires-clause-part g c =
-    let one_long : length c.above.inside.one.now ≡ length c.args.cur.now = rw (← c.above.view_is) at c.requires.one_long in
+    let one_long : length c.above.inside.one.now ≡ length c.args.cur.now = rw (← c.above.view_is) at
+    c.requires.one_long in
     record {
       bits = c.requires.depth;
       three_tables = rw (← c.coding.view_is) at c.requires.three_tables;
@@ -28,27 +31,35 @@ encode_block-requires-clause-part g c =
 
 pub parts-preserved : goal.parts-preserved
 parts-preserved g c =
-    let one_long : length c.above.inside.one.now ≡ length c.args.cur.now = rw (← c.above.view_is) at c.requires.one_long in
+    let one_long : length c.above.inside.one.now ≡ length c.args.cur.now = rw (← c.above.view_is) at
+    c.requires.one_long in
     record {
       held = c.encode_block.ensures.held;
       rows = omega (arith, c.parts.invariant.rows);
       within = omega (arith, c.min-count.ensures);
       sound = c.in_ok-encode_block.ensures.ok.failed ∙ c.parts.invariant.sound;
-      written = written_block _ _ _ _ _ _ c.parts.from c.min-count.result (omega (arith, c.min-count.ensures, one_long)) c.parts.invariant.written c.in_ok-encode_block.ensures.ok;
+      written = written_block _ _ _ _ _ _ c.parts.from c.min-count.result
+          (omega (arith, c.min-count.ensures, one_long)) c.parts.invariant.written
+          c.in_ok-encode_block.ensures.ok;
     }
 
 pub returns-in_err-encode_block-clause-refused : goal.returns-in_err-encode_block-clause-refused
 returns-in_err-encode_block-clause-refused g c =
-    let one_long : length c.above.inside.one.now ≡ length c.args.cur.now = rw (← c.above.view_is) at c.requires.one_long in
+    let one_long : length c.above.inside.one.now ≡ length c.args.cur.now = rw (← c.above.view_is) at
+    c.requires.one_long in
     let bits : c.coding.inside.bits ≡ g.row.BITS = rw (← c.coding.view_is) at c.requires.bits in
     rw (← c.coding.view_is, ← c.above.view_is, bits)
-    (on_err c.from_residual.result (refused_block _ _ _ _ _ c.parts.from c.min-count.result (omega (arith, c.min-count.ensures)) one_long c.parts.invariant.written c.in_err-encode_block.ensures.refused))
+    (on_err c.from_residual.result (refused_block _ _ _ _ _ c.parts.from c.min-count.result
+    (omega (arith, c.min-count.ensures)) one_long c.parts.invariant.written
+    c.in_err-encode_block.ensures.refused))
 
 pub returns-in_err-encode_block-clause-kept : goal.returns-in_err-encode_block-clause-kept
 returns-in_err-encode_block-clause-kept g c =
-    let one_long : length c.above.inside.one.now ≡ length c.args.cur.now = rw (← c.above.view_is) at c.requires.one_long in
+    let one_long : length c.above.inside.one.now ≡ length c.args.cur.now = rw (← c.above.view_is) at
+    c.requires.one_long in
     let bits : c.coding.inside.bits ≡ g.row.BITS = rw (← c.coding.view_is) at c.requires.bits in
     let kept = c.in_err-encode_block.ensures.kept in
     let few = kept.few (omega (arith, c.min-count.ensures)) in
     rw (← c.coding.view_is, ← c.above.view_is, bits)
-    (on_err c.from_residual.result (counts_block _ _ _ _ _ _ c.parts.from kept.first (omega (arith, few, c.min-count.ensures)) one_long c.parts.invariant.written kept.counted))
+    (on_err c.from_residual.result (counts_block _ _ _ _ _ _ c.parts.from kept.first
+    (omega (arith, few, c.min-count.ensures)) one_long c.parts.invariant.written kept.counted))

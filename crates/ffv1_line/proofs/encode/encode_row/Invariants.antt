@@ -13,7 +13,9 @@ invariant-parts g l = record {
   rows : length l.states ≡ contexts_of l.set.now * 32;
   within : l.from ≤ length l.cur;
   sound : l.encoder.failed ≡ false;
-  written : Written (coding_by l.table.now l.set.now g.row.BITS) (encoder_by l.fn.encoder l.fn.states) (encoder_by l.encoder l.states) (rows_above l.two.now l.one.now) l.cur l.from;
+  written : Written (coding_by l.table.now l.set.now g.row.BITS)
+      (encoder_by l.fn.encoder l.fn.states) (encoder_by l.encoder l.states)
+      (rows_above l.two.now l.one.now) l.cur l.from;
 }
 
 abbrev pub decreases-parts : goal.decreases-parts

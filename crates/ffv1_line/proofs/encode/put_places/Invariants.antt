@@ -10,5 +10,7 @@ invariant-loop-k g l = record {
   held : AllHeld l.table l.states;
   rows : length l.states ≡ contexts_of l.part.set.now * 32;
   sound : l.encoder.failed ≡ false;
-  puts : Puts l.table l.fn.encoder l.fn.states l.encoder l.states (places_steps l.part.set.now l.part.bits l.part.two.now l.part.one.now l.part.cur.now l.part.from l.k);
+  puts : Puts l.table l.fn.encoder l.fn.states l.encoder l.states
+      (places_steps l.part.set.now l.part.bits l.part.two.now l.part.one.now l.part.cur.now
+      l.part.from l.k);
 }

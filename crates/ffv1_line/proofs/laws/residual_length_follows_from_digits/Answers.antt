@@ -1,4 +1,8 @@
-use Rattle.ffv1_line.proofs.Lengths.{symbol_length, symbol_most, row_length, cell_length, cell_most, cell_below, chosen_rows_small, chosen_rows_many}
+-- A residual of n binary digits takes 2 n + 1 decisions, at most 63; a row and a cell take those of
+-- their residuals, at slots of the set's contexts; and each residual that an encoder takes of a
+-- cell has a symbol.
+use Rattle.ffv1_line.proofs.Lengths.{symbol_length, symbol_most, row_length, cell_length, cell_most}
+use Rattle.ffv1_line.proofs.Lengths.{cell_below, chosen_rows_small, chosen_rows_many}
 use Rattle.ffv1_line.proofs.laws.residual_length_follows_from_digits.Goals as goal
 
 pub returns-clause-symbol : goal.returns-clause-symbol
@@ -20,7 +24,8 @@ pub returns-clause-cell_slots : goal.returns-clause-cell_slots
 returns-clause-cell_slots c = λ set cell y rows bound. cell_below set cell y rows bound
 
 pub returns-clause-chosen_small : goal.returns-clause-chosen_small
-returns-clause-chosen_small c = λ set bits cell n some few. chosen_rows_small set bits cell n some few
+returns-clause-chosen_small c = λ set bits cell n some few. chosen_rows_small set bits cell n some
+    few
 
 pub returns-clause-chosen_many : goal.returns-clause-chosen_many
 returns-clause-chosen_many c = λ set bits cell n. chosen_rows_many set bits cell n

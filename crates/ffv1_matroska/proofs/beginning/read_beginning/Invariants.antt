@@ -12,11 +12,17 @@ use Rattle.ffv1_matroska.proofs.beginning.read_beginning.Given as goal
 abbrev pub invariant-loop-element : goal.invariant-loop-element
 invariant-loop-element g l =
     (k : ℕ) × (amount l.here ≤ k)
-    × Goes (begin_read l.fn.place) (g.R.ByteIn.remaining l.initial.input) (g.R.ByteIn.failures l.initial.input)
-    (begin_up_to (suc k) (found_kept l.found l.config.items) l.here) (g.R.ByteIn.remaining l.input) (g.R.ByteIn.failures l.input)
-    × RoomRead (g.R.ByteIn.remaining l.initial.input) (g.R.ByteIn.remaining l.input) (vec_capacity l.initial.config) (vec_capacity l.config)
-    × (n : ℕ) × ReadsWhole spot_taken (InSegment None l.fn.place) (g.R.ByteIn.remaining l.initial.input) (g.R.ByteIn.remaining l.input) (InSegment (found_kept l.found l.config.items) l.here) n
-    × (l.fn.place.cluster + l.fn.place.group ≡ 0 → (l.here.cluster + l.here.group ≡ 0) × (n + amount l.here ≡ amount l.fn.place))
+    × Goes (begin_read l.fn.place) (g.R.ByteIn.remaining l.initial.input)
+    (g.R.ByteIn.failures l.initial.input)
+    (begin_up_to (suc k) (found_kept l.found l.config.items) l.here) (g.R.ByteIn.remaining l.input)
+    (g.R.ByteIn.failures l.input)
+    × RoomRead (g.R.ByteIn.remaining l.initial.input) (g.R.ByteIn.remaining l.input)
+    (vec_capacity l.initial.config) (vec_capacity l.config)
+    × (n : ℕ) × ReadsWhole spot_taken (InSegment None l.fn.place)
+    (g.R.ByteIn.remaining l.initial.input) (g.R.ByteIn.remaining l.input)
+    (InSegment (found_kept l.found l.config.items) l.here) n
+    × (l.fn.place.cluster + l.fn.place.group ≡ 0 → (l.here.cluster + l.here.group ≡ 0) ×
+    (n + amount l.here ≡ amount l.fn.place))
 
 abbrev pub decreases-loop-element : goal.decreases-loop-element
 decreases-loop-element g l = amount l.here

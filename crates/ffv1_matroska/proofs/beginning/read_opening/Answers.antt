@@ -1,3 +1,6 @@
+-- Reads a file, whose first byte may have been read, up to where its frames begin: the size of its
+-- Segment, what its track says, with the record in place of what the vector `config` has, and the
+-- place.
 use Rattle.std.proofs.Common.{ℕ, Option}
 use Rattle.std.proofs.lemmas.Result.{err_from_is_err_and}
 use Rattle.ffv1_reads.specs.First.{bytes_with}
@@ -17,7 +20,9 @@ use Rattle.std.proofs.Common.{◌≡◌, ◌^◌, ◌-◌, ◌∙◌, min, refl}
 use Rattle.ffv1_reads.proofs.OffsetLaws.{reads_none}
 use Rattle.ffv1_matroska.specs.Offsets.{BeforeSegment, InSegment, Start, spot_taken}
 use Rattle.ffv1_matroska.specs.Places.{amount}
-use Rattle.ffv1_matroska.proofs.SpotReadings.{begun_flat, ebml_refused, ebml_whole, first_offset, frames_from, last_offset, opening_from, opening_stops, segment_refused, segment_whole}
+use Rattle.ffv1_matroska.proofs.SpotReadings.{begun_flat, ebml_refused, ebml_whole, first_offset}
+use Rattle.ffv1_matroska.proofs.SpotReadings.{frames_from, last_offset, opening_from, opening_stops}
+use Rattle.ffv1_matroska.proofs.SpotReadings.{segment_refused, segment_whole}
 use Rattle.ffv1_matroska.proofs.beginning.read_opening.Goals as goal
 
 abbrev made : Option ℕ → Track × Place → Opened
@@ -30,57 +35,87 @@ pub returns-in_err-read_ebml-clause-answer : goal.returns-in_err-read_ebml-claus
 unfolding open_read
 returns-in_err-read_ebml-clause-answer g c =
     let p = err_from_is_err_and c.from_residual.result c.from_residual.ensures.1 in
-    let start = goes_none open_read (bytes_with c.args.first (g.R.ByteIn.remaining c.args.input.now)) (g.R.ByteIn.failures c.args.input.now) in
-    rw (p.1, p.2) (faults_refused fault.NoTracks HasEnded ebml_read behind _ _ c.in_err-read_ebml.field-0.0 start c.in_err-read_ebml.ensures.answer)
+    let start = goes_none open_read (bytes_with c.args.first
+    (g.R.ByteIn.remaining c.args.input.now)) (g.R.ByteIn.failures c.args.input.now) in
+    rw (p.1, p.2) (faults_refused fault.NoTracks HasEnded ebml_read behind _ _
+    c.in_err-read_ebml.field-0.0 start c.in_err-read_ebml.ensures.answer)
 
 pub returns-in_err-size-clause-answer : goal.returns-in_err-size-clause-answer
 unfolding open_read
 returns-in_err-size-clause-answer g c =
-    let p = err_from_is_err_and c.from_residual-in_err-size.result c.from_residual-in_err-size.ensures.1 in
-    let start = goes_none open_read (bytes_with c.args.first (g.R.ByteIn.remaining c.args.input.now)) (g.R.ByteIn.failures c.args.input.now) in
+    let p = err_from_is_err_and c.from_residual-in_err-size.result
+    c.from_residual-in_err-size.ensures.1 in
+    let start = goes_none open_read (bytes_with c.args.first
+    (g.R.ByteIn.remaining c.args.input.now)) (g.R.ByteIn.failures c.args.input.now) in
     let next = goes_read ebml_read behind _ _ (tt {0}) start c.in_ok-read_ebml.ensures.answer in
-    rw (p.1, p.2) (faults_refused fault.NoTracks HasEnded segment_entered segment_opened _ _ c.in_err-size.field-0.0 next c.in_err-size.ensures.answer)
+    rw (p.1, p.2) (faults_refused fault.NoTracks HasEnded segment_entered segment_opened _ _
+    c.in_err-size.field-0.0 next c.in_err-size.ensures.answer)
 
 pub returns-in_err-numbers-clause-answer : goal.returns-in_err-numbers-clause-answer
 unfolding open_read
 returns-in_err-numbers-clause-answer g c =
-    let p = err_from_is_err_and c.from_residual-in_err-numbers.result c.from_residual-in_err-numbers.ensures.1 in
-    let start = goes_none open_read (bytes_with c.args.first (g.R.ByteIn.remaining c.args.input.now)) (g.R.ByteIn.failures c.args.input.now) in
+    let p = err_from_is_err_and c.from_residual-in_err-numbers.result
+    c.from_residual-in_err-numbers.ensures.1 in
+    let start = goes_none open_read (bytes_with c.args.first
+    (g.R.ByteIn.remaining c.args.input.now)) (g.R.ByteIn.failures c.args.input.now) in
     let next = goes_read ebml_read behind _ _ (tt {0}) start c.in_ok-read_ebml.ensures.answer in
     let size = c.in_ok-size.size in
-    let entered = goes_read segment_entered segment_opened _ _ size next c.in_ok-size.ensures.answer in
+    let entered = goes_read segment_entered segment_opened _ _ size next
+    c.in_ok-size.ensures.answer in
     let why = rw c.begin_segment-begin.ensures at c.in_err-numbers.ensures.answer in
-    rw (p.1, p.2) (made_refused fault.NoTracks Over HasEnded (begin_read (segment_begun size)) (made size) _ _ c.in_err-numbers.field-0.0 (λ p is. is) entered why)
+    rw (p.1, p.2) (made_refused fault.NoTracks Over HasEnded (begin_read (segment_begun size))
+    (made size) _ _ c.in_err-numbers.field-0.0 (λ p is. is) entered why)
 
 pub returns-clause-answer : goal.returns-clause-answer
 unfolding open_read
 returns-clause-answer g c =
-    let start = goes_none open_read (bytes_with c.args.first (g.R.ByteIn.remaining c.args.input.now)) (g.R.ByteIn.failures c.args.input.now) in
+    let start = goes_none open_read (bytes_with c.args.first
+    (g.R.ByteIn.remaining c.args.input.now)) (g.R.ByteIn.failures c.args.input.now) in
     let next = goes_read ebml_read behind _ _ (tt {0}) start c.in_ok-read_ebml.ensures.answer in
     let size = c.in_ok-size.size in
-    let entered = goes_read segment_entered segment_opened _ _ size next c.in_ok-size.ensures.answer in
+    let entered = goes_read segment_entered segment_opened _ _ size next
+    c.in_ok-size.ensures.answer in
     let read = rw c.begin_segment-begin.ensures at c.in_ok-numbers.ensures.answer in
-    made_read Over HasEnded (begin_read (segment_begun size)) (made size) _ _ (track_kept c.in_ok-numbers.numbers c.read_beginning-read.new.config.items, c.in_ok-numbers.place) (λ p is. is) entered read
+    made_read Over HasEnded (begin_read (segment_begun size)) (made size) _ _ (
+      track_kept c.in_ok-numbers.numbers c.read_beginning-read.new.config.items,
+      c.in_ok-numbers.place,
+    ) (λ p is. is) entered read
 
 pub returns-clause-grown : goal.returns-clause-grown
-returns-clause-grown g c = room_then (room_kept _ c.in_ok-read_ebml.ensures.answer.1) (room_then (room_kept _ c.in_ok-size.ensures.answer.1) c.in_ok-numbers.ensures.grown)
+returns-clause-grown g c = room_then (room_kept _ c.in_ok-read_ebml.ensures.answer.1)
+    (room_then (room_kept _ c.in_ok-size.ensures.answer.1) c.in_ok-numbers.ensures.grown)
 
 pub returns-in_err-read_ebml-clause-from : goal.returns-in_err-read_ebml-clause-from
 returns-in_err-read_ebml-clause-from g c =
     let p = err_from_is_err_and c.from_residual.result c.from_residual.ensures.1 in
     let f = c.in_err-read_ebml.field-0.0 in
-    rw (p.1, p.2) (Start, 0, opening_stops _ f refl (reads_none spot_taken Start _) (ebml_refused _ _ _ _ f c.in_err-read_ebml.ensures.answer), refl)
+    rw (p.1, p.2) (
+      Start,
+      0,
+      opening_stops _ f refl (reads_none spot_taken Start _)
+          (ebml_refused _ _ _ _ f c.in_err-read_ebml.ensures.answer),
+      refl,
+    )
 
 pub returns-in_err-size-clause-from : goal.returns-in_err-size-clause-from
 returns-in_err-size-clause-from g c =
-    let p = err_from_is_err_and c.from_residual-in_err-size.result c.from_residual-in_err-size.ensures.1 in
+    let p = err_from_is_err_and c.from_residual-in_err-size.result
+    c.from_residual-in_err-size.ensures.1 in
     let f = c.in_err-size.field-0.0 in
     let first = c.in_ok-read_ebml.ensures.counted in
-    rw (p.1, p.2) (BeforeSegment, _, opening_stops _ f c.in_ok-read_ebml.ensures.answer.0 (ebml_whole first.1) (segment_refused _ _ _ _ f c.in_err-size.ensures.answer), first.2 ∙ first_offset first.0 (2 ^ 64 - 1))
+    rw (p.1, p.2) (
+      BeforeSegment,
+      _,
+      opening_stops _ f c.in_ok-read_ebml.ensures.answer.0
+          (ebml_whole first.1) (segment_refused _ _ _ _ f c.in_err-size.ensures.answer),
+      first.2 ∙
+          first_offset first.0 (2 ^ 64 - 1),
+    )
 
 pub returns-in_err-numbers-clause-from : goal.returns-in_err-numbers-clause-from
 returns-in_err-numbers-clause-from g c =
-    let p = err_from_is_err_and c.from_residual-in_err-numbers.result c.from_residual-in_err-numbers.ensures.1 in
+    let p = err_from_is_err_and c.from_residual-in_err-numbers.result
+    c.from_residual-in_err-numbers.ensures.1 in
     let size = c.in_ok-size.size in
     let first = c.in_ok-read_ebml.ensures.counted in
     let second = c.in_ok-size.ensures.counted in
@@ -88,8 +123,16 @@ returns-in_err-numbers-clause-from g c =
     let from = rw c.begin_segment-begin.ensures at c.in_err-numbers.ensures.from in
     let same = c.in_ok-size.ensures.answer.0 ∙ c.in_ok-read_ebml.ensures.answer.0 in
     let left = from.3 (begun_flat size) in
-    let passed : c.passed.result ≡ min (amount (segment_begun size) - amount here) (2 ^ 64 - 1) = rw c.begin_segment-begin.ensures at c.passed.ensures in
-    rw (p.1, p.2) (InSegment from.0 here, _, opening_from same (segment_whole size first.1 second.1) from.2, c.saturating_add.ensures ∙ rw (passed, second.2, first.2) (last_offset first.0 second.0 from.1 _ _ (2 ^ 64 - 1) left))
+    let passed : c.passed.result ≡ min (amount (segment_begun size) - amount here) (2 ^ 64 - 1) =
+    rw c.begin_segment-begin.ensures at c.passed.ensures in
+    rw (p.1, p.2) (
+      InSegment from.0 here,
+      _,
+      opening_from same (segment_whole size first.1 second.1)
+          from.2,
+      c.saturating_add.ensures ∙ rw (passed, second.2, first.2)
+          (last_offset first.0 second.0 from.1 _ _ (2 ^ 64 - 1) left),
+    )
 
 pub returns-clause-from : goal.returns-clause-from
 returns-clause-from g c =
@@ -99,5 +142,11 @@ returns-clause-from g c =
     let here = c.read_beginning-read.new.here in
     let from = rw c.begin_segment-begin.ensures at c.in_ok-numbers.ensures.from in
     let left = from.2 (begun_flat size) in
-    let passed : c.passed.result ≡ min (amount (segment_begun size) - amount here) (2 ^ 64 - 1) = rw c.begin_segment-begin.ensures at c.passed.ensures in
-    (_, frames_from 0 0 0 _ _ (segment_whole size first.1 second.1) from.1, c.saturating_add.ensures ∙ rw (passed, second.2, first.2) (last_offset first.0 second.0 from.0 _ _ (2 ^ 64 - 1) left))
+    let passed : c.passed.result ≡ min (amount (segment_begun size) - amount here) (2 ^ 64 - 1) =
+    rw c.begin_segment-begin.ensures at c.passed.ensures in (
+      _,
+      frames_from 0 0 0 _ _ (segment_whole size first.1 second.1) from.1,
+      c.saturating_add.ensures
+          ∙ rw (passed, second.2, first.2) (last_offset first.0 second.0 from.0 _ _ (2 ^ 64 - 1)
+          left),
+    )

@@ -1,3 +1,4 @@
+-- The size of the next frame, and the place after it, but for its sum; None at the end.
 use Rattle.std.proofs.Common.{Some, refl, arith}
 use Rattle.std.proofs.lemmas.Result.{err_from_is_err_and}
 use Rattle.ffv1_reads.proofs.Reading.{goes_none}
@@ -14,22 +15,33 @@ use Rattle.ffv1_matroska.proofs.frames.find_frame.Goals as goal
 
 pub loop-next-init : goal.loop-next-init
 loop-next-init g c =
-    let place = c.args.place in
-    (amount place, omega arith, omega arith, goes_none (frame_found c.args.track place) (g.R.ByteIn.remaining c.args.input.now) (g.R.ByteIn.failures c.args.input.now), 0, reads_none (element_taken c.args.track) place _)
+    let place = c.args.place in (
+      amount place,
+      omega arith,
+      omega arith,
+      goes_none (frame_found c.args.track place)
+          (g.R.ByteIn.remaining c.args.input.now) (g.R.ByteIn.failures c.args.input.now),
+      0,
+      reads_none (element_taken c.args.track) place _,
+    )
 
 pub returns-in_err-next-clause-answer : goal.returns-in_err-next-clause-answer
 unfolding frame_found_up_to
 returns-in_err-next-clause-answer g c =
     let p = err_from_is_err_and c.from_residual.result c.from_residual.ensures.1 in
     let inv = c.loop-next.invariant in
-    rw (p.1, p.2) (none_refused_end (step_read c.args.track c.loop-next.here) (found_or_on (frame_found_up_to inv.0 c.args.track)) _ _ c.in_err-next.field-0.0 (λ text. refl) inv.3 c.in_err-next.ensures.answer)
+    rw (p.1, p.2) (none_refused_end (step_read c.args.track c.loop-next.here)
+    (found_or_on (frame_found_up_to inv.0 c.args.track)) _ _ c.in_err-next.field-0.0
+    (λ text. refl) inv.3 c.in_err-next.ensures.answer)
 
 pub returns-in-Some-frame-clause-answer : goal.returns-in-Some-frame-clause-answer
 unfolding frame_found_up_to
 returns-in-Some-frame-clause-answer g c =
     let inv = c.loop-next.invariant in
     let s = c.in-Some.next in
-    let next = none_read (step_read c.args.track c.loop-next.here) (found_or_on (frame_found_up_to inv.0 c.args.track)) _ _ s inv.3 (rw c.in-Some.is at c.in_ok-next.ensures.answer) in
+    let next = none_read (step_read c.args.track c.loop-next.here)
+    (found_or_on (frame_found_up_to inv.0 c.args.track)) _ _ s inv.3
+    (rw c.in-Some.is at c.in_ok-next.ensures.answer) in
     none_given (Some (c.in-Some-frame.size, s.place)) (rw c.in-Some-frame.is at next)
 
 pub loop-next-preserved : goal.loop-next-preserved
@@ -37,17 +49,29 @@ unfolding frame_found_up_to
 loop-next-preserved g c =
     let inv = c.loop-next.invariant in
     let s = c.in-Some.next in
-    let next = none_read (step_read c.args.track c.loop-next.here) (found_or_on (frame_found_up_to inv.0 c.args.track)) _ _ s inv.3 (rw c.in-Some.is at c.in_ok-next.ensures.answer) in
+    let next = none_read (step_read c.args.track c.loop-next.here)
+    (found_or_on (frame_found_up_to inv.0 c.args.track)) _ _ s inv.3
+    (rw c.in-Some.is at c.in_ok-next.ensures.answer) in
     let less = rw c.in-Some.is at c.in_ok-next.ensures.less in
     let f = fewer inv.0 (amount s.place) (amount c.loop-next.here) inv.1 less in
-    let read = element_read c.args.track c.loop-next.here s _ _ c.in_default-frame.is (some_read (step_read c.args.track c.loop-next.here) _ _ s (rw c.in-Some.is at c.in_ok-next.ensures.answer).1) in
-    (f.0, f.1, omega (arith, less, inv.2), rw f.2 at (rw c.in_default-frame.is at next), _, reads_more _ inv.5 read refl)
+    let read = element_read c.args.track c.loop-next.here s _ _ c.in_default-frame.is
+    (some_read (step_read c.args.track c.loop-next.here) _ _ s
+    (rw c.in-Some.is at c.in_ok-next.ensures.answer).1) in (
+      f.0,
+      f.1,
+      omega (arith, less, inv.2),
+      rw f.2 at (rw c.in_default-frame.is at next),
+      _,
+      reads_more _ inv.5 read refl,
+    )
 
 pub returns-clause-answer : goal.returns-clause-answer
 unfolding frame_found_up_to
 returns-clause-answer g c =
     let inv = c.loop-next.invariant in
-    none_ends (step_read c.args.track c.loop-next.here) (found_or_on (frame_found_up_to inv.0 c.args.track)) _ _ (λ text. refl) inv.3 (rw c.in_default.is at c.in_ok-next.ensures.answer)
+    none_ends (step_read c.args.track c.loop-next.here)
+    (found_or_on (frame_found_up_to inv.0 c.args.track)) _ _ (λ text. refl) inv.3
+    (rw c.in_default.is at c.in_ok-next.ensures.answer)
 
 pub returns-in-Some-frame-clause-less : goal.returns-in-Some-frame-clause-less
 returns-in-Some-frame-clause-less g c =
@@ -59,11 +83,17 @@ pub returns-in_err-next-clause-from : goal.returns-in_err-next-clause-from
 returns-in_err-next-clause-from g c =
     let p = err_from_is_err_and c.from_residual.result c.from_residual.ensures.1 in
     let inv = c.loop-next.invariant in
-    rw (p.1, p.2) (inv.4, stops_after _ c.in_err-next.field-0.0 inv.3.same inv.5 (element_refused c.args.track c.loop-next.here _ _ _ _ c.in_err-next.field-0.0 c.in_err-next.ensures.answer))
+    rw (p.1, p.2) (
+      inv.4,
+      stops_after _ c.in_err-next.field-0.0 inv.3.same inv.5
+          (element_refused c.args.track c.loop-next.here _ _ _ _ c.in_err-next.field-0.0
+          c.in_err-next.ensures.answer),
+    )
 
 pub returns-in-Some-frame-clause-from : goal.returns-in-Some-frame-clause-from
 returns-in-Some-frame-clause-from g c =
     let inv = c.loop-next.invariant in
     let s = c.in-Some.next in
-    let read = some_read (step_read c.args.track c.loop-next.here) _ _ s (rw c.in-Some.is at c.in_ok-next.ensures.answer).1 in
+    let read = some_read (step_read c.args.track c.loop-next.here) _ _ s
+    (rw c.in-Some.is at c.in_ok-next.ensures.answer).1 in
     (_, inv.4, inv.5, rw c.in-Some-frame.is at read)

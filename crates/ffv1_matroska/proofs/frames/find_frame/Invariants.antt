@@ -9,9 +9,12 @@ use Rattle.ffv1_matroska.proofs.frames.find_frame.Given as goal
 abbrev pub invariant-loop-next : goal.invariant-loop-next
 invariant-loop-next g l =
     (k : ℕ) × (amount l.here ≤ k) × (amount l.here ≤ amount l.fn.place)
-    × Goes (frame_found l.track l.fn.place) (g.R.ByteIn.remaining l.initial.input) (g.R.ByteIn.failures l.initial.input)
-    (frame_found_up_to (suc k) l.track l.here) (g.R.ByteIn.remaining l.input) (g.R.ByteIn.failures l.input)
-    × (n : ℕ) × ReadsWhole (element_taken l.track) l.fn.place (g.R.ByteIn.remaining l.initial.input) (g.R.ByteIn.remaining l.input) l.here n
+    × Goes (frame_found l.track l.fn.place) (g.R.ByteIn.remaining l.initial.input)
+    (g.R.ByteIn.failures l.initial.input)
+    (frame_found_up_to (suc k) l.track l.here) (g.R.ByteIn.remaining l.input)
+    (g.R.ByteIn.failures l.input)
+    × (n : ℕ) × ReadsWhole (element_taken l.track) l.fn.place (g.R.ByteIn.remaining l.initial.input)
+    (g.R.ByteIn.remaining l.input) l.here n
 
 abbrev pub decreases-loop-next : goal.decreases-loop-next
 decreases-loop-next g l = amount l.here

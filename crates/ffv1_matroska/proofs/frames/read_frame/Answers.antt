@@ -1,3 +1,4 @@
+-- The next frame in place of what the vector has, and the place after it; None at the end.
 use Rattle.std.proofs.Common.{◌≡◌, ◌∙◌, ℕ, List, Option, Some, true, false, refl, sym, arith}
 use Rattle.std.proofs.lemmas.Grind.{common_steps}
 use Rattle.std.proofs.lemmas.Result.{err_from_is_err_and}
@@ -9,7 +10,8 @@ use Rattle.ffv1_ebml.specs.declared.sum.Sum.{Sum}
 use Rattle.ffv1_matroska.specs.Files.{found_read, frame_found, frame_read}
 use Rattle.ffv1_matroska.specs.Places.{closed, is_sound, summed_at}
 use Rattle.ffv1_matroska.specs.declared.place.Place.{Place}
-use Rattle.ffv1_reads.proofs.EndReadings.{none_ends, none_given, none_read, none_refused, none_refused_end, some_read}
+use Rattle.ffv1_reads.proofs.EndReadings.{none_ends, none_given, none_read, none_refused}
+use Rattle.ffv1_reads.proofs.EndReadings.{none_refused_end, some_read}
 use Rattle.ffv1_matroska.proofs.FoundFrames.{begins_all, leaves_begun}
 use Rattle.ffv1_reads.proofs.OffsetLaws.{reads_more, stops_after}
 use Rattle.ffv1_matroska.proofs.ElementReadings.{frame_differs, frame_refused, frame_whole}
@@ -23,33 +25,44 @@ returns-in_err-size-clause-answer g c =
     let p = err_from_is_err_and c.from_residual.result c.from_residual.ensures.1 in
     let track = c.args.track in
     let place = c.args.place in
-    let start = goes_none (frame_read track place) (g.R.ByteIn.remaining c.args.input.now) (g.R.ByteIn.failures c.args.input.now) in
-    rw (p.1, p.2) (none_refused_end (frame_found track place) found_read _ _ c.in_err-size.field-0.0 (λ text. refl) start c.in_err-size.ensures.answer)
+    let start = goes_none (frame_read track place) (g.R.ByteIn.remaining c.args.input.now)
+    (g.R.ByteIn.failures c.args.input.now) in
+    rw (p.1, p.2) (none_refused_end (frame_found track place) found_read _ _ c.in_err-size.field-0.0
+    (λ text. refl) start c.in_err-size.ensures.answer)
 
 pub returns-in_default-clause-answer : goal.returns-in_default-clause-answer
 returns-in_default-clause-answer g c =
     let track = c.args.track in
     let place = c.args.place in
-    let start = goes_none (frame_read track place) (g.R.ByteIn.remaining c.args.input.now) (g.R.ByteIn.failures c.args.input.now) in
-    none_ends (frame_found track place) found_read _ _ (λ text. refl) start (rw c.in_default.is at c.in_ok-size.ensures.answer)
+    let start = goes_none (frame_read track place) (g.R.ByteIn.remaining c.args.input.now)
+    (g.R.ByteIn.failures c.args.input.now) in
+    none_ends (frame_found track place) found_read _ _ (λ text. refl) start
+    (rw c.in_default.is at c.in_ok-size.ensures.answer)
 
 pub returns-in_err-fill_summed-clause-answer : goal.returns-in_err-fill_summed-clause-answer
 returns-in_err-fill_summed-clause-answer g c =
-    let p = err_from_is_err_and c.from_residual-in_err-fill_summed.result c.from_residual-in_err-fill_summed.ensures.1 in
+    let p = err_from_is_err_and c.from_residual-in_err-fill_summed.result
+    c.from_residual-in_err-fill_summed.ensures.1 in
     let track = c.args.track in
     let place = c.args.place in
     let size = c.in-Some.size in
     let after = c.in-Some.after in
-    let start = goes_none (frame_read track place) (g.R.ByteIn.remaining c.args.input.now) (g.R.ByteIn.failures c.args.input.now) in
-    let found = none_read (frame_found track place) found_read _ _ (size, after) start (rw c.in-Some.is at c.in_ok-size.ensures.answer) in
-    rw (p.1, p.2) (none_refused (kept_summed size after.sum) (behind after) _ _ c.in_err-fill_summed.field-0.0 found c.in_err-fill_summed.ensures.answer)
+    let start = goes_none (frame_read track place) (g.R.ByteIn.remaining c.args.input.now)
+    (g.R.ByteIn.failures c.args.input.now) in
+    let found = none_read (frame_found track place) found_read _ _ (size, after) start
+    (rw c.in-Some.is at c.in_ok-size.ensures.answer) in
+    rw (p.1, p.2) (none_refused (kept_summed size after.sum) (behind after) _ _
+    c.in_err-fill_summed.field-0.0 found c.in_err-fill_summed.ensures.answer)
 
 pub returns-in_err-fill_summed-clause-err : goal.returns-in_err-fill_summed-clause-err
 returns-in_err-fill_summed-clause-err g c =
-    let p = err_from_is_err_and c.from_residual-in_err-fill_summed.result c.from_residual-in_err-fill_summed.ensures.1 in
+    let p = err_from_is_err_and c.from_residual-in_err-fill_summed.result
+    c.from_residual-in_err-fill_summed.ensures.1 in
     let frame : ℕ × Place = (c.in-Some.size, c.in-Some.after) in
-    let read = some_read (frame_found c.args.track c.args.place) _ _ frame (rw c.in-Some.is at c.in_ok-size.ensures.answer).1 in
-    rw p.1 (leaves_begun c.args.track c.args.place _ _ c.in-Some.size c.in-Some.after c.fill_summed.new.bytes.items read c.in_err-fill_summed.ensures.kept)
+    let read = some_read (frame_found c.args.track c.args.place) _ _ frame
+    (rw c.in-Some.is at c.in_ok-size.ensures.answer).1 in
+    rw p.1 (leaves_begun c.args.track c.args.place _ _ c.in-Some.size c.in-Some.after
+    c.fill_summed.new.bytes.items read c.in_err-fill_summed.ensures.kept)
 
 pub returns-then-not-is_sound-clause-answer : goal.returns-then-not-is_sound-clause-answer
 returns-then-not-is_sound-clause-answer g c =
@@ -59,18 +72,26 @@ returns-then-not-is_sound-clause-answer g c =
     let after = c.in-Some.after in
     let bytes = c.fill_summed.new.bytes.items in
     let sum = c.fill_summed.new.sum in
-    let start = goes_none (frame_read track place) (g.R.ByteIn.remaining c.args.input.now) (g.R.ByteIn.failures c.args.input.now) in
-    let found = none_read (frame_found track place) found_read _ _ (size, after) start (rw c.in-Some.is at c.in_ok-size.ensures.answer) in
-    let next = goes_read (kept_summed size after.sum) (behind after) _ _ (bytes, sum) found c.in_ok-fill_summed.ensures.answer in
-    let differs : is_sound (summed_at after sum) ≡ false = rw c.summed_at-last.ensures at (sym c.is_sound.ensures ∙ c.if-not-is_sound.true) in
-    goes_fault fault.Checksum (goes_same _ (refused fault.Checksum) (λ text. rw differs refl) next) (refl, faults_here (Option (List ℕ × Place)) fault.Checksum _)
+    let start = goes_none (frame_read track place) (g.R.ByteIn.remaining c.args.input.now)
+    (g.R.ByteIn.failures c.args.input.now) in
+    let found = none_read (frame_found track place) found_read _ _ (size, after) start
+    (rw c.in-Some.is at c.in_ok-size.ensures.answer) in
+    let next = goes_read (kept_summed size after.sum) (behind after) _ _ (bytes, sum) found
+    c.in_ok-fill_summed.ensures.answer in
+    let differs : is_sound (summed_at after sum) ≡ false = rw c.summed_at-last.ensures at
+    (sym c.is_sound.ensures ∙ c.if-not-is_sound.true) in
+    goes_fault fault.Checksum (goes_same _ (refused fault.Checksum) (λ text. rw differs refl) next)
+    (refl, faults_here (Option (List ℕ × Place)) fault.Checksum _)
 
 pub returns-then-not-is_sound-clause-err : goal.returns-then-not-is_sound-clause-err
 returns-then-not-is_sound-clause-err g c =
     let frame : ℕ × Place = (c.in-Some.size, c.in-Some.after) in
-    let read = some_read (frame_found c.args.track c.args.place) _ _ frame (rw c.in-Some.is at c.in_ok-size.ensures.answer).1 in
-    leaves_begun c.args.track c.args.place _ _ c.in-Some.size c.in-Some.after c.fill_summed.new.bytes.items read
-    (begins_all _ _ c.in-Some.size c.in-Some.after.sum (c.fill_summed.new.bytes.items, c.fill_summed.new.sum) c.in_ok-fill_summed.ensures.answer.1)
+    let read = some_read (frame_found c.args.track c.args.place) _ _ frame
+    (rw c.in-Some.is at c.in_ok-size.ensures.answer).1 in
+    leaves_begun c.args.track c.args.place _ _ c.in-Some.size c.in-Some.after
+    c.fill_summed.new.bytes.items read
+    (begins_all _ _ c.in-Some.size c.in-Some.after.sum
+    (c.fill_summed.new.bytes.items, c.fill_summed.new.sum) c.in_ok-fill_summed.ensures.answer.1)
 
 pub returns-clause-answer : goal.returns-clause-answer
 returns-clause-answer g c =
@@ -81,11 +102,16 @@ returns-clause-answer g c =
     let bytes = c.fill_summed.new.bytes.items in
     let sum = c.fill_summed.new.sum in
     let last = summed_at after sum in
-    let start = goes_none (frame_read track place) (g.R.ByteIn.remaining c.args.input.now) (g.R.ByteIn.failures c.args.input.now) in
-    let found = none_read (frame_found track place) found_read _ _ (size, after) start (rw c.in-Some.is at c.in_ok-size.ensures.answer) in
-    let next = goes_read (kept_summed size after.sum) (behind after) _ _ (bytes, sum) found c.in_ok-fill_summed.ensures.answer in
-    let sound : is_sound last ≡ true = rw c.summed_at-last.ensures at (sym c.is_sound.ensures ∙ c.if-not-is_sound.false) in
-    rw c.summed_at-last.ensures (none_given (Some (bytes, last)) (goes_same _ (given (Some (bytes, last))) (λ text. rw sound refl) next))
+    let start = goes_none (frame_read track place) (g.R.ByteIn.remaining c.args.input.now)
+    (g.R.ByteIn.failures c.args.input.now) in
+    let found = none_read (frame_found track place) found_read _ _ (size, after) start
+    (rw c.in-Some.is at c.in_ok-size.ensures.answer) in
+    let next = goes_read (kept_summed size after.sum) (behind after) _ _ (bytes, sum) found
+    c.in_ok-fill_summed.ensures.answer in
+    let sound : is_sound last ≡ true = rw c.summed_at-last.ensures at
+    (sym c.is_sound.ensures ∙ c.if-not-is_sound.false) in
+    rw c.summed_at-last.ensures (none_given (Some (bytes, last))
+    (goes_same _ (given (Some (bytes, last))) (λ text. rw sound refl) next))
 
 pub returns-in_err-size-clause-room : goal.returns-in_err-size-clause-room
 returns-in_err-size-clause-room g c =
@@ -97,7 +123,8 @@ returns-in_default-clause-room g c = grind (arith, common_steps)
 
 pub returns-in_err-fill_summed-clause-room : goal.returns-in_err-fill_summed-clause-room
 returns-in_err-fill_summed-clause-room g c =
-    let p = err_from_is_err_and c.from_residual-in_err-fill_summed.result c.from_residual-in_err-fill_summed.ensures.1 in
+    let p = err_from_is_err_and c.from_residual-in_err-fill_summed.result
+    c.from_residual-in_err-fill_summed.ensures.1 in
     rw p.1 (grind (arith, common_steps))
 
 pub returns-then-not-is_sound-clause-room : goal.returns-then-not-is_sound-clause-room
@@ -108,11 +135,18 @@ returns-clause-room g c = grind (arith, common_steps)
 
 pub returns-in_err-fill_summed-clause-from : goal.returns-in_err-fill_summed-clause-from
 returns-in_err-fill_summed-clause-from g c =
-    let p = err_from_is_err_and c.from_residual-in_err-fill_summed.result c.from_residual-in_err-fill_summed.ensures.1 in
+    let p = err_from_is_err_and c.from_residual-in_err-fill_summed.result
+    c.from_residual-in_err-fill_summed.ensures.1 in
     let f = c.in_err-fill_summed.field-0.0 in
     let from = rw c.in-Some.is at c.in_ok-size.ensures.from in
     let same = (rw c.in-Some.is at c.in_ok-size.ensures.answer).0 in
-    rw (p.1, p.2) (from.1, stops_after _ f same from.2 (frame_refused c.args.track c.find_frame.new.here c.in-Some.after c.in-Some.size _ _ _ _ _ f from.3 c.in_err-fill_summed.ensures.answer))
+    rw (p.1, p.2) (
+      from.1,
+      stops_after _ f same from.2
+          (frame_refused c.args.track c.find_frame.new.here c.in-Some.after c.in-Some.size _ _ _ _ _
+          f
+          from.3 c.in_err-fill_summed.ensures.answer),
+    )
 
 pub returns-then-not-is_sound-clause-from : goal.returns-then-not-is_sound-clause-from
 returns-then-not-is_sound-clause-from g c =
@@ -120,14 +154,21 @@ returns-then-not-is_sound-clause-from g c =
     let sum = c.fill_summed.new.sum in
     let from = rw c.in-Some.is at c.in_ok-size.ensures.from in
     let same = (rw c.in-Some.is at c.in_ok-size.ensures.answer).0 in
-    let differs : is_sound (summed_at after sum) ≡ false = rw c.summed_at-last.ensures at (sym c.is_sound.ensures ∙ c.if-not-is_sound.true) in
-    (from.1, stops_after _ fault.Checksum same from.2 (frame_differs c.args.track c.find_frame.new.here after c.in-Some.size _ _ _ _ _ (c.fill_summed.new.bytes.items, sum) differs from.3 c.in_ok-fill_summed.ensures.answer))
+    let differs : is_sound (summed_at after sum) ≡ false = rw c.summed_at-last.ensures at
+    (sym c.is_sound.ensures ∙ c.if-not-is_sound.true) in (
+      from.1,
+      stops_after _ fault.Checksum same from.2
+          (frame_differs c.args.track c.find_frame.new.here after c.in-Some.size _ _ _ _ _
+          (c.fill_summed.new.bytes.items, sum) differs from.3 c.in_ok-fill_summed.ensures.answer),
+    )
 
 pub returns-clause-from : goal.returns-clause-from
 returns-clause-from g c =
     let after = c.in-Some.after in
     let sum = c.fill_summed.new.sum in
     let from = rw c.in-Some.is at c.in_ok-size.ensures.from in
-    let sound : is_sound (summed_at after sum) ≡ true = rw c.summed_at-last.ensures at (sym c.is_sound.ensures ∙ c.if-not-is_sound.false) in
-    let read = frame_whole c.args.track c.find_frame.new.here after c.in-Some.size _ _ _ _ _ (c.fill_summed.new.bytes.items, sum) sound from.3 c.in_ok-fill_summed.ensures.answer in
+    let sound : is_sound (summed_at after sum) ≡ true = rw c.summed_at-last.ensures at
+    (sym c.is_sound.ensures ∙ c.if-not-is_sound.false) in
+    let read = frame_whole c.args.track c.find_frame.new.here after c.in-Some.size _ _ _ _ _
+    (c.fill_summed.new.bytes.items, sum) sound from.3 c.in_ok-fill_summed.ensures.answer in
     rw c.summed_at-last.ensures (_, reads_more _ from.2 read refl)

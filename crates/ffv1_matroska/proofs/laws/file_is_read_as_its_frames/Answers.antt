@@ -1,5 +1,11 @@
+-- A file of a head and frames, by its elements, is read as that head and those frames, and it has
+-- no others.
 use Rattle.ffv1_matroska.proofs.FileLaws.{file_complete, file_only}
 use Rattle.ffv1_matroska.proofs.laws.file_is_read_as_its_frames.Goals as goal
 
 pub returns : goal.returns
-returns c = record { read = λ file head frames is. file_complete file head frames is; only = file_only }
+returns c = record {
+  read = λ file head frames is. file_complete file head frames is;
+  only =
+      file_only;
+}

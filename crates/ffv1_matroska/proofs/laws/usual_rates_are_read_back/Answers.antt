@@ -1,3 +1,5 @@
+-- Frame rates that are read back as they were written: 24, 25, 30, 50 and 60 a second, and those
+-- times 1000/1001 of 24, 30 and 60.
 use Rattle.std.proofs.Common.{refl}
 use Rattle.ffv1_matroska.specs.Rates.{rate_of}
 use Rattle.ffv1_matroska.proofs.laws.usual_rates_are_read_back.Goals as goal

@@ -1,3 +1,4 @@
+-- The next element of a Segment; None at its end.
 use Rattle.std.proofs.Common.{Option, ◌<◌, ◌+◌, arith, refl}
 use Rattle.ffv1_matroska.specs.Internal.{bytes_of}
 use Rattle.ffv1_matroska.specs.Places.{amount, segment_at}
@@ -15,9 +16,14 @@ returns-clause-answer g c =
     let track = c.args.track in
     let e = c.in-Some.element in
     let after = segment_at place place.loose e.left in
-    let start = goes_none (segment_read track place) (g.R.ByteIn.remaining c.args.input.now) (g.R.ByteIn.failures c.args.input.now) in
-    let next = none_read (header_read place) (segment_rest track place) _ _ e start (rw c.in-Some.is at c.in_ok-element.ensures.answer) in
-    answers_none (λ (s : Option Step). s) (segment_read track place) _ c.segment_child.result (goes_last (segment_child track e.ident after e.size) (λ (s : Option Step). s) _ _ c.segment_child.result next (rw c.segment_at-after.ensures at c.segment_child.ensures.answer))
+    let start = goes_none (segment_read track place) (g.R.ByteIn.remaining c.args.input.now)
+    (g.R.ByteIn.failures c.args.input.now) in
+    let next = none_read (header_read place) (segment_rest track place) _ _ e start
+    (rw c.in-Some.is at c.in_ok-element.ensures.answer) in
+    answers_none (λ (s : Option Step). s) (segment_read track place) _ c.segment_child.result
+    (goes_last (segment_child track e.ident after e.size) (λ (s : Option Step). s) _ _
+    c.segment_child.result next (rw c.segment_at-after.ensures at
+    c.segment_child.ensures.answer))
 
 pub returns-clause-less : goal.returns-clause-less
 returns-clause-less g c =
@@ -27,4 +33,5 @@ returns-clause-less g c =
     let within = within_bytes e _ e.size refl (rw c.in-Some.is at c.in_ok-element.ensures.within) in
     let some = rw c.in-Some.is at c.in_ok-element.ensures.some in
     let less : amount after + bytes_of e.size < amount place = omega (arith, within, some) in
-    steps_less c.segment_child.result (amount after + bytes_of e.size) (amount place) less (rw c.segment_at-after.ensures at c.segment_child.ensures.most)
+    steps_less c.segment_child.result (amount after + bytes_of e.size) (amount place) less
+    (rw c.segment_at-after.ensures at c.segment_child.ensures.most)

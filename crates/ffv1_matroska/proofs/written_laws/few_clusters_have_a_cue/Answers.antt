@@ -1,3 +1,4 @@
+-- At most 8192 Clusters have a cue, of fewer than 2^56.
 use Rattle.std.proofs.Common.{◌∙◌, ◌^◌, ◌<◌, length, arith}
 use Rattle.ffv1_matroska.specs.Written.{first_place}
 use Rattle.ffv1_matroska.specs.WrittenPlaces.{places_from}

@@ -1,4 +1,7 @@
-use Rattle.ffv1_matroska.proofs.WrittenStands.{cluster_placed, cue_placed, cued_placed, cues_placed, info_placed, seeks_placed, segment_placed, segment_sized, tracks_placed}
+-- In the whole file each place that is named is right.
+use Rattle.ffv1_matroska.proofs.WrittenStands.{cluster_placed, cue_placed, cued_placed, cues_placed}
+use Rattle.ffv1_matroska.proofs.WrittenStands.{info_placed, seeks_placed, segment_placed}
+use Rattle.ffv1_matroska.proofs.WrittenStands.{segment_sized, tracks_placed}
 use Rattle.ffv1_matroska.proofs.written_laws.named_places_are_right.Goals as goal
 
 pub returns-clause-segment : goal.returns-clause-segment

@@ -1,3 +1,6 @@
+-- What a writer's calls write one after the other is the file that is begun, of these frames; with
+-- what the last call writes, the open file; and that is the whole file once the finished opening is
+-- written over it, from so many bytes before its end on as it has.
 use Rattle.std.proofs.Common.{refl}
 use Rattle.ffv1_matroska.proofs.OpeningLength.{opening_long}
 use Rattle.ffv1_matroska.proofs.PieceByPiece.{more_begun, open_at_last, over_whole, whole_long}

@@ -1,3 +1,6 @@
+-- The residual that an encoder takes for a sample of `bits` bits, as `residual_of` has it for 8 and
+-- 9: the difference to the prediction, its sign flipped where `flip` holds (RFC 9043, 3.5), then
+-- folded (3.8), for every `pred` and `sample`.
 use Rattle.std.proofs.Common.{◌≡◌, refl, ap, ◌∙◌, arith, pos, ◌-ℤ◌}
 use Rattle.std.proofs.lemmas.Int.{ints}
 use Rattle.std.specs.Int.{w32}
@@ -10,13 +13,20 @@ use Rattle.ffv1_plane.proofs.deep.deep_residual.Goals as goal
 pub returns-then-flip-clause-value : goal.returns-then-flip-clause-value
 returns-then-flip-clause-value c =
     let same : to_z w32 (of_z w32 c.fold_deep.result) ≡ c.fold_deep.result = omega (arith, ints) in
-    let turns : c.args.pred -ℤ pos c.args.sample ≡ turned c.args.flip (pos c.args.sample -ℤ c.args.pred) = rw c.if-flip.true (omega (arith, ints)) in
-    same ∙ c.fold_deep.ensures.value ∙ folded_near_word c.args.bits _ _ (omega (arith, c.requires.few)) (wrapped_sub c.args.pred c.args.sample c.ranges.pred (omega arith))
+    let turns : c.args.pred -ℤ pos c.args.sample ≡ turned c.args.flip
+    (pos c.args.sample -ℤ c.args.pred) = rw c.if-flip.true (omega (arith, ints)) in
+    same ∙ c.fold_deep.ensures.value ∙ folded_near_word c.args.bits _ _
+    (omega (arith, c.requires.few)) (wrapped_sub c.args.pred c.args.sample c.ranges.pred
+    (omega arith))
     ∙ ap (folded c.args.bits) turns
 
 pub returns-clause-value : goal.returns-clause-value
 returns-clause-value c =
-    let same : to_z w32 (of_z w32 c.fold_deep-2.result) ≡ c.fold_deep-2.result = omega (arith, ints) in
-    let turns : pos c.args.sample -ℤ c.args.pred ≡ turned c.args.flip (pos c.args.sample -ℤ c.args.pred) = rw c.if-flip.false refl in
-    same ∙ c.fold_deep-2.ensures.value ∙ folded_near_word c.args.bits _ _ (omega (arith, c.requires.few)) (wrapped_below c.args.pred c.args.sample c.ranges.pred (omega arith))
+    let same : to_z w32 (of_z w32 c.fold_deep-2.result) ≡ c.fold_deep-2.result =
+    omega (arith, ints) in
+    let turns : pos c.args.sample -ℤ c.args.pred ≡ turned c.args.flip
+    (pos c.args.sample -ℤ c.args.pred) = rw c.if-flip.false refl in
+    same ∙ c.fold_deep-2.ensures.value ∙ folded_near_word c.args.bits _ _
+    (omega (arith, c.requires.few)) (wrapped_below c.args.pred c.args.sample c.ranges.pred
+    (omega arith))
     ∙ ap (folded c.args.bits) turns

@@ -1,5 +1,8 @@
+-- A difference folded to `bits` bits (RFC 9043, 3.8).
 use Rattle.ffv1_plane.proofs.Words.{folded_word}
 use Rattle.ffv1_plane.proofs.deep.fold_deep.Goals as goal
 
 pub returns-clause-value : goal.returns-clause-value
-returns-clause-value c = folded_word c.args.bits c.lowest_bits.result c.args.difference c.requires.some c.requires.few c.ranges.difference c.lowest_bits.ensures.small c.lowest_bits.ensures.value
+returns-clause-value c = folded_word c.args.bits c.lowest_bits.result c.args.difference
+    c.requires.some c.requires.few c.ranges.difference c.lowest_bits.ensures.small
+    c.lowest_bits.ensures.value

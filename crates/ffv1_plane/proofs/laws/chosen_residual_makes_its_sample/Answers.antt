@@ -1,3 +1,5 @@
+-- The residual that an encoder takes makes its sample, has a symbol, and lies from -2^(bits-1) to
+-- 2^(bits-1) - 1.
 use Rattle.ffv1_plane.proofs.Folding.{chosen_suits, chosen_folded}
 use Rattle.ffv1_plane.proofs.laws.chosen_residual_makes_its_sample.Goals as goal
 

@@ -1,3 +1,4 @@
+-- No other number from -2^(bits-1) to 2^(bits-1) - 1 makes the sample.
 use Rattle.ffv1_plane.proofs.Folding.{only_chosen}
 use Rattle.ffv1_plane.proofs.laws.no_other_residual_makes_the_sample.Goals as goal
 

@@ -1,3 +1,5 @@
+-- Each residual makes exactly one sample of `bits` bits: the prediction and the residual, its sign
+-- flipped or not, modulo 2^bits.
 use Rattle.ffv1_plane.proofs.Folding.{one_made}
 use Rattle.ffv1_plane.proofs.laws.residual_makes_one_sample.Goals as goal
 

@@ -1,3 +1,4 @@
+-- The sign is flipped first, and the difference folded then.
 use Rattle.ffv1_plane.proofs.Folding.{folded_extreme, folded_first, folded_elsewhere}
 use Rattle.ffv1_plane.proofs.laws.sign_is_flipped_before_folding.Goals as goal
 

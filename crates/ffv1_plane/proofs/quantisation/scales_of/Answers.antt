@@ -1,3 +1,4 @@
+-- The scales of five tables by their runs, or why the runs make no set.
 use Rattle.std.proofs.Common.{◌≡◌, true, arith, rules}
 use Rattle.ffv1_plane.specs.Quantisation.{is_filled}
 use Rattle.ffv1_plane.proofs.Scales.{half_is, scaled}
@@ -11,8 +12,12 @@ overflow_cast-result-3 c =
     let fthird : is_filled c.args.runs.now.third.now ≡ true = search rules in
     let ffourth : is_filled c.args.runs.now.fourth.now ≡ true = search rules in
     let ffifth : is_filled c.args.runs.now.fifth.now ≡ true = search rules in
-    let odd = half_is c.args.runs.now.first.now c.args.runs.now.second.now c.args.runs.now.third.now c.args.runs.now.fourth.now c.args.runs.now.fifth.now _ _ _ _ _ ffirst fsecond fthird ffourth ffifth
-    c.scale_after-second_scale.ensures.value c.scale_after-third_scale.ensures.value c.scale_after-fourth_scale.ensures.value c.scale_after-fifth_scale.ensures.value c.scale_after-scale.ensures.value in
+    let odd = half_is c.args.runs.now.first.now c.args.runs.now.second.now c.args.runs.now.third.now
+    c.args.runs.now.fourth.now c.args.runs.now.fifth.now _ _ _ _ _ ffirst fsecond fthird ffourth
+    ffifth
+    c.scale_after-second_scale.ensures.value c.scale_after-third_scale.ensures.value
+    c.scale_after-fourth_scale.ensures.value c.scale_after-fifth_scale.ensures.value
+    c.scale_after-scale.ensures.value in
     let few = c.if-scale-gt65536.false in
     let one = c.scale_after-fifth_scale.ensures.least in
     let two = c.scale_after-scale.ensures.least in
@@ -25,8 +30,12 @@ overflow_cast-result-4 c =
     let fthird : is_filled c.args.runs.now.third.now ≡ true = search rules in
     let ffourth : is_filled c.args.runs.now.fourth.now ≡ true = search rules in
     let ffifth : is_filled c.args.runs.now.fifth.now ≡ true = search rules in
-    let odd = half_is c.args.runs.now.first.now c.args.runs.now.second.now c.args.runs.now.third.now c.args.runs.now.fourth.now c.args.runs.now.fifth.now _ _ _ _ _ ffirst fsecond fthird ffourth ffifth
-    c.scale_after-second_scale.ensures.value c.scale_after-third_scale.ensures.value c.scale_after-fourth_scale.ensures.value c.scale_after-fifth_scale.ensures.value c.scale_after-scale.ensures.value in
+    let odd = half_is c.args.runs.now.first.now c.args.runs.now.second.now c.args.runs.now.third.now
+    c.args.runs.now.fourth.now c.args.runs.now.fifth.now _ _ _ _ _ ffirst fsecond fthird ffourth
+    ffifth
+    c.scale_after-second_scale.ensures.value c.scale_after-third_scale.ensures.value
+    c.scale_after-fourth_scale.ensures.value c.scale_after-fifth_scale.ensures.value
+    c.scale_after-scale.ensures.value in
     let few = c.if-scale-gt65536.false in
     let two = c.scale_after-scale.ensures.least in
     omega arith
@@ -38,5 +47,9 @@ returns-clause-ok c =
     let fthird : is_filled c.args.runs.now.third.now ≡ true = search rules in
     let ffourth : is_filled c.args.runs.now.fourth.now ≡ true = search rules in
     let ffifth : is_filled c.args.runs.now.fifth.now ≡ true = search rules in
-    scaled c.args.runs.now.first.now c.args.runs.now.second.now c.args.runs.now.third.now c.args.runs.now.fourth.now c.args.runs.now.fifth.now _ _ _ _ _ ffirst fsecond fthird ffourth ffifth
-    c.scale_after-second_scale.ensures.value c.scale_after-third_scale.ensures.value c.scale_after-fourth_scale.ensures.value c.scale_after-fifth_scale.ensures.value c.scale_after-scale.ensures.value c.if-scale-gt65536.false
+    scaled c.args.runs.now.first.now c.args.runs.now.second.now c.args.runs.now.third.now
+    c.args.runs.now.fourth.now c.args.runs.now.fifth.now _ _ _ _ _ ffirst fsecond fthird ffourth
+    ffifth
+    c.scale_after-second_scale.ensures.value c.scale_after-third_scale.ensures.value
+    c.scale_after-fourth_scale.ensures.value c.scale_after-fifth_scale.ensures.value
+    c.scale_after-scale.ensures.value c.if-scale-gt65536.false

@@ -1,3 +1,5 @@
+-- The context of a sum of raised entries: its number, which is how far the sum lies from `half`,
+-- the sum of the greatest entries, and whether it lies below.
 use Rattle.ffv1_plane.proofs.Sums.{negative_size, negative_flip, positive_size, positive_flip}
 use Rattle.ffv1_plane.proofs.quantisation.unraised.Goals as goal
 

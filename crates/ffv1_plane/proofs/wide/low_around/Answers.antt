@@ -1,3 +1,4 @@
+-- The samples around a sample modulo 65536.
 use Rattle.ffv1_plane.proofs.WideWords.{size_low, flip_low}
 use Rattle.ffv1_plane.proofs.wide.low_around.Goals as goal
 

@@ -1,3 +1,4 @@
+-- The lowest `bits` bits of a number.
 use Rattle.std.proofs.lemmas.Nat.{and_mask}
 use Rattle.ffv1_plane.proofs.Words.{mask_is}
 use Rattle.ffv1_plane.proofs.wide.lowest_of.Goals as goal

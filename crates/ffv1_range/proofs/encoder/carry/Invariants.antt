@@ -6,7 +6,8 @@ abbrev pub invariant-loop-at : goal.invariant-loop-at
 invariant-loop-at l = record {
   bytes_fit : AreBytes l.bytes;
   in_bytes : l.at ≤ length l.bytes;
-  carried : value l.bytes (length l.bytes) + 256 ^ (length l.bytes - l.at) ≡ value l.fn.bytes (length l.fn.bytes) + 1;
+  carried : value l.bytes (length l.bytes) + 256 ^ (length l.bytes - l.at) ≡ value l.fn.bytes
+      (length l.fn.bytes) + 1;
 }
 
 abbrev pub decreases-loop-at : goal.decreases-loop-at

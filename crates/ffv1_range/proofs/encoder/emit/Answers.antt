@@ -1,3 +1,4 @@
+-- One place more of a number with its bytes big end first.
 use Rattle.std.proofs.Common.{arith, length, ◌≡◌, ◌-◌}
 use Rattle.std.proofs.Math.Seq.{take-append_seam}
 use Rattle.ffv1_range.proofs.EmittedBytes.{value-pushed}

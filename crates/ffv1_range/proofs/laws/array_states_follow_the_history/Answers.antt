@@ -1,3 +1,5 @@
+-- States that are kept in arrays, and moved at each decision, are those that the history gives: for
+-- one array of all slots, and for one that has the slots from base on, beside any others.
 use Rattle.ffv1_range.proofs.HistoryLemmas.{kept_is, fresh_has, decided_is, moved_has, others_have}
 use Rattle.ffv1_range.proofs.Parts.{part_has, put_has}
 use Rattle.ffv1_range.proofs.laws.array_states_follow_the_history.Goals as goal

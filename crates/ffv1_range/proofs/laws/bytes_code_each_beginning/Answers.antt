@@ -1,3 +1,4 @@
+-- Bytes that code a list code each beginning of it.
 use Rattle.ffv1_range.specs.Interval.{start, narrowed}
 use Rattle.ffv1_range.proofs.Nested.{narrowed-inside, narrowed-append}
 use Rattle.ffv1_range.proofs.laws.bytes_code_each_beginning.Goals as goal

@@ -1,3 +1,4 @@
+-- Lists that the bytes code and that part at a decision of one state do not part there.
 use Rattle.std.proofs.Common.{◌∷◌}
 use Rattle.ffv1_range.specs.Interval.{start, narrowed}
 use Rattle.ffv1_range.proofs.Nested.{same_bit, narrowed-append}

@@ -1,3 +1,5 @@
+-- However states are named from the decisions before, bytes with a good start code one list of each
+-- length.
 use Rattle.std.proofs.Common.{sym, ◌∙◌, []}
 use Rattle.ffv1_range.specs.Interval.{start}
 use Rattle.ffv1_range.proofs.OneList.{goes_on, same}
@@ -11,6 +13,7 @@ returns c = λ bytes name count are is h.
         long = found.1.long;
         named = found.1.named;
         codes = found.1.inside;
-        only = λ es long named codes. same bytes are name is [] es found.0 start h (long ∙ sym found.1.long) named found.1.named codes found.1.inside;
+        only = λ es long named codes. same bytes are name is [] es found.0 start h
+            (long ∙ sym found.1.long) named found.1.named codes found.1.inside;
       },
     )

@@ -1,3 +1,4 @@
+-- Bytes code at most one number next, and none where they code a symbol that is refused.
 use Rattle.ffv1_range.specs.Interval.{start, narrowed}
 use Rattle.ffv1_range.specs.Symbols.{signed_steps, unsigned_steps, too_long, decided}
 use Rattle.ffv1_range.proofs.Nested.{narrowed-append}

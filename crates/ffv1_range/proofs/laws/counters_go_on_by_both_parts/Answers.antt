@@ -1,3 +1,4 @@
+-- Counters that went on by some steps, and then by others, went on by both lists.
 use Rattle.ffv1_range.proofs.Counting.{counted_none, counted_append, counted_shifted}
 use Rattle.ffv1_range.proofs.laws.counters_go_on_by_both_parts.Goals as goal
 

@@ -1,5 +1,8 @@
+-- At states that a table of a floor m holds each decision leaves at most 1 - m² / (256 (m + 1)) of
+-- an interval's width, 35/36 by the standard's table.
 use Rattle.ffv1_range.proofs.Enough.{are_enough, are_least, for_standard, for_lowest, for_highest}
-use Rattle.ffv1_range.proofs.Renormalising.{all_normalised, narrow_normalised, decision_leaves, standard_leaves, once, few}
+use Rattle.ffv1_range.proofs.Renormalising.{all_normalised, narrow_normalised, decision_leaves}
+use Rattle.ffv1_range.proofs.Renormalising.{standard_leaves, once, few}
 use Rattle.ffv1_range.proofs.laws.decisions_in_a_row_renormalise.Goals as goal
 
 pub returns-clause-normalised : goal.returns-clause-normalised

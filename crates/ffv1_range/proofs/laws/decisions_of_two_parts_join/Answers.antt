@@ -1,3 +1,4 @@
+-- Lists of decisions in two parts.
 use Rattle.ffv1_range.proofs.Nested.{narrowed-append}
 use Rattle.ffv1_range.proofs.Steps.{decided-append, moved_by-append}
 use Rattle.ffv1_range.proofs.Windows.{AreBelow-append}

@@ -1,3 +1,4 @@
+-- Deltas make at most one table, and those of 0 make the standard's.
 use Rattle.ffv1_range.proofs.OneTable.{one_table, standard_of, table_of}
 use Rattle.ffv1_range.proofs.laws.deltas_make_one_table.Goals as goal
 

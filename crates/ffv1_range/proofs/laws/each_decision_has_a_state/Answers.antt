@@ -1,3 +1,4 @@
+-- By a table of states each decision of a history has a state, and fresh states are held.
 use Rattle.ffv1_range.proofs.Named.{state_held, named, fresh_held, all_fresh_held}
 use Rattle.ffv1_range.proofs.laws.each_decision_has_a_state.Goals as goal
 

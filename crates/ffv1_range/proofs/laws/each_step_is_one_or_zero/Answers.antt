@@ -1,4 +1,6 @@
-use Rattle.ffv1_range.proofs.Counting.{steps_counted, decided_ones, decided_zeros, after_ones, after_zeros, ones_in-append, zeros_in-append}
+-- Each step is a 1 or a 0, and so is its decision.
+use Rattle.ffv1_range.proofs.Counting.{steps_counted, decided_ones, decided_zeros, after_ones}
+use Rattle.ffv1_range.proofs.Counting.{after_zeros, ones_in-append, zeros_in-append}
 use Rattle.ffv1_range.proofs.laws.each_step_is_one_or_zero.Goals as goal
 
 pub returns-clause-steps : goal.returns-clause-steps

@@ -1,3 +1,4 @@
+-- An exponent is the place of the highest bit, whatever the number above 0.
 use Rattle.std.proofs.Common.{◌≡◌, ◌+◌, suc, arith}
 use Rattle.ffv1_range.specs.Symbols.{exponent}
 use Rattle.ffv1_range.proofs.Exponents.{exponent_place}

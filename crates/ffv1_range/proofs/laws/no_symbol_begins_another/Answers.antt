@@ -1,3 +1,4 @@
+-- No symbol begins another one, nor one that is refused.
 use Rattle.ffv1_range.proofs.Prefix.{symbols_apart, refused_apart}
 use Rattle.ffv1_range.proofs.Unsigned.{unsigned_apart, unsigned_refused}
 use Rattle.ffv1_range.proofs.laws.no_symbol_begins_another.Goals as goal

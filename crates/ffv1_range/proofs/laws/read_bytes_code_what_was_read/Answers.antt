@@ -1,3 +1,4 @@
+-- What a decoder has read is coded by its bytes, after the decisions that it had read before.
 use Rattle.ffv1_range.proofs.Steps.{read_on}
 use Rattle.ffv1_range.proofs.laws.read_bytes_code_what_was_read.Goals as goal
 

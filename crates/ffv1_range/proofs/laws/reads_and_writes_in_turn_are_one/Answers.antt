@@ -1,3 +1,4 @@
+-- Reading and writing of some steps, and then of others, is that of both lists.
 use Rattle.ffv1_range.proofs.Steps.{follows_none, follows_append, puts_none, puts_append}
 use Rattle.ffv1_range.proofs.Growth.{refused_first, refused_second}
 use Rattle.ffv1_range.proofs.laws.reads_and_writes_in_turn_are_one.Goals as goal

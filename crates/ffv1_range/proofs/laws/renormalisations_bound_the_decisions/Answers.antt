@@ -1,4 +1,7 @@
-use Rattle.ffv1_range.proofs.FewDecisions.{few_in_history, few_decoded, few_read, few_written, few_counted}
+-- `renormalisations_bound_the_decisions`: the same of the decisions of a history, of a decoder's
+-- and of an encoder's: fewer than `decisions_a_byte` for each renormalisation, and once more.
+use Rattle.ffv1_range.proofs.FewDecisions.{few_in_history, few_decoded, few_read, few_written}
+use Rattle.ffv1_range.proofs.FewDecisions.{few_counted}
 use Rattle.ffv1_range.proofs.laws.renormalisations_bound_the_decisions.Goals as goal
 
 pub returns-clause-history : goal.returns-clause-history

@@ -1,3 +1,4 @@
+-- The sentinel ending codes its list whatever byte follows.
 use Rattle.ffv1_range.specs.Interval.{interval_of}
 use Rattle.ffv1_range.proofs.EndingCodes.{fit}
 use Rattle.ffv1_range.proofs.SentinelByte.{sentinel_byte}

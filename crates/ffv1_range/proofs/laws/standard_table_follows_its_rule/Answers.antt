@@ -1,3 +1,4 @@
+-- The standard's table is what its rule gives, and keeps its states.
 use Rattle.ffv1_range.proofs.Standard.{standard}
 use Rattle.ffv1_range.proofs.Generator.{generates}
 use Rattle.ffv1_range.proofs.laws.standard_table_follows_its_rule.Goals as goal

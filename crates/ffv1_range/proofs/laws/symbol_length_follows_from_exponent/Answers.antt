@@ -1,6 +1,8 @@
+-- How many decisions a symbol takes.
 use Rattle.std.proofs.Common.{refl, suc}
 use Rattle.ffv1_range.specs.Symbols.{exponent}
-use Rattle.ffv1_range.proofs.Counting.{magnitude_length, sized_length, too_long_length, length-shifted}
+use Rattle.ffv1_range.proofs.Counting.{magnitude_length, sized_length, too_long_length}
+use Rattle.ffv1_range.proofs.Counting.{length-shifted}
 use Rattle.ffv1_range.proofs.laws.symbol_length_follows_from_exponent.Goals as goal
 
 pub returns-clause-unsigned : goal.returns-clause-unsigned

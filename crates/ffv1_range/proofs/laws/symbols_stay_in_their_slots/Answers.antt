@@ -1,3 +1,4 @@
+-- The slots of a symbol are 32; those of one in a row of many states stand in the row.
 use Rattle.ffv1_range.proofs.Windows.{signed_below, too_long_below, shifted_below}
 use Rattle.ffv1_range.proofs.Unsigned.{unsigned_below}
 use Rattle.ffv1_range.proofs.Parts.{below_more, shifted_twice, shifted-append}

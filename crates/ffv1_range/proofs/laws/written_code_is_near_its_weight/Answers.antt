@@ -1,3 +1,5 @@
+-- The cost of what an encoder has put, by states that its table holds, whose renormalisations are
+-- its count less 2.
 use Rattle.ffv1_range.proofs.CostWritten.{written_most, written_least, written_sentinel}
 use Rattle.ffv1_range.proofs.laws.written_code_is_near_its_weight.Goals as goal
 

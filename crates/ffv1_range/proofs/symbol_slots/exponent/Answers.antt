@@ -1,3 +1,4 @@
+-- The place of the highest bit of a number.
 use Rattle.ffv1_range.proofs.Exponents.{exponent_zeros}
 use Rattle.std.proofs.Common.{◌<◌, ◌^◌, sym, arith}
 use Rattle.ffv1_range.proofs.symbol_slots.exponent.Goals as goal

@@ -1,3 +1,4 @@
+-- How many bits of a number are 1, but for its highest.
 use Rattle.std.proofs.Common.{arith}
 use Rattle.ffv1_range.specs.Symbols.{exponent}
 use Rattle.ffv1_range.proofs.Counting.{mantissa_ones}

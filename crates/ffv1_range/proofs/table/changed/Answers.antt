@@ -1,4 +1,6 @@
-use Rattle.std.proofs.Common.{refl, ◌≡◌, ◌∙◌, ap, length-set, arith, ◌+◌, add-one, pos, get_or, rules}
+-- Where each state goes after a decision 1, by deltas; 0 for what is no byte.
+use Rattle.std.proofs.Common.{refl, ◌≡◌, ◌∙◌, ap, length-set, arith, ◌+◌, add-one, pos, get_or}
+use Rattle.std.proofs.Common.{rules}
 use Rattle.std.proofs.lemmas.Int.{to_z-of_z}
 use Rattle.std.specs.Int.{w32}
 use mir.Val.{of_z, SFits}
@@ -19,8 +21,10 @@ loop-k-preserved c =
     let byte = rw add-one at plain in
     record {
       long = length-set c.loop-k.one (c.loop-k.k + 1) c.byte.result ∙ c.loop-k.invariant.long;
-      sound = sound_next c.args.deltas.now c.loop-k.k (λ h. c.if-delta.false (ap (of_z w32) h)) c.loop-k.invariant.sound;
-      entries = entries_next c.args.deltas.now c.loop-k.one c.loop-k.k c.byte.result (omega (arith, c.loop-k.invariant.long)) (rw add-one byte) c.loop-k.invariant.entries;
+      sound = sound_next c.args.deltas.now c.loop-k.k (λ h. c.if-delta.false (ap (of_z w32) h))
+          c.loop-k.invariant.sound;
+      entries = entries_next c.args.deltas.now c.loop-k.one c.loop-k.k c.byte.result
+          (omega (arith, c.loop-k.invariant.long)) (rw add-one byte) c.loop-k.invariant.entries;
     }
 
 pub returns-clause-sound : goal.returns-clause-sound

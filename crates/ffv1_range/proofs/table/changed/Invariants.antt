@@ -6,5 +6,6 @@ abbrev pub invariant-loop-k : goal.invariant-loop-k
 invariant-loop-k l = record {
   long : length l.one ≡ 256;
   sound : (k : ℕ) → k < l.k → get_or l.deltas k (pos 0) ≢ negsuc 2147483647;
-  entries : (state : ℕ) → state < l.k + 1 → get_or l.one state 0 ≡ byte_of (entry_of l.deltas state);
+  entries : (state : ℕ) → state < l.k + 1 → get_or l.one state 0 ≡ byte_of
+      (entry_of l.deltas state);
 }

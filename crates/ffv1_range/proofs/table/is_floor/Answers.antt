@@ -1,3 +1,4 @@
+-- Whether the states from floor to 256 less floor go to such states.
 use Rattle.std.proofs.Common.{arith, inl, inr}
 use Rattle.std.proofs.lemmas.Bool.{cases_eq}
 use Rattle.ffv1_range.proofs.table.is_floor.Goals as goal

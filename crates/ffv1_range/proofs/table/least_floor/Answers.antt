@@ -1,3 +1,4 @@
+-- The least floor of the moves by a 1.
 use Rattle.std.proofs.Common.{arith, rules, ◌≡◌, subst, inl, inr}
 use Rattle.std.proofs.lemmas.Bool.{cases_lt}
 use Rattle.ffv1_range.specs.Table.{IsTable}
@@ -21,4 +22,5 @@ returns-then-is_floor-clause-least c = λ other table. elim (cases_lt other c.lo
 ]
 
 pub returns-clause-none : goal.returns-clause-none
-returns-clause-none c = λ other table. c.loop-floor.invariant other (omega (arith, table.middle)) table
+returns-clause-none c = λ other table. c.loop-floor.invariant other (omega (arith, table.middle))
+    table

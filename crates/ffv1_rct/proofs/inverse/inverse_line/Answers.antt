@@ -1,3 +1,5 @@
+-- The inverse of the transform of a line (RFC 9043, 3.7.2), for any values of Y, Cb and Cr: at each
+-- place the only red, green and blue whose transform the place is.
 use Rattle.std.proofs.lemmas.Bool.{false≢true}
 use Rattle.ffv1_rct.proofs.inverse.inverse_line.Goals as goal
 

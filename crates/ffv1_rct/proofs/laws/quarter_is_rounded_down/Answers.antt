@@ -1,3 +1,4 @@
+-- The quarter of the definition is rounded down, for negative numbers too.
 use Rattle.ffv1_rct.proofs.Places.{quarter_least, quarter_most}
 use Rattle.ffv1_rct.proofs.laws.quarter_is_rounded_down.Goals as goal
 

@@ -1,10 +1,14 @@
+-- The inverse of the transform of a line of samples of `depth` bits (RFC 9043, 3.7.2), for any
+-- values of Y, Cb and Cr: at each place the only red, green and blue whose transform the place is,
+-- each as two bytes, the low byte first.
 use Rattle.std.proofs.Common.{arith}
 use Rattle.std.proofs.lemmas.Bool.{false≢true}
 use Rattle.ffv1_rct.proofs.WordLines.{colours_put, kept_put, half_is}
 use Rattle.ffv1_rct.proofs.words.inverse_words.Goals as goal
 
 pub colour_word-requires-clause-few : goal.colour_word-requires-clause-few
-colour_word-requires-clause-few c = (half_is c.args.coded.now.depth c.requires.deep c.requires.few).few
+colour_word-requires-clause-few c = (half_is c.args.coded.now.depth c.requires.deep
+    c.requires.few).few
 
 pub loop-x-preserved : goal.loop-x-preserved
 loop-x-preserved c =
@@ -14,12 +18,17 @@ loop-x-preserved c =
     let coded = c.args.coded.now in
     let is = c.in-Some.ensures.some coded.depth (half_is coded.depth q.deep q.few).doubled in
     record {
-      filled = colours_put coded.depth coded.y.now coded.cb.now coded.cr.now c.loop-x.r c.loop-x.g c.loop-x.b _ _ _ c.loop-x.x _ _ _
+      filled = colours_put coded.depth coded.y.now coded.cb.now coded.cr.now c.loop-x.r c.loop-x.g
+          c.loop-x.b _ _ _ c.loop-x.x _ _ _
           c.put_word.ensures c.put_word-in-loop-x.ensures c.put_word-in-loop-x-2.ensures q.deep
-          (omega (arith, long.r, q.r, c.loop-x-test.true)) (omega (arith, long.g, q.g, c.loop-x-test.true)) (omega (arith, long.b, q.b, c.loop-x-test.true)) old.filled is;
+          (omega (arith, long.r, q.r, c.loop-x-test.true))
+          (omega (arith, long.g, q.g, c.loop-x-test.true))
+          (omega (arith, long.b, q.b, c.loop-x-test.true)) old.filled is;
       red = kept_put c.args.r.now c.loop-x.r _ c.loop-x.x _ c.put_word.ensures old.red;
-      green = kept_put c.args.g.now c.loop-x.g _ c.loop-x.x _ c.put_word-in-loop-x.ensures old.green;
-      blue = kept_put c.args.b.now c.loop-x.b _ c.loop-x.x _ c.put_word-in-loop-x-2.ensures old.blue;
+      green = kept_put c.args.g.now c.loop-x.g _ c.loop-x.x _ c.put_word-in-loop-x.ensures
+          old.green;
+      blue = kept_put c.args.b.now c.loop-x.b _ c.loop-x.x _ c.put_word-in-loop-x-2.ensures
+          old.blue;
     }
 
 pub returns-clause-exact : goal.returns-clause-exact
@@ -27,6 +36,10 @@ returns-clause-exact c = (
   λ e. absurd (false≢true e),
   λ p.
       let inside = p.1 in
-      let is = (c.loop-x.invariant.filled p.0 (omega (arith, inside, c.loop-x-test.false))).colour in
+      let is = (c.loop-x.invariant.filled p.0 (omega (
+        arith,
+        inside,
+        c.loop-x-test.false,
+      ))).colour in
       absurd (p.2 (_, _, _, is)),
 )

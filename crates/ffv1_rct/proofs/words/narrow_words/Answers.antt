@@ -1,3 +1,4 @@
+-- The samples of a coded line, any, unchanged: each as two bytes, the low byte first.
 use Rattle.std.proofs.Common.{◌≡◌, refl, subst, ◌<◌, ◌^◌, length, slice_index, arith, below_more}
 use Rattle.ffv1_rct.proofs.WordLines.{AreBytesOf, bytes_more, bytes_all, kept_put, top_is}
 use Rattle.ffv1_rct.proofs.words.narrow_words.Goals as goal
@@ -10,12 +11,18 @@ loop-x-preserved c =
     let a = c.args.a.now in
     let here : slice_index a c.loop-x.x < 2 ^ depth = rw (top_is depth q.few) at c.if-a-x.false in
     record {
-      bytes = bytes_more depth c.loop-x.x (slice_index a c.loop-x.x) c.loop-x.out _ a c.put_word.ensures q.deep (omega (arith, c.loop-x.auto.out, q.out, c.loop-x-test.true)) refl old.bytes;
+      bytes = bytes_more depth c.loop-x.x (slice_index a c.loop-x.x) c.loop-x.out _ a
+          c.put_word.ensures q.deep (omega (arith, c.loop-x.auto.out, q.out, c.loop-x-test.true))
+          refl old.bytes;
       before = below_more (λ k. slice_index a k < 2 ^ depth) c.loop-x.x old.before here;
       kept = kept_put c.args.out.now c.loop-x.out _ c.loop-x.x _ c.put_word.ensures old.kept;
     }
 
 pub returns-clause-ok : goal.returns-clause-ok
 returns-clause-ok c =
-    let all : c.loop-x.x ≡ length c.args.a.now = omega (arith, c.loop-x.auto.x-end, c.loop-x-test.false) in
-    bytes_all c.args.depth c.loop-x.out c.args.a.now c.requires.deep (omega (arith, c.loop-x.auto.out, c.requires.out)) (subst (λ n. AreBytesOf c.args.depth n c.loop-x.out c.args.a.now) all c.loop-x.invariant.bytes)
+    let all : c.loop-x.x ≡ length c.args.a.now =
+    omega (arith, c.loop-x.auto.x-end, c.loop-x-test.false) in
+    bytes_all c.args.depth c.loop-x.out c.args.a.now c.requires.deep
+    (omega (arith, c.loop-x.auto.out, c.requires.out))
+    (subst (λ n. AreBytesOf c.args.depth n c.loop-x.out c.args.a.now) all
+    c.loop-x.invariant.bytes)

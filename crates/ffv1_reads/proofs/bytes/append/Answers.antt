@@ -1,3 +1,4 @@
+-- Reads `more` bytes, at least one, after those that the vector has.
 use Rattle.std.proofs.Common.{◌≡◌, ◌+◌, ◌<◌, ◌≤◌, take, drop, length, inl, arith}
 use Rattle.std.proofs.lemmas.Grind.{common_steps}
 use Rattle.ffv1_reads.proofs.LoopReadings.{appends_some}
@@ -11,8 +12,11 @@ returns-then-len-more-clause-answer g c =
     let n = c.in-Ok.len in
     let h = c.in-Ok.ensures in
     let long : length (drop done buf) ≡ c.args.more = grind (arith, common_steps) in
-    let few : n < c.args.more = omega arith in
-    (h.counted, inl (append_short _ _ c.args.bytes.now.items (drop done buf) c.args.more n long few h.ok))
+    let few : n < c.args.more = omega arith in (
+      h.counted,
+      inl (append_short _ _ c.args.bytes.now.items (drop done buf) c.args.more n long few
+          h.ok),
+    )
 
 pub returns-then-len-more-clause-err : goal.returns-then-len-more-clause-err
 returns-then-len-more-clause-err g c =

@@ -1,3 +1,4 @@
+-- Whether each delta has a symbol, which the least number of 32 bits has not.
 use Rattle.std.proofs.Common.{◌<◌, length, take, get_or, ap, arith, pos, rules}
 use Rattle.std.specs.Int.{w32}
 use mir.Val.{SFits, of_z}
@@ -11,4 +12,5 @@ loop-k-preserved c =
     let inside : c.loop-k.k < length c.args.deltas.now = omega (arith, c.told-deltas) in
     let fits : SFits w32 (get_or c.args.deltas.now c.loop-k.k (pos 0)) = search rules in
     let more = taken_more c.args.deltas.now c.loop-k.k (pos 0) inside in
-    rw more (deltas_more (take c.loop-k.k c.args.deltas.now) delta c.loop-k.invariant (small_delta delta fits (λ same. c.if-deltas-k.false (ap (of_z w32) same))))
+    rw more (deltas_more (take c.loop-k.k c.args.deltas.now) delta c.loop-k.invariant
+    (small_delta delta fits (λ same. c.if-deltas-k.false (ap (of_z w32) same))))

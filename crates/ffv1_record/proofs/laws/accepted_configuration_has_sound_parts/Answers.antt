@@ -1,3 +1,4 @@
+-- What holds of the planes, sets and table of a configuration that was checked.
 use Rattle.ffv1_record.proofs.Parts.{rct_parts, shallow_or_full, luma_parts, set_at, most_few}
 use Rattle.ffv1_record.proofs.laws.accepted_configuration_has_sound_parts.Goals as goal
 
@@ -10,7 +11,8 @@ pub returns-clause-depth : goal.returns-clause-depth
 returns-clause-depth c = λ x t is. shallow_or_full 16 x.depth is.depth
 
 pub returns-clause-luma : goal.returns-clause-luma
-returns-clause-luma c = λ x t is none. luma_parts x.log2_h x.log2_v x.chroma_planes x.extra_plane x.colour is.passes.1.0 is.passes.1.1.0 none
+returns-clause-luma c = λ x t is none. luma_parts x.log2_h x.log2_v x.chroma_planes x.extra_plane
+    x.colour is.passes.1.0 is.passes.1.1.0 none
 
 pub returns-clause-set : goal.returns-clause-set
 returns-clause-set c = λ x t k is inside. set_at x.sets k is.sets inside

@@ -1,3 +1,4 @@
+-- What holds of a configuration that was checked, in numbers.
 use Rattle.std.proofs.Common.{length}
 use Rattle.ffv1_record.proofs.Checks.{depth_bounds, sized, divided, subsampled, fits_grid, counted}
 use Rattle.ffv1_record.proofs.laws.accepted_configuration_is_in_range.Goals as goal

@@ -1,3 +1,6 @@
+-- The first parameter that is not good, in the order of the record, is the fault that is answered:
+-- where the bytes code good symbols of all parameters before it, and then symbols that are a fault
+-- in its place.
 use Rattle.std.proofs.Common.{inl, inr, length, ◌-◌}
 use Rattle.ffv1_record.specs.Record.{body_of}
 use Rattle.ffv1_record.proofs.RecordIsRead.{taken_bytes}
@@ -6,14 +9,21 @@ use Rattle.ffv1_record.proofs.RefusedParameters.{first_bad, refused_because}
 use Rattle.ffv1_record.proofs.laws.first_bad_parameter_is_the_fault.Goals as goal
 
 pub returns-clause-read : goal.returns-clause-read
-returns-clause-read c = λ most bytes width height bits x f are h. ordered bytes are bits x f most width height h
+returns-clause-read c = λ most bytes width height bits x f are h. ordered bytes are bits x f most
+    width height h
 
 pub returns-clause-refused : goal.returns-clause-refused
 returns-clause-refused c = λ most bytes width height bits x f are long whole h.
-    inr (inr (long, whole, inr (inl (ordered (body_of bytes) (taken_bytes bytes (length bytes - 4) are) bits x f most width height h))))
+    inr (inr (
+      long,
+      whole,
+      inr (inl (ordered (body_of bytes)
+          (taken_bytes bytes (length bytes - 4) are) bits x f most width height h)),
+    ))
 
 pub returns-clause-found : goal.returns-clause-found
 returns-clause-found c = λ most bytes width height f h. first_bad bytes most width height f h
 
 pub returns-clause-because : goal.returns-clause-because
-returns-clause-because c = λ most bytes width height f h. refused_because most bytes width height f h
+returns-clause-because c = λ most bytes width height f h. refused_because most bytes width height f
+    h

@@ -1,3 +1,5 @@
+-- Which fault `Config::check` tells: one of its own seven, the one of which the configuration does
+-- not meet what it has to, and none of the faults of reading.
 use Rattle.ffv1_record.specs.Accepted.{checks}
 use Rattle.ffv1_record.proofs.RecordIsRead.{named_first, fails_first, none_stands}
 use Rattle.ffv1_record.proofs.laws.first_fault_is_an_unmet_check.Goals as goal

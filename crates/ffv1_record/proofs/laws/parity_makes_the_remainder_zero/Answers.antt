@@ -1,3 +1,5 @@
+-- Bytes followed by four more have the remainder 0 exactly where the four are their parity, big end
+-- first; and the parity of bytes is 0 exactly where their remainder is.
 use Rattle.ffv1_record.proofs.ParityLaws.{stored, parity_zero, remainder_small, parity_small}
 use Rattle.ffv1_record.proofs.laws.parity_makes_the_remainder_zero.Goals as goal
 

@@ -1,3 +1,4 @@
+-- The remainder of a sum, place by place, of bytes is the sum of the remainders.
 use Rattle.ffv1_record.proofs.ParityLaws.{added}
 use Rattle.ffv1_record.proofs.laws.remainders_add_place_by_place.Goals as goal
 

@@ -1,3 +1,4 @@
+-- A count that is coded less 1.
 use Rattle.ffv1_record.proofs.CallsGive.{and_then, gives_done}
 use Rattle.ffv1_record.proofs.read.read_count.Goals as goal
 

@@ -1,3 +1,4 @@
+-- The 255 deltas of coder_type 2.
 use Rattle.std.proofs.Common.{◌≡◌, arith, rules, ◌∙◌}
 use Rattle.std.specs.Int.{w32}
 use mir.Val.{SFits, to_z, of_z}
@@ -9,15 +10,19 @@ use Rattle.ffv1_record.proofs.read.read_deltas.Goals as goal
 
 pub returns-in_err-deltas-clause-gives : goal.returns-in_err-deltas-clause-gives
 returns-in_err-deltas-clause-gives c =
-    handed c.from_residual.result c.from_residual.ensures.1 (deltas_refuse_at 255 c.loop-k.k _ _ _ _ _ _ c.loop-k-test.true c.loop-k.invariant.leads c.in_err-deltas.ensures.gives)
+    handed c.from_residual.result c.from_residual.ensures.1
+    (deltas_refuse_at 255 c.loop-k.k _ _ _ _ _ _ c.loop-k-test.true c.loop-k.invariant.leads
+    c.in_err-deltas.ensures.gives)
 
 pub loop-k-preserved : goal.loop-k-preserved
 loop-k-preserved c =
     let fits : SFits w32 c.in_ok-deltas.field-0 = search rules in
-    let is : to_z w32 (of_z w32 c.in_ok-deltas.field-0) ≡ c.in_ok-deltas.field-0 = to_z-of_z w32 c.in_ok-deltas.field-0 fits in
+    let is : to_z w32 (of_z w32 c.in_ok-deltas.field-0) ≡ c.in_ok-deltas.field-0 = to_z-of_z w32
+    c.in_ok-deltas.field-0 fits in
     rw is (record {
       long = length-set _ _ _ ∙ c.loop-k.invariant.long;
-      leads = deltas_next 255 _ _ _ _ _ _ _ c.loop-k-test.true c.loop-k.invariant.long c.loop-k.invariant.leads c.in_ok-deltas.ensures.gives;
+      leads = deltas_next 255 _ _ _ _ _ _ _ c.loop-k-test.true c.loop-k.invariant.long
+          c.loop-k.invariant.leads c.in_ok-deltas.ensures.gives;
     })
 
 pub returns-clause-gives : goal.returns-clause-gives

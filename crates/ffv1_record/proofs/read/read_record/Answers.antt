@@ -1,3 +1,5 @@
+-- The configuration of a record (RFC 9043, 4.3), for pictures of a size that the container tells,
+-- in the profile `Strict`, whose depth is 8.
 use Rattle.std.proofs.Common.{arith}
 use Rattle.ffv1_record.proofs.Checks.{depth_bounds}
 use Rattle.ffv1_record.proofs.read.read_record.Goals as goal
@@ -10,4 +12,5 @@ returns-in-Ok-clause-depth g c =
     omega (arith, least, most)
 
 pub returns-in-Ok-clause-only : goal.returns-in-Ok-clause-only
-returns-in-Ok-clause-only g c = λ x t wide high eight is stored. c.in-Ok.ensures.only x t wide high (omega (arith, eight)) is stored
+returns-in-Ok-clause-only g c = λ x t wide high eight is stored. c.in-Ok.ensures.only x t wide high
+    (omega (arith, eight)) is stored

@@ -1,3 +1,5 @@
+-- The remainder of some bytes, one more and 32 bits 0, from the remainder of the bytes and 32 bits
+-- 0.
 use Rattle.std.proofs.Common.{◌*◌, bit_xor, ◌%◌, ap, ◌∙◌, arith}
 use Rattle.ffv1_record.proofs.Remainders.{single}
 use Rattle.ffv1_record.proofs.remainder.after_byte.Goals as goal

@@ -1,3 +1,4 @@
+-- Columns and rows.
 use Rattle.ffv1_record.proofs.EncoderSteps.{wrote_on}
 use Rattle.ffv1_record.proofs.write.write_grid.Goals as goal
 

@@ -1,3 +1,4 @@
+-- Whether each number of pairs of bytes, the low byte first, lies below this one.
 use Rattle.std.proofs.Common.{◌+◌, ◌*◌, ◌<◌, length, sym, ◌∙◌, arith}
 use Rattle.ffv1_samples.proofs.Depths.{below_more, below_all}
 use Rattle.ffv1_samples.proofs.depth.all_below.Goals as goal
@@ -13,4 +14,5 @@ loop-place-preserved c =
     rw (low, high, so_far) (sym (below_more c.args.most place c.args.bytes.now inside))
 
 pub returns : goal.returns
-returns c = c.loop-place.invariant ∙ below_all c.args.most c.loop-place.place c.args.bytes.now c.loop-place-test.false
+returns c = c.loop-place.invariant ∙ below_all c.args.most c.loop-place.place c.args.bytes.now
+    c.loop-place-test.false

@@ -1,3 +1,4 @@
+-- Pictures of a configuration that was checked are divided so.
 use Rattle.ffv1_slice.proofs.Tilings.{few_planes}
 use Rattle.ffv1_slice.proofs.laws.accepted_pictures_are_divided.Goals as goal
 

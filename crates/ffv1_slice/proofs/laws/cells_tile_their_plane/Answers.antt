@@ -1,3 +1,4 @@
+-- The cells of a plane cover each of its samples once, and nothing else.
 use Rattle.ffv1_slice.proofs.Tilings.{divided_across, divided_down, covered_once, covered_inside}
 use Rattle.ffv1_slice.proofs.laws.cells_tile_their_plane.Goals as goal
 

@@ -1,3 +1,4 @@
+-- A footer is as long as a configuration says, and with its parity a slice has the remainder 0.
 use Rattle.std.proofs.Common.{[], ◌∷◌, ap, ◌∙◌, refl, length}
 use Rattle.ffv1_range.specs.Codes.{digits}
 use Rattle.ffv1_record.specs.Parity.{remainder_of, parity_of}
@@ -13,4 +14,5 @@ returns-clause-whole c = λ bytes are.
     let all = bytes_unsealed bytes are in
     let seal = parity_of (unsealed bytes) in
     ap remainder_of (regrouped bytes (digits 3 (length bytes)) (0 ∷ []) (digits 4 seal))
-    ∙ (c.parity_makes_the_remainder_zero.ensures.stored (unsealed bytes) seal all (c.parity_makes_the_remainder_zero.ensures.small_parity (unsealed bytes) all)).1 refl
+    ∙ (c.parity_makes_the_remainder_zero.ensures.stored (unsealed bytes) seal all
+    (c.parity_makes_the_remainder_zero.ensures.small_parity (unsealed bytes) all)).1 refl

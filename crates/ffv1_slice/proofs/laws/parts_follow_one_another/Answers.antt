@@ -1,4 +1,6 @@
-use Rattle.ffv1_slice.proofs.Parts.{begin_first, begin_next, length_some, lies_in_one, lies_only, lies_inside}
+-- The parts of a side stand one after the other, from 0 to its end, and none is empty.
+use Rattle.ffv1_slice.proofs.Parts.{begin_first, begin_next, length_some, lies_in_one, lies_only}
+use Rattle.ffv1_slice.proofs.Parts.{lies_inside}
 use Rattle.ffv1_slice.proofs.laws.parts_follow_one_another.Goals as goal
 
 pub returns-clause-first : goal.returns-clause-first

@@ -1,3 +1,4 @@
+-- A byte, and some bytes 0 after it, struck out.
 use Rattle.ffv1_sum.proofs.Blocks.{table}
 use Rattle.ffv1_sum.proofs.sum.entry.Goals as goal
 

@@ -7,4 +7,5 @@ abbrev pub invariant-loop-block : goal.invariant-loop-block
 invariant-loop-block l = l.sum ≡ fold byte_step l.fn.sum (take (8 * l.block-index) l.bytes)
 
 abbrev pub invariant-loop-byte : goal.invariant-loop-byte
-invariant-loop-byte l = l.sum ≡ fold byte_step l.fn.sum (take (length l.bytes / 8 * 8 + l.byte-index) l.bytes)
+invariant-loop-byte l = l.sum ≡ fold byte_step l.fn.sum
+    (take (length l.bytes / 8 * 8 + l.byte-index) l.bytes)

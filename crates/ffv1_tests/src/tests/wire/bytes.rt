@@ -1,13 +1,13 @@
-//! Bytes read and written, and lines handed over, where calls fail.
+//! Bytes read and written where calls fail, and the laws of lines at a sink.
 
-ghost use Rattle.std.specs.Prelude.{◌≡◌, ◌≤◌, ◌++◌, ◌+◌, ◌*◌, ◌<◌, length, drop, IfOk};
+ghost use Rattle.std.specs.Prelude.{◌≡◌, ◌≤◌, ◌++◌, ◌+◌, ◌<◌, length, drop, IfOk};
 
-use super::sinks::{KeepRows, RowsOut, keep_rows};
 use crate::tests::made::shows;
+use ffv1_codec::KeepLines;
 use ffv1_doubles::{FailingReader, FailingWriter, ShortWriter};
 use ffv1_wire::{
-    ByteIn, ByteOut, Failed, FromRead, Line, LineSink, SinkFault, ToWrite, hand_over,
-    laws as wire_laws, read_byte, read_full, skip, write_all,
+    ByteIn, ByteOut, Failed, FromRead, SinkFault, ToWrite, laws as wire_laws, read_byte, read_full,
+    skip, write_all,
 };
 use std::alloc::Global;
 use std::io::{ErrorKind, Read, Write, repeat};
@@ -94,29 +94,6 @@ fn write_once<W: Write>(out: W, bytes: &[u8]) -> (Result<(), Failed>, u64, W) {
     let written = write_all(&mut out, bytes);
     let failures = out.failures();
     (written, failures, out.into_inner())
-}
-
-/// Three rows of two planes.
-fn three_rows(bytes: &[u8], width: usize) -> [Line<'_>; 3]
-    requires { 3 * width ≤ length bytes.now }
-{
-    [
-        Line {
-            plane: 0,
-            y: 0,
-            samples: &bytes[..width],
-        },
-        Line {
-            plane: 0,
-            y: 1,
-            samples: &bytes[width..2 * width],
-        },
-        Line {
-            plane: 1,
-            y: 0,
-            samples: &bytes[2 * width..3 * width],
-        },
-    ]
 }
 
 /// Whether bytes are put after those of a vector.
@@ -313,59 +290,11 @@ fn short_writes(rt: HostRuntime) {
     writes_to_the_end(&rt, rt.alloc(), Some(ErrorKind::Interrupted));
 }
 
-/// Hands three rows to a sink that refuses one after so many: whether all are taken, whether none
-/// fails, whether the samples of those before are kept, and how many are offered.
-fn refuse_line(alloc: Global, width: usize, n: usize) -> (bool, bool, bool, u64)
-    requires width { width ≤ 2 }
-    requires before { n ≤ 3 }
-    requires samples { n * width ≤ 6 }
-{
-    let mut sink = KeepRows::new(alloc, n, u64::MAX);
-    let all = keep_rows(&mut sink, &three_rows(&BYTES, width)).is_ok();
-    let kept = sink.samples() == &BYTES[..n * width];
-    (all, sink.failures() == 0, kept, sink.offered())
-}
-
-#[test]
-fn refused_lines(rt: HostRuntime) {
-    for width in 0..3usize {
-        for n in 0..4usize {
-            let offered = 3.min(n as u64 + 1);
-            let refused = refuse_line(rt.alloc(), width, n);
-            assert!(rt; refused == (n == 3, n < 3, true, offered));
-        }
-    }
-}
-
 #[test]
 fn laws_at_a_sink() {
-    wire_laws::runs_in_a_row_are_one::<KeepRows>();
-    wire_laws::refusal_after_a_run_is_one::<KeepRows>();
-    wire_laws::taken_lines_move_what_is_shown::<KeepRows, u64>();
-    wire_laws::sink_keeps_the_lines_it_took::<KeepRows>();
-    wire_laws::sink_writes_the_text_of_lines::<KeepRows>();
-}
-
-/// Writes three rows where there is room for so many bytes: whether that succeeds, whether it is
-/// without failures, and whether as many bytes are written as there is room for.
-fn write_lines(alloc: Global, width: usize, room: usize) -> (bool, bool, bool)
-    requires width { width ≤ 2 }
-{
-    let out = ToWrite::new(ShortWriter::new(alloc, room, 2, None));
-    let mut sink = RowsOut::new(out);
-    let all = hand_over(&mut sink, &three_rows(&BYTES, width)).is_ok();
-    let inner = sink.into_inner();
-    let whole = inner.failures() == 0;
-    let filled = inner.into_inner().held() == &BYTES[..room.min(3 * width)];
-    (all, whole, filled)
-}
-
-#[test]
-fn lines_written(rt: HostRuntime) {
-    for width in 0..3usize {
-        for room in 0..7usize {
-            let all = 3 * width <= room;
-            assert!(rt; write_lines(rt.alloc(), width, room) == (all, all, true));
-        }
-    }
+    wire_laws::runs_in_a_row_are_one::<KeepLines>();
+    wire_laws::refusal_after_a_run_is_one::<KeepLines>();
+    wire_laws::taken_lines_move_what_is_shown::<KeepLines, u64>();
+    wire_laws::sink_keeps_the_lines_it_took::<KeepLines>();
+    wire_laws::sink_writes_the_text_of_lines::<KeepLines>();
 }

@@ -12,7 +12,7 @@ static PICTURES: &[u8] = b"YUV4MPEG2 W2 H2 F25:1 I? A0:0 C420jpeg\nFRAME\nabcdef
 
 static IMAGES: &[u8] = b"P6\n2 1\n255\nabcdefP6\n2 1\n255\nghijkl";
 
-/// How many pictures of YUV4MPEG2 an input has; the fault, where it is told again.
+/// How many pictures of YUV4MPEG2 an input has; the fault, where it comes again.
 fn pictures<R: Read, A: Allocator + Copy>(alloc: A, input: &mut FromRead<R>) -> Result<u32, Fault> {
     let mut reader = Y4mReader::open(alloc, None, input)?;
     let mut planes = Vec::new(alloc);
@@ -28,7 +28,7 @@ fn pictures<R: Read, A: Allocator + Copy>(alloc: A, input: &mut FromRead<R>) -> 
     Ok(count)
 }
 
-/// How many images of PPM an input has; the fault, where it is told again.
+/// How many images of PPM an input has; the fault, where it comes again.
 fn images<R: Read, A: Allocator + Copy>(alloc: A, input: &mut FromRead<R>) -> Result<u32, Fault> {
     let mut reader = PpmReader::open(alloc, None, input)?;
     let mut planes = Vec::new(alloc);

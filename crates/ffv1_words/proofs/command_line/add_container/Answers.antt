@@ -9,6 +9,12 @@ use Rattle.ffv1_words.proofs.command_line.add_container.Goals as goal
 pub returns : goal.returns
 returns c =
     IfOk-weaker c.arg.result (AddsArg c.args.command c.word_arg.result)
-    (λ (x : Command). (app_of x ≡ with_container c.args.containers (app_of c.args.command)) × ((fields_of x).has_globals ≡ false))
-    (λ x adds. (adds.shape c.word_arg.ensures.own ∙ ap (with_rule (app_of c.args.command)) c.word_arg.ensures.rule, adds.globals ∙ ap₂ (λ a b. a || b) c.requires c.word_arg.ensures.own))
+    (λ (x : Command). (app_of x ≡ with_container c.args.containers (app_of c.args.command)) ×
+    ((fields_of x).has_globals ≡ false))
+    (λ x adds. (
+      adds.shape c.word_arg.ensures.own ∙ ap (with_rule (app_of c.args.command))
+          c.word_arg.ensures.rule,
+      adds.globals ∙ ap₂ (λ a b. a || b) c.requires
+          c.word_arg.ensures.own,
+    ))
     c.arg.ensures

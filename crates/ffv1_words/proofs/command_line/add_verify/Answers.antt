@@ -9,6 +9,12 @@ use Rattle.ffv1_words.proofs.command_line.add_verify.Goals as goal
 pub returns : goal.returns
 returns c =
     IfOk-weaker c.arg.result (AddsArg c.args.command c.flag_arg.result)
-    (λ (x : Command). (app_of x ≡ with_verify (app_of c.args.command)) × ((fields_of x).has_globals ≡ false))
-    (λ x adds. (adds.shape c.flag_arg.ensures.own ∙ ap (with_rule (app_of c.args.command)) c.flag_arg.ensures.rule, adds.globals ∙ ap₂ (λ a b. a || b) c.requires c.flag_arg.ensures.own))
+    (λ (x : Command). (app_of x ≡ with_verify (app_of c.args.command)) ×
+    ((fields_of x).has_globals ≡ false))
+    (λ x adds. (
+      adds.shape c.flag_arg.ensures.own ∙ ap (with_rule (app_of c.args.command))
+          c.flag_arg.ensures.rule,
+      adds.globals ∙ ap₂ (λ a b. a || b) c.requires
+          c.flag_arg.ensures.own,
+    ))
     c.arg.ensures

@@ -1,3 +1,4 @@
+-- Reads the words of a command line, the program's name first.
 use Rattle.std.proofs.Common.{rules, List, map}
 use Rattle.std.proofs.lemmas.Result.{IfErr-weaker, IfOk-weaker}
 use Rattle.clap.specs.Words.{Text}
@@ -10,7 +11,8 @@ returns-clause-ok c =
     let texts : List Text = map (λ w. w.now) c.args.words.now in
     let are : AreContexts c.as_slice.result = search rules in
     let are_containers : AreContainers c.as_slice-2.result = search rules in
-    IfOk-weaker c.read.result (IsOrder (line_app c.as_slice.result c.as_slice-2.result) texts) (λ o. OnLine (λ line. IsOrder line texts o))
+    IfOk-weaker c.read.result (IsOrder (line_app c.as_slice.result c.as_slice-2.result) texts)
+    (λ o. OnLine (λ line. IsOrder line texts o))
     (λ o is. (c.as_slice.result, c.as_slice-2.result, are, are_containers, is))
     c.read.ensures.ok
 
@@ -19,7 +21,8 @@ returns-clause-err c =
     let texts : List Text = map (λ w. w.now) c.args.words.now in
     let are : AreContexts c.as_slice.result = search rules in
     let are_containers : AreContainers c.as_slice-2.result = search rules in
-    IfErr-weaker c.read.result (IsRefused (line_app c.as_slice.result c.as_slice-2.result) texts) (λ e. OnLine (λ line. IsRefused line texts e))
+    IfErr-weaker c.read.result (IsRefused (line_app c.as_slice.result c.as_slice-2.result) texts)
+    (λ e. OnLine (λ line. IsRefused line texts e))
     (λ e is. (c.as_slice.result, c.as_slice-2.result, are, are_containers, is))
     c.read.ensures.err
 
@@ -28,6 +31,7 @@ returns-clause-taken c =
     let texts : List Text = map (λ w. w.now) c.args.words.now in
     let are : AreContexts c.as_slice.result = search rules in
     let are_containers : AreContainers c.as_slice-2.result = search rules in
-    IfErr-weaker c.read.result (IsRefusedIfTaken (line_app c.as_slice.result c.as_slice-2.result) texts) (λ e. OnLine (λ line. IsRefusedIfTaken line texts e))
+    IfErr-weaker c.read.result (IsRefusedIfTaken (line_app c.as_slice.result c.as_slice-2.result)
+    texts) (λ e. OnLine (λ line. IsRefusedIfTaken line texts e))
     (λ e is. (c.as_slice.result, c.as_slice-2.result, are, are_containers, is))
     c.read.ensures.taken

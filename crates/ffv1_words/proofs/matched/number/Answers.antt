@@ -19,9 +19,17 @@ returns-in_err-n-clause-none c = λ _ n named.
 
 pub returns-then-n-high-clause-some : goal.returns-then-n-high-clause-some
 returns-then-n-high-clause-some c =
-    let text = told (one_text (found_of c.args.rows.now) c.args.id.now) (λ none. let bad : ◌≡◌ {A = Option _} (Some c.in_ok-n.n) None = c.in_ok-n.ensures.none none in cc) in
-    let got = c.in_ok-n.ensures.value text.0 text.1 in
-    (text.0, sym (one_text-rows (found_of c.args.rows.now) c.args.id.now) ∙ text.1, got.0.0.0, sym got.0.1, c.if-low-n.true, c.if-n-high.true)
+    let text = told (one_text (found_of c.args.rows.now) c.args.id.now)
+    (λ none. let bad : ◌≡◌ {A = Option _} (Some c.in_ok-n.n) None = c.in_ok-n.ensures.none
+    none in cc) in
+    let got = c.in_ok-n.ensures.value text.0 text.1 in (
+      text.0,
+      sym (one_text-rows (found_of c.args.rows.now) c.args.id.now) ∙ text.1,
+      got.0.0.0,
+      sym got.0.1,
+      c.if-low-n.true,
+      c.if-n-high.true,
+    )
 
 pub returns-else-low-n-clause-none : goal.returns-else-low-n-clause-none
 returns-else-low-n-clause-none c = λ _ n named.

@@ -4,4 +4,5 @@ use Rattle.ffv1_words.proofs.Hyphens.{hyphens_from}
 use Rattle.ffv1_words.proofs.order.has_hyphens.Given as goal
 
 abbrev pub invariant-loop-path : goal.invariant-loop-path
-invariant-loop-path l = bit_number l.seen + hyphens_from l.path-index l.paths ≡ hyphens_from 0 l.paths
+invariant-loop-path l = bit_number l.seen + hyphens_from l.path-index l.paths ≡ hyphens_from 0
+    l.paths

@@ -1,6 +1,17 @@
-use Rattle.ffv1_y4m.proofs.ImageTexts.{all_images_found, all_spelled_found, images_lined, lined_images}
+-- A text of images is read as the head of its sizes, its depth and its images, where depths up to
+-- that one are read, and what is read so is such a text: up to 8 bits with each header of three
+-- lines, above as Netpbm writes it.
+use Rattle.ffv1_y4m.proofs.ImageTexts.{all_images_found, all_spelled_found, images_lined}
+use Rattle.ffv1_y4m.proofs.ImageTexts.{lined_images}
 use Rattle.ffv1_y4m.proofs.ImagesRead.{all_images_read, all_spelled_read}
 use Rattle.ffv1_y4m.proofs.laws.text_is_read_as_its_images.Goals as goal
 
 pub returns : goal.returns
-returns c = record { found = all_images_found; only = all_images_read; spelled = all_spelled_found; told = all_spelled_read; same = lined_images; lined = images_lined }
+returns c = record {
+  found = all_images_found;
+  only = all_images_read;
+  spelled = all_spelled_found;
+  told = all_spelled_read;
+  same = lined_images;
+  lined = images_lined;
+}

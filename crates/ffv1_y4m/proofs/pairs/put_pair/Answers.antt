@@ -1,3 +1,4 @@
+-- Stores two bytes after the first so many.
 use Rattle.ffv1_y4m.proofs.TurnedPairs.{two_stores}
 use Rattle.ffv1_y4m.proofs.pairs.put_pair.Goals as goal
 

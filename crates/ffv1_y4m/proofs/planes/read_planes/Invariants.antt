@@ -8,5 +8,7 @@ abbrev pub invariant-loop-plane : (g : goal.Over) → goal.Live-loop-plane g →
 invariant-loop-plane g l =
     (length l.planes.items ≡ length (plane_bytes l.depth l.head))
     × (g.R.ByteIn.failures l.input ≡ g.R.ByteIn.failures l.initial.input)
-    × Partway l.depth (plane_bytes l.depth l.head) (g.R.ByteIn.remaining l.initial.input) (g.R.ByteIn.remaining l.input) l.plane (samples_of l.planes.items)
-    × (HasRoom (plane_bytes l.depth l.head) l.fn.planes.items → HasRoom (drop l.plane (plane_bytes l.depth l.head)) (drop l.plane l.planes.items))
+    × Partway l.depth (plane_bytes l.depth l.head) (g.R.ByteIn.remaining l.initial.input)
+    (g.R.ByteIn.remaining l.input) l.plane (samples_of l.planes.items)
+    × (HasRoom (plane_bytes l.depth l.head) l.fn.planes.items → HasRoom
+    (drop l.plane (plane_bytes l.depth l.head)) (drop l.plane l.planes.items))

@@ -10,7 +10,8 @@ invariant-loop-done g l =
     × (length l.blue ≡ length l.red)
     × (g.R.ByteIn.failures l.input ≡ g.R.ByteIn.failures l.initial.input)
     × (half_of l.depth l.done ≡ 0)
-    × Colours l.depth (g.R.ByteIn.remaining l.initial.input) (g.R.ByteIn.remaining l.input) l.done (take l.done l.red ∷ take l.done l.green ∷ take l.done l.blue ∷ [])
+    × Colours l.depth (g.R.ByteIn.remaining l.initial.input) (g.R.ByteIn.remaining l.input) l.done
+    (take l.done l.red ∷ take l.done l.green ∷ take l.done l.blue ∷ [])
 
 abbrev pub decreases-loop-done : (g : goal.Over) → goal.Live-loop-done g → ℕ
 decreases-loop-done g l = length l.red - l.done

@@ -1,3 +1,4 @@
+-- Reads the line of the greatest sample: its depth, where it has one of at most `most`.
 use Rattle.std.proofs.Common.{◌≡◌, ◌≤◌, length, arith}
 use Rattle.std.proofs.lemmas.Result.{err_from_is_err_and}
 use Rattle.ffv1_y4m.specs.Header.{line_read}
@@ -11,12 +12,15 @@ returns-in_err-end-clause-answer g c =
     let long : length c.read_line.new.line ≡ 4 = c.read_line.auto.line in
     let few : c.args.most ≤ 8 = omega arith in
     let read = rw long at c.in_err-end.ensures.answer in
-    rw (p.1, p.2) (maximum_stops c.args.most 4 _ c.in_err-end.field-0.0 (room_four c.args.most few) (stands_fresh (line_read 4) Nowhere _ _ _ _ _ read))
+    rw (p.1, p.2) (maximum_stops c.args.most 4 _ c.in_err-end.field-0.0 (room_four c.args.most few)
+    (stands_fresh (line_read 4) Nowhere _ _ _ _ _ read))
 
 pub returns-in_err-end-2-clause-answer : goal.returns-in_err-end-2-clause-answer
 returns-in_err-end-2-clause-answer g c =
-    let p = err_from_is_err_and c.from_residual-in_err-end-2.result c.from_residual-in_err-end-2.ensures.1 in
+    let p = err_from_is_err_and c.from_residual-in_err-end-2.result
+    c.from_residual-in_err-end-2.ensures.1 in
     let long : length c.read_line-2.new.line ≡ 6 = c.read_line-2.auto.line in
     let deep : 9 ≤ c.args.most = omega arith in
     let read = rw long at c.in_err-end-2.ensures.answer in
-    rw (p.1, p.2) (maximum_stops c.args.most 6 _ c.in_err-end-2.field-0.0 (room_six c.args.most deep) (stands_fresh (line_read 6) Nowhere _ _ _ _ _ read))
+    rw (p.1, p.2) (maximum_stops c.args.most 6 _ c.in_err-end-2.field-0.0
+    (room_six c.args.most deep) (stands_fresh (line_read 6) Nowhere _ _ _ _ _ read))

@@ -1,15 +1,22 @@
+-- The head and the depth of a header line, which is given without its line feed.
 use Rattle.std.proofs.Common.{◌-◌, length, take, drop}
 use Rattle.ffv1_y4m.proofs.Sizes.{depth_known, head_known, name_known, words_head}
 use Rattle.ffv1_y4m.proofs.reading.head_of_line.Goals as goal
 
 pub returns-clause-head : goal.returns-clause-head
 returns-clause-head c =
-    head_known c.args.most c.head_of_tags.result (words_head c.args.most (take (length c.args.line.now - 10) (drop 10 c.args.line.now)) c.in_ok-tags.tags c.head_of_tags.result c.in_ok-tags.ensures c.head_of_tags.ensures)
+    head_known c.args.most c.head_of_tags.result
+    (words_head c.args.most (take (length c.args.line.now - 10) (drop 10 c.args.line.now))
+    c.in_ok-tags.tags c.head_of_tags.result c.in_ok-tags.ensures c.head_of_tags.ensures)
 
 pub returns-clause-named : goal.returns-clause-named
 returns-clause-named c =
-    name_known c.args.most c.head_of_tags.result (words_head c.args.most (take (length c.args.line.now - 10) (drop 10 c.args.line.now)) c.in_ok-tags.tags c.head_of_tags.result c.in_ok-tags.ensures c.head_of_tags.ensures)
+    name_known c.args.most c.head_of_tags.result
+    (words_head c.args.most (take (length c.args.line.now - 10) (drop 10 c.args.line.now))
+    c.in_ok-tags.tags c.head_of_tags.result c.in_ok-tags.ensures c.head_of_tags.ensures)
 
 pub returns-clause-most : goal.returns-clause-most
 returns-clause-most c =
-    depth_known c.args.most c.head_of_tags.result (words_head c.args.most (take (length c.args.line.now - 10) (drop 10 c.args.line.now)) c.in_ok-tags.tags c.head_of_tags.result c.in_ok-tags.ensures c.head_of_tags.ensures)
+    depth_known c.args.most c.head_of_tags.result
+    (words_head c.args.most (take (length c.args.line.now - 10) (drop 10 c.args.line.now))
+    c.in_ok-tags.tags c.head_of_tags.result c.in_ok-tags.ensures c.head_of_tags.ensures)

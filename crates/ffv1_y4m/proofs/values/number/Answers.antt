@@ -1,3 +1,4 @@
+-- The number below 2 ^ 32 whose one decimal spelling the text is: no sign, no leading zero.
 use Rattle.std.proofs.Common.{◌≡◌, ◌<◌, ◌^◌, sym, ◌∙◌, decimal, ap, subst, arith}
 use Rattle.std.specs.Str.{IsUtf8}
 use Rattle.std.specs.Cmp.Lexicographic.{same_text, other_text}
@@ -25,7 +26,9 @@ pub returns-then-eq : goal.returns-then-eq
 returns-then-eq c =
     let whole = c.in-Ok.ensures.cases.0 in
     let text : c.format.result.now ≡ c.in-Ok.digits.now = same_text _ _ c.if-eq.ensures in
-    sym (number_is c.in-Ok-parse.number c.args.text.now (omega (arith, c.in-Ok-parse.ensures.value.0)) (sym whole ∙ (sym text ∙ c.format.ensures.text)))
+    sym (number_is c.in-Ok-parse.number c.args.text.now
+    (omega (arith, c.in-Ok-parse.ensures.value.0))
+    (sym whole ∙ (sym text ∙ c.format.ensures.text)))
 
 pub returns : goal.returns
 returns c =

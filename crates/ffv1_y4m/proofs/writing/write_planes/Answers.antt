@@ -1,3 +1,4 @@
+-- Writes the samples of the planes.
 use Rattle.std.proofs.lemmas.Result.{err_from_is_err_and}
 use Rattle.std.proofs.lemmas.List.Folds.{flat_map-map}
 use Rattle.std.proofs.lemmas.List.{take_all}
@@ -9,7 +10,8 @@ returns-in_err-write_part g c =
     let p = err_from_is_err_and c.from_residual.result c.from_residual.ensures.1 in
     let h = c.loop-plane.invariant in
     let w = rw (c.deref.ensures.value, c.plane-item.is) at c.in_err-write_part.ensures in
-    rw (p.1, p.2, flat_map-map) (parts_stop (λ plane. plane.items) c.args.planes.now c.loop-plane.plane-index c.plane-item.result _ _ _ _ _ _ _ c.loop-plane-test.true h.0 h.1 w)
+    rw (p.1, p.2, flat_map-map) (parts_stop (λ plane. plane.items) c.args.planes.now
+    c.loop-plane.plane-index c.plane-item.result _ _ _ _ _ _ _ c.loop-plane-test.true h.0 h.1 w)
 
 pub returns : goal.returns
 returns g c =

@@ -1,3 +1,4 @@
+-- Reads a header of a depth of at most `most`.
 use Rattle.std.proofs.lemmas.Result.{err_from_is_err_and}
 use Rattle.ffv1_y4m.specs.Header.{header_of}
 use Rattle.ffv1_y4m.specs.Reads.{Nowhere}
@@ -9,7 +10,9 @@ use Rattle.ffv1_y4m.proofs.y4m_reader.open_at.Goals as goal
 pub returns-in_err-said-clause-answer : goal.returns-in_err-said-clause-answer
 returns-in_err-said-clause-answer g c =
     let p = err_from_is_err_and c.from_residual.result c.from_residual.ensures.1 in
-    rw (p.1, p.2) (answers_err said_by (header_of c.args.most) Nowhere _ c.in_err-said.field-0.0 c.in_err-said.ensures.answer)
+    rw (p.1, p.2) (answers_err said_by (header_of c.args.most) Nowhere _ c.in_err-said.field-0.0
+    c.in_err-said.ensures.answer)
 
 pub returns-clause-answer : goal.returns-clause-answer
-returns-clause-answer g c = answers_ok (λ (h : DeepHead). h) (header_of c.args.most) Nowhere _ c.in_ok-said.said c.in_ok-said.ensures.answer
+returns-clause-answer g c = answers_ok (λ (h : DeepHead). h) (header_of c.args.most) Nowhere _
+    c.in_ok-said.said c.in_ok-said.ensures.answer

@@ -1,3 +1,5 @@
+-- Reads the next frame in place of what the vector has, and answers true; or false at the end,
+-- where the vector is then empty, each time again, and then nothing is read.
 use Rattle.std.proofs.Common.{rules, ◌≡◌, Bool, Option, [], false, Ok, inl, refl}
 use Rattle.ffv1_avi.specs.Readers.{next_of, next_with}
 use Rattle.ffv1_avi.specs.declared.place.Place.{Place}
@@ -14,13 +16,23 @@ returns-then-self-eq0-2-clause-answer g c =
     let place = c.args.self.now.place in
     let movi : place.movi ≡ 0 = search rules in
     let input : place.input ≡ 0 = search rules in
-    λ sound. answers_by (extent_of place) _ (frame_read place) _ (Ok false) (refl, inl (record { bytes = []; consumed = consumes_none (g.R.ByteIn.remaining c.args.input.now); is = frame_ends place movi input }))
+    λ sound. answers_by (extent_of place) _ (frame_read place) _ (Ok false) (
+      refl,
+      inl (record {
+        bytes = [];
+        consumed = consumes_none
+            (g.R.ByteIn.remaining c.args.input.now);
+        is = frame_ends place movi input;
+      }),
+    )
 
 pub returns-in-Err-clause-own : goal.returns-in-Err-clause-own
-returns-in-Err-clause-own g c = rw (← c.self.view_is) (λ sound. frame_own c.self.inside.place _ _ c.in-Err.fault c.in-Err.ensures.answer)
+returns-in-Err-clause-own g c = rw (← c.self.view_is)
+    (λ sound. frame_own c.self.inside.place _ _ c.in-Err.fault c.in-Err.ensures.answer)
 
 pub returns-in-Ok-Some-clause-offset : goal.returns-in-Ok-Some-clause-offset
-returns-in-Ok-Some-clause-offset g c = rw (← c.self.view_is, c.in-Ok-Some.place-is) (λ sound. rw c.in-Ok-Some.field-0-is at c.in-Ok-Some.ensures.from)
+returns-in-Ok-Some-clause-offset g c = rw (← c.self.view_is, c.in-Ok-Some.place-is)
+    (λ sound. rw c.in-Ok-Some.field-0-is at c.in-Ok-Some.ensures.from)
 
 pub returns-in-Err-clause-offset : goal.returns-in-Err-clause-offset
 returns-in-Err-clause-offset g c = rw (← c.self.view_is) (λ sound. c.in-Err.ensures.from)
@@ -29,4 +41,7 @@ pub returns-in-Err-clause-answer : goal.returns-in-Err-clause-answer
 returns-in-Err-clause-answer g c =
     let place = c.self.inside.place in
     let bytes = c.read_frame.new.frame.items in
-    rw (← c.self.view_is) (λ sound. refused_by (extent_of place) (λ (after : Option Place). next_with bytes after) (λ (more : Bool). next_of more bytes place) (frame_read place) _ c.in-Err.fault c.in-Err.ensures.answer)
+    rw (← c.self.view_is) (λ sound. refused_by (extent_of place)
+    (λ (after : Option Place). next_with bytes after)
+    (λ (more : Bool). next_of more bytes place) (frame_read place) _ c.in-Err.fault
+    c.in-Err.ensures.answer)

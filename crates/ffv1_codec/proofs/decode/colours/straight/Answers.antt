@@ -1,7 +1,9 @@
+-- Red, green and blue of a line of samples of more than 8 bits, where they stand in this order.
 use Rattle.std.proofs.Common.{◌≡◌, ◌++◌, ◌*◌, ◌∙◌, sym, subst, length, arith}
 use Rattle.ffv1_samples.specs.Samples.{samples_of}
 use Rattle.ffv1_codec.specs.Internal.Finished.{AreMade}
-use Rattle.ffv1_codec.proofs.FinishedLines.{line_0, line_1, line_2, plain, three_parts, colours_made, colours_end}
+use Rattle.ffv1_codec.proofs.FinishedLines.{line_0, line_1, line_2, plain, three_parts}
+use Rattle.ffv1_codec.proofs.FinishedLines.{colours_made, colours_end}
 use Rattle.ffv1_codec.proofs.Words.{words_long, three_samples}
 use Rattle.ffv1_codec.proofs.decode.colours.straight.Goals as goal
 
@@ -13,16 +15,31 @@ returns-in-Ok-clause-ok c =
     let y = c.split_at.result.0.now in
     let cb = c.split_at-2.result.0.now in
     let cr = c.split_at-2.result.1.now in
-    let is : c.args.samples.now ≡ y ++ (cb ++ cr) = three_parts w c.args.samples.now y c.split_at.result.1.now cb cr c.split_at.ensures.front c.split_at.ensures.back c.split_at-2.ensures.front c.split_at-2.ensures.back in
+    let is : c.args.samples.now ≡ y ++ (cb ++ cr) = three_parts w c.args.samples.now y
+    c.split_at.result.1.now cb cr c.split_at.ensures.front c.split_at.ensures.back
+    c.split_at-2.ensures.front c.split_at-2.ensures.back in
     let y_long : length y ≡ w = c.split_at.ensures.front_len in
     let cb_long : length cb ≡ w = c.split_at-2.ensures.front_len in
-    let cr_long : length cr ≡ w = omega (arith, c.split_at.ensures.back_len, c.split_at-2.ensures.back_len, c.requires.samples) in
+    let cr_long : length cr ≡ w = omega (
+      arith,
+      c.split_at.ensures.back_len,
+      c.split_at-2.ensures.back_len,
+      c.requires.samples,
+    ) in
     let red = c.inverse_words.new.r in
     let second = c.inverse_words.new.g in
     let third = c.inverse_words.new.b in
-    let red_long : length red ≡ 2 * w = c.inverse_words.auto.r ∙ c.split_at_mut-red.ensures.front_len in
-    let second_long : length second ≡ 2 * w = c.inverse_words.auto.g ∙ c.split_at_mut-second.ensures.front_len in
-    let third_long : length third ≡ 2 * w = c.inverse_words.auto.b ∙ omega (arith, c.split_at_mut-red.ensures.back_len, c.split_at_mut-second.ensures.back_len, c.requires.out) in
+    let red_long : length red ≡ 2 * w = c.inverse_words.auto.r ∙
+    c.split_at_mut-red.ensures.front_len in
+    let second_long : length second ≡ 2 * w = c.inverse_words.auto.g ∙
+    c.split_at_mut-second.ensures.front_len in
+    let third_long : length third ≡ 2 * w = c.inverse_words.auto.b ∙
+    omega (
+      arith,
+      c.split_at_mut-red.ensures.back_len,
+      c.split_at_mut-second.ensures.back_len,
+      c.requires.out,
+    ) in
     let all = three_samples d w c.requires.deep red second third red_long second_long in
     let r = samples_of d red in
     let s = samples_of d second in
@@ -31,7 +48,9 @@ returns-in-Ok-clause-ok c =
     let s_long = words_long d w c.requires.deep second second_long in
     let t_long = words_long d w c.requires.deep third third_long in
     let made : AreMade (plain d w 1 2) c.args.samples.now (r ++ (s ++ t)) =
-    colours_made w c.args.samples.now y cb cr is y_long cb_long cr_long d 1 2 (r ++ (s ++ t)) r s t (line_0 w r s t r_long s_long t_long) (line_1 w r s t r_long s_long t_long) (line_2 w r s t r_long s_long t_long) c.in-Ok.ensures.ok in
+    colours_made w c.args.samples.now y cb cr is y_long cb_long cr_long d 1 2 (r ++ (s ++ t)) r s t
+    (line_0 w r s t r_long s_long t_long) (line_1 w r s t r_long s_long t_long)
+    (line_2 w r s t r_long s_long t_long) c.in-Ok.ensures.ok in
     subst (AreMade (plain d w 1 2) c.args.samples.now) (sym all) made
 
 pub returns-in-Err-clause-err : goal.returns-in-Err-clause-err
@@ -42,8 +61,18 @@ returns-in-Err-clause-err c =
     let y = c.split_at.result.0.now in
     let cb = c.split_at-2.result.0.now in
     let cr = c.split_at-2.result.1.now in
-    let is : c.args.samples.now ≡ y ++ (cb ++ cr) = three_parts w c.args.samples.now y c.split_at.result.1.now cb cr c.split_at.ensures.front c.split_at.ensures.back c.split_at-2.ensures.front c.split_at-2.ensures.back in
+    let is : c.args.samples.now ≡ y ++ (cb ++ cr) = three_parts w c.args.samples.now y
+    c.split_at.result.1.now cb cr c.split_at.ensures.front c.split_at.ensures.back
+    c.split_at-2.ensures.front c.split_at-2.ensures.back in
     let y_long : length y ≡ w = c.split_at.ensures.front_len in
     let cb_long : length cb ≡ w = c.split_at-2.ensures.front_len in
-    let cr_long : length cr ≡ w = omega (arith, c.split_at.ensures.back_len, c.split_at-2.ensures.back_len, c.requires.samples) in
-    colours_end w c.args.samples.now y cb cr is y_long cb_long cr_long d 1 2 (samples_of d c.inverse_words.new.r) (samples_of d c.inverse_words.new.g) (samples_of d c.inverse_words.new.b) c.in-Err.none.x c.in-Err.ensures.inside c.in-Err.ensures.filled c.in-Err.ensures.none
+    let cr_long : length cr ≡ w = omega (
+      arith,
+      c.split_at.ensures.back_len,
+      c.split_at-2.ensures.back_len,
+      c.requires.samples,
+    ) in
+    colours_end w c.args.samples.now y cb cr is y_long cb_long cr_long d 1 2
+    (samples_of d c.inverse_words.new.r) (samples_of d c.inverse_words.new.g)
+    (samples_of d c.inverse_words.new.b) c.in-Err.none.x c.in-Err.ensures.inside
+    c.in-Err.ensures.filled c.in-Err.ensures.none

@@ -6,4 +6,5 @@ use Rattle.ffv1_codec.specs.Internal.Tallies.{tally_over}
 use Rattle.ffv1_codec.proofs.decode.columns.add_up.Given as goal
 
 abbrev pub invariant-loop-k : goal.invariant-loop-k
-invariant-loop-k l = (t : Table) (s : State) → l.fn.before ≡ tally_over t s.done → AreTold t l.columns s → l.tally ≡ tally_over t (s.done ++ take l.k s.columns)
+invariant-loop-k l = (t : Table) (s : State) → l.fn.before ≡ tally_over t s.done → AreTold t
+    l.columns s → l.tally ≡ tally_over t (s.done ++ take l.k s.columns)

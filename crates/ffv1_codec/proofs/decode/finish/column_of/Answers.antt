@@ -1,3 +1,4 @@
+-- The column of slices in which a sample of plane 0 lies.
 use Rattle.std.proofs.Common.{◌≡◌, suc, ◌+◌, ◌-◌, ◌≤◌, ◌<◌, ◌∙◌, ap, sym, subst, arith}
 use Rattle.ffv1_slice.specs.Grid.{across, division_of, begin_of, whole_of}
 use Rattle.ffv1_codec.proofs.decode.finish.column_of.Goals as goal
@@ -5,7 +6,8 @@ use Rattle.ffv1_codec.proofs.decode.finish.column_of.Goals as goal
 pub loop-k-init : goal.loop-k-init
 loop-k-init g c =
     let conf = c.args.frame.now.checked.now.configuration in
-    let are = c.slices_lie_beside_one_another.ensures.across conf c.args.frame.now.checked.now.table 0 c.requires.frame.accepted in
+    let are = c.slices_lie_beside_one_another.ensures.across conf c.args.frame.now.checked.now.table
+    0 c.requires.frame.accepted in
     let first = are.first in
     subst (λ n. n ≤ c.args.x) (sym first) (omega arith)
 
@@ -13,12 +15,16 @@ pub returns-then-x-left-clause-lies : goal.returns-then-x-left-clause-lies
 returns-then-x-left-clause-lies g c =
     let conf = c.args.frame.now.checked.now.configuration in
     let k = c.loop-k.k in
-    let are = c.slices_lie_beside_one_another.ensures.across conf c.args.frame.now.checked.now.table 0 c.requires.frame.accepted in
-    let columns : c.columns-last.result ≡ conf.columns = rw c.requires.frame.grid at c.columns-last.ensures in
+    let are = c.slices_lie_beside_one_another.ensures.across conf c.args.frame.now.checked.now.table
+    0 c.requires.frame.accepted in
+    let columns : c.columns-last.result ≡ conf.columns = rw c.requires.frame.grid at
+    c.columns-last.ensures in
     let inside : k < conf.columns = omega (arith, columns) in
-    let left : c.left.result ≡ begin_of (across (division_of conf) 0) (k + 1) = rw c.requires.frame.grid at c.left.ensures in
+    let left : c.left.result ≡ begin_of (across (division_of conf) 0) (k + 1) =
+    rw c.requires.frame.grid at c.left.ensures in
     let next : k + 1 ≡ suc k = omega arith in
-    let left : c.left.result ≡ begin_of (across (division_of conf) 0) (suc k) = left ∙ ap (begin_of (across (division_of conf) 0)) next in
+    let left : c.left.result ≡ begin_of (across (division_of conf) 0) (suc k) = left ∙
+    ap (begin_of (across (division_of conf) 0)) next in
     let add = are.next k inside in
     record {
       inside = inside;
@@ -30,15 +36,21 @@ pub returns-clause-lies : goal.returns-clause-lies
 returns-clause-lies g c =
     let conf = c.args.frame.now.checked.now.configuration in
     let k = c.columns-last.result - 1 in
-    let are = c.slices_lie_beside_one_another.ensures.across conf c.args.frame.now.checked.now.table 0 c.requires.frame.accepted in
-    let columns : c.columns-last.result ≡ conf.columns = rw c.requires.frame.grid at c.columns-last.ensures in
-    let some = c.accepted_configuration_is_in_range.ensures.columns conf c.args.frame.now.checked.now.table c.requires.frame.accepted in
+    let are = c.slices_lie_beside_one_another.ensures.across conf c.args.frame.now.checked.now.table
+    0 c.requires.frame.accepted in
+    let columns : c.columns-last.result ≡ conf.columns = rw c.requires.frame.grid at
+    c.columns-last.ensures in
+    let some = c.accepted_configuration_is_in_range.ensures.columns conf
+    c.args.frame.now.checked.now.table c.requires.frame.accepted in
     let inside : k < conf.columns = omega (arith, columns, some) in
     let at : c.loop-k.k ≡ k = omega arith in
-    let least : begin_of (across (division_of conf) 0) k ≤ c.args.x = subst (λ n. begin_of (across (division_of conf) 0) n ≤ c.args.x) at c.loop-k.invariant in
+    let least : begin_of (across (division_of conf) 0) k ≤ c.args.x =
+    subst (λ n. begin_of (across (division_of conf) 0) n ≤ c.args.x) at c.loop-k.invariant in
     let add = are.next k inside in
     let last : suc k ≡ conf.columns = omega (arith, columns, some) in
-    let end : begin_of (across (division_of conf) 0) (suc k) ≡ whole_of (across (division_of conf) 0) = ap (begin_of (across (division_of conf) 0)) last ∙ are.last in
+    let end : begin_of (across (division_of conf) 0) (suc k) ≡ whole_of
+    (across (division_of conf) 0) = ap (begin_of (across (division_of conf) 0)) last ∙
+    are.last in
     record {
       inside = inside;
       least = least;

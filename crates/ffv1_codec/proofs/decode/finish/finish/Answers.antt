@@ -1,17 +1,21 @@
-use Rattle.std.proofs.Common.{◌≡◌, ℕ, ◌*◌, ◌^◌, ◌<◌, ◌≤◌, ◌∙◌, ap, sym, subst, length, slice_index, take, drop, true, false, arith, refl}
+-- Makes a line of what was read: the samples as they are, or for RCT the colours.
+use Rattle.std.proofs.Common.{◌≡◌, ℕ, ◌*◌, ◌^◌, ◌<◌, ◌≤◌, ◌∙◌, ap, sym, subst, length, slice_index}
+use Rattle.std.proofs.Common.{take, drop, true, false, arith, refl}
 use Rattle.std.proofs.Math.Nat.{mul-le-mul_left}
 use Rattle.std.proofs.lemmas.List.{length-take-le}
 use Rattle.ffv1_samples.specs.Samples.{bytes_of, sample_bytes}
 use Rattle.ffv1_slice.specs.Grid.{Division}
 use Rattle.ffv1_record.specs.Configuration.{Configuration, is_rct}
 use Rattle.ffv1_codec.specs.Picture.{plane_width, width_bytes}
-use Rattle.ffv1_codec.proofs.LineFinished.{together_one, together_all, rct_is, wide_none, all_small, samples_finished, colours_missing, colours_finished}
+use Rattle.ffv1_codec.proofs.LineFinished.{together_one, together_all, rct_is, wide_none, all_small}
+use Rattle.ffv1_codec.proofs.LineFinished.{samples_finished, colours_missing, colours_finished}
 use Rattle.ffv1_codec.proofs.WideLines.{rct_bits}
 use Rattle.ffv1_codec.proofs.decode.finish.finish.Given.{Over}
 use Rattle.ffv1_codec.proofs.decode.finish.finish.Goals.{After-sample_bytes, In-Rct}
 use Rattle.ffv1_codec.proofs.decode.finish.finish.Goals as goal
 
-room : (b s w width long count : ℕ) → b ≡ s → w ≤ width → count ≡ 1 → long ≡ count * (s * width) → b * w ≤ long
+room : (b s w width long count : ℕ) → b ≡ s → w ≤ width → count ≡ 1 → long ≡ count * (s * width) → b
+    * w ≤ long
 room b s w width long count same narrow one is =
     let more : b * w ≤ b * width = mul-le-mul_left b narrow in
     let all : b * width ≡ s * width = ap (λ k. k * width) same in
@@ -21,31 +25,38 @@ room b s w width long count same narrow one is =
 -- a line of one plane
 module _ (g : Over) (c : After-sample_bytes g) where
   plain : is_rct c.args.frame.now.checked.now.configuration.colour ≡ false
-  plain = ap (λ (z : Configuration). is_rct z.colour) c.config.ensures.value ∙ ap is_rct c.in-YCbCr.is
+  plain = ap (λ (z : Configuration). is_rct z.colour) c.config.ensures.value ∙ ap is_rct
+      c.in-YCbCr.is
 
   one : c.args.line.now.count ≡ 1
-  one = (together_one c.args.frame.now.checked.now.configuration c.args.line.now.first c.args.line.now.count plain c.requires.together).0
+  one = (together_one c.args.frame.now.checked.now.configuration c.args.line.now.first
+      c.args.line.now.count plain c.requires.together).0
 
-  wide_is : c.width-wide.result ≡ plane_width c.args.frame.now.checked.now.configuration c.args.line.now.first
+  wide_is : c.width-wide.result ≡ plane_width c.args.frame.now.checked.now.configuration
+      c.args.line.now.first
   wide_is = rw c.requires.frame.grid at c.width-wide.ensures
 
   narrow : c.width-wide.result ≤ c.args.frame.now.checked.now.configuration.width
   narrow =
       let a = c.args.frame.now.checked.now in
-      let are = c.slices_lie_beside_one_another.ensures.across a.configuration a.table c.args.line.now.first c.requires.frame.accepted in
+      let are = c.slices_lie_beside_one_another.ensures.across a.configuration a.table
+      c.args.line.now.first c.requires.frame.accepted in
       omega (arith, wide_is, are.fits)
 
   fits : c.width-wide.result ≤ length c.args.samples.now
   fits =
       let width = c.args.frame.now.checked.now.configuration.width in
-      let count : c.args.line.now.count * width ≡ width = ap (λ n. n * width) one ∙ (let m : 1 * width ≡ width = omega arith in m) in
+      let count : c.args.line.now.count * width ≡ width = ap (λ n. n * width) one ∙
+      (let m : 1 * width ≡ width = omega arith in m) in
       omega (arith, narrow, count, c.requires.samples)
 
   out : c.sample_bytes.result * c.width-wide.result ≤ length c.args.out.now
   out =
       let conf = c.args.frame.now.checked.now.configuration in
-      let same : c.sample_bytes.result ≡ sample_bytes conf.depth = c.sample_bytes.ensures.value ∙ ap (λ (d : Division). sample_bytes d.depth) c.requires.frame.grid in
-      room c.sample_bytes.result (sample_bytes conf.depth) c.width-wide.result conf.width (length c.args.out.now) c.args.line.now.count same narrow one c.requires.out
+      let same : c.sample_bytes.result ≡ sample_bytes conf.depth = c.sample_bytes.ensures.value ∙
+      ap (λ (d : Division). sample_bytes d.depth) c.requires.frame.grid in
+      room c.sample_bytes.result (sample_bytes conf.depth) c.width-wide.result conf.width
+      (length c.args.out.now) c.args.line.now.count same narrow one c.requires.out
 
 -- lines of RCT
 yes : (g : Over) (c : In-Rct g) → is_rct c.args.frame.now.checked.now.configuration.colour ≡ true
@@ -53,14 +64,17 @@ yes g c = ap (λ (z : Configuration). is_rct z.colour) c.config.ensures.value �
 
 pub slice_bounds-copy_to-end : goal.slice_bounds-copy_to-end
 slice_bounds-copy_to-end g c =
-    sym (length-take-le c.width-wide.result c.args.samples.now (fits g (goal.at.slice_bounds-copy_to-end g c).After-sample_bytes))
+    sym (length-take-le c.width-wide.result c.args.samples.now
+    (fits g (goal.at.slice_bounds-copy_to-end g c).After-sample_bytes))
 
 pub slice_bounds-copy_to-end-in-YCbCr : goal.slice_bounds-copy_to-end-in-YCbCr
-slice_bounds-copy_to-end-in-YCbCr g c = out g (goal.at.slice_bounds-copy_to-end-in-YCbCr g c).After-sample_bytes
+slice_bounds-copy_to-end-in-YCbCr g c = out g (goal.at.slice_bounds-copy_to-end-in-YCbCr g
+    c).After-sample_bytes
 
 pub slice_bounds-copy_to-end-in-YCbCr-2 : goal.slice_bounds-copy_to-end-in-YCbCr-2
 slice_bounds-copy_to-end-in-YCbCr-2 g c =
-    sym (length-take-le (c.sample_bytes.result * c.width-wide.result) c.args.out.now (out g (goal.at.slice_bounds-copy_to-end-in-YCbCr-2 g c).After-sample_bytes))
+    sym (length-take-le (c.sample_bytes.result * c.width-wide.result) c.args.out.now
+    (out g (goal.at.slice_bounds-copy_to-end-in-YCbCr-2 g c).After-sample_bytes))
 
 pub returns-in-YCbCr-clause-exact : goal.returns-in-YCbCr-clause-exact
 returns-in-YCbCr-clause-exact g c = λ coded s stand.
@@ -69,21 +83,29 @@ returns-in-YCbCr-clause-exact g c = λ coded s stand.
     let line = c.args.line.now in
     let wide = c.width-wide.result in
     let d_is = c.depth.ensures.value in
-    let small = all_small conf line.first line.count line.y c.args.samples.now s stand (plain g here) (one g here) wide (wide_is g here) (fits g here) in
-    let copied = c.copy_to.ensures (λ x h. subst (λ d. slice_index (take wide c.args.samples.now) x < 2 ^ d) (sym d_is) (small x h)) ∙ ap (λ d. bytes_of d (take wide c.args.samples.now)) d_is in
-    samples_finished conf line.first line.count line.y c.args.samples.now s stand (plain g here) (one g here) wide (wide_is g here) (fits g here) c.copy_to.new.out (drop (c.sample_bytes.result * wide) c.args.out.now) copied
+    let small = all_small conf line.first line.count line.y c.args.samples.now s stand
+    (plain g here) (one g here) wide (wide_is g here) (fits g here) in
+    let copied = c.copy_to.ensures (λ x h. subst (λ d. slice_index (take wide c.args.samples.now) x
+    < 2 ^ d) (sym d_is) (small x h)) ∙ ap (λ d. bytes_of d (take wide c.args.samples.now))
+    d_is in
+    samples_finished conf line.first line.count line.y c.args.samples.now s stand (plain g here)
+    (one g here) wide (wide_is g here) (fits g here) c.copy_to.new.out
+    (drop (c.sample_bytes.result * wide) c.args.out.now) copied
 
 pub finish_colours-requires-clause-shallow : goal.finish_colours-requires-clause-shallow
 finish_colours-requires-clause-shallow g c =
-    let bits = rct_bits c.args.frame.now.checked.now.configuration (yes g (goal.at.finish_colours-requires-clause-shallow g c).In-Rct) in
+    let bits = rct_bits c.args.frame.now.checked.now.configuration
+    (yes g (goal.at.finish_colours-requires-clause-shallow g c).In-Rct) in
     omega (arith, bits, c.requires.bits)
 
 pub colourless-requires-clause-x : goal.colourless-requires-clause-x
 colourless-requires-clause-x g c =
     let a = c.args.frame.now.checked.now in
     let yes = yes g (goal.at.colourless-requires-clause-x g c).In-Rct in
-    let parts = c.accepted_configuration_has_sound_parts.ensures.rct a.configuration a.table c.requires.frame.accepted (rct_is a.configuration.colour yes) in
-    let wide : plane_width a.configuration 0 ≡ a.configuration.width = wide_none a.configuration 0 parts.1 in
+    let parts = c.accepted_configuration_has_sound_parts.ensures.rct a.configuration a.table
+    c.requires.frame.accepted (rct_is a.configuration.colour yes) in
+    let wide : plane_width a.configuration 0 ≡ a.configuration.width = wide_none a.configuration 0
+    parts.1 in
     let end = c.in-Err.ensures.err in
     omega (arith, wide, end.inside)
 
@@ -94,9 +116,12 @@ returns-in-Ok-clause-exact g c = λ coded s stand.
     let line = c.args.line.now in
     let yes = yes g (goal.at.returns-in-Ok-clause-exact g c).In-Rct in
     let all = together_all conf line.first line.count yes c.requires.together in
-    let parts = c.accepted_configuration_has_sound_parts.ensures.rct conf a.table c.requires.frame.accepted (rct_is conf.colour yes) in
-    let long : length c.finish_colours.new.out ≡ line.count * width_bytes conf = c.finish_colours.auto.out ∙ c.requires.out in
-    colours_finished conf line.first line.count line.y c.args.samples.now s stand yes parts.1 all.0 all.1 parts.0 c.finish_colours.new.out long c.are_bytes.ensures c.in-Ok.ensures.ok
+    let parts = c.accepted_configuration_has_sound_parts.ensures.rct conf a.table
+    c.requires.frame.accepted (rct_is conf.colour yes) in
+    let long : length c.finish_colours.new.out ≡ line.count * width_bytes conf =
+    c.finish_colours.auto.out ∙ c.requires.out in
+    colours_finished conf line.first line.count line.y c.args.samples.now s stand yes parts.1 all.0
+    all.1 parts.0 c.finish_colours.new.out long c.are_bytes.ensures c.in-Ok.ensures.ok
 
 pub returns-in-Err-clause-exact : goal.returns-in-Err-clause-exact
 returns-in-Err-clause-exact g c = λ coded s stand.
@@ -105,7 +130,9 @@ returns-in-Err-clause-exact g c = λ coded s stand.
     let line = c.args.line.now in
     let yes = yes g (goal.at.returns-in-Err-clause-exact g c).In-Rct in
     let all = together_all conf line.first line.count yes c.requires.together in
-    let parts = c.accepted_configuration_has_sound_parts.ensures.rct conf a.table c.requires.frame.accepted (rct_is conf.colour yes) in
-    let missing = colours_missing conf line.first line.count line.y c.args.samples.now s stand yes parts.1 all.0 all.1 parts.0 c.in-Err.x c.in-Err.ensures.err in
+    let parts = c.accepted_configuration_has_sound_parts.ensures.rct conf a.table
+    c.requires.frame.accepted (rct_is conf.colour yes) in
+    let missing = colours_missing conf line.first line.count line.y c.args.samples.now s stand yes
+    parts.1 all.0 all.1 parts.0 c.in-Err.x c.in-Err.ensures.err in
     let f = c.colourless.ensures.fault in
     (c.in-Err.x, f.0, missing, f.1, f.2, refl)

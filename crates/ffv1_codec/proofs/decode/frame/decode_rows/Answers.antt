@@ -1,4 +1,6 @@
-use Rattle.std.proofs.Common.{rules, ◌≡◌, ℕ, ◌<◌, ◌∙◌, ◌++◌, ap, sym, subst, Some, List, length, take, drop, arith}
+-- Decodes what was cut, row after row.
+use Rattle.std.proofs.Common.{rules, ◌≡◌, ℕ, ◌<◌, ◌∙◌, ◌++◌, ap, sym, subst, Some, List, length}
+use Rattle.std.proofs.Common.{take, drop, arith}
 use Rattle.std.proofs.lemmas.List.{with_items_is}
 use Rattle.std.proofs.lemmas.Result.{err_from_is_err_and}
 use Rattle.ffv1_codec.specs.Internal.Opened.{coded_by}
@@ -12,27 +14,50 @@ returns-in_err-decoded-clause-exact g c =
     let coded : ℕ → List ℕ = coded_by a c.args.payload.now c.args.spans.now in
     let takes = g.S.LineSink.takes in
     let refuses = g.S.LineSink.refuses in
-    let rows_are : c.rows-row-end.result ≡ a.configuration.rows = rw (c.new-frame.ensures.frame.grid, c.new-frame.ensures.checked) at c.rows-row-end.ensures in
+    let rows_are : c.rows-row-end.result ≡ a.configuration.rows =
+    rw (c.new-frame.ensures.frame.grid, c.new-frame.ensures.checked) at
+    c.rows-row-end.ensures in
     let done = c.loop-row.invariant.rows in
-    let B = between takes refuses a coded c.args.sink.now c.loop-row.row c.loop-row.tally c.loop-row.first c.loop-row.sink done in
-    let exact = rw (c.new-frame.ensures.checked, c.new-frame.ensures.payload) at c.in_err-decoded.ensures.exact in
+    let B = between takes refuses a coded c.args.sink.now c.loop-row.row c.loop-row.tally
+    c.loop-row.first c.loop-row.sink done in
+    let exact = rw (c.new-frame.ensures.checked, c.new-frame.ensures.payload) at
+    c.in_err-decoded.ensures.exact in
     let inside : c.loop-row.row < a.configuration.rows = omega (arith, rows_are) in
     let p = err_from_is_err_and c.from_residual.result c.from_residual.ensures.1 in
-    rw (p.1, p.2) (rows_fail takes refuses a coded c.args.sink.now c.loop-row.row c.loop-row.tally c.loop-row.first c.loop-row.sink done c.decode_row-decoded.new.buffers.slices.columns.items c.add_up.result (λ s is told. c.add_up.ensures a.table s is (subst (λ z. AreTold a.table z s) (sym c.deref.ensures.value) told)) c.in_err-decoded.field-0.0 c.decode_row-decoded.new.sink inside
+    rw (p.1, p.2) (rows_fail takes refuses a coded c.args.sink.now c.loop-row.row c.loop-row.tally
+    c.loop-row.first c.loop-row.sink done c.decode_row-decoded.new.buffers.slices.columns.items
+    c.add_up.result (λ s is told. c.add_up.ensures a.table s is
+    (subst (λ z. AreTold a.table z s) (sym c.deref.ensures.value) told))
+    c.in_err-decoded.field-0.0 c.decode_row-decoded.new.sink inside
     (exact c.args.sink.now done.state B done.grows))
 
 pub returns-in_err-decoded-clause-same : goal.returns-in_err-decoded-clause-same
 returns-in_err-decoded-clause-same g c =
     let vector = c.loop-row.buffers.slices.columns in
-    let closed : take vector.len (c.close.new.columns ++ drop (length c.close.new.columns) vector.items) ≡ c.close.new.columns =
+    let closed : take vector.len (c.close.new.columns ++ drop (length c.close.new.columns)
+    vector.items) ≡ c.close.new.columns =
     with_items_is vector c.close.new.columns (c.close.auto.columns ∙ c.deref_mut.ensures.len) in
     record {
-      slices = record { columns = c.in_err-decoded.ensures.same.slices.columns ∙ ap length closed ∙ c.close.auto.columns ∙ ap length c.deref_mut.ensures.value ∙ c.loop-row.invariant.same.slices.columns; states = c.in_err-decoded.ensures.same.slices.states ∙ c.loop-row.invariant.same.slices.states; columns_capacity = c.in_err-decoded.ensures.same.slices.columns_capacity ∙ c.loop-row.invariant.same.slices.columns_capacity; states_capacity = c.in_err-decoded.ensures.same.slices.states_capacity ∙ c.loop-row.invariant.same.slices.states_capacity };
+      slices = record {
+        columns = c.in_err-decoded.ensures.same.slices.columns ∙ ap length closed ∙
+            c.close.auto.columns ∙ ap length c.deref_mut.ensures.value ∙
+            c.loop-row.invariant.same.slices.columns;
+        states =
+            c.in_err-decoded.ensures.same.slices.states ∙ c.loop-row.invariant.same.slices.states;
+        columns_capacity = c.in_err-decoded.ensures.same.slices.columns_capacity ∙
+            c.loop-row.invariant.same.slices.columns_capacity;
+        states_capacity =
+            c.in_err-decoded.ensures.same.slices.states_capacity ∙
+            c.loop-row.invariant.same.slices.states_capacity;
+      };
       lines = c.in_err-decoded.ensures.same.lines ∙ c.loop-row.invariant.same.lines;
-      words = λ bits holds. c.in_err-decoded.ensures.same.words bits (c.loop-row.invariant.same.words bits holds);
+      words = λ bits holds. c.in_err-decoded.ensures.same.words bits
+          (c.loop-row.invariant.same.words bits holds);
       out = c.in_err-decoded.ensures.same.out ∙ c.loop-row.invariant.same.out;
-      lines_capacity = c.in_err-decoded.ensures.same.lines_capacity ∙ c.loop-row.invariant.same.lines_capacity;
-      out_capacity = c.in_err-decoded.ensures.same.out_capacity ∙ c.loop-row.invariant.same.out_capacity;
+      lines_capacity = c.in_err-decoded.ensures.same.lines_capacity ∙
+          c.loop-row.invariant.same.lines_capacity;
+      out_capacity = c.in_err-decoded.ensures.same.out_capacity ∙
+          c.loop-row.invariant.same.out_capacity;
     }
 
 pub loop-row-preserved : goal.loop-row-preserved
@@ -41,25 +66,50 @@ loop-row-preserved g c =
     let coded : ℕ → List ℕ = coded_by a c.args.payload.now c.args.spans.now in
     let takes = g.S.LineSink.takes in
     let refuses = g.S.LineSink.refuses in
-    let rows_are : c.rows-row-end.result ≡ a.configuration.rows = rw (c.new-frame.ensures.frame.grid, c.new-frame.ensures.checked) at c.rows-row-end.ensures in
+    let rows_are : c.rows-row-end.result ≡ a.configuration.rows =
+    rw (c.new-frame.ensures.frame.grid, c.new-frame.ensures.checked) at
+    c.rows-row-end.ensures in
     let done = c.loop-row.invariant.rows in
-    let B = between takes refuses a coded c.args.sink.now c.loop-row.row c.loop-row.tally c.loop-row.first c.loop-row.sink done in
-    let exact = rw (c.new-frame.ensures.checked, c.new-frame.ensures.payload) at c.in_ok-decoded.ensures.exact in
+    let B = between takes refuses a coded c.args.sink.now c.loop-row.row c.loop-row.tally
+    c.loop-row.first c.loop-row.sink done in
+    let exact = rw (c.new-frame.ensures.checked, c.new-frame.ensures.payload) at
+    c.in_ok-decoded.ensures.exact in
     let vector = c.loop-row.buffers.slices.columns in
-    let closed : take vector.len (c.close.new.columns ++ drop (length c.close.new.columns) vector.items) ≡ c.close.new.columns =
+    let closed : take vector.len (c.close.new.columns ++ drop (length c.close.new.columns)
+    vector.items) ≡ c.close.new.columns =
     with_items_is vector c.close.new.columns (c.close.auto.columns ∙ c.deref_mut.ensures.len) in
     record {
       same = record {
-        slices = record { columns = c.in_ok-decoded.ensures.same.slices.columns ∙ ap length closed ∙ c.close.auto.columns ∙ ap length c.deref_mut.ensures.value ∙ c.loop-row.invariant.same.slices.columns; states = c.in_ok-decoded.ensures.same.slices.states ∙ c.loop-row.invariant.same.slices.states; columns_capacity = c.in_ok-decoded.ensures.same.slices.columns_capacity ∙ c.loop-row.invariant.same.slices.columns_capacity; states_capacity = c.in_ok-decoded.ensures.same.slices.states_capacity ∙ c.loop-row.invariant.same.slices.states_capacity };
+        slices = record {
+          columns = c.in_ok-decoded.ensures.same.slices.columns ∙ ap length closed ∙
+              c.close.auto.columns ∙ ap length c.deref_mut.ensures.value ∙
+              c.loop-row.invariant.same.slices.columns;
+          states =
+              c.in_ok-decoded.ensures.same.slices.states ∙ c.loop-row.invariant.same.slices.states;
+          columns_capacity = c.in_ok-decoded.ensures.same.slices.columns_capacity ∙
+              c.loop-row.invariant.same.slices.columns_capacity;
+          states_capacity =
+              c.in_ok-decoded.ensures.same.slices.states_capacity ∙
+              c.loop-row.invariant.same.slices.states_capacity;
+        };
         lines = c.in_ok-decoded.ensures.same.lines ∙ c.loop-row.invariant.same.lines;
-        words = λ bits holds. c.in_ok-decoded.ensures.same.words bits (c.loop-row.invariant.same.words bits holds);
+        words = λ bits holds. c.in_ok-decoded.ensures.same.words bits
+            (c.loop-row.invariant.same.words bits holds);
         out = c.in_ok-decoded.ensures.same.out ∙ c.loop-row.invariant.same.out;
-        lines_capacity = c.in_ok-decoded.ensures.same.lines_capacity ∙ c.loop-row.invariant.same.lines_capacity;
-        out_capacity = c.in_ok-decoded.ensures.same.out_capacity ∙ c.loop-row.invariant.same.out_capacity;
+        lines_capacity = c.in_ok-decoded.ensures.same.lines_capacity ∙
+            c.loop-row.invariant.same.lines_capacity;
+        out_capacity = c.in_ok-decoded.ensures.same.out_capacity ∙
+            c.loop-row.invariant.same.out_capacity;
       };
       known = λ h. c.in_ok-decoded.ensures.known;
       counted = c.in_ok-decoded.ensures.counted ∙ c.loop-row.invariant.counted;
-      rows = rows_more takes refuses a coded c.args.sink.now c.loop-row.row c.loop-row.tally c.loop-row.first c.loop-row.sink done c.decode_row-decoded.new.buffers.slices.columns.items c.add_up.result (λ s is told. c.add_up.ensures a.table s is (subst (λ z. AreTold a.table z s) (sym c.deref.ensures.value) told)) c.decode_row-decoded.new.first c.decode_row-decoded.new.sink (exact c.args.sink.now done.state B done.grows);
+      rows = rows_more takes refuses a coded c.args.sink.now c.loop-row.row c.loop-row.tally
+          c.loop-row.first c.loop-row.sink done
+          c.decode_row-decoded.new.buffers.slices.columns.items c.add_up.result
+          (λ s is told. c.add_up.ensures a.table s is
+          (subst (λ z. AreTold a.table z s) (sym c.deref.ensures.value) told))
+          c.decode_row-decoded.new.first c.decode_row-decoded.new.sink
+          (exact c.args.sink.now done.state B done.grows);
     }
 
 pub returns-clause-exact : goal.returns-clause-exact
@@ -68,8 +118,11 @@ returns-clause-exact g c =
     let coded : ℕ → List ℕ = coded_by a c.args.payload.now c.args.spans.now in
     let takes = g.S.LineSink.takes in
     let refuses = g.S.LineSink.refuses in
-    let rows_are : c.rows-row-end.result ≡ a.configuration.rows = rw (c.new-frame.ensures.frame.grid, c.new-frame.ensures.checked) at c.rows-row-end.ensures in
+    let rows_are : c.rows-row-end.result ≡ a.configuration.rows =
+    rw (c.new-frame.ensures.frame.grid, c.new-frame.ensures.checked) at
+    c.rows-row-end.ensures in
     let done = c.loop-row.invariant.rows in
     let all : c.loop-row.row ≡ a.configuration.rows = omega (arith, rows_are) in
     let first : c.loop-row.first ≡ Some c.unwrap.result = search rules in
-    rows_end takes refuses a coded c.args.sink.now c.loop-row.row c.loop-row.tally c.loop-row.first c.loop-row.sink done c.each_step_is_one_or_zero.ensures.steps c.unwrap.result all first
+    rows_end takes refuses a coded c.args.sink.now c.loop-row.row c.loop-row.tally c.loop-row.first
+    c.loop-row.sink done c.each_step_is_one_or_zero.ensures.steps c.unwrap.result all first

@@ -10,5 +10,6 @@ invariant-loop-row g l = record {
   same : KeepsLengths l.fn.buffers l.buffers;
   known : 0 < l.row → IsSome l.first;
   counted : g.S.LineSink.failures l.sink ≡ g.S.LineSink.failures l.fn.sink;
-  rows : RowsDecoded g.S.LineSink.takes g.S.LineSink.refuses l.checked (coded_by l.checked l.payload l.spans) l.fn.sink l.row l.tally l.first l.sink;
+  rows : RowsDecoded g.S.LineSink.takes g.S.LineSink.refuses l.checked
+      (coded_by l.checked l.payload l.spans) l.fn.sink l.row l.tally l.first l.sink;
 }

@@ -1,9 +1,13 @@
-use Rattle.std.proofs.Common.{◌≡◌, ◌≢◌, ℕ, suc, ◌+◌, ◌*◌, ◌<◌, ◌≤◌, inl, inr, ◌∙◌, ap, sym, subst, refl, length, slice_set, List, arith, length-set, get_or-set_same, get_or-set_other}
+-- Opens the slices of a row, from the left.
+use Rattle.std.proofs.Common.{◌≡◌, ◌≢◌, ℕ, suc, ◌+◌, ◌*◌, ◌<◌, ◌≤◌, inl, inr, ◌∙◌, ap, sym, subst}
+use Rattle.std.proofs.Common.{refl, length, slice_set, List, arith, length-set, get_or-set_same}
+use Rattle.std.proofs.Common.{get_or-set_other}
 use Rattle.std.specs.Prelude.{IsSome}
 use Rattle.std.proofs.lemmas.Bool.{cases_eq}
 use Rattle.ffv1_codec.specs.Decoding.{slice_number}
 use Rattle.ffv1_codec.specs.Internal.Tied.{IsOpen, column_at, no_column}
-use Rattle.ffv1_codec.specs.Internal.Opened.{RowOpened, ColumnOpened, ColumnRefused, coded_by, row_heads}
+use Rattle.ffv1_codec.specs.Internal.Opened.{RowOpened, ColumnOpened, ColumnRefused, coded_by}
+use Rattle.ffv1_codec.specs.Internal.Opened.{row_heads}
 use Rattle.ffv1_codec.proofs.Sizes.{part_apart, grid_small}
 use Rattle.ffv1_codec.proofs.RowOpenings.{one_opened, one_refused}
 use Rattle.ffv1_codec.proofs.decode.opening.open_row.Goals as goal
@@ -16,12 +20,16 @@ overflow_cast-slice-in-Err g c =
     let n = c.loop-k.k in
     let long : length c.loop-k.columns ≡ conf.columns = omega (arith, c.requires.many) in
     let inside : n < conf.columns = omega (arith, long) in
-    let number : r * length c.loop-k.columns + n ≡ slice_number conf r n = ap (λ z. r * z + n) long in
+    let number : r * length c.loop-k.columns + n ≡ slice_number conf r n = ap (λ z. r * z + n)
+    long in
     let coded : ℕ → List ℕ = coded_by a c.args.frame.now.payload.now c.args.spans.now in
-    let columns = c.accepted_configuration_is_in_range.ensures.columns conf a.table c.requires.frame.accepted in
-    let rows = c.accepted_configuration_is_in_range.ensures.rows conf a.table c.requires.frame.accepted in
+    let columns = c.accepted_configuration_is_in_range.ensures.columns conf a.table
+    c.requires.frame.accepted in
+    let rows = c.accepted_configuration_is_in_range.ensures.rows conf a.table
+    c.requires.frame.accepted in
     let row = part_apart r conf.rows conf.columns c.requires.row in
-    let all : conf.rows * conf.columns ≤ 1024 = grid_small conf.rows conf.columns rows.1 columns.1 in
+    let all : conf.rows * conf.columns ≤ 1024 = grid_small conf.rows conf.columns rows.1
+    columns.1 in
     omega (arith, row, all, inside, number)
 
 pub returns-in-Err-clause-exact : goal.returns-in-Err-clause-exact
@@ -32,11 +40,15 @@ returns-in-Err-clause-exact g c = λ s known fresh says.
     let n = c.loop-k.k in
     let long : length c.loop-k.columns ≡ conf.columns = omega (arith, c.requires.many) in
     let inside : n < conf.columns = omega (arith, long) in
-    let number : r * length c.loop-k.columns + n ≡ slice_number conf r n = ap (λ z. r * z + n) long in
+    let number : r * length c.loop-k.columns + n ≡ slice_number conf r n = ap (λ z. r * z + n)
+    long in
     let coded : ℕ → List ℕ = coded_by a c.args.frame.now.payload.now c.args.spans.now in
     let before = c.loop-k.invariant.row s known fresh says in
-    let refused = subst (λ z. ColumnRefused a coded z c.open_column.new.column c.loop-k.first c.in-Err.fault) number c.in-Err.ensures.exact in
-    rw (c.in_slice.ensures, number) (one_refused a coded c.args.frame.now.payload.now r s n c.loop-k.columns c.loop-k.first c.open_column.new.column before inside long c.in-Err.fault conf.columns inside refused)
+    let refused = subst (λ z. ColumnRefused a coded z c.open_column.new.column c.loop-k.first
+    c.in-Err.fault) number c.in-Err.ensures.exact in
+    rw (c.in_slice.ensures, number) (one_refused a coded c.args.frame.now.payload.now r s n
+    c.loop-k.columns c.loop-k.first c.open_column.new.column before inside long c.in-Err.fault
+    conf.columns inside refused)
 
 pub loop-k-preserved : goal.loop-k-preserved
 loop-k-preserved g c =
@@ -46,27 +58,41 @@ loop-k-preserved g c =
     let n = c.loop-k.k in
     let long : length c.loop-k.columns ≡ conf.columns = omega (arith, c.requires.many) in
     let inside : n < conf.columns = omega (arith, long) in
-    let number : r * length c.loop-k.columns + n ≡ slice_number conf r n = ap (λ z. r * z + n) long in
+    let number : r * length c.loop-k.columns + n ≡ slice_number conf r n = ap (λ z. r * z + n)
+    long in
     let coded : ℕ → List ℕ = coded_by a c.args.frame.now.payload.now c.args.spans.now in
     let next : suc n ≡ n + 1 = omega arith in
     let few : n < length c.loop-k.columns = omega (arith, inside, long) in
-    let now : column_at (slice_set c.loop-k.columns n c.open_column.new.column) n ≡ c.open_column.new.column = get_or-set_same c.loop-k.columns n c.open_column.new.column no_column few in
-    let other : (j : ℕ) → j ≢ n → column_at (slice_set c.loop-k.columns n c.open_column.new.column) j ≡ column_at c.loop-k.columns j =
+    let now : column_at (slice_set c.loop-k.columns n c.open_column.new.column) n ≡
+    c.open_column.new.column = get_or-set_same c.loop-k.columns n c.open_column.new.column
+    no_column few in
+    let other : (j : ℕ) → j ≢ n → column_at (slice_set c.loop-k.columns n c.open_column.new.column)
+    j ≡ column_at c.loop-k.columns j =
     λ j apart. get_or-set_other c.loop-k.columns n j c.open_column.new.column no_column apart in
-    let opened = subst (λ z. ColumnOpened a coded c.args.frame.now.payload.now z c.open_column.new.column c.loop-k.first c.open_column.new.first) number c.in_default.ensures.exact in
+    let opened = subst (λ z. ColumnOpened a coded c.args.frame.now.payload.now z
+    c.open_column.new.column c.loop-k.first c.open_column.new.first) number
+    c.in_default.ensures.exact in
     record {
       closed = λ j from h.
           let apart : j ≢ n = omega (arith, from) in
-          let h : j < length c.loop-k.columns = omega (arith, h, length-set c.loop-k.columns n c.open_column.new.column) in
+          let h : j < length c.loop-k.columns =
+          omega (arith, h, length-set c.loop-k.columns n c.open_column.new.column) in
           ap (λ z. z.parked) (other j apart) ∙ c.loop-k.invariant.closed j (omega (arith, from)) h;
       opened = λ j h. elim (cases_eq j n) [
-        | inl here ↦ subst (λ z. IsOpen c.args.frame.now.payload.now conf.sets (column_at (slice_set c.loop-k.columns n c.open_column.new.column) z)) (sym here)
-            (subst (IsOpen c.args.frame.now.payload.now conf.sets) (sym now) c.in_default.ensures.open)
-        | inr apart ↦ subst (IsOpen c.args.frame.now.payload.now conf.sets) (sym (other j apart)) (c.loop-k.invariant.opened j (omega (arith, h, apart)))
+        | inl here ↦ subst (λ z. IsOpen c.args.frame.now.payload.now conf.sets
+            (column_at (slice_set c.loop-k.columns n c.open_column.new.column) z)) (sym here)
+            (subst (IsOpen c.args.frame.now.payload.now conf.sets) (sym now)
+            c.in_default.ensures.open)
+        | inr apart ↦ subst (IsOpen c.args.frame.now.payload.now conf.sets) (sym (other j apart))
+            (c.loop-k.invariant.opened j (omega (arith, h, apart)))
       ];
       known = λ h. subst IsSome (sym opened.says) refl;
       row = λ s known fresh says.
           let before = c.loop-k.invariant.row s known fresh says in
-          subst (λ z. RowOpened a coded c.args.frame.now.payload.now r z (row_heads (slice_set c.loop-k.columns n c.open_column.new.column) c.open_column.new.first) s) next
-          (one_opened a coded c.args.frame.now.payload.now r s n c.loop-k.columns c.loop-k.first c.open_column.new.column before inside long c.counters_from_zero_show_all_steps.ensures c.open_column.new.first opened);
+          subst (λ z. RowOpened a coded c.args.frame.now.payload.now r z
+          (row_heads (slice_set c.loop-k.columns n c.open_column.new.column)
+          c.open_column.new.first) s) next
+          (one_opened a coded c.args.frame.now.payload.now r s n c.loop-k.columns c.loop-k.first
+          c.open_column.new.column before inside long
+          c.counters_from_zero_show_all_steps.ensures c.open_column.new.first opened);
     }

@@ -1,3 +1,4 @@
+-- What a head says, in whichever profile it is one.
 use Rattle.std.proofs.Common.{◌≡◌, ◌<◌, ◌∙◌, sym, rules}
 use Rattle.ffv1_codec.specs.SliceList.{Said}
 use Rattle.ffv1_codec.proofs.Aspects.{no_aspect, whole_aspect, said_none, said_as}
@@ -13,7 +14,12 @@ returns-then-head c = λ p.
 pub returns : goal.returns
 returns c = λ p.
     let head = c.args.head.now in
-    let whole : Said = record { structure = head.structure; sar_num = head.sar_num; sar_den = head.sar_den } in
+    let whole : Said = record {
+      structure = head.structure;
+      sar_num = head.sar_num;
+      sar_den =
+          head.sar_den;
+    } in
     let is : c.unwrap-2.result ≡ whole = search rules in
     let wide : head.sar_num < 65536 = search rules in
     let high : head.sar_den < 65536 = search rules in

@@ -1,3 +1,4 @@
+-- Reads a line: in each column, from the left, the segment of each plane.
 use Rattle.std.proofs.Common.{◌≡◌, suc, ◌+◌, ◌*◌, ◌<◌, ◌≤◌, subst, length, arith}
 use Rattle.std.proofs.lemmas.Result.{err_from_is_err_and}
 use Rattle.ffv1_codec.specs.Internal.Tied.{PlanesRead}
@@ -17,9 +18,12 @@ returns-in_err-read_at-clause-exact g c = λ coded next s less tied lines.
     let inside : k < a.configuration.columns = omega (arith, c.requires.many) in
     let plane : line.first + i < next = omega (arith, less, few) in
     let here = before.planes_are.todo i (omega arith) few in
-    let made = c.in_err-read_at.ensures.exact coded next before.state plane before.columns_are here in
+    let made = c.in_err-read_at.ensures.exact coded next before.state plane before.columns_are
+    here in
     let p = err_from_is_err_and c.from_residual.result c.from_residual.ensures.1 in
-    rw (p.1, p.2) (planes_stopped a coded line.row next c.args.frame.now.payload.now line.first line.count line.y s two one k i c.planes.columns c.read_at.new.columns c.planes.states (g.W.Word.samples c.planes.cur) c.in_err-read_at.field-0.0
+    rw (p.1, p.2) (planes_stopped a coded line.row next c.args.frame.now.payload.now line.first
+    line.count line.y s two one k i c.planes.columns c.read_at.new.columns c.planes.states
+    (g.W.Word.samples c.planes.cur) c.in_err-read_at.field-0.0
     a.configuration.columns few inside before made)
 
 pub planes-preserved : goal.planes-preserved
@@ -39,14 +43,22 @@ planes-preserved g c =
           let inside : k < a.configuration.columns = omega (arith, c.requires.many) in
           let plane : line.first + i < next = omega (arith, less, few) in
           let here = before.planes_are.todo i (omega arith) few in
-          let made = c.in_ok-read_at.ensures.exact coded next before.state plane before.columns_are here in
+          let made = c.in_ok-read_at.ensures.exact coded next before.state plane before.columns_are
+          here in
           let cur_is = g.met.W.Word.lengths c.planes.cur in
           let cur_long : length c.planes.cur ≡ length c.args.cur.now = omega arith in
-          let room : line.count * a.configuration.width ≤ length (g.W.Word.samples c.planes.cur) = omega (arith, cur_is, cur_long, c.requires.cur_long) in
-          let more = plane_more a coded line.row next c.args.frame.now.payload.now line.first line.count line.y s two one k i c.planes.columns c.read_at.new.columns c.planes.states c.read_at.new.states
-          (g.W.Word.samples c.planes.cur) (g.W.Word.samples c.read_at.new.cur) few inside (λ p. c.slices_lie_beside_one_another.ensures.across a.configuration a.table p c.requires.frame.accepted) room c.in_ok-read_at.ensures.beside before made in
+          let room : line.count * a.configuration.width ≤ length (g.W.Word.samples c.planes.cur) =
+          omega (arith, cur_is, cur_long, c.requires.cur_long) in
+          let more = plane_more a coded line.row next c.args.frame.now.payload.now line.first
+          line.count line.y s two one k i c.planes.columns c.read_at.new.columns c.planes.states
+          c.read_at.new.states
+          (g.W.Word.samples c.planes.cur) (g.W.Word.samples c.read_at.new.cur) few inside
+          (λ p. c.slices_lie_beside_one_another.ensures.across a.configuration a.table p
+          c.requires.frame.accepted) room c.in_ok-read_at.ensures.beside before made in
           let at : suc i ≡ i + 1 = omega arith in
-          subst (λ n. PlanesRead a coded line.row next c.args.frame.now.payload.now line.first line.count line.y k n c.read_at.new.columns c.read_at.new.states two one (g.W.Word.samples c.read_at.new.cur) s) at more;
+          subst (λ n. PlanesRead a coded line.row next c.args.frame.now.payload.now line.first
+          line.count line.y k n c.read_at.new.columns c.read_at.new.states two one
+          (g.W.Word.samples c.read_at.new.cur) s) at more;
     }
 
 pub columns-preserved : goal.columns-preserved
@@ -61,11 +73,17 @@ columns-preserved g c =
       held = c.planes.invariant.held;
       line = λ coded next s less tied lines.
           let all : c.planes.index ≡ line.count = omega arith in
-          let before = subst (λ n. PlanesRead a coded line.row next c.args.frame.now.payload.now line.first line.count line.y k n c.planes.columns c.planes.states two one (g.W.Word.samples c.planes.cur) s) all
+          let before = subst (λ n. PlanesRead a coded line.row next c.args.frame.now.payload.now
+          line.first line.count line.y k n c.planes.columns c.planes.states two one
+          (g.W.Word.samples c.planes.cur) s) all
           (c.planes.invariant.line coded next s less tied lines) in
-          let done = column_done a coded line.row next c.args.frame.now.payload.now line.first line.count line.y s two one k c.planes.columns c.planes.states (g.W.Word.samples c.planes.cur) before in
+          let done = column_done a coded line.row next c.args.frame.now.payload.now line.first
+          line.count line.y s two one k c.planes.columns c.planes.states
+          (g.W.Word.samples c.planes.cur) before in
           let at : suc k ≡ k + 1 = omega arith in
-          subst (λ n. PlanesRead a coded line.row next c.args.frame.now.payload.now line.first line.count line.y n 0 c.planes.columns c.planes.states two one (g.W.Word.samples c.planes.cur) s) at done;
+          subst (λ n. PlanesRead a coded line.row next c.args.frame.now.payload.now line.first
+          line.count line.y n 0 c.planes.columns c.planes.states two one
+          (g.W.Word.samples c.planes.cur) s) at done;
     }
 
 pub returns-clause-exact : goal.returns-clause-exact
@@ -75,5 +93,7 @@ returns-clause-exact g c = λ coded next s less tied lines.
     let one = g.W.Word.samples c.args.above.now.one.now in
     let line = c.args.line.now in
     let all : c.columns.column ≡ a.configuration.columns = omega (arith, c.requires.many) in
-    subst (λ n. PlanesRead a coded line.row next c.args.frame.now.payload.now line.first line.count line.y n 0 c.columns.columns c.columns.states two one (g.W.Word.samples c.columns.cur) s) all
+    subst (λ n. PlanesRead a coded line.row next c.args.frame.now.payload.now line.first line.count
+    line.y n 0 c.columns.columns c.columns.states two one (g.W.Word.samples c.columns.cur) s)
+    all
     (c.columns.invariant.line coded next s less tied lines)

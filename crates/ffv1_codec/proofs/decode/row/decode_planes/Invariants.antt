@@ -12,11 +12,17 @@ use Rattle.ffv1_codec.proofs.decode.row.decode_planes.Given as goal
 abbrev pub invariant-loop-plane : goal.invariant-loop-plane
 invariant-loop-plane g l = record {
   same : KeepsSlices l.fn.slices l.slices;
-  opened : AreOpen l.frame.payload.now l.frame.checked.now.configuration.sets l.slices.columns.items;
+  opened : AreOpen l.frame.payload.now l.frame.checked.now.configuration.sets
+      l.slices.columns.items;
   held : AllHeld l.frame.checked.now.table l.slices.states.items;
   counted : g.S.LineSink.failures l.sink ≡ g.S.LineSink.failures l.fn.sink;
-  planes : (coded : ℕ → List ℕ) (initial : _) (s : State) → TiedColumns l.frame.checked.now coded l.row 0 l.frame.payload.now (row_slices l.fn.slices.columns.items l.fn.slices.states.items) s →
+  planes : (coded : ℕ → List ℕ) (initial : _) (s : State) → TiedColumns l.frame.checked.now coded
+      l.row 0 l.frame.payload.now (row_slices l.fn.slices.columns.items l.fn.slices.states.items)
+      s →
       Grows g.S.LineSink.takes initial s.lines l.fn.sink →
-      Decoded g.S.LineSink.takes g.S.LineSink.refuses l.frame.checked.now coded initial l.row l.plane l.frame.payload.now
-      (flat_map (λ p. series_events l.frame.checked.now.configuration l.row (series_at l.frame.checked.now.configuration l.row p 1)) (range_with_len 0 l.plane)) l.slices.columns.items l.slices.states.items l.sink s;
+      Decoded g.S.LineSink.takes g.S.LineSink.refuses l.frame.checked.now coded initial l.row
+      l.plane l.frame.payload.now
+      (flat_map (λ p. series_events l.frame.checked.now.configuration l.row
+      (series_at l.frame.checked.now.configuration l.row p 1)) (range_with_len 0 l.plane))
+      l.slices.columns.items l.slices.states.items l.sink s;
 }

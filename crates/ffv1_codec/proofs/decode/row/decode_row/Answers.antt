@@ -1,3 +1,4 @@
+-- Decodes a row of slices.
 use Rattle.std.proofs.Common.{◌≡◌, ℕ, ◌∙◌, ◌++◌, ap, sym, subst, List, length, take, drop}
 use Rattle.std.proofs.lemmas.List.{with_items_is}
 use Rattle.std.proofs.lemmas.Result.{err_from_is_err_and, MatchResult-weaker}
@@ -7,7 +8,8 @@ use Rattle.ffv1_codec.specs.Internal.Progress.{FailsIn}
 use Rattle.ffv1_codec.specs.Internal.Rows.{open_events}
 use Rattle.std.proofs.lemmas.Nat.{pow_pos}
 use Rattle.ffv1_codec.specs.SliceList.{bits_of}
-use Rattle.ffv1_codec.proofs.RowDecodes.{opened_tied, open_fails, opened_grows, lines_fail, row_decoded}
+use Rattle.ffv1_codec.proofs.RowDecodes.{opened_tied, open_fails, opened_grows, lines_fail}
+use Rattle.ffv1_codec.proofs.RowDecodes.{row_decoded}
 use Rattle.ffv1_codec.proofs.decode.row.decode_row.Goals as goal
 
 pub returns-in_err-open_row-clause-exact : goal.returns-in_err-open_row-clause-exact
@@ -17,10 +19,17 @@ returns-in_err-open_row-clause-exact g c = λ initial s between grows.
     let coded : ℕ → List ℕ = coded_by a payload c.args.spans.now in
     let takes = g.S.LineSink.takes in
     let refuses = g.S.LineSink.refuses in
-    let columns_back : take c.args.buffers.now.slices.columns.len (c.open_row.new.columns ++ drop (length c.open_row.new.columns) c.args.buffers.now.slices.columns.items) ≡ c.open_row.new.columns =
-    with_items_is c.args.buffers.now.slices.columns c.open_row.new.columns (c.open_row.auto.columns ∙ c.deref_mut-2.ensures.len) in
+    let columns_back : take c.args.buffers.now.slices.columns.len
+    (c.open_row.new.columns ++ drop (length c.open_row.new.columns)
+    c.args.buffers.now.slices.columns.items) ≡ c.open_row.new.columns =
+    with_items_is c.args.buffers.now.slices.columns c.open_row.new.columns
+    (c.open_row.auto.columns ∙ c.deref_mut-2.ensures.len) in
     let p = err_from_is_err_and c.from_residual.result c.from_residual.ensures.1 in
-    rw (p.1, p.2) (subst (λ z. FailsIn takes refuses a coded initial c.args.row z (open_events a.configuration c.args.row) c.in_err-open_row.field-0.0 c.args.sink.now s) (sym columns_back) (open_fails takes refuses a coded initial c.args.row payload s c.open_row.new.columns c.in_err-open_row.field-0.0 c.args.sink.now grows (c.in_err-open_row.ensures.exact s between.known between.fresh between.says)))
+    rw (p.1, p.2) (subst (λ z. FailsIn takes refuses a coded initial c.args.row z
+    (open_events a.configuration c.args.row) c.in_err-open_row.field-0.0 c.args.sink.now s)
+    (sym columns_back) (open_fails takes refuses a coded initial c.args.row payload s
+    c.open_row.new.columns c.in_err-open_row.field-0.0 c.args.sink.now grows
+    (c.in_err-open_row.ensures.exact s between.known between.fresh between.says)))
 
 pub returns-clause-exact : goal.returns-clause-exact
 returns-clause-exact g c = λ initial s between grows.
@@ -29,18 +38,37 @@ returns-clause-exact g c = λ initial s between grows.
     let coded : ℕ → List ℕ = coded_by a payload c.args.spans.now in
     let takes = g.S.LineSink.takes in
     let refuses = g.S.LineSink.refuses in
-    let columns_back : take c.args.buffers.now.slices.columns.len (c.open_row.new.columns ++ drop (length c.open_row.new.columns) c.args.buffers.now.slices.columns.items) ≡ c.open_row.new.columns =
-    with_items_is c.args.buffers.now.slices.columns c.open_row.new.columns (c.open_row.auto.columns ∙ c.deref_mut-2.ensures.len) in
-    let states_back : take c.args.buffers.now.slices.states.len (c.reset.new.states ++ drop (length c.reset.new.states) c.args.buffers.now.slices.states.items) ≡ c.reset.new.states =
-    with_items_is c.args.buffers.now.slices.states c.reset.new.states (c.reset.auto.states ∙ c.deref_mut.ensures.len) in
+    let columns_back : take c.args.buffers.now.slices.columns.len
+    (c.open_row.new.columns ++ drop (length c.open_row.new.columns)
+    c.args.buffers.now.slices.columns.items) ≡ c.open_row.new.columns =
+    with_items_is c.args.buffers.now.slices.columns c.open_row.new.columns
+    (c.open_row.auto.columns ∙ c.deref_mut-2.ensures.len) in
+    let states_back : take c.args.buffers.now.slices.states.len
+    (c.reset.new.states ++ drop (length c.reset.new.states)
+    c.args.buffers.now.slices.states.items) ≡ c.reset.new.states =
+    with_items_is c.args.buffers.now.slices.states c.reset.new.states
+    (c.reset.auto.states ∙ c.deref_mut.ensures.len) in
     let opened = c.in_ok-open_row.ensures.exact s between.known between.fresh between.says in
     let long = c.open_row.auto.columns ∙ ap length c.deref_mut-2.ensures.value ∙ c.requires.many in
-    let tied = opened_tied a coded payload c.args.row c.open_row.new.columns c.open_row.new.first s opened long c.reset.new.states (length c.deref_mut.result.now) c.reset.ensures (ap length c.deref_mut.ensures.value ∙ c.requires.room) (pow_pos (bits_of a.configuration)) in
-    let tied = subst (λ z. TiedColumns a coded c.args.row 0 payload (row_slices (take c.args.buffers.now.slices.columns.len (c.open_row.new.columns ++ drop (length c.open_row.new.columns) c.args.buffers.now.slices.columns.items)) z) opened.state) (sym states_back)
-    (subst (λ z. TiedColumns a coded c.args.row 0 payload (row_slices z c.reset.new.states) opened.state) (sym columns_back) tied) in
-    let grown = opened_grows takes refuses a coded initial c.args.row payload s c.open_row.new.first c.open_row.new.columns opened c.args.sink.now grows in
+    let tied = opened_tied a coded payload c.args.row c.open_row.new.columns c.open_row.new.first s
+    opened long c.reset.new.states (length c.deref_mut.result.now) c.reset.ensures
+    (ap length c.deref_mut.ensures.value ∙ c.requires.room)
+    (pow_pos (bits_of a.configuration)) in
+    let tied = subst (λ z. TiedColumns a coded c.args.row 0 payload
+    (row_slices (take c.args.buffers.now.slices.columns.len
+    (c.open_row.new.columns ++ drop (length c.open_row.new.columns)
+    c.args.buffers.now.slices.columns.items)) z) opened.state) (sym states_back)
+    (subst (λ z. TiedColumns a coded c.args.row 0 payload (row_slices z c.reset.new.states)
+    opened.state) (sym columns_back) tied) in
+    let grown = opened_grows takes refuses a coded initial c.args.row payload s c.open_row.new.first
+    c.open_row.new.columns opened c.args.sink.now grows in
     let made = c.decode_lines.ensures.exact coded initial opened.state tied grown in
     let long_after = c.decode_lines.ensures.same.columns ∙ ap length columns_back ∙ long in
     MatchResult-weaker c.decode_lines.result made
-    (λ u done. row_decoded takes refuses a coded initial c.args.row payload s c.open_row.new.first c.open_row.new.columns opened c.counters_from_zero_show_all_steps.ensures c.decode_lines.new.slices.columns.items c.decode_lines.new.slices.states.items c.decode_lines.new.sink long_after done)
-    (λ f stopped. lines_fail takes refuses a coded initial c.args.row payload s c.open_row.new.first c.open_row.new.columns opened c.decode_lines.new.slices.columns.items f c.decode_lines.new.sink stopped)
+    (λ u done. row_decoded takes refuses a coded initial c.args.row payload s c.open_row.new.first
+    c.open_row.new.columns opened c.counters_from_zero_show_all_steps.ensures
+    c.decode_lines.new.slices.columns.items c.decode_lines.new.slices.states.items
+    c.decode_lines.new.sink long_after done)
+    (λ f stopped. lines_fail takes refuses a coded initial c.args.row payload s c.open_row.new.first
+    c.open_row.new.columns opened c.decode_lines.new.slices.columns.items f
+    c.decode_lines.new.sink stopped)

@@ -1,4 +1,6 @@
-use Rattle.std.proofs.Common.{rules, ◌≡◌, suc, ◌+◌, ◌-◌, ◌*◌, ◌<◌, ◌∙◌, ap, sym, subst, refl, length, take, drop, replicate, arith}
+-- Decodes the lines of planes that are coded together.
+use Rattle.std.proofs.Common.{rules, ◌≡◌, suc, ◌+◌, ◌-◌, ◌*◌, ◌<◌, ◌∙◌, ap, sym, subst, refl}
+use Rattle.std.proofs.Common.{length, take, drop, replicate, arith}
 use Rattle.std.proofs.lemmas.Result.{err_from_is_err_and}
 use Rattle.std.proofs.lemmas.List.{take-replicate, drop-replicate}
 use Rattle.ffv1_record.specs.Configuration.{Configuration}
@@ -7,17 +9,23 @@ use Rattle.ffv1_codec.specs.Decoding.{top_of}
 use Rattle.ffv1_codec.specs.Internal.Progress.{LinesDecoded}
 use Rattle.ffv1_codec.proofs.KeptBuffers.{slices_kept}
 use Rattle.ffv1_codec.proofs.LineFinished.{rct_is}
-use Rattle.ffv1_codec.proofs.SeriesDecodes.{lines_alike, planes_any, none_decoded, one_decoded, one_fails, all_decoded}
+use Rattle.ffv1_codec.proofs.SeriesDecodes.{lines_alike, planes_any, none_decoded, one_decoded}
+use Rattle.ffv1_codec.proofs.SeriesDecodes.{one_fails, all_decoded}
 use Rattle.ffv1_codec.proofs.decode.row.decode_series.Goals as goal
 
 pub overflow_sub-y-end : goal.overflow_sub-y-end
 overflow_sub-y-end g c =
     let conf = c.args.frame.now.checked.now.configuration in
     let p = c.args.planes.now.first in
-    let are = c.slices_lie_beside_one_another.ensures.down conf c.args.frame.now.checked.now.table p c.requires.frame.accepted in
-    let top : c.top-top.result ≡ top_of conf p c.args.planes.now.row = rw c.requires.frame.grid at c.top-top.ensures in
-    let bottom : c.top-bottom.result ≡ top_of conf p (c.args.planes.now.row + 1) = rw c.requires.frame.grid at c.top-bottom.ensures in
-    let bottom : c.top-bottom.result ≡ top_of conf p (suc c.args.planes.now.row) = bottom ∙ ap (top_of conf p) (let same : c.args.planes.now.row + 1 ≡ suc c.args.planes.now.row = omega arith in same) in
+    let are = c.slices_lie_beside_one_another.ensures.down conf c.args.frame.now.checked.now.table p
+    c.requires.frame.accepted in
+    let top : c.top-top.result ≡ top_of conf p c.args.planes.now.row = rw c.requires.frame.grid at
+    c.top-top.ensures in
+    let bottom : c.top-bottom.result ≡ top_of conf p (c.args.planes.now.row + 1) =
+    rw c.requires.frame.grid at c.top-bottom.ensures in
+    let bottom : c.top-bottom.result ≡ top_of conf p (suc c.args.planes.now.row) = bottom ∙
+    ap (top_of conf p) (let same : c.args.planes.now.row + 1 ≡ suc c.args.planes.now.row =
+    omega arith in same) in
     let next = are.next c.args.planes.now.row c.requires.row in
     omega (arith, top, bottom, next)
 
@@ -30,27 +38,50 @@ loop-y-init g c =
     let takes = g.S.LineSink.takes in
     let refuses = g.S.LineSink.refuses in
     let size = c.args.planes.now.count * c.config.result.now.width in
-    let size_is : size ≡ c.args.planes.now.count * conf.width = ap (λ (z : Configuration). c.args.planes.now.count * z.width) (sym c.config.ensures.value) in
+    let size_is : size ≡ c.args.planes.now.count * conf.width =
+    ap (λ (z : Configuration). c.args.planes.now.count * z.width)
+    (sym c.config.ensures.value) in
     let all = length c.args.lines.now in
     let long : all ≡ 3 * size = c.requires.lines_long ∙ ap (λ n. 3 * n) (sym size_is) in
     let samples = g.W.Word.samples in
     let law = g.met.W.Word in
     let two = samples c.split_at_mut-two.result.0.now in
     let one = samples c.split_at_mut-one.result.0.now in
-    let two_is : two ≡ replicate size 0 = ap samples c.split_at_mut-two.ensures.front ∙ law.takes size _ ∙ ap (take size) c.clear.ensures ∙ take-replicate size all 0 (omega (arith, long)) in
-    let rest_is : samples c.split_at_mut-two.result.1.now ≡ replicate (all - size) 0 = ap samples c.split_at_mut-two.ensures.back ∙ law.drops size _ ∙ ap (drop size) c.clear.ensures ∙ drop-replicate size all 0 in
-    let one_is : one ≡ replicate size 0 = ap samples c.split_at_mut-one.ensures.front ∙ law.takes size _ ∙ ap (take size) rest_is ∙ take-replicate size (all - size) 0 (omega (arith, long)) in
+    let two_is : two ≡ replicate size 0 = ap samples c.split_at_mut-two.ensures.front ∙ law.takes
+    size _ ∙ ap (take size) c.clear.ensures ∙ take-replicate size all 0 (omega (arith, long)) in
+    let rest_is : samples c.split_at_mut-two.result.1.now ≡ replicate (all - size) 0 = ap samples
+    c.split_at_mut-two.ensures.back ∙ law.drops size _ ∙ ap (drop size) c.clear.ensures ∙
+    drop-replicate size all 0 in
+    let one_is : one ≡ replicate size 0 = ap samples c.split_at_mut-one.ensures.front ∙ law.takes
+    size _ ∙ ap (take size) rest_is ∙ take-replicate size (all - size) 0
+    (omega (arith, long)) in
     record {
       two_long = c.split_at_mut-two.ensures.front_len ∙ size_is;
       one_long = c.split_at_mut-one.ensures.front_len ∙ size_is;
-      cur_long = omega (arith, c.split_at_mut-one.ensures.back_len, c.split_at_mut-two.ensures.back_len, c.clear.auto.lines, long, size_is);
-      same = record { columns = refl; states = refl; columns_capacity = refl; states_capacity = refl };
+      cur_long = omega (
+        arith,
+        c.split_at_mut-one.ensures.back_len,
+        c.split_at_mut-two.ensures.back_len,
+        c.clear.auto.lines,
+        long,
+        size_is,
+      );
+      same = record {
+        columns = refl;
+        states = refl;
+        columns_capacity = refl;
+        states_capacity = refl;
+      };
       opened = c.requires.open;
       held = c.requires.held;
       counted = refl;
       lines = λ coded initial s tied grows.
-          none_decoded takes refuses a coded initial c.args.planes.now.row payload p c.args.planes.now.count s c.args.slices.now.columns.items c.args.slices.now.states.items size two one c.args.sink.now
-          c.reading_its_rows_reads_the_cell.ensures.top (λ q. c.slices_lie_beside_one_another.ensures.across conf a.table q c.requires.frame.accepted) two_is one_is size_is tied grows;
+          none_decoded takes refuses a coded initial c.args.planes.now.row payload p
+          c.args.planes.now.count s c.args.slices.now.columns.items
+          c.args.slices.now.states.items size two one c.args.sink.now
+          c.reading_its_rows_reads_the_cell.ensures.top
+          (λ q. c.slices_lie_beside_one_another.ensures.across conf a.table q
+          c.requires.frame.accepted) two_is one_is size_is tied grows;
     }
 
 pub decode_whole_line-requires-clause-y : goal.decode_whole_line-requires-clause-y
@@ -61,18 +92,27 @@ decode_whole_line-requires-clause-y g c =
     let payload = c.args.frame.now.payload.now in
     let takes = g.S.LineSink.takes in
     let refuses = g.S.LineSink.refuses in
-    let are = c.slices_lie_beside_one_another.ensures.down conf c.args.frame.now.checked.now.table p c.requires.frame.accepted in
-    let top : c.top-top.result ≡ top_of conf p c.args.planes.now.row = rw c.requires.frame.grid at c.top-top.ensures in
-    let bottom : c.top-bottom.result ≡ top_of conf p (c.args.planes.now.row + 1) = rw c.requires.frame.grid at c.top-bottom.ensures in
-    let bottom : c.top-bottom.result ≡ top_of conf p (suc c.args.planes.now.row) = bottom ∙ ap (top_of conf p) (let same : c.args.planes.now.row + 1 ≡ suc c.args.planes.now.row = omega arith in same) in
+    let are = c.slices_lie_beside_one_another.ensures.down conf c.args.frame.now.checked.now.table p
+    c.requires.frame.accepted in
+    let top : c.top-top.result ≡ top_of conf p c.args.planes.now.row = rw c.requires.frame.grid at
+    c.top-top.ensures in
+    let bottom : c.top-bottom.result ≡ top_of conf p (c.args.planes.now.row + 1) =
+    rw c.requires.frame.grid at c.top-bottom.ensures in
+    let bottom : c.top-bottom.result ≡ top_of conf p (suc c.args.planes.now.row) = bottom ∙
+    ap (top_of conf p) (let same : c.args.planes.now.row + 1 ≡ suc c.args.planes.now.row =
+    omega arith in same) in
     let next = are.next c.args.planes.now.row c.requires.row in
-    let height : c.top-bottom.result - c.top-top.result ≡ lines_down conf p c.args.planes.now.row = omega (arith, top, bottom, next) in
+    let height : c.top-bottom.result - c.top-top.result ≡ lines_down conf p c.args.planes.now.row =
+    omega (arith, top, bottom, next) in
     let inside : c.loop-y.y < lines_down conf p c.args.planes.now.row = omega (arith, height) in
     λ i h.
-    let same = lines_alike conf p c.args.planes.now.count i c.args.planes.now.row c.requires.together (λ e. (c.accepted_configuration_has_sound_parts.ensures.rct conf a.table c.requires.frame.accepted (rct_is conf.colour e)).2) h in
+    let same = lines_alike conf p c.args.planes.now.count i c.args.planes.now.row
+    c.requires.together (λ e. (c.accepted_configuration_has_sound_parts.ensures.rct conf a.table
+    c.requires.frame.accepted (rct_is conf.colour e)).2) h in
     omega (arith, same, inside)
 
-pub returns-in_err-decode_whole_line-clause-exact : goal.returns-in_err-decode_whole_line-clause-exact
+pub returns-in_err-decode_whole_line-clause-exact :
+    goal.returns-in_err-decode_whole_line-clause-exact
 returns-in_err-decode_whole_line-clause-exact g c = λ coded initial s tied grows.
     let a = c.args.frame.now.checked.now in
     let conf = a.configuration in
@@ -83,18 +123,30 @@ returns-in_err-decode_whole_line-clause-exact g c = λ coded initial s tied grow
     let cur = g.W.Word.samples c.loop-y.cur.now in
     let takes = g.S.LineSink.takes in
     let refuses = g.S.LineSink.refuses in
-    let are = c.slices_lie_beside_one_another.ensures.down conf c.args.frame.now.checked.now.table p c.requires.frame.accepted in
-    let top : c.top-top.result ≡ top_of conf p c.args.planes.now.row = rw c.requires.frame.grid at c.top-top.ensures in
-    let bottom : c.top-bottom.result ≡ top_of conf p (c.args.planes.now.row + 1) = rw c.requires.frame.grid at c.top-bottom.ensures in
-    let bottom : c.top-bottom.result ≡ top_of conf p (suc c.args.planes.now.row) = bottom ∙ ap (top_of conf p) (let same : c.args.planes.now.row + 1 ≡ suc c.args.planes.now.row = omega arith in same) in
+    let are = c.slices_lie_beside_one_another.ensures.down conf c.args.frame.now.checked.now.table p
+    c.requires.frame.accepted in
+    let top : c.top-top.result ≡ top_of conf p c.args.planes.now.row = rw c.requires.frame.grid at
+    c.top-top.ensures in
+    let bottom : c.top-bottom.result ≡ top_of conf p (c.args.planes.now.row + 1) =
+    rw c.requires.frame.grid at c.top-bottom.ensures in
+    let bottom : c.top-bottom.result ≡ top_of conf p (suc c.args.planes.now.row) = bottom ∙
+    ap (top_of conf p) (let same : c.args.planes.now.row + 1 ≡ suc c.args.planes.now.row =
+    omega arith in same) in
     let next = are.next c.args.planes.now.row c.requires.row in
-    let height : c.top-bottom.result - c.top-top.result ≡ lines_down conf p c.args.planes.now.row = omega (arith, top, bottom, next) in
+    let height : c.top-bottom.result - c.top-top.result ≡ lines_down conf p c.args.planes.now.row =
+    omega (arith, top, bottom, next) in
     let before = c.loop-y.invariant.lines coded initial s tied grows in
-    let planes = planes_any conf p c.args.planes.now.count c.loop-y.y two one one cur before.state before.planes_are in
-    let made = c.in_err-decode_whole_line.ensures.exact coded (p + c.args.planes.now.count) initial before.state (omega arith) before.columns_are planes before.grows in
+    let planes = planes_any conf p c.args.planes.now.count c.loop-y.y two one one cur before.state
+    before.planes_are in
+    let made = c.in_err-decode_whole_line.ensures.exact coded (p + c.args.planes.now.count) initial
+    before.state (omega arith) before.columns_are planes before.grows in
     let inside : c.loop-y.y < lines_down conf p c.args.planes.now.row = omega (arith, height) in
     let stop = err_from_is_err_and c.from_residual.result c.from_residual.ensures.1 in
-    rw (stop.1, stop.2) (one_fails takes refuses a coded initial c.args.planes.now.row payload p c.args.planes.now.count s c.loop-y.y c.loop-y.slices.columns.items c.loop-y.slices.states.items two one c.loop-y.sink before (lines_down conf p c.args.planes.now.row) c.decode_whole_line.new.slices.columns.items c.in_err-decode_whole_line.field-0.0 c.decode_whole_line.new.sink inside made)
+    rw (stop.1, stop.2) (one_fails takes refuses a coded initial c.args.planes.now.row payload p
+    c.args.planes.now.count s c.loop-y.y c.loop-y.slices.columns.items
+    c.loop-y.slices.states.items two one c.loop-y.sink before
+    (lines_down conf p c.args.planes.now.row) c.decode_whole_line.new.slices.columns.items
+    c.in_err-decode_whole_line.field-0.0 c.decode_whole_line.new.sink inside made)
 
 pub loop-y-preserved : goal.loop-y-preserved
 loop-y-preserved g c =
@@ -117,11 +169,22 @@ loop-y-preserved g c =
       counted = c.in_ok-decode_whole_line.ensures.counted ∙ c.loop-y.invariant.counted;
       lines = λ coded initial s tied grows.
           let before = c.loop-y.invariant.lines coded initial s tied grows in
-          let planes = planes_any conf p c.args.planes.now.count c.loop-y.y two one one cur before.state before.planes_are in
-          let made = c.in_ok-decode_whole_line.ensures.exact coded (p + c.args.planes.now.count) initial before.state (omega arith) before.columns_are planes before.grows in
+          let planes = planes_any conf p c.args.planes.now.count c.loop-y.y two one one cur
+          before.state before.planes_are in
+          let made = c.in_ok-decode_whole_line.ensures.exact coded (p + c.args.planes.now.count)
+          initial before.state (omega arith) before.columns_are planes before.grows in
           let next : suc c.loop-y.y ≡ c.loop-y.y + 1 = omega arith in
-          subst (λ n. LinesDecoded takes refuses a coded initial c.args.planes.now.row (p + c.args.planes.now.count) payload p c.args.planes.now.count n c.decode_whole_line.new.slices.columns.items c.decode_whole_line.new.slices.states.items one (g.W.Word.samples c.decode_whole_line.new.cur) c.decode_whole_line.new.sink s) next
-          (one_decoded takes refuses a coded initial c.args.planes.now.row payload p c.args.planes.now.count s c.loop-y.y c.loop-y.slices.columns.items c.loop-y.slices.states.items two one c.loop-y.sink before c.decode_whole_line.new.slices.columns.items c.decode_whole_line.new.slices.states.items (g.W.Word.samples c.decode_whole_line.new.cur) c.decode_whole_line.new.sink made);
+          subst (λ n. LinesDecoded takes refuses a coded initial c.args.planes.now.row
+          (p + c.args.planes.now.count) payload p c.args.planes.now.count n
+          c.decode_whole_line.new.slices.columns.items
+          c.decode_whole_line.new.slices.states.items one
+          (g.W.Word.samples c.decode_whole_line.new.cur) c.decode_whole_line.new.sink s) next
+          (one_decoded takes refuses a coded initial c.args.planes.now.row payload p
+          c.args.planes.now.count s c.loop-y.y c.loop-y.slices.columns.items
+          c.loop-y.slices.states.items two one c.loop-y.sink before
+          c.decode_whole_line.new.slices.columns.items
+          c.decode_whole_line.new.slices.states.items
+          (g.W.Word.samples c.decode_whole_line.new.cur) c.decode_whole_line.new.sink made);
     }
 
 pub returns-clause-exact : goal.returns-clause-exact
@@ -134,12 +197,20 @@ returns-clause-exact g c = λ coded initial s tied grows.
     let one = g.W.Word.samples c.loop-y.one.now in
     let takes = g.S.LineSink.takes in
     let refuses = g.S.LineSink.refuses in
-    let are = c.slices_lie_beside_one_another.ensures.down conf c.args.frame.now.checked.now.table p c.requires.frame.accepted in
-    let top : c.top-top.result ≡ top_of conf p c.args.planes.now.row = rw c.requires.frame.grid at c.top-top.ensures in
-    let bottom : c.top-bottom.result ≡ top_of conf p (c.args.planes.now.row + 1) = rw c.requires.frame.grid at c.top-bottom.ensures in
-    let bottom : c.top-bottom.result ≡ top_of conf p (suc c.args.planes.now.row) = bottom ∙ ap (top_of conf p) (let same : c.args.planes.now.row + 1 ≡ suc c.args.planes.now.row = omega arith in same) in
+    let are = c.slices_lie_beside_one_another.ensures.down conf c.args.frame.now.checked.now.table p
+    c.requires.frame.accepted in
+    let top : c.top-top.result ≡ top_of conf p c.args.planes.now.row = rw c.requires.frame.grid at
+    c.top-top.ensures in
+    let bottom : c.top-bottom.result ≡ top_of conf p (c.args.planes.now.row + 1) =
+    rw c.requires.frame.grid at c.top-bottom.ensures in
+    let bottom : c.top-bottom.result ≡ top_of conf p (suc c.args.planes.now.row) = bottom ∙
+    ap (top_of conf p) (let same : c.args.planes.now.row + 1 ≡ suc c.args.planes.now.row =
+    omega arith in same) in
     let next = are.next c.args.planes.now.row c.requires.row in
-    let height : c.top-bottom.result - c.top-top.result ≡ lines_down conf p c.args.planes.now.row = omega (arith, top, bottom, next) in
+    let height : c.top-bottom.result - c.top-top.result ≡ lines_down conf p c.args.planes.now.row =
+    omega (arith, top, bottom, next) in
     let before = c.loop-y.invariant.lines coded initial s tied grows in
     let all : c.loop-y.y ≡ lines_down conf p c.args.planes.now.row = omega (arith, height) in
-    all_decoded takes refuses a coded initial c.args.planes.now.row payload p c.args.planes.now.count s c.loop-y.y c.loop-y.slices.columns.items c.loop-y.slices.states.items two one c.loop-y.sink before all
+    all_decoded takes refuses a coded initial c.args.planes.now.row payload p
+    c.args.planes.now.count s c.loop-y.y c.loop-y.slices.columns.items
+    c.loop-y.slices.states.items two one c.loop-y.sink before all

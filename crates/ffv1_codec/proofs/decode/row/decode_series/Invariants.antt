@@ -13,10 +13,16 @@ invariant-loop-y g l = record {
   one_long : length l.one ≡ l.planes.count * l.frame.checked.now.configuration.width;
   cur_long : length l.cur ≡ l.planes.count * l.frame.checked.now.configuration.width;
   same : KeepsSlices l.fn.slices l.slices;
-  opened : AreOpen l.frame.payload.now l.frame.checked.now.configuration.sets l.slices.columns.items;
+  opened : AreOpen l.frame.payload.now l.frame.checked.now.configuration.sets
+      l.slices.columns.items;
   held : AllHeld l.frame.checked.now.table l.slices.states.items;
   counted : g.S.LineSink.failures l.sink ≡ g.S.LineSink.failures l.fn.sink;
-  lines : (coded : ℕ → List ℕ) (initial : _) (s : State) → TiedColumns l.frame.checked.now coded l.planes.row l.planes.first l.frame.payload.now (row_slices l.fn.slices.columns.items l.fn.slices.states.items) s →
+  lines : (coded : ℕ → List ℕ) (initial : _) (s : State) → TiedColumns l.frame.checked.now coded
+      l.planes.row l.planes.first l.frame.payload.now
+      (row_slices l.fn.slices.columns.items l.fn.slices.states.items) s →
       Grows g.S.LineSink.takes initial s.lines l.fn.sink →
-      LinesDecoded g.S.LineSink.takes g.S.LineSink.refuses l.frame.checked.now coded initial l.planes.row (l.planes.first + l.planes.count) l.frame.payload.now l.planes.first l.planes.count l.y l.slices.columns.items l.slices.states.items (g.W.Word.samples l.two) (g.W.Word.samples l.one) l.sink s;
+      LinesDecoded g.S.LineSink.takes g.S.LineSink.refuses l.frame.checked.now coded initial
+      l.planes.row (l.planes.first + l.planes.count) l.frame.payload.now l.planes.first
+      l.planes.count l.y l.slices.columns.items l.slices.states.items (g.W.Word.samples l.two)
+      (g.W.Word.samples l.one) l.sink s;
 }

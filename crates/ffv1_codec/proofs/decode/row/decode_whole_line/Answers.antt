@@ -1,4 +1,6 @@
-use Rattle.std.proofs.Common.{◌≡◌, ◌+◌, ◌<◌, ◌++◌, inl, inr, ◌∙◌, ap, sym, subst, length, take, drop, arith}
+-- Decodes a line: reads it, makes of it what is handed over, and hands it over.
+use Rattle.std.proofs.Common.{◌≡◌, ◌+◌, ◌<◌, ◌++◌, inl, inr, ◌∙◌, ap, sym, subst, length, take}
+use Rattle.std.proofs.Common.{drop, arith}
 use Rattle.std.proofs.lemmas.List.{with_items_is}
 use Rattle.std.proofs.lemmas.Result.{err_from_is_err_and, MatchResult-weaker}
 use Rattle.std.specs.List.{range_with_len}
@@ -7,14 +9,16 @@ use Rattle.ffv1_codec.specs.Internal.Tied.{TiedColumns, row_slices}
 use Rattle.ffv1_codec.specs.Internal.Progress.{FailsIn, LineDecoded}
 use Rattle.ffv1_codec.proofs.SegmentTied.{tied_told}
 use Rattle.ffv1_codec.proofs.LineEnds.{stand_read}
-use Rattle.ffv1_codec.proofs.LineDecodes.{read_fails, finish_fails, hand_fails, finished, finished_told, grows_finished, line_decoded}
+use Rattle.ffv1_codec.proofs.LineDecodes.{read_fails, finish_fails, hand_fails, finished}
+use Rattle.ffv1_codec.proofs.LineDecodes.{finished_told, grows_finished, line_decoded}
 use Rattle.ffv1_codec.proofs.decode.row.decode_whole_line.Goals as goal
 
 pub finish-requires-clause-y : goal.finish-requires-clause-y
 finish-requires-clause-y g c =
     let line = c.args.line.now in
     let at : line.first + 0 ≡ line.first = omega arith in
-    subst (λ p. line.y < lines_down c.args.frame.now.checked.now.configuration p line.row) at (c.requires.y 0 c.requires.some)
+    subst (λ p. line.y < lines_down c.args.frame.now.checked.now.configuration p line.row) at
+    (c.requires.y 0 c.requires.some)
 
 pub returns-in_err-read_planes-clause-exact : goal.returns-in_err-read_planes-clause-exact
 returns-in_err-read_planes-clause-exact g c = λ coded next initial s less tied planes grows.
@@ -26,16 +30,27 @@ returns-in_err-read_planes-clause-exact g c = λ coded next initial s less tied 
     let cur = g.W.Word.samples c.read_planes.new.cur in
     let takes = g.S.LineSink.takes in
     let refuses = g.S.LineSink.refuses in
-    let columns_back : take c.args.slices.now.columns.len (c.read_planes.new.columns ++ drop (length c.read_planes.new.columns) c.args.slices.now.columns.items) ≡ c.read_planes.new.columns =
-    with_items_is c.args.slices.now.columns c.read_planes.new.columns (c.read_planes.auto.columns ∙ c.deref_mut.ensures.len) in
-    let states_back : take c.args.slices.now.states.len (c.read_planes.new.states ++ drop (length c.read_planes.new.states) c.args.slices.now.states.items) ≡ c.read_planes.new.states =
-    with_items_is c.args.slices.now.states c.read_planes.new.states (c.read_planes.auto.states ∙ c.deref_mut-2.ensures.len) in
-    let tied : TiedColumns a coded line.row next payload (row_slices c.deref_mut.result.now c.deref_mut-2.result.now) s =
-    subst (λ z. TiedColumns a coded line.row next payload (row_slices z c.deref_mut-2.result.now) s) (sym c.deref_mut.ensures.value)
-    (subst (λ z. TiedColumns a coded line.row next payload (row_slices c.args.slices.now.columns.items z) s) (sym c.deref_mut-2.ensures.value) tied) in
+    let columns_back : take c.args.slices.now.columns.len
+    (c.read_planes.new.columns ++ drop (length c.read_planes.new.columns)
+    c.args.slices.now.columns.items) ≡ c.read_planes.new.columns =
+    with_items_is c.args.slices.now.columns c.read_planes.new.columns
+    (c.read_planes.auto.columns ∙ c.deref_mut.ensures.len) in
+    let states_back : take c.args.slices.now.states.len
+    (c.read_planes.new.states ++ drop (length c.read_planes.new.states)
+    c.args.slices.now.states.items) ≡ c.read_planes.new.states =
+    with_items_is c.args.slices.now.states c.read_planes.new.states
+    (c.read_planes.auto.states ∙ c.deref_mut-2.ensures.len) in
+    let tied : TiedColumns a coded line.row next payload
+    (row_slices c.deref_mut.result.now c.deref_mut-2.result.now) s =
+    subst (λ z. TiedColumns a coded line.row next payload (row_slices z c.deref_mut-2.result.now) s)
+    (sym c.deref_mut.ensures.value)
+    (subst (λ z. TiedColumns a coded line.row next payload
+    (row_slices c.args.slices.now.columns.items z) s) (sym c.deref_mut-2.ensures.value) tied) in
     let exact = c.in_err-read_planes.ensures.exact in
     let p = err_from_is_err_and c.from_residual.result c.from_residual.ensures.1 in
-    rw (p.1, p.2, columns_back) (inl (read_fails takes refuses a coded initial line.row next payload line.first line.count line.y s c.read_planes.new.columns c.in_err-read_planes.field-0.0 c.args.sink.now grows (exact coded next s less tied planes)))
+    rw (p.1, p.2, columns_back) (inl (read_fails takes refuses a coded initial line.row next payload
+    line.first line.count line.y s c.read_planes.new.columns c.in_err-read_planes.field-0.0
+    c.args.sink.now grows (exact coded next s less tied planes)))
 
 pub returns-in_err-finish-clause-exact : goal.returns-in_err-finish-clause-exact
 returns-in_err-finish-clause-exact g c = λ coded next initial s less tied planes grows.
@@ -47,22 +62,45 @@ returns-in_err-finish-clause-exact g c = λ coded next initial s less tied plane
     let cur = g.W.Word.samples c.read_planes.new.cur in
     let takes = g.S.LineSink.takes in
     let refuses = g.S.LineSink.refuses in
-    let columns_back : take c.args.slices.now.columns.len (c.read_planes.new.columns ++ drop (length c.read_planes.new.columns) c.args.slices.now.columns.items) ≡ c.read_planes.new.columns =
-    with_items_is c.args.slices.now.columns c.read_planes.new.columns (c.read_planes.auto.columns ∙ c.deref_mut.ensures.len) in
-    let states_back : take c.args.slices.now.states.len (c.read_planes.new.states ++ drop (length c.read_planes.new.states) c.args.slices.now.states.items) ≡ c.read_planes.new.states =
-    with_items_is c.args.slices.now.states c.read_planes.new.states (c.read_planes.auto.states ∙ c.deref_mut-2.ensures.len) in
-    let tied : TiedColumns a coded line.row next payload (row_slices c.deref_mut.result.now c.deref_mut-2.result.now) s =
-    subst (λ z. TiedColumns a coded line.row next payload (row_slices z c.deref_mut-2.result.now) s) (sym c.deref_mut.ensures.value)
-    (subst (λ z. TiedColumns a coded line.row next payload (row_slices c.args.slices.now.columns.items z) s) (sym c.deref_mut-2.ensures.value) tied) in
+    let columns_back : take c.args.slices.now.columns.len
+    (c.read_planes.new.columns ++ drop (length c.read_planes.new.columns)
+    c.args.slices.now.columns.items) ≡ c.read_planes.new.columns =
+    with_items_is c.args.slices.now.columns c.read_planes.new.columns
+    (c.read_planes.auto.columns ∙ c.deref_mut.ensures.len) in
+    let states_back : take c.args.slices.now.states.len
+    (c.read_planes.new.states ++ drop (length c.read_planes.new.states)
+    c.args.slices.now.states.items) ≡ c.read_planes.new.states =
+    with_items_is c.args.slices.now.states c.read_planes.new.states
+    (c.read_planes.auto.states ∙ c.deref_mut-2.ensures.len) in
+    let tied : TiedColumns a coded line.row next payload
+    (row_slices c.deref_mut.result.now c.deref_mut-2.result.now) s =
+    subst (λ z. TiedColumns a coded line.row next payload (row_slices z c.deref_mut-2.result.now) s)
+    (sym c.deref_mut.ensures.value)
+    (subst (λ z. TiedColumns a coded line.row next payload
+    (row_slices c.args.slices.now.columns.items z) s) (sym c.deref_mut-2.ensures.value) tied) in
     let exact = c.in_ok-read_planes.ensures.exact in
     let read = exact coded next s less tied planes in
-    let long : length c.read_planes.new.columns ≡ a.configuration.columns = c.read_planes.auto.columns ∙ ap length c.deref_mut.ensures.value ∙ c.requires.many in
-    let told = tied_told a coded line.row next payload c.read_planes.new.columns c.read_planes.new.states read.state read.columns_are c.counters_from_zero_show_all_steps.ensures long in
-    let columns = c.accepted_configuration_is_in_range.ensures.columns a.configuration a.table c.requires.frame.accepted in
-    let stand = stand_read a coded line.row next payload c.read_planes.new.columns c.read_planes.new.states two one cur line.first line.count line.y read.state read.columns_are (omega (arith, columns)) read.planes_are
-    (λ p. c.slices_lie_beside_one_another.ensures.across a.configuration a.table p c.requires.frame.accepted) in
-    let p = err_from_is_err_and c.from_residual-in_err-finish.result c.from_residual-in_err-finish.ensures.1 in
-    rw (p.1, p.2) (subst (λ z. FailsIn takes refuses a coded initial line.row z (line_events a.configuration line.row (range_with_len line.first line.count) line.y) c.in_err-finish.field-0.0 c.args.sink.now s) (sym columns_back) (inl (finish_fails takes refuses a coded initial line.row next payload line.first line.count line.y s c.read_planes.new.columns c.read_planes.new.states two one cur c.args.sink.now grows read told c.in_err-finish.field-0.0 (c.in_err-finish.ensures.exact coded read.state stand))))
+    let long : length c.read_planes.new.columns ≡ a.configuration.columns =
+    c.read_planes.auto.columns ∙ ap length c.deref_mut.ensures.value ∙ c.requires.many in
+    let told = tied_told a coded line.row next payload c.read_planes.new.columns
+    c.read_planes.new.states read.state read.columns_are
+    c.counters_from_zero_show_all_steps.ensures long in
+    let columns = c.accepted_configuration_is_in_range.ensures.columns a.configuration a.table
+    c.requires.frame.accepted in
+    let stand = stand_read a coded line.row next payload c.read_planes.new.columns
+    c.read_planes.new.states two one cur line.first line.count line.y read.state
+    read.columns_are (omega (arith, columns)) read.planes_are
+    (λ p. c.slices_lie_beside_one_another.ensures.across a.configuration a.table p
+    c.requires.frame.accepted) in
+    let p = err_from_is_err_and c.from_residual-in_err-finish.result
+    c.from_residual-in_err-finish.ensures.1 in
+    rw (p.1, p.2) (subst (λ z. FailsIn takes refuses a coded initial line.row z
+    (line_events a.configuration line.row (range_with_len line.first line.count) line.y)
+    c.in_err-finish.field-0.0 c.args.sink.now s) (sym columns_back)
+    (inl (finish_fails takes refuses a coded initial line.row next payload line.first line.count
+    line.y s c.read_planes.new.columns c.read_planes.new.states two one cur c.args.sink.now
+    grows read told c.in_err-finish.field-0.0
+    (c.in_err-finish.ensures.exact coded read.state stand))))
 
 pub returns-clause-exact : goal.returns-clause-exact
 returns-clause-exact g c = λ coded next initial s less tied planes grows.
@@ -74,23 +112,61 @@ returns-clause-exact g c = λ coded next initial s less tied planes grows.
     let cur = g.W.Word.samples c.read_planes.new.cur in
     let takes = g.S.LineSink.takes in
     let refuses = g.S.LineSink.refuses in
-    let columns_back : take c.args.slices.now.columns.len (c.read_planes.new.columns ++ drop (length c.read_planes.new.columns) c.args.slices.now.columns.items) ≡ c.read_planes.new.columns =
-    with_items_is c.args.slices.now.columns c.read_planes.new.columns (c.read_planes.auto.columns ∙ c.deref_mut.ensures.len) in
-    let states_back : take c.args.slices.now.states.len (c.read_planes.new.states ++ drop (length c.read_planes.new.states) c.args.slices.now.states.items) ≡ c.read_planes.new.states =
-    with_items_is c.args.slices.now.states c.read_planes.new.states (c.read_planes.auto.states ∙ c.deref_mut-2.ensures.len) in
-    let tied : TiedColumns a coded line.row next payload (row_slices c.deref_mut.result.now c.deref_mut-2.result.now) s =
-    subst (λ z. TiedColumns a coded line.row next payload (row_slices z c.deref_mut-2.result.now) s) (sym c.deref_mut.ensures.value)
-    (subst (λ z. TiedColumns a coded line.row next payload (row_slices c.args.slices.now.columns.items z) s) (sym c.deref_mut-2.ensures.value) tied) in
+    let columns_back : take c.args.slices.now.columns.len
+    (c.read_planes.new.columns ++ drop (length c.read_planes.new.columns)
+    c.args.slices.now.columns.items) ≡ c.read_planes.new.columns =
+    with_items_is c.args.slices.now.columns c.read_planes.new.columns
+    (c.read_planes.auto.columns ∙ c.deref_mut.ensures.len) in
+    let states_back : take c.args.slices.now.states.len
+    (c.read_planes.new.states ++ drop (length c.read_planes.new.states)
+    c.args.slices.now.states.items) ≡ c.read_planes.new.states =
+    with_items_is c.args.slices.now.states c.read_planes.new.states
+    (c.read_planes.auto.states ∙ c.deref_mut-2.ensures.len) in
+    let tied : TiedColumns a coded line.row next payload
+    (row_slices c.deref_mut.result.now c.deref_mut-2.result.now) s =
+    subst (λ z. TiedColumns a coded line.row next payload (row_slices z c.deref_mut-2.result.now) s)
+    (sym c.deref_mut.ensures.value)
+    (subst (λ z. TiedColumns a coded line.row next payload
+    (row_slices c.args.slices.now.columns.items z) s) (sym c.deref_mut-2.ensures.value) tied) in
     let exact = c.in_ok-read_planes.ensures.exact in
     let read = exact coded next s less tied planes in
-    let long : length c.read_planes.new.columns ≡ a.configuration.columns = c.read_planes.auto.columns ∙ ap length c.deref_mut.ensures.value ∙ c.requires.many in
-    let told = tied_told a coded line.row next payload c.read_planes.new.columns c.read_planes.new.states read.state read.columns_are c.counters_from_zero_show_all_steps.ensures long in
-    let columns = c.accepted_configuration_is_in_range.ensures.columns a.configuration a.table c.requires.frame.accepted in
-    let stand = stand_read a coded line.row next payload c.read_planes.new.columns c.read_planes.new.states two one cur line.first line.count line.y read.state read.columns_are (omega (arith, columns)) read.planes_are
-    (λ p. c.slices_lie_beside_one_another.ensures.across a.configuration a.table p c.requires.frame.accepted) in
+    let long : length c.read_planes.new.columns ≡ a.configuration.columns =
+    c.read_planes.auto.columns ∙ ap length c.deref_mut.ensures.value ∙ c.requires.many in
+    let told = tied_told a coded line.row next payload c.read_planes.new.columns
+    c.read_planes.new.states read.state read.columns_are
+    c.counters_from_zero_show_all_steps.ensures long in
+    let columns = c.accepted_configuration_is_in_range.ensures.columns a.configuration a.table
+    c.requires.frame.accepted in
+    let stand = stand_read a coded line.row next payload c.read_planes.new.columns
+    c.read_planes.new.states two one cur line.first line.count line.y read.state
+    read.columns_are (omega (arith, columns)) read.planes_are
+    (λ p. c.slices_lie_beside_one_another.ensures.across a.configuration a.table p
+    c.requires.frame.accepted) in
     let made = c.in_ok-finish.ensures.exact coded read.state stand in
-    let handed = c.hand_lines.ensures.exact coded initial c.read_planes.new.columns (finished takes refuses a coded initial line.row next payload line.first line.count line.y s c.read_planes.new.columns c.read_planes.new.states two one cur c.args.sink.now grows read told c.finish.new.out made) (grows_finished takes refuses a coded initial line.row next payload line.first line.count line.y s c.read_planes.new.columns c.read_planes.new.states two one cur c.args.sink.now grows read told c.finish.new.out made) (finished_told takes refuses a coded initial line.row next payload line.first line.count line.y s c.read_planes.new.columns c.read_planes.new.states two one cur c.args.sink.now grows read told c.finish.new.out made) made.stands in
+    let handed = c.hand_lines.ensures.exact coded initial c.read_planes.new.columns
+    (finished takes refuses a coded initial line.row next payload line.first line.count line.y s
+    c.read_planes.new.columns c.read_planes.new.states two one cur c.args.sink.now grows read
+    told c.finish.new.out made) (grows_finished takes refuses a coded initial line.row next
+    payload line.first line.count line.y s c.read_planes.new.columns c.read_planes.new.states
+    two one cur c.args.sink.now grows read told c.finish.new.out made)
+    (finished_told takes refuses a coded initial line.row next payload line.first line.count
+    line.y s c.read_planes.new.columns c.read_planes.new.states two one cur c.args.sink.now
+    grows read told c.finish.new.out made) made.stands in
     MatchResult-weaker c.hand_lines.result handed
-    (λ u done. subst (λ z. LineDecoded takes refuses a coded initial line.row next payload line.first line.count line.y (take c.args.slices.now.columns.len (c.read_planes.new.columns ++ drop (length c.read_planes.new.columns) c.args.slices.now.columns.items)) z one cur c.hand_lines.new.sink s) (sym states_back)
-    (subst (λ z. LineDecoded takes refuses a coded initial line.row next payload line.first line.count line.y z c.read_planes.new.states one cur c.hand_lines.new.sink s) (sym columns_back) (line_decoded takes refuses a coded initial line.row next payload line.first line.count line.y s c.read_planes.new.columns c.read_planes.new.states two one cur c.args.sink.now grows read told c.finish.new.out made (λ p. c.slices_lie_beside_one_another.ensures.across a.configuration a.table p c.requires.frame.accepted) c.hand_lines.new.sink done)))
-    (λ f stopped. subst (λ z. FailsIn takes refuses a coded initial line.row z (line_events a.configuration line.row (range_with_len line.first line.count) line.y) f c.hand_lines.new.sink s) (sym columns_back) (inr (hand_fails takes refuses a coded initial line.row next payload line.first line.count line.y s c.read_planes.new.columns c.read_planes.new.states two one cur c.args.sink.now grows read told c.finish.new.out made f c.hand_lines.new.sink stopped)))
+    (λ u done. subst (λ z. LineDecoded takes refuses a coded initial line.row next payload
+    line.first line.count line.y (take c.args.slices.now.columns.len
+    (c.read_planes.new.columns ++ drop (length c.read_planes.new.columns)
+    c.args.slices.now.columns.items)) z one cur c.hand_lines.new.sink s) (sym states_back)
+    (subst (λ z. LineDecoded takes refuses a coded initial line.row next payload line.first
+    line.count line.y z c.read_planes.new.states one cur c.hand_lines.new.sink s)
+    (sym columns_back) (line_decoded takes refuses a coded initial line.row next payload
+    line.first line.count line.y s c.read_planes.new.columns c.read_planes.new.states two one
+    cur c.args.sink.now grows read told c.finish.new.out made
+    (λ p. c.slices_lie_beside_one_another.ensures.across a.configuration a.table p
+    c.requires.frame.accepted) c.hand_lines.new.sink done)))
+    (λ f stopped. subst (λ z. FailsIn takes refuses a coded initial line.row z
+    (line_events a.configuration line.row (range_with_len line.first line.count) line.y) f
+    c.hand_lines.new.sink s) (sym columns_back)
+    (inr (hand_fails takes refuses a coded initial line.row next payload line.first line.count
+    line.y s c.read_planes.new.columns c.read_planes.new.states two one cur c.args.sink.now
+    grows read told c.finish.new.out made f c.hand_lines.new.sink stopped)))

@@ -1,4 +1,6 @@
-use Rattle.std.proofs.Common.{◌≡◌, ◌*◌, ◌<◌, [], ◌∷◌, refl, subst, sym, ◌∙◌, length, slice_index_or, arith}
+-- Reads a segment into its place of a line, and looks at how far its slice was read.
+use Rattle.std.proofs.Common.{◌≡◌, ◌*◌, ◌<◌, [], ◌∷◌, refl, subst, sym, ◌∙◌, length, slice_index_or}
+use Rattle.std.proofs.Common.{arith}
 use Rattle.std.proofs.lemmas.List.{get_or_default}
 use Rattle.std.proofs.lemmas.Result.{err_from_is_err_and}
 use Rattle.ffv1_codec.specs.declared.fault.FrameFault.{FrameFault}
@@ -15,16 +17,20 @@ returns-in_err-read_on-clause-exact g c = λ coded next s less tied line.
 pub is_overread-requires-clause-rises : goal.is_overread-requires-clause-rises
 is_overread-requires-clause-rises g c =
     let k = c.args.segment.now.column in
-    let few : k < length c.read_on.new.columns = omega (arith, c.requires.column, c.requires.many, c.read_on.auto.columns) in
-    let column_is : slice_index_or c.read_on.new.columns k c.index-columns-segment.result ≡ column_at c.read_on.new.columns k =
+    let few : k < length c.read_on.new.columns =
+    omega (arith, c.requires.column, c.requires.many, c.read_on.auto.columns) in
+    let column_is : slice_index_or c.read_on.new.columns k c.index-columns-segment.result ≡
+    column_at c.read_on.new.columns k =
     get_or_default c.read_on.new.columns k c.index-columns-segment.result no_column few in
     rw column_is ((c.in_ok-read_on.ensures.open k few).rises)
 
 pub is_overread-requires-clause-inside : goal.is_overread-requires-clause-inside
 is_overread-requires-clause-inside g c =
     let k = c.args.segment.now.column in
-    let few : k < length c.read_on.new.columns = omega (arith, c.requires.column, c.requires.many, c.read_on.auto.columns) in
-    let column_is : slice_index_or c.read_on.new.columns k c.index-columns-segment.result ≡ column_at c.read_on.new.columns k =
+    let few : k < length c.read_on.new.columns =
+    omega (arith, c.requires.column, c.requires.many, c.read_on.auto.columns) in
+    let column_is : slice_index_or c.read_on.new.columns k c.index-columns-segment.result ≡
+    column_at c.read_on.new.columns k =
     get_or_default c.read_on.new.columns k c.index-columns-segment.result no_column few in
     rw column_is ((c.in_ok-read_on.ensures.open k few).inside)
 
@@ -34,14 +40,19 @@ returns-then-is_overread-clause-exact g c = λ coded next s less tied line.
     let segment = c.args.segment.now in
     let k = segment.column in
     let columns = c.read_on.new.columns in
-    let long : length columns ≡ a.configuration.columns = c.read_on.auto.columns ∙ c.requires.many in
+    let long : length columns ≡ a.configuration.columns = c.read_on.auto.columns ∙
+    c.requires.many in
     let few : k < length columns = omega (arith, c.requires.column, long) in
     let column_is : slice_index_or columns k c.index-columns-segment.result ≡ column_at columns k =
     get_or_default columns k c.index-columns-segment.result no_column few in
     let over = rw column_is at (c.if-is_overread.ensures.yes refl) in
     let made = c.in_ok-read_on.ensures.exact coded next s less tied line in
-    subst (λ (f : FrameFault). Stopped a coded columns (Read segment.row k segment.plane segment.y ∷ []) f s) (sym c.fault_in.ensures)
-    (stop_looked a coded segment.row next c.args.frame.now.payload.now segment.plane (segment.index * a.configuration.width) segment.y k columns c.read_on.new.states (g.W.Word.samples c.args.above.now.two.now) (g.W.Word.samples c.args.above.now.one.now) (g.W.Word.samples c.read_on.new.cur) s made c.requires.column
+    subst (λ (f : FrameFault). Stopped a coded columns
+    (Read segment.row k segment.plane segment.y ∷ []) f s) (sym c.fault_in.ensures)
+    (stop_looked a coded segment.row next c.args.frame.now.payload.now segment.plane
+    (segment.index * a.configuration.width) segment.y k columns c.read_on.new.states
+    (g.W.Word.samples c.args.above.now.two.now) (g.W.Word.samples c.args.above.now.one.now)
+    (g.W.Word.samples c.read_on.new.cur) s made c.requires.column
     c.counters_from_zero_show_all_steps.ensures over long)
 
 pub returns-clause-exact : goal.returns-clause-exact
@@ -50,11 +61,15 @@ returns-clause-exact g c = λ coded next s less tied line.
     let segment = c.args.segment.now in
     let k = segment.column in
     let columns = c.read_on.new.columns in
-    let long : length columns ≡ a.configuration.columns = c.read_on.auto.columns ∙ c.requires.many in
+    let long : length columns ≡ a.configuration.columns = c.read_on.auto.columns ∙
+    c.requires.many in
     let few : k < length columns = omega (arith, c.requires.column, long) in
     let column_is : slice_index_or columns k c.index-columns-segment.result ≡ column_at columns k =
     get_or_default columns k c.index-columns-segment.result no_column few in
     let within = rw column_is at (c.if-is_overread.ensures.no refl) in
     let made = c.in_ok-read_on.ensures.exact coded next s less tied line in
-    step_looked a coded segment.row next c.args.frame.now.payload.now segment.plane (segment.index * a.configuration.width) segment.y k columns c.read_on.new.states (g.W.Word.samples c.args.above.now.two.now) (g.W.Word.samples c.args.above.now.one.now) (g.W.Word.samples c.read_on.new.cur) s made c.requires.column
+    step_looked a coded segment.row next c.args.frame.now.payload.now segment.plane
+    (segment.index * a.configuration.width) segment.y k columns c.read_on.new.states
+    (g.W.Word.samples c.args.above.now.two.now) (g.W.Word.samples c.args.above.now.one.now)
+    (g.W.Word.samples c.read_on.new.cur) s made c.requires.column
     c.counters_from_zero_show_all_steps.ensures within

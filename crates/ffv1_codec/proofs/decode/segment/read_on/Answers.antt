@@ -1,4 +1,6 @@
-use Rattle.std.proofs.Common.{◌≡◌, ℕ, ◌+◌, ◌-◌, ◌*◌, ◌<◌, ◌≤◌, ◌⊎◌, inl, inr, ap, sym, subst, ◌∙◌, length, slice_index, slice_index_or, take, arith}
+-- Reads a segment into its place of a line.
+use Rattle.std.proofs.Common.{◌≡◌, ℕ, ◌+◌, ◌-◌, ◌*◌, ◌<◌, ◌≤◌, ◌⊎◌, inl, inr, ap, sym, subst, ◌∙◌}
+use Rattle.std.proofs.Common.{length, slice_index, slice_index_or, take, arith}
 use Rattle.std.proofs.lemmas.List.{get_or_default, length-take-le}
 use Rattle.ffv1_record.specs.Held.{classes_of}
 use Rattle.ffv1_line.specs.Cell.{Rolls}
@@ -19,7 +21,8 @@ use Rattle.ffv1_codec.proofs.decode.segment.read_on.Goals.{After-index-columns-k
 use Rattle.ffv1_codec.proofs.decode.segment.read_on.Goals as goal
 
 -- the states of a column lie in those of the row
-fits : (k columns slots count all : ℕ) → k < columns → slots ≡ count → all ≡ columns * count → k * slots + slots ≤ all
+fits : (k columns slots count all : ℕ) → k < columns → slots ≡ count → all ≡ columns * count → k *
+    slots + slots ≤ all
 fits k columns slots count all inside same room =
     let part = part_apart k columns slots inside in
     let room : all ≡ columns * slots = room ∙ ap (λ z. columns * z) (sym same) in
@@ -33,29 +36,43 @@ thick k slots = omega arith
 column_is : (g : Over) (c : After-index-columns-k g) →
     slice_index_or c.args.columns.now c.args.segment.now.column c.index-columns-k.result
     ≡ column_at c.args.columns.now c.args.segment.now.column
-column_is g c = get_or_default c.args.columns.now c.args.segment.now.column c.index-columns-k.result no_column (omega (arith, c.requires.column, c.requires.many))
+column_is g c = get_or_default c.args.columns.now c.args.segment.now.column c.index-columns-k.result
+    no_column (omega (arith, c.requires.column, c.requires.many))
 
 -- the column was read
 module _ (g : Over) (c : After-read_column g) where
-  words_fit : c.extent-left.result.0 + (c.extent-left.result.1 - c.extent-left.result.0) ≤ length c.args.cur.now
-  words_fit = omega (arith, c.extent-left.ensures.some, c.extent-left.ensures.inside, c.requires.cur_long)
+  words_fit : c.extent-left.result.0 + (c.extent-left.result.1 - c.extent-left.result.0) ≤ length
+      c.args.cur.now
+  words_fit = omega (
+    arith,
+    c.extent-left.ensures.some,
+    c.extent-left.ensures.inside,
+    c.requires.cur_long,
+  )
 
-  row_long : length (g.W.Word.samples c.read_column.new.cur) ≡ c.extent-left.result.1 - c.extent-left.result.0
+  row_long : length (g.W.Word.samples c.read_column.new.cur) ≡ c.extent-left.result.1 -
+      c.extent-left.result.0
   row_long =
       g.met.W.Word.lengths c.read_column.new.cur ∙ c.read_column.auto.cur
-      ∙ piece_long c.extent-left.result.0 (c.extent-left.result.1 - c.extent-left.result.0) c.args.cur.now words_fit
+      ∙ piece_long c.extent-left.result.0 (c.extent-left.result.1 - c.extent-left.result.0)
+      c.args.cur.now words_fit
 
   states_long : length c.read_column.new.states ≡ c.args.frame.now.slots
   states_long =
       let k = c.args.segment.now.column in
       let slots = c.args.frame.now.slots in
-      c.read_column.auto.states ∙ part_long (k * slots) slots (k * slots + slots - k * slots) c.args.states.now (thick k slots) (fits c.args.segment.now.column c.args.frame.now.checked.now.configuration.columns c.args.frame.now.slots _ _ c.requires.column c.requires.frame.slots c.requires.room)
+      c.read_column.auto.states ∙ part_long (k * slots) slots (k * slots + slots - k * slots)
+      c.args.states.now (thick k slots) (fits c.args.segment.now.column
+      c.args.frame.now.checked.now.configuration.columns c.args.frame.now.slots _ _
+      c.requires.column c.requires.frame.slots c.requires.room)
 
   -- the line has what was read in its place, and beside it what it had
   others : (b n : ℕ) → b + n ≤ length (g.W.Word.samples c.args.cur.now) →
       (b + n ≤ c.args.segment.now.index * c.args.frame.now.checked.now.configuration.width)
-      ⊎ (c.args.segment.now.index * c.args.frame.now.checked.now.configuration.width + c.args.frame.now.checked.now.configuration.width ≤ b) →
-      window b n (put c.extent-left.result.0 (c.extent-left.result.1 - c.extent-left.result.0) (g.W.Word.samples c.args.cur.now) (g.W.Word.samples c.read_column.new.cur))
+      ⊎ (c.args.segment.now.index * c.args.frame.now.checked.now.configuration.width +
+      c.args.frame.now.checked.now.configuration.width ≤ b) →
+      window b n (put c.extent-left.result.0 (c.extent-left.result.1 - c.extent-left.result.0)
+      (g.W.Word.samples c.args.cur.now) (g.W.Word.samples c.read_column.new.cur))
       ≡ window b n (g.W.Word.samples c.args.cur.now)
   others b n within apart =
       let left = c.extent-left.result.0 in
@@ -66,9 +83,15 @@ module _ (g : Over) (c : After-read_column g) where
       let index = c.args.segment.now.index * c.args.frame.now.checked.now.configuration.width in
       let apart : (b + n ≤ left) ⊎ (left + width ≤ b) = elim apart [
         | inl front ↦ inl (omega (arith, front, c.extent-left.ensures.left))
-        | inr behind ↦ inr (omega (arith, behind, c.extent-left.ensures.some, c.extent-left.ensures.inside))
+        | inr behind ↦ inr (omega (
+          arith,
+          behind,
+          c.extent-left.ensures.some,
+          c.extent-left.ensures.inside,
+        ))
       ] in
-      put_other cur (g.W.Word.samples c.read_column.new.cur) left width cur_fits row_long b n within apart
+      put_other cur (g.W.Word.samples c.read_column.new.cur) left width cur_fits row_long b n within
+      apart
 
 pub overflow_add-at : goal.overflow_add-at
 overflow_add-at g c =
@@ -76,27 +99,36 @@ overflow_add-at g c =
     let conf = a.configuration in
     let k = c.args.segment.now.column in
     let slots = c.args.frame.now.slots in
-    let most = c.accepted_configuration_has_sound_parts.ensures.most conf a.table c.requires.frame.accepted in
-    let few = slots_small (classes_of conf.chroma_planes conf.extra_plane) _ (classes_most conf.chroma_planes conf.extra_plane) most in
-    let columns = c.accepted_configuration_is_in_range.ensures.columns conf a.table c.requires.frame.accepted in
-    let small = part_small k slots (omega (arith, c.requires.column, columns)) (omega (arith, few, c.requires.frame.slots)) in
+    let most = c.accepted_configuration_has_sound_parts.ensures.most conf a.table
+    c.requires.frame.accepted in
+    let few = slots_small (classes_of conf.chroma_planes conf.extra_plane) _
+    (classes_most conf.chroma_planes conf.extra_plane) most in
+    let columns = c.accepted_configuration_is_in_range.ensures.columns conf a.table
+    c.requires.frame.accepted in
+    let small = part_small k slots (omega (arith, c.requires.column, columns))
+    (omega (arith, few, c.requires.frame.slots)) in
     omega (arith, small)
 
 pub slice_bounds-read_column-end : goal.slice_bounds-read_column-end
-slice_bounds-read_column-end g c = fits c.args.segment.now.column c.args.frame.now.checked.now.configuration.columns c.args.frame.now.slots _ _ c.requires.column c.requires.frame.slots c.requires.room
+slice_bounds-read_column-end g c = fits c.args.segment.now.column
+    c.args.frame.now.checked.now.configuration.columns c.args.frame.now.slots _ _ c.requires.column
+    c.requires.frame.slots c.requires.room
 
 pub read_column-requires-clause-open : goal.read_column-requires-clause-open
 read_column-requires-clause-open g c =
     let is = column_is g (goal.at.read_column-requires-clause-open g c).After-index-columns-k in
-    subst (IsOpen c.args.frame.now.payload.now c.args.frame.now.checked.now.configuration.sets) (sym is)
+    subst (IsOpen c.args.frame.now.payload.now c.args.frame.now.checked.now.configuration.sets)
+    (sym is)
     (c.requires.open c.args.segment.now.column (omega (arith, c.requires.column, c.requires.many)))
 
 pub read_column-requires-clause-held : goal.read_column-requires-clause-held
 read_column-requires-clause-held g c =
     let k = c.args.segment.now.column in
     let slots = c.args.frame.now.slots in
-    let fits = fits c.args.segment.now.column c.args.frame.now.checked.now.configuration.columns c.args.frame.now.slots _ _ c.requires.column c.requires.frame.slots c.requires.room in
-    rw (thick k slots) (part_held c.args.frame.now.checked.now.table c.args.states.now (k * slots) slots fits c.requires.held)
+    let fits = fits c.args.segment.now.column c.args.frame.now.checked.now.configuration.columns
+    c.args.frame.now.slots _ _ c.requires.column c.requires.frame.slots c.requires.room in
+    rw (thick k slots) (part_held c.args.frame.now.checked.now.table c.args.states.now (k * slots)
+    slots fits c.requires.held)
 
 pub returns-in-Ok-clause-exact : goal.returns-in-Ok-clause-exact
 returns-in-Ok-clause-exact g c = λ coded next s less tied line.
@@ -118,41 +150,65 @@ returns-in-Ok-clause-exact g c = λ coded next s less tied line.
     let column_is = column_is g here.After-index-columns-k in
     let right : width ≡ width_in conf p k = omega (arith, c.extent-left.ensures.right) in
     let row_is : length row ≡ width_in conf p k = row_long g here.After-read_column ∙ right in
-    let two_is = window_samples samples law.takes law.drops law.joins left width c.args.above.now.two.now in
-    let one_is = window_samples samples law.takes law.drops law.joins left width c.args.above.now.one.now in
+    let two_is = window_samples samples law.takes law.drops law.joins left width
+    c.args.above.now.two.now in
+    let one_is = window_samples samples law.takes law.drops law.joins left width
+    c.args.above.now.one.now in
     let same = rw column_is at c.in-Ok.ensures.same in
     let slots_are : slots ≡ slots_in conf = c.requires.frame.slots in
-    let left_is : left ≡ c.args.segment.now.index * conf.width + left_of conf p k = c.extent-left.ensures.left in
-    let exact = rw (column_is, thick, slots_are, two_is, one_is, right, left_is) at c.in-Ok.ensures.exact in
+    let left_is : left ≡ c.args.segment.now.index * conf.width + left_of conf p k =
+    c.extent-left.ensures.left in
+    let exact = rw (column_is, thick, slots_are, two_is, one_is, right, left_is) at
+    c.in-Ok.ensures.exact in
     let place = c.args.segment.now.index * conf.width + left_of conf p k in
     let old = slice_at s k in
-    let rolls : Rolls (width_in conf p k) (plane old.cells p) (window place (width_in conf p k) two) (window place (width_in conf p k) one) c.args.segment.now.y = line.unread k (omega arith) c.requires.column in
-    let stands = stands_here a coded c.args.segment.now.row next c.args.frame.now.payload.now c.args.columns.now c.args.states.now s tied p c.args.segment.now.index c.args.segment.now.y k two one cur row
+    let rolls : Rolls (width_in conf p k) (plane old.cells p) (window place (width_in conf p k) two)
+    (window place (width_in conf p k) one) c.args.segment.now.y = line.unread k (omega arith)
+    c.requires.column in
+    let stands = stands_here a coded c.args.segment.now.row next c.args.frame.now.payload.now
+    c.args.columns.now c.args.states.now s tied p c.args.segment.now.index c.args.segment.now.y
+    k two one cur row
     c.read_column.new.column c.requires.column c.requires.many same in
-    let rolls_here = subst (λ w. Rolls w (plane old.cells p) (window place (width_in conf p k) two) (window place (width_in conf p k) one) c.args.segment.now.y) (sym row_is) rolls in
+    let rolls_here = subst (λ w. Rolls w (plane old.cells p) (window place (width_in conf p k) two)
+    (window place (width_in conf p k) one) c.args.segment.now.y) (sym row_is) rolls in
     let made = exact old.past (plane old.cells p) c.args.segment.now.y stands rolls_here in
     let bytes = bytes_in c.args.frame.now.payload.now (column_at c.args.columns.now k) in
-    let set = set_at conf.sets (slice_index (column_at c.args.columns.now k).indexes (class_of p)) in
-    let cur_back = put_samples samples law.takes law.drops law.joins left width c.args.cur.now c.read_column.new.cur in
+    let set = set_at conf.sets (slice_index (column_at c.args.columns.now k).indexes
+    (class_of p)) in
+    let cur_back = put_samples samples law.takes law.drops law.joins left width c.args.cur.now
+    c.read_column.new.cur in
     let cur_long : length cur ≡ length c.args.cur.now = law.lengths c.args.cur.now in
-    let raw = subst (λ w. SegmentRead bytes (coding_by a.table set (bits_of conf)) (base_of conf p) 33 old.past (plane old.cells p) w c.args.segment.now.y c.read_column.new.column.parked c.read_column.new.states row) row_is made in
-    let long : length c.read_column.new.states ≡ slots_in conf = states_long g here.After-read_column ∙ slots_are in
-    let are = c.slices_lie_beside_one_another.ensures.across conf a.table p c.requires.frame.accepted in
-    rw (cur_back, thick, slots_are, right, left_is) (step_made a coded c.args.segment.now.row next c.args.frame.now.payload.now c.args.columns.now c.args.states.now s tied p c.args.segment.now.index c.args.segment.now.y k two one cur row
-    c.read_column.new.column c.requires.column c.requires.many same rolls c.read_column.new.states c.in-Ok.ensures.small row_is less c.requires.plane c.requires.room long raw are c.reading_its_rows_reads_the_cell.ensures.rolls (omega (arith, cur_long, c.requires.cur_long)) line)
+    let raw = subst (λ w. SegmentRead bytes (coding_by a.table set (bits_of conf)) (base_of conf p)
+    33 old.past (plane old.cells p) w c.args.segment.now.y c.read_column.new.column.parked
+    c.read_column.new.states row) row_is made in
+    let long : length c.read_column.new.states ≡ slots_in conf = states_long g
+    here.After-read_column ∙ slots_are in
+    let are = c.slices_lie_beside_one_another.ensures.across conf a.table p
+    c.requires.frame.accepted in
+    rw (cur_back, thick, slots_are, right, left_is)
+    (step_made a coded c.args.segment.now.row next c.args.frame.now.payload.now
+    c.args.columns.now c.args.states.now s tied p c.args.segment.now.index c.args.segment.now.y
+    k two one cur row
+    c.read_column.new.column c.requires.column c.requires.many same rolls c.read_column.new.states
+    c.in-Ok.ensures.small row_is less c.requires.plane c.requires.room long raw are
+    c.reading_its_rows_reads_the_cell.ensures.rolls
+    (omega (arith, cur_long, c.requires.cur_long)) line)
 
 pub returns-in-Ok-clause-beside : goal.returns-in-Ok-clause-beside
 returns-in-Ok-clause-beside g c = λ b n within apart.
     let law = g.met.W.Word in
     let left = c.extent-left.result.0 in
-    let cur_back = put_samples g.W.Word.samples law.takes law.drops law.joins left (c.extent-left.result.1 - left) c.args.cur.now c.read_column.new.cur in
-    rw cur_back (others g (goal.at.returns-in-Ok-clause-beside g c).After-read_column b n within apart)
+    let cur_back = put_samples g.W.Word.samples law.takes law.drops law.joins left
+    (c.extent-left.result.1 - left) c.args.cur.now c.read_column.new.cur in
+    rw cur_back (others g (goal.at.returns-in-Ok-clause-beside g c).After-read_column b n within
+    apart)
 
 pub returns-in-Ok-clause-open : goal.returns-in-Ok-clause-open
 returns-in-Ok-clause-open g c =
     let is = column_is g (goal.at.returns-in-Ok-clause-open g c).After-index-columns-k in
     let same = rw is at c.in-Ok.ensures.same in
-    open_next c.args.frame.now.payload.now c.args.frame.now.checked.now.configuration.sets c.args.columns.now c.args.segment.now.column c.read_column.new.column
+    open_next c.args.frame.now.payload.now c.args.frame.now.checked.now.configuration.sets
+    c.args.columns.now c.args.segment.now.column c.read_column.new.column
     (omega (arith, c.requires.column, c.requires.many)) c.requires.open same c.in-Ok.ensures.open
 
 pub returns-in-Ok-clause-held : goal.returns-in-Ok-clause-held
@@ -161,7 +217,10 @@ returns-in-Ok-clause-held g c =
     let k = c.args.segment.now.column in
     let slots = c.args.frame.now.slots in
     let long = states_long g here.After-read_column in
-    rw (thick k slots) (put_held c.args.states.now c.read_column.new.states (k * slots) slots (fits c.args.segment.now.column c.args.frame.now.checked.now.configuration.columns c.args.frame.now.slots _ _ c.requires.column c.requires.frame.slots c.requires.room) long c.args.frame.now.checked.now.table c.requires.held c.in-Ok.ensures.held)
+    rw (thick k slots) (put_held c.args.states.now c.read_column.new.states (k * slots) slots
+    (fits c.args.segment.now.column c.args.frame.now.checked.now.configuration.columns
+    c.args.frame.now.slots _ _ c.requires.column c.requires.frame.slots c.requires.room) long
+    c.args.frame.now.checked.now.table c.requires.held c.in-Ok.ensures.held)
 
 pub returns-in-Err-clause-exact : goal.returns-in-Err-clause-exact
 returns-in-Err-clause-exact g c = λ coded next s less tied line.
@@ -183,40 +242,58 @@ returns-in-Err-clause-exact g c = λ coded next s less tied line.
     let column_is = column_is g here.After-index-columns-k in
     let right : width ≡ width_in conf p k = omega (arith, c.extent-left.ensures.right) in
     let row_is : length row ≡ width_in conf p k = row_long g here.After-read_column ∙ right in
-    let two_is = window_samples samples law.takes law.drops law.joins left width c.args.above.now.two.now in
-    let one_is = window_samples samples law.takes law.drops law.joins left width c.args.above.now.one.now in
+    let two_is = window_samples samples law.takes law.drops law.joins left width
+    c.args.above.now.two.now in
+    let one_is = window_samples samples law.takes law.drops law.joins left width
+    c.args.above.now.one.now in
     let same = rw column_is at c.in-Err.ensures.same in
     let slots_are : slots ≡ slots_in conf = c.requires.frame.slots in
-    let left_is : left ≡ c.args.segment.now.index * conf.width + left_of conf p k = c.extent-left.ensures.left in
-    let exact = rw (column_is, thick, slots_are, two_is, one_is, right, left_is) at c.in-Err.ensures.exact in
+    let left_is : left ≡ c.args.segment.now.index * conf.width + left_of conf p k =
+    c.extent-left.ensures.left in
+    let exact = rw (column_is, thick, slots_are, two_is, one_is, right, left_is) at
+    c.in-Err.ensures.exact in
     let place = c.args.segment.now.index * conf.width + left_of conf p k in
     let old = slice_at s k in
-    let rolls : Rolls (width_in conf p k) (plane old.cells p) (window place (width_in conf p k) two) (window place (width_in conf p k) one) c.args.segment.now.y = line.unread k (omega arith) c.requires.column in
-    let stands = stands_here a coded c.args.segment.now.row next c.args.frame.now.payload.now c.args.columns.now c.args.states.now s tied p c.args.segment.now.index c.args.segment.now.y k two one cur (take c.in-Err.refused.x row)
+    let rolls : Rolls (width_in conf p k) (plane old.cells p) (window place (width_in conf p k) two)
+    (window place (width_in conf p k) one) c.args.segment.now.y = line.unread k (omega arith)
+    c.requires.column in
+    let stands = stands_here a coded c.args.segment.now.row next c.args.frame.now.payload.now
+    c.args.columns.now c.args.states.now s tied p c.args.segment.now.index c.args.segment.now.y
+    k two one cur (take c.in-Err.refused.x row)
     c.read_column.new.column c.requires.column c.requires.many same in
-    let rolls_here = subst (λ w. Rolls w (plane old.cells p) (window place (width_in conf p k) two) (window place (width_in conf p k) one) c.args.segment.now.y) (sym row_is) rolls in
+    let rolls_here = subst (λ w. Rolls w (plane old.cells p) (window place (width_in conf p k) two)
+    (window place (width_in conf p k) one) c.args.segment.now.y) (sym row_is) rolls in
     let made = exact old.past (plane old.cells p) c.args.segment.now.y stands rolls_here in
     let bytes = bytes_in c.args.frame.now.payload.now (column_at c.args.columns.now k) in
-    let set = set_at conf.sets (slice_index (column_at c.args.columns.now k).indexes (class_of p)) in
+    let set = set_at conf.sets (slice_index (column_at c.args.columns.now k).indexes
+    (class_of p)) in
     let x = c.in-Err.refused.x in
-    let raw = subst (λ w. SegmentRefused bytes (coding_by a.table set (bits_of conf)) (base_of conf p) 33 old.past (plane old.cells p) w c.args.segment.now.y c.read_column.new.column.parked (take x row) x) row_is made in
+    let raw = subst (λ w. SegmentRefused bytes (coding_by a.table set (bits_of conf))
+    (base_of conf p) 33 old.past (plane old.cells p) w c.args.segment.now.y
+    c.read_column.new.column.parked (take x row) x) row_is made in
     let few : x < width_in conf p k = omega (arith, c.in-Err.ensures.inside, row_is) in
     let taken : length (take x row) ≡ x = length-take-le x row (omega (arith, few, row_is)) in
-    stopped a coded c.args.segment.now.row next c.args.frame.now.payload.now c.args.columns.now c.args.states.now s tied p c.args.segment.now.index c.args.segment.now.y k two one cur (take x row)
-    c.read_column.new.column c.requires.column c.requires.many same rolls x taken few c.counters_from_zero_show_all_steps.ensures raw c.refusal.result c.refusal.ensures
+    stopped a coded c.args.segment.now.row next c.args.frame.now.payload.now c.args.columns.now
+    c.args.states.now s tied p c.args.segment.now.index c.args.segment.now.y k two one cur
+    (take x row)
+    c.read_column.new.column c.requires.column c.requires.many same rolls x taken few
+    c.counters_from_zero_show_all_steps.ensures raw c.refusal.result c.refusal.ensures
 
 pub returns-in-Err-clause-beside : goal.returns-in-Err-clause-beside
 returns-in-Err-clause-beside g c = λ b n within apart.
     let law = g.met.W.Word in
     let left = c.extent-left.result.0 in
-    let cur_back = put_samples g.W.Word.samples law.takes law.drops law.joins left (c.extent-left.result.1 - left) c.args.cur.now c.read_column.new.cur in
-    rw cur_back (others g (goal.at.returns-in-Err-clause-beside g c).After-read_column b n within apart)
+    let cur_back = put_samples g.W.Word.samples law.takes law.drops law.joins left
+    (c.extent-left.result.1 - left) c.args.cur.now c.read_column.new.cur in
+    rw cur_back (others g (goal.at.returns-in-Err-clause-beside g c).After-read_column b n within
+    apart)
 
 pub returns-in-Err-clause-open : goal.returns-in-Err-clause-open
 returns-in-Err-clause-open g c =
     let is = column_is g (goal.at.returns-in-Err-clause-open g c).After-index-columns-k in
     let same = rw is at c.in-Err.ensures.same in
-    open_next c.args.frame.now.payload.now c.args.frame.now.checked.now.configuration.sets c.args.columns.now c.args.segment.now.column c.read_column.new.column
+    open_next c.args.frame.now.payload.now c.args.frame.now.checked.now.configuration.sets
+    c.args.columns.now c.args.segment.now.column c.read_column.new.column
     (omega (arith, c.requires.column, c.requires.many)) c.requires.open same c.in-Err.ensures.open
 
 pub returns-in-Err-clause-held : goal.returns-in-Err-clause-held
@@ -225,4 +302,7 @@ returns-in-Err-clause-held g c =
     let k = c.args.segment.now.column in
     let slots = c.args.frame.now.slots in
     let long = states_long g here.After-read_column in
-    rw (thick k slots) (put_held c.args.states.now c.read_column.new.states (k * slots) slots (fits c.args.segment.now.column c.args.frame.now.checked.now.configuration.columns c.args.frame.now.slots _ _ c.requires.column c.requires.frame.slots c.requires.room) long c.args.frame.now.checked.now.table c.requires.held c.in-Err.ensures.held)
+    rw (thick k slots) (put_held c.args.states.now c.read_column.new.states (k * slots) slots
+    (fits c.args.segment.now.column c.args.frame.now.checked.now.configuration.columns
+    c.args.frame.now.slots _ _ c.requires.column c.requires.frame.slots c.requires.room) long
+    c.args.frame.now.checked.now.table c.requires.held c.in-Err.ensures.held)

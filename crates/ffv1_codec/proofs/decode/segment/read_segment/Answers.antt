@@ -1,3 +1,5 @@
+-- Reads a segment: wakes a decoder on the bytes of its slice, decodes a row by the states of its
+-- class, and parks.
 use Rattle.std.proofs.Common.{rules, ◌≡◌, ◌≤◌, length, Some}
 use Rattle.std.proofs.lemmas.Result.{on_ok_weaker}
 use Rattle.ffv1_codec.proofs.Outcomes.{both_outcomes}
@@ -28,12 +30,18 @@ returns-clause-exact g c = λ past base samples y stands rolls.
     let lined = rw c.wake-decoder.ensures at c.decode-read.ensures.ok in
     let refused = rw c.wake-decoder.ensures at c.decode-read.ensures.refused in
     rw c.park.ensures (both_outcomes c.decode-read.result lined c.decode-read.ensures.inside refused
-    (λ u line. segment_read laws c.args.bytes.now c.args.coding.now.table.now base c.args.coding.now.set.now c.args.coding.now.bits past c.args.states.now c.decode-read.new.states c.unwrap.result c.args.parked.now c.decode-read.new.decoder
+    (λ u line. segment_read laws c.args.bytes.now c.args.coding.now.table.now base
+    c.args.coding.now.set.now c.args.coding.now.bits past c.args.states.now
+    c.decode-read.new.states c.unwrap.result c.args.parked.now c.decode-read.new.decoder
     two one row samples y below c.requires.rows is stands rolls line)
-    (λ e inside stop. segment_refused laws c.args.bytes.now c.args.coding.now.table.now base c.args.coding.now.set.now c.args.coding.now.bits past c.args.states.now c.decode-read.new.states c.unwrap.result c.args.parked.now c.decode-read.new.decoder
+    (λ e inside stop. segment_refused laws c.args.bytes.now c.args.coding.now.table.now base
+    c.args.coding.now.set.now c.args.coding.now.bits past c.args.states.now
+    c.decode-read.new.states c.unwrap.result c.args.parked.now c.decode-read.new.decoder
     two one row samples y below c.requires.rows is stands rolls e.x inside stop))
 
 pub returns-clause-small : goal.returns-clause-small
 returns-clause-small g c =
-    let few : length (g.W.Word.samples c.decode-read.new.cur) ≤ length (g.W.Word.samples c.args.above.now.one.now) = search rules in
-    on_ok_weaker c.decode-read.result (λ lined. c.read_samples_fit_their_bits.ensures.read _ _ _ _ _ _ few lined) c.decode-read.ensures.ok
+    let few : length (g.W.Word.samples c.decode-read.new.cur) ≤ length
+    (g.W.Word.samples c.args.above.now.one.now) = search rules in
+    on_ok_weaker c.decode-read.result (λ lined. c.read_samples_fit_their_bits.ensures.read _ _ _ _ _
+    _ few lined) c.decode-read.ensures.ok

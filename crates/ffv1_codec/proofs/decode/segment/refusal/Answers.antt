@@ -1,3 +1,4 @@
+-- The fault of a segment of which a symbol is refused.
 use Rattle.std.proofs.Common.{◌≡◌, ◌+◌, ◌<◌, arith}
 use Rattle.ffv1_slice.specs.Grid.{across, division_of}
 use Rattle.ffv1_codec.specs.Decoding.{left_of}
@@ -11,10 +12,14 @@ within : (g : Over) (c : After-left-left g) → c.left-left.result + c.args.x < 
 within g c =
     let conf = c.args.frame.now.checked.now.configuration in
     let p = c.args.segment.now.plane in
-    let are = c.slices_lie_beside_one_another.ensures.across conf c.args.frame.now.checked.now.table p c.requires.frame.accepted in
-    let left : c.left-left.result ≡ left_of conf p c.args.segment.now.column = rw c.requires.frame.grid at c.left-left.ensures in
-    let all = inside (across (division_of conf) p) are c.args.segment.now.column c.requires.column in
-    let sizes = c.accepted_configuration_is_in_range.ensures.sizes conf c.args.frame.now.checked.now.table c.requires.frame.accepted in
+    let are = c.slices_lie_beside_one_another.ensures.across conf c.args.frame.now.checked.now.table
+    p c.requires.frame.accepted in
+    let left : c.left-left.result ≡ left_of conf p c.args.segment.now.column =
+    rw c.requires.frame.grid at c.left-left.ensures in
+    let all = inside (across (division_of conf) p) are c.args.segment.now.column
+    c.requires.column in
+    let sizes = c.accepted_configuration_is_in_range.ensures.sizes conf
+    c.args.frame.now.checked.now.table c.requires.frame.accepted in
     omega (arith, left, all, sizes, c.requires.x)
 
 pub overflow_add-left : goal.overflow_add-left

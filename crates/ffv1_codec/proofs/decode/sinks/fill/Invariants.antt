@@ -7,5 +7,6 @@ use Rattle.ffv1_codec.proofs.decode.sinks.fill.Given as goal
 abbrev pub invariant-loop-plane : goal.invariant-loop-plane
 invariant-loop-plane g l =
     AreBegun l.grid l.planes
-    × (filled_planes l.grid (planes_of l.planes) ≡ filled_planes l.grid (planes_of l.initial.planes))
+    × (filled_planes l.grid (planes_of l.planes) ≡ filled_planes l.grid
+    (planes_of l.initial.planes))
     × ((p : ℕ) → p < l.plane → length (plane (planes_of l.planes) p) ≡ plane_size l.grid p)

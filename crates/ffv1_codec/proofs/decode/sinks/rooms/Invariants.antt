@@ -9,4 +9,5 @@ abbrev pub invariant-loop-plane : goal.invariant-loop-plane
 invariant-loop-plane g l =
     (length l.planes.items ≡ l.plane)
     × ((p : ℕ) → p < l.plane → plane (planes_of l.planes.items) p ≡ [])
-    × ((p : ℕ) (v : Vec ℕ _) → p < l.plane → plane_size l.grid p ≤ vec_capacity (get_or l.planes.items p v))
+    × ((p : ℕ) (v : Vec ℕ _) → p < l.plane → plane_size l.grid p ≤ vec_capacity
+    (get_or l.planes.items p v))

@@ -1,4 +1,6 @@
-use Rattle.std.proofs.Common.{◌≡◌, ℕ, ◌*◌, ◌^◌, ◌<◌, ◌≤◌, ◌++◌, ◌∙◌, ap, sym, subst, length, take, drop, slice_index, arith}
+-- Both, or the first place that has no colour or no transparency of so many bits.
+use Rattle.std.proofs.Common.{◌≡◌, ℕ, ◌*◌, ◌^◌, ◌<◌, ◌≤◌, ◌++◌, ◌∙◌, ap, sym, subst, length, take}
+use Rattle.std.proofs.Common.{drop, slice_index, arith}
 use Rattle.std.proofs.lemmas.Result.{err_from_is_err_and}
 use Rattle.std.proofs.lemmas.List.{take-append-drop, get_or-take, length-take-le}
 use Rattle.ffv1_codec.proofs.Outcomes.{ok_both, err_all}
@@ -16,17 +18,26 @@ returns-in-Ok-clause-ok c =
     let deep : 8 < 16 = omega arith in
     let coded = c.split_at.result.0.now in
     let alpha = c.split_at.result.1.now in
-    let is : c.args.samples.now ≡ coded ++ alpha = sym (take-append-drop (3 * w) c.args.samples.now) ∙ ap (λ z. z ++ drop (3 * w) c.args.samples.now) (sym c.split_at.ensures.front) ∙ ap (λ z. coded ++ z) (sym c.split_at.ensures.back) in
+    let is : c.args.samples.now ≡ coded ++ alpha = sym (take-append-drop (3 * w) c.args.samples.now)
+    ∙ ap (λ z. z ++ drop (3 * w) c.args.samples.now) (sym c.split_at.ensures.front) ∙
+    ap (λ z. coded ++ z) (sym c.split_at.ensures.back) in
     let coded_long : length coded ≡ 3 * w = c.split_at.ensures.front_len in
-    let alpha_long : length alpha ≡ w = omega (arith, c.split_at.ensures.back_len, c.requires.samples) in
+    let alpha_long : length alpha ≡ w = omega (
+      arith,
+      c.split_at.ensures.back_len,
+      c.requires.samples,
+    ) in
     let three = c.straight.new.out in
     let fourth = c.transparency.new.out in
-    let room : length three ≡ 2 * (3 * w) = c.straight.auto.out ∙ c.split_at_mut-three.ensures.front_len in
+    let room : length three ≡ 2 * (3 * w) = c.straight.auto.out ∙
+    c.split_at_mut-three.ensures.front_len in
     let long : length (samples_of d three) ≡ 3 * w = words_long d (3 * w) deep three room in
     let all = words_append d (3 * w) deep three fourth room in
     ok_both c.transparency.result c.transparency.ensures.ok c.transparency.ensures.small
     (λ u made small. subst (AreMade (full d w 1 2) c.args.samples.now) (sym all)
-    (both_made w c.args.samples.now coded alpha is coded_long alpha_long d 1 2 (omega arith) (omega arith) (samples_of d three) (samples_of d fourth) long c.in-Ok.ensures.ok (ap (samples_of d) made ∙ samples_back d alpha) small))
+    (both_made w c.args.samples.now coded alpha is coded_long alpha_long d 1 2 (omega arith)
+    (omega arith) (samples_of d three) (samples_of d fourth) long c.in-Ok.ensures.ok
+    (ap (samples_of d) made ∙ samples_back d alpha) small))
 
 pub returns-in-Ok-clause-err : goal.returns-in-Ok-clause-err
 returns-in-Ok-clause-err c =
@@ -34,11 +45,19 @@ returns-in-Ok-clause-err c =
     let d : ℕ = 16 in
     let coded = c.split_at.result.0.now in
     let alpha = c.split_at.result.1.now in
-    let is : c.args.samples.now ≡ coded ++ alpha = sym (take-append-drop (3 * w) c.args.samples.now) ∙ ap (λ z. z ++ drop (3 * w) c.args.samples.now) (sym c.split_at.ensures.front) ∙ ap (λ z. coded ++ z) (sym c.split_at.ensures.back) in
+    let is : c.args.samples.now ≡ coded ++ alpha = sym (take-append-drop (3 * w) c.args.samples.now)
+    ∙ ap (λ z. z ++ drop (3 * w) c.args.samples.now) (sym c.split_at.ensures.front) ∙
+    ap (λ z. coded ++ z) (sym c.split_at.ensures.back) in
     let coded_long : length coded ≡ 3 * w = c.split_at.ensures.front_len in
-    let alpha_long : length alpha ≡ w = omega (arith, c.split_at.ensures.back_len, c.requires.samples) in
-    err_all c.transparency.result c.transparency.ensures.inside c.transparency.ensures.before c.transparency.ensures.above
-    (λ x inside before above. alpha_end w c.args.samples.now coded alpha is coded_long alpha_long d 1 2 (samples_of d c.straight.new.out) x c.in-Ok.ensures.ok inside before above)
+    let alpha_long : length alpha ≡ w = omega (
+      arith,
+      c.split_at.ensures.back_len,
+      c.requires.samples,
+    ) in
+    err_all c.transparency.result c.transparency.ensures.inside c.transparency.ensures.before
+    c.transparency.ensures.above
+    (λ x inside before above. alpha_end w c.args.samples.now coded alpha is coded_long alpha_long d
+    1 2 (samples_of d c.straight.new.out) x c.in-Ok.ensures.ok inside before above)
 
 pub returns-in_ok-transparency-in-Err-clause-err : goal.returns-in_ok-transparency-in-Err-clause-err
 returns-in_ok-transparency-in-Err-clause-err c =
@@ -46,28 +65,48 @@ returns-in_ok-transparency-in-Err-clause-err c =
     let d : ℕ = 16 in
     let coded = c.split_at.result.0.now in
     let alpha = c.split_at.result.1.now in
-    let is : c.args.samples.now ≡ coded ++ alpha = sym (take-append-drop (3 * w) c.args.samples.now) ∙ ap (λ z. z ++ drop (3 * w) c.args.samples.now) (sym c.split_at.ensures.front) ∙ ap (λ z. coded ++ z) (sym c.split_at.ensures.back) in
+    let is : c.args.samples.now ≡ coded ++ alpha = sym (take-append-drop (3 * w) c.args.samples.now)
+    ∙ ap (λ z. z ++ drop (3 * w) c.args.samples.now) (sym c.split_at.ensures.front) ∙
+    ap (λ z. coded ++ z) (sym c.split_at.ensures.back) in
     let coded_long : length coded ≡ 3 * w = c.split_at.ensures.front_len in
-    let alpha_long : length alpha ≡ w = omega (arith, c.split_at.ensures.back_len, c.requires.samples) in
+    let alpha_long : length alpha ≡ w = omega (
+      arith,
+      c.split_at.ensures.back_len,
+      c.requires.samples,
+    ) in
     let x = c.in-Err.x in
-    let small : (y : ℕ) → y < x → slice_index alpha y < 2 ^ d = λ y h. subst (λ z. z < 2 ^ d) (get_or-take x alpha y 0 h) (c.in_ok-transparency-in-Err.ensures.small y) in
-    colour_end w c.args.samples.now coded alpha is coded_long alpha_long d 1 2 x c.in-Err.ensures.err small
+    let small : (y : ℕ) → y < x → slice_index alpha y < 2 ^ d = λ y h. subst (λ z. z < 2 ^ d)
+    (get_or-take x alpha y 0 h) (c.in_ok-transparency-in-Err.ensures.small y) in
+    colour_end w c.args.samples.now coded alpha is coded_long alpha_long d 1 2 x
+    c.in-Err.ensures.err small
 
-pub returns-in_err-transparency-in-Err-clause-err : goal.returns-in_err-transparency-in-Err-clause-err
+pub returns-in_err-transparency-in-Err-clause-err :
+    goal.returns-in_err-transparency-in-Err-clause-err
 returns-in_err-transparency-in-Err-clause-err c =
     let w = c.args.width in
     let d : ℕ = 16 in
     let coded = c.split_at.result.0.now in
     let alpha = c.split_at.result.1.now in
-    let is : c.args.samples.now ≡ coded ++ alpha = sym (take-append-drop (3 * w) c.args.samples.now) ∙ ap (λ z. z ++ drop (3 * w) c.args.samples.now) (sym c.split_at.ensures.front) ∙ ap (λ z. coded ++ z) (sym c.split_at.ensures.back) in
+    let is : c.args.samples.now ≡ coded ++ alpha = sym (take-append-drop (3 * w) c.args.samples.now)
+    ∙ ap (λ z. z ++ drop (3 * w) c.args.samples.now) (sym c.split_at.ensures.front) ∙
+    ap (λ z. coded ++ z) (sym c.split_at.ensures.back) in
     let coded_long : length coded ≡ 3 * w = c.split_at.ensures.front_len in
-    let alpha_long : length alpha ≡ w = omega (arith, c.split_at.ensures.back_len, c.requires.samples) in
+    let alpha_long : length alpha ≡ w = omega (
+      arith,
+      c.split_at.ensures.back_len,
+      c.requires.samples,
+    ) in
     let x = c.in-Err.x in
     let y = c.in_err-transparency-in-Err.field-0.0 in
     let end = c.in-Err.ensures.err in
-    let taken : length (take x alpha) ≡ x = length-take-le x alpha (omega (arith, end.inside, alpha_long)) in
+    let taken : length (take x alpha) ≡ x = length-take-le x alpha
+    (omega (arith, end.inside, alpha_long)) in
     let less : y < x = omega (arith, c.in_err-transparency-in-Err.ensures.inside, taken) in
-    let before : (z : ℕ) → z < y → slice_index alpha z < 2 ^ d = λ z h. subst (λ v. v < 2 ^ d) (get_or-take x alpha z 0 (omega (arith, h, less))) (c.in_err-transparency-in-Err.ensures.before z h) in
-    let above : 2 ^ d ≤ slice_index alpha y = subst (λ v. 2 ^ d ≤ v) (get_or-take x alpha y 0 less) c.in_err-transparency-in-Err.ensures.above in
+    let before : (z : ℕ) → z < y → slice_index alpha z < 2 ^ d = λ z h. subst (λ v. v < 2 ^ d)
+    (get_or-take x alpha z 0 (omega (arith, h, less)))
+    (c.in_err-transparency-in-Err.ensures.before z h) in
+    let above : 2 ^ d ≤ slice_index alpha y = subst (λ v. 2 ^ d ≤ v) (get_or-take x alpha y 0 less)
+    c.in_err-transparency-in-Err.ensures.above in
     let stop = err_from_is_err_and c.from_residual.result c.from_residual.ensures.1 in
-    rw (stop.1, stop.2) (sooner_end w c.args.samples.now coded alpha is coded_long alpha_long d 1 2 x y end less before above)
+    rw (stop.1, stop.2) (sooner_end w c.args.samples.now coded alpha is coded_long alpha_long d 1 2
+    x y end less before above)

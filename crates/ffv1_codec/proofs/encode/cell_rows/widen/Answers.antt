@@ -1,3 +1,4 @@
+-- Samples of 8 bits as they are coded.
 use Rattle.std.proofs.Common.{◌≡◌, suc, ◌+◌, ◌<◌, length, slice_set, subst, take, arith}
 use Rattle.ffv1_codec.proofs.Words.{more_same, all_same}
 use Rattle.ffv1_codec.proofs.encode.cell_rows.widen.Goals as goal
@@ -15,9 +16,12 @@ loop-x-preserved g c =
     let next : suc x ≡ x + 1 = omega arith in
     let long : length samples ≡ length row = omega (arith, row_is, c.requires, c.loop-x.auto.row) in
     let inside : x < length row = omega (arith, row_is, c.loop-x.auto.row) in
-    rw c.write.ensures (subst (λ n. take n (slice_set row x value) ≡ take n samples) next (more_same row samples x value long inside c.from.ensures c.loop-x.invariant))
+    rw c.write.ensures (subst (λ n. take n (slice_set row x value) ≡ take n samples) next
+    (more_same row samples x value long inside c.from.ensures c.loop-x.invariant))
 
 pub returns : goal.returns
 returns g c =
     let row_is = g.met.W.Word.lengths c.loop-x.row in
-    all_same (g.W.Word.samples c.loop-x.row) c.args.samples.now c.loop-x.x (omega (arith, row_is, c.requires, c.loop-x.auto.row)) (omega (arith, row_is, c.loop-x.auto.row)) c.loop-x.invariant
+    all_same (g.W.Word.samples c.loop-x.row) c.args.samples.now c.loop-x.x
+    (omega (arith, row_is, c.requires, c.loop-x.auto.row))
+    (omega (arith, row_is, c.loop-x.auto.row)) c.loop-x.invariant

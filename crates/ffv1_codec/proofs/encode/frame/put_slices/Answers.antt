@@ -1,3 +1,4 @@
+-- All slices are coded, one after the other.
 use Rattle.std.proofs.Common.{◌≡◌, refl, ℕ, ◌*◌, ◌<◌, ◌≤◌, map, ◌∙◌, ap, arith}
 use Rattle.std.proofs.lemmas.Result.{err_from_is_err_and}
 use Rattle.std.specs.List.{range_with_len}
@@ -9,7 +10,8 @@ use Rattle.ffv1_codec.specs.declared.fault.CodecFault.TheVariants as fault
 use Rattle.ffv1_codec.specs.Frame.{slice_bytes}
 use Rattle.ffv1_codec.specs.Length.{slice_residuals, slice_renormalisations}
 use Rattle.ffv1_codec.proofs.KeptScratch.{kept_at_first, kept_then}
-use Rattle.ffv1_codec.proofs.Frames.{joined_next, sum_next, residuals_next, few_next, long_slice, no_long_slice, counts_are}
+use Rattle.ffv1_codec.proofs.Frames.{joined_next, sum_next, residuals_next, few_next, long_slice}
+use Rattle.ffv1_codec.proofs.Frames.{no_long_slice, counts_are}
 use Rattle.ffv1_codec.proofs.encode.frame.put_slices.Goals as goal
 
 pub loop-number-init : goal.loop-number-init
@@ -28,23 +30,33 @@ pub returns-in_err-counts-clause-err : goal.returns-in_err-counts-clause-err
 returns-in_err-counts-clause-err g c =
     let p = err_from_is_err_and c.from_residual.result c.from_residual.ensures.1 in
     let end = c.slices-number-end.ensures.value ∙ ap slices_in c.of.ensures.value in
-    let inside : c.loop-number.number < c.args.checked.now.configuration.columns * c.args.checked.now.configuration.rows = omega (arith, end) in
-    rw (p.1, p.2) (long_slice c.args.checked.now c.args.picture.now c.args.info c.loop-number.number c.in_err-counts.field-0.0 fault.OutOfMemory fault.SliceTooLong inside c.in_err-counts.ensures.err)
+    let inside : c.loop-number.number < c.args.checked.now.configuration.columns *
+    c.args.checked.now.configuration.rows = omega (arith, end) in
+    rw (p.1, p.2) (long_slice c.args.checked.now c.args.picture.now c.args.info c.loop-number.number
+    c.in_err-counts.field-0.0 fault.OutOfMemory fault.SliceTooLong inside
+    c.in_err-counts.ensures.err)
 
 pub overflow_add-decisions : goal.overflow_add-decisions
 overflow_add-decisions g c =
     let a = c.args.checked.now in
     let end = c.slices-number-end.ensures.value ∙ ap slices_in c.of.ensures.value in
-    let inside : c.loop-number.number < a.configuration.columns * a.configuration.rows = omega (arith, end) in
+    let inside : c.loop-number.number < a.configuration.columns * a.configuration.rows =
+    omega (arith, end) in
     let few : c.loop-number.number ≤ 1024 = omega (arith, c.slices-number-end.ensures.few) in
-    let small = c.slice_length_follows_from_residuals.ensures.few a c.args.picture.now c.args.info c.loop-number.number c.table-table.ensures.accepted inside in
+    let small = c.slice_length_follows_from_residuals.ensures.few a c.args.picture.now c.args.info
+    c.loop-number.number c.table-table.ensures.accepted inside in
     let decisions = ap (λ (k : FrameCounts). k.decisions) c.in_ok-counts.ensures.counts in
     omega (arith, few, small, decisions, c.loop-number.invariant.decisions_few)
 
 pub overflow_add-renormalisations : goal.overflow_add-renormalisations
 overflow_add-renormalisations g c =
     let inside : c.loop-number.number ≤ 1024 = omega (arith, c.slices-number-end.ensures.few) in
-    omega (arith, inside, c.in_ok-counts.ensures.short, c.loop-number.invariant.renormalisations_few)
+    omega (
+      arith,
+      inside,
+      c.in_ok-counts.ensures.short,
+      c.loop-number.invariant.renormalisations_few,
+    )
 
 pub loop-number-preserved : goal.loop-number-preserved
 loop-number-preserved g c =
@@ -52,18 +64,31 @@ loop-number-preserved g c =
     let planes = c.args.picture.now in
     let n : ℕ = c.loop-number.number in
     let told = c.in_ok-counts.ensures in
-    let decisions : c.in_ok-counts.counts.decisions ≡ row_decisions (slice_residuals a.configuration planes c.args.info n) = ap (λ (k : FrameCounts). k.decisions) told.counts in
+    let decisions : c.in_ok-counts.counts.decisions ≡ row_decisions
+    (slice_residuals a.configuration planes c.args.info n) =
+    ap (λ (k : FrameCounts). k.decisions) told.counts in
     let end = c.slices-number-end.ensures.value ∙ ap slices_in c.of.ensures.value in
     let inside : n < a.configuration.columns * a.configuration.rows = omega (arith, end) in
-    let small = c.slice_length_follows_from_residuals.ensures.few a planes c.args.info n c.table-table.ensures.accepted inside in
-    let renormalisations : c.in_ok-counts.counts.renormalisations ≡ slice_renormalisations a planes c.args.info n = ap (λ (k : FrameCounts). k.renormalisations) told.counts in
+    let small = c.slice_length_follows_from_residuals.ensures.few a planes c.args.info n
+    c.table-table.ensures.accepted inside in
+    let renormalisations : c.in_ok-counts.counts.renormalisations ≡ slice_renormalisations a planes
+    c.args.info n = ap (λ (k : FrameCounts). k.renormalisations) told.counts in
     record {
-      frame = joined_next a.configuration.ec (slice_bytes a planes c.args.info) n c.loop-number.frame.items c.add_slice.new.frame.items c.loop-number.invariant.frame told.ok;
-      few = few_next (slice_bytes a planes c.args.info) 16777215 n c.loop-number.invariant.few told.few;
-      decisions = residuals_next (slice_residuals a.configuration planes c.args.info) n _ _ c.loop-number.invariant.decisions decisions;
-      renormalisations = sum_next (slice_renormalisations a planes c.args.info) n _ _ c.loop-number.invariant.renormalisations renormalisations;
+      frame = joined_next a.configuration.ec (slice_bytes a planes c.args.info) n
+          c.loop-number.frame.items c.add_slice.new.frame.items c.loop-number.invariant.frame
+          told.ok;
+      few = few_next (slice_bytes a planes c.args.info) 16777215 n c.loop-number.invariant.few
+          told.few;
+      decisions = residuals_next (slice_residuals a.configuration planes c.args.info) n _ _
+          c.loop-number.invariant.decisions decisions;
+      renormalisations = sum_next (slice_renormalisations a planes c.args.info) n _ _
+          c.loop-number.invariant.renormalisations renormalisations;
       decisions_few = omega (arith, c.loop-number.invariant.decisions_few, decisions, small);
-      renormalisations_few = omega (arith, c.loop-number.invariant.renormalisations_few, told.short);
+      renormalisations_few = omega (
+        arith,
+        c.loop-number.invariant.renormalisations_few,
+        told.short,
+      );
       room = omega (arith, c.loop-number.invariant.room, c.add_slice.ensures.room);
       capacity = kept_then c.loop-number.invariant.capacity c.add_slice.ensures.capacity;
     }
@@ -72,19 +97,26 @@ pub returns-clause-ok : goal.returns-clause-ok
 returns-clause-ok g c =
     let a = c.args.checked.now in
     let end = c.slices-number-end.ensures.value ∙ ap slices_in c.of.ensures.value in
-    let all : c.loop-number.number ≡ a.configuration.columns * a.configuration.rows = omega (arith, end) in
-    c.loop-number.invariant.frame ∙ ap (λ n. joined_of a.configuration.ec (map (slice_bytes a c.args.picture.now c.args.info) (range_with_len 0 n))) all
+    let all : c.loop-number.number ≡ a.configuration.columns * a.configuration.rows =
+    omega (arith, end) in
+    c.loop-number.invariant.frame ∙ ap (λ n. joined_of a.configuration.ec
+    (map (slice_bytes a c.args.picture.now c.args.info) (range_with_len 0 n))) all
 
 pub returns-clause-few : goal.returns-clause-few
 returns-clause-few g c =
     let a = c.args.checked.now in
     let end = c.slices-number-end.ensures.value ∙ ap slices_in c.of.ensures.value in
-    let all : c.loop-number.number ≡ a.configuration.columns * a.configuration.rows = omega (arith, end) in
-    no_long_slice a c.args.picture.now c.args.info (λ n inside. c.loop-number.invariant.few n (omega (arith, inside, all)))
+    let all : c.loop-number.number ≡ a.configuration.columns * a.configuration.rows =
+    omega (arith, end) in
+    no_long_slice a c.args.picture.now c.args.info
+    (λ n inside. c.loop-number.invariant.few n (omega (arith, inside, all)))
 
 pub returns-clause-counts : goal.returns-clause-counts
 returns-clause-counts g c =
     let a = c.args.checked.now in
     let end = c.slices-number-end.ensures.value ∙ ap slices_in c.of.ensures.value in
-    let all : c.loop-number.number ≡ a.configuration.columns * a.configuration.rows = omega (arith, end) in
-    counts_are a c.args.picture.now c.args.info c.loop-number.number c.loop-number.decisions c.loop-number.renormalisations all c.loop-number.invariant.decisions c.loop-number.invariant.renormalisations
+    let all : c.loop-number.number ≡ a.configuration.columns * a.configuration.rows =
+    omega (arith, end) in
+    counts_are a c.args.picture.now c.args.info c.loop-number.number c.loop-number.decisions
+    c.loop-number.renormalisations all c.loop-number.invariant.decisions
+    c.loop-number.invariant.renormalisations

@@ -15,8 +15,10 @@ invariant-loop-number g l =
     record {
       frame : l.frame.items ≡ joined_of a.configuration.ec (map bytes (range_with_len 0 l.number));
       few : (n : ℕ) → n < l.number → length (bytes n) ≤ 16777215;
-      decisions : l.decisions ≡ row_decisions (flat_map (slice_residuals a.configuration l.picture l.info) (range_with_len 0 l.number));
-      renormalisations : l.renormalisations ≡ sum (map (slice_renormalisations a l.picture l.info) (range_with_len 0 l.number));
+      decisions : l.decisions ≡ row_decisions (flat_map
+          (slice_residuals a.configuration l.picture l.info) (range_with_len 0 l.number));
+      renormalisations : l.renormalisations ≡ sum
+          (map (slice_renormalisations a l.picture l.info) (range_with_len 0 l.number));
       decisions_few : l.decisions ≤ l.number * 2 ^ 40;
       renormalisations_few : l.renormalisations ≤ l.number * 16777215;
       room : vec_capacity l.fn.scratch.states ≤ vec_capacity l.scratch.states;

@@ -17,5 +17,6 @@ invariant-loop-y g l =
       capacity : capacity_of_planes l.fn.rows ≤ capacity_of_planes l.rows;
       rolled : AllRolled g.W.Word.samples conf l.slice.picture.now l.slice.number l.y l.rows;
       puts : PutsAfter l.slice.checked.now.table l.fn.encoder l.fn.states l.encoder l.states
-          (chosen_body conf (chosen_head conf l.slice.info) cell (flat_map (planes_of_line (plane_count conf)) (range_with_len 0 l.y)));
+          (chosen_body conf (chosen_head conf l.slice.info) cell
+          (flat_map (planes_of_line (plane_count conf)) (range_with_len 0 l.y)));
     }

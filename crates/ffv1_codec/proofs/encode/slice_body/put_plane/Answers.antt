@@ -1,38 +1,54 @@
-use Rattle.std.proofs.Common.{◌≡◌, subst, arith}
+-- The lines of a plane of YCbCr are coded, one after the other.
+use Rattle.std.proofs.Common.{◌∙◌, ℕ, ap, sym, subst, length, replicate, arith}
+use Rattle.std.proofs.lemmas.List.{length-replicate}
 use Rattle.ffv1_codec.specs.Picture.{cell_in, cell_height}
-use Rattle.ffv1_codec.specs.SliceList.{chosen_head, chosen_body, lines_of_plane}
+use Rattle.ffv1_codec.specs.SliceList.{chosen_head, set_in, bits_of, base_of}
 use Rattle.ffv1_codec.specs.Internal.HasPut.{PutsAfter}
-use Rattle.ffv1_codec.proofs.KeptScratch.{rows_turned}
-use Rattle.ffv1_codec.proofs.Bodies.{puts_none, plane_next, rolled_top, rolled_next}
+use Rattle.ffv1_codec.proofs.WideLines.{plain_bits}
+use Rattle.ffv1_codec.proofs.Classes.{cell_is}
+use Rattle.ffv1_codec.proofs.Bodies.{plane_is}
 use Rattle.ffv1_codec.proofs.encode.slice_body.put_plane.Goals as goal
 
-pub loop-y-init : goal.loop-y-init
-loop-y-init g c =
-    let slice = c.args.slice.now in
-    record {
-      held = c.requires.held;
-      capacity = omega (arith, c.in_ok-restart.ensures.two_room, c.in_ok-restart.ensures.one_room, c.in_ok-restart.ensures.cur_room);
-      rolled = rolled_top g.W.Word.samples (cell_in slice.checked.now.configuration slice.picture.now slice.number c.args.plane) c.cell-cell.result.width c.restart.new.rows c.rows_above_roll_down_the_cell.ensures.top c.cell-cell.ensures.width
-          c.in_ok-restart.ensures.two c.in_ok-restart.ensures.one c.in_ok-restart.ensures.cur;
-      puts = puts_none slice.checked.now.table c.args.encoder.now c.args.states.now;
-    }
+pub put_cell-requires-clause-least : goal.put_cell-requires-clause-least
+put_cell-requires-clause-least g c =
+    let conf = c.args.slice.now.checked.now.configuration in
+    let depth = c.accepted_configuration_is_in_range.ensures.depth conf
+    c.args.slice.now.checked.now.table c.config-config.ensures.accepted in
+    omega (arith, plain_bits conf c.requires.plain, depth.0, c.coding_of-at.ensures.bits)
 
-pub loop-y-preserved : goal.loop-y-preserved
-loop-y-preserved g c =
-    let slice = c.args.slice.now in
-    let conf = slice.checked.now.configuration in
-    let cell = cell_in conf slice.picture.now slice.number in
-    record {
-      held = c.in_ok-put_line.ensures.held;
-      capacity = let turned = rows_turned c.load.new.rows c.turn.new.self c.turn.ensures.two c.turn.ensures.one c.turn.ensures.cur in omega (arith, c.loop-y.invariant.capacity, c.load.ensures.capacity, turned);
-      rolled = rolled_next g.W.Word.samples (cell c.args.plane) c.loop-y.y c.load.new.rows c.turn.new.self c.rows_above_roll_down_the_cell.ensures.next c.load.ensures.loaded c.turn.ensures.two c.turn.ensures.one c.turn.ensures.cur;
-      puts = plane_next slice.checked.now.table _ _ _ _ _ _ conf (chosen_head conf slice.info) cell c.args.plane c.loop-y.y c.loop-y.invariant.puts (c.in_ok-put_line.ensures.ok cell c.loop-y.y c.load.ensures.loaded);
-    }
+pub put_cell-requires-clause-most : goal.put_cell-requires-clause-most
+put_cell-requires-clause-most g c =
+    let conf = c.args.slice.now.checked.now.configuration in
+    let depth = c.accepted_configuration_is_in_range.ensures.depth conf
+    c.args.slice.now.checked.now.table c.config-config.ensures.accepted in
+    omega (arith, plain_bits conf c.requires.plain, depth.1, c.coding_of-at.ensures.bits)
+
+pub put_cell-requires-clause-two : goal.put_cell-requires-clause-two
+put_cell-requires-clause-two g c = c.in_ok-restart.ensures.two ∙ ap (λ n. replicate {A = ℕ} n 0)
+    c.cell.ensures.width
+
+pub put_cell-requires-clause-one : goal.put_cell-requires-clause-one
+put_cell-requires-clause-one g c = c.in_ok-restart.ensures.one ∙ ap (λ n. replicate {A = ℕ} n 0)
+    c.cell.ensures.width
+
+pub put_cell-requires-clause-cur_long : goal.put_cell-requires-clause-cur_long
+put_cell-requires-clause-cur_long g c = ap length c.in_ok-restart.ensures.cur ∙ length-replicate
+    {A = ℕ} c.cell.result.width 0 ∙ c.cell.ensures.width
+
+pub put_cell-requires-clause-fits : goal.put_cell-requires-clause-fits
+put_cell-requires-clause-fits g c = omega (arith, c.coding_of-at.ensures.fits, c.requires.room)
 
 pub returns-clause-ok : goal.returns-clause-ok
 returns-clause-ok g c =
     let slice = c.args.slice.now in
     let conf = slice.checked.now.configuration in
-    let all : c.loop-y.y ≡ cell_height conf slice.number c.args.plane = omega (arith, c.cell-cell.ensures.height) in
-    subst (λ y. PutsAfter slice.checked.now.table c.args.encoder.now c.args.states.now c.loop-y.encoder c.loop-y.states
-    (chosen_body conf (chosen_head conf slice.info) (cell_in conf slice.picture.now slice.number) (lines_of_plane y c.args.plane))) all c.loop-y.invariant.puts
+    let head = chosen_head conf slice.info in
+    let cell = cell_in conf slice.picture.now slice.number in
+    let p = c.args.plane in
+    let n = cell_height conf slice.number p in
+    let same = cell_is (cell p) n _ (set_in conf head p) _ (bits_of conf) _ (base_of conf p)
+    c.coding_of-at.ensures.set c.coding_of-at.ensures.bits c.coding_of-at.ensures.at ∙
+    sym (plane_is conf head cell p n) in
+    let puts = rw c.coding_of-at.ensures.table at c.in_ok-put_cell.ensures.ok in
+    subst (PutsAfter slice.checked.now.table c.args.encoder.now c.args.states.now
+    c.put_cell.new.encoder c.put_cell.new.states) same puts

@@ -15,5 +15,7 @@ invariant-loop-plane g l =
       held : AllHeld l.slice.checked.now.table l.states;
       capacity : capacity_of_rows l.fn.rows ≤ capacity_of_rows l.rows;
       puts : PutsAfter l.slice.checked.now.table l.fn.encoder l.fn.states l.encoder l.states
-          (chosen_body conf (chosen_head conf l.slice.info) cell (flat_map (λ p. lines_of_plane (cell_height conf l.slice.number p) p) (range_with_len 0 l.plane)));
+          (chosen_body conf (chosen_head conf l.slice.info) cell
+          (flat_map (λ p. lines_of_plane (cell_height conf l.slice.number p) p)
+          (range_with_len 0 l.plane)));
     }

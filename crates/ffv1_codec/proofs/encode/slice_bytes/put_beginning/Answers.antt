@@ -1,3 +1,4 @@
+-- The key and the head of a slice are put.
 use Rattle.std.proofs.Common.{subst}
 use Rattle.ffv1_slice.specs.declared.head.SliceHead.{SliceHead}
 use Rattle.ffv1_slice.specs.Head.{head_values, head_steps}
@@ -18,5 +19,9 @@ returns-clause-ok g c = λ count.
       others = c.array_states_follow_the_history.ensures.others;
       counts = c.counters_go_on_by_both_parts.ensures.append;
     } in
-    let head = subst (λ (h : SliceHead). PutsAt slice.checked.now.table 1 32 c.put_key.new.encoder c.put_head.new.encoder (head_steps conf slice.number h)) c.head-head.ensures.value c.in-Ok-put_head.ensures.ok in
-    begun slice.checked.now.table slice.number count (head_values conf slice.number (chosen_head conf slice.info)) c.args.encoder.now c.put_key.new.encoder c.put_head.new.encoder laws c.requires c.in-Ok.ensures.ok head
+    let head = subst (λ (h : SliceHead). PutsAt slice.checked.now.table 1 32 c.put_key.new.encoder
+    c.put_head.new.encoder (head_steps conf slice.number h)) c.head-head.ensures.value
+    c.in-Ok-put_head.ensures.ok in
+    begun slice.checked.now.table slice.number count
+    (head_values conf slice.number (chosen_head conf slice.info)) c.args.encoder.now
+    c.put_key.new.encoder c.put_head.new.encoder laws c.requires c.in-Ok.ensures.ok head

@@ -1,4 +1,6 @@
-use Rattle.std.proofs.Common.{◌≡◌, ℕ, ◌-◌, ◌^◌, ◌<◌, ◌≤◌, ◌∙◌, sym, subst, List, ◌++◌, append_assoc, arith}
+-- The decisions of a slice are put, by fresh states: its key, its head and its residuals.
+use Rattle.std.proofs.Common.{◌≡◌, ℕ, ◌-◌, ◌^◌, ◌<◌, ◌≤◌, ◌∙◌, sym, subst, List, ◌++◌, append_assoc}
+use Rattle.std.proofs.Common.{arith}
 use Rattle.ffv1_range.specs.Symbols.{Step}
 use Rattle.ffv1_slice.specs.Head.{key_steps, head_steps}
 use Rattle.ffv1_codec.specs.Picture.{cell_in}
@@ -17,14 +19,29 @@ overflow_sub-result g c =
     let n : ℕ = slice.number in
     let head = chosen_head conf slice.info in
     let begin : List Step = key_steps n ++ head_steps conf n head in
-    let body : List Step = chosen_body conf head (cell_in conf slice.picture.now n) (lines_in conf n) in
-    let first : HasPut a.table begin c.put_beginning.new.encoder c.args.states.now = subst (HasPut a.table begin c.put_beginning.new.encoder) (sym c.requires.fresh) (c.in_ok-put_beginning.ensures.ok (states_in conf)) in
-    let last : HasPut a.table (begin ++ body) c.put_body.new.encoder c.put_body.new.states = c.in_ok-put_body.ensures.ok.behind begin first in
-    let depth = c.accepted_configuration_is_in_range.ensures.depth conf a.table c.table-table.ensures.accepted in
-    let few : row_decisions (slice_residuals conf slice.picture.now slice.info n) < 2 ^ 40 = c.slice_length_follows_from_residuals.ensures.few a slice.picture.now slice.info n c.table-table.ensures.accepted slice.inside in
-    let between : (c.decisions-before.result ≤ c.decisions.result) × (c.decisions.result - c.decisions-before.result ≡ row_decisions (slice_residuals conf slice.picture.now slice.info n)) =
-    counted_between c.decisions-before.result c.decisions.result _ begin body (c.decisions-before.ensures ∙ (c.counters_from_zero_show_all_steps.ensures begin _ first.counts).2) (c.decisions.ensures ∙ (c.counters_from_zero_show_all_steps.ensures (begin ++ body) _ last.counts).2)
-    (c.slice_length_follows_from_residuals.ensures.body a slice.picture.now slice.info n (omega (arith, depth.0)) depth.1) (begin_few conf _ (c.slice_length_follows_from_residuals.ensures.beginning a slice.info n c.table-table.ensures.accepted c.structure-structure.ensures.said slice.inside)) few in
+    let body : List Step = chosen_body conf head (cell_in conf slice.picture.now n)
+    (lines_in conf n) in
+    let first : HasPut a.table begin c.put_beginning.new.encoder c.args.states.now =
+    subst (HasPut a.table begin c.put_beginning.new.encoder) (sym c.requires.fresh)
+    (c.in_ok-put_beginning.ensures.ok (states_in conf)) in
+    let last : HasPut a.table (begin ++ body) c.put_body.new.encoder c.put_body.new.states =
+    c.in_ok-put_body.ensures.ok.behind begin first in
+    let depth = c.accepted_configuration_is_in_range.ensures.depth conf a.table
+    c.table-table.ensures.accepted in
+    let few : row_decisions (slice_residuals conf slice.picture.now slice.info n) < 2 ^ 40 =
+    c.slice_length_follows_from_residuals.ensures.few a slice.picture.now slice.info n
+    c.table-table.ensures.accepted slice.inside in
+    let between : (c.decisions-before.result ≤ c.decisions.result) ×
+    (c.decisions.result - c.decisions-before.result ≡ row_decisions
+    (slice_residuals conf slice.picture.now slice.info n)) =
+    counted_between c.decisions-before.result c.decisions.result _ begin body
+    (c.decisions-before.ensures ∙ (c.counters_from_zero_show_all_steps.ensures begin _
+    first.counts).2) (c.decisions.ensures ∙
+    (c.counters_from_zero_show_all_steps.ensures (begin ++ body) _ last.counts).2)
+    (c.slice_length_follows_from_residuals.ensures.body a slice.picture.now slice.info n
+    (omega (arith, depth.0)) depth.1) (begin_few conf _
+    (c.slice_length_follows_from_residuals.ensures.beginning a slice.info n
+    c.table-table.ensures.accepted c.structure-structure.ensures.said slice.inside)) few in
     between.0
 
 pub returns-clause-ok : goal.returns-clause-ok
@@ -35,9 +52,12 @@ returns-clause-ok g c =
     let head = chosen_head conf slice.info in
     let key : List Step = key_steps n in
     let begin : List Step = head_steps conf n head in
-    let body : List Step = chosen_body conf head (cell_in conf slice.picture.now n) (lines_in conf n) in
-    let first = subst (HasPut slice.checked.now.table (key ++ begin) c.put_beginning.new.encoder) (sym c.requires.fresh) (c.in_ok-put_beginning.ensures.ok (states_in conf)) in
-    subst (λ past. HasPut slice.checked.now.table past c.put_body.new.encoder c.put_body.new.states) (append_assoc key begin body) (c.in_ok-put_body.ensures.ok.behind (key ++ begin) first)
+    let body : List Step = chosen_body conf head (cell_in conf slice.picture.now n)
+    (lines_in conf n) in
+    let first = subst (HasPut slice.checked.now.table (key ++ begin) c.put_beginning.new.encoder)
+    (sym c.requires.fresh) (c.in_ok-put_beginning.ensures.ok (states_in conf)) in
+    subst (λ past. HasPut slice.checked.now.table past c.put_body.new.encoder c.put_body.new.states)
+    (append_assoc key begin body) (c.in_ok-put_body.ensures.ok.behind (key ++ begin) first)
 
 pub returns-clause-decisions : goal.returns-clause-decisions
 returns-clause-decisions g c =
@@ -47,12 +67,27 @@ returns-clause-decisions g c =
     let n : ℕ = slice.number in
     let head = chosen_head conf slice.info in
     let begin : List Step = key_steps n ++ head_steps conf n head in
-    let body : List Step = chosen_body conf head (cell_in conf slice.picture.now n) (lines_in conf n) in
-    let first : HasPut a.table begin c.put_beginning.new.encoder c.args.states.now = subst (HasPut a.table begin c.put_beginning.new.encoder) (sym c.requires.fresh) (c.in_ok-put_beginning.ensures.ok (states_in conf)) in
-    let last : HasPut a.table (begin ++ body) c.put_body.new.encoder c.put_body.new.states = c.in_ok-put_body.ensures.ok.behind begin first in
-    let depth = c.accepted_configuration_is_in_range.ensures.depth conf a.table c.table-table.ensures.accepted in
-    let few : row_decisions (slice_residuals conf slice.picture.now slice.info n) < 2 ^ 40 = c.slice_length_follows_from_residuals.ensures.few a slice.picture.now slice.info n c.table-table.ensures.accepted slice.inside in
-    let between : (c.decisions-before.result ≤ c.decisions.result) × (c.decisions.result - c.decisions-before.result ≡ row_decisions (slice_residuals conf slice.picture.now slice.info n)) =
-    counted_between c.decisions-before.result c.decisions.result _ begin body (c.decisions-before.ensures ∙ (c.counters_from_zero_show_all_steps.ensures begin _ first.counts).2) (c.decisions.ensures ∙ (c.counters_from_zero_show_all_steps.ensures (begin ++ body) _ last.counts).2)
-    (c.slice_length_follows_from_residuals.ensures.body a slice.picture.now slice.info n (omega (arith, depth.0)) depth.1) (begin_few conf _ (c.slice_length_follows_from_residuals.ensures.beginning a slice.info n c.table-table.ensures.accepted c.structure-structure.ensures.said slice.inside)) few in
+    let body : List Step = chosen_body conf head (cell_in conf slice.picture.now n)
+    (lines_in conf n) in
+    let first : HasPut a.table begin c.put_beginning.new.encoder c.args.states.now =
+    subst (HasPut a.table begin c.put_beginning.new.encoder) (sym c.requires.fresh)
+    (c.in_ok-put_beginning.ensures.ok (states_in conf)) in
+    let last : HasPut a.table (begin ++ body) c.put_body.new.encoder c.put_body.new.states =
+    c.in_ok-put_body.ensures.ok.behind begin first in
+    let depth = c.accepted_configuration_is_in_range.ensures.depth conf a.table
+    c.table-table.ensures.accepted in
+    let few : row_decisions (slice_residuals conf slice.picture.now slice.info n) < 2 ^ 40 =
+    c.slice_length_follows_from_residuals.ensures.few a slice.picture.now slice.info n
+    c.table-table.ensures.accepted slice.inside in
+    let between : (c.decisions-before.result ≤ c.decisions.result) ×
+    (c.decisions.result - c.decisions-before.result ≡ row_decisions
+    (slice_residuals conf slice.picture.now slice.info n)) =
+    counted_between c.decisions-before.result c.decisions.result _ begin body
+    (c.decisions-before.ensures ∙ (c.counters_from_zero_show_all_steps.ensures begin _
+    first.counts).2) (c.decisions.ensures ∙
+    (c.counters_from_zero_show_all_steps.ensures (begin ++ body) _ last.counts).2)
+    (c.slice_length_follows_from_residuals.ensures.body a slice.picture.now slice.info n
+    (omega (arith, depth.0)) depth.1) (begin_few conf _
+    (c.slice_length_follows_from_residuals.ensures.beginning a slice.info n
+    c.table-table.ensures.accepted c.structure-structure.ensures.said slice.inside)) few in
     between.1

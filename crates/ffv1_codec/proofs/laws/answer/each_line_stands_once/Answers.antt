@@ -1,3 +1,6 @@
+-- The lines of a picture are each row of each plane once, of each plane from the top; they
+-- determine its planes; and at each place of the planes stands that line, once, and at no other
+-- place any.
 use Rattle.ffv1_codec.proofs.OnePicture.{rows_once, one_of_lines}
 use Rattle.ffv1_codec.proofs.FromCoded.{lines_alike}
 use Rattle.ffv1_codec.proofs.PlacesOnce.{each_place}
@@ -11,7 +14,8 @@ returns-clause-rows c = λ a planes is p inside.
 pub returns-clause-planes : goal.returns-clause-planes
 returns-clause-planes c = λ a planes others is fits other same.
     let sides = c.planes_are_divided_part_by_part.ensures a.configuration a.table is in
-    one_of_lines a.configuration sides.rows_tile (lines_alike a.configuration sides) planes others fits other same
+    one_of_lines a.configuration sides.rows_tile (lines_alike a.configuration sides) planes others
+    fits other same
 
 pub returns-clause-places : goal.returns-clause-places
 returns-clause-places c = λ a planes is.

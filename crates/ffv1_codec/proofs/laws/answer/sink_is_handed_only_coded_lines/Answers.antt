@@ -1,5 +1,5 @@
-use Rattle.ffv1_slice.specs.Cutting.{cut_of}
-use Rattle.std.proofs.Common.{refl}
+-- However a payload is answered, the sink was handed finishes of lines that the bytes of its slices
+-- code, and no other line, also before a fault and where the sink refused one.
 use Rattle.ffv1_codec.proofs.HandedAnswers.{coded, hands_by_cut}
 use Rattle.ffv1_codec.proofs.laws.answer.sink_is_handed_only_coded_lines.Goals as goal
 
@@ -7,8 +7,11 @@ pub returns : goal.returns
 returns g c = λ a payload old new tally result is answer.
     hands_by_cut a payload g.S.LineSink.takes g.S.LineSink.refuses old new tally
     (record {
-      end = λ os t decodes. c.handed_lines_finish_coded_lines.ensures.end a (coded a payload os) t is decodes;
-      fault = λ os f t refuses. c.handed_lines_finish_coded_lines.ensures.fault a (coded a payload os) f t is refuses;
-      offer = λ os r i p y t offers. c.handed_lines_finish_coded_lines.ensures.offered a (coded a payload os) r i p y t is offers;
+      end = λ os t decodes. c.handed_lines_finish_coded_lines.ensures.end a (coded a payload os) t
+          is decodes;
+      fault = λ os f t refuses. c.handed_lines_finish_coded_lines.ensures.fault a
+          (coded a payload os) f t is refuses;
+      offer = λ os r i p y t offers. c.handed_lines_finish_coded_lines.ensures.offered a
+          (coded a payload os) r i p y t is offers;
     })
-    result (cut_of a.configuration payload) refl answer
+    result answer.cut answer.cuts answer.answer

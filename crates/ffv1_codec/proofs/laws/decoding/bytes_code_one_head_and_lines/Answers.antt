@@ -1,3 +1,5 @@
+-- What the bytes of a slice code of its first lines, no others do: one head, and one row of samples
+-- for each of the lines.
 use Rattle.std.proofs.Common.{ℕ, ◌*◌, ◌<◌, ◌≤◌, ◌^◌, List, [], arith, subst}
 use Rattle.std.proofs.Math.Nat.{mul-le-mul_left}
 use Rattle.ffv1_range.specs.Codes.{Codes, AreBytes}
@@ -12,14 +14,18 @@ few_slices n columns rows inside few_columns few_rows =
     let below = mul-le-mul_left {m = columns} {n = 32} rows few_columns in
     omega (arith, below, inside, few_rows)
 
-laws : (c : goal.After-planes_are_divided_part_by_part) (a : Accepted) (bytes : List ℕ) → IsAccepted a.configuration a.table → AreBytes bytes → OnlyLaws a bytes
+laws : (c : goal.After-planes_are_divided_part_by_part) (a : Accepted) (bytes : List ℕ) → IsAccepted
+    a.configuration a.table → AreBytes bytes → OnlyLaws a bytes
 laws c a bytes is are = record {
   top = c.rows_above_roll_down_the_cell.ensures.top;
   next = c.rows_above_roll_down_the_cell.ensures.next;
-  one = λ base past set bits d e y z two one ps qs. c.bytes_code_one_row.ensures.one bytes (coding_by a.table set bits) base past d e y z two one ps qs are is.closed;
+  one = λ base past set bits d e y z two one ps qs. c.bytes_code_one_row.ensures.one bytes
+      (coding_by a.table set bits) base past d e y z two one ps qs are is.closed;
   steps = c.agreeing_cells_code_rows_alike.ensures.steps;
   front = λ xs ys codes.
-      c.bytes_code_each_beginning.ensures bytes (decisions_after a.table [] xs) (decisions_after a.table xs ys) are (c.each_decision_has_a_state.ensures.named a.table xs ys is.closed)
+      c.bytes_code_each_beginning.ensures bytes (decisions_after a.table [] xs)
+      (decisions_after a.table xs ys) are (c.each_decision_has_a_state.ensures.named a.table xs
+      ys is.closed)
       (subst (Codes bytes) (c.decisions_of_two_parts_join.ensures.history a.table [] xs ys) codes);
 }
 
@@ -30,6 +36,8 @@ returns c = λ a coded n q r read more is are inside parts this that.
     let rows = c.accepted_configuration_is_in_range.ensures.rows conf a.table is in
     let sets = c.accepted_configuration_is_in_range.ensures.sets conf a.table is in
     let few = few_slices n conf.columns conf.rows inside columns.1 rows.1 in
-    let same = read_same a coded n (laws c a (coded n) is are) (c.planes_are_divided_part_by_part.ensures conf a.table is) q r read more inside parts
-    (λ g h. c.bytes_code_one_head.ensures.head (coded n) a.table a.profile conf n g h are is.closed few sets.1) this that in
+    let same = read_same a coded n (laws c a (coded n) is are)
+    (c.planes_are_divided_part_by_part.ensures conf a.table is) q r read more inside parts
+    (λ g h. c.bytes_code_one_head.ensures.head (coded n) a.table a.profile conf n g h are is.closed
+    few sets.1) this that in
     (same.head, same.past, same.shown)

@@ -1,3 +1,6 @@
+-- Reads the next frame in place of what the vector has, and answers true; or false at the end,
+-- where the vector is then empty, as `AviReader::next_frame` and `MatroskaReader::next_frame` do,
+-- with their faults and their room.
 use Rattle.ffv1_wire.specs.Passage.{passage}
 use Rattle.ffv1_files.proofs.Locations.{avi_located, matroska_located}
 use Rattle.ffv1_files.proofs.Nexts.{avi_next, matroska_stands}
@@ -8,12 +11,16 @@ pub returns-clause-answer : goal.returns-clause-answer
 returns-clause-answer g c = elim c.match-self.branch [
   | in-Avi w ↦
       rw (← c.self.view_is, w.in-Avi.is, w.result-is, w.frame-is, w.input-is, w.self-inside-is)
-      (λ none. avi_next w.in-Avi.reader.place w.next_frame.new.self.place w.next_frame.new.frame.items
-      (passage g.R.ByteIn.remaining g.R.ByteIn.failures c.args.input.now w.next_frame.new.input) w.next_frame.result (w.next_frame.ensures.answer none))
+      (λ none. avi_next w.in-Avi.reader.place w.next_frame.new.self.place
+      w.next_frame.new.frame.items
+      (passage g.R.ByteIn.remaining g.R.ByteIn.failures c.args.input.now w.next_frame.new.input)
+      w.next_frame.result (w.next_frame.ensures.answer none))
   | in-Matroska w ↦
       rw (← c.self.view_is, w.in-Matroska.is, w.result-is, w.frame-is, w.input-is, w.self-inside-is)
-      (λ none. matroska_stands w.in-Matroska.reader w.next_frame-in-Matroska.new.self w.next_frame-in-Matroska.new.frame.items
-      (passage g.R.ByteIn.remaining g.R.ByteIn.failures c.args.input.now w.next_frame-in-Matroska.new.input) w.next_frame-in-Matroska.result
+      (λ none. matroska_stands w.in-Matroska.reader w.next_frame-in-Matroska.new.self
+      w.next_frame-in-Matroska.new.frame.items
+      (passage g.R.ByteIn.remaining g.R.ByteIn.failures c.args.input.now
+      w.next_frame-in-Matroska.new.input) w.next_frame-in-Matroska.result
       w.next_frame-in-Matroska.ensures.stands (w.next_frame-in-Matroska.ensures.answer none))
 ]
 
@@ -28,10 +35,16 @@ returns-clause-located g c = elim c.match-self.branch [
   | in-Avi w ↦
       rw (← c.self.view_is, w.in-Avi.is, w.result-is, w.input-is, w.self-inside-is)
       (λ none s text reached. avi_located s text w.in-Avi.reader w.next_frame.new.self
-      (passage g.R.ByteIn.remaining g.R.ByteIn.failures c.args.input.now w.next_frame.new.input) w.next_frame.result w.next_frame.ensures.stands (w.next_frame.ensures.offset none) reached)
+      (passage g.R.ByteIn.remaining g.R.ByteIn.failures c.args.input.now w.next_frame.new.input)
+      w.next_frame.result w.next_frame.ensures.stands (w.next_frame.ensures.offset none)
+      reached)
   | in-Matroska w ↦
       rw (← c.self.view_is, w.in-Matroska.is, w.result-is, w.input-is, w.self-inside-is)
-      (λ none s text reached. matroska_located s text w.in-Matroska.reader w.next_frame-in-Matroska.new.self
-      (passage g.R.ByteIn.remaining g.R.ByteIn.failures c.args.input.now w.next_frame-in-Matroska.new.input) w.next_frame-in-Matroska.result w.next_frame-in-Matroska.ensures.stands
-      (w.next_frame-in-Matroska.ensures.offset none) (λ ends. (w.next_frame-in-Matroska.ensures.over none ends).0) reached)
+      (λ none s text reached. matroska_located s text w.in-Matroska.reader
+      w.next_frame-in-Matroska.new.self
+      (passage g.R.ByteIn.remaining g.R.ByteIn.failures c.args.input.now
+      w.next_frame-in-Matroska.new.input) w.next_frame-in-Matroska.result
+      w.next_frame-in-Matroska.ensures.stands
+      (w.next_frame-in-Matroska.ensures.offset none)
+      (λ ends. (w.next_frame-in-Matroska.ensures.over none ends).0) reached)
 ]

@@ -1,3 +1,6 @@
+-- `open_located`: the same, which says where in the file a fault is: `offset` is then the number of
+-- bytes of the file before the element or chunk at fault, those before it read whole; no greater
+-- than 2^64 - 1.
 use Rattle.ffv1_wire.specs.Passage.{passage}
 use Rattle.ffv1_files.proofs.Locations.{movi_reached, movi_stopped}
 use Rattle.ffv1_files.proofs.Openings.{movi_opens, movi_stops}
@@ -6,20 +9,27 @@ use Rattle.ffv1_files.proofs.reader.FileReader.open_located.Goals as goal
 pub returns-in-Ok-clause-answer : goal.returns-in-Ok-clause-answer
 returns-in-Ok-clause-answer g c =
     let reader = c.in-Ok.reader in
-    rw c.in-FirstMovi.is (movi_opens (passage g.R.ByteIn.remaining g.R.ByteIn.failures c.args.input.now c.open_located.new.input) (reader.head, reader.place) c.in-Ok.ensures.answer)
+    rw c.in-FirstMovi.is (movi_opens (passage g.R.ByteIn.remaining g.R.ByteIn.failures
+    c.args.input.now c.open_located.new.input) (reader.head, reader.place)
+    c.in-Ok.ensures.answer)
 
 pub returns-in-Err-clause-answer : goal.returns-in-Err-clause-answer
 returns-in-Err-clause-answer g c =
-    rw c.in-FirstMovi.is (movi_stops (passage g.R.ByteIn.remaining g.R.ByteIn.failures c.args.input.now c.open_located.new.input) c.in-Err.fault c.in-Err.ensures.answer)
+    rw c.in-FirstMovi.is (movi_stops (passage g.R.ByteIn.remaining g.R.ByteIn.failures
+    c.args.input.now c.open_located.new.input) c.in-Err.fault c.in-Err.ensures.answer)
 
 pub returns-in-Err-open_whole-clause-answer : goal.returns-in-Err-open_whole-clause-answer
 returns-in-Err-open_whole-clause-answer g c = rw c.in-Whole.is c.in-Err-open_whole.ensures.answer
 
 pub returns-in-Ok-clause-located : goal.returns-in-Ok-clause-located
-returns-in-Ok-clause-located g c = rw c.in-FirstMovi.is (movi_reached (passage g.R.ByteIn.remaining g.R.ByteIn.failures c.args.input.now c.open_located.new.input) c.in-Ok.reader c.open_located.new.offset c.in-Ok.ensures.offset)
+returns-in-Ok-clause-located g c = rw c.in-FirstMovi.is
+    (movi_reached (passage g.R.ByteIn.remaining g.R.ByteIn.failures c.args.input.now
+    c.open_located.new.input) c.in-Ok.reader c.open_located.new.offset c.in-Ok.ensures.offset)
 
 pub returns-in-Err-clause-stopped : goal.returns-in-Err-clause-stopped
-returns-in-Err-clause-stopped g c = rw c.in-FirstMovi.is (movi_stopped (passage g.R.ByteIn.remaining g.R.ByteIn.failures c.args.input.now c.open_located.new.input) c.in-Err.fault c.open_located.new.offset c.in-Err.ensures.offset)
+returns-in-Err-clause-stopped g c = rw c.in-FirstMovi.is
+    (movi_stopped (passage g.R.ByteIn.remaining g.R.ByteIn.failures c.args.input.now
+    c.open_located.new.input) c.in-Err.fault c.open_located.new.offset c.in-Err.ensures.offset)
 
 pub returns-in-Ok-open_whole-clause-located : goal.returns-in-Ok-open_whole-clause-located
 returns-in-Ok-open_whole-clause-located g c = rw c.in-Whole.is c.in-Ok-open_whole.ensures.located

@@ -1,3 +1,4 @@
+-- The places of a block, by a decoder of its own.
 use Rattle.std.proofs.Common.{ℕ, ◌≡◌, ◌+◌, ◌-◌, ◌<◌, min, length, arith, sym, subst, ◌∙◌}
 use Rattle.std.proofs.lemmas.List.{length-set}
 use Rattle.ffv1_range.specs.Reading.{summed}
@@ -18,8 +19,10 @@ places-init g c =
       ready = c.requires.ready;
       are = c.nonzeros-nonzeros.ensures.are;
       few = rw c.nonzeros-nonzeros.ensures.none (omega arith);
-      begins = rw (same, c.sample_two_before.ensures, c.sample_before.ensures) (behind_here _ _ p.from c.requires.ready.places.some);
-      read = rw (same, c.nonzeros-nonzeros.ensures.stays) (read_nothing p p.from (decoder_by c.args.decoder.now c.args.states.now) c.args.cur.now);
+      begins = rw (same, c.sample_two_before.ensures, c.sample_before.ensures)
+          (behind_here _ _ p.from c.requires.ready.places.some);
+      read = rw (same, c.nonzeros-nonzeros.ensures.stays)
+          (read_nothing p p.from (decoder_by c.args.decoder.now c.args.states.now) c.args.cur.now);
     }
 
 pub places-preserved : goal.places-preserved
@@ -35,7 +38,8 @@ places-preserved g c =
     let above : x < length p.one.now = omega (arith, at.inside, ready.places.within) in
     let within : x < length row = omega (arith, above, ready.long) in
     let wide : length p.one.now ≡ length row = omega (arith, ready.long) in
-    let stands = stands_behind (above_of p) row x c.decode_zeros-i.new.behind.ll c.decode_zeros-i.new.behind.l _ _ above
+    let stands = stands_behind (above_of p) row x c.decode_zeros-i.new.behind.ll
+    c.decode_zeros-i.new.behind.l _ _ above
     (filled.above.tl_is i at.inside) (filled.above.t_is i at.inside) at.begins in
     let prepared = prepared_at _ _ _ _ _ _ i filled at.inside in
     let kept = c.places.invariant in
@@ -52,8 +56,10 @@ places-preserved g c =
       few = c.in-Ok.ensures.few;
       begins = rw more (behind_next _ _ x _ _ _ _ _ within wide stands);
       read = record {
-        on = λ before on. rw more (same_from_next _ _ _ _ (zeros.on before (kept.read.on before on)));
-        lined = λ first lined. rw more (lined_next _ _ _ _ _ _ x (min (x + 1) (length p.one.now - 1)) _ _ _ _ _ (omega arith) within wide stands
+        on = λ before on. rw more (same_from_next _ _ _ _
+            (zeros.on before (kept.read.on before on)));
+        lined = λ first lined. rw more (lined_next _ _ _ _ _ _ x
+            (min (x + 1) (length p.one.now - 1)) _ _ _ _ _ (omega arith) within wide stands
             (zeros.lined first (kept.read.lined first lined)) (c.in-Ok.ensures.ok _ _ prepared));
       };
     }
@@ -70,7 +76,8 @@ returns-in-Err-clause-refused g c =
     let above : x < length p.one.now = omega (arith, at.inside, ready.places.within) in
     let within : x < length row = omega (arith, above, ready.long) in
     let wide : length p.one.now ≡ length row = omega (arith, ready.long) in
-    let stands = stands_behind (above_of p) row x c.decode_zeros-i.new.behind.ll c.decode_zeros-i.new.behind.l _ _ above
+    let stands = stands_behind (above_of p) row x c.decode_zeros-i.new.behind.ll
+    c.decode_zeros-i.new.behind.l _ _ above
     (filled.above.tl_is i at.inside) (filled.above.t_is i at.inside) at.begins in
     let prepared = prepared_at _ _ _ _ _ _ i filled at.inside in
     let kept = c.places.invariant in
@@ -79,13 +86,18 @@ returns-in-Err-clause-refused g c =
       inside = within;
       on = λ before on. zeros.on before (kept.read.on before on);
       refused = λ first lined. rw (c.count_all.ensures, c.among_refused.ensures)
-          (lined_refused _ _ _ _ _ _ x (min (x + 1) (length p.one.now - 1)) _ _ _ _ (omega arith) within wide stands
-          (zeros.lined first (kept.read.lined first lined)) (c.in-Err.ensures.refused _ _ prepared));
+          (lined_refused _ _ _ _ _ _ x (min (x + 1) (length p.one.now - 1)) _ _ _ _ (omega arith)
+          within wide stands
+          (zeros.lined first (kept.read.lined first lined))
+          (c.in-Err.ensures.refused _ _ prepared));
     }
 
 pub returns-clause-ok : goal.returns-clause-ok
 returns-clause-ok g c =
     let end : c.args.places.now.count ≡ c.places.i = omega (arith, c.places.invariant.inside) in
     let p = c.args.places.now in
-    rw (c.count_all-2.ensures, c.among.ensures) (subst (λ n. ReadOn p p.from (decoder_by c.args.decoder.now c.args.states.now) c.args.cur.now (p.from + n) (decoder_by (summed c.places.decoder (sums_among n c.places.nonzeros)) c.places.states) c.places.cur)
+    rw (c.count_all-2.ensures, c.among.ensures)
+    (subst (λ n. ReadOn p p.from (decoder_by c.args.decoder.now c.args.states.now)
+    c.args.cur.now (p.from + n) (decoder_by
+    (summed c.places.decoder (sums_among n c.places.nonzeros)) c.places.states) c.places.cur)
     (sym end) c.places.invariant.read)

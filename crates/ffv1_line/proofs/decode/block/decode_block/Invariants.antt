@@ -12,7 +12,9 @@ invariant-places g l = record {
   are : AreNonzeros l.nonzeros;
   few : l.nonzeros.symbols ≤ l.i;
   begins : Carries l.places l.i l.cur l.along;
-  read : ReadOn l.places l.places.from (decoder_by l.fn.decoder l.fn.states) l.fn.cur (l.places.from + l.i) (decoder_by (summed l.decoder (sums_among l.i l.nonzeros)) l.states) l.cur;
+  read : ReadOn l.places l.places.from (decoder_by l.fn.decoder l.fn.states) l.fn.cur
+      (l.places.from + l.i) (decoder_by (summed l.decoder (sums_among l.i l.nonzeros)) l.states)
+      l.cur;
 }
 
 abbrev pub decreases-places : goal.decreases-places

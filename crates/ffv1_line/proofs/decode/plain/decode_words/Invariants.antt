@@ -13,7 +13,10 @@ invariant-loop-x g l = record {
   held : AllHeld l.table.now l.states;
   rows : length l.states ≡ contexts_of l.set.now * 32;
   top : l.x < length l.one → l.t ≡ slice_index (g.W.Word.samples l.one) l.x;
-  stands : AreNeighbours (rows_above (g.W.Word.samples l.two) (g.W.Word.samples l.one)) (g.W.Word.samples l.cur) l.x l.ll l.l l.tl l.t;
+  stands : AreNeighbours (rows_above (g.W.Word.samples l.two) (g.W.Word.samples l.one))
+      (g.W.Word.samples l.cur) l.x l.ll l.l l.tl l.t;
   behind : SameFrom l.x (g.W.Word.samples l.fn.cur) (g.W.Word.samples l.cur);
-  lined : Lined (coding_by l.table.now l.set.now l.bits) (decoder_by l.fn.decoder l.fn.states) (decoder_by l.decoder l.states) (rows_above (g.W.Word.samples l.two) (g.W.Word.samples l.one)) (g.W.Word.samples l.cur) l.x;
+  lined : Lined (coding_by l.table.now l.set.now l.bits) (decoder_by l.fn.decoder l.fn.states)
+      (decoder_by l.decoder l.states) (rows_above (g.W.Word.samples l.two) (g.W.Word.samples l.one))
+      (g.W.Word.samples l.cur) l.x;
 }

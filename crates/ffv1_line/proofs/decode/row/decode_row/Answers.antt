@@ -1,3 +1,5 @@
+-- A row of a cell of 8 to 15 bits, by a body of its own for each kind of set, for 8 and for 9 bits,
+-- and one for all others, whose `BITS` is 0.
 use Rattle.std.proofs.Common.{◌≡◌, arith, rules, length}
 use Rattle.ffv1_line.proofs.Rows.{lined_none, same_from_start}
 use Rattle.ffv1_line.proofs.decode.row.decode_row.Goals as goal
@@ -15,7 +17,8 @@ parts-init g c =
 
 pub decode_block_by-requires-clause-ready : goal.decode_block_by-requires-clause-ready
 decode_block_by-requires-clause-ready g c =
-    let one_long : length c.above.inside.one.now ≡ length c.args.cur.now = rw (← c.above.view_is) at c.requires.one_long in
+    let one_long : length c.above.inside.one.now ≡ length c.args.cur.now = rw (← c.above.view_is) at
+    c.requires.one_long in
     rw c.below-places.ensures (record {
       places = record {
         bits = rw c.fixed_bits-bits.ensures (rw (← c.coding.view_is) at c.requires.depth);
@@ -24,7 +27,12 @@ decode_block_by-requires-clause-ready g c =
         few = omega (arith, c.min-count.ensures);
         within = omega (arith, c.min-count.ensures, one_long);
         wide = c.above.invariant;
-        filled = record { above = c.fill.ensures.above; bounds = c.fill.ensures.bounds; early = c.fill.ensures.early };
+        filled = record {
+          above = c.fill.ensures.above;
+          bounds = c.fill.ensures.bounds;
+          early =
+              c.fill.ensures.early;
+        };
       };
       long = omega (arith, one_long);
       rows = c.parts.invariant.rows;

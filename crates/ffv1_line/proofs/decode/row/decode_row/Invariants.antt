@@ -13,7 +13,8 @@ invariant-parts g l = record {
   rows : length l.states ≡ contexts_of l.set.now * 32;
   within : l.from ≤ length l.cur;
   behind : SameFrom l.from l.fn.cur l.cur;
-  lined : Lined (coding_by l.table.now l.set.now l.bits) (decoder_by l.fn.decoder l.fn.states) (decoder_by l.local l.states) (rows_above l.two.now l.one.now) l.cur l.from;
+  lined : Lined (coding_by l.table.now l.set.now l.bits) (decoder_by l.fn.decoder l.fn.states)
+      (decoder_by l.local l.states) (rows_above l.two.now l.one.now) l.cur l.from;
 }
 
 abbrev pub decreases-parts : goal.decreases-parts

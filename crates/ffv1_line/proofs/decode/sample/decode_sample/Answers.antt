@@ -1,3 +1,4 @@
+-- The sample that comes next, at place `i` of a block, which adds its symbol to `nonzeros`.
 use Rattle.std.proofs.Common.{refl, sym, ◌∙◌, get_or, rules}
 use Rattle.std.proofs.lemmas.Int.{to_z-of_z}
 use Rattle.std.specs.Int.{w32}
@@ -10,21 +11,60 @@ use Rattle.ffv1_line.proofs.decode.sample.decode_sample.Goals as goal
 
 pub returns-in-Ok-None-clause-ok : goal.returns-in-Ok-None-clause-ok
 returns-in-Ok-None-clause-ok g c = λ tr tt prepared.
-    let a : Around = record { l = c.args.behind.l; t = get_or c.args.places.now.early.now.t c.args.i 0; tl = get_or c.args.places.now.early.now.tl c.args.i 0; tr = tr; ll = c.args.behind.ll; tt = tt } in
+    let a : Around = record {
+      l = c.args.behind.l;
+      t = get_or c.args.places.now.early.now.t c.args.i
+          0;
+      tl = get_or c.args.places.now.early.now.tl c.args.i 0;
+      tr = tr;
+      ll = c.args.behind.ll;
+      tt = tt;
+    } in
     let prediction : SFits w32 c.predict_late-prediction.result = search rules in
-    sampled_by_zero (coding_of c.args.places.now) _ _ a c.deep_sample.result c.late_context-context.result.0 c.late_context-context.result.1 c.predict_late-prediction.result
-    (c.late_context-context.ensures.size _ tr tt prepared.early) (c.late_context-context.ensures.flip _ tr tt prepared.early)
-    (c.predict_late-prediction.ensures a refl refl prepared.least_is prepared.most_is ∙ sym (unsigned_below c.args.places.now.bits c.requires.places.bits a)) (simp to_z-of_z at c.deep_sample.ensures.value) (rw c.in-Ok-None.field-0-is at (c.in-Ok-None.ensures.follows c.args.i c.requires.few))
+    sampled_by_zero (coding_of c.args.places.now) _ _ a c.deep_sample.result
+    c.late_context-context.result.0 c.late_context-context.result.1
+    c.predict_late-prediction.result
+    (c.late_context-context.ensures.size _ tr tt prepared.early)
+    (c.late_context-context.ensures.flip _ tr tt prepared.early)
+    (c.predict_late-prediction.ensures a refl refl prepared.least_is prepared.most_is ∙
+    sym (unsigned_below c.args.places.now.bits c.requires.places.bits a))
+    (simp to_z-of_z at c.deep_sample.ensures.value)
+    (rw c.in-Ok-None.field-0-is at (c.in-Ok-None.ensures.follows c.args.i c.requires.few))
 
 pub returns-in-Ok-Some-clause-ok : goal.returns-in-Ok-Some-clause-ok
 returns-in-Ok-Some-clause-ok g c = λ tr tt prepared.
-    let a : Around = record { l = c.args.behind.l; t = get_or c.args.places.now.early.now.t c.args.i 0; tl = get_or c.args.places.now.early.now.tl c.args.i 0; tr = tr; ll = c.args.behind.ll; tt = tt } in
+    let a : Around = record {
+      l = c.args.behind.l;
+      t = get_or c.args.places.now.early.now.t c.args.i
+          0;
+      tl = get_or c.args.places.now.early.now.tl c.args.i 0;
+      tr = tr;
+      ll = c.args.behind.ll;
+      tt = tt;
+    } in
     let prediction : SFits w32 c.predict_late-prediction.result = search rules in
-    sampled_by_sign (coding_of c.args.places.now) _ _ a c.sample_by_sign.result c.late_context-context.result.0 c.late_context-context.result.1 c.predict_late-prediction.result c.in-Ok-Some.field-0-0.size c.in-Ok-Some.field-0-0.negative
-    (c.late_context-context.ensures.size _ tr tt prepared.early) (c.late_context-context.ensures.flip _ tr tt prepared.early)
-    (c.predict_late-prediction.ensures a refl refl prepared.least_is prepared.most_is ∙ sym (unsigned_below c.args.places.now.bits c.requires.places.bits a)) (rw c.in-Ok-Some.field-0-is at c.in-Ok-Some.ensures.size) (simp to_z-of_z at c.sample_by_sign.ensures.value) (rw c.in-Ok-Some.field-0-is at (c.in-Ok-Some.ensures.follows c.args.i c.requires.few))
+    sampled_by_sign (coding_of c.args.places.now) _ _ a c.sample_by_sign.result
+    c.late_context-context.result.0 c.late_context-context.result.1
+    c.predict_late-prediction.result c.in-Ok-Some.field-0-0.size c.in-Ok-Some.field-0-0.negative
+    (c.late_context-context.ensures.size _ tr tt prepared.early)
+    (c.late_context-context.ensures.flip _ tr tt prepared.early)
+    (c.predict_late-prediction.ensures a refl refl prepared.least_is prepared.most_is ∙
+    sym (unsigned_below c.args.places.now.bits c.requires.places.bits a))
+    (rw c.in-Ok-Some.field-0-is at c.in-Ok-Some.ensures.size)
+    (simp to_z-of_z at c.sample_by_sign.ensures.value)
+    (rw c.in-Ok-Some.field-0-is at (c.in-Ok-Some.ensures.follows c.args.i c.requires.few))
 
 pub returns-in-Err-clause-refused : goal.returns-in-Err-clause-refused
 returns-in-Err-clause-refused g c = λ tr tt prepared.
-    let a : Around = record { l = c.args.behind.l; t = get_or c.args.places.now.early.now.t c.args.i 0; tl = get_or c.args.places.now.early.now.tl c.args.i 0; tr = tr; ll = c.args.behind.ll; tt = tt } in
-    refused_by c.args.places.now.table.now c.args.places.now.set.now _ _ _ _ a c.late_context-context.result.0 (c.late_context-context.ensures.size _ tr tt prepared.early) (c.in-Err.ensures.refused c.args.i c.requires.few)
+    let a : Around = record {
+      l = c.args.behind.l;
+      t = get_or c.args.places.now.early.now.t c.args.i
+          0;
+      tl = get_or c.args.places.now.early.now.tl c.args.i 0;
+      tr = tr;
+      ll = c.args.behind.ll;
+      tt = tt;
+    } in
+    refused_by c.args.places.now.table.now c.args.places.now.set.now _ _ _ _ a
+    c.late_context-context.result.0 (c.late_context-context.ensures.size _ tr tt prepared.early)
+    (c.in-Err.ensures.refused c.args.i c.requires.few)

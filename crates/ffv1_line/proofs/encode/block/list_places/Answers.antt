@@ -1,3 +1,4 @@
+-- Lists the decisions of a part, by the block that was prepared of it.
 use Rattle.std.proofs.Common.{refl, arith, ◌*◌, ◌∙◌, ◌++◌, ap, sym, get_or}
 use Rattle.ffv1_range.specs.Symbols.{shifted, signed_steps}
 use Rattle.ffv1_range.specs.Listed.{of_nine_bits}
@@ -21,7 +22,10 @@ loop-k-preserved g c =
     record {
       block = is;
       short = omega (arith, c.list_signed-at.ensures.few);
-      steps = listed_next _ c.args.part.now.count k context residual _ _ is c.loop-k-test.true refl refl _
-          (c.list_signed-at.ensures.steps ∙ ap (λ l. l ++ shifted (context * 32) (signed_steps (of_nine_bits residual))) c.loop-k.invariant.steps);
-      below = below_next _ context residual _ _ (is.few k c.loop-k-test.true) c.loop-k.invariant.below c.list_signed-at.ensures.steps;
+      steps = listed_next _ c.args.part.now.count k context residual _ _ is c.loop-k-test.true refl
+          refl _
+          (c.list_signed-at.ensures.steps ∙ ap (λ l. l ++ shifted (context * 32)
+          (signed_steps (of_nine_bits residual))) c.loop-k.invariant.steps);
+      below = below_next _ context residual _ _ (is.few k c.loop-k-test.true)
+          c.loop-k.invariant.below c.list_signed-at.ensures.steps;
     }

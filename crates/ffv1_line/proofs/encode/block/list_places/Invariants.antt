@@ -10,6 +10,7 @@ abbrev pub invariant-loop-k : goal.invariant-loop-k
 invariant-loop-k g l = record {
   block : ArePrepared l.part l.part.count l.block.contexts l.block.residuals;
   short : l.at ≤ 19 * l.k;
-  steps : steps_of (take l.at l.block.list) ≡ places_steps l.part.set.now l.part.bits l.part.two.now l.part.one.now l.part.cur.now l.part.from l.k;
+  steps : steps_of (take l.at l.block.list) ≡ places_steps l.part.set.now l.part.bits l.part.two.now
+      l.part.one.now l.part.cur.now l.part.from l.k;
   below : AreBelow (steps_of (take l.at l.block.list)) (contexts_of l.part.set.now * 32);
 }

@@ -1,3 +1,5 @@
+-- The contexts and the residuals of 16 places from `at` on, after those before them, by the set's
+-- lanes.
 use Rattle.std.proofs.Common.{ap, ◌∙◌, sym, ℕ, ℤ, ◌+◌, slice_index, map}
 use Rattle.std.proofs.lemmas.Simd.{map-map}
 use Rattle.std.proofs.lemmas.List.FromFn.{length-range_with_len}
@@ -23,7 +25,12 @@ returns g c =
     let long = length-range_with_len x 16 in
     let loaded = c.around_lanes.ensures in
     let sizes = c.choose_lanes.ensures.sizes places (beside two one cur) long loaded.around in
-    let residuals = c.choose_lanes.ensures.residuals places (beside two one cur) (slice_index cur) long loaded.around loaded.samples loaded.small in
-    block_lanes p c.args.at _ _ _ _ q.part.bits q.contexts q.residuals c.is_a_bounded_set.ensures.below q.done
-    (ap (map (λ (n : ℕ). n)) sizes ∙ map-map (λ (n : ℕ). n) (λ (k : ℕ). size_of p.set.now (beside two one cur k)) places)
-    (residuals ∙ ap (λ (f : Around → ℤ). map (λ (k : ℕ). modulo_512 (chosen_of p.bits (f (beside two one cur k)) (flip_of p.set.now (beside two one cur k)) (slice_index cur k))) places) (sym (unsigned p.bits q.part.bits)))
+    let residuals = c.choose_lanes.ensures.residuals places (beside two one cur) (slice_index cur)
+    long loaded.around loaded.samples loaded.small in
+    block_lanes p c.args.at _ _ _ _ q.part.bits q.contexts q.residuals
+    c.is_a_bounded_set.ensures.below q.done
+    (ap (map (λ (n : ℕ). n)) sizes ∙ map-map (λ (n : ℕ). n)
+    (λ (k : ℕ). size_of p.set.now (beside two one cur k)) places)
+    (residuals ∙ ap (λ (f : Around → ℤ). map (λ (k : ℕ). modulo_512
+    (chosen_of p.bits (f (beside two one cur k)) (flip_of p.set.now (beside two one cur k))
+    (slice_index cur k))) places) (sym (unsigned p.bits q.part.bits)))

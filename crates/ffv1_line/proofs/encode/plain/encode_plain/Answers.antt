@@ -1,4 +1,7 @@
-use Rattle.std.proofs.Common.{◌≡◌, refl, ◌∙◌, ap, sym, ◌+◌, ◌-◌, length, get_or, arith, rules, ℕ, suc, List}
+-- A row of a cell, sample by sample, by an encoder that has not failed, by a body of its own for
+-- each kind of words and of set.
+use Rattle.std.proofs.Common.{◌≡◌, refl, ◌∙◌, ap, sym, ◌+◌, ◌-◌, length, get_or, arith, rules, ℕ}
+use Rattle.std.proofs.Common.{suc, List}
 use Rattle.std.proofs.lemmas.Int.{to_z-of_z}
 use Rattle.std.specs.Int.{w32}
 use mir.Val.{SFits}
@@ -6,7 +9,8 @@ use Rattle.ffv1_range.proofs.Growth.{on_err}
 use Rattle.ffv1_plane.specs.declared.prediction.Around.{Around}
 use Rattle.ffv1_line.specs.Beside.{before, two_before}
 use Rattle.ffv1_line.proofs.Rows.{scalars, written_none}
-use Rattle.ffv1_line.proofs.Beside.{beside_by, placed, written_place, refused_after, counts_block, counts_no_places}
+use Rattle.ffv1_line.proofs.Beside.{beside_by, placed, written_place, refused_after, counts_block}
+use Rattle.ffv1_line.proofs.Beside.{counts_no_places}
 use Rattle.ffv1_line.specs.Above.{rows_above}
 use Rattle.ffv1_line.proofs.encode.plain.encode_plain.Goals as goal
 
@@ -15,7 +19,8 @@ before_after above row x =
     let up : x + 1 ≡ suc x = omega arith in
     ap (before above row) (sym up)
 
-two_before_after : (above row : List ℕ) (x l : ℕ) → l ≡ before above row x → l ≡ two_before above row (x + 1)
+two_before_after : (above row : List ℕ) (x l : ℕ) → l ≡ before above row x → l ≡ two_before above
+    row (x + 1)
 two_before_after above row x l is =
     let up : x + 1 ≡ suc x = omega arith in
     is ∙ ap (two_before above row) (sym up)
@@ -42,12 +47,17 @@ loop-x-preserved g c =
     let one_is = g.met.W.Word.lengths c.args.one.now in
     let cur_is = g.met.W.Word.lengths c.args.cur.now in
     let one_long : length one ≡ length cur = omega (arith, one_is, cur_is, c.requires.one_long) in
-    let at : Around = scalars c.loop-x.l (get_or one x 0) c.loop-x.tl c.word_right_above.result c.loop-x.ll (get_or two x 0) in
+    let at : Around = scalars c.loop-x.l (get_or one x 0) c.loop-x.tl c.word_right_above.result
+    c.loop-x.ll (get_or two x 0) in
     let fits : SFits w32 c.chosen_word-context.result.1 = search rules in
-    let is = beside_by two one cur x (length c.args.cur.now - 1) c.loop-x.ll c.loop-x.l c.loop-x.tl c.word_right_above.result (omega (arith, one_long, cur_is)) c.loop-x.invariant.two_left c.loop-x.invariant.left c.loop-x.invariant.top_left c.word_right_above.ensures in
+    let is = beside_by two one cur x (length c.args.cur.now - 1) c.loop-x.ll c.loop-x.l c.loop-x.tl
+    c.word_right_above.result (omega (arith, one_long, cur_is)) c.loop-x.invariant.two_left
+    c.loop-x.invariant.left c.loop-x.invariant.top_left c.word_right_above.ensures in
     let context = rw (c.read-t.ensures, c.read.ensures) at c.chosen_word-context.ensures.context in
-    let residual = rw (c.read-t.ensures, c.read.ensures, c.read-sample.ensures) at c.chosen_word-context.ensures.residual in
-    let place = placed set bits two one cur x c.chosen_word-context.result.0 at c.chosen_word-context.result.1 is context residual in
+    let residual = rw (c.read-t.ensures, c.read.ensures, c.read-sample.ensures) at
+    c.chosen_word-context.ensures.residual in
+    let place = placed set bits two one cur x c.chosen_word-context.result.0 at
+    c.chosen_word-context.result.1 is context residual in
     let puts = rw place at (simp to_z-of_z at c.in_ok-put_signed_in_row.ensures.ok) in
     record {
       held = c.in_ok-put_signed_in_row.ensures.held;
@@ -56,10 +66,12 @@ loop-x-preserved g c =
       left = c.read-sample.ensures ∙ before_after one cur x;
       top_left = c.read-t.ensures ∙ before_after two one x;
       sound = puts.failed ∙ c.loop-x.invariant.sound;
-      written = written_place _ _ _ _ (rows_above two one) cur x (omega (arith, one_long, cur_is)) c.loop-x.invariant.written puts;
+      written = written_place _ _ _ _ (rows_above two one) cur x (omega (arith, one_long, cur_is))
+          c.loop-x.invariant.written puts;
     }
 
-pub returns-in_err-put_signed_in_row-clause-refused : goal.returns-in_err-put_signed_in_row-clause-refused
+pub returns-in_err-put_signed_in_row-clause-refused :
+    goal.returns-in_err-put_signed_in_row-clause-refused
 returns-in_err-put_signed_in_row-clause-refused g c =
     let x = c.loop-x.x in
     let two = g.W.Word.samples c.args.two.now in
@@ -70,15 +82,21 @@ returns-in_err-put_signed_in_row-clause-refused g c =
     let one_is = g.met.W.Word.lengths c.args.one.now in
     let cur_is = g.met.W.Word.lengths c.args.cur.now in
     let one_long : length one ≡ length cur = omega (arith, one_is, cur_is, c.requires.one_long) in
-    let at : Around = scalars c.loop-x.l (get_or one x 0) c.loop-x.tl c.word_right_above.result c.loop-x.ll (get_or two x 0) in
+    let at : Around = scalars c.loop-x.l (get_or one x 0) c.loop-x.tl c.word_right_above.result
+    c.loop-x.ll (get_or two x 0) in
     let fits : SFits w32 c.chosen_word-context.result.1 = search rules in
-    let is = beside_by two one cur x (length c.args.cur.now - 1) c.loop-x.ll c.loop-x.l c.loop-x.tl c.word_right_above.result (omega (arith, one_long, cur_is)) c.loop-x.invariant.two_left c.loop-x.invariant.left c.loop-x.invariant.top_left c.word_right_above.ensures in
+    let is = beside_by two one cur x (length c.args.cur.now - 1) c.loop-x.ll c.loop-x.l c.loop-x.tl
+    c.word_right_above.result (omega (arith, one_long, cur_is)) c.loop-x.invariant.two_left
+    c.loop-x.invariant.left c.loop-x.invariant.top_left c.word_right_above.ensures in
     let context = rw (c.read-t.ensures, c.read.ensures) at c.chosen_word-context.ensures.context in
-    let residual = rw (c.read-t.ensures, c.read.ensures, c.read-sample.ensures) at c.chosen_word-context.ensures.residual in
-    let place = placed set bits two one cur x c.chosen_word-context.result.0 at c.chosen_word-context.result.1 is context residual in
+    let residual = rw (c.read-t.ensures, c.read.ensures, c.read-sample.ensures) at
+    c.chosen_word-context.ensures.residual in
+    let place = placed set bits two one cur x c.chosen_word-context.result.0 at
+    c.chosen_word-context.result.1 is context residual in
     let refused = rw place at (simp to_z-of_z at c.in_err-put_signed_in_row.ensures.refused) in
     rw (← cur_is)
-    (on_err c.from_residual.result (refused_after _ _ _ (rows_above two one) cur x (omega (arith, cur_is)) one_long c.loop-x.invariant.written refused))
+    (on_err c.from_residual.result (refused_after _ _ _ (rows_above two one) cur x
+    (omega (arith, cur_is)) one_long c.loop-x.invariant.written refused))
 
 pub returns-in_err-put_signed_in_row-clause-kept : goal.returns-in_err-put_signed_in_row-clause-kept
 returns-in_err-put_signed_in_row-clause-kept g c =
@@ -90,5 +108,7 @@ returns-in_err-put_signed_in_row-clause-kept g c =
     let cur_is = g.met.W.Word.lengths c.args.cur.now in
     let one_long : length one ≡ length cur = omega (arith, one_is, cur_is, c.requires.one_long) in
     on_err c.from_residual.result
-    (counts_block _ _ _ _ (rows_above two one) cur x 0 (omega (arith, cur_is)) one_long c.loop-x.invariant.written
-    (counts_no_places c.args.way.now.set.now c.args.way.now.bits two one cur x _ _ c.in_err-put_signed_in_row.ensures.kept))
+    (counts_block _ _ _ _ (rows_above two one) cur x 0 (omega (arith, cur_is)) one_long
+    c.loop-x.invariant.written
+    (counts_no_places c.args.way.now.set.now c.args.way.now.bits two one cur x _ _
+    c.in_err-put_signed_in_row.ensures.kept))

@@ -16,5 +16,7 @@ invariant-loop-x g l = record {
   left : l.l ≡ before (g.W.Word.samples l.one) (g.W.Word.samples l.cur) l.x;
   top_left : l.tl ≡ before (g.W.Word.samples l.two) (g.W.Word.samples l.one) l.x;
   sound : l.encoder.failed ≡ false;
-  written : Written (coding_by l.table.now l.set.now l.bits) (encoder_by l.fn.encoder l.fn.states) (encoder_by l.encoder l.states) (rows_above (g.W.Word.samples l.two) (g.W.Word.samples l.one)) (g.W.Word.samples l.cur) l.x;
+  written : Written (coding_by l.table.now l.set.now l.bits) (encoder_by l.fn.encoder l.fn.states)
+      (encoder_by l.encoder l.states) (rows_above (g.W.Word.samples l.two) (g.W.Word.samples l.one))
+      (g.W.Word.samples l.cur) l.x;
 }

@@ -1,3 +1,5 @@
+-- Reads the next frame in place of what the vector has, and answers true; or false at the end,
+-- where the vector is then empty, each time again, and then nothing is read.
 use Rattle.std.proofs.Common.{rules, ◌≡◌, ◌-◌, ◌^◌, ℕ, [], inl, refl, ◌∙◌, arith}
 use Rattle.ffv1_reads.proofs.Reading.{consumes_none}
 use Rattle.ffv1_matroska.proofs.FoundFrames.{frame_ends}
@@ -10,7 +12,9 @@ use Rattle.ffv1_matroska.proofs.ElementTaken.{element_taken_takes}
 use Rattle.ffv1_matroska.proofs.reader.MatroskaReader.next_frame.Goals as goal
 
 pub returns-in-Err-clause-own : goal.returns-in-Err-clause-own
-returns-in-Err-clause-own g c = rw (← c.self.view_is) (λ sound. frame_own c.self.inside.track c.self.inside.place _ _ _ _ c.in-Err.fault c.in-Err.ensures.answer)
+returns-in-Err-clause-own g c = rw (← c.self.view_is)
+    (λ sound. frame_own c.self.inside.track c.self.inside.place _ _ _ _ c.in-Err.fault
+    c.in-Err.ensures.answer)
 
 pub returns-then-self-eq0-3-clause-answer : goal.returns-then-self-eq0-3-clause-answer
 returns-then-self-eq0-3-clause-answer g c =
@@ -18,7 +22,16 @@ returns-then-self-eq0-3-clause-answer g c =
     let segment : place.segment ≡ 0 = search rules in
     let cluster : place.cluster ≡ 0 = search rules in
     let group : place.group ≡ 0 = search rules in
-    λ sound. (refl, inl (record { bytes = []; consumed = consumes_none (g.R.ByteIn.remaining c.args.input.now); is = frame_ends c.args.self.now.track.number place segment cluster group }))
+    λ sound. (
+      refl,
+      inl (record {
+        bytes = [];
+        consumed = consumes_none
+            (g.R.ByteIn.remaining c.args.input.now);
+        is = frame_ends c.args.self.now.track.number place
+            segment cluster group;
+      }),
+    )
 
 pub passed-requires-in-Err : goal.passed-requires-in-Err
 passed-requires-in-Err g c =
@@ -28,12 +41,28 @@ passed-requires-in-Err g c =
 
 pub returns-in-Ok-Some-clause-offset : goal.returns-in-Ok-Some-clause-offset
 returns-in-Ok-Some-clause-offset g c =
-    let from : (n : ℕ) × ReadsWhole (element_taken c.self.inside.track) c.self.inside.place (g.R.ByteIn.remaining c.args.input.now) (g.R.ByteIn.remaining c.read_frame.new.input) c.in-Ok-Some.place n = rw c.in-Ok-Some.field-0-is at c.in-Ok-Some.ensures.from in
+    let from : (n : ℕ) × ReadsWhole (element_taken c.self.inside.track) c.self.inside.place
+    (g.R.ByteIn.remaining c.args.input.now) (g.R.ByteIn.remaining c.read_frame.new.input)
+    c.in-Ok-Some.place n = rw c.in-Ok-Some.field-0-is at c.in-Ok-Some.ensures.from in
     let less = reads_take amount (element_taken_takes c.self.inside.track) from.1 in
-    rw (← c.self.view_is, c.in-Ok-Some.place-is) (λ sound. (from.0, from.1, c.saturating_add-self-inside.ensures ∙ rw (c.passed.ensures, c.in-Ok-Some.place-is) (offset_of c.self.inside.offset _ _ from.0 (2 ^ 64 - 1) less)))
+    rw (← c.self.view_is, c.in-Ok-Some.place-is)
+    (λ sound. (
+      from.0,
+      from.1,
+      c.saturating_add-self-inside.ensures ∙
+          rw (c.passed.ensures, c.in-Ok-Some.place-is)
+          (offset_of c.self.inside.offset _ _ from.0 (2 ^ 64 - 1) less),
+    ))
 
 pub returns-in-Err-clause-offset : goal.returns-in-Err-clause-offset
 returns-in-Err-clause-offset g c =
     let from = c.in-Err.ensures.from in
     let less = reads_take amount (element_taken_takes c.self.inside.track) from.1.before in
-    rw (← c.self.view_is) (λ sound. (_, from.0, from.1, c.saturating_add-self-inside-in-Err.ensures ∙ rw c.passed-in-Err.ensures (offset_of c.self.inside.offset _ _ from.0 (2 ^ 64 - 1) less)))
+    rw (← c.self.view_is) (λ sound. (
+      _,
+      from.0,
+      from.1,
+      c.saturating_add-self-inside-in-Err.ensures
+          ∙ rw c.passed-in-Err.ensures (offset_of c.self.inside.offset _ _ from.0 (2 ^ 64 - 1)
+          less),
+    ))

@@ -1,3 +1,6 @@
+-- `open_located`: the same, which says where in the file a fault is: `offset` is then the number of
+-- bytes before the element at fault, counting the byte that was read before; no greater than 2^64 -
+-- 1.
 use Rattle.std.proofs.lemmas.Result.{err_from_is_err_and}
 use Rattle.ffv1_matroska.proofs.OpeningFaults.{opening_own}
 use Rattle.ffv1_matroska.proofs.reader.MatroskaReader.open_located.Goals as goal

@@ -7,4 +7,5 @@ abbrev pub invariant-loop-place : goal.invariant-loop-place
 invariant-loop-place g l =
     (l.number ≡ l.place-index * l.stride)
     × (g.W.ByteOut.failures l.out ≡ g.W.ByteOut.failures l.initial.out)
-    × Appends (g.W.ByteOut.contents l.initial.out) (g.W.ByteOut.contents l.out) (cues_from 0 l.stride (take l.place-index l.places))
+    × Appends (g.W.ByteOut.contents l.initial.out) (g.W.ByteOut.contents l.out)
+    (cues_from 0 l.stride (take l.place-index l.places))

@@ -1,10 +1,12 @@
+-- The early parts of the sums of 16 places, as of `early_sum`, by the set's lanes.
 use Rattle.std.proofs.Common.{ℕ, ◌∙◌, ◌+◌, ◌-◌, arith}
 use Rattle.std.proofs.lemmas.Simd.{zip2_of_maps, splat_is_map}
 use Rattle.ffv1_plane.specs.Context.{low}
 use Rattle.ffv1_plane.specs.Raised.{raised_entry}
 use Rattle.ffv1_plane.proofs.Sums.{set_of}
 use Rattle.ffv1_plane.proofs.LaneValues.{by_values}
-use Rattle.ffv1_plane.proofs.LaneSums.{lanes_at, raise_at, plus, low_below, early_three_added, early_added}
+use Rattle.ffv1_plane.proofs.LaneSums.{lanes_at, raise_at, plus, low_below, early_three_added}
+use Rattle.ffv1_plane.proofs.LaneSums.{early_added}
 use Rattle.ffv1_plane.proofs.EarlySums.{early_is, early_of_three}
 use Rattle.ffv1_plane.proofs.quantisation.QuantSet.early_lanes.Goals as goal
 
@@ -35,15 +37,23 @@ returns-then-three_tables g c = rw (← c.self.view_is) (λ places f i h k long 
     let few = c.self.invariant.set.few in
     let count = c.self.invariant.contexts in
     let lanes = rw (← c.self.view_is) at c.requires.lanes in
-    let raise = raise_at (set_of set.first set.second set.third set.fourth set.fifth) set.half _ count lanes.raise in
+    let raise = raise_at (set_of set.first set.second set.third set.fourth set.fifth) set.half _
+    count lanes.raise in
     let halves = c.self.invariant.halves in (
       λ x. r2 x + r3 x + (32768 - set.half),
       by_values places _ _ _
-          (zip2_of_maps plus _ _ places (zip2_of_maps plus _ _ places (c.raised_lanes.ensures.lanes places f i long tl t fits) (c.raised_lanes-2.ensures.lanes places i h long t tr fits'))
+          (zip2_of_maps plus _ _ places (zip2_of_maps plus _ _ places
+          (c.raised_lanes.ensures.lanes places f i long tl t fits)
+          (c.raised_lanes-2.ensures.lanes places i h long t tr fits'))
           (raise ∙ splat_is_map places 16 (32768 - set.half) long))
-          (λ x. early_three_added (r2 x) (r3 x) _ _ _ _ _ set.half (c.raised_lanes.ensures.most (low (f x) (i x)) (low_below (f x) (i x))) (c.raised_lanes-2.ensures.most (low (i x) (h x)) (low_below (i x) (h x))) halves (omega (arith, few, count))),
-      λ x. early_of_three set.first set.second set.third set.fourth set.fifth set.half c.self.invariant (f x) (i x) (h x) (k x) (r2 x) (r3 x) three
-          (c.raised_lanes.ensures.entries (low (f x) (i x)) (low_below (f x) (i x))) (c.raised_lanes-2.ensures.entries (low (i x) (h x)) (low_below (i x) (h x))),
+          (λ x. early_three_added (r2 x) (r3 x) _ _ _ _ _ set.half
+          (c.raised_lanes.ensures.most (low (f x) (i x)) (low_below (f x) (i x)))
+          (c.raised_lanes-2.ensures.most (low (i x) (h x)) (low_below (i x) (h x))) halves
+          (omega (arith, few, count))),
+      λ x. early_of_three set.first set.second set.third set.fourth set.fifth set.half
+          c.self.invariant (f x) (i x) (h x) (k x) (r2 x) (r3 x) three
+          (c.raised_lanes.ensures.entries (low (f x) (i x)) (low_below (f x) (i x)))
+          (c.raised_lanes-2.ensures.entries (low (i x) (h x)) (low_below (i x) (h x))),
     ))
 
 pub returns : goal.returns
@@ -55,14 +65,24 @@ returns g c = rw (← c.self.view_is) (λ places f i h k long tl t tr tt fits fi
     let few = c.self.invariant.set.few in
     let count = c.self.invariant.contexts in
     let lanes = rw (← c.self.view_is) at c.requires.lanes in
-    let raise = raise_at (set_of set.first set.second set.third set.fourth set.fifth) set.half _ count lanes.raise in
+    let raise = raise_at (set_of set.first set.second set.third set.fourth set.fifth) set.half _
+    count lanes.raise in
     let halves = c.self.invariant.halves in (
       λ x. r2 x + r3 x + (32768 - set.half) + r5 x,
       by_values places _ _ _
-          (zip2_of_maps plus _ _ places (zip2_of_maps plus _ _ places (zip2_of_maps plus _ _ places (c.raised_lanes.ensures.lanes places f i long tl t fits) (c.raised_lanes-2.ensures.lanes places i h long t tr fits'))
-          (raise ∙ splat_is_map places 16 (32768 - set.half) long)) (c.raised_lanes-3.ensures.lanes places k i long tt t fits))
-          (λ x. early_added (r2 x) (r3 x) (r5 x) _ _ _ _ _ set.half (c.raised_lanes.ensures.most (low (f x) (i x)) (low_below (f x) (i x))) (c.raised_lanes-2.ensures.most (low (i x) (h x)) (low_below (i x) (h x)))
-          (c.raised_lanes-3.ensures.most (low (k x) (i x)) (low_below (k x) (i x))) halves (omega (arith, few, count))),
-      λ x. early_is set.first set.second set.third set.fourth set.fifth set.half c.self.invariant (f x) (i x) (h x) (k x) (r2 x) (r3 x) (r5 x)
-          (c.raised_lanes.ensures.entries (low (f x) (i x)) (low_below (f x) (i x))) (c.raised_lanes-2.ensures.entries (low (i x) (h x)) (low_below (i x) (h x))) (c.raised_lanes-3.ensures.entries (low (k x) (i x)) (low_below (k x) (i x))),
+          (zip2_of_maps plus _ _ places (zip2_of_maps plus _ _ places
+          (zip2_of_maps plus _ _ places (c.raised_lanes.ensures.lanes places f i long tl t fits)
+          (c.raised_lanes-2.ensures.lanes places i h long t tr fits'))
+          (raise ∙ splat_is_map places 16 (32768 - set.half) long))
+          (c.raised_lanes-3.ensures.lanes places k i long tt t fits))
+          (λ x. early_added (r2 x) (r3 x) (r5 x) _ _ _ _ _ set.half
+          (c.raised_lanes.ensures.most (low (f x) (i x)) (low_below (f x) (i x)))
+          (c.raised_lanes-2.ensures.most (low (i x) (h x)) (low_below (i x) (h x)))
+          (c.raised_lanes-3.ensures.most (low (k x) (i x)) (low_below (k x) (i x))) halves
+          (omega (arith, few, count))),
+      λ x. early_is set.first set.second set.third set.fourth set.fifth set.half c.self.invariant
+          (f x) (i x) (h x) (k x) (r2 x) (r3 x) (r5 x)
+          (c.raised_lanes.ensures.entries (low (f x) (i x)) (low_below (f x) (i x)))
+          (c.raised_lanes-2.ensures.entries (low (i x) (h x)) (low_below (i x) (h x)))
+          (c.raised_lanes-3.ensures.entries (low (k x) (i x)) (low_below (k x) (i x))),
     ))

@@ -1,3 +1,4 @@
+-- An exponent of 2 and more, after its first two decisions, which are 1.
 use Rattle.std.proofs.Common.{◌≡◌, min, arith}
 use Rattle.ffv1_range.proofs.Steps.{reads_append, raising-add-one}
 use Rattle.ffv1_range.proofs.decoder.fast_symbol.get_long_exponent.Goals as goal
@@ -8,32 +9,42 @@ near-init c = record { held = c.requires; reads = λ first fresh reads. reads }
 pub returns-then-not-decide_slot-clause-reads : goal.returns-then-not-decide_slot-clause-reads
 returns-then-not-decide_slot-clause-reads c = λ first fresh reads.
     let own : min c.near.exponent 9 ≡ c.near.exponent = omega arith in
-    rw own (reads_append _ _ _ _ _ _ _ _ _ (c.near.invariant.reads first fresh reads) c.if-not-decide_slot.ensures.reads)
+    rw own (reads_append _ _ _ _ _ _ _ _ _ (c.near.invariant.reads first fresh reads)
+    c.if-not-decide_slot.ensures.reads)
 
 pub near-preserved : goal.near-preserved
 near-preserved c =
     let own : min c.near.exponent 9 ≡ c.near.exponent = omega arith in
     record {
       held = c.decide_slot.ensures.held;
-      reads = λ first fresh reads. rw (raising-add-one, own) (reads_append _ _ _ _ _ _ _ _ _ (c.near.invariant.reads first fresh reads) c.if-not-decide_slot.ensures.reads);
+      reads = λ first fresh reads. rw (raising-add-one, own)
+          (reads_append _ _ _ _ _ _ _ _ _ (c.near.invariant.reads first fresh reads)
+          c.if-not-decide_slot.ensures.reads);
     }
 
 pub far-init : goal.far-init
 far-init c =
     let all : c.near.exponent ≡ 10 = omega arith in
-    record { held = c.near.invariant.held; reads = λ first fresh reads. rw all at (c.near.invariant.reads first fresh reads) }
+    record {
+      held = c.near.invariant.held;
+      reads = λ first fresh reads. rw all at
+          (c.near.invariant.reads first fresh reads);
+    }
 
 pub returns-then-not-decide_slot-2-clause-reads : goal.returns-then-not-decide_slot-2-clause-reads
 returns-then-not-decide_slot-2-clause-reads c = λ first fresh reads.
     let last : min c.far.exponent 9 ≡ 9 = omega arith in
-    rw last (reads_append _ _ _ _ _ _ _ _ _ (c.far.invariant.reads first fresh reads) c.if-not-decide_slot-2.ensures.reads)
+    rw last (reads_append _ _ _ _ _ _ _ _ _ (c.far.invariant.reads first fresh reads)
+    c.if-not-decide_slot-2.ensures.reads)
 
 pub far-preserved : goal.far-preserved
 far-preserved c =
     let last : min c.far.exponent 9 ≡ 9 = omega arith in
     record {
       held = c.decide_slot-in-far.ensures.held;
-      reads = λ first fresh reads. rw (raising-add-one, last) (reads_append _ _ _ _ _ _ _ _ _ (c.far.invariant.reads first fresh reads) c.if-not-decide_slot-2.ensures.reads);
+      reads = λ first fresh reads. rw (raising-add-one, last)
+          (reads_append _ _ _ _ _ _ _ _ _ (c.far.invariant.reads first fresh reads)
+          c.if-not-decide_slot-2.ensures.reads);
     }
 
 pub returns-clause-refused : goal.returns-clause-refused

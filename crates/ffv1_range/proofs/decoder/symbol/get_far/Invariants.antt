@@ -9,7 +9,8 @@ invariant-loop-place l = record {
   below : l.place ≤ l.exponent;
   least : 2 ^ (l.exponent - l.place) ≤ l.number;
   most : l.number < 2 * 2 ^ (l.exponent - l.place);
-  reads : Reads l.table l.fn.decoder l.fn.states l.decoder l.states (mantissa_steps (l.exponent - l.place) l.place l.number);
+  reads : Reads l.table l.fn.decoder l.fn.states l.decoder l.states
+      (mantissa_steps (l.exponent - l.place) l.place l.number);
 }
 
 abbrev pub invariant-high : goal.invariant-high
@@ -19,5 +20,6 @@ invariant-high l = record {
   above : l.few ≤ l._place;
   least : 2 ^ (l.exponent - l._place) ≤ l.number;
   most : l.number < 2 * 2 ^ (l.exponent - l._place);
-  reads : Reads l.table l.fn.decoder l.fn.states l.decoder l.states (mantissa_steps (l.exponent - l._place) l._place l.number);
+  reads : Reads l.table l.fn.decoder l.fn.states l.decoder l.states
+      (mantissa_steps (l.exponent - l._place) l._place l.number);
 }

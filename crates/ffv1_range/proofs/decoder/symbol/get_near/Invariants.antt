@@ -9,5 +9,6 @@ invariant-loop-place l = record {
   below : l.place ≤ l.exponent;
   least : 2 ^ (l.exponent - l.place) ≤ l.number;
   most : l.number < 2 * 2 ^ (l.exponent - l.place);
-  reads : Reads l.table l.fn.decoder l.fn.states l.decoder l.states (mantissa_steps (l.exponent - l.place) l.place l.number);
+  reads : Reads l.table l.fn.decoder l.fn.states l.decoder l.states
+      (mantissa_steps (l.exponent - l.place) l.place l.number);
 }

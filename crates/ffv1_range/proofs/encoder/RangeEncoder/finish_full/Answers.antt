@@ -1,3 +1,5 @@
+-- The bytes, by the full ending: all bytes of the interval's low end, two more than the
+-- renormalisations.
 use Rattle.std.proofs.Common.{arith, ap, ◌∙◌}
 use Rattle.ffv1_range.specs.Interval.{narrowed, start, interval_of}
 use Rattle.ffv1_range.specs.Codes.{full_of}
@@ -9,8 +11,10 @@ use Rattle.ffv1_range.proofs.encoder.RangeEncoder.finish_full.Goals as goal
 
 pub returns-clause-ok : goal.returns-clause-ok
 returns-clause-ok g c =
-    full-is _ c.self.inside.bytes.items c.self.inside.low c.self.inside.width c.in_ok-emit-2.ensures.bytes_fit
-    (omega (arith, c.in_ok-emit.ensures.long, c.in_ok-emit-2.ensures.long)) (omega (arith, c.in_ok-emit.ensures.value, c.in_ok-emit-2.ensures.value))
+    full-is _ c.self.inside.bytes.items c.self.inside.low c.self.inside.width
+    c.in_ok-emit-2.ensures.bytes_fit
+    (omega (arith, c.in_ok-emit.ensures.long, c.in_ok-emit-2.ensures.long))
+    (omega (arith, c.in_ok-emit.ensures.value, c.in_ok-emit-2.ensures.value))
     ∙ ap (λ (w : Writing). full_of w.interval) c.self.view_is
 
 pub returns-clause-codes : goal.returns-clause-codes
@@ -19,4 +23,5 @@ returns-clause-codes g c = λ ds behind states e.
 
 pub returns-clause-fresh : goal.returns-clause-fresh
 returns-clause-fresh g c = λ t slots after steps below puts.
-    returns-clause-ok g c ∙ ap full_of (puts.interval ∙ ap (narrowed start) (kept_is t slots steps below))
+    returns-clause-ok g c ∙ ap full_of (puts.interval ∙ ap (narrowed start)
+    (kept_is t slots steps below))

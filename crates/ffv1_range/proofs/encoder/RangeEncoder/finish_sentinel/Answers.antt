@@ -1,3 +1,5 @@
+-- The bytes, by the sentinel ending: after one more decision 0 by the state 129, the least multiple
+-- of 256 that is at least the interval's low end, without its last byte.
 use Rattle.std.proofs.Common.{arith, ap, ◌∙◌, ◌≡◌, false}
 use Rattle.ffv1_range.specs.Interval.{narrow, narrowed, start, interval_of}
 use Rattle.ffv1_range.specs.Codes.{sentinel_of}
@@ -9,9 +11,12 @@ use Rattle.ffv1_range.proofs.encoder.RangeEncoder.finish_sentinel.Goals as goal
 
 pub returns-clause-ok : goal.returns-clause-ok
 returns-clause-ok g c =
-    let last : interval_from c.self-2.inside.bytes.items c.self-2.inside.low c.self-2.inside.width ≡ narrow c.args.self.interval 129 false =
-    ap (λ (w : Writing). w.interval) c.self-2.view_is ∙ ap (λ (w : Writing). w.interval) c.in_ok-step.ensures.ok in
-    sentinel-is c.args.self.interval _ c.self-2.inside.bytes.items c.self-2.inside.low c.self-2.inside.width last c.in_ok-emit.ensures.bytes_fit
+    let last : interval_from c.self-2.inside.bytes.items c.self-2.inside.low c.self-2.inside.width ≡
+    narrow c.args.self.interval 129 false =
+    ap (λ (w : Writing). w.interval) c.self-2.view_is ∙ ap (λ (w : Writing). w.interval)
+    c.in_ok-step.ensures.ok in
+    sentinel-is c.args.self.interval _ c.self-2.inside.bytes.items c.self-2.inside.low
+    c.self-2.inside.width last c.in_ok-emit.ensures.bytes_fit
     (omega (arith, c.in_ok-emit.ensures.long)) (omega (arith, c.in_ok-emit.ensures.value))
 
 pub returns-clause-codes : goal.returns-clause-codes
@@ -20,4 +25,5 @@ returns-clause-codes g c = λ ds states e.
 
 pub returns-clause-fresh : goal.returns-clause-fresh
 returns-clause-fresh g c = λ t slots after steps below puts.
-    returns-clause-ok g c ∙ ap sentinel_of (puts.interval ∙ ap (narrowed start) (kept_is t slots steps below))
+    returns-clause-ok g c ∙ ap sentinel_of (puts.interval ∙ ap (narrowed start)
+    (kept_is t slots steps below))

@@ -1,3 +1,5 @@
+-- `sum_signed`: the same, but that its decisions are counted in `sums` and not yet in the decoder's
+-- counts.
 use Rattle.std.proofs.Common.{◌<◌, ◌^◌, ◌∙◌, ap, refl, pos, arith, rules}
 use Rattle.std.proofs.lemmas.Int.{to_z-of_z}
 use Rattle.std.specs.Int.{w32}
@@ -19,8 +21,10 @@ returns-then-number-eq0-clause-ok g c =
     let zero = zero_is c.args.value _ size c.if-number-eq0.true in
     let writes = simp to_z-of_z at c.in-Ok.ensures.writes in
     rw zero
-    (writes_summed _ _ _ _ _ _ _ _ _ _ 1 0 (rw zero at writes) (ap (λ (w : Writing). w.interval) c.self.view_is) refl
-    (ap (λ (w : Writing). w.failed) c.self.view_is) (ap (λ (w : Writing). w.counts) c.self.view_is) c.count.ensures refl refl)
+    (writes_summed _ _ _ _ _ _ _ _ _ _ 1 0 (rw zero at writes)
+    (ap (λ (w : Writing). w.interval) c.self.view_is) refl
+    (ap (λ (w : Writing). w.failed) c.self.view_is) (ap (λ (w : Writing). w.counts) c.self.view_is)
+    c.count.ensures refl refl)
 
 pub returns-clause-ok : goal.returns-clause-ok
 returns-clause-ok g c =
@@ -31,19 +35,24 @@ returns-clause-ok g c =
     let most = one_if_most (lt_z c.args.value (pos 0)) in
     let few = c.ones_below.ensures.few in
     let place = c.exponent-exponent.ensures.value in
-    let ones = symbol_ones c.unsigned_abs-number.result (exponent c.unsigned_abs-number.result) c.ones_below.result (lt_z c.args.value (pos 0)) refl c.ones_below.ensures.ones in
-    let long = symbol_length c.unsigned_abs-number.result (exponent c.unsigned_abs-number.result) (lt_z c.args.value (pos 0)) refl in
+    let ones = symbol_ones c.unsigned_abs-number.result (exponent c.unsigned_abs-number.result)
+    c.ones_below.result (lt_z c.args.value (pos 0)) refl c.ones_below.ensures.ones in
+    let long = symbol_length c.unsigned_abs-number.result (exponent c.unsigned_abs-number.result)
+    (lt_z c.args.value (pos 0)) refl in
     let same = signed_is c.args.value c.unsigned_abs-number.result size c.if-number-eq0.false in
     rw same
-    (writes_summed _ _ _ _ _ _ _ _ _ _ _ _ (rw same at writes) (ap (λ (w : Writing). w.interval) c.self.view_is) refl
-    (ap (λ (w : Writing). w.failed) c.self.view_is) (ap (λ (w : Writing). w.counts) c.self.view_is) c.count-2.ensures (omega arith) (omega arith))
+    (writes_summed _ _ _ _ _ _ _ _ _ _ _ _ (rw same at writes)
+    (ap (λ (w : Writing). w.interval) c.self.view_is) refl
+    (ap (λ (w : Writing). w.failed) c.self.view_is) (ap (λ (w : Writing). w.counts) c.self.view_is)
+    c.count-2.ensures (omega arith) (omega arith))
 
 pub count-requires-2 : goal.count-requires-2
 count-requires-2 g c =
     let fits : SFits w32 c.args.value = search rules in
     let size = simp to_z-of_z at c.unsigned_abs-number.ensures.value in
     let small : c.unsigned_abs-number.result < 2 ^ 31 = rw size c.requires.size in
-    let is = exponent_of c.unsigned_abs-number.result (omega (arith, c.if-number-eq0.false)) small in
+    let is = exponent_of c.unsigned_abs-number.result (omega (arith, c.if-number-eq0.false))
+    small in
     let short : exponent c.unsigned_abs-number.result < 31 = is.small in
     let few = c.ones_below.ensures.few in
     let place = c.exponent-exponent.ensures.value in
@@ -56,7 +65,8 @@ returns-clause-few g c =
     let fits : SFits w32 c.args.value = search rules in
     let size = simp to_z-of_z at c.unsigned_abs-number.ensures.value in
     let small : c.unsigned_abs-number.result < 2 ^ 31 = rw size c.requires.size in
-    let is = exponent_of c.unsigned_abs-number.result (omega (arith, c.if-number-eq0.false)) small in
+    let is = exponent_of c.unsigned_abs-number.result (omega (arith, c.if-number-eq0.false))
+    small in
     let short : exponent c.unsigned_abs-number.result < 31 = is.small in
     let few = c.ones_below.ensures.few in
     let place = c.exponent-exponent.ensures.value in

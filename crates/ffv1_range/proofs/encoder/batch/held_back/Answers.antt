@@ -1,3 +1,4 @@
+-- How many bytes are held back, by the mark.
 use Rattle.std.proofs.Common.{arith, sym}
 use Rattle.ffv1_range.proofs.Marks.{below_first, below_second, below_third, below_fourth, under}
 use Rattle.ffv1_range.proofs.encoder.batch.held_back.Goals as goal

@@ -1,3 +1,4 @@
+-- How many decisions of a list are 1.
 use Rattle.std.proofs.Common.{arith}
 use Rattle.ffv1_range.proofs.ListedSteps.{ones_next}
 use Rattle.ffv1_range.proofs.encoder.batch.ones_of.Goals as goal

@@ -1,3 +1,4 @@
+-- The part of a decision.
 use Rattle.std.proofs.Common.{arith, rules}
 use Rattle.ffv1_range.proofs.Marks.{under, held_plus, low_plus}
 use Rattle.ffv1_range.proofs.encoder.batch.part_marked.Goals as goal
@@ -7,14 +8,18 @@ overflow_add-result c = let below = under c.args.marked.low c.requires.few in om
 
 pub returns-then-bit-clause-interval : goal.returns-then-bit-clause-interval
 returns-then-bit-clause-interval c =
-    let held = held_plus c.args.marked.low c.from-then-bit.result c.args.marked.width c.requires.marked.some c.requires.marked.holding.below (omega arith) in
-    let low = low_plus c.args.marked.low c.from-then-bit.result c.args.marked.width c.requires.marked.some c.requires.marked.holding.below (omega arith) in
+    let held = held_plus c.args.marked.low c.from-then-bit.result c.args.marked.width
+    c.requires.marked.some c.requires.marked.holding.below (omega arith) in
+    let low = low_plus c.args.marked.low c.from-then-bit.result c.args.marked.width
+    c.requires.marked.some c.requires.marked.holding.below (omega arith) in
     rw (held, low) (search rules)
 
 pub returns-then-bit-clause-part : goal.returns-then-bit-clause-part
 returns-then-bit-clause-part c =
-    let held = held_plus c.args.marked.low c.from-then-bit.result c.args.marked.width c.requires.marked.some c.requires.marked.holding.below (omega arith) in
-    let low = low_plus c.args.marked.low c.from-then-bit.result c.args.marked.width c.requires.marked.some c.requires.marked.holding.below (omega arith) in
+    let held = held_plus c.args.marked.low c.from-then-bit.result c.args.marked.width
+    c.requires.marked.some c.requires.marked.holding.below (omega arith) in
+    let low = low_plus c.args.marked.low c.from-then-bit.result c.args.marked.width
+    c.requires.marked.some c.requires.marked.holding.below (omega arith) in
     record {
       some = omega (arith, c.requires.marked.some);
       part = rw (held, low) (search rules);

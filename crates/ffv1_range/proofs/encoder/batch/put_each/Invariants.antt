@@ -10,6 +10,8 @@ invariant-loop-step g l = record {
   marked : IsMarked l.bytes.items l.marked.low l.marked.width;
   few : held_in l.marked.low < 4;
   grown : length l.fn.bytes.items ≤ length l.bytes.items;
-  writes : Writes l.table (standing_marked l.fn.bytes.items l.fn.marked.low l.fn.marked.width) l.fn.states
-      (standing_marked l.bytes.items l.marked.low l.marked.width) l.states (steps_of (take l.step-index l.list));
+  writes : Writes l.table (standing_marked l.fn.bytes.items l.fn.marked.low l.fn.marked.width)
+      l.fn.states
+      (standing_marked l.bytes.items l.marked.low l.marked.width) l.states
+      (steps_of (take l.step-index l.list));
 }

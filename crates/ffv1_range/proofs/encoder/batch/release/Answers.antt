@@ -1,5 +1,7 @@
+-- Gives out the first of the bytes that are held back.
 use Rattle.std.proofs.Common.{arith}
-use Rattle.ffv1_range.proofs.HeldBack.{places_are, unit_is, released_top, released_room, released_holding, released_same}
+use Rattle.ffv1_range.proofs.HeldBack.{places_are, unit_is, released_top, released_room}
+use Rattle.ffv1_range.proofs.HeldBack.{released_holding, released_same}
 use Rattle.ffv1_range.proofs.encoder.batch.release.Goals as goal
 
 pub overflow_cast-low : goal.overflow_cast-low
@@ -9,20 +11,26 @@ overflow_cast-low g c =
 
 pub emit-requires-clause-below : goal.emit-requires-clause-below
 emit-requires-clause-below g c =
-    rw (places_are c.args.holding.now.held c.requires.some c.requires.few) (released_top _ _ _ _ c.requires.some c.requires.few c.requires.holding)
+    rw (places_are c.args.holding.now.held c.requires.some c.requires.few)
+    (released_top _ _ _ _ c.requires.some c.requires.few c.requires.holding)
 
 pub emit-requires-clause-room : goal.emit-requires-clause-room
 emit-requires-clause-room g c =
-    rw (places_are c.args.holding.now.held c.requires.some c.requires.few) (released_room _ _ _ _ c.requires.some c.requires.few c.requires.holding)
+    rw (places_are c.args.holding.now.held c.requires.some c.requires.few)
+    (released_room _ _ _ _ c.requires.some c.requires.few c.requires.holding)
 
 pub returns-clause-same : goal.returns-clause-same
 returns-clause-same g c =
-    let number = rw (places_are c.args.holding.now.held c.requires.some c.requires.few) at c.in_ok-emit.ensures.value in
+    let number = rw (places_are c.args.holding.now.held c.requires.some c.requires.few) at
+    c.in_ok-emit.ensures.value in
     rw (unit_is c.args.holding.now.held c.requires.some c.requires.few)
-    (released_same _ _ _ _ c.requires.some c.requires.few c.requires.holding _ number c.in_ok-emit.ensures.long)
+    (released_same _ _ _ _ c.requires.some c.requires.few c.requires.holding _ number
+    c.in_ok-emit.ensures.long)
 
 pub returns-clause-holding : goal.returns-clause-holding
 returns-clause-holding g c =
-    let number = rw (places_are c.args.holding.now.held c.requires.some c.requires.few) at c.in_ok-emit.ensures.value in
+    let number = rw (places_are c.args.holding.now.held c.requires.some c.requires.few) at
+    c.in_ok-emit.ensures.value in
     rw (unit_is c.args.holding.now.held c.requires.some c.requires.few)
-    (released_holding _ _ _ _ c.requires.some c.requires.few c.requires.holding _ number c.in_ok-emit.ensures.long c.in_ok-emit.ensures.bytes_fit)
+    (released_holding _ _ _ _ c.requires.some c.requires.few c.requires.holding _ number
+    c.in_ok-emit.ensures.long c.in_ok-emit.ensures.bytes_fit)

@@ -6,7 +6,8 @@ abbrev pub invariant-held : goal.invariant-held
 invariant-held g l = record {
   holding : IsHolding l.bytes.items l.holding.low l.holding.width l.holding.held;
   few : l.holding.held ≤ l.fn.holding.held;
-  same : interval_held l.bytes.items l.holding.low l.holding.width l.holding.held ≡ interval_held l.fn.bytes.items l.fn.holding.low l.fn.holding.width l.fn.holding.held;
+  same : interval_held l.bytes.items l.holding.low l.holding.width l.holding.held ≡ interval_held
+      l.fn.bytes.items l.fn.holding.low l.fn.holding.width l.fn.holding.held;
 }
 
 abbrev pub decreases-held : goal.decreases-held

@@ -1,3 +1,4 @@
+-- The row of a residual of nine bits, given modulo 512, in the table of symbols.
 use Rattle.std.proofs.Common.{◌≡◌, ◌+◌, ◌-◌, ◌*◌, take, drop, ap, arith}
 use Rattle.ffv1_range.specs.declared.encoder.symbol_table.TheConstants.{SYMBOLS}
 use Rattle.ffv1_range.proofs.encoder.batch.symbol_of.Goals as goal

@@ -1,3 +1,4 @@
+-- A low end without its mark, and beside it how many bytes are held back.
 use Rattle.std.proofs.Common.{arith, refl}
 use Rattle.ffv1_range.specs.Internal.Registers.{low_in}
 use Rattle.ffv1_range.proofs.Marks.{shifted_mark, is_marked}

@@ -1,47 +1,87 @@
+-- An exponent.
 use Rattle.std.proofs.Common.{◌≡◌, ◌+◌, min, arith}
 use Rattle.ffv1_range.proofs.Steps.{writes_append, writes_none, raising-add-one, raising-zero}
 use Rattle.ffv1_range.proofs.Growth.{on_err, exponent_grows, grows_second}
 use Rattle.ffv1_range.proofs.encoder.symbol.put_exponent.Goals as goal
 
 pub loop-k-init : goal.loop-k-init
-loop-k-init g c = record { held = c.requires.held; writing = c.requires.writing; writes = rw raising-zero (writes_none _ _ _) }
+loop-k-init g c = record {
+  held = c.requires.held;
+  writing = c.requires.writing;
+  writes =
+      rw raising-zero (writes_none _ _ _);
+}
 
 pub loop-k-preserved : goal.loop-k-preserved
 loop-k-preserved g c =
-    let slot : 1 + c.loop-k.k ≡ 1 + min c.loop-k.k 9 = omega (arith, c.min-few.ensures, c.loop-k-test.true) in
+    let slot : 1 + c.loop-k.k ≡ 1 + min c.loop-k.k 9 =
+    omega (arith, c.min-few.ensures, c.loop-k-test.true) in
     record {
       held = c.put_slot.ensures.held;
       writing = c.put_slot.ensures.writing;
-      writes = rw raising-add-one (writes_append _ _ _ _ _ _ _ _ _ c.loop-k.invariant.writes (rw slot at c.in_ok-put_slot.ensures.writes));
+      writes = rw raising-add-one (writes_append _ _ _ _ _ _ _ _ _ c.loop-k.invariant.writes
+          (rw slot at c.in_ok-put_slot.ensures.writes));
     }
 
 pub more-preserved : goal.more-preserved
 more-preserved g c =
-    let slot : 10 ≡ 1 + min c.more._k 9 = omega (arith, c.min-few.ensures, c.more.auto._k, c.more-test.true) in
+    let slot : 10 ≡ 1 + min c.more._k 9 = omega (
+      arith,
+      c.min-few.ensures,
+      c.more.auto._k,
+      c.more-test.true,
+    ) in
     record {
       held = c.put_slot-in-more.ensures.held;
       writing = c.put_slot-in-more.ensures.writing;
-      writes = rw raising-add-one (writes_append _ _ _ _ _ _ _ _ _ c.more.invariant.writes (rw slot at c.in_ok-put_slot-2.ensures.writes));
+      writes = rw raising-add-one (writes_append _ _ _ _ _ _ _ _ _ c.more.invariant.writes
+          (rw slot at c.in_ok-put_slot-2.ensures.writes));
     }
 
 pub returns-clause-writes : goal.returns-clause-writes
 returns-clause-writes g c =
-    let all : c.more._k ≡ c.args.exponent = omega (arith, c.min-few.ensures, c.more.auto._k, c.more.auto._k-end, c.more-test.false) in
-    let slot : 1 + c.min-few.result ≡ 1 + min c.args.exponent 9 = omega (arith, c.min-few.ensures) in
-    writes_append _ _ _ _ _ _ _ _ _ (rw all at c.more.invariant.writes) (rw slot at c.in_ok-put_slot-3.ensures.writes)
+    let all : c.more._k ≡ c.args.exponent = omega (
+      arith,
+      c.min-few.ensures,
+      c.more.auto._k,
+      c.more.auto._k-end,
+      c.more-test.false,
+    ) in
+    let slot : 1 + c.min-few.result ≡ 1 + min c.args.exponent 9 =
+    omega (arith, c.min-few.ensures) in
+    writes_append _ _ _ _ _ _ _ _ _ (rw all at c.more.invariant.writes)
+    (rw slot at c.in_ok-put_slot-3.ensures.writes)
 
 pub returns-in_err-put_slot-clause-refused : goal.returns-in_err-put_slot-clause-refused
 returns-in_err-put_slot-clause-refused g c =
-    let slot : 1 + c.loop-k.k ≡ 1 + min c.loop-k.k 9 = omega (arith, c.min-few.ensures, c.loop-k-test.true) in
-    on_err c.from_residual.result (exponent_grows _ _ _ _ _ c.loop-k.k c.args.exponent (omega arith) c.loop-k.invariant.writes (rw slot at c.in_err-put_slot.ensures.refused))
+    let slot : 1 + c.loop-k.k ≡ 1 + min c.loop-k.k 9 =
+    omega (arith, c.min-few.ensures, c.loop-k-test.true) in
+    on_err c.from_residual.result (exponent_grows _ _ _ _ _ c.loop-k.k c.args.exponent (omega arith)
+    c.loop-k.invariant.writes (rw slot at c.in_err-put_slot.ensures.refused))
 
 pub returns-in_err-put_slot-2-clause-refused : goal.returns-in_err-put_slot-2-clause-refused
 returns-in_err-put_slot-2-clause-refused g c =
-    let slot : 10 ≡ 1 + min c.more._k 9 = omega (arith, c.min-few.ensures, c.more.auto._k, c.more-test.true) in
-    on_err c.from_residual-in_err-put_slot-2.result (exponent_grows _ _ _ _ _ c.more._k c.args.exponent (omega arith) c.more.invariant.writes (rw slot at c.in_err-put_slot-2.ensures.refused))
+    let slot : 10 ≡ 1 + min c.more._k 9 = omega (
+      arith,
+      c.min-few.ensures,
+      c.more.auto._k,
+      c.more-test.true,
+    ) in
+    on_err c.from_residual-in_err-put_slot-2.result
+    (exponent_grows _ _ _ _ _ c.more._k c.args.exponent (omega arith) c.more.invariant.writes
+    (rw slot at c.in_err-put_slot-2.ensures.refused))
 
 pub returns-in_err-put_slot-3-clause-refused : goal.returns-in_err-put_slot-3-clause-refused
 returns-in_err-put_slot-3-clause-refused g c =
-    let all : c.more._k ≡ c.args.exponent = omega (arith, c.min-few.ensures, c.more.auto._k, c.more.auto._k-end, c.more-test.false) in
-    let slot : 1 + c.min-few.result ≡ 1 + min c.args.exponent 9 = omega (arith, c.min-few.ensures) in
-    on_err c.from_residual-in_err-put_slot-3.result (grows_second _ _ _ _ _ _ _ (rw all at c.more.invariant.writes) (rw slot at c.in_err-put_slot-3.ensures.refused))
+    let all : c.more._k ≡ c.args.exponent = omega (
+      arith,
+      c.min-few.ensures,
+      c.more.auto._k,
+      c.more.auto._k-end,
+      c.more-test.false,
+    ) in
+    let slot : 1 + c.min-few.result ≡ 1 + min c.args.exponent 9 =
+    omega (arith, c.min-few.ensures) in
+    on_err c.from_residual-in_err-put_slot-3.result
+    (grows_second _ _ _ _ _ _ _ (rw all at c.more.invariant.writes)
+    (rw slot at c.in_err-put_slot-3.ensures.refused))

@@ -1,3 +1,4 @@
+-- A signed number.
 use Rattle.std.proofs.Common.{rules}
 use Rattle.std.proofs.lemmas.Int.{to_z-of_z}
 use Rattle.std.specs.Int.{w32}
@@ -18,14 +19,16 @@ returns-clause-writes g c =
     let size = simp to_z-of_z at c.unsigned_abs-number.ensures.value in
     let last = simp to_z-of_z at c.in_ok-put_slot-2.ensures.writes in
     rw (signed_is c.args.value c.unsigned_abs-number.result size c.if-number-eq0.false)
-    (number_writes _ _ _ _ _ _ _ c.unsigned_abs-number.result _ c.in_ok-put_magnitude.ensures.writes (rw (c.sign_slot-slot.ensures, c.exponent.ensures.value) at last))
+    (number_writes _ _ _ _ _ _ _ c.unsigned_abs-number.result _ c.in_ok-put_magnitude.ensures.writes
+    (rw (c.sign_slot-slot.ensures, c.exponent.ensures.value) at last))
 
 pub returns-in_err-put_magnitude-clause-refused : goal.returns-in_err-put_magnitude-clause-refused
 returns-in_err-put_magnitude-clause-refused g c =
     let fits : SFits w32 c.args.value = search rules in
     let size = simp to_z-of_z at c.unsigned_abs-number.ensures.value in
     on_err c.from_residual-in_err-put_magnitude.result
-    (rw (signed_is c.args.value c.unsigned_abs-number.result size c.if-number-eq0.false) (grows_first _ _ _ _ _ c.in_err-put_magnitude.ensures.refused))
+    (rw (signed_is c.args.value c.unsigned_abs-number.result size c.if-number-eq0.false)
+    (grows_first _ _ _ _ _ c.in_err-put_magnitude.ensures.refused))
 
 pub returns-in_err-put_slot-2-clause-refused : goal.returns-in_err-put_slot-2-clause-refused
 returns-in_err-put_slot-2-clause-refused g c =
@@ -34,4 +37,5 @@ returns-in_err-put_slot-2-clause-refused g c =
     let last = simp to_z-of_z at c.in_err-put_slot-2.ensures.refused in
     on_err c.from_residual-in_err-put_slot-2.result
     (rw (signed_is c.args.value c.unsigned_abs-number.result size c.if-number-eq0.false)
-    (grows_second _ _ _ _ _ _ _ c.in_ok-put_magnitude.ensures.writes (rw (c.sign_slot-slot.ensures, c.exponent.ensures.value) at last)))
+    (grows_second _ _ _ _ _ _ _ c.in_ok-put_magnitude.ensures.writes
+    (rw (c.sign_slot-slot.ensures, c.exponent.ensures.value) at last)))

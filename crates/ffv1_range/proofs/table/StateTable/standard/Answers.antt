@@ -1,3 +1,4 @@
+-- The standard's table (RFC 9043, 3.8.1.5).
 use Rattle.std.proofs.Common.{arith}
 use Rattle.ffv1_range.specs.Standard.{default_state_transition, standard}
 use Rattle.ffv1_range.proofs.Standard.{standard as keeps, zeros_are}

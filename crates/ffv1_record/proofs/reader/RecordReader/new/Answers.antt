@@ -1,10 +1,15 @@
+-- Begins at the bytes.
 use Rattle.std.proofs.Common.{arith}
 use Rattle.ffv1_range.specs.Standard.{standard}
 use Rattle.ffv1_range.proofs.HistoryLemmas.{fresh_has}
 use Rattle.ffv1_record.proofs.reader.RecordReader.new.Goals as goal
 
 pub invariant_of-result : goal.invariant_of-result
-invariant_of-result c = (c.standard.ensures.value, rw c.standard.ensures.value at c.standard.ensures.fresh)
+invariant_of-result c = (
+  c.standard.ensures.value,
+  rw c.standard.ensures.value at
+      c.standard.ensures.fresh,
+)
 
 pub returns-clause-ok : goal.returns-clause-ok
 returns-clause-ok c = record {

@@ -1,3 +1,4 @@
+-- Nothing was written yet.
 use Rattle.std.proofs.Common.{ap, arith}
 use Rattle.ffv1_range.specs.Standard.{standard}
 use Rattle.ffv1_range.specs.Writing.{Writing}
@@ -5,7 +6,11 @@ use Rattle.ffv1_range.proofs.HistoryLemmas.{fresh_has}
 use Rattle.ffv1_record.proofs.writer.RecordWriter.new.Goals as goal
 
 pub invariant_of-result : goal.invariant_of-result
-invariant_of-result g c = (c.standard.ensures.value, rw c.standard.ensures.value at c.standard.ensures.fresh)
+invariant_of-result g c = (
+  c.standard.ensures.value,
+  rw c.standard.ensures.value at
+      c.standard.ensures.fresh,
+)
 
 pub returns : goal.returns
 returns g c = record {

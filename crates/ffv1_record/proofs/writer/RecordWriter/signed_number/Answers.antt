@@ -1,3 +1,4 @@
+-- A signed number.
 use Rattle.std.proofs.Common.{◌≡◌}
 use Rattle.std.specs.Int.{w32}
 use mir.Val.{SFits, to_z, of_z}
@@ -10,4 +11,5 @@ pub returns-clause-ok : goal.returns-clause-ok
 returns-clause-ok g c =
     let fits : SFits w32 c.args.number = c.ranges.number in
     let is : to_z w32 (of_z w32 c.args.number) ≡ c.args.number = to_z-of_z w32 c.args.number fits in
-    rw (← c.self.view_is) (wrote_steps _ _ _ _ _ c.self.told (signed_below c.args.number) (rw (c.self.invariant.0, is) at c.in-Ok.ensures.ok))
+    rw (← c.self.view_is) (wrote_steps _ _ _ _ _ c.self.told (signed_below c.args.number)
+    (rw (c.self.invariant.0, is) at c.in-Ok.ensures.ok))

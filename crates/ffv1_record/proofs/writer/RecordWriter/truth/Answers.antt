@@ -1,6 +1,8 @@
+-- A truth value.
 use Rattle.std.proofs.Common.{refl, arith}
 use Rattle.ffv1_record.proofs.EncoderSteps.{wrote_steps}
 use Rattle.ffv1_record.proofs.writer.RecordWriter.truth.Goals as goal
 
 pub returns-clause-ok : goal.returns-clause-ok
-returns-clause-ok g c = rw (← c.self.view_is) (wrote_steps _ _ _ _ _ c.self.told (omega arith, tt) (rw c.self.invariant.0 at (c.in-Ok.ensures.puts c.self.inside.states 0 refl)))
+returns-clause-ok g c = rw (← c.self.view_is) (wrote_steps _ _ _ _ _ c.self.told (omega arith, tt)
+    (rw c.self.invariant.0 at (c.in-Ok.ensures.puts c.self.inside.states 0 refl)))

@@ -1,3 +1,4 @@
+-- Decodes a frame (RFC 9043, 4.4 to 4.9), and answers what its slices say of the picture.
 use Rattle.std.proofs.Common.{arith, ◌≡◌, ◌∙◌, ap, subst}
 use Rattle.ffv1_record.specs.Accepted.{Accepted, IsAccepted}
 use Rattle.ffv1_record.specs.Held.{held_of}
@@ -8,24 +9,39 @@ pub returns-clause-headline : goal.returns-clause-headline
 returns-clause-headline g c =
     let a = c.args.self.now.accepted in
     let is : c.self.inside.checked ≡ a = ap (λ (x : Decoder). x.accepted) c.self.view_is in
-    let accepted = subst (λ (x : Accepted). IsAccepted x.configuration x.table) is c.table-table.ensures.accepted in
-    let holds = c.decode_held.ensures.holds ∙ ap (λ (x : Decoder). held_of x.accepted.configuration) c.decode_held.ensures.same in
-    c.headline_holds_for_each_answer.ensures a c.args.payload.now c.args.sink.now c.decode_held.new.sink c.decode_held.result c.decode_held.new.self.tally c.decode_held.new.self.held
-    accepted (λ k. omega (arith, c.type_inv.payload k)) (λ planes info picture said. c.frame_length_follows_from_residuals.ensures.most a planes info accepted said) c.decode_held.ensures.exact holds
+    let accepted = subst (λ (x : Accepted). IsAccepted x.configuration x.table) is
+    c.table-table.ensures.accepted in
+    let holds = c.decode_held.ensures.holds ∙ ap (λ (x : Decoder). held_of x.accepted.configuration)
+    c.decode_held.ensures.same in
+    c.headline_holds_for_each_answer.ensures a c.args.payload.now c.args.sink.now
+    c.decode_held.new.sink c.decode_held.result c.decode_held.new.self.tally
+    c.decode_held.new.self.held
+    accepted (λ k. omega (arith, c.type_inv.payload k))
+    (λ planes info picture said. c.frame_length_follows_from_residuals.ensures.most a planes
+    info accepted said) c.decode_held.ensures.exact holds
 
 pub returns-clause-damaged : goal.returns-clause-damaged
 returns-clause-damaged g c sent spans slice is =
-    c.damage_is_found_by_parity.ensures c.args.self.now.accepted sent c.args.payload.now spans slice c.args.sink.now c.decode_held.new.sink c.decode_held.new.self.tally c.decode_held.result
+    c.damage_is_found_by_parity.ensures c.args.self.now.accepted sent c.args.payload.now spans slice
+    c.args.sink.now c.decode_held.new.sink c.decode_held.new.self.tally c.decode_held.result
     is.bytes (λ k. omega (arith, c.type_inv.payload k)) is.good is.burst c.decode_held.ensures.exact
 
 pub returns-clause-cost : goal.returns-clause-cost
 returns-clause-cost g c =
-    let is : c.self.inside.checked ≡ c.args.self.now.accepted = ap (λ (x : Decoder). x.accepted) c.self.view_is in
-    let accepted = subst (λ (x : Accepted). IsAccepted x.configuration x.table) is c.table-table.ensures.accepted in
-    c.frame_cost_is_near_its_weight.ensures.answer c.args.self.now.accepted c.args.payload.now c.args.sink.now c.decode_held.new.sink c.decode_held.new.self.tally c.decode_held.result accepted c.decode_held.ensures.exact
+    let is : c.self.inside.checked ≡ c.args.self.now.accepted = ap (λ (x : Decoder). x.accepted)
+    c.self.view_is in
+    let accepted = subst (λ (x : Accepted). IsAccepted x.configuration x.table) is
+    c.table-table.ensures.accepted in
+    c.frame_cost_is_near_its_weight.ensures.answer c.args.self.now.accepted c.args.payload.now
+    c.args.sink.now c.decode_held.new.sink c.decode_held.new.self.tally c.decode_held.result
+    accepted c.decode_held.ensures.exact
 
 pub returns-clause-handed : goal.returns-clause-handed
 returns-clause-handed g c =
-    let is : c.self.inside.checked ≡ c.args.self.now.accepted = ap (λ (x : Decoder). x.accepted) c.self.view_is in
-    let accepted = subst (λ (x : Accepted). IsAccepted x.configuration x.table) is c.table-table.ensures.accepted in
-    c.sink_is_handed_only_coded_lines.ensures c.args.self.now.accepted c.args.payload.now c.args.sink.now c.decode_held.new.sink c.decode_held.new.self.tally c.decode_held.result accepted c.decode_held.ensures.exact
+    let is : c.self.inside.checked ≡ c.args.self.now.accepted = ap (λ (x : Decoder). x.accepted)
+    c.self.view_is in
+    let accepted = subst (λ (x : Accepted). IsAccepted x.configuration x.table) is
+    c.table-table.ensures.accepted in
+    c.sink_is_handed_only_coded_lines.ensures c.args.self.now.accepted c.args.payload.now
+    c.args.sink.now c.decode_held.new.sink c.decode_held.new.self.tally c.decode_held.result
+    accepted c.decode_held.ensures.exact

@@ -1,4 +1,5 @@
-use Rattle.std.proofs.Common.{◌≡◌, ◌+◌, ◌≤◌, ◌<◌, arith}
+-- A fault of a segment's line, at this column of its plane.
+use Rattle.std.proofs.Common.{◌≡◌, ◌+◌, ◌<◌, arith}
 use Rattle.ffv1_slice.specs.Grid.{down, division_of}
 use Rattle.ffv1_codec.specs.Decoding.{top_of}
 use Rattle.ffv1_codec.proofs.PartPlaces.{inside}
@@ -11,10 +12,13 @@ within : (g : Over) (c : After-top-top g) → c.top-top.result + c.args.segment.
 within g c =
     let conf = c.args.self.now.checked.now.configuration in
     let p = c.args.segment.now.plane in
-    let are = c.slices_lie_beside_one_another.ensures.down conf c.args.self.now.checked.now.table p c.requires.frame.accepted in
-    let top : c.top-top.result ≡ top_of conf p c.args.segment.now.row = rw c.requires.frame.grid at c.top-top.ensures in
+    let are = c.slices_lie_beside_one_another.ensures.down conf c.args.self.now.checked.now.table p
+    c.requires.frame.accepted in
+    let top : c.top-top.result ≡ top_of conf p c.args.segment.now.row = rw c.requires.frame.grid at
+    c.top-top.ensures in
     let all = inside (down (division_of conf) p) are c.args.segment.now.row c.requires.row in
-    let sizes = c.accepted_configuration_is_in_range.ensures.sizes conf c.args.self.now.checked.now.table c.requires.frame.accepted in
+    let sizes = c.accepted_configuration_is_in_range.ensures.sizes conf
+    c.args.self.now.checked.now.table c.requires.frame.accepted in
     omega (arith, top, all, sizes, c.requires.y)
 
 pub overflow_add-result-2 : goal.overflow_add-result-2

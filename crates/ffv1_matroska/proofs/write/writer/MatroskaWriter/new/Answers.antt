@@ -1,4 +1,6 @@
-use Rattle.std.proofs.Common.{◌≡◌, ◌<◌, ◌+◌, ◌^◌, ◌∙◌, ◌&&◌, ◌==◌, ℕ, false, not, arith, rules, ap, sym}
+-- A writer of a file of this head, whose pictures are so shown.
+use Rattle.std.proofs.Common.{◌≡◌, ◌<◌, ◌+◌, ◌^◌, ◌∙◌, ◌&&◌, ◌==◌, ℕ, false, not, arith, rules, ap}
+use Rattle.std.proofs.Common.{sym}
 use Rattle.ffv1_reads.specs.Head.{head_of}
 use Rattle.ffv1_matroska.specs.Rates.{IsTimed, rate_of}
 use Rattle.ffv1_matroska.specs.Writers.{rate_in}
@@ -8,17 +10,35 @@ use Rattle.ffv1_matroska.proofs.write.writer.MatroskaWriter.new.Goals as goal
 
 pub overflow_add-at : goal.overflow_add-at
 overflow_add-at g c =
-    let fits : 148 + c.tracks_size-at.result < 2 ^ 64 = omega (arith, c.tracks_size-at.ensures.fits) in
+    let fits : 148 + c.tracks_size-at.result < 2 ^ 64 =
+    omega (arith, c.tracks_size-at.ensures.fits) in
     search (rules, fits)
 
 pub invariant_of-result : goal.invariant_of-result
 invariant_of-result g c =
     let h = head_of c.args.head.now in
-    let items : c.in_ok-config_record.config_record.items ≡ h.config_record = c.in_ok-config_record.ensures.items ∙ c.as_slice.ensures.value in
-    let kept : record { width = h.width; height = h.height; rate = h.rate; scale = h.scale; config_record = c.in_ok-config_record.config_record.items } ≡ h = ap (λ r. record { width = h.width; height = h.height; rate = h.rate; scale = h.scale; config_record = r }) items in
-    let at : 148 + c.tracks_size-at.result ≡ first_place h c.args.shown = ap (λ n. 148 + n) c.tracks_size-at.ensures.value in
-    let fits : 148 + c.tracks_size-at.result < 2 ^ 63 + 2 ^ 20 = omega (arith, c.tracks_size-at.ensures.fits) in
-    rw c.in_ok-places.ensures.exact (keeping_new h _ c.args.shown _ c.in_ok-places.places.items kept at fits c.in_ok-places.ensures.items)
+    let items : c.in_ok-config_record.config_record.items ≡ h.config_record =
+    c.in_ok-config_record.ensures.items ∙ c.as_slice.ensures.value in
+    let kept : record {
+      width = h.width;
+      height = h.height;
+      rate = h.rate;
+      scale = h.scale;
+      config_record = c.in_ok-config_record.config_record.items;
+    } ≡ h =
+    ap (λ r. record {
+      width = h.width;
+      height = h.height;
+      rate = h.rate;
+      scale = h.scale;
+      config_record = r;
+    }) items in
+    let at : 148 + c.tracks_size-at.result ≡ first_place h c.args.shown = ap (λ n. 148 + n)
+    c.tracks_size-at.ensures.value in
+    let fits : 148 + c.tracks_size-at.result < 2 ^ 63 + 2 ^ 20 =
+    omega (arith, c.tracks_size-at.ensures.fits) in
+    rw c.in_ok-places.ensures.exact (keeping_new h _ c.args.shown _ c.in_ok-places.places.items kept
+    at fits c.in_ok-places.ensures.items)
 
 both : (a b x y : ℕ) → false ≡ not ((a == x) && (b == y)) → (a ≡ x) × (b ≡ y)
 both a b x y e = (grind (arith, e), grind (arith, e))
@@ -26,9 +46,29 @@ both a b x y e = (grind (arith, e), grind (arith, e))
 pub returns : goal.returns
 returns g c =
     let h = head_of c.args.head.now in
-    let items : c.in_ok-config_record.config_record.items ≡ h.config_record = c.in_ok-config_record.ensures.items ∙ c.as_slice.ensures.value in
-    let kept : record { width = h.width; height = h.height; rate = h.rate; scale = h.scale; config_record = c.in_ok-config_record.config_record.items } ≡ h = ap (λ r. record { width = h.width; height = h.height; rate = h.rate; scale = h.scale; config_record = r }) items in
-    let at : 148 + c.tracks_size-at.result ≡ first_place h c.args.shown = ap (λ n. 148 + n) c.tracks_size-at.ensures.value in
+    let items : c.in_ok-config_record.config_record.items ≡ h.config_record =
+    c.in_ok-config_record.ensures.items ∙ c.as_slice.ensures.value in
+    let kept : record {
+      width = h.width;
+      height = h.height;
+      rate = h.rate;
+      scale = h.scale;
+      config_record = c.in_ok-config_record.config_record.items;
+    } ≡ h =
+    ap (λ r. record {
+      width = h.width;
+      height = h.height;
+      rate = h.rate;
+      scale = h.scale;
+      config_record = r;
+    }) items in
+    let at : 148 + c.tracks_size-at.result ≡ first_place h c.args.shown = ap (λ n. 148 + n)
+    c.tracks_size-at.ensures.value in
     let same = both c.rate_of.result.0 c.rate_of.result.1 h.rate h.scale c.if-ne.ensures in
-    let timed : IsTimed (rate_in h) = ap rate_of (sym c.duration_of.ensures) ∙ sym c.rate_of.ensures ∙ ap (λ n. record { rate = n; scale = c.rate_of.result.1 }) same.0 ∙ ap (λ n. record { rate = h.rate; scale = n }) same.1 in
-    (timed, new_by h _ c.args.shown _ c.in_ok-places.places.items kept at c.in_ok-places.ensures.items)
+    let timed : IsTimed (rate_in h) = ap rate_of (sym c.duration_of.ensures) ∙ sym c.rate_of.ensures
+    ∙ ap (λ n. record { rate = n; scale = c.rate_of.result.1 }) same.0 ∙
+    ap (λ n. record { rate = h.rate; scale = n }) same.1 in (
+      timed,
+      new_by h _ c.args.shown _ c.in_ok-places.places.items kept at
+          c.in_ok-places.ensures.items,
+    )

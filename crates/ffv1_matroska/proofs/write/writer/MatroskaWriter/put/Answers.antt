@@ -1,3 +1,5 @@
+-- Writes the next frame: its Cluster, and before the first one all that stands before the Clusters,
+-- of a Segment of unknown size.
 use Rattle.std.proofs.Common.{◌<◌, ◌+◌, ◌^◌, ◌∙◌, length, arith, rules, refl, sym}
 use Rattle.std.proofs.lemmas.Bool.{ltb-false, ltb-true}
 use Rattle.ffv1_reads.specs.Head.{head_of}
@@ -26,7 +28,12 @@ put_piece-requires-clause-frame g c =
 pub returns-then-is_err-clause-answer : goal.returns-then-is_err-clause-answer
 returns-then-is_err-clause-answer g c = λ lives.
     let near = ltb-false _ _ (sym c.is_too_far.ensures ∙ c.if-is_too_far.false) in
-    rw (← c.self.view_is) (near, failed_of _ _ _ _ _ _ (sym c.is_err.ensures.value ∙ c.if-is_err.true) c.put_piece.ensures, refl)
+    rw (← c.self.view_is) (
+      near,
+      failed_of _ _ _ _ _ _
+          (sym c.is_err.ensures.value ∙ c.if-is_err.true) c.put_piece.ensures,
+      refl,
+    )
 
 pub overflow_add-self-3 : goal.overflow_add-self-3
 overflow_add-self-3 g c =
@@ -40,7 +47,10 @@ invariant_of-self-2 g c =
     let inside = c.self.inside in
     let keeping = rw c.if-self.false at c.self.invariant in
     let kept = c.keep_place-self-inside.ensures in
-    rw (c.if-self.false, kept.room) (keeping_more (head_of inside.head) inside.shown inside.count inside.at inside.stride c.keep_place-self-inside.result _ (length c.args.frame.now) inside.places.items c.keep_place-self-inside.new.places.items keeping kept.kept (omega (arith, near)))
+    rw (c.if-self.false, kept.room) (keeping_more (head_of inside.head) inside.shown inside.count
+    inside.at inside.stride c.keep_place-self-inside.result _ (length c.args.frame.now)
+    inside.places.items c.keep_place-self-inside.new.places.items keeping kept.kept
+    (omega (arith, near)))
 
 pub returns-clause-answer : goal.returns-clause-answer
 returns-clause-answer g c = λ lives.
@@ -48,5 +58,12 @@ returns-clause-answer g c = λ lives.
     let inside = c.self.inside in
     let keeping = rw c.if-self.false at c.self.invariant in
     let kept = c.keep_place-self-inside.ensures in
-    let grows = grows_by (head_of inside.head) inside.shown c.args.frame.now inside.count inside.at inside.stride c.keep_place-self-inside.result _ inside.places.items c.keep_place-self-inside.new.places.items keeping kept.stride kept.items in
-    rw (← c.self.view_is, c.if-self.false) (omega (arith, near), done_of _ _ _ _ _ _ (sym c.is_err.ensures.value ∙ c.if-is_err.false) c.put_piece.ensures, grows)
+    let grows = grows_by (head_of inside.head) inside.shown c.args.frame.now inside.count inside.at
+    inside.stride c.keep_place-self-inside.result _ inside.places.items
+    c.keep_place-self-inside.new.places.items keeping kept.stride kept.items in
+    rw (← c.self.view_is, c.if-self.false) (
+      omega (arith, near),
+      done_of _ _ _ _ _ _
+          (sym c.is_err.ensures.value ∙ c.if-is_err.false) c.put_piece.ensures,
+      grows,
+    )

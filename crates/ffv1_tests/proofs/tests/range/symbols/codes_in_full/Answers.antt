@@ -1,3 +1,5 @@
+-- Whether the symbol of a number, by the second row of some states, has this code by the full
+-- ending.
 use Rattle.ffv1_range.proofs.Named.{all_fresh_held}
 use Rattle.ffv1_tests.proofs.tests.range.symbols.codes_in_full.Goals as goal
 

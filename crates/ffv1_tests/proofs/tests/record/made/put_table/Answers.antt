@@ -1,3 +1,4 @@
+-- Writes the runs of a table, the first given, each less 1.
 use Rattle.ffv1_range.specs.Standard.{standard}
 use Rattle.ffv1_range.proofs.Named.{fresh_held}
 use Rattle.ffv1_range.proofs.Standard.{standard as standard_table}

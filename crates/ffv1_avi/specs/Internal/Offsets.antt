@@ -1,0 +1,74 @@
+-- Up to which chunk the steps of a reader go: the frames of a movi, the lists movi of RIFF, and the
+-- chunks before the first one.
+use Rattle.std.specs.Prelude.{◌≡◌, ℕ}
+use Rattle.std.specs.Prelude.{List, Option, Some, None, Result, Ok, Err, ⊤}
+use Rattle.ffv1_wire.specs.Passage.{Passage}
+use Rattle.ffv1_reads.specs.Reads.{Read}
+use Rattle.ffv1_reads.specs.declared.fault.FileFault.{FileFault}
+use Rattle.ffv1_reads.specs.declared.fault.FileFault.TheVariants as fault
+use Rattle.ffv1_avi.specs.declared.chunk.Entry.{Entry}
+use Rattle.ffv1_avi.specs.declared.place.Extent.{Extent}
+use Rattle.ffv1_avi.specs.declared.place.Place.{Place}
+use Rattle.ffv1_avi.specs.declared.stream.Sizes.{Sizes}
+use Rattle.ffv1_avi.specs.Files.{no_headers, visit_movi}
+use Rattle.ffv1_avi.specs.Internal.Views.{head_with}
+use Rattle.ffv1_avi.specs.Places.{frame_at, movi_at}
+use Rattle.ffv1_avi.specs.Walk.{entry_read}
+use Rattle.ffv1_avi.specs.Offsets.{ReadsTo, ReadsUpTo, StopsAt, StopsIn}
+use Rattle.ffv1_avi.specs.Offsets.{Start, InRiff, BeforeFrames}
+use Rattle.ffv1_avi.specs.Offsets.{movi_left, riff_left, spot_taken}
+
+-- the frame that was found is in a chunk that begins at a position
+pub record FrameBegins (to : Place) (old new : Option (List ℕ)) (found : ℕ × ℕ) : Type 0 where
+  pub between : Option (List ℕ)
+  pub entry : Entry
+  pub header : Read (entry_read to.movi) old between (Some entry)
+  pub visit : Read (visit_movi to.stream tt entry) between new (tt, Some found)
+
+-- up to the chunk of the frame that was found in movi; or to the end of that
+abbrev pub FindsInMovi : Place → Passage → Result (Option (ℕ × ℕ)) FileFault → ℕ → ℕ → Type 0
+FindsInMovi place p (Ok None) before after =
+    ReadsUpTo place p.old p.new (movi_left place 0) before after
+FindsInMovi place p (Ok (Some found)) before after =
+    (to : Place) × (between : Option (List ℕ)) × FrameBegins to between p.new found
+    × (frame_at to found.1 ≡ frame_at place found.1)
+    × ReadsUpTo place p.old between to before after
+FindsInMovi place p (Err f) before after = StopsAt place p f before after
+
+-- up to the next movi of RIFF, which was entered; or to the end of RIFF
+abbrev pub SeeksMovi : Place → Passage → Result (Option (ℕ × ℕ)) FileFault → ℕ → ℕ → Type 0
+SeeksMovi place p (Ok None) before after =
+    ReadsUpTo (riff_left place place.riff) p.old p.new (riff_left place 0) before after
+SeeksMovi place p (Ok (Some movi)) before after =
+    ReadsUpTo (riff_left place place.riff) p.old p.new (movi_at place movi) before after
+SeeksMovi place p (Err f) before after = StopsAt (riff_left place place.riff) p f before after
+
+-- up to the next movi, or RIFF
+abbrev pub MovesTo : Place → Passage → Result (Option Place) FileFault → ℕ → ℕ → Type 0
+MovesTo place p (Ok None) before after = ⊤
+MovesTo place p (Ok (Some next)) before after = ReadsUpTo place p.old p.new next before after
+MovesTo place p (Err f) before after = StopsAt place p f before after
+
+-- up to the chunk of the next frame
+abbrev pub FindsFrom : Place → Passage → Result (Option (ℕ × Place)) FileFault → ℕ → ℕ → Type 0
+FindsFrom place p (Ok None) before after = ⊤
+FindsFrom place p (Ok (Some found)) before after =
+    (to : Place) × (between : Option (List ℕ)) × (left : ℕ)
+    × FrameBegins to between p.new (found.0, left) × (found.1 ≡ frame_at to left)
+    × ReadsUpTo place p.old between to before after
+FindsFrom place p (Err f) before after = StopsAt place p f before after
+
+-- chunks of RIFF up to the first movi, with what the stream says that counts
+abbrev pub TopFrom : Extent → ℕ → Passage → List ℕ → Result (Sizes × Place) FileFault → ℕ → ℕ →
+    Type 0
+TopFrom extent room p bytes (Ok n) before after =
+    ReadsTo (spot_taken extent) (InRiff no_headers room) p.old p.new
+    (BeforeFrames (head_with n.0 bytes) n.1) before after
+TopFrom extent room p bytes (Err f) before after =
+    StopsIn (spot_taken extent) (InRiff no_headers room) p f before after
+
+-- a file up to its first movi
+abbrev pub OpensFrom : Extent → Passage → List ℕ → Result (Sizes × Place) FileFault → ℕ → Type 0
+OpensFrom extent p bytes (Ok n) offset =
+    ReadsTo (spot_taken extent) Start p.old p.new (BeforeFrames (head_with n.0 bytes) n.1) 0 offset
+OpensFrom extent p bytes (Err f) offset = StopsIn (spot_taken extent) Start p f 0 offset

@@ -1,0 +1,138 @@
+# SPDX-License-Identifier: MIT OR Apache-2.0
+"""The command line of the program `ffv1`: a part of `commands.py`."""
+import math
+import re
+
+import files
+
+
+# --------------------------------------------------------------------------------- the command line
+
+class Refused(Exception):
+    """A command line that is refused: status 2."""
+
+
+class Kept(Exception):
+    """Files that are refused: status 2, and why, on standard error."""
+
+
+class Help(Exception):
+    """A command line that asks for help or the version: status 0."""
+
+
+def number(least, most):
+    """The reading of a value: a number from the least to the most, as Rust reads one: a sign and
+    leading zeros may stand before it."""
+    def read(text):
+        if not re.fullmatch("[+-]?[0-9]+", text, re.ASCII) or not least <= int(text) <= most:
+            raise Refused(text)
+        return int(text)
+    return read
+
+
+def one_of(*names):
+    """The reading of a value: one of these words."""
+    def read(text):
+        if text not in names:
+            raise Refused(text)
+        return text
+    return read
+
+
+class Level:
+    """What a command takes: the least and the greatest number of files, its options by their
+    readings, with their defaults, and its flags."""
+
+    def __init__(self, files, options=None, flags=(), most=None):
+        self.files, self.options, self.flags = files, options or {}, flags
+        self.most = files if most is None else most
+
+
+COMMANDS = {
+    "pack": Level(2, {
+        "coder": (number(1, 2), 1), "contexts": (one_of("small", "large"), "small"),
+        "columns": (number(1, 32), None), "rows": (number(1, 32), None), "ec": (number(0, 1), 1),
+        "rate": (number(1, 2 ** 32 - 1), 25), "scale": (number(1, 2 ** 32 - 1), 1),
+        "container": (one_of("auto", "avi", "mkv"), "auto"),
+    }, flags=["verify", "no-clobber", "progress"]),
+    "unpack": Level(2, flags=["no-clobber", "progress"]),
+    "check": Level(1, flags=["all", "place", "progress"], most=math.inf),
+    "show": Level(1, flags=["cost"], most=math.inf),
+    "framemd5": Level(1, most=math.inf),
+    "trial": Level(1),
+}
+STANDARD_OUTPUT = ["/dev/stdout", "/dev/fd/1", "/proc/self/fd/1"]
+
+
+class Order:
+    """What a command line asks for: the command, its files, and its options and flags by name."""
+
+    def __init__(self, command, files, choice):
+        self.command, self.files, self.choice = command, files, choice
+
+
+def is_plain(word):
+    """Whether a word is a file or a value, and no option."""
+    return word == "-" or not word.startswith("-")
+
+
+def is_help(word):
+    return word == "--help" or word.startswith("-h")
+
+
+def take_option(level, found, word):
+    """A word that begins with a hyphen; the option's name where the next word is its value."""
+    if is_help(word):
+        raise Help(word)
+    name, equals, value = word[2:].partition("=")
+    if not word.startswith("--") or name in found:
+        raise Refused(word)
+    if name in level.flags and not equals:
+        found[name] = True
+    elif name in level.options and equals:
+        found[name] = level.options[name][0](value)
+    elif name in level.options:
+        return name
+    else:
+        raise Refused(word)
+    return None
+
+
+def taken(level, words):
+    """The files, and the options and flags, that the words behind a command name."""
+    paths, found, waiting, ended = [], {}, None, False
+    for word in words:
+        if waiting:
+            if not is_plain(word):
+                raise Refused(word)
+            found[waiting], waiting = level.options[waiting][0](word), None
+        elif ended or is_plain(word):
+            paths.append(word)
+            if len(paths) > level.most:
+                raise Refused(word)
+        elif word == "--":
+            ended = True
+        else:
+            waiting = take_option(level, found, word)
+    if waiting or len(paths) < level.files:
+        raise Refused("more is wanted")
+    return paths, found
+
+
+def words(line):
+    """The order that the words of a command line, without the program's name, ask for."""
+    name, *rest = line or [""]
+    if name == "help" and (not rest or rest in [[known] for known in [*COMMANDS, "help"]]):
+        raise Help(name)
+    if is_help(name) or name == "--version" or name.startswith("-V"):
+        raise Help(name)
+    if name not in COMMANDS:
+        raise Refused(name)
+    level = COMMANDS[name]
+    paths, found = taken(level, rest)
+    if level.files == 2 and (paths[0] == paths[1] != "-" or paths[1] in STANDARD_OUTPUT):
+        raise Refused(paths[1])
+    if level.most > 2 and paths.count("-") > 1:
+        raise Refused("-")
+    choice = {name: default for name, (_, default) in level.options.items()}
+    return Order(name, paths, {**choice, **dict.fromkeys(level.flags, False), **found})

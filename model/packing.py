@@ -1,0 +1,112 @@
+# SPDX-License-Identifier: MIT OR Apache-2.0
+"""What `ffv1 pack` does with a video: a part of `commands.py`."""
+import ffv1
+import files
+import matroska
+from ffv1 import Fault
+
+
+# --------------------------------------------------------------------------------------------- pack
+
+def config_of(head, choice, grid):
+    """The configuration of pictures with this head and grid. Own: one set, and intra 1."""
+    return ffv1.Config(
+        head.width, head.height, coder=choice["coder"], rct=head.rct, chroma=head.chroma,
+        log2_h=head.log2_h, log2_v=head.log2_v, extra=head.extra, columns=grid[0], rows=grid[1],
+        sets=[ffv1.LARGE if choice["contexts"] == "large" else ffv1.SMALL],
+        ec=choice["ec"], intra=1, depth=head.depth, wide=True)
+
+
+def raw_slice(head, columns, rows):
+    """How many bytes the samples of the greatest slice have."""
+    part = files.VideoHead(-(-head.width // columns), -(-head.height // rows),
+                           planes=(head.chroma, head.log2_h, head.log2_v, head.extra))
+    samples = sum(width * height for width, height in part.sizes())
+    return samples * (1 if head.depth == 8 else 2)
+
+
+def is_accepted(config):
+    try:
+        ffv1.check(config)
+    except Fault:
+        return False
+    return True
+
+
+def default_grid(head, choice):
+    """Section 5 wants at least 4 slices for more than 101376 pixels. Own: the grid of fewest slices,
+    and of these of fewest columns, that the picture has and whose greatest slice has less than
+    12 MiB of samples; else one slice."""
+    if head.width * head.height <= 101376:
+        return 1, 1
+    grids = ((columns, slices // columns) for slices in range(4, 1025) for columns in range(1, 33)
+             if slices % columns == 0 and slices // columns <= 32)
+    return next((grid for grid in grids if is_accepted(config_of(head, choice, grid))
+                 and raw_slice(head, *grid) < 12 * 2 ** 20), (1, 1))
+
+
+def grid_of(head, choice, by_default):
+    """The grid that is asked for; where none is, that of the default, or one slice."""
+    if by_default and choice["columns"] is None and choice["rows"] is None:
+        return default_grid(head, choice)
+    return choice["columns"] or 1, choice["rows"] or 1
+
+
+def video_of(source, choice, by_default=False):
+    """The head of a text, the configuration of its pictures, and what encodes them one by one."""
+    first = source.some(1)
+    if first == b"P":
+        head, pictures = files.open_ppm(source, first), files.ppm_pictures
+        head.rate, head.scale = choice["rate"], choice["scale"]
+    else:
+        head, pictures = files.open_y4m(source, first), files.y4m_pictures
+    config = config_of(head, choice, grid_of(head, choice, by_default))
+    ffv1.check(config)
+    info = [head.structure, *head.aspect]
+    frames = (ffv1.encode_frame(config, planes, info) for planes in pictures(source, head))
+    return head, config, frames
+
+
+def packed(lengths):
+    """The count of a text that was packed; 70 where it has no picture."""
+    if not lengths:
+        raise Fault(70)
+    return f"frames {len(lengths)} bytes {sum(lengths)}\n"
+
+
+def pack(source, out, choice):
+    """A text of pictures becomes an AVI, when all its frames are encoded."""
+    head, config, frames = video_of(source, choice)
+    frames = list(frames)
+    count = packed([len(frame) for frame in frames])
+    avi = files.AviHead(head.width, head.height, head.rate, head.scale, ffv1.write_record(config))
+    out(files.write_avi(avi, frames))
+    return count
+
+
+def is_matroska(container, path):
+    """Whether OUT becomes Matroska."""
+    return container == "mkv" or container == "auto" and path.endswith(".mkv")
+
+
+def pack_matroska(source, out, over, choice):
+    """A text of pictures becomes Matroska, and each frame is written as soon as it is encoded. At
+    the end the opening is written over, which does nothing where OUT is no regular file."""
+    head, config, frames = video_of(source, choice, by_default=True)
+    matroska.timed(head.rate, head.scale)
+    track = matroska.Head(1, head.width, head.height, head.rate, head.scale,
+                          ffv1.write_record(config))
+    tracks = matroska.tracks(track, matroska.Shown(head.structure, head.aspect))
+    lengths, begins, end = [], [], matroska.TRACKS_PLACE + len(tracks)
+    for frame in frames:
+        begin, end = matroska.places(end, [len(frame)])
+        if not begins:
+            out(matroska.opening(track) + tracks)
+        out(matroska.cluster(len(begins), frame))
+        lengths.append(len(frame))
+        begins.append(begin)
+    count = packed(lengths)
+    cues = matroska.cues(begins)
+    out(cues)
+    over(matroska.opening(track, matroska.Finish(end + len(cues), end, len(lengths))))
+    return count
