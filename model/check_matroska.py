@@ -26,7 +26,7 @@ FAULTS = {51, 52, 53, 54, 80, 81, 82, 83, 84, 85}
 # ------------------------------------------------------------------------------ files that are read
 
 class Failing:
-    """Bytes, behind which a read fails."""
+    """Bytes, after which a read fails."""
 
     def __init__(self, data):
         self.file = io.BytesIO(data)
@@ -40,7 +40,7 @@ class Failing:
 
 class Answer:
     """What a file is read as: what its Tracks say, where it could be opened; the size of its
-    Segment; the frames; the fault behind them, or 0 for the end; and where the reader stands
+    Segment; the frames; the fault after them, or 0 for the end; and where the reader stands
     then."""
 
     def __init__(self, read, tell):
@@ -71,7 +71,7 @@ def read(data):
 
 
 def read_failing(data):
-    """The answer where a read behind these bytes fails."""
+    """The answer where a read after these bytes fails."""
     failing = Failing(data)
     return Answer(failing.read, failing.file.tell)
 
@@ -91,7 +91,7 @@ def known_files():
         answer = read(file)
         yield name, (answer.frames, answer.fault, len(file) - answer.at), \
             ([FRAME] * frames, fault, left)
-        yield f"{name}, whatever is behind", same_whatever(file, answer), True
+        yield f"{name}, whatever is after", same_whatever(file, answer), True
     for name, content, wanted in matroska_tracks.files():
         file = matroska_tracks.file_of(content)
         answer, is_fault = read(file), isinstance(wanted, int)
@@ -233,8 +233,8 @@ def is_told(file, frames, begin, end, numbers):
 
 
 def parts(data, at=0):
-    """The IDs, the contents and the places of elements one behind the other; a Cluster of unknown
-    size has no content, so that its elements stand behind it, and a Segment has all."""
+    """The IDs, the contents and the places of elements one after the other; a Cluster of unknown
+    size has no content, so that its elements stand after it, and a Segment has all."""
     while at < len(data):
         begin, length = at, 9 - data[at].bit_length()
         ident, at = data[at:at + length].hex().upper(), at + length

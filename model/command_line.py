@@ -99,7 +99,7 @@ def take_option(level, found, word):
 
 
 def taken(level, words):
-    """The files, and the options and flags, that the words behind a command name."""
+    """The files, and the options and flags, that the words after a command name."""
     paths, found, waiting, ended = [], {}, None, False
     for word in words:
         if waiting:

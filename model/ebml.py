@@ -27,7 +27,7 @@ AFTER = [after_byte(low) for low in range(256)]
 
 
 def crc_more(crc, data):
-    """The CRC-32 of some bytes, whose own is given, and these behind them; that of none is 0."""
+    """The CRC-32 of some bytes, whose own is given, and these after them; that of none is 0."""
     crc ^= 0xFFFFFFFF
     for byte in data:
         crc = crc >> 8 ^ AFTER[(crc ^ byte) & 255]
@@ -37,7 +37,7 @@ def crc_more(crc, data):
 # ------------------------------------------------------------------------------ bytes that are read
 
 class Input(files.Source):
-    """Bytes that are read from the left. Behind the CRC-32 of an element they are summed, until
+    """Bytes that are read from the left. After the CRC-32 of an element they are summed, until
     `judge` compares the two."""
 
     def __init__(self, read):
@@ -51,7 +51,7 @@ class Input(files.Source):
         return data
 
     def await_sum(self):
-        """The content of an element CRC-32 says what the bytes behind it are summed to."""
+        """The content of an element CRC-32 says what the bytes after it are summed to."""
         self.wanted, self.sum = int.from_bytes(self.exactly(4, 52), "little"), 0
 
     def judge(self):
@@ -101,7 +101,7 @@ def get_size(source, left):
 
 def get_header(source, left, first=b""):
     """The ID of an element, its size, or none where that is unknown, and what its parent, with so
-    many bytes left, has left behind the header. Own: an element that passes its parent is refused
+    many bytes left, has left after the header. Own: an element that passes its parent is refused
     here."""
     ident = vint(source, 4, left, first)
     size, length = get_size(source, left - len(ident))
@@ -120,7 +120,7 @@ def known(header):
 
 def pass_judged(source, size):
     """11.3.1: an element with so many bytes of content is passed. Where it begins with a CRC-32 of
-    4 bytes, this is compared with what is behind it."""
+    4 bytes, this is compared with what is after it."""
     if size == 0:
         return
     ident, first, left = known(get_header(source, size))
@@ -148,7 +148,7 @@ def elements(content):
 
 
 def find(content, wanted):
-    """The content of the first element with this ID; what stands behind it is not seen."""
+    """The content of the first element with this ID; what stands after it is not seen."""
     return next((data for ident, data in elements(content) if ident == wanted), None)
 
 
@@ -214,5 +214,5 @@ def number(ident, value, length):
 
 
 def summed(content):
-    """11.3.1: a content behind its CRC-32."""
+    """11.3.1: a content after its CRC-32."""
     return short(CRC_32, crc_more(0, content).to_bytes(4, "little")) + content

@@ -53,7 +53,7 @@ def get_key(decoder, slice):
 
 
 def get_head(decoder, config, slice):
-    """The header: indexes, structure and aspect; each value judged behind its symbol."""
+    """The header: indexes, structure and aspect; each value judged after its symbol."""
     for wanted in place_of(config, slice):
         if get_number(decoder, "head") != wanted:
             raise Fault(31)
@@ -301,7 +301,7 @@ class Slice:
         get_line(self.decoder, self.config, runs, plane, self.cells[plane])
 
     def look(self, *place):
-        """Own: wide, 8 where more than two bytes behind the end were read: there are more
+        """Own: wide, 8 where more than two bytes after the end were read: there are more
         renormalisations than coded bytes."""
         if self.config.wide and self.decoder.interval.count - 2 > len(self.data):
             raise Fault(8, self.number, *place)
@@ -372,7 +372,7 @@ def decode_row(config, row, out, room):
 
 def decode_frame(config, payload, room=None):
     """What a payload decodes to, the first fault in the order of decoding; with a room, by a sink
-    that refuses the line behind so many."""
+    that refuses the line after so many."""
     out, slices = Decoded(), []
     try:
         spans = cut(config, payload)

@@ -178,7 +178,7 @@ def open_y4m(source, first, most=16):
 
 
 def y4m_pictures(source, head):
-    """The pictures behind a header, in turn. An end where one would begin is the end."""
+    """The pictures after a header, in turn. An end where one would begin is the end."""
     while byte := source.some(1):
         for wanted in b"FRAME\n":
             byte = byte or source.exactly(1, 64)
@@ -207,8 +207,8 @@ MAXIMA = {b"%d" % (2 ** depth - 1): depth for depth in [8, 9, 10, 12, 14, 16]}
 
 
 def ppm_blank(source):
-    """The first byte behind white space and comments, each from # to a line feed or a carriage
-    return. Own: both have fewer than 65536 bytes, and none is in a number or right behind it."""
+    """The first byte after white space and comments, each from # to a line feed or a carriage
+    return. Own: both have fewer than 65536 bytes, and none is in a number or right after it."""
     comment = False
     for _ in range(65536):
         byte = source.exactly(1, 60)
@@ -222,7 +222,7 @@ def ppm_blank(source):
 
 
 def ppm_word(source, word, most):
-    """A word that begins so, of so many bytes at most, and the byte of white space behind it."""
+    """A word that begins so, of so many bytes at most, and the byte of white space after it."""
     for _ in range(most + 1 - len(word)):
         byte = source.exactly(1, 60)
         if byte in WHITE:
@@ -455,7 +455,7 @@ def movi_frames(source, left, wanted):
 
 def movi_sizes(source, parts, is_owed):
     """How many bytes each further movi has: of the RIFF of which these chunks are left, and of those
-    behind it, up to the end of the file, where no frame may be owed."""
+    after it, up to the end of the file, where no frame may be owed."""
     while True:
         for name, size in parts:
             own = source.exactly(4, 52) if name == b"LIST" else b""

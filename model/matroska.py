@@ -170,7 +170,7 @@ class Segment:
 
     def walk(self, number):
         """The frame of the next element, if it has one. As soon as a Cluster has nothing left, its
-        CRC-32 is judged: before its last frame is given, where nothing is behind that."""
+        CRC-32 is judged: before its last frame is given, where nothing is after that."""
         self.source.mark()
         if self.group:
             ident, size, left = known(get_header(self.source, self.group))
@@ -369,7 +369,7 @@ def cues(begins):
 
 
 def begun(head, shown, frames, finish=None):
-    """A file while it is written: nothing stands behind its Clusters."""
+    """A file while it is written: nothing stands after its Clusters."""
     clusters = [cluster(i, frame) for i, frame in enumerate(frames)]
     return opening(head, finish) + tracks(head, shown) + b"".join(clusters)
 

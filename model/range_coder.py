@@ -134,7 +134,7 @@ class Encoder:
 
 class Decoder:
     """What bytes code, decision by decision: the bit for which the number of the first bytes lies in
-    the narrowed interval. Own: bytes behind the end are 0."""
+    the narrowed interval. Own: bytes after the end are 0."""
 
     def __init__(self, data, one=STANDARD):
         self.data, self.history, self.interval = data, History(one), Interval()

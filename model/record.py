@@ -128,7 +128,7 @@ def write_record(config):
 
 
 def get_set(decoder, number):
-    """4.1: one set; own: 5 where a run passes 128, 6 behind the last where there are too many contexts."""
+    """4.1: one set; own: 5 where a run passes 128, 6 after the last where there are too many contexts."""
     tables = []
     for which in range(5):
         runs = []

@@ -50,7 +50,7 @@ def run(folder, script):
 
 
 def examples_of(name, blocks, wanted, program):
-    """Whether each block prints what it should, one behind the other in one folder."""
+    """Whether each block prints what it should, one after the other in one folder."""
     with tempfile.TemporaryDirectory() as folder:
         os.symlink(program, os.path.join(folder, "ffv1"))
         with open(os.path.join(folder, "broken.mkv"), "wb") as file:

@@ -294,7 +294,7 @@ def options(dice, good):
 
 
 def placed(dice, paths, groups):
-    """Paths in their order, with groups of words before, between and behind them."""
+    """Paths in their order, with groups of words before, between and after them."""
     words = [[path] for path in paths]
     for group in groups:
         words.insert(dice.randrange(len(words) + 1), group)

@@ -77,7 +77,7 @@ def long_format(size):
     return changed((4, 2147483647), (16, 2147480000), (92, 2147470000), (168, size))
 
 
-# what is changed, whether the file is opened, how many frames it has, the fault behind them
+# what is changed, whether the file is opened, how many frames it has, the fault after them
 CHANGED = [
     ((0, b"RIFX"), False, 0, 50), ((8, b"AVIX"), False, 0, 50), ((108, b"auds"), False, 0, 51),
     ((188, b"FFVH"), False, 0, 51), ((128, 0), False, 0, 50), ((132, 0), False, 0, 50),
@@ -103,10 +103,10 @@ def stream_of(scale, *formats):
     return chunks(b"strl", header(b"vids", 25, scale), *(chunk(b"strf", data) for data in formats))
 
 
-def behind_list(behind):
+def after_list(after):
     """A stream, after it another list, and after that these bytes."""
     dmlh = chunk(b"dmlh", bytes([1, 0, 0, 0]))
-    return file_of(PLAIN + chunks(b"odml", dmlh) + behind, b"")
+    return file_of(PLAIN + chunks(b"odml", dmlh) + after, b"")
 
 
 def sound_first(total):
@@ -129,7 +129,7 @@ def ended(length):
 
 def rows():
     """What is new about a file, whether all of its RIFFs are read, the file, what it says if
-    anything, its frames, the fault behind them or 0, and how many bytes are left where that is
+    anything, its frames, the fault after them or 0, and how many bytes are left where that is
     known."""
     one = [FRAME]
     yield "an example", 0, EXAMPLE, SAID, one, 0, 0
@@ -145,8 +145,8 @@ def rows():
     yield "no streams", 0, file_of(b"", b""), None, [], 51, None
     yield "a first stream without a format", 0, file_of(stream_of(0) + OTHER, b""), None, [], 51, None
     yield "a scale of 0", 0, file_of(stream_of(0, format_of(2)), b""), None, [], 50, None
-    yield "a list behind a stream", 0, behind_list(b""), PLAIN_SAID, [], 0, None
-    yield "a byte behind it", 0, behind_list(b"\0"), None, [], 52, None
+    yield "a list after a stream", 0, after_list(b""), PLAIN_SAID, [], 0, None
+    yield "a byte after it", 0, after_list(b"\0"), None, [], 52, None
     yield "a short format", 0, file_of(stream_of(1, format_of(2)[:39]), b""), None, [], 51, None
     for count in range(3):
         yield f"{count} more RIFFs", 1, EXAMPLE + count * MORE, SAID, one * (count + 1), 0, 0
@@ -154,12 +154,12 @@ def rows():
     for n in range(1, 38):
         yield f"{n} bytes of a RIFF", 1, EXAMPLE + MORE[:n], SAID, one, 52, None
         yield f"{n} bytes of another", 1, EXAMPLE + MORE + MORE[:n], SAID, one * 2, 52, None
-    for behind, count, fault in [
+    for after, count, fault in [
             (bytes(4), 1, 50), (MORE + bytes(4), 2, 50), (MORE + bytes(3), 2, 52),
             (b"RIFX" + MORE[4:], 1, 50), (MORE[:8] + b"AVI " + MORE[12:], 1, 50),
             (b"RIFF\3\0\0\0" + MORE[8:], 1, 50), (b"RIFF\x1f\0\0\0" + MORE[8:], 2, 52),
             (b"RIFF\x1d\0\0\0" + MORE[8:], 1, 52)]:
-        yield f"behind: {behind}", 1, EXAMPLE + behind, SAID, one * count, fault, None
+        yield f"after: {after}", 1, EXAMPLE + after, SAID, one * count, fault, None
     yield "sound first", 1, sound_first(1), PLAIN_SAID, [b"ours"], 0, None
     yield "too few frames", 1, sound_first(2), PLAIN_SAID, [b"ours"], 52, None
     for end, length in [(40, 10), (41, 1), (49, 9), (50, 10), (51, 10), (0, 10)]:
@@ -167,7 +167,7 @@ def rows():
 
 
 def answer(file, is_whole):
-    """What a file says, if anything, its frames, the fault behind them, and how many bytes are
+    """What a file says, if anything, its frames, the fault after them, and how many bytes are
     left."""
     data, said, frames, fault = io.BytesIO(file), None, [], 0
     try:

@@ -88,7 +88,7 @@ def sealed(config, *slices):
 
 def coded(config, slice, residuals, too_long=False, head=None):
     """The coded bytes of a slice, decision by decision: its head and these residuals, all by the
-    context 0; and behind them, where it is so, a symbol of 31 exponent ones."""
+    context 0; and after them, where it is so, a symbol of 31 exponent ones."""
     encoder = ffv1.Encoder(config.table())
     if slice == 0:
         encoder.put("key", 1)

@@ -56,7 +56,7 @@ TWICE = chunk_list(b"hdrl", chunk_list(
     chunk(b"strh", b"x")))
 READ = [
     ("a plain file", riff(header(), MOVI)),
-    ("an index behind movi", riff(header(), MOVI, INDEX)),
+    ("an index after movi", riff(header(), MOVI, INDEX)),
     ("other chunks", riff(JUNK, chunk_list(b"INFO", JUNK), header(), JUNK, MOVI)),
     ("chunks in movi", riff(header(), chunk_list(b"movi", JUNK, GOOD, INDEX))),
     ("a second list hdrl", riff(header(), chunk_list(b"hdrl", JUNK), MOVI)),
@@ -74,13 +74,13 @@ def read_files():
 # --------------------------------------------------------------------------- files that are refused
 
 def long_frame(size):
-    """A file whose one frame says that it has so many bytes, and ends behind it."""
+    """A file whose one frame says that it has so many bytes, and ends after it."""
     movi = spelled(2147483000, chunk_list(b"movi", spelled(size, chunk(b"00dc", b""))))
     return spelled(2147483647, riff(header(), movi))
 
 
 def long_format(size):
-    """A file whose format says that it has so many bytes, and ends behind it."""
+    """A file whose format says that it has so many bytes, and ends after it."""
     strf = spelled(size, chunk(b"strf", b""))
     strl = spelled(2147480000, chunk_list(b"strl", chunk(b"strh", STRH), strf))
     return spelled(2147483647, riff(spelled(2147483000, chunk_list(b"hdrl", strl))))
@@ -108,7 +108,7 @@ REFUSED = [
     ("a rate alone, and no video", riff(header(b"auds" + RATE_ALONE[4:]), MOVI), "51 NoFfv1"),
     ("a list without a name", riff(chunk(b"LIST", b""), header(), MOVI), "50 NotAvi"),
     ("a chunk that passes its list", riff(spelled(10 ** 6, header()), MOVI), "52 Truncated"),
-    ("bytes behind a chunk", riff(header(), b"1234567"), "52 Truncated"),
+    ("bytes after a chunk", riff(header(), b"1234567"), "52 Truncated"),
     ("a list in movi", riff(header(), chunk_list(b"movi", chunk_list(b"rec ", GOOD))), "50 NotAvi"),
     ("a frame that passes movi", riff(header(), chunk_list(b"movi", spelled(2 ** 32 - 1, GOOD))),
      "52 Truncated"),

@@ -3,7 +3,7 @@
 elements are spelled here, their CRC-32 is zlib's.
 
 A row is what is new about a file, the file, how many frames it has (each is FRAME), the fault
-behind them or 0 for the end, and how many bytes are left unread then.
+after them or 0 for the end, and how many bytes are left unread then.
 """
 import zlib
 
@@ -30,7 +30,7 @@ def element(ident, *parts, length=1):
 
 
 def summed(*parts, crc=None):
-    """A content behind its CRC-32, or another one."""
+    """A content after its CRC-32, or another one."""
     content = spell(*parts)
     value = zlib.crc32(content) if crc is None else crc
     return spell("BF84") + value.to_bytes(4, "little") + content
@@ -88,7 +88,7 @@ EXAMPLES = [
     ("an open one without its last byte", opened(C)[:-1], 0, 52, 0),
     ("another DocType", spell("1A45DFA3 87 4282 84", b"webm") + segment(T, C), 0, 80, 117),
     ("Void before the Segment", H + spell("EC 83 000000") + segment(T, C), 0, 80, 118),
-    ("Tracks behind a Cluster", H + segment(C, T), 0, 82, 93),
+    ("Tracks after a Cluster", H + segment(C, T), 0, 82, 93),
     ("an ID of a bit more", whole("1F43B674", C[4:]), 0, 81, 14),
     ("an ID of five bytes", whole(C, "08 81 00"), 1, 81, 2),
     ("an element that passes the Segment", whole(C, "EC 81"), 1, 52, 0),
@@ -140,7 +140,7 @@ def headed(*parts):
 
 
 DOC = element("4282", b"matroska")
-BEHIND = len(segment(T, C))
+AFTER = len(segment(T, C))
 READ_2, READ_9 = "42F781 02", "42F789" + "00" * 8 + "01"
 EBML = [
     ("nothing", b"", 0, 52, 0),
@@ -153,39 +153,39 @@ EBML = [
     ("an unknown size in eight bytes", H[:4] + spell(UNKNOWN, DOC), 0, 81, 11),
     ("a header that is too long", H[:4] + spell(size(MANY + 1), DOC), 0, 53, 11),
     ("a header that is not there", H[:4] + spell(size(MANY, 4), DOC), 0, 52, 0),
-    ("no content", headed(), 0, 80, BEHIND),
+    ("no content", headed(), 0, 80, AFTER),
     ("DocType alone", headed(DOC), 1, 0, 0),
     ("a size of eight bytes", element("1A45DFA3", DOC, length=8) + segment(T, C), 1, 0, 0),
     ("DocType with bytes 0", headed(element("4282", b"matroska\0\0x")), 1, 0, 0),
-    ("a longer DocType", headed(element("4282", b"matroska3")), 0, 80, BEHIND),
-    ("a shorter DocType", headed(element("4282", b"matrosk")), 0, 80, BEHIND),
-    ("a DocType of no bytes", headed(element("4282")), 0, 80, BEHIND),
-    ("no DocType", headed("42F781 01"), 0, 80, BEHIND),
+    ("a longer DocType", headed(element("4282", b"matroska3")), 0, 80, AFTER),
+    ("a shorter DocType", headed(element("4282", b"matrosk")), 0, 80, AFTER),
+    ("a DocType of no bytes", headed(element("4282")), 0, 80, AFTER),
+    ("no DocType", headed("42F781 01"), 0, 80, AFTER),
     ("a second DocType", headed(DOC, element("4282", b"webm")), 1, 0, 0),
-    ("webm first", headed(element("4282", b"webm"), DOC), 0, 80, BEHIND),
-    ("EBMLReadVersion 2", headed(DOC, READ_2), 0, 80, BEHIND),
+    ("webm first", headed(element("4282", b"webm"), DOC), 0, 80, AFTER),
+    ("EBMLReadVersion 2", headed(DOC, READ_2), 0, 80, AFTER),
     ("EBMLReadVersion 0", headed(DOC, "42F781 00"), 1, 0, 0),
     ("EBMLReadVersion of no bytes", headed(DOC, "42F780"), 1, 0, 0),
     ("EBMLReadVersion of eight bytes", headed(DOC, "42F788 0000000000000001"), 1, 0, 0),
-    ("EBMLReadVersion of nine bytes", headed(DOC, READ_9), 0, 81, BEHIND),
+    ("EBMLReadVersion of nine bytes", headed(DOC, READ_9), 0, 81, AFTER),
     ("DocTypeReadVersion 4", headed(DOC, "428581 04"), 1, 0, 0),
-    ("DocTypeReadVersion 5", headed(DOC, "428581 05"), 0, 80, BEHIND),
-    ("DocTypeReadVersion 256", headed(DOC, "428582 0100"), 0, 80, BEHIND),
-    ("DocTypeReadVersion of nine bytes", headed(DOC, "428589", bytes(9)), 0, 81, BEHIND),
+    ("DocTypeReadVersion 5", headed(DOC, "428581 05"), 0, 80, AFTER),
+    ("DocTypeReadVersion 256", headed(DOC, "428582 0100"), 0, 80, AFTER),
+    ("DocTypeReadVersion of nine bytes", headed(DOC, "428589", bytes(9)), 0, 81, AFTER),
     ("EBMLVersion and others are passed", headed(DOC, "42868109 42F28109 42F38109"), 1, 0, 0),
-    ("an element that passes the header", headed(DOC, "EC 81"), 0, 52, BEHIND),
-    ("the same behind all three", headed(DOC, "42F78101 42858102 EC 81"), 1, 0, 0),
-    ("the same behind another DocType", headed(element("4282", b"webm"), "EC 81"), 0, 80, BEHIND),
-    ("the same behind EBMLReadVersion 2", headed(DOC, READ_2, "EC 81"), 0, 80, BEHIND),
-    ("the same before DocType", headed("EC 8F", DOC), 0, 52, BEHIND),
-    ("an ID of five bytes in it", headed(DOC, "0842858104"), 0, 81, BEHIND),
-    ("a size that begins with 0 in it", headed("EC00", DOC), 0, 81, BEHIND),
-    ("an unknown size in it", headed("ECFF", DOC), 0, 81, BEHIND),
-    ("an ID alone in it", headed(DOC, "42F7"), 0, 52, BEHIND),
-    ("half an ID in it", headed(DOC, "42"), 0, 52, BEHIND),
+    ("an element that passes the header", headed(DOC, "EC 81"), 0, 52, AFTER),
+    ("the same after all three", headed(DOC, "42F78101 42858102 EC 81"), 1, 0, 0),
+    ("the same after another DocType", headed(element("4282", b"webm"), "EC 81"), 0, 80, AFTER),
+    ("the same after EBMLReadVersion 2", headed(DOC, READ_2, "EC 81"), 0, 80, AFTER),
+    ("the same before DocType", headed("EC 8F", DOC), 0, 52, AFTER),
+    ("an ID of five bytes in it", headed(DOC, "0842858104"), 0, 81, AFTER),
+    ("a size that begins with 0 in it", headed("EC00", DOC), 0, 81, AFTER),
+    ("an unknown size in it", headed("ECFF", DOC), 0, 81, AFTER),
+    ("an ID alone in it", headed(DOC, "42F7"), 0, 52, AFTER),
+    ("half an ID in it", headed(DOC, "42"), 0, 52, AFTER),
     ("its CRC-32", headed(summed(DOC)), 1, 0, 0),
-    ("a wrong CRC-32", headed(summed(DOC, crc=1)), 0, 85, BEHIND),
-    ("a wrong CRC-32 of another DocType", headed(summed("4282 81 00", crc=1)), 0, 85, BEHIND),
+    ("a wrong CRC-32", headed(summed(DOC, crc=1)), 0, 85, AFTER),
+    ("a wrong CRC-32 of another DocType", headed(summed("4282 81 00", crc=1)), 0, 85, AFTER),
     ("a CRC-32 of three bytes", headed("BF83 000000", DOC), 1, 0, 0),
     ("a CRC-32 that is not first", headed(DOC, "BF84 00000000"), 1, 0, 0),
 ]
@@ -212,12 +212,12 @@ SEGMENTS = [
     ("a Cluster of no bytes before Tracks", H + segment(cluster(), T), 0, 82, 79),
     ("an open file without Cluster", opened(), 0, 0, 0),
     ("two whole files", whole(C) + whole(C), 1, 0, 157),
-    ("a byte behind an open one", opened(C) + b"\xec", 1, 52, 0),
+    ("a byte after an open one", opened(C) + b"\xec", 1, 52, 0),
     ("a Segment that says more than there is", spell(whole(C)[:44], size(106), T, C), 1, 52, 0),
     ("a Segment that says less", spell(whole(C)[:44], size(104), T, C), 0, 52, 14),
-    ("a Segment that ends behind Tracks", spell(whole(C)[:44], size(79), T, C), 0, 0, 26),
+    ("a Segment that ends after Tracks", spell(whole(C)[:44], size(79), T, C), 0, 0, 26),
     ("a second Tracks", whole(element("1654AE6B", "EC80"), C), 1, 0, 0),
-    ("a second Tracks behind a Cluster", whole(C, T, C), 2, 0, 0),
+    ("a second Tracks after a Cluster", whole(C, T, C), 2, 0, 0),
     ("a second Tracks with another track", whole(T.replace(b"\xd7\x81\x01", b"\xd7\x81\x02"), C), 1,
      0, 0),
     ("EBML in a Segment", whole(element("1A45DFA3", DOC), C), 0, 81, 37),
@@ -240,7 +240,7 @@ SEGMENTS = [
 
 
 def of_seven():
-    """Each element of a Segment that is passed, before and behind Tracks and Clusters."""
+    """Each element of a Segment that is passed, before and after Tracks and Clusters."""
     for name, ident in SEVEN:
         for what, content, fault in [
                 ("of no bytes", b"", 0), ("of no elements", summed(b"\0\0\0"), 0),
@@ -267,14 +267,14 @@ def of_seven():
             yield f"{name}, {what}", whole(C, element(ident, content), C), 1, fault, left + 26
         yield f"{name} of unknown size", whole(C, ident, UNKNOWN, C), 1, 81, 26
         yield f"{name}, cut in its CRC-32", opened(C, ident, "86 BF84 01"), 1, 52, 0
-        yield f"{name}, cut behind it", opened(C, ident, "87 BF84 01020304"), 1, 52, 0
+        yield f"{name}, cut after it", opened(C, ident, "87 BF84 01020304"), 1, 52, 0
         yield f"{name} too short for a CRC-32", whole(C, ident, "84 BF84 0102"), 1, 52, 2
 
 
 # ----------------------------------------------------------------------------------------- Clusters
 
 def loose(*parts):
-    """A Cluster of unknown size, and behind it these."""
+    """A Cluster of unknown size, and after it these."""
     return whole(LOOSE, *parts)
 
 
@@ -317,11 +317,11 @@ LOOSE_CLUSTERS = [
     ("of no elements", loose(), 0, 0, 0),
     ("each element of its own", loose("E780 A780 AB80 585480 AF80", B, "E780"), 1, 0, 0),
     ("a second one", loose(B, LOOSE, B, LOOSE, "E780", B), 3, 0, 0),
-    ("one that is known behind it", loose(B, C, "EC80"), 2, 0, 0),
+    ("one that is known after it", loose(B, C, "EC80"), 2, 0, 0),
     ("one that is known, and Timestamp", loose(B, C, "E780", B), 2, 81, 11),
     ("one that is known, and a block", loose(B, C, B), 2, 81, 9),
     ("one that is known of no bytes, and a block", loose(B, cluster(), B), 1, 81, 9),
-    ("one that is unknown behind a known one", whole(C, LOOSE, "E780", B), 2, 0, 0),
+    ("one that is unknown after a known one", whole(C, LOOSE, "E780", B), 2, 0, 0),
     ("Void and CRC-32 end it not", loose("EC80", B, "BF8401020304", B, "EC80 E780", B), 3, 0, 0),
     *((f"{name} ends it", loose(B, element(ident), "E78100"), 1, 81, 1) for name, ident in SEVEN),
     ("an element of unknown size", loose(B, "E7FF", B), 1, 81, 11),
@@ -335,14 +335,14 @@ LOOSE_CLUSTERS = [
     ("open, and cut between blocks", opened(LOOSE, B, B), 2, 0, 0),
     ("open, and cut in a block", opened(LOOSE, B, B[:-1]), 1, 52, 0),
     ("open, and cut in a group", opened(LOOSE, B, "A08B"), 1, 52, 0),
-    ("open, and cut behind a group's block", opened(LOOSE, "A08E A1", B[1:], "9B81"), 1, 52, 0),
+    ("open, and cut after a group's block", opened(LOOSE, "A08E A1", B[1:], "9B81"), 1, 52, 0),
 ]
 
 
 # ------------------------------------------------------------------------------------------- blocks
 
 def one(*parts):
-    """A file of a block with this content, and behind it one Cluster more."""
+    """A file of a block with this content, and after it one Cluster more."""
     return whole(cluster(element("A3", *parts)), C)
 
 
@@ -385,7 +385,7 @@ BLOCKS = [
 # ------------------------------------------------------------------------------- CRC-32 of Clusters
 
 def judged(*parts, crc=None):
-    """A file of a Cluster with its CRC-32, or another one, and behind it one more."""
+    """A file of a Cluster with its CRC-32, or another one, and after it one more."""
     return whole(cluster(summed(*parts, crc=crc)), C)
 
 
@@ -394,8 +394,8 @@ SUMS = [
     ("of a block", judged("E78100", B), 2, 0, 0),
     ("of three blocks", judged("E78100", B, B, B), 4, 0, 0),
     ("of a group", judged("E78100", G), 2, 0, 0),
-    ("of elements behind a group", judged(G, "EC80"), 2, 0, 0),
-    ("of elements in a group behind its block", judged(element("A0", "A1", B[1:], "9B8101")), 2, 0,
+    ("of elements after a group", judged(G, "EC80"), 2, 0, 0),
+    ("of elements in a group after its block", judged(element("A0", "A1", B[1:], "9B8101")), 2, 0,
      0),
     ("of nothing", judged(), 1, 0, 0),
     ("of another track", judged(block("82 0000 80")), 1, 0, 0),
@@ -405,7 +405,7 @@ SUMS = [
     ("wrong, of a block and Void", judged(B, "EC80", crc=1), 1, 85, 26),
     ("wrong, of a group", judged(B, G, crc=1), 1, 85, 26),
     ("wrong, of a group and Void", judged(G, "EC80", crc=1), 1, 85, 26),
-    ("wrong, of a group with more behind its block", judged(
+    ("wrong, of a group with more after its block", judged(
         element("A0", "A1", B[1:], "9B8101"), crc=1), 1, 85, 26),
     ("wrong, of two blocks of a group", judged(
         element("A0", "A1", B[1:], "A1", B[1:]), crc=1), 1, 85, 26),
@@ -426,7 +426,7 @@ SUMS = [
     ("in a group is passed", whole(cluster(element("A0", "BF8401020304", "A1", B[1:]))), 1, 0, 0),
     ("in a Cluster of unknown size is passed", loose("BF8401020304", B), 1, 0, 0),
     ("of a later Cluster", whole(C, cluster(summed(B)), C, cluster(summed(B, B, crc=1))), 4, 85, 0),
-    ("of a Cluster behind a wrong one", whole(WRONG, C, C), 0, 85, 52),
+    ("of a Cluster after a wrong one", whole(WRONG, C, C), 0, 85, 52),
 ]
 
 

@@ -30,7 +30,7 @@ ROWS = [
     ("Void in place of Tracks", H + segment("EC80"), 0, 82, 0),
     ("an open Segment that ends in an element", H + open_segment("EC81"), 0, 52, 0),
     ("two blocks in an open Cluster", opened(LOOSE, B, B), 2, 0, 0),
-    ("a block behind the Cluster that ends an open one", whole(LOOSE, B, C, B), 2, 81, 9),
+    ("a block after the Cluster that ends an open one", whole(LOOSE, B, C, B), 2, 81, 9),
     ("a group and a block in an open Cluster", whole(LOOSE, "A08BA1", B[1:], B), 2, 0, 0),
     ("Void of unknown size and a byte", whole("ECFF00"), 0, 81, 1),
     ("an ID of five bytes, without Clusters", whole("088100"), 0, 81, 2),
@@ -46,7 +46,7 @@ ROWS = [
      26),
     ("three other bytes", b"RIF", 0, 52, 0),
     ("another DocType and a byte", spell("1A45DFA3 87 428284", b"webm", "18"), 0, 80, 1),
-    ("another element behind the header", element("1A45DFA3", "428288", b"matroska")
+    ("another element after the header", element("1A45DFA3", "428288", b"matroska")
      + spell("EC80000001"), 0, 80, 1),
     ("a file that is written", EXAMPLE, 1, 0, 0),
     ("its open form", OPEN, 1, 0, 0),

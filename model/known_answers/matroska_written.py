@@ -44,7 +44,7 @@ OPEN_EXAMPLE = over(EXAMPLE, OPEN)
 # ----------------------------------------------------------------- two frames, and all that is said
 
 # 352 by 288 at 30000 / 1001, the top field first, samples of 10 to 11; a frame of three bytes
-# behind the other
+# after the other
 SECOND = bytes.fromhex("010203")
 DURATION = "0000000001FD228B"                                               # 33366667 nanoseconds
 VIDEO = spell("E0AC B08400000160 BA8400000120 9A8101 9D8109 54B088 0000000000000DC0"

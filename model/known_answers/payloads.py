@@ -110,7 +110,7 @@ def columns_side_by_side():
 
 
 def later_frames():
-    """Faults behind frames that are good."""
+    """Faults after frames that are good."""
     file = avi(one(), [FRAME, FRAME, bytes(3), FRAME])
     lines = "".join(f"frame {k}: 5 bytes, 1 slices, 11 decisions\n" for k in range(2))
     yield Case("a third frame", {"in": file}, [
@@ -162,7 +162,7 @@ def strange_payloads():
         Step(["unpack", "in", "out"], "frames 1\n")], {"out": mono(2, 2, bytes(4))})
     for byte in range(0, 256, 15):
         payload = sealed(one(), bytes([0xFE, 0x7B, byte]))
-        yield checked(f"a byte {byte} behind the slice", avi(one(), [payload]),
+        yield checked(f"a byte {byte} after the slice", avi(one(), [payload]),
                       "frame 0: 6 bytes, 1 slices, 11 decisions\nframes 1\n")
 
 

@@ -7,7 +7,7 @@ from known_answers.containers import header, numbers, riff, spelled
 
 
 def further(*chunks):
-    """A RIFF behind the first, of OpenDML."""
+    """A RIFF after the first, of OpenDML."""
     return chunk(b"RIFF", b"AVIX" + b"".join(chunks))
 
 
@@ -21,7 +21,7 @@ def whole(count):
 
 
 def streams(*before, total=None):
-    """The list hdrl of these streams, the one of FFV1 behind them, and, where the frames of the
+    """The list hdrl of these streams, the one of FFV1 after them, and, where the frames of the
     whole file are counted, that count in so many bytes."""
     counted = [] if total is None else [chunk_list(b"odml", chunk(b"dmlh", total))]
     return chunk_list(b"hdrl", *before, header()[12:], *counted)
@@ -54,7 +54,7 @@ CUT = [
     ("a byte", FIRST + b"x", 1, "52 Truncated"),
     ("three zero bytes", FIRST + bytes(3), 1, "52 Truncated"),
     ("four zero bytes", FIRST + bytes(4), 1, "50 NotAvi"),
-    ("four zero bytes behind all", FIRST + MORE + bytes(4), 2, "50 NotAvi"),
+    ("four zero bytes after all", FIRST + MORE + bytes(4), 2, "50 NotAvi"),
     ("a name alone", FIRST + b"RIFF", 1, "52 Truncated"),
     ("another name", FIRST + b"RIFX" + MORE[4:], 1, "50 NotAvi"),
     ("another form", FIRST + FIRST, 1, "50 NotAvi"),
@@ -73,7 +73,7 @@ CUT = [
 
 
 def all_riffs():
-    """The frames of all RIFFs, and why a file has none behind them."""
+    """The frames of all RIFFs, and why a file has none after them."""
     for name, file, count in READ:
         yield checked(name, file, whole(count))
     for name, file, count, fault in CUT:
@@ -109,7 +109,7 @@ def named(stream):
 
 
 def ending(size, more):
-    """A list hdrl whose format says this biSize and has more bytes behind the record."""
+    """A list hdrl whose format says this biSize and has more bytes after the record."""
     return header(STRH, numbers(size) + STRF[4:] + more)
 
 

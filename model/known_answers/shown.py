@@ -125,7 +125,7 @@ def shown_files():
 
 
 FIRST = "cost frame 0: ones 11 zeros 0 renormalisations 1\n"
-# name, payloads, lines behind the others, fault
+# name, payloads, lines after the others, fault
 COSTS = [
     ("of a sample 0", ["FE7B000002"], FIRST, ""),
     ("of a sample 255", ["FE18000002"], "cost frame 0: ones 11 zeros 2 renormalisations 1\n", ""),

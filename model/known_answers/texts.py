@@ -105,8 +105,8 @@ def spaced_images():
     spelled = b"P6\n1 1\n65535\n" + bytes(6)
     yield round_trip("RGB of 16 bits with a comment", deep, "", spelled)
     far = b"P6" + b" " * 65537 + b"1 1 255\n\xff\0\0"
-    yield refused("65536 bytes behind the first of white space", far, "60 Header")
-    yield refused("another size behind a comment", RED + b"P6 #\n2 1 255\n" + bytes(6),
+    yield refused("65536 bytes after the first of white space", far, "60 Header")
+    yield refused("another size after a comment", RED + b"P6 #\n2 1 255\n" + bytes(6),
                   "71 FormatChanged")
 
 
@@ -149,13 +149,13 @@ def refused_headers():
 
 
 def refused_pictures():
-    """Pictures that are refused, behind headers that are not."""
+    """Pictures that are refused, after headers that are not."""
     yield refused("parameters of a picture", y4m("W2 H2") + b"FRAME Ip\n" + SIX, "63 FrameLine")
     yield refused("a second line that is none", y4m("W2 H2", SIX) + b"FRAMF\n" + SIX,
                   "63 FrameLine")
     yield refused("a line cut off", y4m("W2 H2") + b"FRAM", "64 FrameTruncated")
     yield refused("a sample too few", y4m("W2 H2", SIX, SIX[:5]), "64 FrameTruncated")
-    yield refused("a byte behind a picture", y4m("W2 H2", SIX) + b"\n", "63 FrameLine")
+    yield refused("a byte after a picture", y4m("W2 H2", SIX) + b"\n", "63 FrameLine")
     yield refused("an image cut off", RED[:-1], "64 FrameTruncated")
     yield refused("a second image of another size", RED + ppm(2, 1, bytes(6)), "71 FormatChanged")
     yield refused("a second image that is none", RED + b"\n", "60 Header")
