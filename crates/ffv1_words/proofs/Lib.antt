@@ -1,4 +1,5 @@
 mod TakenRows
+mod UsualArguments
 mod TakenOrder
 mod TakenNames
 mod TakenLine

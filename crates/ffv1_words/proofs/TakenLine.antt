@@ -16,7 +16,8 @@ use Rattle.ffv1_words.specs.declared.order.Order.{Order}
 use Rattle.ffv1_words.specs.declared.order.Order.TheVariants as order
 use Rattle.ffv1_words.proofs.TakenNames.{bit_named, coder_named, container_named, contexts_named, flag_named, number_named}
 use Rattle.ffv1_words.proofs.TakenOrder.{taken_level}
-use Rattle.ffv1_words.proofs.TakenRows.{either, value_left}
+use Rattle.ffv1_words.proofs.TakenRows.{either}
+use Rattle.ffv1_words.proofs.UsualArguments.{value_left}
 
 -- one of a list of commands
 abbrev IsOneOf : Shape → List Shape → Type 0

@@ -1,7 +1,7 @@
 -- What some events of decoding leave, and a sink with them: they were made, one was refused, or the
 -- sink refused a line.
 use Rattle.std.specs.Prelude.{◌≡◌, ◌⊎◌, ℕ, ◌+◌, ◌*◌, ◌<◌, List, [], ◌∷◌}
-use Rattle.std.specs.Prelude.{◌++◌}
+use Rattle.std.specs.Prelude.{◌++◌, Result, MatchResult}
 use Rattle.std.proofs.Common.{get_or, suc}
 use Rattle.std.specs.List.{flat_map, range_with_len}
 use Rattle.ffv1_wire.specs.Runs.{LineStep, Grows}
@@ -10,14 +10,14 @@ use Rattle.ffv1_record.specs.Accepted.{Accepted}
 use Rattle.ffv1_codec.specs.declared.decode.column.Column.{Column}
 use Rattle.ffv1_codec.specs.declared.fault.CodecFault.TheVariants as fault
 use Rattle.ffv1_codec.specs.declared.fault.FrameFault.{FrameFault}
-use Rattle.ffv1_codec.specs.Picture.{line_bytes, width_bytes}
+use Rattle.ffv1_codec.specs.Picture.{line_bytes, plane_count, width_bytes}
 use Rattle.ffv1_codec.specs.Runs.{Runs, Stops}
 use Rattle.ffv1_codec.specs.Order.{Event, Series, hand_events, line_events}
-use Rattle.ffv1_codec.specs.Order.{series_events, lines_down}
+use Rattle.ffv1_codec.specs.Order.{series_events, series_of, lines_down}
 use Rattle.ffv1_codec.specs.Order.Event.{Hand}
 use Rattle.ffv1_codec.specs.Decoding.{State, StepsBy, FaultsWith, fault_in, top_of}
 use Rattle.ffv1_codec.specs.Internal.Stands.{window}
-use Rattle.ffv1_codec.specs.Internal.Tied.{AreTold, TiedColumns, TiedPlanes}
+use Rattle.ffv1_codec.specs.Internal.Tied.{AreTold, RowSlices, TiedColumns, TiedPlanes}
 use Rattle.ffv1_codec.specs.Internal.Tied.{row_slices, rolling_lines, plane_group}
 
 -- the lines that are handed over next stand in a line of output, in bytes
@@ -35,6 +35,10 @@ pub record Kept (s t : State) : Type 0 where
 abbrev pub series_at : Configuration → ℕ → ℕ → ℕ → Series
 series_at c r first count =
     record { planes = range_with_len first count; height = lines_down c first r }
+
+-- what is decoded of the planes of row r
+abbrev pub planes_events : Configuration → ℕ → List Event
+planes_events c r = flat_map (series_events c r) (series_of c r)
 
 -- the fault of a line that the sink refused
 abbrev pub sink_fault : Configuration → ℕ → ℕ → ℕ → FrameFault
@@ -121,3 +125,16 @@ module _ {S : Type 0} (takes refuses : LineStep S) (a : Accepted) (coded : ℕ �
           (rolling_lines two one one) state
       pub kept : Kept s state
       pub grows : Grows takes initial state.lines now
+
+-- the planes of row r are decoded, of columns and states with what is known of them before, and
+-- after; a sink has taken the lines, or what stopped it is known
+abbrev pub DecodesPlanes : {S : Type 0} → LineStep S → LineStep S → Accepted → ℕ → List ℕ →
+    RowSlices → RowSlices → S → S → Result (Unit {0}) FrameFault → Type 0
+DecodesPlanes {S = S} takes refuses a r payload old new before after result =
+    (coded : ℕ → List ℕ) (initial : S) (s : State) → TiedColumns a coded r 0 payload old s →
+    Grows takes initial s.lines before →
+    MatchResult result
+    (λ _. Decoded takes refuses a coded initial r (plane_count a.configuration) payload
+    (planes_events a.configuration r) new.columns new.states after s)
+    (λ f. FailsIn takes refuses a coded initial r new.columns (planes_events a.configuration r) f
+    after s)

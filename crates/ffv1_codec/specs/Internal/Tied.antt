@@ -7,7 +7,7 @@ use Rattle.ffv1_range.specs.Table.{Table}
 use Rattle.ffv1_plane.specs.Quantisation.{Set}
 use Rattle.ffv1_record.specs.Configuration.{Configuration}
 use Rattle.ffv1_record.specs.Accepted.{Accepted, IsAccepted}
-use Rattle.ffv1_record.specs.Held.{classes_of}
+use Rattle.ffv1_record.specs.Held.{classes_of, planes_of}
 use Rattle.ffv1_record.specs.Sets.{most_contexts}
 use Rattle.ffv1_slice.specs.Grid.{division_of}
 use Rattle.ffv1_line.specs.Cell.{Rolls}
@@ -16,7 +16,7 @@ use Rattle.ffv1_codec.specs.declared.decode.parts.Frame.{Frame}
 use Rattle.ffv1_codec.specs.declared.fault.CodecFault.TheVariants as fault
 use Rattle.ffv1_codec.specs.declared.fault.FrameFault.{FrameFault}
 use Rattle.ffv1_codec.specs.Overread.{IsWithin, IsOverread}
-use Rattle.ffv1_codec.specs.Picture.{plane, plane_count}
+use Rattle.ffv1_codec.specs.Picture.{plane, plane_count, width_bytes}
 use Rattle.ffv1_codec.specs.SliceList.{bits_of}
 use Rattle.ffv1_codec.specs.Runs.{Runs, Stops}
 use Rattle.ffv1_codec.specs.Order.{Event, column_events}
@@ -29,6 +29,22 @@ use Rattle.ffv1_line.specs.declared.cell.rows.RollingRows.{RollingRows}
 -- how many states a slice has
 abbrev pub slots_in : Configuration → ℕ
 slots_in c = classes_of c.chroma_planes c.extra_plane * most_contexts c.sets * 32
+
+-- how many states a row of slices has
+abbrev pub row_slots : Configuration → ℕ
+row_slots c = c.columns * slots_in c
+
+-- how many samples the lines have of planes that are coded together, and in how many bytes they are
+-- handed over
+abbrev pub line_length : Configuration → ℕ
+line_length c = planes_of c.colour c.extra_plane * c.width
+
+abbrev pub output_length : Configuration → ℕ
+output_length c = planes_of c.colour c.extra_plane * width_bytes c
+
+-- a line of planes, each as wide as the picture, has all samples of the plane of this number
+abbrev pub HasPlane : Configuration → ℕ → ℕ → Type 0
+HasPlane c index long = index * c.width + c.width ≤ long
 
 -- what is computed of a configuration once
 pub record IsFrame {A : Type 0} (f : Frame A) : Type 0 where

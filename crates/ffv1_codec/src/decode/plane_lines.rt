@@ -8,7 +8,7 @@ ghost use Rattle.ffv1_codec.specs.SliceList.{bits_of};
 ghost use Rattle.ffv1_codec.specs.OwnFaults.{IsOwn};
 ghost use Rattle.ffv1_codec.specs.Order.{lines_down, column_events};
 ghost use Rattle.ffv1_codec.specs.Decoding.{State};
-ghost use Rattle.ffv1_codec.specs.Internal.Tied.{IsFrame, AreOpen, slots_in, TiedColumns};
+ghost use Rattle.ffv1_codec.specs.Internal.Tied.{IsFrame, AreOpen, row_slots, TiedColumns};
 ghost use Rattle.ffv1_codec.specs.Internal.Tied.{TiedPlanes, PlanesRead, Stopped, row_slices};
 ghost use Rattle.ffv1_codec.specs.Internal.Tied.{rolling_lines, plane_group};
 
@@ -47,8 +47,7 @@ pub(crate) fn read_planes<W: LineWord, A: Allocator>(
         ≤ length above.now.one.now }
     requires cur_long { line.now.count * frame.now.checked.now.configuration.width
         ≤ length cur.old }
-    requires room { length states.old ≡ frame.now.checked.now.configuration.columns
-        * slots_in frame.now.checked.now.configuration }
+    requires room { length states.old ≡ row_slots frame.now.checked.now.configuration }
     requires held { AllHeld frame.now.checked.now.table states.old }
     ensures exact { (coded : ℕ → List ℕ) (next : ℕ) (s : State) →
         let a = frame.now.checked.now in

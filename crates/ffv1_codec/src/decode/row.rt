@@ -2,24 +2,24 @@
 
 ghost use Rattle.std.specs.Prelude.{◌≡◌, ℕ, ◌+◌, ◌*◌, ◌≤◌, ◌<◌, List, None, IsSome, MatchResult};
 ghost use Rattle.std.specs.Prelude.{OnOk, length};
-ghost use Rattle.std.specs.List.{flat_map, range_with_len};
+ghost use Rattle.std.specs.List.{range_with_len};
 ghost use Rattle.ffv1_range.specs.Symbols.{AllHeld};
 ghost use Rattle.ffv1_wire.specs.Runs.{Grows};
-ghost use Rattle.ffv1_record.specs.Held.{planes_of};
 ghost use Rattle.ffv1_codec.specs.Picture.{plane_count, width_bytes};
 ghost use Rattle.ffv1_codec.specs.SliceList.{bits_of};
-ghost use Rattle.ffv1_codec.specs.Order.{lines_down, line_events, series_of, series_events};
+ghost use Rattle.ffv1_codec.specs.Order.{lines_down, line_events, series_events};
 ghost use Rattle.ffv1_codec.specs.Decoding.{State};
-ghost use Rattle.ffv1_codec.specs.Internal.Tied.{IsFrame, AreOpen, column_at, slots_in};
+ghost use Rattle.ffv1_codec.specs.Internal.Tied.{IsFrame, AreOpen, column_at, line_length};
 ghost use Rattle.ffv1_codec.specs.Internal.Tied.{TiedColumns, TiedPlanes, row_slices};
-ghost use Rattle.ffv1_codec.specs.Internal.Tied.{rolling_lines, plane_group};
+ghost use Rattle.ffv1_codec.specs.Internal.Tied.{output_length, rolling_lines, row_slots};
+ghost use Rattle.ffv1_codec.specs.Internal.Tied.{plane_group};
 ghost use Rattle.ffv1_codec.specs.Internal.Opened.{IsCutOf, coded_by};
 ghost use Rattle.ffv1_codec.specs.Internal.Buffers.{HoldBits, KeepsSlices, KeepsLengths};
 ghost use Rattle.ffv1_codec.specs.Internal.Buffers.{capacity_of_lines, length_of_lines};
 ghost use Rattle.ffv1_codec.specs.Internal.Finished.{IsTogether};
 ghost use Rattle.ffv1_codec.specs.Internal.Progress.{FailsIn, LineDecoded, SeriesDecoded};
 ghost use Rattle.ffv1_codec.specs.OwnFaults.{CountsSink};
-ghost use Rattle.ffv1_codec.specs.Internal.Progress.{series_at, Decoded};
+ghost use Rattle.ffv1_codec.specs.Internal.Progress.{DecodesPlanes, series_at};
 ghost use Rattle.ffv1_codec.specs.Internal.Rows.{IsBetween, RowDecoded, open_events};
 
 use crate::decode::buffers::{Buffers, Lines, Slices};
@@ -72,8 +72,7 @@ fn decode_whole_line<W: FinishedWord, A: Allocator, S: LineSink>(
         * frame.now.checked.now.configuration.width }
     requires out_long { length out.old ≡ line.now.count
         * width_bytes frame.now.checked.now.configuration }
-    requires room { length slices.old.states.items ≡ frame.now.checked.now.configuration.columns
-        * slots_in frame.now.checked.now.configuration }
+    requires room { length slices.old.states.items ≡ row_slots frame.now.checked.now.configuration }
     requires held { AllHeld frame.now.checked.now.table slices.old.states.items }
     ensures exact { (coded : ℕ → List ℕ) (next : ℕ) (initial : S) (s : State) →
         let a = frame.now.checked.now in
@@ -137,8 +136,7 @@ fn decode_series<W: FinishedWord, A: Allocator, S: LineSink>(
         frame.now.checked.now.configuration.width) }
     requires out_long { length out.old ≡ planes.now.count *
         width_bytes frame.now.checked.now.configuration }
-    requires room { length slices.old.states.items ≡ frame.now.checked.now.configuration.columns
-        * slots_in frame.now.checked.now.configuration }
+    requires room { length slices.old.states.items ≡ row_slots frame.now.checked.now.configuration }
     requires held { AllHeld frame.now.checked.now.table slices.old.states.items }
     ensures exact { (coded : ℕ → List ℕ) (initial : S) (s : State) →
         let a = frame.now.checked.now in
@@ -202,29 +200,13 @@ fn decode_planes<W: FinishedWord, A: Allocator, S: LineSink>(
     requires many { length slices.old.columns.items ≡ frame.now.checked.now.configuration.columns }
     requires open { AreOpen frame.now.payload.now frame.now.checked.now.configuration.sets
         slices.old.columns.items }
-    requires lines_long { length lines.old
-        ≡ 3 * (planes_of frame.now.checked.now.configuration.colour
-        frame.now.checked.now.configuration.extra_plane
-        * frame.now.checked.now.configuration.width) }
-    requires out_long { length out.old
-        ≡ planes_of frame.now.checked.now.configuration.colour
-        frame.now.checked.now.configuration.extra_plane
-        * width_bytes frame.now.checked.now.configuration }
-    requires room { length slices.old.states.items ≡ frame.now.checked.now.configuration.columns
-        * slots_in frame.now.checked.now.configuration }
+    requires lines_long { length lines.old ≡ 3 * line_length frame.now.checked.now.configuration }
+    requires out_long { length out.old ≡ output_length frame.now.checked.now.configuration }
+    requires room { length slices.old.states.items ≡ row_slots frame.now.checked.now.configuration }
     requires held { AllHeld frame.now.checked.now.table slices.old.states.items }
-    ensures exact { (coded : ℕ → List ℕ) (initial : S) (s : State) →
-        let a = frame.now.checked.now in
-        let events = flat_map (series_events a.configuration row)
-        (series_of a.configuration row) in
-        TiedColumns a coded row 0 frame.now.payload.now (row_slices slices.old.columns.items
-        slices.old.states.items) s →
-        Grows S.takes initial s.lines sink.old →
-        MatchResult result
-        (λ _. Decoded S.takes S.refuses a coded initial row (plane_count a.configuration)
-        frame.now.payload.now events slices.new.columns.items slices.new.states.items sink.new s)
-        (λ f. FailsIn S.takes S.refuses a coded initial row slices.new.columns.items events f
-        sink.new s) }
+    ensures exact { DecodesPlanes S.takes S.refuses frame.now.checked.now row frame.now.payload.now
+        (row_slices slices.old.columns.items slices.old.states.items)
+        (row_slices slices.new.columns.items slices.new.states.items) sink.old sink.new result }
     ensures counted { CountsSink (S.failures sink.old) (S.failures sink.new) result }
     ensures same { KeepsSlices slices.old slices.new }
 {
@@ -269,28 +251,13 @@ fn decode_lines<A: Allocator, S: LineSink>(
     requires open { AreOpen frame.now.payload.now frame.now.checked.now.configuration.sets
         slices.old.columns.items }
     requires lines_long { length_of_lines lines.old
-        ≡ 3 * (planes_of frame.now.checked.now.configuration.colour
-        frame.now.checked.now.configuration.extra_plane
-        * frame.now.checked.now.configuration.width) }
-    requires out_long { length out.old
-        ≡ planes_of frame.now.checked.now.configuration.colour
-        frame.now.checked.now.configuration.extra_plane
-        * width_bytes frame.now.checked.now.configuration }
-    requires room { length slices.old.states.items ≡ frame.now.checked.now.configuration.columns
-        * slots_in frame.now.checked.now.configuration }
+        ≡ 3 * line_length frame.now.checked.now.configuration }
+    requires out_long { length out.old ≡ output_length frame.now.checked.now.configuration }
+    requires room { length slices.old.states.items ≡ row_slots frame.now.checked.now.configuration }
     requires held { AllHeld frame.now.checked.now.table slices.old.states.items }
-    ensures exact { (coded : ℕ → List ℕ) (initial : S) (s : State) →
-        let a = frame.now.checked.now in
-        let events = flat_map (series_events a.configuration row)
-        (series_of a.configuration row) in
-        TiedColumns a coded row 0 frame.now.payload.now (row_slices slices.old.columns.items
-        slices.old.states.items) s →
-        Grows S.takes initial s.lines sink.old →
-        MatchResult result
-        (λ _. Decoded S.takes S.refuses a coded initial row (plane_count a.configuration)
-        frame.now.payload.now events slices.new.columns.items slices.new.states.items sink.new s)
-        (λ f. FailsIn S.takes S.refuses a coded initial row slices.new.columns.items events f
-        sink.new s) }
+    ensures exact { DecodesPlanes S.takes S.refuses frame.now.checked.now row frame.now.payload.now
+        (row_slices slices.old.columns.items slices.old.states.items)
+        (row_slices slices.new.columns.items slices.new.states.items) sink.old sink.new result }
     ensures counted { CountsSink (S.failures sink.old) (S.failures sink.new) result }
     ensures same { KeepsSlices slices.old slices.new }
     ensures long { length_of_lines lines.new ≡ length_of_lines lines.old }
@@ -321,16 +288,11 @@ pub(crate) fn decode_row<A: Allocator, B: Allocator, S: LineSink>(
         buffers.old.slices.columns.items k).parked ≡ None }
     requires bits { HoldBits buffers.old.lines (bits_of frame.now.checked.now.configuration) }
     requires lines_long { length_of_lines buffers.old.lines
-        ≡ 3 * (planes_of frame.now.checked.now.configuration.colour
-        frame.now.checked.now.configuration.extra_plane
-        * frame.now.checked.now.configuration.width) }
+        ≡ 3 * line_length frame.now.checked.now.configuration }
     requires out_long { length buffers.old.out.items
-        ≡ planes_of frame.now.checked.now.configuration.colour
-        frame.now.checked.now.configuration.extra_plane
-        * width_bytes frame.now.checked.now.configuration }
+        ≡ output_length frame.now.checked.now.configuration }
     requires room { length buffers.old.slices.states.items ≡
-        frame.now.checked.now.configuration.columns
-        * slots_in frame.now.checked.now.configuration }
+        row_slots frame.now.checked.now.configuration }
     ensures exact { (initial : S) (s : State) →
         let a = frame.now.checked.now in
         let coded : ℕ → List ℕ = coded_by a frame.now.payload.now spans.now in

@@ -13,7 +13,8 @@ ghost use Rattle.ffv1_codec.specs.Order.Event.{Read};
 ghost use Rattle.ffv1_codec.specs.Decoding.{State, fault_in, left_of, width_in, slice_number};
 ghost use Rattle.ffv1_codec.specs.Internal.Stands.{Stands, SegmentRead, SegmentRefused, window};
 ghost use Rattle.ffv1_codec.specs.Internal.Tied.{KeepsBeside, IsFrame, IsOpen, AreOpen, bytes_in};
-ghost use Rattle.ffv1_codec.specs.Internal.Tied.{slots_in, TiedColumns, TiedLine, SegmentMade};
+ghost use Rattle.ffv1_codec.specs.Internal.Tied.{HasPlane, row_slots, slots_in};
+ghost use Rattle.ffv1_codec.specs.Internal.Tied.{TiedColumns, TiedLine, SegmentMade};
 ghost use Rattle.ffv1_codec.specs.Internal.Tied.{StepMade, Stopped, overread_in, row_slices};
 ghost use Rattle.ffv1_codec.specs.Internal.Tied.{rolling_lines};
 ghost use Rattle.ffv1_line.specs.Coding.{coding_by};
@@ -205,14 +206,13 @@ fn read_on<W: LineWord, A: Allocator>(
     requires many { length columns.old ≡ frame.now.checked.now.configuration.columns }
     requires open { AreOpen frame.now.payload.now frame.now.checked.now.configuration.sets
         columns.old }
-    requires two_long { segment.now.index * frame.now.checked.now.configuration.width
-        + frame.now.checked.now.configuration.width ≤ length above.now.two.now }
-    requires one_long { segment.now.index * frame.now.checked.now.configuration.width
-        + frame.now.checked.now.configuration.width ≤ length above.now.one.now }
-    requires cur_long { segment.now.index * frame.now.checked.now.configuration.width
-        + frame.now.checked.now.configuration.width ≤ length cur.old }
-    requires room { length states.old ≡ frame.now.checked.now.configuration.columns
-        * slots_in frame.now.checked.now.configuration }
+    requires two_long { HasPlane frame.now.checked.now.configuration segment.now.index
+        (length above.now.two.now) }
+    requires one_long { HasPlane frame.now.checked.now.configuration segment.now.index
+        (length above.now.one.now) }
+    requires cur_long { HasPlane frame.now.checked.now.configuration segment.now.index
+        (length cur.old) }
+    requires room { length states.old ≡ row_slots frame.now.checked.now.configuration }
     requires held { AllHeld frame.now.checked.now.table states.old }
     ensures exact { (coded : ℕ → List ℕ) (next : ℕ) (s : State) →
         let a = frame.now.checked.now in
@@ -282,14 +282,13 @@ pub(crate) fn read_at<W: LineWord, A: Allocator>(
     requires many { length columns.old ≡ frame.now.checked.now.configuration.columns }
     requires open { AreOpen frame.now.payload.now frame.now.checked.now.configuration.sets
         columns.old }
-    requires two_long { segment.now.index * frame.now.checked.now.configuration.width
-        + frame.now.checked.now.configuration.width ≤ length above.now.two.now }
-    requires one_long { segment.now.index * frame.now.checked.now.configuration.width
-        + frame.now.checked.now.configuration.width ≤ length above.now.one.now }
-    requires cur_long { segment.now.index * frame.now.checked.now.configuration.width
-        + frame.now.checked.now.configuration.width ≤ length cur.old }
-    requires room { length states.old ≡ frame.now.checked.now.configuration.columns
-        * slots_in frame.now.checked.now.configuration }
+    requires two_long { HasPlane frame.now.checked.now.configuration segment.now.index
+        (length above.now.two.now) }
+    requires one_long { HasPlane frame.now.checked.now.configuration segment.now.index
+        (length above.now.one.now) }
+    requires cur_long { HasPlane frame.now.checked.now.configuration segment.now.index
+        (length cur.old) }
+    requires room { length states.old ≡ row_slots frame.now.checked.now.configuration }
     requires held { AllHeld frame.now.checked.now.table states.old }
     ensures exact { (coded : ℕ → List ℕ) (next : ℕ) (s : State) →
         let a = frame.now.checked.now in

@@ -9,6 +9,7 @@ use Rattle.ffv1_range.specs.Table.{Table}
 use Rattle.ffv1_range.specs.Symbols.{Step, moved_by, decided}
 use Rattle.ffv1_range.specs.Reading.{Reading, At}
 use Rattle.ffv1_range.specs.Writing.{Writing}
+use Rattle.ffv1_range.specs.declared.encoder.batch.Holding.{Holding}
 
 -- where each state that is held goes after a 1, and 256 times where it goes after a 0
 abbrev pub AreEither : ℕ → List ℕ → List ℕ → List ℕ → Type 0
@@ -42,6 +43,11 @@ pub record Reads (t : Table) (old : Reading) (states : List ℕ) (new : Reading)
   pub counts : new.counts ≡ old.counts
   pub moves : after ≡ moved_by t states steps
   pub named : AreStates (decided t states steps)
+
+-- where these steps had been read before, those are read now
+abbrev pub ReadsOn : Table → Reading → List ℕ → Reading → List ℕ → List Step → List Step → Type 0
+ReadsOn t old states new after before steps = (first : Reading) (fresh : List ℕ) →
+    Reads t first fresh old states before → Reads t first fresh new after steps
 
 -- the interval of an encoder whose low end has these bytes and, two places lower, low
 abbrev pub interval_from : List ℕ → ℕ → ℕ → Interval
@@ -91,6 +97,10 @@ interval_held bytes low width held = record {
   width = width;
   count = length bytes + 2 + held;
 }
+
+-- the same of one that holds them in registers
+abbrev pub interval_of_holding : List ℕ → Holding → Interval
+interval_of_holding bytes h = interval_held bytes h.low h.width h.held
 
 -- an encoder of this interval, before its counts
 abbrev pub standing_held : List ℕ → ℕ → ℕ → ℕ → Writing

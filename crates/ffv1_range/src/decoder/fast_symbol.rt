@@ -13,7 +13,7 @@ ghost use Rattle.ffv1_range.specs.Follows.{Follows};
 ghost use Rattle.ffv1_range.specs.Reading.{Reading, summed};
 ghost use Rattle.ffv1_range.specs.Signed.{number_of};
 ghost use Rattle.ffv1_range.specs.Among.{AreNonzeros, sums_among, sums_refused};
-ghost use Rattle.ffv1_range.specs.Internal.Registers.{Reads};
+ghost use Rattle.ffv1_range.specs.Internal.Registers.{Reads, ReadsOn};
 
 use crate::decoder::RangeDecoder;
 use crate::decoder::symbol::{TooLong, choose_slot, decide_slot, get_mantissa};
@@ -48,13 +48,11 @@ fn get_long_exponent(
     states: &mut [u8],
 ) -> Result<u32, TooLong>
     requires { AreHeld table.now states.old }
-    ensures reads { IfOk result (λ e. (first : Reading) (fresh : List ℕ) →
-        Reads table.now first fresh decoder.old states.old (raising 2) →
-        Reads table.now first fresh decoder.new states.new (exponent_steps e)) }
+    ensures reads { IfOk result (λ e. ReadsOn table.now decoder.old states.old decoder.new
+        states.new (raising 2) (exponent_steps e)) }
     ensures small { IfOk result (λ e. e < 31) }
-    ensures refused { OnErr result ((first : Reading) (fresh : List ℕ) →
-        Reads table.now first fresh decoder.old states.old (raising 2) →
-        Reads table.now first fresh decoder.new states.new (raising 31)) }
+    ensures refused { OnErr result (ReadsOn table.now decoder.old states.old decoder.new states.new
+        (raising 2) (raising 31)) }
     ensures held { AreHeld table.now states.new }
 {
     'near: for exponent in 2..10u32 {
@@ -78,19 +76,17 @@ fn get_long(
     states: &mut [u8],
 ) -> Result<Magnitude, TooLong>
     requires { AreHeld table.now states.old }
-    ensures reads { IfOk result (λ m. (first : Reading) (fresh : List ℕ) →
-        Reads table.now first fresh decoder.old states.old (raising 2) →
-        Reads table.now first fresh decoder.new states.new
-        (exponent_steps m.exponent ++ mantissa_steps m.exponent 0 m.number)) }
+    ensures reads { IfOk result (λ m. ReadsOn table.now decoder.old states.old decoder.new
+        states.new (raising 2) (exponent_steps m.exponent
+        ++ mantissa_steps m.exponent 0 m.number)) }
     ensures small { IfOk result (λ m. m.exponent < 31) }
     ensures least { IfOk result (λ m. 2 ^ m.exponent ≤ m.number) }
     ensures most { IfOk result (λ m. m.number < 2 * 2 ^ m.exponent) }
     ensures fits { IfOk result (λ m. m.number < 2 ^ 31) }
     ensures ones { IfOk result (λ m. m.ones ≡ ones_in (mantissa_steps m.exponent 0 m.number)) }
     ensures few { IfOk result (λ m. m.ones ≤ m.exponent) }
-    ensures refused { OnErr result ((first : Reading) (fresh : List ℕ) →
-        Reads table.now first fresh decoder.old states.old (raising 2) →
-        Reads table.now first fresh decoder.new states.new (raising 31)) }
+    ensures refused { OnErr result (ReadsOn table.now decoder.old states.old decoder.new states.new
+        (raising 2) (raising 31)) }
     ensures held { AreHeld table.now states.new }
 {
     match get_long_exponent(decoder, table, states) {

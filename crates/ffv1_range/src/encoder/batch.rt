@@ -14,7 +14,8 @@ ghost use Rattle.ffv1_range.specs.Listed.{step_of, steps_of, of_nine_bits};
 ghost use Rattle.ffv1_range.specs.Puts.{Puts, Grows, MayBeRefused};
 ghost use Rattle.ffv1_range.specs.Writing.{refused_writing};
 ghost use Rattle.ffv1_range.specs.Internal.Registers.{Writes, IsWriting, IsHolding, IsMarked};
-ghost use Rattle.ffv1_range.specs.Internal.Registers.{IsMarkedPart, interval_from, interval_held};
+ghost use Rattle.ffv1_range.specs.Internal.Registers.{IsMarkedPart, interval_from};
+ghost use Rattle.ffv1_range.specs.Internal.Registers.{interval_of_holding};
 ghost use Rattle.ffv1_range.specs.Internal.Registers.{interval_marked, standing, standing_marked};
 ghost use Rattle.ffv1_range.specs.Internal.Registers.{held_in, low_in};
 ghost use Rattle.ffv1_range.specs.declared.encoder.symbol_table.TheConstants.{SYMBOLS, LENGTHS};
@@ -272,9 +273,8 @@ fn release<A: Allocator>(bytes: &mut Vec<u8, A>, holding: &mut Holding) -> Resul
         holding.old.held }
     requires some { 0 < holding.old.held }
     requires few { holding.old.held < 4 }
-    ensures same { OnOk result (
-        interval_held bytes.new.items holding.new.low holding.new.width holding.new.held ≡
-        interval_held bytes.old.items holding.old.low holding.old.width holding.old.held) }
+    ensures same { OnOk result (interval_of_holding bytes.new.items holding.new
+        ≡ interval_of_holding bytes.old.items holding.old) }
     ensures holding { OnOk result (IsHolding bytes.new.items holding.new.low holding.new.width
         holding.new.held) }
     ensures less { OnOk result (holding.new.held + 1 ≡ holding.old.held) }
@@ -300,9 +300,8 @@ fn release_all<A: Allocator>(
     requires holding { IsHolding bytes.old.items holding.old.low holding.old.width
         holding.old.held }
     requires few { holding.old.held < 4 }
-    ensures same { OnOk result (
-        interval_held bytes.new.items holding.new.low holding.new.width holding.new.held ≡
-        interval_held bytes.old.items holding.old.low holding.old.width holding.old.held) }
+    ensures same { OnOk result (interval_of_holding bytes.new.items holding.new
+        ≡ interval_of_holding bytes.old.items holding.old) }
     ensures holding { OnOk result (IsHolding bytes.new.items holding.new.low holding.new.width
         holding.new.held) }
     ensures none { OnOk result (holding.new.held ≡ 0) }

@@ -23,27 +23,22 @@ pub(super) fn holds(rt: &impl Abort, answer: Result<bool, Fail>) -> Result<(), F
 /// Codes rows of 8 bits and one sample, one below the other and the first below zeros.
 fn put_samples(
     encoder: &mut RangeEncoder,
-    table: &StateTable,
-    set: &QuantSet,
+    coding: &Coding<'_, Global>,
     states: &mut [u8],
     samples: &[u16],
 ) -> Result<(), Fault>
-    requires rows { length states.old ≡ contexts_of set.now * 32 }
-    requires held { AllHeld table.now states.old }
-    ensures held { AllHeld table.now states.new }
+    requires bits { coding.now.bits ≡ 8 }
+    requires rows { length states.old ≡ contexts_of coding.now.set * 32 }
+    requires held { AllHeld coding.now.table states.old }
+    ensures held { AllHeld coding.now.table states.new }
 {
-    let coding = Coding {
-        table,
-        set,
-        bits: 8,
-    };
     let (mut two, mut one) = ([0u16], [0u16]);
     'rows: for &sample in samples {
         let above = Above {
             two: &two,
             one: &one,
         };
-        encode_line(encoder, &coding, states, &above, &[sample])?;
+        encode_line(encoder, coding, states, &above, &[sample])?;
         two = one;
         one = [sample];
     }
@@ -54,22 +49,22 @@ fn put_samples(
 /// by the sentinel ending, else by the full one. Also how many decisions they are.
 fn codes(
     alloc: Global,
-    table: &StateTable,
-    set: &QuantSet,
+    coding: &Coding<'_, Global>,
     states: &mut [u8],
     samples: [&[u16]; 2],
     sentinel: bool,
     code: &[u8],
 ) -> Result<(bool, u64), Fault>
-    requires rows { length states.old ≡ contexts_of set.now * 32 }
-    requires fresh { AreHeld table.now (replicate 32 128) }
+    requires bits { coding.now.bits ≡ 8 }
+    requires rows { length states.old ≡ contexts_of coding.now.set * 32 }
+    requires fresh { AreHeld coding.now.table (replicate 32 128) }
 {
     let [first, others] = samples;
     let mut encoder = RangeEncoder::new(alloc);
     reset(states);
-    put_samples(&mut encoder, table, set, states, first)?;
+    put_samples(&mut encoder, coding, states, first)?;
     reset(states);
-    put_samples(&mut encoder, table, set, states, others)?;
+    put_samples(&mut encoder, coding, states, others)?;
     let decisions = encoder.decisions();
     let ended = if sentinel {
         encoder.finish_sentinel()
@@ -199,56 +194,48 @@ fn fill(row: &mut [u16], bits: u8) {
 /// The code of a row below rows of zeros, from fresh states.
 fn code_of(
     alloc: Global,
-    table: &StateTable,
-    set: &QuantSet,
+    coding: &Coding<'_, Global>,
     states: &mut [u8],
     zeros: &[u16],
     row: &[u16],
-    bits: u8,
 ) -> Result<Vec<u8>, Fault>
-    requires bits { (bits ≡ 8) ⊎ (bits ≡ 9) }
     requires some { 0 < length row.now }
     requires zeros { length zeros.now ≡ length row.now }
-    requires rows { length states.old ≡ contexts_of set.now * 32 }
-    requires fresh { AreHeld table.now (replicate 32 128) }
+    requires rows { length states.old ≡ contexts_of coding.now.set * 32 }
+    requires fresh { AreHeld coding.now.table (replicate 32 128) }
 {
     let mut encoder = RangeEncoder::new(alloc);
     reset(states);
-    let coding = Coding { table, set, bits };
     let above = Above {
         two: zeros,
         one: zeros,
     };
-    encode_line(&mut encoder, &coding, states, &above, row)?;
+    encode_line(&mut encoder, coding, states, &above, row)?;
     encoder.finish_sentinel()
 }
 
 /// Whether the code of a row below rows of zeros decodes to it, from fresh states.
 fn decodes_to(
-    table: &StateTable,
-    set: &QuantSet,
+    coding: &Coding<'_, Global>,
     states: &mut [u8],
     bytes: &[u8],
     zeros: &[u16],
     row: &[u16],
     other: &mut [u16],
-    bits: u8,
 ) -> Result<bool, Fault>
-    requires bits { (bits ≡ 8) ⊎ (bits ≡ 9) }
     requires some { 0 < length row.now }
     requires zeros { length zeros.now ≡ length row.now }
     requires other { length other.old ≡ length row.now }
-    requires rows { length states.old ≡ contexts_of set.now * 32 }
-    requires fresh { AreHeld table.now (replicate 32 128) }
+    requires rows { length states.old ≡ contexts_of coding.now.set * 32 }
+    requires fresh { AreHeld coding.now.table (replicate 32 128) }
 {
     let mut decoder = RangeDecoder::new(bytes)?;
     reset(states);
-    let coding = Coding { table, set, bits };
     let above = Above {
         two: zeros,
         one: zeros,
     };
-    let done = decode_line(&mut decoder, &coding, states, &above, other);
+    let done = decode_line(&mut decoder, coding, states, &above, other);
     Ok(done.is_ok() & (&*other == row))
 }
 
@@ -272,8 +259,9 @@ fn comes_back(
     let (row, other) = rows.split_at_mut(width);
     fill(row, bits);
     other.fill(7);
-    let bytes = code_of(alloc, table, set, states, zeros, row, bits)?;
-    decodes_to(table, set, states, &bytes, zeros, row, other, bits)
+    let coding = Coding { table, set, bits };
+    let bytes = code_of(alloc, &coding, states, zeros, row)?;
+    decodes_to(&coding, states, &bytes, zeros, row, other)
 }
 
 /// Rows of 1, 2, 3, 8192 and 65539 samples come back, of 8 and of 9 bits.
@@ -305,44 +293,17 @@ fn codes_each(
     requires rows { length states.old ≡ contexts_of small.now * 32 }
     requires fresh { AreHeld table.now (replicate 32 128) }
 {
-    let one = codes(
-        alloc,
+    let coding = Coding {
         table,
-        small,
-        states,
-        [&[128], &[]],
-        true,
-        b"\x7E\x81\x80",
-    );
-    let shared = codes(
-        alloc,
-        table,
-        small,
-        states,
-        [&[0, 0], &[]],
-        false,
-        b"\xBC\x43",
-    );
-    let apart = codes(
-        alloc,
-        table,
-        small,
-        states,
-        [&[0], &[0]],
-        false,
-        b"\xBF\x40",
-    );
+        set: small,
+        bits: 8,
+    };
+    let one = codes(alloc, &coding, states, [&[128], &[]], true, b"\x7E\x81\x80");
+    let shared = codes(alloc, &coding, states, [&[0, 0], &[]], false, b"\xBC\x43");
+    let apart = codes(alloc, &coding, states, [&[0], &[0]], false, b"\xBF\x40");
     // a flipped difference of 128
     let flipped = b"\xAF\x71\x8D\x7A";
-    let flipped = codes(
-        alloc,
-        table,
-        small,
-        states,
-        [&[0, 5, 133], &[]],
-        true,
-        flipped,
-    );
+    let flipped = codes(alloc, &coding, states, [&[0, 5, 133], &[]], true, flipped);
     let numbers = [Ok((true, 17)), Ok((true, 2)), Ok((true, 2)), Ok((true, 25))];
     assert!(rt; [one, shared, apart, flipped] == numbers);
 }

@@ -259,10 +259,11 @@ fn chooses_by_signs(rt: HostRuntime) {
 
 /// A sample of so many bits has these residuals, plain and flipped, and comes back from each, but
 /// for bits above those.
-fn takes(rt: &impl Abort, pred: i32, sample: u16, bits: u8, plain: i32, flipped: i32, lowest: u16)
+fn takes(rt: &impl Abort, pred: i32, sample: u16, bits: u8, residuals: (i32, i32), lowest: u16)
     requires bits { (bits ≡ 8) ⊎ (bits ≡ 9) }
 {
-    let residuals = (
+    let (plain, flipped) = residuals;
+    let found = (
         residual_of(pred, false, sample, bits),
         residual_of(pred, true, sample, bits),
     );
@@ -270,20 +271,20 @@ fn takes(rt: &impl Abort, pred: i32, sample: u16, bits: u8, plain: i32, flipped:
         sample_from(pred, false, plain, bits),
         sample_from(pred, true, flipped, bits),
     );
-    assert!(rt; (residuals, samples) == ((plain, flipped), (lowest, lowest)));
+    assert!(rt; (found, samples) == (residuals, (lowest, lowest)));
 }
 
 #[test]
 fn takes_residuals(rt: HostRuntime) {
-    takes(&rt, 0, 128, 8, -128, -128, 128);
-    takes(&rt, 128, 0, 8, -128, -128, 0);
-    takes(&rt, 0, 255, 8, -1, 1, 255);
-    takes(&rt, 3, 200, 8, -59, 59, 200);
-    takes(&rt, 0, 256, 9, -256, -256, 256);
-    takes(&rt, 511, 0, 9, 1, -1, 0);
-    takes(&rt, 0, 63, 9, 63, -63, 63);
-    takes(&rt, 65535, 0, 8, 1, -1, 0);
-    takes(&rt, i32::MIN, 65535, 8, -1, 1, 255);
+    takes(&rt, 0, 128, 8, (-128, -128), 128);
+    takes(&rt, 128, 0, 8, (-128, -128), 0);
+    takes(&rt, 0, 255, 8, (-1, 1), 255);
+    takes(&rt, 3, 200, 8, (-59, 59), 200);
+    takes(&rt, 0, 256, 9, (-256, -256), 256);
+    takes(&rt, 511, 0, 9, (1, -1), 0);
+    takes(&rt, 0, 63, 9, (63, -63), 63);
+    takes(&rt, 65535, 0, 8, (1, -1), 0);
+    takes(&rt, i32::MIN, 65535, 8, (-1, 1), 255);
 }
 
 /// How many runs have their last place below `k`.

@@ -8,22 +8,29 @@ use Rattle.ffv1_slice.specs.Grid.{across, down, whole_of}
 use Rattle.ffv1_codec.specs.Picture.{plane, planes_of}
 use Rattle.ffv1_codec.proofs.Lines.{plane_of, all_planes, all_in_depth}
 use Rattle.ffv1_codec.proofs.LinesKept.{planes_long}
+use Rattle.ffv1_codec.proofs.picture.fit.Given.{Over}
+use Rattle.ffv1_codec.proofs.picture.fit.Goals.{After-as_slice-samples}
 use Rattle.ffv1_codec.proofs.picture.fit.Goals as goal
+
+-- what was lent is the plane
+here : (g : Over) (c : After-as_slice-samples g) → plane (planes_of c.args.planes.now)
+    c.loop-plane.plane ≡ c.as_slice-samples.result.now
+here g c =
+    let inside : c.loop-plane.plane < length c.args.planes.now = omega (
+      arith,
+      c.if-planes.false,
+      c.planes-plane-end.ensures,
+      c.planes.ensures,
+    ) in
+    plane_of c.args.planes.now c.loop-plane.plane c.index-planes-plane.result inside
+    c.index-planes-plane.is ∙ sym c.as_slice-samples.ensures.value
 
 pub loop-plane-preserved : goal.loop-plane-preserved
 loop-plane-preserved g c =
     let planes = c.args.planes.now in
     let d = c.args.grid.now in
     let p : ℕ = c.loop-plane.plane in
-    let inside : p < length planes = omega (
-      arith,
-      c.if-planes.false,
-      c.planes-plane-end.ensures,
-      c.planes.ensures,
-    ) in
-    let here : plane (planes_of planes) p ≡ c.as_slice-samples.result.now = plane_of planes p
-    c.index-planes-plane.result inside c.index-planes-plane.is ∙
-    sym c.as_slice-samples.ensures.value in
+    let here = here g (goal.at.loop-plane-preserved g c).After-as_slice-samples in
     let size : length (plane (planes_of planes) p) ≡ sample_bytes d.depth *
     (whole_of (across d p) * whole_of (down d p)) =
     ap length here ∙ c.if-not-has.ensures.yes (search rules) ∙ c.plane_bytes.ensures in
@@ -68,18 +75,9 @@ returns-clause-samples g c = λ _.
 
 pub returns-then-not-are_small-clause-no : goal.returns-then-not-are_small-clause-no
 returns-then-not-are_small-clause-no g c = λ _ fits.
-    let planes = c.args.planes.now in
     let d = c.args.grid.now in
     let p : ℕ = c.loop-plane.plane in
-    let inside : p < length planes = omega (
-      arith,
-      c.if-planes.false,
-      c.planes-plane-end.ensures,
-      c.planes.ensures,
-    ) in
-    let here : plane (planes_of planes) p ≡ c.as_slice-samples.result.now = plane_of planes p
-    c.index-planes-plane.result inside c.index-planes-plane.is ∙
-    sym c.as_slice-samples.ensures.value in
+    let here = here g (goal.at.returns-then-not-are_small-clause-no g c).After-as_slice-samples in
     let deep = c.if-not-are_small.ensures.deep (search rules) in
     let small = fits.small (λ e. deep (c.depth.ensures.value ∙ e)) p in
     let small : AreBelow (2 ^ d.depth) (samples_of d.depth c.as_slice-samples.result.now) =

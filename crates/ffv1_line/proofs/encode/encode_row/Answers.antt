@@ -1,6 +1,6 @@
 -- A row of a cell of 8 or 9 bits, by an encoder that has not failed, by a body of its own for each
 -- depth and each kind of set.
-use Rattle.std.proofs.Common.{◌≡◌, ◌∙◌, length, arith}
+use Rattle.std.proofs.Common.{◌≡◌, ◌∙◌, length, arith, rules}
 use Rattle.ffv1_range.proofs.Growth.{on_err}
 use Rattle.ffv1_line.proofs.Rows.{written_none}
 use Rattle.ffv1_line.proofs.Beside.{written_block, refused_block, counts_block}
@@ -43,23 +43,23 @@ parts-preserved g c =
           c.in_ok-encode_block.ensures.ok;
     }
 
-pub returns-in_err-encode_block-clause-refused : goal.returns-in_err-encode_block-clause-refused
-returns-in_err-encode_block-clause-refused g c =
-    let one_long : length c.above.inside.one.now ≡ length c.args.cur.now = rw (← c.above.view_is) at
-    c.requires.one_long in
-    let bits : c.coding.inside.bits ≡ g.row.BITS = rw (← c.coding.view_is) at c.requires.bits in
-    rw (← c.coding.view_is, ← c.above.view_is, bits)
-    (on_err c.from_residual.result (refused_block _ _ _ _ _ c.parts.from c.min-count.result
-    (omega (arith, c.min-count.ensures)) one_long c.parts.invariant.written
-    c.in_err-encode_block.ensures.refused))
-
-pub returns-in_err-encode_block-clause-kept : goal.returns-in_err-encode_block-clause-kept
-returns-in_err-encode_block-clause-kept g c =
+pub returns-in_err-encode_block : goal.returns-in_err-encode_block
+returns-in_err-encode_block g c =
     let one_long : length c.above.inside.one.now ≡ length c.args.cur.now = rw (← c.above.view_is) at
     c.requires.one_long in
     let bits : c.coding.inside.bits ≡ g.row.BITS = rw (← c.coding.view_is) at c.requires.bits in
     let kept = c.in_err-encode_block.ensures.kept in
     let few = kept.few (omega (arith, c.min-count.ensures)) in
-    rw (← c.coding.view_is, ← c.above.view_is, bits)
-    (on_err c.from_residual.result (counts_block _ _ _ _ _ _ c.parts.from kept.first
-    (omega (arith, few, c.min-count.ensures)) one_long c.parts.invariant.written kept.counted))
+    record {
+      ok = search rules;
+      refused = rw (← c.coding.view_is, ← c.above.view_is, bits)
+          (on_err c.from_residual.result (refused_block _ _ _ _ _ c.parts.from c.min-count.result
+          (omega (arith, c.min-count.ensures)) one_long c.parts.invariant.written
+          c.in_err-encode_block.ensures.refused));
+      held = search rules;
+      err = search rules;
+      kept = rw (← c.coding.view_is, ← c.above.view_is, bits)
+          (on_err c.from_residual.result (counts_block _ _ _ _ _ _ c.parts.from kept.first
+          (omega (arith, few, c.min-count.ensures)) one_long c.parts.invariant.written
+          kept.counted));
+    }

@@ -11,30 +11,28 @@ use Rattle.ffv1_plane.proofs.WideWords.{above_near, below_near, folded_near, tur
 use Rattle.ffv1_plane.proofs.WideWords.{turned_below}
 use Rattle.ffv1_plane.proofs.wide.wide_residual.Goals as goal
 
-pub returns-then-flip-clause-value : goal.returns-then-flip-clause-value
-returns-then-flip-clause-value c =
+pub returns-then-flip : goal.returns-then-flip
+returns-then-flip c =
     let p = predicted_in c.args.bits (around_of c.args.around.now) in
     let is = c.prediction_of-prediction.ensures in
     let same : to_z w32 (of_z w32 c.fold_of.result) ≡ c.fold_of.result = omega (arith, ints) in
-    same ∙ c.fold_of.ensures.value ∙ folded_near c.args.bits _ _ (omega (arith, c.requires.few))
-    (above_near p c.prediction_of-prediction.result c.args.sample is.0 is.1 (omega arith))
-    ∙ ap (folded c.args.bits) (turned_above p c.args.sample c.args.flip c.if-flip.true)
+    record {
+      value = same ∙ c.fold_of.ensures.value
+          ∙ folded_near c.args.bits _ _ (omega (arith, c.requires.few))
+          (above_near p c.prediction_of-prediction.result c.args.sample is.0 is.1 (omega arith))
+          ∙ ap (folded c.args.bits) (turned_above p c.args.sample c.args.flip c.if-flip.true);
+      size = rw same c.fold_of.ensures.size;
+    }
 
-pub returns-then-flip-clause-size : goal.returns-then-flip-clause-size
-returns-then-flip-clause-size c =
-    let same : to_z w32 (of_z w32 c.fold_of.result) ≡ c.fold_of.result = omega (arith, ints) in
-    rw same c.fold_of.ensures.size
-
-pub returns-clause-value : goal.returns-clause-value
-returns-clause-value c =
+pub returns : goal.returns
+returns c =
     let p = predicted_in c.args.bits (around_of c.args.around.now) in
     let is = c.prediction_of-prediction.ensures in
     let same : to_z w32 (of_z w32 c.fold_of-2.result) ≡ c.fold_of-2.result = omega (arith, ints) in
-    same ∙ c.fold_of-2.ensures.value ∙ folded_near c.args.bits _ _ (omega (arith, c.requires.few))
-    (below_near p c.prediction_of-prediction.result c.args.sample is.0 is.1 (omega arith))
-    ∙ ap (folded c.args.bits) (turned_below p c.args.sample c.args.flip c.if-flip.false)
-
-pub returns-clause-size : goal.returns-clause-size
-returns-clause-size c =
-    let same : to_z w32 (of_z w32 c.fold_of-2.result) ≡ c.fold_of-2.result = omega (arith, ints) in
-    rw same c.fold_of-2.ensures.size
+    record {
+      value = same ∙ c.fold_of-2.ensures.value
+          ∙ folded_near c.args.bits _ _ (omega (arith, c.requires.few))
+          (below_near p c.prediction_of-prediction.result c.args.sample is.0 is.1 (omega arith))
+          ∙ ap (folded c.args.bits) (turned_below p c.args.sample c.args.flip c.if-flip.false);
+      size = rw same c.fold_of-2.ensures.size;
+    }

@@ -11,21 +11,10 @@ overflow_sub-result c =
     let bits = number_bits c.args.number c.requires.positive c.requires.small in
     omega arith
 
-pub returns-clause-ones : goal.returns-clause-ones
-returns-clause-ones c =
-    let bits = number_bits c.args.number c.requires.positive c.requires.small in
-    omega arith
-
-pub returns-clause-few : goal.returns-clause-few
-returns-clause-few c =
-    let bits = number_bits c.args.number c.requires.positive c.requires.small in
-    let most = mantissa_ones (exponent c.args.number) 0 c.args.number in
-    omega arith
-
-pub returns-clause-most : goal.returns-clause-most
-returns-clause-most c =
+pub returns : goal.returns
+returns c =
     let bits = number_bits c.args.number c.requires.positive c.requires.small in
     let most = mantissa_ones (exponent c.args.number) 0 c.args.number in
     let is = exponent_of c.args.number c.requires.positive c.requires.small in
     let short = is.small in
-    omega arith
+    record { ones = omega arith; few = omega arith; most = omega arith }

@@ -75,20 +75,20 @@ fn slice_of_one(
     Ok((bytes, decisions))
 }
 
-/// A slice of one residual has these bytes, and so many decisions.
+/// A slice, by its number, of one residual has these bytes, and so many decisions.
 fn gives(
     rt: &impl Abort,
     alloc: Global,
     checked: &Checked,
-    number: u32,
-    residual: i32,
+    slice: (u32, i32),
     bytes: &[u8],
     decisions: u64,
 ) -> Result<(), Fail>
-    requires slice { IsSlice checked.now number }
+    requires slice { IsSlice checked.now slice.0 }
     requires sets { 0 < length checked.now.configuration.sets }
-    requires size { unsigned_abs residual < 2 ^ 31 }
+    requires size { unsigned_abs slice.1 < 2 ^ 31 }
 {
+    let (number, residual) = slice;
     let (found, count) = slice_of_one(alloc, checked, number, residual)?;
     assert!(rt; found.as_slice() == bytes);
     assert!(rt; count == decisions);
@@ -100,10 +100,10 @@ fn samples(rt: &impl Abort, alloc: Global, one: &Checked) -> Result<(), Fail>
     requires slice { IsSlice one.now 0 }
     requires sets { 0 < length one.now.configuration.sets }
 {
-    gives(rt, alloc, one, 0, 0, &[0xfe, 0x7b, 0, 0, 2], 11)?;
-    gives(rt, alloc, one, 0, -1, &[0xfe, 0x18, 0, 0, 2], 13)?;
+    gives(rt, alloc, one, (0, 0), &[0xfe, 0x7b, 0, 0, 2], 11)?;
+    gives(rt, alloc, one, (0, -1), &[0xfe, 0x18, 0, 0, 2], 13)?;
     let long = [0xfe, 0x79, 0xf6, 0x85, 0, 0, 4];
-    gives(rt, alloc, one, 0, -128, &long, 27)
+    gives(rt, alloc, one, (0, -128), &long, 27)
 }
 
 #[test]
@@ -116,7 +116,7 @@ fn one_sample(rt: HostRuntime) -> Result<(), Fail> {
 fn one_sample_with_parity(rt: HostRuntime) -> Result<(), Fail> {
     let one = mono(rt.alloc(), 1, 1, 1, true)?;
     let bytes = [0xfe, 0x7b, 0, 0, 2, 0, 0x94, 0x8c, 0x13, 0x3c];
-    gives(&rt, rt.alloc(), &one, 0, 0, &bytes, 11)
+    gives(&rt, rt.alloc(), &one, (0, 0), &bytes, 11)
 }
 
 #[test]
@@ -140,8 +140,8 @@ fn both(rt: &impl Abort, alloc: Global, two: &Checked) -> Result<(), Fail>
     requires second { IsSlice two.now 1 }
     requires sets { 0 < length two.now.configuration.sets }
 {
-    gives(rt, alloc, two, 0, 0, &[0xfe, 0x7b, 0, 0, 2], 11)?;
-    gives(rt, alloc, two, 1, 0, &[0x3f, 0x76, 0, 0, 2], 11)
+    gives(rt, alloc, two, (0, 0), &[0xfe, 0x7b, 0, 0, 2], 11)?;
+    gives(rt, alloc, two, (1, 0), &[0x3f, 0x76, 0, 0, 2], 11)
 }
 
 #[test]

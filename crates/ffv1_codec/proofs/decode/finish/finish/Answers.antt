@@ -6,7 +6,7 @@ use Rattle.std.proofs.lemmas.List.{length-take-le}
 use Rattle.ffv1_samples.specs.Samples.{bytes_of, sample_bytes}
 use Rattle.ffv1_slice.specs.Grid.{Division}
 use Rattle.ffv1_record.specs.Configuration.{Configuration, is_rct}
-use Rattle.ffv1_codec.specs.Picture.{plane_width, width_bytes}
+use Rattle.ffv1_codec.specs.Picture.{plane_count, plane_width, width_bytes}
 use Rattle.ffv1_codec.proofs.LineFinished.{together_one, together_all, rct_is, wide_none, all_small}
 use Rattle.ffv1_codec.proofs.LineFinished.{samples_finished, colours_missing, colours_finished}
 use Rattle.ffv1_codec.proofs.WideLines.{rct_bits}
@@ -59,8 +59,20 @@ module _ (g : Over) (c : After-sample_bytes g) where
       (length c.args.out.now) c.args.line.now.count same narrow one c.requires.out
 
 -- lines of RCT
-yes : (g : Over) (c : In-Rct g) → is_rct c.args.frame.now.checked.now.configuration.colour ≡ true
-yes g c = ap (λ (z : Configuration). is_rct z.colour) c.config.ensures.value ∙ ap is_rct c.in-Rct.is
+module _ (g : Over) (c : In-Rct g) where
+  yes : is_rct c.args.frame.now.checked.now.configuration.colour ≡ true
+  yes = ap (λ (z : Configuration). is_rct z.colour) c.config.ensures.value ∙ ap is_rct c.in-Rct.is
+
+  all : (c.args.line.now.first ≡ 0) × (c.args.line.now.count ≡ plane_count
+      c.args.frame.now.checked.now.configuration)
+  all = together_all c.args.frame.now.checked.now.configuration c.args.line.now.first
+      c.args.line.now.count yes c.requires.together
+
+  flat : (c.args.frame.now.checked.now.configuration.chroma_planes ≡ true) ×
+      (c.args.frame.now.checked.now.configuration.log2_h ≡ 0) ×
+      (c.args.frame.now.checked.now.configuration.log2_v ≡ 0)
+  flat = c.accepted_configuration_has_sound_parts.ensures.rct _ _ c.requires.frame.accepted
+      (rct_is _ yes)
 
 pub slice_bounds-copy_to-end : goal.slice_bounds-copy_to-end
 slice_bounds-copy_to-end g c =
@@ -101,11 +113,9 @@ finish_colours-requires-clause-shallow g c =
 pub colourless-requires-clause-x : goal.colourless-requires-clause-x
 colourless-requires-clause-x g c =
     let a = c.args.frame.now.checked.now in
-    let yes = yes g (goal.at.colourless-requires-clause-x g c).In-Rct in
-    let parts = c.accepted_configuration_has_sound_parts.ensures.rct a.configuration a.table
-    c.requires.frame.accepted (rct_is a.configuration.colour yes) in
+    let flat = flat g (goal.at.colourless-requires-clause-x g c).In-Rct in
     let wide : plane_width a.configuration 0 ≡ a.configuration.width = wide_none a.configuration 0
-    parts.1 in
+    flat.1 in
     let end = c.in-Err.ensures.err in
     omega (arith, wide, end.inside)
 
@@ -114,25 +124,22 @@ returns-in-Ok-clause-exact g c = λ coded s stand.
     let a = c.args.frame.now.checked.now in
     let conf = a.configuration in
     let line = c.args.line.now in
-    let yes = yes g (goal.at.returns-in-Ok-clause-exact g c).In-Rct in
-    let all = together_all conf line.first line.count yes c.requires.together in
-    let parts = c.accepted_configuration_has_sound_parts.ensures.rct conf a.table
-    c.requires.frame.accepted (rct_is conf.colour yes) in
+    let here = (goal.at.returns-in-Ok-clause-exact g c).In-Rct in
     let long : length c.finish_colours.new.out ≡ line.count * width_bytes conf =
     c.finish_colours.auto.out ∙ c.requires.out in
-    colours_finished conf line.first line.count line.y c.args.samples.now s stand yes parts.1 all.0
-    all.1 parts.0 c.finish_colours.new.out long c.are_bytes.ensures c.in-Ok.ensures.ok
+    colours_finished conf line.first line.count line.y c.args.samples.now s stand (yes g here)
+    (flat g here).1 (all g here).0
+    (all g here).1 (flat g here).0 c.finish_colours.new.out long c.are_bytes.ensures
+    c.in-Ok.ensures.ok
 
 pub returns-in-Err-clause-exact : goal.returns-in-Err-clause-exact
 returns-in-Err-clause-exact g c = λ coded s stand.
     let a = c.args.frame.now.checked.now in
     let conf = a.configuration in
     let line = c.args.line.now in
-    let yes = yes g (goal.at.returns-in-Err-clause-exact g c).In-Rct in
-    let all = together_all conf line.first line.count yes c.requires.together in
-    let parts = c.accepted_configuration_has_sound_parts.ensures.rct conf a.table
-    c.requires.frame.accepted (rct_is conf.colour yes) in
-    let missing = colours_missing conf line.first line.count line.y c.args.samples.now s stand yes
-    parts.1 all.0 all.1 parts.0 c.in-Err.x c.in-Err.ensures.err in
+    let here = (goal.at.returns-in-Err-clause-exact g c).In-Rct in
+    let missing = colours_missing conf line.first line.count line.y c.args.samples.now s stand
+    (yes g here)
+    (flat g here).1 (all g here).0 (all g here).1 (flat g here).0 c.in-Err.x c.in-Err.ensures.err in
     let f = c.colourless.ensures.fault in
     (c.in-Err.x, f.0, missing, f.1, f.2, refl)

@@ -24,6 +24,12 @@ module _ (g : Over) (c : After-accepted_configuration_has_sound_parts g) where
   all = together_all c.args.frame.now.checked.now.configuration c.args.line.now.first
       c.args.line.now.count wide.0 c.requires.together
 
+  flat : (c.args.frame.now.checked.now.configuration.chroma_planes ≡ true) ×
+      (c.args.frame.now.checked.now.configuration.log2_h ≡ 0) ×
+      (c.args.frame.now.checked.now.configuration.log2_v ≡ 0)
+  flat = c.accepted_configuration_has_sound_parts.ensures.rct _ _ c.requires.frame.accepted
+      (rct_is _ wide.0)
+
 pub finish_wide_colours-requires-clause-rct : goal.finish_wide_colours-requires-clause-rct
 finish_wide_colours-requires-clause-rct g c = (wide g
     (goal.at.finish_wide_colours-requires-clause-rct g
@@ -59,13 +65,9 @@ pub colourless-requires-clause-x : goal.colourless-requires-clause-x
 colourless-requires-clause-x g c =
     let a = c.args.frame.now.checked.now in
     let conf = a.configuration in
-    let line = c.args.line.now in
     let here = (goal.at.colourless-requires-clause-x g
     c).After-accepted_configuration_has_sound_parts in
-    let yes = (wide g here).0 in
-    let parts = c.accepted_configuration_has_sound_parts.ensures.rct conf a.table
-    c.requires.frame.accepted (rct_is conf.colour yes) in
-    let wide : plane_width conf 0 ≡ conf.width = wide_none conf 0 parts.1 in
+    let wide : plane_width conf 0 ≡ conf.width = wide_none conf 0 (flat g here).1 in
     let end = c.in-Err.ensures.err in
     omega (arith, wide, end.inside)
 
@@ -76,14 +78,12 @@ returns-in-Ok-clause-exact g c = λ coded s stand.
     let line = c.args.line.now in
     let here = (goal.at.returns-in-Ok-clause-exact g
     c).After-accepted_configuration_has_sound_parts in
-    let yes = (wide g here).0 in
-    let all = all g here in
-    let parts = c.accepted_configuration_has_sound_parts.ensures.rct conf a.table
-    c.requires.frame.accepted (rct_is conf.colour yes) in
     let long : length c.finish_wide_colours.new.out ≡ line.count * width_bytes conf =
     c.finish_wide_colours.auto.out ∙ c.requires.out in
-    colours_finished conf line.first line.count line.y c.args.samples.now s stand yes parts.1 all.0
-    all.1 parts.0 c.finish_wide_colours.new.out long c.are_bytes.ensures c.in-Ok.ensures.ok
+    colours_finished conf line.first line.count line.y c.args.samples.now s stand (wide g here).0
+    (flat g here).1 (all g here).0
+    (all g here).1 (flat g here).0 c.finish_wide_colours.new.out long c.are_bytes.ensures
+    c.in-Ok.ensures.ok
 
 pub returns-in-Err-clause-exact : goal.returns-in-Err-clause-exact
 returns-in-Err-clause-exact g c = λ coded s stand.
@@ -92,11 +92,8 @@ returns-in-Err-clause-exact g c = λ coded s stand.
     let line = c.args.line.now in
     let here = (goal.at.returns-in-Err-clause-exact g
     c).After-accepted_configuration_has_sound_parts in
-    let yes = (wide g here).0 in
-    let all = all g here in
-    let parts = c.accepted_configuration_has_sound_parts.ensures.rct conf a.table
-    c.requires.frame.accepted (rct_is conf.colour yes) in
-    let missing = colours_missing conf line.first line.count line.y c.args.samples.now s stand yes
-    parts.1 all.0 all.1 parts.0 c.in-Err.x c.in-Err.ensures.err in
+    let missing = colours_missing conf line.first line.count line.y c.args.samples.now s stand
+    (wide g here).0
+    (flat g here).1 (all g here).0 (all g here).1 (flat g here).0 c.in-Err.x c.in-Err.ensures.err in
     let f = c.colourless.ensures.fault in
     (c.in-Err.x, f.0, missing, f.1, f.2, refl)

@@ -6,7 +6,17 @@ use Rattle.ffv1_codec.specs.Picture.{plane_count, width_bytes}
 use Rattle.ffv1_codec.specs.Internal.Finished.{AreMade, Colouring, IsFirstWithout, colouring_of}
 use Rattle.ffv1_codec.specs.Internal.Finished.{words_colouring}
 use Rattle.ffv1_codec.proofs.WideLines.{wide_colouring}
+use Rattle.ffv1_codec.proofs.decode.finish.finish_wide_colours.Given.{Over}
+use Rattle.ffv1_codec.proofs.decode.finish.finish_wide_colours.Goals.{After-config-config}
 use Rattle.ffv1_codec.proofs.decode.finish.finish_wide_colours.Goals as goal
+
+-- the colouring is that of words of 16 bits
+coloured : (g : Over) (c : After-config-config g) → colouring_of
+    c.args.frame.now.checked.now.configuration ≡ words_colouring 16
+    c.config-config.result.now.width false c.config-config.result.now.extra_plane
+coloured g c = wide_colouring c.args.frame.now.checked.now.configuration c.requires.deep ∙
+    ap (λ (z : Configuration). words_colouring 16 z.width false z.extra_plane)
+    c.config-config.ensures.value
 
 pub wide_colours-requires-clause-out : goal.wide_colours-requires-clause-out
 wide_colours-requires-clause-out g c =
@@ -21,10 +31,7 @@ wide_colours-requires-clause-out g c =
 pub returns-clause-ok : goal.returns-clause-ok
 returns-clause-ok g c =
     let conf = c.args.frame.now.checked.now.configuration in
-    let r = c.config-config.result.now in
-    let same : colouring_of conf ≡ words_colouring 16 r.width false r.extra_plane =
-    wide_colouring conf c.requires.deep ∙ ap (λ (z : Configuration). words_colouring 16 z.width
-    false z.extra_plane) c.config-config.ensures.value in
+    let same = coloured g (goal.at.returns-clause-ok g c).After-config-config in
     subst (λ d. OnOk c.wide_colours.result (AreMade (colouring_of conf) c.args.samples.now
     (samples_of d c.wide_colours.new.out))) (sym c.requires.deep)
     (subst (λ (k : Colouring). OnOk c.wide_colours.result
@@ -33,10 +40,6 @@ returns-clause-ok g c =
 
 pub returns-clause-err : goal.returns-clause-err
 returns-clause-err g c =
-    let conf = c.args.frame.now.checked.now.configuration in
-    let r = c.config-config.result.now in
-    let same : colouring_of conf ≡ words_colouring 16 r.width false r.extra_plane =
-    wide_colouring conf c.requires.deep ∙ ap (λ (z : Configuration). words_colouring 16 z.width
-    false z.extra_plane) c.config-config.ensures.value in
+    let same = coloured g (goal.at.returns-clause-err g c).After-config-config in
     subst (λ (k : Colouring). IfErr c.wide_colours.result (IsFirstWithout k c.args.samples.now))
     (sym same) c.wide_colours.ensures.err

@@ -6,7 +6,22 @@ use Rattle.std.proofs.lemmas.Result.{err_from_is_err_and}
 use Rattle.ffv1_codec.specs.Internal.Opened.{coded_by}
 use Rattle.ffv1_codec.specs.Internal.Tied.{AreTold}
 use Rattle.ffv1_codec.proofs.RowsDecodes.{between, rows_more, rows_fail, rows_end}
+use Rattle.ffv1_codec.proofs.decode.frame.decode_rows.Given.{Over}
+use Rattle.ffv1_codec.proofs.decode.frame.decode_rows.Goals.{After-rows-row-end, After-close}
 use Rattle.ffv1_codec.proofs.decode.frame.decode_rows.Goals as goal
+
+-- there are as many rows as the configuration has
+rows_are : (g : Over) (c : After-rows-row-end g) → c.rows-row-end.result ≡
+    c.args.checked.now.configuration.rows
+rows_are g c = rw (c.new-frame.ensures.frame.grid, c.new-frame.ensures.checked) at
+    c.rows-row-end.ensures
+
+-- the columns that were closed are those of the buffers
+closed : (g : Over) (c : After-close g) → take c.loop-row.buffers.slices.columns.len
+    (c.close.new.columns ++ drop (length c.close.new.columns)
+    c.loop-row.buffers.slices.columns.items) ≡ c.close.new.columns
+closed g c = with_items_is c.loop-row.buffers.slices.columns c.close.new.columns
+    (c.close.auto.columns ∙ c.deref_mut.ensures.len)
 
 pub returns-in_err-decoded-clause-exact : goal.returns-in_err-decoded-clause-exact
 returns-in_err-decoded-clause-exact g c =
@@ -14,32 +29,30 @@ returns-in_err-decoded-clause-exact g c =
     let coded : ℕ → List ℕ = coded_by a c.args.payload.now c.args.spans.now in
     let takes = g.S.LineSink.takes in
     let refuses = g.S.LineSink.refuses in
-    let rows_are : c.rows-row-end.result ≡ a.configuration.rows =
-    rw (c.new-frame.ensures.frame.grid, c.new-frame.ensures.checked) at
-    c.rows-row-end.ensures in
     let done = c.loop-row.invariant.rows in
-    let B = between takes refuses a coded c.args.sink.now c.loop-row.row c.loop-row.tally
-    c.loop-row.first c.loop-row.sink done in
     let exact = rw (c.new-frame.ensures.checked, c.new-frame.ensures.payload) at
     c.in_err-decoded.ensures.exact in
-    let inside : c.loop-row.row < a.configuration.rows = omega (arith, rows_are) in
+    let inside : c.loop-row.row < a.configuration.rows =
+    omega (
+      arith,
+      rows_are g (goal.at.returns-in_err-decoded-clause-exact g
+          c).After-rows-row-end,
+    ) in
     let p = err_from_is_err_and c.from_residual.result c.from_residual.ensures.1 in
     rw (p.1, p.2) (rows_fail takes refuses a coded c.args.sink.now c.loop-row.row c.loop-row.tally
     c.loop-row.first c.loop-row.sink done c.decode_row-decoded.new.buffers.slices.columns.items
     c.add_up.result (λ s is told. c.add_up.ensures a.table s is
     (subst (λ z. AreTold a.table z s) (sym c.deref.ensures.value) told))
     c.in_err-decoded.field-0.0 c.decode_row-decoded.new.sink inside
-    (exact c.args.sink.now done.state B done.grows))
+    (exact c.args.sink.now done.state (between takes refuses a coded c.args.sink.now
+    c.loop-row.row c.loop-row.tally c.loop-row.first c.loop-row.sink done) done.grows))
 
 pub returns-in_err-decoded-clause-same : goal.returns-in_err-decoded-clause-same
 returns-in_err-decoded-clause-same g c =
-    let vector = c.loop-row.buffers.slices.columns in
-    let closed : take vector.len (c.close.new.columns ++ drop (length c.close.new.columns)
-    vector.items) ≡ c.close.new.columns =
-    with_items_is vector c.close.new.columns (c.close.auto.columns ∙ c.deref_mut.ensures.len) in
     record {
       slices = record {
-        columns = c.in_err-decoded.ensures.same.slices.columns ∙ ap length closed ∙
+        columns = c.in_err-decoded.ensures.same.slices.columns ∙ ap length
+            (closed g (goal.at.returns-in_err-decoded-clause-same g c).After-close) ∙
             c.close.auto.columns ∙ ap length c.deref_mut.ensures.value ∙
             c.loop-row.invariant.same.slices.columns;
         states =
@@ -66,22 +79,14 @@ loop-row-preserved g c =
     let coded : ℕ → List ℕ = coded_by a c.args.payload.now c.args.spans.now in
     let takes = g.S.LineSink.takes in
     let refuses = g.S.LineSink.refuses in
-    let rows_are : c.rows-row-end.result ≡ a.configuration.rows =
-    rw (c.new-frame.ensures.frame.grid, c.new-frame.ensures.checked) at
-    c.rows-row-end.ensures in
     let done = c.loop-row.invariant.rows in
-    let B = between takes refuses a coded c.args.sink.now c.loop-row.row c.loop-row.tally
-    c.loop-row.first c.loop-row.sink done in
     let exact = rw (c.new-frame.ensures.checked, c.new-frame.ensures.payload) at
     c.in_ok-decoded.ensures.exact in
-    let vector = c.loop-row.buffers.slices.columns in
-    let closed : take vector.len (c.close.new.columns ++ drop (length c.close.new.columns)
-    vector.items) ≡ c.close.new.columns =
-    with_items_is vector c.close.new.columns (c.close.auto.columns ∙ c.deref_mut.ensures.len) in
     record {
       same = record {
         slices = record {
-          columns = c.in_ok-decoded.ensures.same.slices.columns ∙ ap length closed ∙
+          columns = c.in_ok-decoded.ensures.same.slices.columns ∙ ap length
+              (closed g (goal.at.loop-row-preserved g c).After-close) ∙
               c.close.auto.columns ∙ ap length c.deref_mut.ensures.value ∙
               c.loop-row.invariant.same.slices.columns;
           states =
@@ -109,7 +114,8 @@ loop-row-preserved g c =
           (λ s is told. c.add_up.ensures a.table s is
           (subst (λ z. AreTold a.table z s) (sym c.deref.ensures.value) told))
           c.decode_row-decoded.new.first c.decode_row-decoded.new.sink
-          (exact c.args.sink.now done.state B done.grows);
+          (exact c.args.sink.now done.state (between takes refuses a coded c.args.sink.now
+          c.loop-row.row c.loop-row.tally c.loop-row.first c.loop-row.sink done) done.grows);
     }
 
 pub returns-clause-exact : goal.returns-clause-exact
@@ -118,11 +124,9 @@ returns-clause-exact g c =
     let coded : ℕ → List ℕ = coded_by a c.args.payload.now c.args.spans.now in
     let takes = g.S.LineSink.takes in
     let refuses = g.S.LineSink.refuses in
-    let rows_are : c.rows-row-end.result ≡ a.configuration.rows =
-    rw (c.new-frame.ensures.frame.grid, c.new-frame.ensures.checked) at
-    c.rows-row-end.ensures in
     let done = c.loop-row.invariant.rows in
-    let all : c.loop-row.row ≡ a.configuration.rows = omega (arith, rows_are) in
+    let all : c.loop-row.row ≡ a.configuration.rows =
+    omega (arith, rows_are g (goal.at.returns-clause-exact g c).After-rows-row-end) in
     let first : c.loop-row.first ≡ Some c.unwrap.result = search rules in
     rows_end takes refuses a coded c.args.sink.now c.loop-row.row c.loop-row.tally c.loop-row.first
     c.loop-row.sink done c.each_step_is_one_or_zero.ensures.steps c.unwrap.result all first

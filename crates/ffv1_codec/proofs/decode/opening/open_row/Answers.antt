@@ -10,19 +10,28 @@ use Rattle.ffv1_codec.specs.Internal.Opened.{RowOpened, ColumnOpened, ColumnRefu
 use Rattle.ffv1_codec.specs.Internal.Opened.{row_heads}
 use Rattle.ffv1_codec.proofs.Sizes.{part_apart, grid_small}
 use Rattle.ffv1_codec.proofs.RowOpenings.{one_opened, one_refused}
+use Rattle.ffv1_codec.proofs.decode.opening.open_row.Given.{Over}
+use Rattle.ffv1_codec.proofs.decode.opening.open_row.Goals.{After-open_column}
 use Rattle.ffv1_codec.proofs.decode.opening.open_row.Goals as goal
+
+-- the column is one of the row
+module _ (g : Over) (c : After-open_column g) where
+  long : length c.loop-k.columns ≡ c.args.frame.now.checked.now.configuration.columns
+  long = omega (arith, c.requires.many)
+
+  inside : c.loop-k.k < c.args.frame.now.checked.now.configuration.columns
+  inside = omega (arith, long)
+
+  number : c.args.row * length c.loop-k.columns + c.loop-k.k ≡ slice_number
+      c.args.frame.now.checked.now.configuration c.args.row c.loop-k.k
+  number = ap (λ z. c.args.row * z + c.loop-k.k) long
 
 pub overflow_cast-slice-in-Err : goal.overflow_cast-slice-in-Err
 overflow_cast-slice-in-Err g c =
     let a = c.args.frame.now.checked.now in
     let conf = a.configuration in
     let r = c.args.row in
-    let n = c.loop-k.k in
-    let long : length c.loop-k.columns ≡ conf.columns = omega (arith, c.requires.many) in
-    let inside : n < conf.columns = omega (arith, long) in
-    let number : r * length c.loop-k.columns + n ≡ slice_number conf r n = ap (λ z. r * z + n)
-    long in
-    let coded : ℕ → List ℕ = coded_by a c.args.frame.now.payload.now c.args.spans.now in
+    let here = (goal.at.overflow_cast-slice-in-Err g c).After-open_column in
     let columns = c.accepted_configuration_is_in_range.ensures.columns conf a.table
     c.requires.frame.accepted in
     let rows = c.accepted_configuration_is_in_range.ensures.rows conf a.table
@@ -30,7 +39,7 @@ overflow_cast-slice-in-Err g c =
     let row = part_apart r conf.rows conf.columns c.requires.row in
     let all : conf.rows * conf.columns ≤ 1024 = grid_small conf.rows conf.columns rows.1
     columns.1 in
-    omega (arith, row, all, inside, number)
+    omega (arith, row, all, inside g here, number g here)
 
 pub returns-in-Err-clause-exact : goal.returns-in-Err-clause-exact
 returns-in-Err-clause-exact g c = λ s known fresh says.
@@ -38,17 +47,15 @@ returns-in-Err-clause-exact g c = λ s known fresh says.
     let conf = a.configuration in
     let r = c.args.row in
     let n = c.loop-k.k in
-    let long : length c.loop-k.columns ≡ conf.columns = omega (arith, c.requires.many) in
-    let inside : n < conf.columns = omega (arith, long) in
-    let number : r * length c.loop-k.columns + n ≡ slice_number conf r n = ap (λ z. r * z + n)
-    long in
+    let here = (goal.at.returns-in-Err-clause-exact g c).After-open_column in
     let coded : ℕ → List ℕ = coded_by a c.args.frame.now.payload.now c.args.spans.now in
     let before = c.loop-k.invariant.row s known fresh says in
     let refused = subst (λ z. ColumnRefused a coded z c.open_column.new.column c.loop-k.first
-    c.in-Err.fault) number c.in-Err.ensures.exact in
-    rw (c.in_slice.ensures, number) (one_refused a coded c.args.frame.now.payload.now r s n
-    c.loop-k.columns c.loop-k.first c.open_column.new.column before inside long c.in-Err.fault
-    conf.columns inside refused)
+    c.in-Err.fault) (number g here) c.in-Err.ensures.exact in
+    rw (c.in_slice.ensures, number g here) (one_refused a coded c.args.frame.now.payload.now r s n
+    c.loop-k.columns c.loop-k.first c.open_column.new.column before (inside g here) (long g here)
+    c.in-Err.fault
+    conf.columns (inside g here) refused)
 
 pub loop-k-preserved : goal.loop-k-preserved
 loop-k-preserved g c =
@@ -56,13 +63,10 @@ loop-k-preserved g c =
     let conf = a.configuration in
     let r = c.args.row in
     let n = c.loop-k.k in
-    let long : length c.loop-k.columns ≡ conf.columns = omega (arith, c.requires.many) in
-    let inside : n < conf.columns = omega (arith, long) in
-    let number : r * length c.loop-k.columns + n ≡ slice_number conf r n = ap (λ z. r * z + n)
-    long in
+    let here = (goal.at.loop-k-preserved g c).After-open_column in
     let coded : ℕ → List ℕ = coded_by a c.args.frame.now.payload.now c.args.spans.now in
     let next : suc n ≡ n + 1 = omega arith in
-    let few : n < length c.loop-k.columns = omega (arith, inside, long) in
+    let few : n < length c.loop-k.columns = omega (arith, inside g here, long g here) in
     let now : column_at (slice_set c.loop-k.columns n c.open_column.new.column) n ≡
     c.open_column.new.column = get_or-set_same c.loop-k.columns n c.open_column.new.column
     no_column few in
@@ -70,7 +74,7 @@ loop-k-preserved g c =
     j ≡ column_at c.loop-k.columns j =
     λ j apart. get_or-set_other c.loop-k.columns n j c.open_column.new.column no_column apart in
     let opened = subst (λ z. ColumnOpened a coded c.args.frame.now.payload.now z
-    c.open_column.new.column c.loop-k.first c.open_column.new.first) number
+    c.open_column.new.column c.loop-k.first c.open_column.new.first) (number g here)
     c.in_default.ensures.exact in
     record {
       closed = λ j from h.
@@ -93,6 +97,6 @@ loop-k-preserved g c =
           (row_heads (slice_set c.loop-k.columns n c.open_column.new.column)
           c.open_column.new.first) s) next
           (one_opened a coded c.args.frame.now.payload.now r s n c.loop-k.columns c.loop-k.first
-          c.open_column.new.column before inside long
+          c.open_column.new.column before (inside g here) (long g here)
           c.counters_from_zero_show_all_steps.ensures c.open_column.new.first opened);
     }

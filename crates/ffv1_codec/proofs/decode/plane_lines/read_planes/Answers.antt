@@ -15,16 +15,13 @@ returns-in_err-read_at-clause-exact g c = λ coded next s less tied lines.
     let i = c.planes.index in
     let before = c.planes.invariant.line coded next s less tied lines in
     let few : i < line.count = omega arith in
-    let inside : k < a.configuration.columns = omega (arith, c.requires.many) in
-    let plane : line.first + i < next = omega (arith, less, few) in
-    let here = before.planes_are.todo i (omega arith) few in
-    let made = c.in_err-read_at.ensures.exact coded next before.state plane before.columns_are
-    here in
+    let made = c.in_err-read_at.ensures.exact coded next before.state (omega (arith, less, few))
+    before.columns_are (before.planes_are.todo i (omega arith) few) in
     let p = err_from_is_err_and c.from_residual.result c.from_residual.ensures.1 in
     rw (p.1, p.2) (planes_stopped a coded line.row next c.args.frame.now.payload.now line.first
     line.count line.y s two one k i c.planes.columns c.read_at.new.columns c.planes.states
     (g.W.Word.samples c.planes.cur) c.in_err-read_at.field-0.0
-    a.configuration.columns few inside before made)
+    a.configuration.columns few (omega (arith, c.requires.many)) before made)
 
 pub planes-preserved : goal.planes-preserved
 planes-preserved g c =
@@ -40,11 +37,9 @@ planes-preserved g c =
       line = λ coded next s less tied lines.
           let before = c.planes.invariant.line coded next s less tied lines in
           let few : i < line.count = omega arith in
-          let inside : k < a.configuration.columns = omega (arith, c.requires.many) in
-          let plane : line.first + i < next = omega (arith, less, few) in
-          let here = before.planes_are.todo i (omega arith) few in
-          let made = c.in_ok-read_at.ensures.exact coded next before.state plane before.columns_are
-          here in
+          let made = c.in_ok-read_at.ensures.exact coded next before.state
+          (omega (arith, less, few))
+          before.columns_are (before.planes_are.todo i (omega arith) few) in
           let cur_is = g.met.W.Word.lengths c.planes.cur in
           let cur_long : length c.planes.cur ≡ length c.args.cur.now = omega arith in
           let room : line.count * a.configuration.width ≤ length (g.W.Word.samples c.planes.cur) =
@@ -52,7 +47,8 @@ planes-preserved g c =
           let more = plane_more a coded line.row next c.args.frame.now.payload.now line.first
           line.count line.y s two one k i c.planes.columns c.read_at.new.columns c.planes.states
           c.read_at.new.states
-          (g.W.Word.samples c.planes.cur) (g.W.Word.samples c.read_at.new.cur) few inside
+          (g.W.Word.samples c.planes.cur) (g.W.Word.samples c.read_at.new.cur) few
+          (omega (arith, c.requires.many))
           (λ p. c.slices_lie_beside_one_another.ensures.across a.configuration a.table p
           c.requires.frame.accepted) room c.in_ok-read_at.ensures.beside before made in
           let at : suc i ≡ i + 1 = omega arith in

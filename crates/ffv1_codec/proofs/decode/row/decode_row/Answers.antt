@@ -10,7 +10,16 @@ use Rattle.std.proofs.lemmas.Nat.{pow_pos}
 use Rattle.ffv1_codec.specs.SliceList.{bits_of}
 use Rattle.ffv1_codec.proofs.RowDecodes.{opened_tied, open_fails, opened_grows, lines_fail}
 use Rattle.ffv1_codec.proofs.RowDecodes.{row_decoded}
+use Rattle.ffv1_codec.proofs.decode.row.decode_row.Given.{Over}
+use Rattle.ffv1_codec.proofs.decode.row.decode_row.Goals.{After-open_row}
 use Rattle.ffv1_codec.proofs.decode.row.decode_row.Goals as goal
+
+-- the columns that were opened are those of the buffers
+columns_back : (g : Over) (c : After-open_row g) → take c.args.buffers.now.slices.columns.len
+    (c.open_row.new.columns ++ drop (length c.open_row.new.columns)
+    c.args.buffers.now.slices.columns.items) ≡ c.open_row.new.columns
+columns_back g c = with_items_is c.args.buffers.now.slices.columns c.open_row.new.columns
+    (c.open_row.auto.columns ∙ c.deref_mut-2.ensures.len)
 
 pub returns-in_err-open_row-clause-exact : goal.returns-in_err-open_row-clause-exact
 returns-in_err-open_row-clause-exact g c = λ initial s between grows.
@@ -19,15 +28,11 @@ returns-in_err-open_row-clause-exact g c = λ initial s between grows.
     let coded : ℕ → List ℕ = coded_by a payload c.args.spans.now in
     let takes = g.S.LineSink.takes in
     let refuses = g.S.LineSink.refuses in
-    let columns_back : take c.args.buffers.now.slices.columns.len
-    (c.open_row.new.columns ++ drop (length c.open_row.new.columns)
-    c.args.buffers.now.slices.columns.items) ≡ c.open_row.new.columns =
-    with_items_is c.args.buffers.now.slices.columns c.open_row.new.columns
-    (c.open_row.auto.columns ∙ c.deref_mut-2.ensures.len) in
     let p = err_from_is_err_and c.from_residual.result c.from_residual.ensures.1 in
     rw (p.1, p.2) (subst (λ z. FailsIn takes refuses a coded initial c.args.row z
     (open_events a.configuration c.args.row) c.in_err-open_row.field-0.0 c.args.sink.now s)
-    (sym columns_back) (open_fails takes refuses a coded initial c.args.row payload s
+    (sym (columns_back g (goal.at.returns-in_err-open_row-clause-exact g c).After-open_row))
+    (open_fails takes refuses a coded initial c.args.row payload s
     c.open_row.new.columns c.in_err-open_row.field-0.0 c.args.sink.now grows
     (c.in_err-open_row.ensures.exact s between.known between.fresh between.says)))
 
@@ -38,11 +43,7 @@ returns-clause-exact g c = λ initial s between grows.
     let coded : ℕ → List ℕ = coded_by a payload c.args.spans.now in
     let takes = g.S.LineSink.takes in
     let refuses = g.S.LineSink.refuses in
-    let columns_back : take c.args.buffers.now.slices.columns.len
-    (c.open_row.new.columns ++ drop (length c.open_row.new.columns)
-    c.args.buffers.now.slices.columns.items) ≡ c.open_row.new.columns =
-    with_items_is c.args.buffers.now.slices.columns c.open_row.new.columns
-    (c.open_row.auto.columns ∙ c.deref_mut-2.ensures.len) in
+    let columns_back = columns_back g (goal.at.returns-clause-exact g c).After-open_row in
     let states_back : take c.args.buffers.now.slices.states.len
     (c.reset.new.states ++ drop (length c.reset.new.states)
     c.args.buffers.now.slices.states.items) ≡ c.reset.new.states =

@@ -11,23 +11,33 @@ use Rattle.ffv1_codec.proofs.KeptBuffers.{slices_kept}
 use Rattle.ffv1_codec.proofs.LineFinished.{rct_is}
 use Rattle.ffv1_codec.proofs.SeriesDecodes.{lines_alike, planes_any, none_decoded, one_decoded}
 use Rattle.ffv1_codec.proofs.SeriesDecodes.{one_fails, all_decoded}
+use Rattle.ffv1_codec.proofs.decode.row.decode_series.Given.{Over}
+use Rattle.ffv1_codec.proofs.decode.row.decode_series.Goals.{After-top-bottom}
 use Rattle.ffv1_codec.proofs.decode.row.decode_series.Goals as goal
+
+-- the row has the lines from its top to that of the next row
+bottom_is : (g : Over) (c : After-top-bottom g) → c.top-bottom.result ≡ c.top-top.result +
+    lines_down c.args.frame.now.checked.now.configuration c.args.planes.now.first
+    c.args.planes.now.row
+bottom_is g c =
+    let conf = c.args.frame.now.checked.now.configuration in
+    let p = c.args.planes.now.first in
+    let row = c.args.planes.now.row in
+    let are = c.slices_lie_beside_one_another.ensures.down conf c.args.frame.now.checked.now.table p
+    c.requires.frame.accepted in
+    let top : c.top-top.result ≡ top_of conf p row = rw c.requires.frame.grid at
+    c.top-top.ensures in
+    let bottom : c.top-bottom.result ≡ top_of conf p (row + 1) = rw c.requires.frame.grid at
+    c.top-bottom.ensures in
+    let same : row + 1 ≡ suc row = omega arith in
+    let bottom = bottom ∙ ap (top_of conf p) same in
+    let next = are.next row c.requires.row in
+    omega (arith, top, bottom, next)
 
 pub overflow_sub-y-end : goal.overflow_sub-y-end
 overflow_sub-y-end g c =
-    let conf = c.args.frame.now.checked.now.configuration in
-    let p = c.args.planes.now.first in
-    let are = c.slices_lie_beside_one_another.ensures.down conf c.args.frame.now.checked.now.table p
-    c.requires.frame.accepted in
-    let top : c.top-top.result ≡ top_of conf p c.args.planes.now.row = rw c.requires.frame.grid at
-    c.top-top.ensures in
-    let bottom : c.top-bottom.result ≡ top_of conf p (c.args.planes.now.row + 1) =
-    rw c.requires.frame.grid at c.top-bottom.ensures in
-    let bottom : c.top-bottom.result ≡ top_of conf p (suc c.args.planes.now.row) = bottom ∙
-    ap (top_of conf p) (let same : c.args.planes.now.row + 1 ≡ suc c.args.planes.now.row =
-    omega arith in same) in
-    let next = are.next c.args.planes.now.row c.requires.row in
-    omega (arith, top, bottom, next)
+    let bottom_is = bottom_is g (goal.at.overflow_sub-y-end g c).After-top-bottom in
+    omega (arith, bottom_is)
 
 pub loop-y-init : goal.loop-y-init
 loop-y-init g c =
@@ -89,22 +99,9 @@ decode_whole_line-requires-clause-y g c =
     let a = c.args.frame.now.checked.now in
     let conf = a.configuration in
     let p = c.args.planes.now.first in
-    let payload = c.args.frame.now.payload.now in
-    let takes = g.S.LineSink.takes in
-    let refuses = g.S.LineSink.refuses in
-    let are = c.slices_lie_beside_one_another.ensures.down conf c.args.frame.now.checked.now.table p
-    c.requires.frame.accepted in
-    let top : c.top-top.result ≡ top_of conf p c.args.planes.now.row = rw c.requires.frame.grid at
-    c.top-top.ensures in
-    let bottom : c.top-bottom.result ≡ top_of conf p (c.args.planes.now.row + 1) =
-    rw c.requires.frame.grid at c.top-bottom.ensures in
-    let bottom : c.top-bottom.result ≡ top_of conf p (suc c.args.planes.now.row) = bottom ∙
-    ap (top_of conf p) (let same : c.args.planes.now.row + 1 ≡ suc c.args.planes.now.row =
-    omega arith in same) in
-    let next = are.next c.args.planes.now.row c.requires.row in
-    let height : c.top-bottom.result - c.top-top.result ≡ lines_down conf p c.args.planes.now.row =
-    omega (arith, top, bottom, next) in
-    let inside : c.loop-y.y < lines_down conf p c.args.planes.now.row = omega (arith, height) in
+    let bottom_is = bottom_is g (goal.at.decode_whole_line-requires-clause-y g
+    c).After-top-bottom in
+    let inside : c.loop-y.y < lines_down conf p c.args.planes.now.row = omega (arith, bottom_is) in
     λ i h.
     let same = lines_alike conf p c.args.planes.now.count i c.args.planes.now.row
     c.requires.together (λ e. (c.accepted_configuration_has_sound_parts.ensures.rct conf a.table
@@ -123,24 +120,14 @@ returns-in_err-decode_whole_line-clause-exact g c = λ coded initial s tied grow
     let cur = g.W.Word.samples c.loop-y.cur.now in
     let takes = g.S.LineSink.takes in
     let refuses = g.S.LineSink.refuses in
-    let are = c.slices_lie_beside_one_another.ensures.down conf c.args.frame.now.checked.now.table p
-    c.requires.frame.accepted in
-    let top : c.top-top.result ≡ top_of conf p c.args.planes.now.row = rw c.requires.frame.grid at
-    c.top-top.ensures in
-    let bottom : c.top-bottom.result ≡ top_of conf p (c.args.planes.now.row + 1) =
-    rw c.requires.frame.grid at c.top-bottom.ensures in
-    let bottom : c.top-bottom.result ≡ top_of conf p (suc c.args.planes.now.row) = bottom ∙
-    ap (top_of conf p) (let same : c.args.planes.now.row + 1 ≡ suc c.args.planes.now.row =
-    omega arith in same) in
-    let next = are.next c.args.planes.now.row c.requires.row in
-    let height : c.top-bottom.result - c.top-top.result ≡ lines_down conf p c.args.planes.now.row =
-    omega (arith, top, bottom, next) in
+    let bottom_is = bottom_is g (goal.at.returns-in_err-decode_whole_line-clause-exact g
+    c).After-top-bottom in
     let before = c.loop-y.invariant.lines coded initial s tied grows in
     let planes = planes_any conf p c.args.planes.now.count c.loop-y.y two one one cur before.state
     before.planes_are in
     let made = c.in_err-decode_whole_line.ensures.exact coded (p + c.args.planes.now.count) initial
     before.state (omega arith) before.columns_are planes before.grows in
-    let inside : c.loop-y.y < lines_down conf p c.args.planes.now.row = omega (arith, height) in
+    let inside : c.loop-y.y < lines_down conf p c.args.planes.now.row = omega (arith, bottom_is) in
     let stop = err_from_is_err_and c.from_residual.result c.from_residual.ensures.1 in
     rw (stop.1, stop.2) (one_fails takes refuses a coded initial c.args.planes.now.row payload p
     c.args.planes.now.count s c.loop-y.y c.loop-y.slices.columns.items
@@ -197,20 +184,9 @@ returns-clause-exact g c = λ coded initial s tied grows.
     let one = g.W.Word.samples c.loop-y.one.now in
     let takes = g.S.LineSink.takes in
     let refuses = g.S.LineSink.refuses in
-    let are = c.slices_lie_beside_one_another.ensures.down conf c.args.frame.now.checked.now.table p
-    c.requires.frame.accepted in
-    let top : c.top-top.result ≡ top_of conf p c.args.planes.now.row = rw c.requires.frame.grid at
-    c.top-top.ensures in
-    let bottom : c.top-bottom.result ≡ top_of conf p (c.args.planes.now.row + 1) =
-    rw c.requires.frame.grid at c.top-bottom.ensures in
-    let bottom : c.top-bottom.result ≡ top_of conf p (suc c.args.planes.now.row) = bottom ∙
-    ap (top_of conf p) (let same : c.args.planes.now.row + 1 ≡ suc c.args.planes.now.row =
-    omega arith in same) in
-    let next = are.next c.args.planes.now.row c.requires.row in
-    let height : c.top-bottom.result - c.top-top.result ≡ lines_down conf p c.args.planes.now.row =
-    omega (arith, top, bottom, next) in
+    let bottom_is = bottom_is g (goal.at.returns-clause-exact g c).After-top-bottom in
     let before = c.loop-y.invariant.lines coded initial s tied grows in
-    let all : c.loop-y.y ≡ lines_down conf p c.args.planes.now.row = omega (arith, height) in
+    let all : c.loop-y.y ≡ lines_down conf p c.args.planes.now.row = omega (arith, bottom_is) in
     all_decoded takes refuses a coded initial c.args.planes.now.row payload p
     c.args.planes.now.count s c.loop-y.y c.loop-y.slices.columns.items
     c.loop-y.slices.states.items two one c.loop-y.sink before all

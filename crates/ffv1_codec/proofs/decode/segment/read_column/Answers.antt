@@ -5,54 +5,61 @@ use Rattle.std.proofs.lemmas.Result.{MatchResult-weaker}
 use Rattle.ffv1_plane.specs.Quantisation.{contexts_of}
 use Rattle.ffv1_record.specs.Configuration.{Configuration}
 use Rattle.ffv1_codec.specs.SliceList.{class_of, base_of, bits_of, set_at}
-use Rattle.ffv1_codec.specs.Internal.Tied.{slots_in, bytes_in}
+use Rattle.ffv1_codec.specs.Internal.Tied.{bytes_in}
 use Rattle.ffv1_codec.proofs.ByNumber.{set_is}
 use Rattle.ffv1_codec.proofs.WrittenParts.{put_held, part_held, part_long}
 use Rattle.ffv1_codec.proofs.ClassRoom.{room, base_here}
 use Rattle.ffv1_codec.proofs.SegmentReads.{class_stands, all_read, all_refused}
+use Rattle.ffv1_codec.proofs.decode.segment.read_column.Given.{Over}
+use Rattle.ffv1_codec.proofs.decode.segment.read_column.Goals.{After-contexts, After-read_segment}
 use Rattle.ffv1_codec.proofs.decode.segment.read_column.Goals as goal
 
-pub slice_bounds-read_segment-end : goal.slice_bounds-read_segment-end
-slice_bounds-read_segment-end g c =
-    let conf = c.args.frame.now.checked.now.configuration in
-    let class = c.class_of-class.result in
-    let index = slice_index c.args.column.now.indexes class in
-    let at = class * c.args.frame.now.most * 32 in
+-- the set was got
+module _ (g : Over) (c : After-contexts g) where
+  sets_are : c.args.frame.now.checked.now.configuration.sets ≡ c.config-config.result.now.sets
+  sets_are = ap (λ (z : Configuration). z.sets) c.config-config.ensures.value
+
+  got : c.get-set.result.now ≡ get_or c.config-config.result.now.sets
+      (slice_index c.args.column.now.indexes c.class_of-class.result) []
+  got =
+      let index = slice_index c.args.column.now.indexes c.class_of-class.result in
+      c.get-set.ensures ∙ ap (λ z. get_or c.config-config.result.now.sets z [])
+      (let same : c.from.result ≡ index = search rules in same)
+
+  -- the states of the class lie in those of the slice
+  fits : c.class_of-class.result * c.args.frame.now.most * 32 + c.contexts.result * 32
+      ≤ length c.args.states.now
+  fits =
+      let conf = c.args.frame.now.checked.now.configuration in
+      let class = c.class_of-class.result in
+      let fits = room conf c.args.plane class c.args.frame.now.most
+      (slice_index c.args.column.now.indexes class) c.config-config.result.now.sets
+      c.get-set.result.now c.contexts.result c.requires.plane c.class_of-class.ensures.value
+      c.requires.frame.most (c.requires.open.index class c.class_of-class.ensures.few) sets_are got
+      c.contexts.ensures.value in
+      omega (arith, fits, c.requires.rows)
+
+-- the states that were read are as many as those of the class
+states_long : (g : Over) (c : After-read_segment g) →
+    c.class_of-class.result * c.args.frame.now.most * 32 + c.contexts.result * 32
+    ≤ length c.args.states.now → length c.read_segment.new.states ≡ c.contexts.result * 32
+states_long g c fits =
+    let at = c.class_of-class.result * c.args.frame.now.most * 32 in
     let count = c.contexts.result * 32 in
-    let sets_are : conf.sets ≡ c.config-config.result.now.sets = ap (λ (z : Configuration). z.sets)
-    c.config-config.ensures.value in
-    let got : c.get-set.result.now ≡ get_or c.config-config.result.now.sets index [] =
-    c.get-set.ensures ∙ ap (λ z. get_or c.config-config.result.now.sets z [])
-    (let same : c.from.result ≡ index = search rules in same) in
-    let fits : at + count ≤ slots_in conf =
-    room conf c.args.plane class c.args.frame.now.most index c.config-config.result.now.sets
-    c.get-set.result.now c.contexts.result c.requires.plane c.class_of-class.ensures.value
-    c.requires.frame.most
-    (c.requires.open.index class c.class_of-class.ensures.few) sets_are got
-    c.contexts.ensures.value in
-    let fits : at + count ≤ length c.args.states.now = omega (arith, fits, c.requires.rows) in
-    fits
+    c.read_segment.auto.states ∙ part_long at count (at + count - at) c.args.states.now
+    (omega arith) fits
+
+pub slice_bounds-read_segment-end : goal.slice_bounds-read_segment-end
+slice_bounds-read_segment-end g c = fits g (goal.at.slice_bounds-read_segment-end g
+    c).After-contexts
 
 pub read_segment-requires-clause-held : goal.read_segment-requires-clause-held
 read_segment-requires-clause-held g c =
-    let conf = c.args.frame.now.checked.now.configuration in
     let class = c.class_of-class.result in
-    let index = slice_index c.args.column.now.indexes class in
     let at = class * c.args.frame.now.most * 32 in
     let count = c.contexts.result * 32 in
-    let sets_are : conf.sets ≡ c.config-config.result.now.sets = ap (λ (z : Configuration). z.sets)
-    c.config-config.ensures.value in
-    let got : c.get-set.result.now ≡ get_or c.config-config.result.now.sets index [] =
-    c.get-set.ensures ∙ ap (λ z. get_or c.config-config.result.now.sets z [])
-    (let same : c.from.result ≡ index = search rules in same) in
-    let fits : at + count ≤ slots_in conf =
-    room conf c.args.plane class c.args.frame.now.most index c.config-config.result.now.sets
-    c.get-set.result.now c.contexts.result c.requires.plane c.class_of-class.ensures.value
-    c.requires.frame.most
-    (c.requires.open.index class c.class_of-class.ensures.few) sets_are got
-    c.contexts.ensures.value in
     let wide : at + count - at ≡ count = omega arith in
-    let fits : at + count ≤ length c.args.states.now = omega (arith, fits, c.requires.rows) in
+    let fits = fits g (goal.at.read_segment-requires-clause-held g c).After-contexts in
     rw (c.table.ensures.value, wide) (part_held c.args.frame.now.checked.now.table c.args.states.now
     at count fits c.requires.held)
 
@@ -63,19 +70,11 @@ returns-clause-exact g c = λ past samples y stands rolls.
     let index = slice_index c.args.column.now.indexes class in
     let at = class * c.args.frame.now.most * 32 in
     let count = c.contexts.result * 32 in
-    let sets_are : conf.sets ≡ c.config-config.result.now.sets = ap (λ (z : Configuration). z.sets)
-    c.config-config.ensures.value in
-    let got : c.get-set.result.now ≡ get_or c.config-config.result.now.sets index [] =
-    c.get-set.ensures ∙ ap (λ z. get_or c.config-config.result.now.sets z [])
-    (let same : c.from.result ≡ index = search rules in same) in
-    let fits : at + count ≤ slots_in conf =
-    room conf c.args.plane class c.args.frame.now.most index c.config-config.result.now.sets
-    c.get-set.result.now c.contexts.result c.requires.plane c.class_of-class.ensures.value
-    c.requires.frame.most
-    (c.requires.open.index class c.class_of-class.ensures.few) sets_are got
-    c.contexts.ensures.value in
     let wide : at + count - at ≡ count = omega arith in
-    let fits : at + count ≤ length c.args.states.now = omega (arith, fits, c.requires.rows) in
+    let here = goal.at.returns-clause-exact g c in
+    let sets_are = sets_are g here.After-contexts in
+    let got = got g here.After-contexts in
+    let fits = fits g here.After-contexts in
     let t = c.args.frame.now.checked.now.table in
     let bytes = bytes_in c.args.frame.now.payload.now c.args.column.now in
     let base : base_of conf c.args.plane ≡ 33 + at =
@@ -98,8 +97,7 @@ returns-clause-exact g c = λ past samples y stands rolls.
     base counts fits stands c.array_states_follow_the_history.ensures.part in
     let read = rw (c.table.ensures.value, wide) at c.read_segment.ensures.exact in
     let read = read past (base_of conf c.args.plane) samples y stands_here rolls in
-    let long : length c.read_segment.new.states ≡ count = c.read_segment.auto.states ∙ part_long at
-    count (at + count - at) c.args.states.now wide fits in
+    let long = states_long g here.After-read_segment fits in
     rw (sym set, sym bits, wide) (MatchResult-weaker c.read_segment.result read
     (λ u line. all_read bytes t (base_of conf c.args.plane) c.get-set.result.now
     c.bits_of.result past samples (length (g.W.Word.samples c.read_segment.new.cur)) y
@@ -112,26 +110,13 @@ returns-clause-exact g c = λ past samples y stands rolls.
 
 pub returns-clause-held : goal.returns-clause-held
 returns-clause-held g c =
-    let conf = c.args.frame.now.checked.now.configuration in
     let class = c.class_of-class.result in
-    let index = slice_index c.args.column.now.indexes class in
     let at = class * c.args.frame.now.most * 32 in
     let count = c.contexts.result * 32 in
-    let sets_are : conf.sets ≡ c.config-config.result.now.sets = ap (λ (z : Configuration). z.sets)
-    c.config-config.ensures.value in
-    let got : c.get-set.result.now ≡ get_or c.config-config.result.now.sets index [] =
-    c.get-set.ensures ∙ ap (λ z. get_or c.config-config.result.now.sets z [])
-    (let same : c.from.result ≡ index = search rules in same) in
-    let fits : at + count ≤ slots_in conf =
-    room conf c.args.plane class c.args.frame.now.most index c.config-config.result.now.sets
-    c.get-set.result.now c.contexts.result c.requires.plane c.class_of-class.ensures.value
-    c.requires.frame.most
-    (c.requires.open.index class c.class_of-class.ensures.few) sets_are got
-    c.contexts.ensures.value in
     let wide : at + count - at ≡ count = omega arith in
-    let fits : at + count ≤ length c.args.states.now = omega (arith, fits, c.requires.rows) in
-    let long : length c.read_segment.new.states ≡ count = c.read_segment.auto.states ∙ part_long at
-    count (at + count - at) c.args.states.now wide fits in
+    let here = goal.at.returns-clause-held g c in
+    let fits = fits g here.After-contexts in
+    let long = states_long g here.After-read_segment fits in
     let held = rw c.table.ensures.value at c.read_segment.ensures.held in
     rw wide (put_held c.args.states.now c.read_segment.new.states at count fits long
     c.args.frame.now.checked.now.table c.requires.held held)

@@ -1,21 +1,19 @@
 -- Reads a segment into its place of a line.
-use Rattle.std.proofs.Common.{◌≡◌, ℕ, ◌+◌, ◌-◌, ◌*◌, ◌<◌, ◌≤◌, ◌⊎◌, inl, inr, ap, sym, subst, ◌∙◌}
-use Rattle.std.proofs.Common.{length, slice_index, slice_index_or, take, arith}
+use Rattle.std.proofs.Common.{◌≡◌, ℕ, ◌++◌, ◌+◌, ◌-◌, ◌*◌, ◌<◌, ◌≤◌, ◌⊎◌, inl, inr, ap, sym, subst}
+use Rattle.std.proofs.Common.{◌∙◌}
+use Rattle.std.proofs.Common.{length, slice_index_or, take, drop, arith}
 use Rattle.std.proofs.lemmas.List.{get_or_default, length-take-le}
 use Rattle.ffv1_record.specs.Held.{classes_of}
-use Rattle.ffv1_line.specs.Cell.{Rolls}
 use Rattle.ffv1_codec.specs.Picture.{plane}
-use Rattle.ffv1_codec.specs.SliceList.{bits_of, base_of, class_of, set_at}
-use Rattle.ffv1_codec.specs.Internal.Stands.{SegmentRead, SegmentRefused, window}
+use Rattle.ffv1_codec.specs.Internal.Stands.{window}
 use Rattle.ffv1_codec.specs.Decoding.{slice_at, left_of, width_in}
-use Rattle.ffv1_codec.specs.Internal.Tied.{IsOpen, column_at, no_column, slots_in, bytes_in}
+use Rattle.ffv1_codec.specs.Internal.Tied.{IsOpen, column_at, no_column, slots_in}
 use Rattle.ffv1_codec.proofs.Sizes.{slots_small, part_small, part_apart}
 use Rattle.ffv1_codec.proofs.ClassRoom.{classes_most}
-use Rattle.ffv1_codec.proofs.WrittenParts.{put, put_held, put_other, part_held, part_long}
+use Rattle.ffv1_codec.proofs.WrittenParts.{put_held, put_other, part_held, part_long}
 use Rattle.ffv1_codec.proofs.WordLines.{piece_long, window_samples, put_samples}
 use Rattle.ffv1_codec.proofs.ColumnsOpen.{open_next}
 use Rattle.ffv1_codec.proofs.SegmentTied.{step_made, stopped, stands_here}
-use Rattle.ffv1_line.specs.Coding.{coding_by}
 use Rattle.ffv1_codec.proofs.decode.segment.read_on.Given.{Over}
 use Rattle.ffv1_codec.proofs.decode.segment.read_on.Goals.{After-index-columns-k, After-read_column}
 use Rattle.ffv1_codec.proofs.decode.segment.read_on.Goals as goal
@@ -71,8 +69,9 @@ module _ (g : Over) (c : After-read_column g) where
       (b + n ≤ c.args.segment.now.index * c.args.frame.now.checked.now.configuration.width)
       ⊎ (c.args.segment.now.index * c.args.frame.now.checked.now.configuration.width +
       c.args.frame.now.checked.now.configuration.width ≤ b) →
-      window b n (put c.extent-left.result.0 (c.extent-left.result.1 - c.extent-left.result.0)
-      (g.W.Word.samples c.args.cur.now) (g.W.Word.samples c.read_column.new.cur))
+      window b n (g.W.Word.samples (take c.extent-left.result.0 c.args.cur.now ++
+      (c.read_column.new.cur ++ drop (c.extent-left.result.1 - c.extent-left.result.0)
+      (drop c.extent-left.result.0 c.args.cur.now))))
       ≡ window b n (g.W.Word.samples c.args.cur.now)
   others b n within apart =
       let left = c.extent-left.result.0 in
@@ -90,8 +89,10 @@ module _ (g : Over) (c : After-read_column g) where
           c.extent-left.ensures.inside,
         ))
       ] in
-      put_other cur (g.W.Word.samples c.read_column.new.cur) left width cur_fits row_long b n within
-      apart
+      let law = g.met.W.Word in
+      rw (put_samples g.W.Word.samples law.takes law.drops law.joins left width c.args.cur.now
+      c.read_column.new.cur) (put_other cur (g.W.Word.samples c.read_column.new.cur) left width
+      cur_fits row_long b n within apart)
 
 pub overflow_add-at : goal.overflow_add-at
 overflow_add-at g c =
@@ -150,37 +151,26 @@ returns-in-Ok-clause-exact g c = λ coded next s less tied line.
     let column_is = column_is g here.After-index-columns-k in
     let right : width ≡ width_in conf p k = omega (arith, c.extent-left.ensures.right) in
     let row_is : length row ≡ width_in conf p k = row_long g here.After-read_column ∙ right in
-    let two_is = window_samples samples law.takes law.drops law.joins left width
-    c.args.above.now.two.now in
-    let one_is = window_samples samples law.takes law.drops law.joins left width
-    c.args.above.now.one.now in
+    let part_is = window_samples samples law.takes law.drops law.joins left width in
+    let two_is = part_is c.args.above.now.two.now in
+    let one_is = part_is c.args.above.now.one.now in
     let same = rw column_is at c.in-Ok.ensures.same in
     let slots_are : slots ≡ slots_in conf = c.requires.frame.slots in
     let left_is : left ≡ c.args.segment.now.index * conf.width + left_of conf p k =
     c.extent-left.ensures.left in
     let exact = rw (column_is, thick, slots_are, two_is, one_is, right, left_is) at
     c.in-Ok.ensures.exact in
-    let place = c.args.segment.now.index * conf.width + left_of conf p k in
     let old = slice_at s k in
-    let rolls : Rolls (width_in conf p k) (plane old.cells p) (window place (width_in conf p k) two)
-    (window place (width_in conf p k) one) c.args.segment.now.y = line.unread k (omega arith)
-    c.requires.column in
+    let rolls = line.unread k (omega arith) c.requires.column in
     let stands = stands_here a coded c.args.segment.now.row next c.args.frame.now.payload.now
     c.args.columns.now c.args.states.now s tied p c.args.segment.now.index c.args.segment.now.y
     k two one cur row
     c.read_column.new.column c.requires.column c.requires.many same in
-    let rolls_here = subst (λ w. Rolls w (plane old.cells p) (window place (width_in conf p k) two)
-    (window place (width_in conf p k) one) c.args.segment.now.y) (sym row_is) rolls in
-    let made = exact old.past (plane old.cells p) c.args.segment.now.y stands rolls_here in
-    let bytes = bytes_in c.args.frame.now.payload.now (column_at c.args.columns.now k) in
-    let set = set_at conf.sets (slice_index (column_at c.args.columns.now k).indexes
-    (class_of p)) in
+    let raw = rw row_is at (exact old.past (plane old.cells p) c.args.segment.now.y stands
+    (rw row_is rolls)) in
     let cur_back = put_samples samples law.takes law.drops law.joins left width c.args.cur.now
     c.read_column.new.cur in
     let cur_long : length cur ≡ length c.args.cur.now = law.lengths c.args.cur.now in
-    let raw = subst (λ w. SegmentRead bytes (coding_by a.table set (bits_of conf)) (base_of conf p)
-    33 old.past (plane old.cells p) w c.args.segment.now.y c.read_column.new.column.parked
-    c.read_column.new.states row) row_is made in
     let long : length c.read_column.new.states ≡ slots_in conf = states_long g
     here.After-read_column ∙ slots_are in
     let are = c.slices_lie_beside_one_another.ensures.across conf a.table p
@@ -195,13 +185,8 @@ returns-in-Ok-clause-exact g c = λ coded next s less tied line.
     (omega (arith, cur_long, c.requires.cur_long)) line)
 
 pub returns-in-Ok-clause-beside : goal.returns-in-Ok-clause-beside
-returns-in-Ok-clause-beside g c = λ b n within apart.
-    let law = g.met.W.Word in
-    let left = c.extent-left.result.0 in
-    let cur_back = put_samples g.W.Word.samples law.takes law.drops law.joins left
-    (c.extent-left.result.1 - left) c.args.cur.now c.read_column.new.cur in
-    rw cur_back (others g (goal.at.returns-in-Ok-clause-beside g c).After-read_column b n within
-    apart)
+returns-in-Ok-clause-beside g c = others g
+    (goal.at.returns-in-Ok-clause-beside g c).After-read_column
 
 pub returns-in-Ok-clause-open : goal.returns-in-Ok-clause-open
 returns-in-Ok-clause-open g c =
@@ -242,35 +227,24 @@ returns-in-Err-clause-exact g c = λ coded next s less tied line.
     let column_is = column_is g here.After-index-columns-k in
     let right : width ≡ width_in conf p k = omega (arith, c.extent-left.ensures.right) in
     let row_is : length row ≡ width_in conf p k = row_long g here.After-read_column ∙ right in
-    let two_is = window_samples samples law.takes law.drops law.joins left width
-    c.args.above.now.two.now in
-    let one_is = window_samples samples law.takes law.drops law.joins left width
-    c.args.above.now.one.now in
+    let part_is = window_samples samples law.takes law.drops law.joins left width in
+    let two_is = part_is c.args.above.now.two.now in
+    let one_is = part_is c.args.above.now.one.now in
     let same = rw column_is at c.in-Err.ensures.same in
     let slots_are : slots ≡ slots_in conf = c.requires.frame.slots in
     let left_is : left ≡ c.args.segment.now.index * conf.width + left_of conf p k =
     c.extent-left.ensures.left in
     let exact = rw (column_is, thick, slots_are, two_is, one_is, right, left_is) at
     c.in-Err.ensures.exact in
-    let place = c.args.segment.now.index * conf.width + left_of conf p k in
     let old = slice_at s k in
-    let rolls : Rolls (width_in conf p k) (plane old.cells p) (window place (width_in conf p k) two)
-    (window place (width_in conf p k) one) c.args.segment.now.y = line.unread k (omega arith)
-    c.requires.column in
+    let rolls = line.unread k (omega arith) c.requires.column in
     let stands = stands_here a coded c.args.segment.now.row next c.args.frame.now.payload.now
     c.args.columns.now c.args.states.now s tied p c.args.segment.now.index c.args.segment.now.y
     k two one cur (take c.in-Err.refused.x row)
     c.read_column.new.column c.requires.column c.requires.many same in
-    let rolls_here = subst (λ w. Rolls w (plane old.cells p) (window place (width_in conf p k) two)
-    (window place (width_in conf p k) one) c.args.segment.now.y) (sym row_is) rolls in
-    let made = exact old.past (plane old.cells p) c.args.segment.now.y stands rolls_here in
-    let bytes = bytes_in c.args.frame.now.payload.now (column_at c.args.columns.now k) in
-    let set = set_at conf.sets (slice_index (column_at c.args.columns.now k).indexes
-    (class_of p)) in
+    let raw = rw row_is at (exact old.past (plane old.cells p) c.args.segment.now.y stands
+    (rw row_is rolls)) in
     let x = c.in-Err.refused.x in
-    let raw = subst (λ w. SegmentRefused bytes (coding_by a.table set (bits_of conf))
-    (base_of conf p) 33 old.past (plane old.cells p) w c.args.segment.now.y
-    c.read_column.new.column.parked (take x row) x) row_is made in
     let few : x < width_in conf p k = omega (arith, c.in-Err.ensures.inside, row_is) in
     let taken : length (take x row) ≡ x = length-take-le x row (omega (arith, few, row_is)) in
     stopped a coded c.args.segment.now.row next c.args.frame.now.payload.now c.args.columns.now
@@ -280,13 +254,8 @@ returns-in-Err-clause-exact g c = λ coded next s less tied line.
     c.counters_from_zero_show_all_steps.ensures raw c.refusal.result c.refusal.ensures
 
 pub returns-in-Err-clause-beside : goal.returns-in-Err-clause-beside
-returns-in-Err-clause-beside g c = λ b n within apart.
-    let law = g.met.W.Word in
-    let left = c.extent-left.result.0 in
-    let cur_back = put_samples g.W.Word.samples law.takes law.drops law.joins left
-    (c.extent-left.result.1 - left) c.args.cur.now c.read_column.new.cur in
-    rw cur_back (others g (goal.at.returns-in-Err-clause-beside g c).After-read_column b n within
-    apart)
+returns-in-Err-clause-beside g c = others g
+    (goal.at.returns-in-Err-clause-beside g c).After-read_column
 
 pub returns-in-Err-clause-open : goal.returns-in-Err-clause-open
 returns-in-Err-clause-open g c =

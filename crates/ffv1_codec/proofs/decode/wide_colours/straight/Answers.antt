@@ -5,7 +5,25 @@ use Rattle.ffv1_codec.specs.Internal.Finished.{AreMade}
 use Rattle.ffv1_codec.proofs.FinishedLines.{line_0, line_1, line_2, plain, three_parts}
 use Rattle.ffv1_codec.proofs.FinishedLines.{colours_made, colours_end}
 use Rattle.ffv1_codec.proofs.Words.{words_long, three_samples}
+use Rattle.ffv1_codec.proofs.decode.wide_colours.straight.Goals.{After-split_at-2}
 use Rattle.ffv1_codec.proofs.decode.wide_colours.straight.Goals as goal
+
+-- the lines of the three coded planes
+module _ (c : After-split_at-2) where
+  parts_are : c.args.samples.now ≡ c.split_at.result.0.now
+      ++ (c.split_at-2.result.0.now ++ c.split_at-2.result.1.now)
+  parts_are = three_parts c.args.width c.args.samples.now c.split_at.result.0.now
+      c.split_at.result.1.now
+      c.split_at-2.result.0.now c.split_at-2.result.1.now c.split_at.ensures.front
+      c.split_at.ensures.back c.split_at-2.ensures.front c.split_at-2.ensures.back
+
+  last_long : length c.split_at-2.result.1.now ≡ c.args.width
+  last_long = omega (
+    arith,
+    c.split_at.ensures.back_len,
+    c.split_at-2.ensures.back_len,
+    c.requires.samples,
+  )
 
 pub returns-in-Ok-clause-ok : goal.returns-in-Ok-clause-ok
 returns-in-Ok-clause-ok c =
@@ -15,17 +33,11 @@ returns-in-Ok-clause-ok c =
     let y = c.split_at.result.0.now in
     let cb = c.split_at-2.result.0.now in
     let cr = c.split_at-2.result.1.now in
-    let is : c.args.samples.now ≡ y ++ (cb ++ cr) = three_parts w c.args.samples.now y
-    c.split_at.result.1.now cb cr c.split_at.ensures.front c.split_at.ensures.back
-    c.split_at-2.ensures.front c.split_at-2.ensures.back in
+    let here = (goal.at.returns-in-Ok-clause-ok c).After-split_at-2 in
+    let is = parts_are here in
     let y_long : length y ≡ w = c.split_at.ensures.front_len in
     let cb_long : length cb ≡ w = c.split_at-2.ensures.front_len in
-    let cr_long : length cr ≡ w = omega (
-      arith,
-      c.split_at.ensures.back_len,
-      c.split_at-2.ensures.back_len,
-      c.requires.samples,
-    ) in
+    let cr_long = last_long here in
     let red = c.inverse_wide.new.r in
     let second = c.inverse_wide.new.g in
     let third = c.inverse_wide.new.b in
@@ -60,17 +72,11 @@ returns-in-Err-clause-err c =
     let y = c.split_at.result.0.now in
     let cb = c.split_at-2.result.0.now in
     let cr = c.split_at-2.result.1.now in
-    let is : c.args.samples.now ≡ y ++ (cb ++ cr) = three_parts w c.args.samples.now y
-    c.split_at.result.1.now cb cr c.split_at.ensures.front c.split_at.ensures.back
-    c.split_at-2.ensures.front c.split_at-2.ensures.back in
+    let here = (goal.at.returns-in-Err-clause-err c).After-split_at-2 in
+    let is = parts_are here in
     let y_long : length y ≡ w = c.split_at.ensures.front_len in
     let cb_long : length cb ≡ w = c.split_at-2.ensures.front_len in
-    let cr_long : length cr ≡ w = omega (
-      arith,
-      c.split_at.ensures.back_len,
-      c.split_at-2.ensures.back_len,
-      c.requires.samples,
-    ) in
+    let cr_long = last_long here in
     colours_end w c.args.samples.now y cb cr is y_long cb_long cr_long d 1 2
     (samples_of d c.inverse_wide.new.r) (samples_of d c.inverse_wide.new.g)
     (samples_of d c.inverse_wide.new.b) c.in-Err.none.x c.in-Err.ensures.inside

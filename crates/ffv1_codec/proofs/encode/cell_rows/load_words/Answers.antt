@@ -1,6 +1,6 @@
 -- `load_words`: the same of samples of more than 8 bits.
 use Rattle.std.proofs.Common.{◌≡◌, refl, zero, suc, ◌+◌, ◌*◌, ◌/◌, ◌<◌, ◌∙◌, ℕ, List, ap, sym}
-use Rattle.std.proofs.Common.{subst, length}
+use Rattle.std.proofs.Common.{subst, length, true}
 use Rattle.ffv1_samples.specs.Samples.{sample_bytes, samples_of}
 use Rattle.ffv1_samples.proofs.Depths.{length_samples}
 use Rattle.ffv1_rct.specs.Lines.{AreCodedIn}
@@ -11,7 +11,19 @@ use Rattle.ffv1_codec.specs.Internal.CellRows.{IsLine}
 use Rattle.ffv1_codec.proofs.RowsShown.{Transformed, is_colour, same_width, luma_shows, blue_shows}
 use Rattle.ffv1_codec.proofs.RowsShown.{red_shows}
 use Rattle.ffv1_codec.proofs.WideLines.{rct_bits}
+use Rattle.ffv1_codec.proofs.encode.cell_rows.load_words.Given.{Over}
+use Rattle.ffv1_codec.proofs.encode.cell_rows.load_words.Goals.{After-depth-depth}
 use Rattle.ffv1_codec.proofs.encode.cell_rows.load_words.Goals as goal
+
+-- RCT has planes of one size
+flat : (g : Over) (c : After-depth-depth g) →
+    (c.args.slice.now.checked.now.configuration.chroma_planes ≡ true)
+    × (c.args.slice.now.checked.now.configuration.log2_h ≡ 0)
+    × (c.args.slice.now.checked.now.configuration.log2_v ≡ 0)
+flat g c =
+    let a = c.args.slice.now.checked.now in
+    c.accepted_configuration_has_sound_parts.ensures.rct a.configuration a.table
+    c.config-config.ensures.accepted (is_colour a.configuration.colour c.requires.rct)
 
 -- a row of a line's samples is as long as the first plane's cell is wide
 filled : (c : Configuration) (planes : Planes) (n p y : ℕ) (line row : List ℕ) → c.log2_h ≡ 0 →
@@ -35,8 +47,7 @@ fill-requires-2 g c =
     let conf = slice.checked.now.configuration in
     let planes = slice.picture.now in
     let n = slice.number in
-    let flat = c.accepted_configuration_has_sound_parts.ensures.rct conf slice.checked.now.table
-    c.config-config.ensures.accepted (is_colour conf.colour c.requires.rct) in
+    let flat = flat g (goal.at.fill-requires-2 g c).After-depth-depth in
     let p = c.green_of-green.result in
     let wide : (cell_in conf planes n p).width ≡ length c.args.second.now.cur.items =
     same_width conf planes n p flat.1 ∙ sym (same_width conf planes n 1 flat.1) ∙
@@ -49,8 +60,7 @@ line-requires-3-clause-inside g c =
     let slice = c.args.slice.now in
     let conf = slice.checked.now.configuration in
     let n = slice.number in
-    let flat = c.accepted_configuration_has_sound_parts.ensures.rct conf slice.checked.now.table
-    c.config-config.ensures.accepted (is_colour conf.colour c.requires.rct) in
+    let flat = flat g (goal.at.line-requires-3-clause-inside g c).After-depth-depth in
     subst (λ h. c.args.y < h) (sym (same_height conf n c.blue_of-blue.result flat.2))
     c.requires.inside
 
@@ -60,8 +70,7 @@ fill-requires-3 g c =
     let conf = slice.checked.now.configuration in
     let planes = slice.picture.now in
     let n = slice.number in
-    let flat = c.accepted_configuration_has_sound_parts.ensures.rct conf slice.checked.now.table
-    c.config-config.ensures.accepted (is_colour conf.colour c.requires.rct) in
+    let flat = flat g (goal.at.fill-requires-3 g c).After-depth-depth in
     let p = c.blue_of-blue.result in
     let wide : (cell_in conf planes n p).width ≡ length c.args.third.now.cur.items =
     same_width conf planes n p flat.1 ∙ sym (same_width conf planes n 2 flat.1) ∙
@@ -81,12 +90,10 @@ transform_words-requires-clause-second g c =
     let samples = g.W.Word.samples in
     let r_row = samples c.fill.new.row.items in
     let h_row = samples c.fill-2.new.row.items in
-    let b_row = samples c.fill-3.new.row.items in
     let conf = slice.checked.now.configuration in
     let planes = slice.picture.now in
     let is : c.depth-depth.result ≡ conf.depth = c.depth-depth.ensures.value in
-    let flat = c.accepted_configuration_has_sound_parts.ensures.rct conf slice.checked.now.table
-    c.config-config.ensures.accepted (is_colour conf.colour c.requires.rct) in
+    let flat = flat g (goal.at.transform_words-requires-clause-second g c).After-depth-depth in
     filled conf planes slice.number c.green_of-green.result c.args.y c.line-2.result.now h_row
     flat.1 c.line-2.ensures.line (c.fill-2.ensures.filled ∙
     ap (λ k. samples_of k c.line-2.result.now) is)
@@ -98,13 +105,11 @@ transform_words-requires-clause-third g c =
     let slice = c.args.slice.now in
     let samples = g.W.Word.samples in
     let r_row = samples c.fill.new.row.items in
-    let h_row = samples c.fill-2.new.row.items in
     let b_row = samples c.fill-3.new.row.items in
     let conf = slice.checked.now.configuration in
     let planes = slice.picture.now in
     let is : c.depth-depth.result ≡ conf.depth = c.depth-depth.ensures.value in
-    let flat = c.accepted_configuration_has_sound_parts.ensures.rct conf slice.checked.now.table
-    c.config-config.ensures.accepted (is_colour conf.colour c.requires.rct) in
+    let flat = flat g (goal.at.transform_words-requires-clause-third g c).After-depth-depth in
     filled conf planes slice.number c.blue_of-blue.result c.args.y c.line-3.result.now b_row flat.1
     c.line-3.ensures.line (c.fill-3.ensures.filled ∙ ap (λ k. samples_of k c.line-3.result.now)
     is)
@@ -125,8 +130,7 @@ returns-clause-loaded g c =
     let d = c.depth-depth.result in
     let is : d ≡ conf.depth = c.depth-depth.ensures.value in
     let width = (cell_in conf planes n 0).width in
-    let flat = c.accepted_configuration_has_sound_parts.ensures.rct conf slice.checked.now.table
-    c.config-config.ensures.accepted (is_colour conf.colour c.requires.rct) in
+    let flat = flat g (goal.at.returns-clause-loaded g c).After-depth-depth in
     let r = c.line.result.now in
     let h = c.line-2.result.now in
     let b = c.line-3.result.now in

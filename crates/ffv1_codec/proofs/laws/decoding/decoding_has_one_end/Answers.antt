@@ -7,7 +7,8 @@ use Rattle.ffv1_record.specs.Accepted.{Accepted, IsAccepted}
 use Rattle.ffv1_slice.specs.Grid.{across, division_of, reduced, whole_of, Lies}
 use Rattle.ffv1_codec.specs.Order.{events_of}
 use Rattle.ffv1_codec.specs.Decoding.{StepsBy, FaultsWith, at_first, slice_number}
-use Rattle.ffv1_codec.proofs.Machines.{Each, each_left, runs_same, runs_or_stops, stops_same}
+use Rattle.ffv1_codec.proofs.Machines.{Each, OneEach, each_left, runs_same, runs_or_stops}
+use Rattle.ffv1_codec.proofs.Machines.{stops_same}
 use Rattle.ffv1_codec.proofs.OneLine.{RowLaws}
 use Rattle.ffv1_codec.proofs.OneEvent.{BytesLaws, IsEvent, one_each}
 use Rattle.ffv1_codec.proofs.EventsOf.{events_are, is_rct_is}
@@ -89,28 +90,33 @@ all_events c a is = events_are a.configuration
     (λ rct. (c.accepted_configuration_has_sound_parts.ensures.rct a.configuration a.table is
     (is_rct_is a.configuration.colour rct)).0)
 
+each_event : (c : goal.After-parts_follow_one_another) (a : Accepted) (coded : ℕ → List ℕ) →
+    IsAccepted a.configuration a.table → ((n : ℕ) → AreBytes (coded n)) → OneEach
+    (StepsBy a coded) (FaultsWith a coded) (IsEvent a.configuration)
+each_event c a coded is are = one_each a coded (bytes_laws c a coded is are)
+
 pub returns-clause-end : goal.returns-clause-end
 returns-clause-end c = λ a coded s t is are f g.
-    let one = one_each a coded (bytes_laws c a coded is are) in
-    runs_same (StepsBy a coded) (FaultsWith a coded) (IsEvent a.configuration) one
+    runs_same (StepsBy a coded) (FaultsWith a coded) (IsEvent a.configuration)
+    (each_event c a coded is are)
     (at_first a.configuration) s t (events_of a.configuration) (all_events c a is) f g
 
 pub returns-clause-apart : goal.returns-clause-apart
 returns-clause-apart c = λ a coded s t f is are g h.
-    let one = one_each a coded (bytes_laws c a coded is are) in
-    runs_or_stops (StepsBy a coded) (FaultsWith a coded) (IsEvent a.configuration) one
+    runs_or_stops (StepsBy a coded) (FaultsWith a coded) (IsEvent a.configuration)
+    (each_event c a coded is are)
     (at_first a.configuration) s t f (events_of a.configuration) (all_events c a is) g h
 
 pub returns-clause-fault : goal.returns-clause-fault
 returns-clause-fault c = λ a coded s t f g is are h j.
-    let one = one_each a coded (bytes_laws c a coded is are) in
-    stops_same (StepsBy a coded) (FaultsWith a coded) (IsEvent a.configuration) one
+    stops_same (StepsBy a coded) (FaultsWith a coded) (IsEvent a.configuration)
+    (each_event c a coded is are)
     (at_first a.configuration) s t f g (events_of a.configuration) (all_events c a is) h j
 
 pub returns-clause-beginning : goal.returns-clause-beginning
 returns-clause-beginning c = λ a coded before after s t is are parts f g.
-    let one = one_each a coded (bytes_laws c a coded is are) in
     let all = each_left (IsEvent a.configuration) before after
     (subst (Each (IsEvent a.configuration)) parts (all_events c a is)) in
-    runs_same (StepsBy a coded) (FaultsWith a coded) (IsEvent a.configuration) one
+    runs_same (StepsBy a coded) (FaultsWith a coded) (IsEvent a.configuration)
+    (each_event c a coded is are)
     (at_first a.configuration) s t before all f g

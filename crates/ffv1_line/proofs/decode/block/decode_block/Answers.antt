@@ -1,12 +1,12 @@
 -- The places of a block, by a decoder of its own.
-use Rattle.std.proofs.Common.{ℕ, ◌≡◌, ◌+◌, ◌-◌, ◌<◌, min, length, arith, sym, subst, ◌∙◌}
+use Rattle.std.proofs.Common.{ℕ, ◌≡◌, ◌+◌, ◌-◌, min, length, arith, sym, subst, ◌∙◌}
 use Rattle.std.proofs.lemmas.List.{length-set}
 use Rattle.ffv1_range.specs.Reading.{summed}
 use Rattle.ffv1_range.specs.Among.{sums_among}
-use Rattle.ffv1_line.specs.Internal.Places.{ReadOn, above_of}
+use Rattle.ffv1_line.specs.Internal.Places.{ReadOn}
 use Rattle.ffv1_line.proofs.Rows.{lined_next, lined_refused, same_from_next}
-use Rattle.ffv1_line.proofs.Prepared.{stands_behind, behind_here, behind_next, prepared_at}
-use Rattle.ffv1_line.proofs.Zeros.{read_nothing}
+use Rattle.ffv1_line.proofs.Prepared.{behind_here, behind_next, comes}
+use Rattle.ffv1_line.proofs.Zeros.{read_nothing, read_further}
 use Rattle.ffv1_line.specs.Coder.{decoder_by}
 use Rattle.ffv1_line.proofs.decode.block.decode_block.Goals as goal
 
@@ -28,68 +28,47 @@ places-init g c =
 pub places-preserved : goal.places-preserved
 places-preserved g c =
     let p = c.args.places.now in
-    let i : ℕ = c.decode_zeros-i.result in
-    let x : ℕ = p.from + i in
-    let more : p.from + (i + 1) ≡ x + 1 = omega arith in
+    let x : ℕ = p.from + c.decode_zeros-i.result in
+    let more : p.from + (c.decode_zeros-i.result + 1) ≡ x + 1 = omega arith in
     let at = c.decode_zeros-i.ensures.stands in
-    let ready = at.ready in
-    let filled = ready.places.filled in
-    let row = c.decode_zeros-i.new.cur in
-    let above : x < length p.one.now = omega (arith, at.inside, ready.places.within) in
-    let within : x < length row = omega (arith, above, ready.long) in
-    let wide : length p.one.now ≡ length row = omega (arith, ready.long) in
-    let stands = stands_behind (above_of p) row x c.decode_zeros-i.new.behind.ll
-    c.decode_zeros-i.new.behind.l _ _ above
-    (filled.above.tl_is i at.inside) (filled.above.t_is i at.inside) at.begins in
-    let prepared = prepared_at _ _ _ _ _ _ i filled at.inside in
+    let here = comes p _ _ _ _ at in
     let kept = c.places.invariant in
-    let zeros = c.decode_zeros-i.ensures.read.read c.places.nonzeros kept.few in
+    let read = read_further p _ _ _ _ _ _ _ _ _ kept.read
+    (c.decode_zeros-i.ensures.read.read c.places.nonzeros kept.few) in
     record {
       inside = omega (arith, at.inside);
       ready = record {
-        places = ready.places;
-        long = length-set row x _ ∙ ready.long;
-        rows = omega (arith, ready.rows);
+        places = at.ready.places;
+        long = length-set c.decode_zeros-i.new.cur x _ ∙ at.ready.long;
+        rows = omega (arith, at.ready.rows);
         held = c.in-Ok.ensures.held;
       };
       are = c.in-Ok.ensures.are;
       few = c.in-Ok.ensures.few;
-      begins = rw more (behind_next _ _ x _ _ _ _ _ within wide stands);
+      begins = rw more (behind_next _ _ x _ _ _ _ _ here.within here.wide here.stands);
       read = record {
-        on = λ before on. rw more (same_from_next _ _ _ _
-            (zeros.on before (kept.read.on before on)));
+        on = λ before on. rw more (same_from_next _ _ _ _ (read.on before on));
         lined = λ first lined. rw more (lined_next _ _ _ _ _ _ x
-            (min (x + 1) (length p.one.now - 1)) _ _ _ _ _ (omega arith) within wide stands
-            (zeros.lined first (kept.read.lined first lined)) (c.in-Ok.ensures.ok _ _ prepared));
+            (min (x + 1) (length p.one.now - 1)) _ _ _ _ _ (omega arith) here.within here.wide
+            here.stands (read.lined first lined) (c.in-Ok.ensures.ok _ _ here.prepared));
       };
     }
 
 pub returns-in-Err-clause-refused : goal.returns-in-Err-clause-refused
 returns-in-Err-clause-refused g c =
     let p = c.args.places.now in
-    let i : ℕ = c.decode_zeros-i.result in
-    let x : ℕ = p.from + i in
-    let at = c.decode_zeros-i.ensures.stands in
-    let ready = at.ready in
-    let filled = ready.places.filled in
-    let row = c.decode_zeros-i.new.cur in
-    let above : x < length p.one.now = omega (arith, at.inside, ready.places.within) in
-    let within : x < length row = omega (arith, above, ready.long) in
-    let wide : length p.one.now ≡ length row = omega (arith, ready.long) in
-    let stands = stands_behind (above_of p) row x c.decode_zeros-i.new.behind.ll
-    c.decode_zeros-i.new.behind.l _ _ above
-    (filled.above.tl_is i at.inside) (filled.above.t_is i at.inside) at.begins in
-    let prepared = prepared_at _ _ _ _ _ _ i filled at.inside in
+    let x : ℕ = p.from + c.decode_zeros-i.result in
+    let here = comes p _ _ _ _ c.decode_zeros-i.ensures.stands in
     let kept = c.places.invariant in
-    let zeros = c.decode_zeros-i.ensures.read.read c.places.nonzeros kept.few in
+    let read = read_further p _ _ _ _ _ _ _ _ _ kept.read
+    (c.decode_zeros-i.ensures.read.read c.places.nonzeros kept.few) in
     record {
-      inside = within;
-      on = λ before on. zeros.on before (kept.read.on before on);
+      inside = here.within;
+      on = read.on;
       refused = λ first lined. rw (c.count_all.ensures, c.among_refused.ensures)
           (lined_refused _ _ _ _ _ _ x (min (x + 1) (length p.one.now - 1)) _ _ _ _ (omega arith)
-          within wide stands
-          (zeros.lined first (kept.read.lined first lined))
-          (c.in-Err.ensures.refused _ _ prepared));
+          here.within here.wide here.stands (read.lined first lined)
+          (c.in-Err.ensures.refused _ _ here.prepared));
     }
 
 pub returns-clause-ok : goal.returns-clause-ok

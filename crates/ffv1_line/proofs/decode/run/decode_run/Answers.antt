@@ -8,25 +8,31 @@ use mir.Val.{SFits}
 use Rattle.ffv1_line.specs.Internal.Along.{HasRunContext}
 use Rattle.ffv1_line.proofs.EqualNeighbours.{comes_again}
 use Rattle.ffv1_line.proofs.Zeros.{held_with}
+use Rattle.ffv1_line.proofs.decode.run.decode_run.Given.{Over}
+use Rattle.ffv1_line.proofs.decode.run.decode_run.Goals.{After-is_a_bounded_set}
 use Rattle.ffv1_line.proofs.decode.run.decode_run.Goals as goal
 
-pub bounds-states-0 : goal.bounds-states-0
-bounds-states-0 g c =
+-- a set has a context, and so a state
+some : (g : Over) (c : After-is_a_bounded_set g) → 0 < length c.args.states.now
+some g c =
     let below = c.is_a_bounded_set.ensures.below
     (record { l = 0; t = 0; tl = 0; tr = 0; ll = 0; tt = 0 }) in
     omega (arith, below, c.requires.stands.ready.rows)
 
+pub bounds-states-0 : goal.bounds-states-0
+bounds-states-0 g c =
+    some g (goal.at.bounds-states-0 g c).After-is_a_bounded_set
+
 pub take_zeros-left-requires : goal.take_zeros-left-requires
 take_zeros-left-requires g c =
-    let below = c.is_a_bounded_set.ensures.below
-    (record { l = 0; t = 0; tl = 0; tr = 0; ll = 0; tt = 0 }) in
+    let some = some g (goal.at.take_zeros-left-requires g c).After-is_a_bounded_set in
     let stands = c.requires.stands in
     let fits : SFits w32 c.predict_late.result = search rules in
     record {
       may = record {
         places = stands.ready.places;
         long = stands.ready.long;
-        held = stands.ready.held.held 0 (omega (arith, below, stands.ready.rows));
+        held = stands.ready.held.held 0 some;
         inside = stands.inside;
         begins = stands.begins;
         left = search rules;
@@ -39,16 +45,12 @@ take_zeros-left-requires g c =
 
 pub bounds-states-0-2 : goal.bounds-states-0-2
 bounds-states-0-2 g c =
-    let below = c.is_a_bounded_set.ensures.below
-    (record { l = 0; t = 0; tl = 0; tr = 0; ll = 0; tt = 0 }) in
-    omega (arith, below, c.requires.stands.ready.rows)
+    some g (goal.at.bounds-states-0-2 g c).After-is_a_bounded_set
 
 pub returns-clause-stands : goal.returns-clause-stands
 returns-clause-stands g c =
     let ready = c.requires.stands.ready in
-    let below = c.is_a_bounded_set.ensures.below
-    (record { l = 0; t = 0; tl = 0; tr = 0; ll = 0; tt = 0 }) in
-    let some : 0 < length c.args.states.now = omega (arith, below, ready.rows) in
+    let some = some g (goal.at.returns-clause-stands g c).After-is_a_bounded_set in
     record {
       ready = record {
         places = ready.places;
@@ -63,9 +65,7 @@ returns-clause-stands g c =
 
 pub returns-clause-read : goal.returns-clause-read
 returns-clause-read g c =
-    let below = c.is_a_bounded_set.ensures.below
-    (record { l = 0; t = 0; tl = 0; tr = 0; ll = 0; tt = 0 }) in
-    let some : 0 < length c.args.states.now = omega (arith, below, c.requires.stands.ready.rows) in
+    let some = some g (goal.at.returns-clause-read g c).After-is_a_bounded_set in
     let run : HasRunContext c.args.places.now.set.now =
     record {
       each = c.flat_place_has_first_context.ensures c.args.places.now.set.now

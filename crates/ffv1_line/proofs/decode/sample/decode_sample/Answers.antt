@@ -1,25 +1,16 @@
 -- The sample that comes next, at place `i` of a block, which adds its symbol to `nonzeros`.
-use Rattle.std.proofs.Common.{refl, sym, ◌∙◌, get_or, rules}
+use Rattle.std.proofs.Common.{refl, sym, ◌∙◌, rules}
 use Rattle.std.proofs.lemmas.Int.{to_z-of_z}
 use Rattle.std.specs.Int.{w32}
 use mir.Val.{SFits}
-use Rattle.ffv1_plane.specs.declared.prediction.Around.{Around}
 use Rattle.ffv1_line.proofs.Narrow.{unsigned_below}
 use Rattle.ffv1_line.proofs.Prepared.{sampled_by_zero, sampled_by_sign, refused_by}
-use Rattle.ffv1_line.specs.Internal.Places.{coding_of}
+use Rattle.ffv1_line.specs.Internal.Places.{coding_of, around_place}
 use Rattle.ffv1_line.proofs.decode.sample.decode_sample.Goals as goal
 
 pub returns-in-Ok-None-clause-ok : goal.returns-in-Ok-None-clause-ok
 returns-in-Ok-None-clause-ok g c = λ tr tt prepared.
-    let a : Around = record {
-      l = c.args.behind.l;
-      t = get_or c.args.places.now.early.now.t c.args.i
-          0;
-      tl = get_or c.args.places.now.early.now.tl c.args.i 0;
-      tr = tr;
-      ll = c.args.behind.ll;
-      tt = tt;
-    } in
+    let a = around_place c.args.places.now c.args.i c.args.behind tr tt in
     let prediction : SFits w32 c.predict_late-prediction.result = search rules in
     sampled_by_zero (coding_of c.args.places.now) _ _ a c.deep_sample.result
     c.late_context-context.result.0 c.late_context-context.result.1
@@ -33,15 +24,7 @@ returns-in-Ok-None-clause-ok g c = λ tr tt prepared.
 
 pub returns-in-Ok-Some-clause-ok : goal.returns-in-Ok-Some-clause-ok
 returns-in-Ok-Some-clause-ok g c = λ tr tt prepared.
-    let a : Around = record {
-      l = c.args.behind.l;
-      t = get_or c.args.places.now.early.now.t c.args.i
-          0;
-      tl = get_or c.args.places.now.early.now.tl c.args.i 0;
-      tr = tr;
-      ll = c.args.behind.ll;
-      tt = tt;
-    } in
+    let a = around_place c.args.places.now c.args.i c.args.behind tr tt in
     let prediction : SFits w32 c.predict_late-prediction.result = search rules in
     sampled_by_sign (coding_of c.args.places.now) _ _ a c.sample_by_sign.result
     c.late_context-context.result.0 c.late_context-context.result.1
@@ -56,15 +39,7 @@ returns-in-Ok-Some-clause-ok g c = λ tr tt prepared.
 
 pub returns-in-Err-clause-refused : goal.returns-in-Err-clause-refused
 returns-in-Err-clause-refused g c = λ tr tt prepared.
-    let a : Around = record {
-      l = c.args.behind.l;
-      t = get_or c.args.places.now.early.now.t c.args.i
-          0;
-      tl = get_or c.args.places.now.early.now.tl c.args.i 0;
-      tr = tr;
-      ll = c.args.behind.ll;
-      tt = tt;
-    } in
+    let a = around_place c.args.places.now c.args.i c.args.behind tr tt in
     refused_by c.args.places.now.table.now c.args.places.now.set.now _ _ _ _ a
     c.late_context-context.result.0 (c.late_context-context.ensures.size _ tr tt prepared.early)
     (c.in-Err.ensures.refused c.args.i c.requires.few)

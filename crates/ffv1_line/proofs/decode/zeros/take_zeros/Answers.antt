@@ -77,16 +77,14 @@ loop-at-preserved g c =
       };
     }
 
-pub returns-clause-begins : goal.returns-clause-begins
-returns-clause-begins g c =
+pub returns : goal.returns
+returns g c =
     let most = c.loop-at.auto.at-end (omega (arith, c.requires.may.inside)) in
     let end : c.args.places.now.count - 1 ≡ c.loop-at.at =
     omega (arith, c.requires.may.inside, most) in
-    rw end c.loop-at.invariant.begins
-
-pub returns-clause-read : goal.returns-clause-read
-returns-clause-read g c =
-    let most = c.loop-at.auto.at-end (omega (arith, c.requires.may.inside)) in
-    let end : c.args.places.now.count - 1 ≡ c.loop-at.at =
-    omega (arith, c.requires.may.inside, most) in
-    λ size shares. rw end (c.loop-at.invariant.read size shares)
+    record {
+      inside = omega (arith, c.requires.may.inside);
+      begins = rw end c.loop-at.invariant.begins;
+      read = λ size shares. rw end (c.loop-at.invariant.read size shares);
+      held = c.loop-at.invariant.held;
+    }

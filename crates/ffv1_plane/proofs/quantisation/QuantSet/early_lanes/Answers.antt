@@ -3,30 +3,35 @@ use Rattle.std.proofs.Common.{ℕ, ◌∙◌, ◌+◌, ◌-◌, arith}
 use Rattle.std.proofs.lemmas.Simd.{zip2_of_maps, splat_is_map}
 use Rattle.ffv1_plane.specs.Context.{low}
 use Rattle.ffv1_plane.specs.Raised.{raised_entry}
-use Rattle.ffv1_plane.proofs.Sums.{set_of}
 use Rattle.ffv1_plane.proofs.LaneValues.{by_values}
-use Rattle.ffv1_plane.proofs.LaneSums.{lanes_at, raise_at, plus, low_below, early_three_added}
-use Rattle.ffv1_plane.proofs.LaneSums.{early_added}
+use Rattle.ffv1_plane.proofs.LaneSums.{AreLaned, are_laned, plus, low_below}
+use Rattle.ffv1_plane.proofs.LaneSums.{early_three_added, early_added}
 use Rattle.ffv1_plane.proofs.EarlySums.{early_is, early_of_three}
+use Rattle.ffv1_plane.proofs.quantisation.QuantSet.early_lanes.Given.{Over}
+use Rattle.ffv1_plane.proofs.quantisation.QuantSet.early_lanes.Goals.{After-self}
 use Rattle.ffv1_plane.proofs.quantisation.QuantSet.early_lanes.Goals as goal
+
+-- the set's tables and their lanes
+tables : (g : Over) (c : After-self g) → AreLaned c.self.inside.first c.self.inside.second
+    c.self.inside.third c.self.inside.fourth c.self.inside.fifth c.self.inside.half
+    c.args.lanes.now
+tables g c = are_laned _ _ _ _ _ _ _ _ c.self.view_is c.self.invariant c.requires.few
+    c.requires.lanes
 
 pub raised_lanes-requires : goal.raised_lanes-requires
 raised_lanes-requires g c =
-    let few = rw (← c.self.view_is) at c.requires.few in
-    let lanes = rw (← c.self.view_is) at c.requires.lanes in
-    record { few = few.second; table = lanes_at _ _ _ c.self.invariant.second_scale lanes.second }
+    let second = (tables g (goal.at.raised_lanes-requires g c).After-self).second in
+    record { few = second.few; table = second.table }
 
 pub raised_lanes-requires-2 : goal.raised_lanes-requires-2
 raised_lanes-requires-2 g c =
-    let few = rw (← c.self.view_is) at c.requires.few in
-    let lanes = rw (← c.self.view_is) at c.requires.lanes in
-    record { few = few.third; table = lanes_at _ _ _ c.self.invariant.third_scale lanes.third }
+    let third = (tables g (goal.at.raised_lanes-requires-2 g c).After-self).third in
+    record { few = third.few; table = third.table }
 
 pub raised_lanes-requires-3 : goal.raised_lanes-requires-3
 raised_lanes-requires-3 g c =
-    let few = rw (← c.self.view_is) at c.requires.few in
-    let lanes = rw (← c.self.view_is) at c.requires.lanes in
-    record { few = few.fifth; table = lanes_at _ _ _ c.self.invariant.fifth_scale lanes.fifth }
+    let fifth = (tables g (goal.at.raised_lanes-requires-3 g c).After-self).fifth in
+    record { few = fifth.few; table = fifth.table }
 
 pub returns-then-three_tables : goal.returns-then-three_tables
 returns-then-three_tables g c = rw (← c.self.view_is) (λ places f i h k long tl t tr tt fits fits'.
@@ -36,9 +41,7 @@ returns-then-three_tables g c = rw (← c.self.view_is) (λ places f i h k long 
     let r3 = λ (x : ℕ). raised_entry set.third (low (i x) (h x)) in
     let few = c.self.invariant.set.few in
     let count = c.self.invariant.contexts in
-    let lanes = rw (← c.self.view_is) at c.requires.lanes in
-    let raise = raise_at (set_of set.first set.second set.third set.fourth set.fifth) set.half _
-    count lanes.raise in
+    let raise = (tables g (goal.at.returns-then-three_tables g c).After-self).raise in
     let halves = c.self.invariant.halves in (
       λ x. r2 x + r3 x + (32768 - set.half),
       by_values places _ _ _
@@ -64,9 +67,7 @@ returns g c = rw (← c.self.view_is) (λ places f i h k long tl t tr tt fits fi
     let r5 = λ (x : ℕ). raised_entry set.fifth (low (k x) (i x)) in
     let few = c.self.invariant.set.few in
     let count = c.self.invariant.contexts in
-    let lanes = rw (← c.self.view_is) at c.requires.lanes in
-    let raise = raise_at (set_of set.first set.second set.third set.fourth set.fifth) set.half _
-    count lanes.raise in
+    let raise = (tables g (goal.at.returns g c).After-self).raise in
     let halves = c.self.invariant.halves in (
       λ x. r2 x + r3 x + (32768 - set.half) + r5 x,
       by_values places _ _ _

@@ -1,7 +1,7 @@
 -- The set of five tables by their runs (RFC 9043, 4.1): run `v` of a table, from 0, gives `scale *
 -- v` to its next entries until 128 are filled.
 use Rattle.std.proofs.Common.{◌≡◌, refl, ◌∙◌, sym, ℕ, List, [], ◌∷◌, map, length, get_or, arith}
-use Rattle.std.proofs.Common.{Bor}
+use Rattle.std.proofs.Common.{Bor, rules}
 use Rattle.std.proofs.lemmas.Bool.{both_ways}
 use Rattle.ffv1_plane.proofs.quantisation.QuantSet.from_runs.Goals as goal
 
@@ -17,19 +17,15 @@ five (a ∷ b ∷ c ∷ e ∷ []) d h = absurd (omega arith)
 five (a ∷ b ∷ c ∷ e ∷ f ∷ []) d h = refl
 five (a ∷ b ∷ c ∷ e ∷ f ∷ g ∷ more) d h = absurd (omega arith)
 
-pub returns-clause-runs : goal.returns-clause-runs
-returns-clause-runs g c =
-    let listed = five c.args.runs.now (record { ref_ptr = (0, 0); now = [] }) c.told-runs in
-    let set = c.in_ok-scales.ensures.ok.set in
-    (λ h. cc, λ no. absurd (both_ways _ no (rw listed set.filled)))
-
-pub returns-clause-contexts : goal.returns-clause-contexts
-returns-clause-contexts g c =
+pub returns : goal.returns
+returns g c =
     let listed = five c.args.runs.now (record { ref_ptr = (0, 0); now = [] }) c.told-runs in
     let set = c.in_ok-scales.ensures.ok.set in
     let few = set.few in
-    (λ h. cc, λ more. let many = rw listed at more.1 in absurd (omega arith))
-
-pub returns-clause-ok : goal.returns-clause-ok
-returns-clause-ok g c = c.in_ok-set.ensures ∙ sym (five c.args.runs.now
-    (record { ref_ptr = (0, 0); now = [] }) c.told-runs)
+    record {
+      runs = (λ h. cc, λ no. absurd (both_ways _ no (rw listed set.filled)));
+      contexts = (λ h. cc, λ more. let many = rw listed at more.1 in absurd (omega arith));
+      memory = search rules;
+      ok = c.in_ok-set.ensures ∙ sym listed;
+      set = search rules;
+    }

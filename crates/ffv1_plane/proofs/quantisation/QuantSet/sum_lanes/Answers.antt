@@ -5,39 +5,43 @@ use Rattle.std.proofs.lemmas.Simd.{zip2_of_maps}
 use Rattle.ffv1_plane.specs.Context.{low}
 use Rattle.ffv1_plane.specs.Raised.{raised_entry}
 use Rattle.ffv1_plane.proofs.LaneValues.{by_values}
-use Rattle.ffv1_plane.proofs.LaneSums.{lanes_at, half_is, sum_of_three, sum_of_five, plus}
-use Rattle.ffv1_plane.proofs.LaneSums.{three_added, five_added}
+use Rattle.ffv1_plane.proofs.LaneSums.{AreLaned, are_laned, sum_context, sum_most}
+use Rattle.ffv1_plane.proofs.LaneSums.{sum_of_three, sum_of_five, plus, three_added, five_added}
+use Rattle.ffv1_plane.proofs.quantisation.QuantSet.sum_lanes.Given.{Over}
+use Rattle.ffv1_plane.proofs.quantisation.QuantSet.sum_lanes.Goals.{After-self}
 use Rattle.ffv1_plane.proofs.quantisation.QuantSet.sum_lanes.Goals as goal
+
+-- the set's tables and their lanes
+tables : (g : Over) (c : After-self g) → AreLaned c.self.inside.first c.self.inside.second
+    c.self.inside.third c.self.inside.fourth c.self.inside.fifth c.self.inside.half
+    c.args.lanes.now
+tables g c = are_laned _ _ _ _ _ _ _ _ c.self.view_is c.self.invariant c.requires.few
+    c.requires.lanes
 
 pub raised_lanes-requires : goal.raised_lanes-requires
 raised_lanes-requires g c =
-    let few = rw (← c.self.view_is) at c.requires.few in
-    let lanes = rw (← c.self.view_is) at c.requires.lanes in
-    record { few = few.second; table = lanes_at _ _ _ c.self.invariant.second_scale lanes.second }
+    let second = (tables g (goal.at.raised_lanes-requires g c).After-self).second in
+    record { few = second.few; table = second.table }
 
 pub raised_lanes-requires-2 : goal.raised_lanes-requires-2
 raised_lanes-requires-2 g c =
-    let few = rw (← c.self.view_is) at c.requires.few in
-    let lanes = rw (← c.self.view_is) at c.requires.lanes in
-    record { few = few.third; table = lanes_at _ _ _ c.self.invariant.third_scale lanes.third }
+    let third = (tables g (goal.at.raised_lanes-requires-2 g c).After-self).third in
+    record { few = third.few; table = third.table }
 
 pub raised_lanes-left-requires : goal.raised_lanes-left-requires
 raised_lanes-left-requires g c =
-    let few = rw (← c.self.view_is) at c.requires.few in
-    let lanes = rw (← c.self.view_is) at c.requires.lanes in
-    record { few = few.first; table = lanes_at _ _ _ c.self.invariant.first_scale lanes.first }
+    let first = (tables g (goal.at.raised_lanes-left-requires g c).After-self).first in
+    record { few = first.few; table = first.table }
 
 pub raised_lanes-requires-3 : goal.raised_lanes-requires-3
 raised_lanes-requires-3 g c =
-    let few = rw (← c.self.view_is) at c.requires.few in
-    let lanes = rw (← c.self.view_is) at c.requires.lanes in
-    record { few = few.fourth; table = lanes_at _ _ _ c.self.invariant.fourth_scale lanes.fourth }
+    let fourth = (tables g (goal.at.raised_lanes-requires-3 g c).After-self).fourth in
+    record { few = fourth.few; table = fourth.table }
 
 pub raised_lanes-requires-4 : goal.raised_lanes-requires-4
 raised_lanes-requires-4 g c =
-    let few = rw (← c.self.view_is) at c.requires.few in
-    let lanes = rw (← c.self.view_is) at c.requires.lanes in
-    record { few = few.fifth; table = lanes_at _ _ _ c.self.invariant.fifth_scale lanes.fifth }
+    let fifth = (tables g (goal.at.raised_lanes-requires-4 g c).After-self).fifth in
+    record { few = fifth.few; table = fifth.table }
 
 pub returns-then-three_tables-clause-sums : goal.returns-then-three_tables-clause-sums
 returns-then-three_tables-clause-sums g c = rw (← c.self.view_is) (λ places a long is.
@@ -62,23 +66,11 @@ returns-then-three_tables-clause-sums g c = rw (← c.self.view_is) (λ places a
 
 pub returns-then-three_tables-clause-context : goal.returns-then-three_tables-clause-context
 returns-then-three_tables-clause-context g c = rw (← c.self.view_is) (λ a.
-    let three = rw (← c.self.view_is) at c.requires.three_tables c.if-three_tables.true in
-    let t = c.self.inside in
-    let sum = sum_of_three t.first t.second t.third t.fourth t.fifth t.half a c.self.invariant three
-    c.raised_lanes-left.ensures.entries c.raised_lanes.ensures.entries
-    c.raised_lanes-2.ensures.entries
-    c.raised_lanes-left.ensures.most c.raised_lanes.ensures.most c.raised_lanes-2.ensures.most in
-    rw (sum.is, half_is _ t.half c.self.invariant.contexts) sum.context)
+    sum_context _ a c.self.invariant.set)
 
 pub returns-then-three_tables-clause-most : goal.returns-then-three_tables-clause-most
 returns-then-three_tables-clause-most g c = rw (← c.self.view_is) (λ a.
-    let three = rw (← c.self.view_is) at c.requires.three_tables c.if-three_tables.true in
-    let t = c.self.inside in
-    let sum = sum_of_three t.first t.second t.third t.fourth t.fifth t.half a c.self.invariant three
-    c.raised_lanes-left.ensures.entries c.raised_lanes.ensures.entries
-    c.raised_lanes-2.ensures.entries
-    c.raised_lanes-left.ensures.most c.raised_lanes.ensures.most c.raised_lanes-2.ensures.most in
-    rw (sum.is, half_is _ t.half c.self.invariant.contexts) sum.most)
+    sum_most _ a c.self.invariant.set)
 
 pub returns-clause-sums : goal.returns-clause-sums
 returns-clause-sums g c = rw (← c.self.view_is) (λ places a long is.
@@ -110,25 +102,11 @@ returns-clause-sums g c = rw (← c.self.view_is) (λ places a long is.
 
 pub returns-clause-context : goal.returns-clause-context
 returns-clause-context g c = rw (← c.self.view_is) (λ a.
-    let t = c.self.inside in
-    let sum = sum_of_five t.first t.second t.third t.fourth t.fifth t.half a c.self.invariant
-    c.raised_lanes-left.ensures.entries c.raised_lanes.ensures.entries
-    c.raised_lanes-2.ensures.entries
-    c.raised_lanes-3.ensures.entries c.raised_lanes-4.ensures.entries
-    c.raised_lanes-left.ensures.most c.raised_lanes.ensures.most c.raised_lanes-2.ensures.most
-    c.raised_lanes-3.ensures.most c.raised_lanes-4.ensures.most in
-    rw (sum.is, half_is _ t.half c.self.invariant.contexts) sum.context)
+    sum_context _ a c.self.invariant.set)
 
 pub returns-clause-most : goal.returns-clause-most
 returns-clause-most g c = rw (← c.self.view_is) (λ a.
-    let t = c.self.inside in
-    let sum = sum_of_five t.first t.second t.third t.fourth t.fifth t.half a c.self.invariant
-    c.raised_lanes-left.ensures.entries c.raised_lanes.ensures.entries
-    c.raised_lanes-2.ensures.entries
-    c.raised_lanes-3.ensures.entries c.raised_lanes-4.ensures.entries
-    c.raised_lanes-left.ensures.most c.raised_lanes.ensures.most c.raised_lanes-2.ensures.most
-    c.raised_lanes-3.ensures.most c.raised_lanes-4.ensures.most in
-    rw (sum.is, half_is _ t.half c.self.invariant.contexts) sum.most)
+    sum_most _ a c.self.invariant.set)
 
 pub returns-then-three_tables-clause-few : goal.returns-then-three_tables-clause-few
 returns-then-three_tables-clause-few g c = rw (← c.self.view_is) c.self.invariant.set.few

@@ -31,7 +31,6 @@ returns-clause-follows c =
     let ones = magnitude_ones _ _ c.ones_below-ones.result exponent
     (rw exponent at c.ones_below-ones.ensures.ones) in
     let long = magnitude_length c.get_mantissa-number.result _ exponent in
-    let few = rw exponent at c.ones_below-ones.ensures.few in
     let reads = magnitude_reads _ _ _ _ _ _ _ _ _ c.in-Ok.exponent _ c.in-Ok.ensures.small
     c.get_mantissa-number.ensures.least c.get_mantissa-number.ensures.most
     c.if-decide_slot.ensures.reads c.in-Ok.ensures.reads c.get_mantissa-number.ensures.reads in
@@ -43,5 +42,4 @@ pub overflow_sub-exponent : goal.overflow_sub-exponent
 overflow_sub-exponent c =
     let exponent = exponent_is c.in-Ok.exponent c.get_mantissa-number.result
     c.get_mantissa-number.ensures.least c.get_mantissa-number.ensures.most in
-    let few = rw exponent at c.ones_below-ones.ensures.few in
     omega arith

@@ -1,45 +1,37 @@
 -- The number of an exponent below 10, whose highest bit is not coded: each of its bits has a slot
 -- of its own.
-use Rattle.std.proofs.Common.{◌≡◌, ◌+◌, ◌-◌, ◌<◌, ◌∙◌, min, arith}
-use Rattle.std.proofs.Math.Nat.{pow-succ'}
-use Rattle.ffv1_range.proofs.Steps.{reads_append}
+use Rattle.std.proofs.Common.{◌≡◌, ◌+◌, ◌-◌, min, arith}
 use Rattle.ffv1_range.proofs.Signed.{number_fits}
-use Rattle.ffv1_range.proofs.Mantissa.{next_fits, longer, mantissa_bit, bit_is, one_if_most}
+use Rattle.ffv1_range.proofs.Mantissa.{next_fits, bit_fits, bit_read}
 use Rattle.ffv1_range.proofs.decoder.symbol.get_near.Goals as goal
 
 pub overflow_mul-number : goal.overflow_mul-number
 overflow_mul-number c =
     let fits = next_fits c.args.exponent c.loop-place.place c.loop-place.number
-    (omega (arith, c.requires.small)) (omega arith) c.loop-place.invariant.below
-    c.loop-place.invariant.most in omega arith
+    (omega (arith, c.requires.small)) (omega arith)
+    c.loop-place.invariant.below c.loop-place.invariant.most in omega arith
 
 pub overflow_add-number : goal.overflow_add-number
 overflow_add-number c =
-    let fits = next_fits c.args.exponent c.loop-place.place c.loop-place.number
-    (omega (arith, c.requires.small)) (omega arith) c.loop-place.invariant.below
-    c.loop-place.invariant.most in
-    let bit = c.from.ensures ∙ bit_is c.choose_slot.result in
-    let most = one_if_most c.choose_slot.result in
+    let fits = bit_fits c.args.exponent c.loop-place.place c.loop-place.number c.from.result
+    c.choose_slot.result (omega (arith, c.requires.small)) (omega arith)
+    c.loop-place.invariant.below c.loop-place.invariant.most c.from.ensures in
     omega arith
 
 pub loop-place-preserved : goal.loop-place-preserved
 loop-place-preserved c =
-    let positive : 0 < c.loop-place.place = omega arith in
     let slot : 22 + (c.loop-place.place - 1) ≡ 22 + min (c.loop-place.place - 1) 9 =
-    omega (arith, c.requires.small, c.loop-place.invariant.below, positive) in
-    let more = longer c.args.exponent c.loop-place.place (omega arith)
-    c.loop-place.invariant.below in
-    let bit = c.from.ensures ∙ bit_is c.choose_slot.result in
-    let most = one_if_most c.choose_slot.result in
-    let steps = mantissa_bit (c.args.exponent - c.loop-place.place) c.loop-place.place
-    c.loop-place.number c.choose_slot.result positive in
+    omega (arith, c.requires.small, c.loop-place.invariant.below) in
+    let read = bit_read _ _ _ _ _ _ _ c.args.exponent c.loop-place.place c.loop-place.number _
+    c.choose_slot.result (omega arith) c.loop-place.invariant.below c.loop-place.invariant.least
+    c.loop-place.invariant.most c.from.ensures c.loop-place.invariant.reads
+    (rw slot at c.choose_slot.ensures.reads) in
     record {
       held = c.choose_slot.ensures.held;
       below = omega arith;
-      least = rw (more, pow-succ' 2) (omega arith);
-      most = rw (more, pow-succ' 2) (omega arith);
-      reads = rw (more, bit, steps) (reads_append _ _ _ _ _ _ _ _ _ c.loop-place.invariant.reads
-          (rw slot at c.choose_slot.ensures.reads));
+      least = read.least;
+      most = read.most;
+      reads = read.reads;
     }
 
 pub returns-clause-reads : goal.returns-clause-reads

@@ -11,19 +11,16 @@ pub returns-then-next-lt-FULL-clause-few : goal.returns-then-next-lt-FULL-clause
 returns-then-next-lt-FULL-clause-few g c = not_full c.renormalise_marked-next.result.low
     (omega arith)
 
-pub emit_word-requires-clause-below : goal.emit_word-requires-clause-below
-emit_word-requires-clause-below g c =
+pub emit_word-requires : goal.emit_word-requires
+emit_word-requires g c =
     let marked : IsMarked c.args.bytes.now.items c.renormalise_marked-next.result.low
     c.renormalise_marked-next.result.width = search rules in
     let holding = holding_full _ _ _ (omega arith) marked in
-    omega (arith, holding.below, holding.least)
-
-pub emit_word-requires-clause-room : goal.emit_word-requires-clause-room
-emit_word-requires-clause-room g c =
-    let marked : IsMarked c.args.bytes.now.items c.renormalise_marked-next.result.low
-    c.renormalise_marked-next.result.width = search rules in
-    let holding = holding_full _ _ _ (omega arith) marked in
-    omega (arith, holding.room, holding.least)
+    record {
+      bytes_fit = search rules;
+      below = omega (arith, holding.below, holding.least);
+      room = omega (arith, holding.room, holding.least);
+    }
 
 pub returns-in_err-emit_word-clause-refused : goal.returns-in_err-emit_word-clause-refused
 returns-in_err-emit_word-clause-refused g c =

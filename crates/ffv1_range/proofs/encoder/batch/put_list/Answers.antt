@@ -7,7 +7,17 @@ use Rattle.ffv1_range.specs.Listed.{steps_of}
 use Rattle.ffv1_range.specs.Puts.{Grows}
 use Rattle.ffv1_range.proofs.Growth.{on_err}
 use Rattle.ffv1_range.proofs.Marks.{begun_interval, begun_marked, held_none}
+use Rattle.ffv1_range.proofs.encoder.batch.put_list.Given.{Over}
+use Rattle.ffv1_range.proofs.encoder.batch.put_list.Goals.{After-from}
 use Rattle.ffv1_range.proofs.encoder.batch.put_list.Goals as goal
+
+-- where no byte is held back, the interval is the encoder's
+begun : (g : Over) (c : After-from g) → interval_marked c.args.bytes.now.items
+    (c.from.result + 2147483648) c.args.span.now.width ≡ interval_from c.args.bytes.now.items
+    c.args.span.now.low c.args.span.now.width
+begun g c =
+    begun_interval _ c.from.result _ (omega (arith, c.from.ensures, c.requires.writing.below)) ∙
+    ap (λ n. interval_from c.args.bytes.now.items n c.args.span.now.width) c.from.ensures
 
 pub put_each-requires-clause-marked : goal.put_each-requires-clause-marked
 put_each-requires-clause-marked g c =
@@ -20,21 +30,13 @@ put_each-requires-clause-few g c = rw (held_none c.from.result
 
 pub returns-in_err-put_each-clause-refused : goal.returns-in_err-put_each-clause-refused
 returns-in_err-put_each-clause-refused g c =
-    let begun : interval_marked c.args.bytes.now.items (c.from.result + 2147483648)
-    c.args.span.now.width ≡ interval_from c.args.bytes.now.items c.args.span.now.low
-    c.args.span.now.width =
-    begun_interval _ c.from.result _ (omega (arith, c.from.ensures, c.requires.writing.below)) ∙
-    ap (λ n. interval_from c.args.bytes.now.items n c.args.span.now.width) c.from.ensures in
+    let begun = begun g (goal.at.returns-in_err-put_each-clause-refused g c).After-from in
     on_err c.from_residual.result (subst (λ i. Grows c.args.table.now i c.args.states.now
     (steps_of c.args.list.now)) begun c.in_err-put_each.ensures.refused)
 
 pub returns-in_err-release_all-clause-refused : goal.returns-in_err-release_all-clause-refused
 returns-in_err-release_all-clause-refused g c =
-    let begun : interval_marked c.args.bytes.now.items (c.from.result + 2147483648)
-    c.args.span.now.width ≡ interval_from c.args.bytes.now.items c.args.span.now.low
-    c.args.span.now.width =
-    begun_interval _ c.from.result _ (omega (arith, c.from.ensures, c.requires.writing.below)) ∙
-    ap (λ n. interval_from c.args.bytes.now.items n c.args.span.now.width) c.from.ensures in
+    let begun = begun g (goal.at.returns-in_err-release_all-clause-refused g c).After-from in
     let count = ap (λ i. i.count) (c.in_ok-put_each.ensures.writes.interval ∙
     ap (λ i. narrowed i (decided c.args.table.now c.args.states.now (steps_of c.args.list.now)))
     begun) in
@@ -50,11 +52,7 @@ returns-in_err-release_all-clause-refused g c =
 
 pub returns-clause-writes : goal.returns-clause-writes
 returns-clause-writes g c =
-    let begun : interval_marked c.args.bytes.now.items (c.from.result + 2147483648)
-    c.args.span.now.width ≡ interval_from c.args.bytes.now.items c.args.span.now.low
-    c.args.span.now.width =
-    begun_interval _ c.from.result _ (omega (arith, c.from.ensures, c.requires.writing.below)) ∙
-    ap (λ n. interval_from c.args.bytes.now.items n c.args.span.now.width) c.from.ensures in
+    let begun = begun g (goal.at.returns-clause-writes g c).After-from in
     let ended : interval_from c.release_all.new.bytes.items c.release_all.new.holding.low
     c.release_all.new.holding.width ≡ interval_marked c.put_each.new.bytes.items
     c.put_each.new.marked.low c.put_each.new.marked.width = search rules in

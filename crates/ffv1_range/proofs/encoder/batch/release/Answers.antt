@@ -1,5 +1,5 @@
 -- Gives out the first of the bytes that are held back.
-use Rattle.std.proofs.Common.{arith}
+use Rattle.std.proofs.Common.{arith, rules}
 use Rattle.ffv1_range.proofs.HeldBack.{places_are, unit_is, released_top, released_room}
 use Rattle.ffv1_range.proofs.HeldBack.{released_holding, released_same}
 use Rattle.ffv1_range.proofs.encoder.batch.release.Goals as goal
@@ -19,18 +19,17 @@ emit-requires-clause-room g c =
     rw (places_are c.args.holding.now.held c.requires.some c.requires.few)
     (released_room _ _ _ _ c.requires.some c.requires.few c.requires.holding)
 
-pub returns-clause-same : goal.returns-clause-same
-returns-clause-same g c =
+pub returns : goal.returns
+returns g c =
     let number = rw (places_are c.args.holding.now.held c.requires.some c.requires.few) at
     c.in_ok-emit.ensures.value in
-    rw (unit_is c.args.holding.now.held c.requires.some c.requires.few)
-    (released_same _ _ _ _ c.requires.some c.requires.few c.requires.holding _ number
-    c.in_ok-emit.ensures.long)
-
-pub returns-clause-holding : goal.returns-clause-holding
-returns-clause-holding g c =
-    let number = rw (places_are c.args.holding.now.held c.requires.some c.requires.few) at
-    c.in_ok-emit.ensures.value in
-    rw (unit_is c.args.holding.now.held c.requires.some c.requires.few)
-    (released_holding _ _ _ _ c.requires.some c.requires.few c.requires.holding _ number
-    c.in_ok-emit.ensures.long c.in_ok-emit.ensures.bytes_fit)
+    let unit = unit_is c.args.holding.now.held c.requires.some c.requires.few in
+    record {
+      same = rw unit (released_same _ _ _ _ c.requires.some c.requires.few c.requires.holding _
+          number c.in_ok-emit.ensures.long);
+      holding = rw unit (released_holding _ _ _ _ c.requires.some c.requires.few
+          c.requires.holding _ number c.in_ok-emit.ensures.long
+          c.in_ok-emit.ensures.bytes_fit);
+      less = omega arith;
+      full = search rules;
+    }

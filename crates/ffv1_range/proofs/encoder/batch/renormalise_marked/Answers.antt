@@ -8,21 +8,17 @@ pub overflow_mul-result : goal.overflow_mul-result
 overflow_mul-result c = let fits = times_fits c.args.part.low c.args.part.width c.requires.some
     c.requires.part.few c.requires.part.below in omega arith
 
-pub returns-then-width-lt256-clause-interval : goal.returns-then-width-lt256-clause-interval
-returns-then-width-lt256-clause-interval c =
-    let held = held_times c.args.part.low c.args.part.width c.requires.some c.requires.part.few
-    c.requires.part.below c.requires.part.least in
-    let low = low_times c.args.part.low c.args.part.width c.requires.some c.requires.part.few
-    c.requires.part.below c.requires.part.least in
-    rw (held, low) (renormalised_held _ _ _ _ c.if-width-lt256.true)
-
-pub returns-then-width-lt256-clause-marked : goal.returns-then-width-lt256-clause-marked
-returns-then-width-lt256-clause-marked c =
+pub returns-then-width-lt256 : goal.returns-then-width-lt256
+returns-then-width-lt256 c =
     let held = held_times c.args.part.low c.args.part.width c.requires.some c.requires.part.few
     c.requires.part.below c.requires.part.least in
     let low = low_times c.args.part.low c.args.part.width c.requires.some c.requires.part.few
     c.requires.part.below c.requires.part.least in
     record {
-      some = omega (arith, c.requires.some);
-      holding = rw (held, low) (renormalised_holding _ _ _ _ c.if-width-lt256.true c.requires.part);
+      interval = rw (held, low) (renormalised_held _ _ _ _ c.if-width-lt256.true);
+      marked = record {
+        some = omega (arith, c.requires.some);
+        holding = rw (held, low)
+            (renormalised_holding _ _ _ _ c.if-width-lt256.true c.requires.part);
+      };
     }

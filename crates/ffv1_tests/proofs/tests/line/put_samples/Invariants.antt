@@ -5,6 +5,6 @@ use Rattle.ffv1_tests.proofs.tests.line.put_samples.Given as goal
 
 abbrev pub invariant-rows : goal.invariant-rows
 invariant-rows l = record {
-  held : AllHeld l.table l.states;
-  rows : length l.states ≡ contexts_of l.set * 32;
+  held : AllHeld l.coding.table l.states;
+  rows : length l.states ≡ contexts_of l.coding.set * 32;
 }

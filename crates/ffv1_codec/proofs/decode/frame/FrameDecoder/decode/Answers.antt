@@ -1,16 +1,22 @@
 -- Decodes a frame (RFC 9043, 4.4 to 4.9), and answers what its slices say of the picture.
-use Rattle.std.proofs.Common.{arith, ◌≡◌, ◌∙◌, ap, subst}
+use Rattle.std.proofs.Common.{arith, ◌∙◌, ap, subst}
 use Rattle.ffv1_record.specs.Accepted.{Accepted, IsAccepted}
 use Rattle.ffv1_record.specs.Held.{held_of}
 use Rattle.ffv1_codec.specs.Answer.{Decoder}
+use Rattle.ffv1_codec.proofs.decode.frame.FrameDecoder.decode.Given.{Over}
+use Rattle.ffv1_codec.proofs.decode.frame.FrameDecoder.decode.Goals.{After-table-table}
 use Rattle.ffv1_codec.proofs.decode.frame.FrameDecoder.decode.Goals as goal
+
+-- the configuration that is held is accepted
+accepted : (g : Over) (c : After-table-table g) → IsAccepted
+    c.args.self.now.accepted.configuration c.args.self.now.accepted.table
+accepted g c = subst (λ (x : Accepted). IsAccepted x.configuration x.table)
+    (ap (λ (x : Decoder). x.accepted) c.self.view_is) c.table-table.ensures.accepted
 
 pub returns-clause-headline : goal.returns-clause-headline
 returns-clause-headline g c =
     let a = c.args.self.now.accepted in
-    let is : c.self.inside.checked ≡ a = ap (λ (x : Decoder). x.accepted) c.self.view_is in
-    let accepted = subst (λ (x : Accepted). IsAccepted x.configuration x.table) is
-    c.table-table.ensures.accepted in
+    let accepted = accepted g (goal.at.returns-clause-headline g c).After-table-table in
     let holds = c.decode_held.ensures.holds ∙ ap (λ (x : Decoder). held_of x.accepted.configuration)
     c.decode_held.ensures.same in
     c.headline_holds_for_each_answer.ensures a c.args.payload.now c.args.sink.now
@@ -28,20 +34,12 @@ returns-clause-damaged g c sent spans slice is =
 
 pub returns-clause-cost : goal.returns-clause-cost
 returns-clause-cost g c =
-    let is : c.self.inside.checked ≡ c.args.self.now.accepted = ap (λ (x : Decoder). x.accepted)
-    c.self.view_is in
-    let accepted = subst (λ (x : Accepted). IsAccepted x.configuration x.table) is
-    c.table-table.ensures.accepted in
     c.frame_cost_is_near_its_weight.ensures.answer c.args.self.now.accepted c.args.payload.now
     c.args.sink.now c.decode_held.new.sink c.decode_held.new.self.tally c.decode_held.result
-    accepted c.decode_held.ensures.exact
+    (accepted g (goal.at.returns-clause-cost g c).After-table-table) c.decode_held.ensures.exact
 
 pub returns-clause-handed : goal.returns-clause-handed
 returns-clause-handed g c =
-    let is : c.self.inside.checked ≡ c.args.self.now.accepted = ap (λ (x : Decoder). x.accepted)
-    c.self.view_is in
-    let accepted = subst (λ (x : Accepted). IsAccepted x.configuration x.table) is
-    c.table-table.ensures.accepted in
     c.sink_is_handed_only_coded_lines.ensures c.args.self.now.accepted c.args.payload.now
     c.args.sink.now c.decode_held.new.sink c.decode_held.new.self.tally c.decode_held.result
-    accepted c.decode_held.ensures.exact
+    (accepted g (goal.at.returns-clause-handed g c).After-table-table) c.decode_held.ensures.exact
