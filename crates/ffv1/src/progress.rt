@@ -1,4 +1,4 @@
-//! How much of a file was read, told on standard error.
+//! Says on standard error how much of a file was read.
 
 ghost use Rattle.std.specs.Prelude.{◌≡◌};
 

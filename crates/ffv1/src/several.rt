@@ -1,4 +1,4 @@
-//! One file or several, which are looked at one after the other.
+//! Looks at one file or at several, one after the other.
 
 ghost use Rattle.std.specs.Prelude.{◌≡◌, ◌≢◌, ◌↔◌, ◌≤◌, ℕ, Bool, List, [], ◌∷◌, Err, IfErr, IfOk};
 ghost use Rattle.std.specs.Prelude.{IsOk, IsTrue, OnErr, length};

@@ -1,4 +1,4 @@
--- A file is read: its head up to the first movi, and the frames, one after the other.
+-- Reading a file: its head up to the first movi, and the frames, one after the other.
 use Rattle.std.specs.Prelude.{ℕ, suc, zero, ◌+◌, ◌-◌, ◌/◌, ◌%◌, ◌==◌, ◌&&◌, Bool}
 use Rattle.std.specs.Prelude.{if◌then◌else◌, nat_lt, nat_le, List, [], ◌∷◌, take, drop, codes}
 use Rattle.std.specs.Prelude.{Option, Some, None, Ok}

@@ -1,4 +1,4 @@
--- The chunks of a list are walked one by one: the list's budget counts them down, header, bytes and
+-- Walking the chunks of a list one by one: the list's budget counts them down, header, bytes and
 -- padding.
 use Rattle.std.specs.Prelude.{ℕ, suc, zero, ◌+◌, ◌-◌, ◌==◌, ◌&&◌, Bool, if◌then◌else◌, nat_eq}
 use Rattle.std.specs.Prelude.{nat_lt, List, take, drop, codes, Option, Some, None}

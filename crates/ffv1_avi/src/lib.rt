@@ -1,13 +1,13 @@
 // SPDX-License-Identifier: MIT OR Apache-2.0
-//! AVI, by Microsoft's AVI RIFF File Reference: files of FFV1 frames (RFC 9043, 4.3.3) are written,
-//! and read chunk by chunk.
+//! AVI, by Microsoft's AVI RIFF File Reference: files of FFV1 frames (RFC 9043, 4.3.3), written in
+//! one call, and read chunk by chunk.
 //!
-//! `write_avi` writes an `FileHead` and frames in one call. `AviReader::open` and
-//! `AviReader::open_all` read a file up to its first list `movi`, the one to read the frames of
-//! that alone, the other those of every `movi` of every RIFF; then `AviReader::head` tells its
-//! head, and each `AviReader::next_frame` gives the next frame, until it answers false. A reader
-//! holds no input, each call is lent the same one. `FileFault` says why a file could not be read or
-//! written. The test `read_back` of `ffv1_tests` runs this:
+//! `write_avi` writes a `FileHead` and frames. `AviReader::open` and `AviReader::open_all` read a
+//! file up to its first list `movi`, the one to read the frames of that alone, the other those of
+//! every `movi` of every RIFF; then `AviReader::head` tells its head, and each
+//! `AviReader::next_frame` gives the next frame, until it answers false. A reader holds no input,
+//! each call is lent the same one. `FileFault` says why a file could not be read or written. The
+//! test `read_back` of `ffv1_tests` runs this:
 //!
 //! ```text
 //! let mut reader = AviReader::open(rt.alloc(), &mut input)?;

@@ -1,4 +1,4 @@
-//! Files are read, frame by frame.
+//! Reads files, frame by frame.
 
 ghost use Rattle.std.specs.Prelude.{◌≡◌, ◌<◌, length, true, IfSome, OnSome, ◌+◌, ◌≤◌, ℕ, Bool};
 ghost use Rattle.std.specs.Prelude.{List, [], false, Option, None, Some, IfErr, IfOk, OnErr, Ok};

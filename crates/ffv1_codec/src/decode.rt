@@ -1,5 +1,5 @@
-//! Frames are decoded: a frame by its rows of slices, a row by lines, and a line by the segments of
-//! the slices that it crosses. Each line is handed to a sink as soon as it is whole.
+//! Decodes frames: a frame by its rows of slices, a row by lines, and a line by the segments of the
+//! slices that it crosses. Hands each line to a sink as soon as it is whole.
 
 mod buffers;
 mod colours;

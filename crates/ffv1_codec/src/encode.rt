@@ -1,4 +1,4 @@
-//! Pictures are encoded: a frame by its slices, and a slice by its lines.
+//! Encodes pictures: a frame by its slices, and a slice by its lines.
 
 mod cell_rows;
 pub mod frame;

@@ -1,5 +1,5 @@
--- A file is checked: text is written of all that is played of it, and a line after that. Why it is
--- refused is said once for commands, by what is played and what text there is.
+-- Checking a file: the text of all that is played of it, and a line after that. Why it is refused
+-- is said once for commands, by what is played and what text there is.
 use Rattle.std.specs.Prelude.{◌≡◌, ◌⊎◌, ℕ, Bool, List, [], ◌++◌, length}
 use Rattle.ffv1_wire.specs.Failures.{one_more}
 use Rattle.ffv1_wire.specs.Passage.{Passage}

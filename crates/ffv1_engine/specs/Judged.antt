@@ -1,5 +1,5 @@
--- Each payload of a file is judged: it codes a picture, or is refused, and lines are written of it
--- at once. How far that goes, and why it goes no further.
+-- Judging each payload of a file: it codes a picture, or is refused, and its lines are written at
+-- once. How far that goes, and why it goes no further.
 use Rattle.std.specs.Prelude.{ℕ, Bool, List, [], ◌∷◌, ◌++◌, map, codes, decimal}
 use Rattle.std.specs.Prelude.{Option, Some, None}
 use Rattle.std.proofs.Common.{suc}

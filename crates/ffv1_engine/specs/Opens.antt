@@ -1,4 +1,4 @@
--- A file is opened: what is known then of its head and its configuration, or why it is not.
+-- Opening a file: what is known then of its head and its configuration, or why it is refused.
 use Rattle.std.specs.Prelude.{◌≡◌, ◌⊎◌, ℕ, Bool, true, false, List, Option, Ok}
 use Rattle.ffv1_wire.specs.Failures.{one_more}
 use Rattle.ffv1_wire.specs.Passage.{Passage}

@@ -1,5 +1,5 @@
--- Frame after frame of a file is decoded, and text is written of each: what that answers, writes,
--- and is refused by.
+-- Decoding frame after frame of a file, and writing text of each: what that answers, writes, and is
+-- refused by.
 use Rattle.std.specs.Prelude.{◌≡◌, ◌⊎◌, ℕ, ◌<◌, ◌≤◌, List, [], ◌∷◌, length, take, Option, Some}
 use Rattle.std.specs.Prelude.{None, Ok, Err, ⊤}
 use Rattle.std.specs.Io.KnownBytes.{Appends}

@@ -1,6 +1,6 @@
--- A file is played: its frames are read and decoded one after the other, and text is written of
--- them at once. How far that goes, and why it goes no further, is said once for commands, by what
--- is played, how a file has payloads and what text there is.
+-- Playing a file: reading and decoding its frames one after the other, and writing text of them at
+-- once. How far that goes, and why it goes no further, is said once for commands, by what is
+-- played, how a file has payloads and what text there is.
 use Rattle.std.specs.Prelude.{◌≡◌, ◌⊎◌, ℕ, ◌<◌, Bool, List, [], length, map, Some}
 use Rattle.std.specs.Prelude.{None, Ok}
 use Rattle.std.specs.Io.KnownBytes.{Appends}

@@ -1,5 +1,5 @@
--- The frames of a file are decoded one after the other, and a line is written of each at once: how
--- far that goes, and why it goes no further.
+-- Decoding the frames of a file one after the other, and writing a line of each at once: how far
+-- that goes, and why it goes no further.
 use Rattle.std.specs.Prelude.{◌≡◌, ℕ, Bool, true, false, List, length}
 use Rattle.ffv1_range.specs.declared.tally.Tally.{Tally}
 use Rattle.ffv1_range.specs.Counts.{saturated}

@@ -1,4 +1,4 @@
-//! All frames of a file are decoded, and told.
+//! Decodes all frames of a file, and prints a line of each.
 
 ghost use Rattle.std.specs.Prelude.{IfErr, IfOk, OnOk};
 ghost use Rattle.ffv1_wire.specs.Passage.{passage};

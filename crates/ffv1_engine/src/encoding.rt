@@ -1,4 +1,4 @@
-//! The pictures of a video are encoded.
+//! Encodes the pictures of a video.
 
 ghost use Rattle.std.specs.Prelude.{◌≡◌, ◌⊎◌, ◌≤◌, Bool, IfOk, IfErr, OnOk, None, true, [], ◌∷◌};
 ghost use Rattle.ffv1_wire.specs.Passage.{passage};

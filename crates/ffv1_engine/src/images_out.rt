@@ -1,4 +1,4 @@
-//! The pictures of a file are written as PPM, each row when it is decoded.
+//! Writes the pictures of a file as PPM, each row when it is decoded.
 
 ghost use Rattle.std.specs.Prelude.{◌≡◌, ◌<◌, ℕ, IfErr, IfOk, List, length, None, OnOk, false};
 ghost use Rattle.std.specs.Prelude.{true};

@@ -1,5 +1,5 @@
-//! Frames are judged one after the other: the lines of each are written at once, whether it is
-//! decoded or refused.
+//! Judges frames one after the other, and writes the lines of each at once, whether it is decoded
+//! or refused.
 
 ghost use Rattle.std.specs.Prelude.{◌≡◌, ◌++◌, ◌<◌, IfErr, IfOk, List, None, OnOk, true};
 ghost use Rattle.ffv1_wire.specs.Passage.{passage};

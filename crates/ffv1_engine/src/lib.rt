@@ -2,13 +2,14 @@
 //! The commands of the codec, as calls over any reader and writer of bytes: what the program `ffv1`
 //! does besides opening files, printing and its exit status.
 //!
-//! `words` reads a command line as an `Order`, of one of six commands; the call of the order's name
-//! does it, over a reader and a writer of `ffv1_wire`, and answers a `Fault` that displays as its
-//! number and name. `pack` codes a video into an AVI, and `pack_matroska` into Matroska, frame by
-//! frame; `unpack` decodes a file into a text again, `check` decodes all its frames, `framemd5`
-//! writes the MD5 of each picture as FFmpeg does, and `framemd5_text` of a text, `show` tells what
-//! it says, and `trial` codes the first picture of a text and decodes it again; `code_plane` is its
-//! first half, over samples. The test `trials::example` of `ffv1_tests` runs these lines:
+//! `words` of `ffv1_words` reads a command line as an `Order`, of one of six commands; the call of
+//! the order's name does it, over a reader and a writer of `ffv1_wire`, and answers a `Fault` that
+//! displays as its number and name. `pack` codes a video into an AVI, and `pack_matroska` into
+//! Matroska, frame by frame; `unpack` decodes a file into a text again; `check` decodes all its
+//! frames up to the first that is refused, and `check_all` all of them; `framemd5` writes the MD5
+//! of each picture as FFmpeg does, and `framemd5_text` of a text; `show` prints what a file says;
+//! and `trial` codes the first picture of a text and decodes it again; `code_plane` is its first
+//! half, over samples. The test `trials::example` of `ffv1_tests` runs these lines:
 //!
 //! ```text
 //! if let Order::Trial { .. } = words(alloc, &["ffv1", "trial", "disc.y4m"])? {

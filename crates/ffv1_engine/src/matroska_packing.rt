@@ -1,4 +1,4 @@
-//! A video is packed into Matroska, picture by picture.
+//! Packs a video into Matroska, picture by picture.
 
 ghost use Rattle.std.specs.Prelude.{◌≡◌, ◌⊎◌, ◌≤◌, [], Bool, IfOk, IfErr, None, Ok, Some, true};
 ghost use Rattle.ffv1_wire.specs.Passage.{passage};

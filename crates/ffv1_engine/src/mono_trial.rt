@@ -1,4 +1,4 @@
-//! A mono picture is coded and decoded.
+//! Codes a mono picture and decodes it again.
 
 ghost use Rattle.std.specs.Prelude.{◌≡◌, ◌⊎◌, true, ◌*◌, ◌≤◌, ◌<◌, ℕ, length, replicate, IfErr};
 ghost use Rattle.std.specs.Prelude.{OnOk};

@@ -1,4 +1,4 @@
-//! A video is packed.
+//! Packs a video into AVI.
 
 ghost use Rattle.std.specs.Prelude.{◌≡◌, ◌≤◌, IfOk, IfErr, true};
 ghost use Rattle.ffv1_wire.specs.Passage.{passage};

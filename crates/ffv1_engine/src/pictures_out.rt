@@ -1,4 +1,4 @@
-//! The pictures of a file are written as YUV4MPEG2, each when it is decoded.
+//! Writes the pictures of a file as YUV4MPEG2, each when it is decoded.
 
 ghost use Rattle.std.specs.Prelude.{◌≡◌, ◌<◌, ℕ, IfErr, IfOk, List, None, OnOk, false, length};
 ghost use Rattle.std.specs.Prelude.{true};

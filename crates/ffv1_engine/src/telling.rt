@@ -1,4 +1,4 @@
-//! Frames are decoded one after the other, and a line is written of each at once.
+//! Decodes frames one after the other, and writes a line of each at once.
 
 ghost use Rattle.std.specs.Prelude.{◌≡◌, ◌<◌, IfErr, IfOk, None, OnOk, true, length, List, []};
 ghost use Rattle.ffv1_wire.specs.Passage.{passage};

@@ -1,4 +1,4 @@
-//! The frames of a file become pictures again.
+//! Unpacks the frames of a file into pictures.
 
 ghost use Rattle.std.specs.Prelude.{◌≡◌, ◌⊎◌, ℕ, IfErr, IfOk, IfSome, List, length, None};
 ghost use Rattle.ffv1_wire.specs.Passage.{passage};

@@ -1,4 +1,4 @@
-//! Files are read, frame by frame.
+//! Reads files, frame by frame.
 
 ghost use Rattle.std.specs.Prelude.{◌≡◌, ◌<◌, ◌≤◌, ℕ, Bool, List, [], true, false, Option, None};
 ghost use Rattle.std.specs.Prelude.{Some};

@@ -1,4 +1,4 @@
-//! A row is decoded.
+//! Decodes a row.
 
 ghost use Rattle.std.specs.Prelude.{◌≡◌, ◌*◌, ◌<◌, IfErr, OnOk, length};
 ghost use Rattle.ffv1_range.specs.Symbols.{AllHeld};

@@ -1,4 +1,4 @@
-//! A row is encoded.
+//! Encodes a row.
 
 ghost use Rattle.std.specs.Prelude.{◌≡◌, ◌+◌, ◌*◌, ◌≤◌, ◌<◌, ◌⊎◌, OnOk, OnErr, IsErr};
 ghost use Rattle.std.specs.Prelude.{IsTrue, length, false, unsigned_abs, ◌^◌};

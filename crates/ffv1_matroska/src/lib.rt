@@ -1,13 +1,15 @@
 // SPDX-License-Identifier: MIT OR Apache-2.0
-//! Matroska (RFC 9559), by elements of EBML: files of FFV1 frames (RFC 9043, 4.3.3) are read,
-//! element by element.
+//! Matroska (RFC 9559), by elements of EBML: files of FFV1 frames (RFC 9043, 4.3.3), read element
+//! by element, and written, a Cluster for each frame.
 //!
 //! `MatroskaReader::open` reads a file up to its first Cluster; then `MatroskaReader::head` tells
 //! its head and `MatroskaReader::segment` the size of its Segment, and each
 //! `MatroskaReader::next_frame` gives the next frame of its first track of FFV1 video, until it
 //! answers false. A reader holds no input, each call is lent the same one. `ffv1_reads::FileFault`
-//! says why a file could not be read. `rate_of` and `duration_of` turn nanoseconds a frame into a
-//! frame rate and back. The test `reading::smallest` of `ffv1_tests` runs this:
+//! says why a file could not be read or written. `MatroskaWriter::new` takes a head and how its
+//! pictures are `Shown`, each `MatroskaWriter::put` writes a frame, and `MatroskaWriter::finish`
+//! the Cues; no frame is kept. `rate_of` and `duration_of` turn nanoseconds a frame into a frame
+//! rate and back. The test `reading::smallest` of `ffv1_tests` runs this:
 //!
 //! ```text
 //! let mut reader = MatroskaReader::open(rt.alloc(), &mut input)?;

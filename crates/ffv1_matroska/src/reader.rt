@@ -1,4 +1,4 @@
-//! Files are read, frame by frame.
+//! Reads files, frame by frame.
 
 ghost use Rattle.std.specs.Prelude.{◌≡◌, ◌<◌, ◌≤◌, Bool, List, [], true, false, Option, None, Some};
 ghost use Rattle.std.specs.Prelude.{IfErr, IfOk, OnErr, Ok, Err, length};

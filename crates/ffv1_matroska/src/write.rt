@@ -1,4 +1,4 @@
-//! Files are written, frame by frame.
+//! Writes files, frame by frame.
 
 mod bytes;
 mod clusters;

@@ -1,4 +1,4 @@
-//! Decisions are read.
+//! Reads decisions.
 
 ghost use Rattle.std.specs.Prelude.{◌≡◌, ℕ, ◌+◌, ◌-◌, ◌*◌, ◌^◌, ◌≤◌, ◌<◌, ◌↔◌, IfOk, IfErr, IsErr};
 ghost use Rattle.std.specs.Prelude.{slice_index, slice_set, List, [], ◌∷◌, IsTrue, IsFalse, true};

@@ -1,4 +1,4 @@
-//! Decisions are written.
+//! Writes decisions.
 
 ghost use Rattle.std.specs.Prelude.{◌≡◌, ℕ, ◌+◌, ◌-◌, ◌*◌, ◌/◌, ◌^◌, ◌≤◌, ◌<◌, ◌++◌, List, length};
 ghost use Rattle.std.specs.Prelude.{replicate, slice_index, slice_set, [], ◌∷◌, IsTrue, IfOk};

@@ -1,4 +1,4 @@
-//! Bytes are taken, passed and kept.
+//! Takes, passes and keeps bytes.
 
 ghost use Rattle.std.specs.Prelude.{◌≡◌, ◌+◌, ◌<◌, ◌≤◌, ◌++◌, IfOk, OnErr, OnOk, drop, length};
 ghost use Rattle.std.specs.Prelude.{max, replicate, take};
@@ -136,10 +136,10 @@ pub fn append<R: ByteIn, A: Allocator>(
     }
 }
 
-/// Reads `size` bytes in place of what the vector has. Room is made bit by bit, each time for at
-/// most as many bytes as were read so far and 65536 more, and never beyond `size`. The vector has
-/// room then for as many as it had, or as it holds, if that is more; after a fault at most for as
-/// many as it had, or for the lesser of `size` and of twice those that it holds and 65536.
+/// Reads `size` bytes in place of what the vector has. Room is made piece by piece, each time for
+/// at most as many bytes as were read so far and 65536 more, and never beyond `size`. Then the
+/// vector has room for as many as it had, or as it holds, if that is more; after a fault at most
+/// for as many as it had, or for the lesser of `size` and of twice those that it holds and 65536.
 ///
 /// `Truncated` where the input ends before, `Read` where a read failed, `OutOfMemory` where memory
 /// was refused for the next of them; after a fault the vector holds a beginning of the bytes.

@@ -1,4 +1,4 @@
-//! Configurations are compared: they are equal exactly where all that they say is.
+//! Compares configurations: they are equal exactly where all that they say is.
 
 ghost use Rattle.std.specs.Prelude.{◌≡◌, ◌↔◌, IsTrue};
 ghost use Rattle.ffv1_record.specs.Configuration.{configuration_of};

@@ -1,4 +1,4 @@
-//! A configuration record is read.
+//! Reads a configuration record.
 
 ghost use Rattle.std.specs.Prelude.{◌≡◌, ◌≢◌, ◌⊎◌, ℕ, ◌+◌, ◌*◌, ◌≤◌, ◌<◌, ◌++◌, [], ◌∷◌, ◌||◌, not};
 ghost use Rattle.std.specs.Prelude.{length, take, IsTrue, IfOk, IfErr, MatchResult, Result, Ok};

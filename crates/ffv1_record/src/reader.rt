@@ -1,4 +1,4 @@
-//! The symbols of a record are read.
+//! Reads the symbols of a record.
 
 ghost use Rattle.std.specs.Prelude.{◌≡◌, ◌≢◌, ◌⊎◌, ◌↔◌, ℕ, ◌+◌, ◌^◌, ◌≤◌, ◌<◌, IfOk, IfErr, IsErr};
 ghost use Rattle.std.specs.Prelude.{length, unsigned_abs, nat_lt};

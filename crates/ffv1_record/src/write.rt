@@ -1,4 +1,4 @@
-//! A configuration record is written.
+//! Writes a configuration record.
 
 ghost use Rattle.std.specs.Prelude.{◌≡◌, ℕ, ◌+◌, ◌-◌, ◌*◌, ◌^◌, ◌≤◌, ◌<◌, ◌++◌, [], ◌∷◌, length};
 ghost use Rattle.std.specs.Prelude.{IsTrue, OnOk, IfOk, IfErr, true, ◌≢◌, slice_index_or, pos};

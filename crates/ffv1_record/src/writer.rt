@@ -1,4 +1,4 @@
-//! The symbols of a record are written.
+//! Writes the symbols of a record.
 
 ghost use Rattle.std.specs.Prelude.{◌≡◌, ℕ, ◌^◌, ◌<◌, [], ◌∷◌, OnOk, IfOk, IfErr, unsigned_abs};
 ghost use Rattle.std.specs.Prelude.{length};

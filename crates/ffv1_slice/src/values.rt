@@ -168,7 +168,7 @@ pub(crate) fn get_info(
     Ok((structure as u8, num as u16, den as u16))
 }
 
-/// A number is put.
+/// Puts a number.
 fn put_number<A: Allocator>(
     encoder: &mut RangeEncoder<A>,
     table: &StateTable,
@@ -191,7 +191,7 @@ fn put_number<A: Allocator>(
     Ok(())
 }
 
-/// Three numbers are put.
+/// Puts three numbers.
 pub(crate) fn put_three<A: Allocator>(
     encoder: &mut RangeEncoder<A>,
     table: &StateTable,
@@ -218,7 +218,7 @@ pub(crate) fn put_three<A: Allocator>(
     Ok(())
 }
 
-/// The place of a slice of one cell is put.
+/// Puts the place of a slice of one cell.
 pub(crate) fn put_place<A: Allocator>(
     encoder: &mut RangeEncoder<A>,
     table: &StateTable,
@@ -242,7 +242,7 @@ pub(crate) fn put_place<A: Allocator>(
     Ok(())
 }
 
-/// The set indexes are put, two or three.
+/// Puts the set indexes, two or three.
 pub(crate) fn put_indexes<A: Allocator>(
     encoder: &mut RangeEncoder<A>,
     table: &StateTable,

@@ -51,7 +51,7 @@ pub struct Choice {
 /// What a command line asks for.
 #[derive(Clone, Copy, Debug, PartialEq, Eq)]
 pub enum Order<'a> {
-    /// A video is coded into a file, AVI or Matroska.
+    /// Codes a video into a file, AVI or Matroska.
     Pack {
         /// The path of the video.
         input: &'a str,
@@ -66,7 +66,7 @@ pub enum Order<'a> {
         /// Whether to say how much of the video is read.
         progress: bool,
     },
-    /// The video of a file, AVI or Matroska, is decoded.
+    /// Decodes the video of a file, AVI or Matroska.
     Unpack {
         /// The path of the file.
         input: &'a str,
@@ -77,7 +77,7 @@ pub enum Order<'a> {
         /// Whether to say how much of the file is read.
         progress: bool,
     },
-    /// The video of each file is decoded, and what its frames hold is printed.
+    /// Decodes the video of each file, and prints what its frames hold.
     Check {
         /// The paths of the files.
         inputs: &'a [&'a str],
@@ -88,19 +88,19 @@ pub enum Order<'a> {
         /// Whether to say how much of the file is read.
         progress: bool,
     },
-    /// The configuration of each file is printed.
+    /// Prints the configuration of each file.
     Show {
         /// The paths of the files.
         inputs: &'a [&'a str],
         /// Whether to print the cost of its frames too.
         cost: bool,
     },
-    /// The MD5 of each picture of each file is printed.
+    /// Prints the MD5 of each picture of each file.
     FrameMd5 {
         /// The paths of the files, or of texts of pictures.
         inputs: &'a [&'a str],
     },
-    /// A mono picture of YUV4MPEG2 is coded and decoded.
+    /// Codes a mono picture of YUV4MPEG2, and decodes it again.
     Trial {
         /// The path of the picture.
         input: &'a str,

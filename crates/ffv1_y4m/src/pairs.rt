@@ -1,5 +1,5 @@
-//! Samples of two bytes are parted and interleaved: the high byte first in a text, the low byte
-//! first in a plane.
+//! Parts and interleaves samples of two bytes: the high byte first in a text, the low byte first
+//! in a plane.
 
 ghost use Rattle.std.specs.Prelude.{◌≡◌, ◌≤◌, ◌+◌, ◌*◌, ◌%◌, ◌++◌, List, [], ◌∷◌, length, take};
 ghost use Rattle.ffv1_y4m.specs.Ppm.{bytes_of_pairs, each_third, in_turn, pairs_of, turned};

@@ -1,4 +1,4 @@
-//! The planes of a picture are read.
+//! Reads the planes of a picture.
 
 ghost use Rattle.std.specs.Prelude.{◌≡◌, ◌<◌, ℕ, ◌≤◌, ◌^◌, ◌*◌, Bool, List, length, map, get_or};
 ghost use Rattle.std.specs.Prelude.{OnOk, IfOk, true, false, OnErr, take};

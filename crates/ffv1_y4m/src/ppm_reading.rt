@@ -1,4 +1,4 @@
-//! Headers and samples of PPM are read.
+//! Reads headers and samples of PPM.
 
 ghost use Rattle.std.specs.Prelude.{◌≡◌, ◌==◌, ◌&&◌, ℕ, ◌*◌, ◌≤◌, ◌%◌, Bool, List, [], ◌∷◌, true};
 ghost use Rattle.std.specs.Prelude.{false, length, map, IfOk, IfSome, OnOk};

@@ -1,4 +1,4 @@
-//! Headers of PPM with any white space and comments are read.
+//! Reads headers of PPM with any white space and comments.
 
 ghost use Rattle.std.specs.Prelude.{◌≡◌, ◌≤◌, ◌-◌, ◌∷◌, [], IfOk, IfSome, None, Some, length, take};
 ghost use Rattle.std.specs.Prelude.{OnErr, ℕ, false};

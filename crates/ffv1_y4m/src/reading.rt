@@ -1,4 +1,4 @@
-//! Headers and pictures are read.
+//! Reads headers and pictures.
 
 ghost use Rattle.std.specs.Prelude.{◌≡◌, ◌≤◌, ℕ, Bool, List, Option, length, take, IfOk, OnOk};
 ghost use Rattle.std.specs.Prelude.{OnErr, None};

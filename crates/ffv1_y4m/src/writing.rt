@@ -1,4 +1,4 @@
-//! Texts of several parts are written.
+//! Writes texts of several parts.
 
 ghost use Rattle.std.specs.Prelude.{◌≡◌, ◌≤◌, ℕ, List, ◌++◌, map, flat_map};
 ghost use Rattle.ffv1_wire.specs.Passage.{passage};

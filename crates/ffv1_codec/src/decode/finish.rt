@@ -1,4 +1,4 @@
-//! A line that was read is made what is handed over.
+//! Makes of a line that was read the line that is handed over.
 
 ghost use Rattle.std.specs.Prelude.{◌≡◌, ◌+◌, ◌*◌, ◌≤◌, ◌<◌, OnOk, IfErr};
 ghost use Rattle.std.specs.Prelude.{length, true};

@@ -1,4 +1,4 @@
-//! Frames are decoded.
+//! Decodes frames.
 
 ghost use Rattle.std.specs.Prelude.{◌≡◌, ℕ, List, Ok, Err, OnOk, IfOk, IfErr, length};
 ghost use Rattle.ffv1_record.specs.Held.{held_of};
@@ -119,7 +119,7 @@ fn fresh_lines<A: Allocator, B: Allocator>(
     Ok(Lines::Narrow(narrow))
 }
 
-/// Nothing was decided.
+/// The counts before any decision.
 fn no_tally() -> Tally
     ensures { result ≡ no_tally }
 {

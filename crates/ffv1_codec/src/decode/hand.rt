@@ -1,4 +1,4 @@
-//! Lines are handed over.
+//! Hands lines over.
 
 ghost use Rattle.std.specs.Prelude.{◌≡◌, ℕ, ◌+◌, ◌*◌, ◌≤◌, ◌<◌, List, [], MatchResult, OnOk, IfErr};
 ghost use Rattle.std.specs.Prelude.{length};

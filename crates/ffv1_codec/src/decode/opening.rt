@@ -1,4 +1,4 @@
-//! Slices are opened: their start, their key and their head.
+//! Opens slices: their start, their key and their head.
 
 ghost use Rattle.std.specs.Prelude.{◌≡◌, ◌≢◌, ℕ, ◌+◌, ◌*◌, ◌≤◌, ◌<◌, List, MatchResult, OnOk, IfOk};
 ghost use Rattle.std.specs.Prelude.{IfErr, IsTrue, IsFalse, Some, None, [], length, IsSome};

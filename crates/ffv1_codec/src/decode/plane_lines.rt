@@ -1,4 +1,4 @@
-//! A line of planes that are coded together is read.
+//! Reads a line of planes that are coded together.
 
 ghost use Rattle.std.specs.Prelude.{◌≡◌, ℕ, ◌+◌, ◌*◌, ◌≤◌, ◌<◌, List, MatchResult, IfErr, length};
 ghost use Rattle.std.specs.List.{flat_map, range_with_len};

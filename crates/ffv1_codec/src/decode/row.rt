@@ -1,4 +1,4 @@
-//! A row of slices is decoded.
+//! Decodes a row of slices.
 
 ghost use Rattle.std.specs.Prelude.{◌≡◌, ℕ, ◌+◌, ◌*◌, ◌≤◌, ◌<◌, List, None, IsSome, MatchResult};
 ghost use Rattle.std.specs.Prelude.{OnOk, length};

@@ -1,4 +1,4 @@
-//! The segment of a line that lies in one slice is read.
+//! Reads the segment of a line that lies in one slice.
 
 ghost use Rattle.std.specs.Prelude.{◌≡◌, ℕ, ◌+◌, ◌-◌, ◌*◌, ◌^◌, ◌≤◌, ◌<◌, ◌⊎◌, List, IsSome, OnOk};
 ghost use Rattle.std.specs.Prelude.{IfErr, MatchResult, length, slice_index, take, [], ◌∷◌};

@@ -1,4 +1,4 @@
-//! Pictures are encoded.
+//! Encodes pictures.
 
 ghost use Rattle.std.specs.Prelude.{◌≡◌, ◌⊎◌, ◌+◌, ◌*◌, ◌<◌, ◌≤◌, ◌++◌, ℕ, IfOk, IfErr, OnOk};
 ghost use Rattle.std.specs.Prelude.{OnErr, Err, [], length, vec_capacity};
@@ -24,7 +24,7 @@ use ffv1_slice::{Grid, SliceFault, footer};
 use std::alloc::{Allocator, Global};
 use std::marker::Model;
 
-/// Coded bytes and their footer are put after what a frame has.
+/// Puts coded bytes and their footer after what a frame has.
 fn append<A: Allocator>(
     alloc: A,
     frame: &mut Vec<u8, A>,
@@ -49,7 +49,7 @@ fn append<A: Allocator>(
     }
 }
 
-/// A slice is coded and put after what a frame has. What was counted of it.
+/// Codes a slice, puts it after what a frame has, and answers what was counted of it.
 fn add_slice<R: Allocator + Copy, A: Allocator, B: Allocator>(
     alloc: R,
     frame: &mut Vec<u8, R>,
@@ -78,7 +78,7 @@ fn add_slice<R: Allocator + Copy, A: Allocator, B: Allocator>(
     })
 }
 
-/// All slices are coded, one after the other. What was counted of them.
+/// Codes all slices, one after the other, and answers what was counted of them.
 fn put_slices<R: Allocator + Copy, A: Allocator, B: Allocator>(
     alloc: R,
     frame: &mut Vec<u8, R>,

@@ -1,4 +1,4 @@
-//! The decisions of a slice are put.
+//! Puts the decisions of a slice.
 
 ghost use Rattle.std.specs.Prelude.{◌≡◌, ◌⊎◌, ◌+◌, ◌*◌, ◌<◌, ◌≤◌, ℕ, IfErr, OnOk, length, true};
 ghost use Rattle.std.specs.Prelude.{false, replicate};
@@ -28,7 +28,7 @@ use ffv1_record::laws as record_laws;
 use ffv1_slice::Grid;
 use std::alloc::Allocator;
 
-/// A row of a cell is coded, by the states of its class, which begin at this offset of all states.
+/// Codes a row of a cell, by the states of its class, which begin at this offset of all states.
 fn put_row<W: LineWord, R: Allocator, A: Allocator>(
     encoder: &mut RangeEncoder<R>,
     coding: &LineCoding<'_, A>,
@@ -68,8 +68,7 @@ fn put_row<W: LineWord, R: Allocator, A: Allocator>(
     Ok(())
 }
 
-/// The rows of a cell are coded, by the states of its class, which begin at this offset of all
-/// states.
+/// Codes the rows of a cell, by the states of its class, which begin at this offset of all states.
 fn put_cell<R: Allocator, A: Allocator, C: CellRows>(
     encoder: &mut RangeEncoder<R>,
     coding: &LineCoding<'_, A>,
@@ -136,7 +135,7 @@ fn coding_of<'a, A: Allocator, B: Allocator>(
     (LineCoding { table, set, bits }, at)
 }
 
-/// A row of a plane is coded, by the set and the states of the plane's class.
+/// Codes a row of a plane, by the set and the states of the plane's class.
 fn put_line<W: LineWord, R: Allocator, A: Allocator, B: Allocator>(
     encoder: &mut RangeEncoder<R>,
     states: &mut [u8],
@@ -166,7 +165,7 @@ fn put_line<W: LineWord, R: Allocator, A: Allocator, B: Allocator>(
     Ok(())
 }
 
-/// The lines of a plane of YCbCr are coded, one after the other.
+/// Codes the lines of a plane of YCbCr, one after the other.
 fn put_plane<R: Allocator, A: Allocator, B: Allocator>(
     encoder: &mut RangeEncoder<R>,
     states: &mut [u8],
@@ -197,7 +196,7 @@ fn put_plane<R: Allocator, A: Allocator, B: Allocator>(
     Ok(())
 }
 
-/// The planes of YCbCr are coded, one after the other (RFC 9043, 4.7).
+/// Codes the planes of YCbCr, one after the other (RFC 9043, 4.7).
 fn put_planes<R: Allocator, A: Allocator, B: Allocator>(
     encoder: &mut RangeEncoder<R>,
     states: &mut [u8],
@@ -218,7 +217,7 @@ fn put_planes<R: Allocator, A: Allocator, B: Allocator>(
     Ok(())
 }
 
-/// Where there is a plane of transparency, a row of it is coded.
+/// Codes a row of the plane of transparency, where there is one.
 fn put_transparency<W: LineWord, R: Allocator, A: Allocator, B: Allocator>(
     encoder: &mut RangeEncoder<R>,
     states: &mut [u8],
@@ -247,7 +246,7 @@ fn put_transparency<W: LineWord, R: Allocator, A: Allocator, B: Allocator>(
     Ok(())
 }
 
-/// Line y of Y, Cb, Cr and transparency is coded.
+/// Codes line y of Y, Cb, Cr and transparency.
 fn put_colours<W: ColourWord, R: Allocator, A: Allocator, B: Allocator>(
     encoder: &mut RangeEncoder<R>,
     states: &mut [u8],
@@ -285,8 +284,8 @@ fn put_colours<W: ColourWord, R: Allocator, A: Allocator, B: Allocator>(
     Ok(())
 }
 
-/// The lines of RCT are coded, one after the other, each plane by plane (RFC 9043, 4.7). Lines of
-/// several cells are coded in turn, so that this is no `encode_cell`.
+/// Codes the lines of RCT, one after the other, each plane by plane (RFC 9043, 4.7). Lines of
+/// several cells come in turn, so that this is no `encode_cell`.
 fn put_lines<W: ColourWord, R: Allocator, A: Allocator, B: Allocator>(
     encoder: &mut RangeEncoder<R>,
     states: &mut [u8],
@@ -318,7 +317,7 @@ pub(crate) struct SliceRows<A: Allocator> {
     pub(crate) wide: PlaneRows<u32, A>,
 }
 
-/// The lines of RCT are coded, in rows of the words that hold them.
+/// Codes the lines of RCT, in rows of the words that hold them.
 fn put_transformed<R: Allocator, A: Allocator, B: Allocator>(
     encoder: &mut RangeEncoder<R>,
     states: &mut [u8],
@@ -342,7 +341,7 @@ fn put_transformed<R: Allocator, A: Allocator, B: Allocator>(
     Ok(())
 }
 
-/// The samples of a slice are coded.
+/// Codes the samples of a slice.
 pub(crate) fn put_body<R: Allocator, A: Allocator, B: Allocator>(
     encoder: &mut RangeEncoder<R>,
     states: &mut [u8],

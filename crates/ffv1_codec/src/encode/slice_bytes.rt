@@ -31,7 +31,7 @@ pub(crate) struct Scratch<A: Allocator> {
 }
 
 impl<A: Allocator + Copy> Scratch<A> {
-    /// Nothing is kept yet. It takes no memory.
+    /// Keeps nothing yet. It takes no memory.
     pub(crate) fn new(alloc: A) -> Scratch<A>
         ensures { capacities_of result ≡ no_capacities }
     {
@@ -75,7 +75,7 @@ fn renew<A: Allocator>(states: &mut Vec<u8, A>, count: usize) -> Result<(), Allo
     Ok(())
 }
 
-/// The key and the head of a slice are put.
+/// Puts the key and the head of a slice.
 fn put_beginning<R: Allocator, A: Allocator, B: Allocator>(
     encoder: &mut RangeEncoder<R>,
     slice: &Slice<'_, A, B>,
@@ -101,7 +101,7 @@ fn put_beginning<R: Allocator, A: Allocator, B: Allocator>(
     Ok(())
 }
 
-/// The decisions of a slice are put, by fresh states: its key, its head and its residuals. How
+/// Puts the decisions of a slice, by fresh states: its key, its head and its residuals. Answers how
 /// many those of its residuals were.
 fn put_slice<R: Allocator, A: Allocator, B: Allocator>(
     encoder: &mut RangeEncoder<R>,

@@ -1,4 +1,4 @@
--- Pictures of a video are encoded, and the Cluster of each is written at once.
+-- Encoding pictures of a video, and writing the Cluster of each at once.
 use Rattle.std.specs.Prelude.{◌≡◌, ◌⊎◌, ℕ, ◌+◌, ◌<◌, ◌≤◌, List, [], ◌∷◌, ◌++◌, length, Some, Ok}
 use Rattle.std.specs.Prelude.{true}
 use Rattle.std.specs.Io.KnownBytes.{Appends}

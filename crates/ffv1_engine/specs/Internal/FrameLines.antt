@@ -1,4 +1,4 @@
--- A part of a line is written.
+-- What writing a part of a line answers.
 use Rattle.std.specs.Prelude.{◌≡◌, ℕ, List}
 use Rattle.std.specs.Prelude.{Result, Ok, Err}
 use Rattle.std.specs.Io.KnownBytes.{Appends}

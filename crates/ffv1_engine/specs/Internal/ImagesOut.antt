@@ -1,5 +1,5 @@
--- Images are written row by row, each while it is decoded: what the next frame answers, and what
--- is written of it.
+-- Writing images row by row, each while it is decoded: what the next frame answers, and what is
+-- written of it.
 use Rattle.std.specs.Prelude.{◌≡◌, ◌⊎◌, ℕ, Bool, true, false, List, [], ◌∷◌, ◌++◌, length, Result}
 use Rattle.std.specs.Prelude.{Ok, Err}
 use Rattle.std.specs.Io.KnownBytes.{Appends}

@@ -1,4 +1,4 @@
--- Lines of judged frames are written one after the other: what a step of that answers.
+-- Writing lines of judged frames one after the other: what a step of that answers.
 use Rattle.std.specs.Prelude.{◌≡◌, ℕ, Bool, List, [], length}
 use Rattle.std.specs.Prelude.{slice_get, Option, Some, None, Result, Ok, Err, true, false}
 use Rattle.std.specs.Io.KnownBytes.{Appends}

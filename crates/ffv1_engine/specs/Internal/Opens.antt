@@ -1,4 +1,4 @@
--- A file is opened: what is known then of its reader and of its configuration.
+-- Opening a file: what is known then of its reader and of its configuration.
 use Rattle.std.specs.Prelude.{◌≡◌, None}
 use Rattle.ffv1_wire.specs.Passage.{Passage}
 use Rattle.ffv1_record.specs.Accepted.{Accepted}

@@ -1,4 +1,4 @@
--- Pictures of YCbCr are written one after the other: the text of the next one, and what writing it
+-- Writing pictures of YCbCr one after the other: the text of the next one, and what writing it
 -- answers.
 use Rattle.std.specs.Prelude.{◌≡◌, ◌⊎◌, ℕ, Bool, true, false, List, Option, Some, None, Result}
 use Rattle.std.specs.Prelude.{Ok, Err, ⊤}

@@ -1,4 +1,4 @@
--- A payload is read.
+-- What reading a payload answers.
 use Rattle.std.specs.Prelude.{◌≡◌, ℕ, List, Option, Some}
 use Rattle.std.specs.Prelude.{None, Ok}
 use Rattle.ffv1_wire.specs.Passage.{Passage}

@@ -1,4 +1,4 @@
--- Lines of frames are written one after the other: what a step of that answers.
+-- Writing lines of frames one after the other: what a step of that answers.
 use Rattle.std.specs.Prelude.{◌≡◌, ◌⊎◌, ℕ, Bool, true, false, List, []}
 use Rattle.std.specs.Prelude.{Option, Some, None, Result, Ok, Err, ⊤}
 use Rattle.std.specs.Io.KnownBytes.{Appends, Keeps}

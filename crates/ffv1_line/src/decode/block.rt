@@ -1,4 +1,4 @@
-//! A block of places is decoded.
+//! Decodes a block of samples.
 
 ghost use Rattle.std.specs.Prelude.{◌≡◌, ◌+◌, ◌⊎◌, OnOk, IfErr};
 ghost use Rattle.ffv1_line.specs.Internal.Places.{IsReady, StandsAt, ReadZeros, ReadsBlock};

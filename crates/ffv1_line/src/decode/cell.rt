@@ -1,4 +1,4 @@
-//! The rows of a cell are decoded, one after the other.
+//! Decodes the rows of a cell, one after the other.
 
 ghost use Rattle.std.specs.Prelude.{◌≡◌, ℕ, ℤ, ◌*◌, ◌<◌, List, IfErr, IsOk, OnOk, length};
 ghost use Rattle.std.specs.Prelude.{replicate};

@@ -1,4 +1,4 @@
-//! A row of samples of 16 bits is decoded, which are predicted by signed numbers.
+//! Decodes a row of samples of 16 bits, which are predicted by signed numbers.
 
 ghost use Rattle.std.specs.Prelude.{◌≡◌, ◌*◌, ◌<◌, IfErr, OnOk, IsTrue, length};
 ghost use Rattle.ffv1_range.specs.Symbols.{AllHeld};

@@ -1,4 +1,4 @@
-//! Zeros at places of equal neighbours are decoded: the samples above and to the left are one.
+//! Decodes zeros at samples of equal neighbours: those above and to the left are one value.
 
 ghost use Rattle.std.specs.Prelude.{◌≡◌, slice_index};
 ghost use Rattle.ffv1_line.specs.Internal.Places.{StandsAt, ReadZeros};

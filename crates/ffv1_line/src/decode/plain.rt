@@ -1,4 +1,4 @@
-//! A row is decoded place by place, in a line of any words.
+//! Decodes a row sample by sample, in a line of any words.
 
 ghost use Rattle.std.specs.Prelude.{◌≡◌, ◌+◌, ◌*◌, ◌^◌, ◌≤◌, ◌<◌, IfOk, IfErr, OnOk, OnErr, IsTrue};
 ghost use Rattle.std.specs.Prelude.{length, min, slice_index};

@@ -1,4 +1,4 @@
-//! A row is decoded.
+//! Decodes a row in blocks.
 
 ghost use Rattle.std.specs.Prelude.{◌≡◌, ◌*◌, ◌<◌, ◌⊎◌, IfErr, IsTrue, OnOk, length};
 ghost use Rattle.ffv1_range.specs.Symbols.{AllHeld};

@@ -1,5 +1,5 @@
-//! Zeros in a run are decoded: the samples above, above to the left and right and to the left are
-//! one.
+//! Decodes zeros in a run: the samples above, above to the left and right and to the left are one
+//! value.
 
 ghost use Rattle.ffv1_plane.specs.Quantisation.{HasThreeTables};
 ghost use Rattle.ffv1_line.specs.Internal.Places.{StandsAt, ReadZeros};

@@ -1,4 +1,4 @@
-//! A sample is decoded.
+//! Decodes a sample.
 
 ghost use Rattle.std.specs.Prelude.{◌≡◌, ℕ, ◌+◌, ◌*◌, ◌^◌, ◌≤◌, ◌<◌, IfOk, OnErr, length, pos};
 ghost use Rattle.ffv1_range.specs.Symbols.{AllHeld};

@@ -1,5 +1,5 @@
-//! Zeros are decoded by a state that is kept apart: the samples above, above to the left and to the
-//! left are one, and in a run the sample above to the right is too.
+//! Decodes zeros by a state that is kept apart: the samples above, above to the left and to the
+//! left are one value, and in a run the sample above to the right is too.
 
 ghost use Rattle.std.specs.Prelude.{ℕ, ◌<◌, IsTrue};
 ghost use Rattle.ffv1_range.specs.Table.{Holds};

@@ -1,4 +1,4 @@
-//! The rows of a cell are encoded, one after the other.
+//! Encodes the rows of a cell, one after the other.
 
 ghost use Rattle.std.specs.Prelude.{◌≡◌, ℕ, ◌+◌, ◌*◌, ◌<◌, OnOk, OnErr, IsErr, IsTrue, length};
 ghost use Rattle.std.specs.Prelude.{replicate, vec_capacity};

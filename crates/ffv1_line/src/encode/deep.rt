@@ -1,4 +1,4 @@
-//! A row of samples of more than 9 bits is encoded.
+//! Encodes a row of samples of more than 9 bits.
 
 ghost use Rattle.std.specs.Prelude.{◌≡◌, ◌*◌, ◌<◌, OnOk, OnErr, IsTrue, length, false};
 ghost use Rattle.ffv1_range.specs.Symbols.{AllHeld};

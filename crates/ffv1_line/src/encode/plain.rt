@@ -1,4 +1,4 @@
-//! A row is encoded place by place, in a line of any words.
+//! Encodes a row sample by sample, in a line of any words.
 
 ghost use Rattle.std.specs.Prelude.{◌≡◌, ◌*◌, ◌≤◌, ◌<◌, ◌^◌, OnOk, OnErr, IsTrue, length};
 ghost use Rattle.std.specs.Prelude.{false};

@@ -1,4 +1,4 @@
-//! A row of samples of 17 bits is encoded.
+//! Encodes a row of samples of 17 bits.
 
 ghost use Rattle.std.specs.Prelude.{◌≡◌, ◌*◌, ◌<◌, OnOk, OnErr, IsErr, IsTrue, length};
 ghost use Rattle.ffv1_range.specs.Symbols.{AllHeld};

@@ -1,4 +1,4 @@
-//! Clusters are written, one for each frame.
+//! Writes Clusters, one for each frame.
 
 ghost use Rattle.std.specs.Prelude.{◌≡◌, ◌<◌, ◌-◌, ◌^◌, ◌++◌, length};
 ghost use Rattle.ffv1_wire.specs.Passage.{passage};

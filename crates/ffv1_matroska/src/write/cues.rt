@@ -1,4 +1,4 @@
-//! Cues are written.
+//! Writes Cues.
 
 ghost use Rattle.std.specs.Prelude.{◌≡◌, ◌≤◌, ◌<◌, ◌+◌, ◌*◌, ◌^◌, ◌++◌, length};
 ghost use Rattle.ffv1_wire.specs.Passage.{passage};

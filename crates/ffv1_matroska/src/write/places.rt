@@ -10,7 +10,7 @@ use std::alloc::Allocator;
 /// The most places that are kept.
 pub(crate) const MOST_CUES: usize = 8192;
 
-/// Every second place is kept, from the first on.
+/// Keeps every second place, from the first on.
 fn halve<A: Allocator>(places: &mut Vec<u64, A>)
     ensures items { places.new.items ≡ every 2 places.old.items }
     ensures capacity { vec_capacity places.new ≡ vec_capacity places.old }

@@ -1,4 +1,4 @@
-//! Bytes are sent to a writer.
+//! Sends bytes to a writer.
 
 ghost use Rattle.ffv1_wire.specs.Passage.{passage};
 ghost use Rattle.ffv1_reads.specs.Writes.{Writes};

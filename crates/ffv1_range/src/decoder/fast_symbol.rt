@@ -1,5 +1,5 @@
-//! Symbols of a row are read: the most frequent ones, zeros and those of the exponents 0 and 1, by
-//! straight code, and only nonzero numbers are counted (RFC 9043, 3.8.1.2).
+//! Reads symbols of a row: the most frequent ones, zeros and those of the exponents 0 and 1, by
+//! straight code. Counts only nonzero numbers (RFC 9043, 3.8.1.2).
 
 ghost use Rattle.std.specs.Prelude.{◌≡◌, ◌↔◌, ℕ, ◌+◌, ◌*◌, ◌^◌, ◌≤◌, ◌<◌, ◌++◌, List, length};
 ghost use Rattle.std.specs.Prelude.{slice_index, slice_set, pos, IsTrue, IsFalse, IfSome};

@@ -1,4 +1,4 @@
-//! Symbols are read: numbers by their decisions (RFC 9043, 3.8.1.2).
+//! Reads symbols: numbers by their decisions (RFC 9043, 3.8.1.2).
 
 ghost use Rattle.std.specs.Prelude.{◌≡◌, ℕ, ◌+◌, ◌*◌, ◌^◌, ◌≤◌, ◌<◌, List, [], ◌∷◌, IfOk, IfErr};
 ghost use Rattle.std.specs.Prelude.{OnErr, length, unsigned_abs};

@@ -1,4 +1,4 @@
-//! Decisions of a list are written.
+//! Writes the decisions of a list.
 
 ghost use Rattle.std.specs.Prelude.{◌≡◌, ℕ, ◌+◌, ◌*◌, ◌/◌, ◌^◌, ◌≤◌, ◌<◌, [], ◌∷◌, OnOk, OnErr};
 ghost use Rattle.std.specs.Prelude.{IfOk, IfErr, IsTrue, length, false, List, ◌++◌, take, drop};

@@ -1,4 +1,4 @@
-//! Symbols are written: numbers by their decisions (RFC 9043, 3.8.1.2).
+//! Writes symbols: numbers by their decisions (RFC 9043, 3.8.1.2).
 
 ghost use Rattle.std.specs.Prelude.{◌≡◌, ℕ, ◌+◌, ◌*◌, ◌^◌, ◌≤◌, ◌<◌, List, [], ◌∷◌, OnOk, OnErr};
 ghost use Rattle.std.specs.Prelude.{IfOk, IfErr, IsTrue, IsErr, length, unsigned_abs, false};
