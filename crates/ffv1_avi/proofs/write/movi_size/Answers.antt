@@ -1,6 +1,7 @@
 -- The size of movi, where that of RIFF, which has so many bytes beside it, is not too great.
 use Rattle.std.proofs.Common.{◌≡◌, ◌+◌, ◌<◌, length, get_or, arith, refl}
 use Rattle.std.proofs.lemmas.Bool.{lt-leb}
+use Rattle.std.proofs.lemmas.Grind.{common_steps}
 use Rattle.ffv1_avi.specs.Written.{frames_of, frame_size, movi_size}
 use Rattle.ffv1_avi.proofs.Sizes.{movi_more, movi_part}
 use Rattle.ffv1_avi.proofs.write.movi_size.Goals as goal
@@ -27,3 +28,9 @@ returns-then-others-size-gt-MOST g c =
     let big : 2147483647 < c.args.others + movi_size (frames_of c.args.frames.now) =
     omega (arith, more, part, same, c.if-others-size-gt-MOST.true, c.loop-frame.invariant.0) in
     rw (lt-leb _ _ big) refl
+
+pub loop-frame-preserved : goal.loop-frame-preserved
+loop-frame-preserved g c = grind (arith, common_steps)
+
+pub returns-else-others-size-gt-MOST-2 : goal.returns-else-others-size-gt-MOST-2
+returns-else-others-size-gt-MOST-2 g c = grind (arith, common_steps)

@@ -4,6 +4,7 @@ use Rattle.std.proofs.lemmas.Result.{err_from_is_err_and}
 use Rattle.std.proofs.lemmas.List.{take_all}
 use Rattle.std.proofs.lemmas.List.Folds.{flat_map-map}
 use Rattle.std.specs.declared.vec.Vec.{Vec}
+use Rattle.std.proofs.lemmas.Grind.{common_steps}
 use Rattle.ffv1_avi.specs.Written.{frame_chunk, frames_of, movi, spelled}
 use Rattle.ffv1_avi.proofs.Sizes.{movi_more, movi_part}
 use Rattle.ffv1_reads.proofs.Writing.{appends_then, pieces_stop, stops_then, writes_stop}
@@ -60,3 +61,9 @@ returns g c =
       appends_then _ _ _ (spelled (movi c.args.size))
           (flat_map frame_chunk (frames_of c.args.frames.now)) h.1 all,
     )
+
+pub loop-frame-init : goal.loop-frame-init
+loop-frame-init g c = grind (arith, common_steps)
+
+pub loop-frame-preserved : goal.loop-frame-preserved
+loop-frame-preserved g c = grind (arith, common_steps)

@@ -2,6 +2,7 @@
 -- than the grid's depth.
 use Rattle.std.proofs.Common.{◌≡◌, ℕ, ◌*◌, ◌^◌, ◌<◌, List, length, get_or, sym, ◌∙◌, ap, arith}
 use Rattle.std.proofs.Common.{rules, subst}
+use Rattle.std.proofs.lemmas.Grind.{common_steps}
 use borrow.Author.Count.{below_more}
 use Rattle.ffv1_samples.specs.Samples.{AreBelow, sample_bytes, samples_of}
 use Rattle.ffv1_slice.specs.Grid.{across, down, whole_of}
@@ -85,3 +86,9 @@ returns-then-not-are_small-clause-no g c = λ _ fits.
     c.if-not-are_small.ensures.no (search rules)
     (subst (λ n. AreBelow (2 ^ n) (samples_of n c.as_slice-samples.result.now))
     (sym c.depth.ensures.value) small)
+
+pub returns-then-planes-clause-no : goal.returns-then-planes-clause-no
+returns-then-planes-clause-no g c = grind (arith, common_steps)
+
+pub returns-then-not-has-clause-no : goal.returns-then-not-has-clause-no
+returns-then-not-has-clause-no g c = grind (arith, common_steps)

@@ -1,6 +1,7 @@
 -- Whether the bytes decode to these samples, row by row.
-use Rattle.std.proofs.Common.{◌≡◌, ◌∙◌, true, refl, sym, ap, length, ℕ, []}
+use Rattle.std.proofs.Common.{◌≡◌, ◌∙◌, true, refl, sym, ap, length, ℕ, [], arith}
 use Rattle.std.proofs.lemmas.List.{length-replicate}
+use Rattle.std.proofs.lemmas.Grind.{common_steps}
 use Rattle.ffv1_line.specs.Cell.{Cell, cell_of}
 use Rattle.ffv1_line.proofs.Cells.{length-rows}
 use Rattle.ffv1_engine.specs.Plane.{plane_residuals}
@@ -24,3 +25,12 @@ returns g c =
     cell_same (λ (s : Comparison). s.rest.now) (λ (s : Comparison). s.same) plane.width samples
     plane.height _ _ plane.whole back.1 refl refl in
     record { same = rw (ok, same) refl }
+
+pub decode_cell-decoded-requires-clause-some : goal.decode_cell-decoded-requires-clause-some
+decode_cell-decoded-requires-clause-some g c = grind (arith, common_steps)
+
+pub decode_cell-decoded-requires-clause-two : goal.decode_cell-decoded-requires-clause-two
+decode_cell-decoded-requires-clause-two g c = grind (arith, common_steps)
+
+pub decode_cell-decoded-requires-clause-one : goal.decode_cell-decoded-requires-clause-one
+decode_cell-decoded-requires-clause-one g c = grind (arith, common_steps)

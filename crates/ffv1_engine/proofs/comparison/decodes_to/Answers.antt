@@ -1,5 +1,6 @@
 -- Whether the code of a mono plane decodes to the plane's samples.
 use Rattle.std.proofs.Common.{◌≡◌, ◌<◌, ◌≤◌, ◌*◌, sym, ap, ap₂, ◌∙◌, ℕ, [], replicate, rules, arith}
+use Rattle.std.proofs.lemmas.Grind.{common_steps}
 use Rattle.ffv1_range.specs.Codes.{value}
 use Rattle.ffv1_plane.specs.Quantisation.{contexts_of}
 use Rattle.ffv1_line.specs.Cell.{cell_of}
@@ -48,3 +49,9 @@ decode_rows-requires-clause-stands g c =
     c.coded_cell_is_read_back.ensures.first [] (coding_by t set 8)
     (decoder_by c.in-Ok.decoder c.as_mut_slice.result.now) (cell_of w samples)
     (plane_residuals set w h samples) c.in-Ok.ensures.at here
+
+pub decode_rows-requires-clause-rows : goal.decode_rows-requires-clause-rows
+decode_rows-requires-clause-rows g c = grind (arith, common_steps)
+
+pub decode_rows-requires-clause-held : goal.decode_rows-requires-clause-held
+decode_rows-requires-clause-held g c = grind (arith, common_steps)

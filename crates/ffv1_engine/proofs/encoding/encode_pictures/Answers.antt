@@ -1,6 +1,7 @@
 -- Encodes all pictures.
 use Rattle.std.proofs.lemmas.Result.{err_from_is_err_and}
-use Rattle.std.proofs.Common.{refl, ◌∙◌, subst}
+use Rattle.std.proofs.Common.{refl, ◌∙◌, subst, arith}
+use Rattle.std.proofs.lemmas.Grind.{common_steps}
 use Rattle.ffv1_wire.specs.Passage.{passage}
 use Rattle.ffv1_avi.specs.Written.{frames_of}
 use Rattle.ffv1_engine.specs.Internal.Encoding.{EncodesNext}
@@ -45,3 +46,6 @@ returns-clause-ok g c =
     (frames_of c.loop-planes.frames.items) (frames_of c.encode_next.new.frames.items) m)
     c.if-branch.false c.in_ok-encode_next.ensures.ok in
     encoded_all _ _ _ _ _ _ i.0 refl refl _ _ next
+
+pub loop-planes-smaller : goal.loop-planes-smaller
+loop-planes-smaller g c = grind (arith, common_steps)

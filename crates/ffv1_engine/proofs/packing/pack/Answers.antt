@@ -1,7 +1,8 @@
 -- Packs a video: YUV4MPEG2 or, where the first byte is `P`, binary PPM is read, each picture is
 -- encoded, and an AVI of the frames is written (RFC 9043, 4.3.3).
 use Rattle.std.proofs.lemmas.Result.{err_from_is_err_and}
-use Rattle.std.proofs.Common.{◌∙◌, sym, ap, subst, ◌≤◌, Ok, Err}
+use Rattle.std.proofs.Common.{◌∙◌, sym, ap, subst, ◌≤◌, Ok, Err, arith}
+use Rattle.std.proofs.lemmas.Grind.{common_steps}
 use Rattle.ffv1_wire.specs.Passage.{passage}
 use Rattle.ffv1_reads.specs.Head.{head_of}
 use Rattle.ffv1_avi.specs.Written.{frames_of, most}
@@ -39,3 +40,6 @@ returns-clause-ok g c =
     (record { frames = c.len.result; bytes = c.bytes_in.result }) written
     (c.len.ensures ∙ many_frames c.in_ok-stream.stream.frames)
     (c.bytes_in.ensures ∙ ap (λ fs. bytes_in (frames_of fs)) c.deref-2.ensures.value)
+
+pub returns-in_err-write_avi-clause-own : goal.returns-in_err-write_avi-clause-own
+returns-in_err-write_avi-clause-own g c = grind (arith, common_steps)

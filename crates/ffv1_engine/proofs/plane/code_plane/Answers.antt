@@ -16,3 +16,6 @@ returns-clause-residuals g c = grind (arith, common_steps)
 
 pub returns-clause-long : goal.returns-clause-long
 returns-clause-long g c = grind (arith, common_steps)
+
+pub code_rows-requires-clause-held : goal.code_rows-requires-clause-held
+code_rows-requires-clause-held g c = grind (arith, common_steps)

@@ -1,5 +1,6 @@
 -- Puts the head of a slice, whose number in raster order gives its place, by 32 fresh states.
-use Rattle.std.proofs.Common.{◌++◌}
+use Rattle.std.proofs.Common.{◌++◌, arith}
+use Rattle.std.proofs.lemmas.Grind.{common_steps}
 use Rattle.ffv1_record.specs.Configuration.{configuration_of}
 use Rattle.ffv1_slice.specs.Head.{head_values, place_of, indexes_of, info_of, values_steps}
 use Rattle.ffv1_range.proofs.Growth.{on_err}
@@ -58,3 +59,9 @@ returns-in_err-put_three-clause-refused g c =
     (indexes_of config.extra_plane h.indexes) (info_of h) c.in_ok-put_indexes.ensures.ok
     (rw (← c.from.ensures, ← c.from-2.ensures, ← c.from-3.ensures)
     c.in_err-put_three.ensures.refused))))
+
+pub put_place-requires-clause-column : goal.put_place-requires-clause-column
+put_place-requires-clause-column g c = grind (arith, common_steps)
+
+pub put_place-requires-clause-row : goal.put_place-requires-clause-row
+put_place-requires-clause-row g c = grind (arith, common_steps)

@@ -1,4 +1,4 @@
--- The set indexes are put, two or three.
+-- Puts the set indexes, two or three.
 use Rattle.std.proofs.Common.{[], ◌∷◌}
 use Rattle.ffv1_range.proofs.Growth.{on_err}
 use Rattle.ffv1_slice.proofs.CallsGive.{refused_behind, indexes_first, indexes_second}

@@ -1,4 +1,4 @@
--- The place of a slice of one cell is put.
+-- Puts the place of a slice of one cell.
 use Rattle.std.proofs.Common.{[], ◌∷◌}
 use Rattle.ffv1_range.proofs.Growth.{on_err}
 use Rattle.ffv1_slice.proofs.CallsGive.{refused_first_of, refused_behind}

@@ -1,4 +1,4 @@
--- Three numbers are put.
+-- Puts three numbers.
 use Rattle.std.proofs.Common.{[], ◌∷◌}
 use Rattle.ffv1_range.proofs.Growth.{on_err}
 use Rattle.ffv1_slice.proofs.CallsGive.{refused_first_of, refused_behind}

@@ -1,6 +1,7 @@
 -- Reads the line of the greatest sample: its depth, where it has one of at most `most`.
 use Rattle.std.proofs.Common.{◌≡◌, ◌≤◌, length, arith}
 use Rattle.std.proofs.lemmas.Result.{err_from_is_err_and}
+use Rattle.std.proofs.lemmas.Grind.{common_steps}
 use Rattle.ffv1_y4m.specs.Header.{line_read}
 use Rattle.ffv1_y4m.specs.Reads.{Nowhere}
 use Rattle.ffv1_y4m.proofs.PpmSteps.{maximum_stops, room_four, room_six, stands_fresh}
@@ -24,3 +25,6 @@ returns-in_err-end-2-clause-answer g c =
     let read = rw long at c.in_err-end-2.ensures.answer in
     rw (p.1, p.2) (maximum_stops c.args.most 6 _ c.in_err-end-2.field-0.0
     (room_six c.args.most deep) (stands_fresh (line_read 6) Nowhere _ _ _ _ _ read))
+
+pub returns-clause-answer : goal.returns-clause-answer
+returns-clause-answer g c = grind (arith, common_steps)

@@ -2,6 +2,7 @@
 use Rattle.std.proofs.Common.{◌≡◌, ◌∙◌, sym, true, length, drop, arith}
 use Rattle.std.proofs.Math.Seq.{take-append_seam}
 use Rattle.std.proofs.lemmas.Result.{err_from_is_err_and}
+use Rattle.std.proofs.lemmas.Grind.{common_steps}
 use Rattle.ffv1_samples.specs.Samples.{are_in_depth}
 use Rattle.ffv1_y4m.specs.Pictures.{plane_read}
 use Rattle.ffv1_y4m.proofs.Colours.{stands_full}
@@ -44,3 +45,6 @@ returns-clause-answer g c =
     rw (same, whole) (plane_full c.args.depth c.args.size c.in_ok-len.len _ _ _ _
     c.read_full.new.buf long c.if-len-size.false c.in_ok-len.ensures.ok
     c.in_ok-len.ensures.counted within)
+
+pub returns-then-not-are_in_depth-clause-answer : goal.returns-then-not-are_in_depth-clause-answer
+returns-then-not-are_in_depth-clause-answer g c = grind (arith, common_steps)

@@ -2,6 +2,8 @@
 use Rattle.std.proofs.lemmas.Result.{err_from_is_err_and}
 use Rattle.std.proofs.lemmas.List.Folds.{flat_map-map}
 use Rattle.std.proofs.lemmas.List.{take_all}
+use Rattle.std.proofs.Common.{arith}
+use Rattle.std.proofs.lemmas.Grind.{common_steps}
 use Rattle.ffv1_y4m.proofs.Written.{parts_stop}
 use Rattle.ffv1_y4m.proofs.writing.write_planes.Goals as goal
 
@@ -18,3 +20,9 @@ returns g c =
     let h = c.loop-plane.invariant in
     let all = take_all c.loop-plane.plane-index c.args.planes.now c.loop-plane-test.false in
     rw flat_map-map (rw all at h)
+
+pub loop-plane-init : goal.loop-plane-init
+loop-plane-init g c = grind (arith, common_steps)
+
+pub loop-plane-preserved : goal.loop-plane-preserved
+loop-plane-preserved g c = grind (arith, common_steps)

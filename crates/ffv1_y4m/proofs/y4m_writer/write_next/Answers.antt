@@ -1,6 +1,7 @@
 -- Writes a picture, and before the first one the header.
 use Rattle.std.proofs.lemmas.Result.{err_from_is_err_and}
-use Rattle.std.proofs.Common.{Err}
+use Rattle.std.proofs.Common.{Err, arith}
+use Rattle.std.proofs.lemmas.Grind.{common_steps}
 use Rattle.ffv1_y4m.specs.Canonical.{header_text}
 use Rattle.ffv1_y4m.specs.Pictures.{picture_text}
 use Rattle.ffv1_y4m.specs.State.{samples_of}
@@ -19,3 +20,6 @@ returns-in_err-write_picture-2 g c =
     (g.W.ByteOut.failures c.write_picture-2.new.output) tt
     (Err c.in_err-write_picture-2.field-0.0) c.in_ok-write_header.ensures
     c.in_err-write_picture-2.ensures)
+
+pub returns-in_err-write_header : goal.returns-in_err-write_header
+returns-in_err-write_header g c = grind (arith, common_steps)

@@ -3,6 +3,7 @@ use Rattle.std.proofs.Common.{◌≡◌, ℕ, ◌*◌, ◌^◌, ◌<◌, ◌≤�
 use Rattle.std.proofs.Common.{take, drop, true, false, arith, refl}
 use Rattle.std.proofs.Math.Nat.{mul-le-mul_left}
 use Rattle.std.proofs.lemmas.List.{length-take-le}
+use Rattle.std.proofs.lemmas.Grind.{common_steps}
 use Rattle.ffv1_samples.specs.Samples.{bytes_of, sample_bytes}
 use Rattle.ffv1_slice.specs.Grid.{Division}
 use Rattle.ffv1_record.specs.Configuration.{Configuration, is_rct}
@@ -143,3 +144,6 @@ returns-in-Err-clause-exact g c = λ coded s stand.
     (flat g here).1 (all g here).0 (all g here).1 (flat g here).0 c.in-Err.x c.in-Err.ensures.err in
     let f = c.colourless.ensures.fault in
     (c.in-Err.x, f.0, missing, f.1, f.2, refl)
+
+pub copy_to-requires-clause-out : goal.copy_to-requires-clause-out
+copy_to-requires-clause-out g c = grind (arith, common_steps)

@@ -3,6 +3,7 @@ use Rattle.std.proofs.Common.{rules, ◌≡◌, ℕ, ◌<◌, ◌∙◌, ◌++�
 use Rattle.std.proofs.Common.{take, drop, arith}
 use Rattle.std.proofs.lemmas.List.{with_items_is}
 use Rattle.std.proofs.lemmas.Result.{err_from_is_err_and}
+use Rattle.std.proofs.lemmas.Grind.{common_steps}
 use Rattle.ffv1_codec.specs.Internal.Opened.{coded_by}
 use Rattle.ffv1_codec.specs.Internal.Tied.{AreTold}
 use Rattle.ffv1_codec.proofs.RowsDecodes.{between, rows_more, rows_fail, rows_end}
@@ -130,3 +131,9 @@ returns-clause-exact g c =
     let first : c.loop-row.first ≡ Some c.unwrap.result = search rules in
     rows_end takes refuses a coded c.args.sink.now c.loop-row.row c.loop-row.tally c.loop-row.first
     c.loop-row.sink done c.each_step_is_one_or_zero.ensures.steps c.unwrap.result all first
+
+pub decode_row-decoded-requires-clause-many : goal.decode_row-decoded-requires-clause-many
+decode_row-decoded-requires-clause-many g c = grind (arith, common_steps)
+
+pub decode_row-decoded-requires-clause-closed : goal.decode_row-decoded-requires-clause-closed
+decode_row-decoded-requires-clause-closed g c = grind (arith, common_steps)

@@ -4,6 +4,7 @@ use Rattle.std.proofs.Common.{refl, length, slice_set, List, arith, length-set, 
 use Rattle.std.proofs.Common.{get_or-set_other}
 use Rattle.std.specs.Prelude.{IsSome}
 use Rattle.std.proofs.lemmas.Bool.{cases_eq}
+use Rattle.std.proofs.lemmas.Grind.{common_steps}
 use Rattle.ffv1_codec.specs.Decoding.{slice_number}
 use Rattle.ffv1_codec.specs.Internal.Tied.{IsOpen, column_at, no_column}
 use Rattle.ffv1_codec.specs.Internal.Opened.{RowOpened, ColumnOpened, ColumnRefused, coded_by}
@@ -100,3 +101,9 @@ loop-k-preserved g c =
           c.open_column.new.column before (inside g here) (long g here)
           c.counters_from_zero_show_all_steps.ensures c.open_column.new.first opened);
     }
+
+pub overflow_mul-slice : goal.overflow_mul-slice
+overflow_mul-slice g c = grind (arith, common_steps)
+
+pub overflow_add-slice : goal.overflow_add-slice
+overflow_add-slice g c = grind (arith, common_steps)

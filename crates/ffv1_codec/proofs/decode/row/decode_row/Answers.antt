@@ -1,12 +1,13 @@
 -- Decodes a row of slices.
-use Rattle.std.proofs.Common.{◌≡◌, ℕ, ◌∙◌, ◌++◌, ap, sym, subst, List, length, take, drop}
+use Rattle.std.proofs.Common.{◌≡◌, ℕ, ◌∙◌, ◌++◌, ap, sym, subst, List, length, take, drop, arith}
 use Rattle.std.proofs.lemmas.List.{with_items_is}
 use Rattle.std.proofs.lemmas.Result.{err_from_is_err_and, MatchResult-weaker}
+use Rattle.std.proofs.lemmas.Nat.{pow_pos}
+use Rattle.std.proofs.lemmas.Grind.{common_steps}
 use Rattle.ffv1_codec.specs.Internal.Opened.{coded_by}
 use Rattle.ffv1_codec.specs.Internal.Tied.{TiedColumns, row_slices}
 use Rattle.ffv1_codec.specs.Internal.Progress.{FailsIn}
 use Rattle.ffv1_codec.specs.Internal.Rows.{open_events}
-use Rattle.std.proofs.lemmas.Nat.{pow_pos}
 use Rattle.ffv1_codec.specs.SliceList.{bits_of}
 use Rattle.ffv1_codec.proofs.RowDecodes.{opened_tied, open_fails, opened_grows, lines_fail}
 use Rattle.ffv1_codec.proofs.RowDecodes.{row_decoded}
@@ -73,3 +74,18 @@ returns-clause-exact g c = λ initial s between grows.
     (λ f stopped. lines_fail takes refuses a coded initial c.args.row payload s c.open_row.new.first
     c.open_row.new.columns opened c.decode_lines.new.slices.columns.items f
     c.decode_lines.new.sink stopped)
+
+pub returns-in_err-open_row-clause-same : goal.returns-in_err-open_row-clause-same
+returns-in_err-open_row-clause-same g c = grind (arith, common_steps)
+
+pub decode_lines-requires-clause-many : goal.decode_lines-requires-clause-many
+decode_lines-requires-clause-many g c = grind (arith, common_steps)
+
+pub decode_lines-requires-clause-room : goal.decode_lines-requires-clause-room
+decode_lines-requires-clause-room g c = grind (arith, common_steps)
+
+pub decode_lines-requires-clause-held : goal.decode_lines-requires-clause-held
+decode_lines-requires-clause-held g c = grind (arith, common_steps)
+
+pub returns-clause-same : goal.returns-clause-same
+returns-clause-same g c = grind (arith, common_steps)

@@ -5,6 +5,7 @@ use Rattle.std.proofs.Common.{drop, arith}
 use Rattle.std.proofs.lemmas.List.{with_items_is}
 use Rattle.std.proofs.lemmas.Result.{err_from_is_err_and, MatchResult-weaker}
 use Rattle.std.specs.List.{range_with_len}
+use Rattle.std.proofs.lemmas.Grind.{common_steps}
 use Rattle.ffv1_codec.specs.Order.{lines_down, line_events}
 use Rattle.ffv1_codec.specs.Internal.Tied.{AreTold, PlanesRead, TiedColumns, row_slices}
 use Rattle.ffv1_codec.specs.Internal.Finished.{StandRead}
@@ -167,3 +168,21 @@ returns-clause-exact g c = λ coded next initial s less tied planes grows.
     (inr (hand_fails takes refuses a coded initial line.row next payload line.first line.count
     line.y s c.read_planes.new.columns c.read_planes.new.states two one cur c.args.sink.now
     grows read told c.finish.new.out made f c.hand_lines.new.sink stopped)))
+
+pub read_planes-requires-clause-open : goal.read_planes-requires-clause-open
+read_planes-requires-clause-open g c = grind (arith, common_steps)
+
+pub returns-in_err-read_planes-clause-same : goal.returns-in_err-read_planes-clause-same
+returns-in_err-read_planes-clause-same g c = grind (arith, common_steps)
+
+pub returns-in_err-finish-clause-same : goal.returns-in_err-finish-clause-same
+returns-in_err-finish-clause-same g c = grind (arith, common_steps)
+
+pub returns-clause-open : goal.returns-clause-open
+returns-clause-open g c = grind (arith, common_steps)
+
+pub returns-clause-held : goal.returns-clause-held
+returns-clause-held g c = grind (arith, common_steps)
+
+pub returns-clause-same : goal.returns-clause-same
+returns-clause-same g c = grind (arith, common_steps)

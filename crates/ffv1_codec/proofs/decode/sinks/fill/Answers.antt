@@ -4,6 +4,7 @@ use Rattle.std.proofs.Common.{slice_set, inl, inr, arith}
 use Rattle.std.specs.Vec.{vec_capacity}
 use Rattle.std.specs.declared.vec.Vec.{Vec}
 use Rattle.std.proofs.lemmas.Bool.{cases_eq}
+use Rattle.std.proofs.lemmas.Grind.{common_steps}
 use Rattle.ffv1_codec.specs.Filled.{filled, filled_planes, plane_size}
 use Rattle.ffv1_codec.specs.Picture.{plane, planes_of}
 use Rattle.ffv1_codec.proofs.Filling.{all_whole, filled_long, plane_kept, plane_new, set_self}
@@ -56,3 +57,6 @@ returns-clause-planes g c =
     all_whole d (planes_of items) (planes_long items ∙ begun.count)
     (λ p h. c.loop-plane.invariant.2 p (omega (arith, h, end)))
     ∙ c.loop-plane.invariant.1
+
+pub offset_bounds-planes-plane : goal.offset_bounds-planes-plane
+offset_bounds-planes-plane g c = grind (arith, common_steps)

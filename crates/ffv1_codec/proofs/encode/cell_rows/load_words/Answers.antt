@@ -1,6 +1,7 @@
 -- `load_words`: the same of samples of more than 8 bits.
 use Rattle.std.proofs.Common.{◌≡◌, refl, zero, suc, ◌+◌, ◌*◌, ◌/◌, ◌<◌, ◌∙◌, ℕ, List, ap, sym}
-use Rattle.std.proofs.Common.{subst, length, true}
+use Rattle.std.proofs.Common.{subst, length, true, arith}
+use Rattle.std.proofs.lemmas.Grind.{common_steps}
 use Rattle.ffv1_samples.specs.Samples.{sample_bytes, samples_of}
 use Rattle.ffv1_samples.proofs.Depths.{length_samples}
 use Rattle.ffv1_rct.specs.Lines.{AreCodedIn}
@@ -188,3 +189,12 @@ returns-clause-loaded g c =
         shows = red_shows conf planes n y r h b luma blue red t;
       };
     }
+
+pub transform_words-requires-clause-red : goal.transform_words-requires-clause-red
+transform_words-requires-clause-red g c = grind (arith, common_steps)
+
+pub transform_words-requires-clause-green : goal.transform_words-requires-clause-green
+transform_words-requires-clause-green g c = grind (arith, common_steps)
+
+pub transform_words-requires-clause-blue : goal.transform_words-requires-clause-blue
+transform_words-requires-clause-blue g c = grind (arith, common_steps)

@@ -1,4 +1,4 @@
--- All slices are coded, one after the other.
+-- Codes all slices, one after the other.
 use Rattle.std.proofs.Common.{◌≡◌, refl, ℕ, ◌*◌, ◌<◌, ◌≤◌, map, ◌∙◌, ap, arith}
 use Rattle.std.proofs.lemmas.Result.{err_from_is_err_and}
 use Rattle.std.specs.List.{range_with_len}

@@ -1,5 +1,4 @@
--- The rows of a cell are coded, by the states of its class, which begin at this offset of all
--- states.
+-- Codes the rows of a cell, by the states of its class, which begin at this offset of all states.
 use Rattle.std.proofs.Common.{◌≡◌, ◌+◌, ◌-◌, ◌*◌, ◌≤◌, List, length, subst, sym, arith, ◌∙◌}
 use Rattle.ffv1_range.specs.Symbols.{Step}
 use Rattle.ffv1_range.specs.History.{AreBelow}

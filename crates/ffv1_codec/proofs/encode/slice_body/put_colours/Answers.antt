@@ -1,4 +1,4 @@
--- Line y of Y, Cb, Cr and transparency is coded.
+-- Codes line y of Y, Cb, Cr and transparency.
 use Rattle.std.proofs.Common.{subst, sym}
 use Rattle.ffv1_codec.specs.Picture.{cell_in}
 use Rattle.ffv1_codec.specs.SliceList.{chosen_head, chosen_body}

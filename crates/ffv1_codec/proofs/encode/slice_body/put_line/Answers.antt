@@ -1,4 +1,4 @@
--- A row of a plane is coded, by the set and the states of the plane's class.
+-- Codes a row of a plane, by the set and the states of the plane's class.
 use Rattle.std.proofs.Common.{subst, arith}
 use Rattle.ffv1_codec.specs.Internal.HasPut.{PutsAfter}
 use Rattle.ffv1_codec.proofs.Classes.{line_is}

@@ -1,4 +1,4 @@
--- The lines of RCT are coded, one after the other, each plane by plane (RFC 9043, 4.7).
+-- Codes the lines of RCT, one after the other, each plane by plane (RFC 9043, 4.7).
 use Rattle.std.proofs.Common.{◌≡◌, subst, arith}
 use Rattle.std.specs.List.{flat_map, range_with_len}
 use Rattle.ffv1_codec.specs.Picture.{cell_in, cell_height, plane_count}

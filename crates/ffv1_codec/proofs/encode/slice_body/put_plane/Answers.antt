@@ -1,4 +1,4 @@
--- The lines of a plane of YCbCr are coded, one after the other.
+-- Codes the lines of a plane of YCbCr, one after the other.
 use Rattle.std.proofs.Common.{◌∙◌, ℕ, ap, sym, subst, length, replicate, arith}
 use Rattle.std.proofs.lemmas.List.{length-replicate}
 use Rattle.ffv1_codec.specs.Picture.{cell_in, cell_height}

@@ -1,4 +1,4 @@
--- The planes of YCbCr are coded, one after the other (RFC 9043, 4.7).
+-- Codes the planes of YCbCr, one after the other (RFC 9043, 4.7).
 use Rattle.std.proofs.Common.{◌≡◌, ◌∙◌, ap, subst, arith}
 use Rattle.std.specs.List.{flat_map, range_with_len}
 use Rattle.ffv1_slice.specs.Grid.{Division}

@@ -1,4 +1,4 @@
--- A row of a cell is coded, by the states of its class, which begin at this offset of all states.
+-- Codes a row of a cell, by the states of its class, which begin at this offset of all states.
 use Rattle.std.proofs.Common.{◌≡◌, ◌+◌, ◌-◌, ◌*◌, arith}
 use Rattle.ffv1_plane.specs.Quantisation.{contexts_of}
 use Rattle.ffv1_codec.proofs.Windows.{Kept, row_puts, part_held, put_held}

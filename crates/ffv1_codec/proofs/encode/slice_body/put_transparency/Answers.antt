@@ -1,4 +1,4 @@
--- Where there is a plane of transparency, a row of it is coded.
+-- Codes a row of the plane of transparency, where there is one.
 use Rattle.std.proofs.Common.{◌≡◌, ◌∙◌, ap, true, subst, sym}
 use Rattle.ffv1_record.specs.Configuration.{Configuration}
 use Rattle.ffv1_codec.specs.Picture.{cell_in}

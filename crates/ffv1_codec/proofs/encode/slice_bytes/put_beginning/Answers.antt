@@ -1,4 +1,4 @@
--- The key and the head of a slice are put.
+-- Puts the key and the head of a slice.
 use Rattle.std.proofs.Common.{subst}
 use Rattle.ffv1_slice.specs.declared.head.SliceHead.{SliceHead}
 use Rattle.ffv1_slice.specs.Head.{head_values, head_steps}

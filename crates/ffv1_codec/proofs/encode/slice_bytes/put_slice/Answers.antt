@@ -1,6 +1,7 @@
--- The decisions of a slice are put, by fresh states: its key, its head and its residuals.
+-- Puts the decisions of a slice, by fresh states: its key, its head and its residuals.
 use Rattle.std.proofs.Common.{◌≡◌, ℕ, ◌-◌, ◌^◌, ◌<◌, ◌≤◌, ◌∙◌, sym, subst, List, ◌++◌, append_assoc}
 use Rattle.std.proofs.Common.{arith}
+use Rattle.std.proofs.lemmas.Grind.{common_steps}
 use Rattle.ffv1_range.specs.Symbols.{Step}
 use Rattle.ffv1_slice.specs.Head.{key_steps, head_steps}
 use Rattle.ffv1_codec.specs.Picture.{cell_in}
@@ -75,3 +76,6 @@ returns-clause-ok g c =
 
 pub returns-clause-decisions : goal.returns-clause-decisions
 returns-clause-decisions g c = (between g (goal.at.returns-clause-decisions g c).After-decisions).1
+
+pub put_body-requires-clause-room : goal.put_body-requires-clause-room
+put_body-requires-clause-room g c = grind (arith, common_steps)

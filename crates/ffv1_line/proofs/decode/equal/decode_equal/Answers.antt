@@ -1,6 +1,7 @@
 -- The places of a block from `start` on whose neighbours are equal and whose symbols are zeros: the
 -- samples above and to the left are one, and so is each that comes.
 use Rattle.std.proofs.Common.{refl, ◌≡◌, ◌*◌, ◌<◌, length, slice_index, arith, rules, ◌∙◌}
+use Rattle.std.proofs.lemmas.Grind.{common_steps}
 use Rattle.ffv1_line.specs.Internal.Along.{IsEqualContext}
 use Rattle.ffv1_line.proofs.decode.equal.decode_equal.Goals as goal
 
@@ -19,3 +20,6 @@ returns-clause-read g c =
     record { each = λ tr tt early. same ∙ c.late_context-next.ensures.size b.l tr tt early } in
     let copy : c.take-local.result ≡ c.args.decoder.now = search rules in
     rw copy at ((c.take_zeros-left.ensures.read size (first, next)).by c.args.states.now fits refl)
+
+pub late_context-size-requires-clause-early : goal.late_context-size-requires-clause-early
+late_context-size-requires-clause-early g c = grind (arith, common_steps)

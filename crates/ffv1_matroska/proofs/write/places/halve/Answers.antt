@@ -1,4 +1,4 @@
--- Every second place is kept, from the first on.
+-- Keeps every second place, from the first on.
 use Rattle.std.proofs.Common.{◌≡◌, ◌≤◌, ◌<◌, ◌+◌, ◌/◌, ◌%◌, ◌∙◌, length, take, get_or, arith, sym}
 use Rattle.std.proofs.Common.{ap}
 use Rattle.std.proofs.lemmas.Grind.{common_steps}

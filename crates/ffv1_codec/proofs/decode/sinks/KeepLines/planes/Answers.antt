@@ -1,8 +1,9 @@
 -- The planes, each accepted line in its place, and 0 where none was.
-use Rattle.std.proofs.Common.{◌≡◌, ◌∙◌, ap, sym, subst, refl, ℕ, List, length}
+use Rattle.std.proofs.Common.{◌≡◌, ◌∙◌, ap, sym, subst, refl, ℕ, List, length, arith}
 use Rattle.std.specs.Vec.{with_items}
 use Rattle.std.specs.declared.vec.Vec.{Vec}
 use Rattle.std.proofs.lemmas.List.{with_items_is}
+use Rattle.std.proofs.lemmas.Grind.{common_steps}
 use Rattle.ffv1_codec.specs.Filled.{filled_planes}
 use Rattle.ffv1_codec.specs.Kept.{Kept}
 use Rattle.ffv1_codec.specs.Picture.{AreOf, Planes, planes_of}
@@ -43,3 +44,6 @@ returns g c =
         same = tt;
       },
     )
+
+pub invariant_of-self : goal.invariant_of-self
+invariant_of-self g c = grind (arith, common_steps)

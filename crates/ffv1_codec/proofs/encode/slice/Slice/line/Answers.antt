@@ -1,5 +1,6 @@
 -- The bytes of a line of its cell in a plane.
-use Rattle.std.proofs.Common.{◌≡◌, ◌+◌, ◌*◌, ◌≤◌, ◌∙◌, ap, sym, subst, length, take, drop}
+use Rattle.std.proofs.Common.{◌≡◌, ◌+◌, ◌*◌, ◌≤◌, ◌∙◌, ap, sym, subst, length, take, drop, arith}
+use Rattle.std.proofs.lemmas.Grind.{common_steps}
 use Rattle.ffv1_samples.specs.Samples.{sample_bytes}
 use Rattle.ffv1_slice.specs.Grid.{Division, division_of}
 use Rattle.ffv1_codec.specs.Picture.{IsPicture, plane}
@@ -83,3 +84,9 @@ returns-clause-small g c =
     c.cell-cell.result.width samples c.line_of.result.now picture (bytes_are g here)
     (samples_are g here)
     c.line_of.ensures
+
+pub offset_bounds-planes-plane : goal.offset_bounds-planes-plane
+offset_bounds-planes-plane g c = grind (arith, common_steps)
+
+pub bounds-planes-plane : goal.bounds-planes-plane
+bounds-planes-plane g c = grind (arith, common_steps)
