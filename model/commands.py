@@ -141,7 +141,7 @@ OF_FILE = {50, 51, 52, 53, 54, 56, 80, 81, 82, 83, 84, 85}      # a file's own f
 
 
 def check(source, out, place, every):
-    """The lines of a check; own: where a place is asked for, a fault of the file itself has a line
+    """The lines of a check; own: where places are asked for, a fault of the file itself has a line
     more, with the frame that would come next, and the bytes before the element or chunk at fault,
     whether or not it can be written."""
     judged, begun = [], lambda: 0
@@ -159,7 +159,7 @@ def check(source, out, place, every):
 
 
 def check_frames(said, out, place, every, judged):
-    """A line for each frame; own: where a place is asked for, one more where decoding is refused.
+    """A line for each frame; own: where places are asked for, one more where decoding is refused.
     Where every frame is asked for, it goes on then, and the first such fault ends it."""
     _, config, frames, _ = said
     count, faults = 0, []

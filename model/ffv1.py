@@ -324,7 +324,7 @@ class Decoded:
 
 
 def finished(config, row, planes, y):
-    """Line y of these planes as it is handed over. Own: 7 where a place has no colour."""
+    """Line y of these planes as it is handed over. Own: 7 where samples have no colour."""
     lines = [sum((slice.cells[plane].lines[y] for slice in row), []) for plane in planes]
     if not config.rct:
         return lines

@@ -3,7 +3,7 @@
 
 
 def flipped(dice, data, begin=0):
-    """Bytes with one or two bits flipped, after a place."""
+    """Bytes with one or two bits flipped, after an offset."""
     data = bytearray(data)
     for _ in range(dice.choice([1, 1, 2])):
         if begin < len(data):
@@ -16,7 +16,7 @@ def cut(dice, data):
 
 
 def damaged(dice, data, kind, begin):
-    """Bytes that are cut (0), flipped (1), or flipped after a place (2)."""
+    """Bytes that are cut (0), flipped (1), or flipped after an offset (2)."""
     if kind == 0:
         return cut(dice, data)
     return flipped(dice, data, begin if kind == 2 else 0)

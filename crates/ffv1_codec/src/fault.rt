@@ -20,7 +20,8 @@ pub enum CodecFault {
     /// The 31st decision of an exponent is 1.
     #[error("4 SymbolTooLong")]
     SymbolTooLong,
-    /// A place has no red, green and blue from 0 to 255, or no transparency from 0 to 255.
+    /// The samples at a position give a red, green, blue or transparency that is below 0 or has
+    /// more bits than a sample.
     #[error("7 Colour")]
     Colour,
     /// At `Wide` a slice is read more than two bytes past its end: its decoder renormalised more
@@ -74,7 +75,7 @@ impl From<AllocError> for CodecFault {
     }
 }
 
-/// Why a payload is not decoded, and where. A place that a fault has none of is 0.
+/// Why a payload is not decoded, and where. A number that a fault has none of is 0.
 #[derive(Clone, Copy, Debug, PartialEq, Eq)]
 pub struct FrameFault {
     /// Why.
@@ -93,7 +94,7 @@ pub struct FrameFault {
 }
 
 impl FrameFault {
-    /// A fault that has no other place than its slice.
+    /// A fault of which only the slice is known.
     pub(crate) fn in_slice(fault: CodecFault, slice: u16) -> FrameFault
         ensures { result ≡ in_slice fault slice }
     {

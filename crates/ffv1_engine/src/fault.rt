@@ -30,7 +30,8 @@ pub enum Fault {
     /// A quantisation table set has more than 32768 contexts.
     #[error("6 Contexts")]
     Contexts,
-    /// A place has no red, green and blue below 2^depth, or no transparency below 2^depth.
+    /// The samples at a position give a red, green, blue or transparency that is below 0 or has
+    /// more bits than a sample.
     #[error("7 Colour")]
     Colour,
     /// A slice is read more than two bytes past its end.
@@ -99,7 +100,7 @@ pub enum Fault {
     /// The picture structure is above 3.
     #[error("33 Structure")]
     Structure,
-    /// A number of the sample aspect is above 65535, or one of them is zero alone.
+    /// A number of the sample aspect is above 65535, or at `Strict` one of them is zero alone.
     #[error("34 Aspect")]
     Aspect,
     /// Going from the end of a frame, fewer bytes are left than a footer, or fewer before the
@@ -125,22 +126,25 @@ pub enum Fault {
     #[error("42 Sink")]
     Sink,
     /// The file is no AVI: it begins otherwise, a list is too short for its own name, scale or rate
-    /// is zero alone, there is no `movi`, or a list stands in it.
+    /// is zero alone, there is no `movi`, a list stands in it, or no RIFF `AVIX` after a RIFF.
     #[error("50 NotAvi")]
     NotAvi,
-    /// The first `strl` is no FFV1 video, or `movi` comes before any `strl`.
+    /// No stream or track of FFV1 video that counts comes before the frames.
     #[error("51 NoFfv1")]
     NoFfv1,
-    /// A chunk does not fit in its list, or the input ends inside it.
+    /// A chunk or an element does not fit in what it stands in, the input ends inside it, or an AVI
+    /// has fewer frames than its `dmlh` says.
     #[error("52 Truncated")]
     Truncated,
-    /// A frame, or the format of the first stream, is longer than 67108864 bytes.
+    /// A frame, the format of a stream, the header of EBML or Tracks are longer than 67108864
+    /// bytes.
     #[error("53 ChunkTooLong")]
     ChunkTooLong,
     /// A frame has no bytes.
     #[error("54 EmptyFrame")]
     EmptyFrame,
-    /// The size of RIFF would pass 2147483647.
+    /// The file would become longer than its sizes can say, or after 2^64 pictures there is no
+    /// further number.
     #[error("55 TooLarge")]
     TooLarge,
     /// A read failed.
@@ -149,13 +153,13 @@ pub enum Fault {
     /// A write failed.
     #[error("57 Write")]
     Write,
-    /// The first line is no header of YUV4MPEG2, or the text is no PPM.
+    /// The first line is no header of YUV4MPEG2, or an image has no header of PPM.
     #[error("60 Header")]
     Header,
-    /// A tag of the header is not as it should be, or a size is missing.
+    /// A tag of the header is not as it should be, comes for the second time, or a size is missing.
     #[error("61 Tag")]
     Tag,
-    /// A tag names what this codec leaves out; for `trial` also a picture that is not mono.
+    /// A tag names what this codec leaves out; for `trial` also chroma, and more than 8 bits.
     #[error("62 Unsupported")]
     Unsupported,
     /// The line that begins a picture is not `FRAME`.
@@ -167,7 +171,7 @@ pub enum Fault {
     /// A sample of a text has more bits than the depth that its header says.
     #[error("65 SampleTooLarge")]
     SampleTooLarge,
-    /// The input has no picture.
+    /// The text has no picture, or the file no frame.
     #[error("70 NoFrames")]
     NoFrames,
     /// A later image has another size or depth than the first, or a later frame another structure

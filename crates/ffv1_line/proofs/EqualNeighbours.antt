@@ -38,7 +38,7 @@ comes_again bits l made prediction is value predicts = record {
       rw (is, predicts a left top least most) at value;
 }
 
--- a zero at such a place, by the context that zeros have
+-- a zero at such a position, by the context that zeros have
 zero_sampled : (coding : RowCoding) (old new : Decoder) (l tr ll tt size : ℕ) → AreUnsigned coding.bits → ComesAgain coding.bits l →
     size ≡ size_of coding.set (record { l = l; t = l; tl = l; tr = tr; ll = ll; tt = tt }) → Follows coding.table old.reading old.states new.reading new.states (shifted (size * 32) (signed_steps (pos 0))) →
     Sampled coding old new (record { l = l; t = l; tl = l; tr = tr; ll = ll; tt = tt }) l
@@ -46,7 +46,7 @@ zero_sampled coding old new l tr ll tt size narrow again context follows =
     let a : Around = record { l = l; t = l; tl = l; tr = tr; ll = ll; tt = tt } in
     sampled_by_zero coding old new a l size (flip_of coding.set a) (predicted a) context refl (sym (unsigned_below coding.bits narrow a)) (again.makes a refl refl refl) follows
 
--- the sample above a place that goes on
+-- the sample above a position that goes on
 pub top_here : (run : Bool) (e : Early) (sum l i : ℕ) → (IsTrue run → get_or e.t i 0 ≡ l) → GoesOn run e sum l i → get_or e.t i 0 ≡ l
 top_here true e sum l i top on = top refl
 top_here false e sum l i top on = on.0
@@ -61,7 +61,7 @@ pub shares_on : {B : Type 0} (run : Bool) (p : Places B) (start : ℕ) (b : Behi
 shares_on true p start b l size is shares = shares
 shares_on false p start b l size is shares = rw is (shares.1, shares.1)
 
--- the context of a place that goes on
+-- the context of a position that goes on
 context_here : {B : Type 0} (run : Bool) (p : Places B) (start i : ℕ) (b : Behind) (size : ℕ) → ArePlaces p → i + 1 < p.count → get_or p.early.now.tl i 0 ≡ b.l → get_or p.early.now.t i 0 ≡ b.l →
     GoesOn run p.early.now (get_or p.early.now.sum start 0) b.l i → SharesContext run p start b size →
     size ≡ size_of p.set.now (record { l = b.l; t = b.l; tl = b.l; tr = right_above p.one.now (p.from + i); ll = b.ll; tt = get_or p.two.now (p.from + i) 0 })

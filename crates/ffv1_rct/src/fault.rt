@@ -2,11 +2,11 @@
 
 use thiserror::Error;
 
-/// A place of a line whose red, green, blue or transparency would lie outside 0 to 255. Displays as
-/// the fault's number and name.
+/// The samples at a position of a line give a red, green, blue or transparency that is below 0 or
+/// has more bits than a sample. Displays as the fault's number and name.
 #[derive(Clone, Copy, Debug, PartialEq, Eq, Error)]
 #[error("7 Colour")]
 pub struct NoColour {
-    /// The first such place, counted from 0.
+    /// The first such position, counted from 0.
     pub x: usize,
 }

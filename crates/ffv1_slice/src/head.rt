@@ -125,10 +125,9 @@ fn read_head<A: Allocator>(
 ///
 /// Of a decoder that stands after the key of its slice, what is read is the one head that its
 /// bytes code. Where they code none, the answer is the first of `SymbolTooLong`, `Place`,
-/// `SetIndex`, `Structure` and `Aspect` in the order of the symbols, each told after its own
-/// symbol, and `Aspect` after both its numbers; the decoder then stands after that symbol. Where
-/// just one of these is 0, that is `Aspect` at `Strict`, and read as it is at `Wide`. It takes no
-/// memory.
+/// `SetIndex`, `Structure` and `Aspect` in the order of the symbols, each after its own symbol, and
+/// `Aspect` after both its numbers; the decoder then stands after that symbol. Where just one of
+/// these is 0, that is `Aspect` at `Strict`, and read as it is at `Wide`. It takes no memory.
 pub fn get_head<A: Allocator>(
     decoder: &mut RangeDecoder<'_>,
     checked: &Checked<A>,

@@ -31,7 +31,7 @@ fn is_transformed(depth: u8, colour: [u16; 3], coded: [u16; 3]) -> bool
     [first[0], second[0], third[0]] == coded
 }
 
-/// The colour of a place, or that it has none.
+/// The colour of coded samples, or that they have none.
 fn colour_of(depth: u8, coded: [u16; 3]) -> Result<[u16; 3], NoColour>
     requires { (8 < depth) × (depth ≤ 15) }
 {

@@ -4,18 +4,18 @@ ghost use Rattle.std.specs.Prelude.{◌≡◌, ◌≤◌, length};
 
 use ffv1_rct::{NoColour, forward_line, inverse_line, narrow_line};
 
-/// Y of a place.
+/// Y of a colour.
 fn luma(r: u8, g: u8, b: u8) -> i32 {
     let (r, g, b) = (i32::from(r), i32::from(g), i32::from(b));
     g.wrapping_add((b - g + (r - g)).div_euclid(4))
 }
 
-/// Cb of a place by its blue, or Cr by its red.
+/// Cb of a colour by its blue, or Cr by its red.
 fn chroma(v: u8, g: u8) -> i32 {
     i32::from(v) - i32::from(g) + 256
 }
 
-/// Red, green and blue of a place.
+/// Red, green and blue of coded samples.
 fn colour(y: u16, cb: u16, cr: u16) -> (i32, i32, i32) {
     let (blue, red) = (i32::from(cb) - 256, i32::from(cr) - 256);
     let g = i32::from(y).wrapping_sub((blue + red).div_euclid(4));
@@ -27,13 +27,13 @@ fn is_byte(v: i32) -> bool {
     (0..=255).contains(&v)
 }
 
-/// Whether a place has a colour.
+/// Whether coded samples have a colour.
 fn has_colour(y: u16, cb: u16, cr: u16) -> bool {
     let (r, g, b) = colour(y, cb, cr);
     is_byte(r) && is_byte(g) && is_byte(b)
 }
 
-/// Y, Cb and Cr of a place, as a line has them.
+/// Y, Cb and Cr of a colour, as a line has them.
 fn transformed(r: u8, g: u8, b: u8) -> (i32, i32, i32) {
     (luma(r, g, b), chroma(b, g), chroma(r, g))
 }

@@ -24,7 +24,7 @@ fn file(alloc: Global) -> Result<Vec<u8>, Fault> {
     Ok(output.into_inner())
 }
 
-/// What a check of a file with other bits in a place answers, and how much it writes.
+/// What a check of a file with other bits in a byte answers, and how much it writes.
 fn checked(alloc: Global, file: &mut [u8], place: usize, bits: u8) -> (Result<(), Fault>, usize) {
     if place < file.len() {
         file[place] ^= bits;

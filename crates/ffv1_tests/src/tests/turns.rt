@@ -413,8 +413,8 @@ fn showing(rt: HostRuntime) -> Result<(), Fail> {
     Ok(())
 }
 
-/// The line of a place takes no memory. Where it cannot be written, the fault stays that of the
-/// frame.
+/// The line of where a frame is refused takes no memory. Where it cannot be written, the fault is
+/// still that of the frame.
 #[test]
 fn places(rt: HostRuntime) -> Result<(), Fail> {
     let file = file_of(rt.alloc(), MONO, true)?;

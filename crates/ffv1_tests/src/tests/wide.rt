@@ -42,7 +42,7 @@ fn places(rt: HostRuntime) {
     }
 }
 
-/// The context of a place whose samples are alike in their low eight bits is that of zeros.
+/// The context of a position whose samples are alike in their low eight bits is that of zeros.
 #[test]
 fn contexts(rt: HostRuntime) -> Result<(), Fail> {
     let set = QuantSet::small(rt.alloc())?;
