@@ -1,7 +1,7 @@
 -- The places of a block from `start` on whose neighbours are equal and whose symbols are zeros: the
 -- samples above and to the left are one, and so is each that comes.
 use Rattle.std.proofs.Common.{refl, ◌≡◌, ◌*◌, ◌<◌, length, slice_index, arith, rules, ◌∙◌}
-use Rattle.std.proofs.lemmas.Grind.{common_steps}
+use Rattle.std.proofs.lemmas.Grind.{common_steps, elements, moves, pieces}
 use Rattle.ffv1_line.specs.Internal.Along.{IsEqualContext}
 use Rattle.ffv1_line.proofs.decode.equal.decode_equal.Goals as goal
 
@@ -23,3 +23,12 @@ returns-clause-read g c =
 
 pub late_context-size-requires-clause-early : goal.late_context-size-requires-clause-early
 late_context-size-requires-clause-early g c = grind (arith, common_steps)
+
+pub late_context-next-requires-clause-early : goal.late_context-next-requires-clause-early
+late_context-next-requires-clause-early g c = grind (arith, elements)
+
+pub returns-clause-stands : goal.returns-clause-stands
+returns-clause-stands g c = grind (arith, moves)
+
+pub take_zeros-left-requires : goal.take_zeros-left-requires
+take_zeros-left-requires g c = search (pieces, arith)

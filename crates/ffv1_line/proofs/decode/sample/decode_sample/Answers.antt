@@ -1,7 +1,8 @@
 -- The sample that comes next, at place `i` of a block, which adds its symbol to `nonzeros`.
-use Rattle.std.proofs.Common.{refl, sym, ◌∙◌, rules}
+use Rattle.std.proofs.Common.{refl, sym, ◌∙◌, rules, arith}
 use Rattle.std.proofs.lemmas.Int.{to_z-of_z}
 use Rattle.std.specs.Int.{w32}
+use Rattle.std.proofs.lemmas.Grind.{elements}
 use mir.Val.{SFits}
 use Rattle.ffv1_line.proofs.Narrow.{unsigned_below}
 use Rattle.ffv1_line.proofs.Prepared.{sampled_by_zero, sampled_by_sign, refused_by}
@@ -43,3 +44,6 @@ returns-in-Err-clause-refused g c = λ tr tt prepared.
     refused_by c.args.places.now.table.now c.args.places.now.set.now _ _ _ _ a
     c.late_context-context.result.0 (c.late_context-context.ensures.size _ tr tt prepared.early)
     (c.in-Err.ensures.refused c.args.i c.requires.few)
+
+pub late_context-context-requires-clause-early : goal.late_context-context-requires-clause-early
+late_context-context-requires-clause-early g c = grind (arith, elements)

@@ -1,9 +1,10 @@
 -- The contexts and the residuals of 16 places from `at` on, after those before them, by the set's
 -- lanes.
-use Rattle.std.proofs.Common.{ap, ◌∙◌, sym, ℕ, ℤ, ◌+◌, slice_index, map}
+use Rattle.std.proofs.Common.{ap, ◌∙◌, sym, ℕ, ℤ, ◌+◌, slice_index, map, arith}
 use Rattle.std.proofs.lemmas.Simd.{map-map}
 use Rattle.std.proofs.lemmas.List.FromFn.{length-range_with_len}
 use Rattle.std.specs.List.{range_with_len}
+use Rattle.std.proofs.lemmas.Grind.{elements}
 use Rattle.ffv1_plane.specs.declared.prediction.Around.{Around}
 use Rattle.ffv1_plane.specs.Context.{size_of, flip_of}
 use Rattle.ffv1_plane.specs.Residual.{chosen_of}
@@ -34,3 +35,6 @@ returns g c =
     (residuals ∙ ap (λ (f : Around → ℤ). map (λ (k : ℕ). modulo_512
     (chosen_of p.bits (f (beside two one cur k)) (flip_of p.set.now (beside two one cur k))
     (slice_index cur k))) places) (sym (unsigned p.bits q.part.bits)))
+
+pub overflow_cast-contexts : goal.overflow_cast-contexts
+overflow_cast-contexts g c = grind (arith, elements)
