@@ -136,8 +136,7 @@ pub enum Fault {
     /// has fewer frames than its `dmlh` says.
     #[error("52 Truncated")]
     Truncated,
-    /// A frame, the format of a stream, the header of EBML or Tracks are longer than 67108864
-    /// bytes.
+    /// A frame, the format of a stream, the header of EBML or Tracks is longer than 67108864 bytes.
     #[error("53 ChunkTooLong")]
     ChunkTooLong,
     /// A frame has no bytes.
