@@ -1,6 +1,7 @@
 -- The integer whose first byte was read, of at most `most` bytes, in a parent that has `left`.
 use Rattle.std.proofs.Common.{◌≡◌, ◌-◌, ◌++◌, ◌∷◌, [], ℕ, List, length, take, arith}
 use Rattle.std.proofs.lemmas.List.{length-take-le}
+use Rattle.std.proofs.lemmas.Grind.{common_steps}
 use Rattle.ffv1_reads.specs.Reads.{Looked, given, taken}
 use Rattle.ffv1_reads.proofs.WantedBytes.{wanted_sound}
 use Rattle.ffv1_reads.proofs.Reading.{goes_given, goes_none, goes_read, goes_same}
@@ -30,3 +31,6 @@ returns-clause-answer g c =
     rw (vint_stored c.args.first n buf _ c.length_of-len.ensures.least few)
     (goes_given (first ++ buf) (goes_read (taken (n - 1)) (λ rest. given (first ++ rest)) _ _
     buf start read))
+
+pub returns-clause-len : goal.returns-clause-len
+returns-clause-len g c = grind (arith, common_steps)

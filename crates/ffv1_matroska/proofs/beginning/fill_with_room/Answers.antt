@@ -1,7 +1,7 @@
 -- Reads so many bytes, at least one, in place of what the vector has, and makes room for as many in
 -- another vector, which is emptied, before the last of them is read.
 use Rattle.std.proofs.Common.{◌-◌, ◌∙◌, arith}
-use Rattle.std.proofs.lemmas.Grind.{common_steps}
+use Rattle.std.proofs.lemmas.Grind.{common_steps, elements}
 use Rattle.std.proofs.lemmas.Result.{err_from_is_err_and}
 use Rattle.ffv1_reads.specs.Reads.{Kept}
 use Rattle.ffv1_reads.proofs.LoopReadings.{fill_done, fill_more, fill_refused, wanted_consumed}
@@ -71,3 +71,6 @@ returns-in_err-append-clause-grown g c =
 
 pub returns-clause-grown : goal.returns-clause-grown
 returns-clause-grown g c = grind (arith, common_steps)
+
+pub returns-in_err-reserve_exact-clause-answer : goal.returns-in_err-reserve_exact-clause-answer
+returns-in_err-reserve_exact-clause-answer g c = grind (arith, elements)

@@ -1,6 +1,7 @@
 -- One place more of a number with its bytes big end first.
 use Rattle.std.proofs.Common.{arith, length, ◌≡◌, ◌-◌}
 use Rattle.std.proofs.Math.Seq.{take-append_seam}
+use Rattle.std.proofs.lemmas.Grind.{common_steps}
 use Rattle.ffv1_range.proofs.EmittedBytes.{value-pushed}
 use Rattle.ffv1_range.proofs.encoder.emit.Goals as goal
 
@@ -14,3 +15,9 @@ returns-clause-value g c =
     let carried = rw c.deref_mut.ensures.value at c.carry.ensures.carried in
     let pushed = value-pushed c.carry.new.bytes (c.args.top - 256) in
     rw (c.in_ok-push-2.ensures.items, long, take-append_seam) (omega arith)
+
+pub returns-then-top-lt256-clause-bytes_fit : goal.returns-then-top-lt256-clause-bytes_fit
+returns-then-top-lt256-clause-bytes_fit g c = grind (arith, common_steps)
+
+pub returns-clause-bytes_fit : goal.returns-clause-bytes_fit
+returns-clause-bytes_fit g c = grind (arith, common_steps)

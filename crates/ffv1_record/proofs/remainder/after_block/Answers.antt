@@ -2,6 +2,7 @@
 -- bits 0.
 use Rattle.std.proofs.Common.{rules, ◌≡◌, refl, slice_index, ℕ, ◌+◌, ◌*◌, ◌^◌, bit_xor, ap, ◌∙◌}
 use Rattle.std.proofs.Common.{arith}
+use Rattle.std.proofs.lemmas.Grind.{common_steps}
 use Rattle.ffv1_range.specs.Codes.{value}
 use Rattle.ffv1_record.specs.Parity.{divided}
 use Rattle.ffv1_record.proofs.Remainders.{block}
@@ -44,3 +45,6 @@ returns c =
     )
     (all ∙ ap (λ x. bit_xor (divided 128 (c.args.remainder * 2 ^ 128)) (divided 128 (x * 2 ^ 32)))
     number)
+
+pub overflow_cast-first : goal.overflow_cast-first
+overflow_cast-first c = grind (arith, common_steps)

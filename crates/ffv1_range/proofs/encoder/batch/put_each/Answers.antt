@@ -1,5 +1,6 @@
 -- The decisions of a list, with what is held back.
 use Rattle.std.proofs.Common.{length, arith}
+use Rattle.std.proofs.lemmas.Grind.{common_steps}
 use Rattle.ffv1_range.proofs.ListedSteps.{below_at, writes_listed, grows_listed}
 use Rattle.ffv1_range.proofs.Growth.{on_err}
 use Rattle.ffv1_range.proofs.encoder.batch.put_each.Goals as goal
@@ -25,3 +26,6 @@ loop-step-preserved g c =
       writes = writes_listed _ _ _ _ _ _ _ c.args.list.now c.loop-step.step-index (omega arith)
           c.loop-step.invariant.writes c.in_ok-put_listed.ensures.writes;
     }
+
+pub returns-clause-writes : goal.returns-clause-writes
+returns-clause-writes g c = grind (arith, common_steps)
