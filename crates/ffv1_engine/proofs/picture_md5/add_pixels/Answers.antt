@@ -1,6 +1,6 @@
 -- A sample of each of three or four planes after them, place after place.
 use Rattle.std.proofs.Common.{arith}
-use Rattle.std.proofs.lemmas.Grind.{common_steps}
+use Rattle.std.proofs.lemmas.Grind.{common_steps, elements}
 use Rattle.ffv1_engine.proofs.picture_md5.add_pixels.Goals as goal
 
 pub bounds-planes-0-else-planes-eq3 : goal.bounds-planes-0-else-planes-eq3
@@ -20,3 +20,18 @@ returns-then-planes-eq3 g c = grind (arith, common_steps)
 
 pub returns-else-planes-eq3 : goal.returns-else-planes-eq3
 returns-else-planes-eq3 g c = grind (arith, common_steps)
+
+pub add_three-requires-clause-green : goal.add_three-requires-clause-green
+add_three-requires-clause-green g c = grind (arith, elements)
+
+pub add_three-requires-clause-blue : goal.add_three-requires-clause-blue
+add_three-requires-clause-blue g c = grind (arith, elements)
+
+pub add_four-requires-clause-green : goal.add_four-requires-clause-green
+add_four-requires-clause-green g c = grind (arith, elements)
+
+pub add_four-requires-clause-blue : goal.add_four-requires-clause-blue
+add_four-requires-clause-blue g c = grind (arith, elements)
+
+pub add_four-requires-clause-extra : goal.add_four-requires-clause-extra
+add_four-requires-clause-extra g c = grind (arith, elements)

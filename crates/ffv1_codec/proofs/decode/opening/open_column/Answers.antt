@@ -2,6 +2,7 @@
 use Rattle.std.proofs.Common.{rules, ◌≡◌, ℕ, ◌+◌, ◌-◌, ◌<◌, ◌≤◌, refl, ap, subst, ◌∙◌, Some, length}
 use Rattle.std.proofs.Common.{slice_index, replicate, ◌++◌, arith}
 use Rattle.std.proofs.lemmas.Result.{err_from_is_err_and}
+use Rattle.std.proofs.lemmas.Grind.{elements}
 use Rattle.ffv1_codec.specs.Internal.Stands.{told_by, tally_after, window}
 use Rattle.ffv1_range.specs.Codes.{value}
 use Rattle.ffv1_range.specs.History.{HasStates}
@@ -173,3 +174,6 @@ returns-in_err-head-clause-exact g c =
     begin end c.requires.cut known.0 known.1 c.in-Ok.decoder c.read_head-read.new.decoder old_is
     c.counters_from_zero_show_all_steps.ensures _ c.args.first.now c.in_err-head.field-0.0 refl
     c.in_err-head.ensures.err))
+
+pub is_overread-requires-clause-rises : goal.is_overread-requires-clause-rises
+is_overread-requires-clause-rises g c = grind (arith, elements)

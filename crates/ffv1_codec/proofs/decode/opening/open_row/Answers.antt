@@ -4,7 +4,7 @@ use Rattle.std.proofs.Common.{refl, length, slice_set, List, arith, length-set, 
 use Rattle.std.proofs.Common.{get_or-set_other}
 use Rattle.std.specs.Prelude.{IsSome}
 use Rattle.std.proofs.lemmas.Bool.{cases_eq}
-use Rattle.std.proofs.lemmas.Grind.{common_steps}
+use Rattle.std.proofs.lemmas.Grind.{common_steps, elements}
 use Rattle.ffv1_codec.specs.Decoding.{slice_number}
 use Rattle.ffv1_codec.specs.Internal.Tied.{IsOpen, column_at, no_column}
 use Rattle.ffv1_codec.specs.Internal.Opened.{RowOpened, ColumnOpened, ColumnRefused, coded_by}
@@ -107,3 +107,6 @@ overflow_mul-slice g c = grind (arith, common_steps)
 
 pub overflow_add-slice : goal.overflow_add-slice
 overflow_add-slice g c = grind (arith, common_steps)
+
+pub open_column-requires-clause-closed : goal.open_column-requires-clause-closed
+open_column-requires-clause-closed g c = grind (arith, elements)

@@ -3,7 +3,7 @@ use Rattle.std.proofs.Common.{◌≡◌, ℕ, ◌∙◌, ◌++◌, ap, sym, subs
 use Rattle.std.proofs.lemmas.List.{with_items_is}
 use Rattle.std.proofs.lemmas.Result.{err_from_is_err_and, MatchResult-weaker}
 use Rattle.std.proofs.lemmas.Nat.{pow_pos}
-use Rattle.std.proofs.lemmas.Grind.{common_steps}
+use Rattle.std.proofs.lemmas.Grind.{common_steps, elements}
 use Rattle.ffv1_codec.specs.Internal.Opened.{coded_by}
 use Rattle.ffv1_codec.specs.Internal.Tied.{TiedColumns, row_slices}
 use Rattle.ffv1_codec.specs.Internal.Progress.{FailsIn}
@@ -89,3 +89,6 @@ decode_lines-requires-clause-held g c = grind (arith, common_steps)
 
 pub returns-clause-same : goal.returns-clause-same
 returns-clause-same g c = grind (arith, common_steps)
+
+pub decode_lines-requires-clause-open : goal.decode_lines-requires-clause-open
+decode_lines-requires-clause-open g c = grind (arith, elements)

@@ -1,7 +1,7 @@
 -- `load_words`: the same of samples of more than 8 bits.
 use Rattle.std.proofs.Common.{◌≡◌, refl, zero, suc, ◌+◌, ◌*◌, ◌/◌, ◌<◌, ◌∙◌, ℕ, List, ap, sym}
 use Rattle.std.proofs.Common.{subst, length, true, arith}
-use Rattle.std.proofs.lemmas.Grind.{common_steps}
+use Rattle.std.proofs.lemmas.Grind.{common_steps, elements}
 use Rattle.ffv1_samples.specs.Samples.{sample_bytes, samples_of}
 use Rattle.ffv1_samples.proofs.Depths.{length_samples}
 use Rattle.ffv1_rct.specs.Lines.{AreCodedIn}
@@ -198,3 +198,6 @@ transform_words-requires-clause-green g c = grind (arith, common_steps)
 
 pub transform_words-requires-clause-blue : goal.transform_words-requires-clause-blue
 transform_words-requires-clause-blue g c = grind (arith, common_steps)
+
+pub line-requires-2-clause-inside : goal.line-requires-2-clause-inside
+line-requires-2-clause-inside g c = grind (arith, elements)
