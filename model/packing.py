@@ -87,8 +87,9 @@ def pack(source, out, choice):
 
 
 def is_matroska(container, path):
-    """Whether OUT becomes Matroska."""
-    return container == "mkv" or container == "auto" and path.endswith(".mkv")
+    """Whether OUT becomes Matroska: RFC 9559, 27.3, names what its files' names end in."""
+    named = path.lower().endswith((".mkv", ".mka", ".mks", ".mk3d"))
+    return container == "mkv" or container == "auto" and named
 
 
 def pack_matroska(source, out, over, choice):
