@@ -62,6 +62,8 @@ COMMANDS = {
     "trial": Level(1),
 }
 STANDARD_OUTPUT = ["/dev/stdout", "/dev/fd/1", "/proc/self/fd/1"]
+# What the names of files end in that pack does not write.
+OTHERS = (".mov", ".mp4", ".mxf", ".y4m", ".ppm")
 
 
 class Order:
@@ -135,4 +137,7 @@ def words(line):
     if level.most > 2 and paths.count("-") > 1:
         raise Refused("-")
     choice = {name: default for name, (_, default) in level.options.items()}
-    return Order(name, paths, {**choice, **dict.fromkeys(level.flags, False), **found})
+    order = Order(name, paths, {**choice, **dict.fromkeys(level.flags, False), **found})
+    if order.choice.get("container") == "auto" and paths[1].lower().endswith(OTHERS):
+        raise Refused(paths[1])
+    return order

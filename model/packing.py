@@ -34,14 +34,16 @@ def is_accepted(config):
 
 
 def default_grid(head, choice):
-    """Section 5 wants at least 4 slices for more than 101376 pixels. Own: the grid of fewest slices,
-    and of these of fewest columns, that the picture has and whose greatest slice has less than
-    12 MiB of samples; else one slice."""
+    """Section 5 wants at least 4 slices for more than 101376 pixels. Own: the grid of at least as many
+    columns as rows, of fewest slices, and of these of fewest columns, that the picture has and whose
+    greatest slice has less than 12 MiB of samples; else the first of any columns and rows; else one
+    slice."""
     if head.width * head.height <= 101376:
         return 1, 1
-    grids = ((columns, slices // columns) for slices in range(4, 1025) for columns in range(1, 33)
-             if slices % columns == 0 and slices // columns <= 32)
-    return next((grid for grid in grids if is_accepted(config_of(head, choice, grid))
+    grids = [(columns, slices // columns) for slices in range(4, 1025) for columns in range(1, 33)
+             if slices % columns == 0 and slices // columns <= 32]
+    wide_first = [grid for grid in grids if grid[0] >= grid[1]] + grids
+    return next((grid for grid in wide_first if is_accepted(config_of(head, choice, grid))
                  and raw_slice(head, *grid) < 12 * 2 ** 20), (1, 1))
 
 
@@ -85,8 +87,9 @@ def pack(source, out, choice):
 
 
 def is_matroska(container, path):
-    """Whether OUT becomes Matroska."""
-    return container == "mkv" or container == "auto" and path.endswith(".mkv")
+    """Whether OUT becomes Matroska: RFC 9559, 27.3, names what its files' names end in."""
+    named = path.lower().endswith((".mkv", ".mka", ".mks", ".mk3d"))
+    return container == "mkv" or container == "auto" and named
 
 
 def pack_matroska(source, out, over, choice):

@@ -308,7 +308,8 @@ SOME_WORDS = [
     "pack", "check", "--place=1", "---", "\u00e9", "in/x", "--progress", "--version", "-V",
     "--no-clobber", "--verify", "--container", "--container=mkv", "out.mkv",
 ]
-OUTPUTS = ["out"] * 24 + ["out.mkv"] * 16 + ["in", "./in", "no/out", "/dev/full", "-"]
+OUTPUTS = ["out"] * 24 + ["out.mkv"] * 16 + ["in", "./in", "no/out", "/dev/full", "-", "out.MKV",
+                                             "out.mk3d", "out.Mov", "out.ppm"]
 OUTPUTS += command_line.STANDARD_OUTPUT
 NAMES = ["pack", "unpack", "check", "show", "framemd5", "trial"]
 

@@ -8,12 +8,16 @@ import packing
 # width, height, chroma, options, columns and rows in Matroska and in AVI
 GRIDS = [
     (352, 288, "mono", {}, (1, 1), (1, 1)),
-    (353, 288, "mono", {}, (1, 4), (1, 1)),
+    (353, 288, "mono", {}, (2, 2), (1, 1)),
     (353, 288, "mono", {"columns": 1}, (1, 1), (1, 1)),
     (353, 288, "mono", {"rows": 2}, (1, 2), (1, 2)),
     (400, 270, "420jpeg", {}, (4, 1), (1, 1)),          # half of 270 is odd, and so is a quarter
     (8191, 13, "420jpeg", {}, (5, 1), (1, 1)),          # 1638, 3276, 4914 and 6552
-    (8192, 13, "mono", {}, (1, 4), (1, 1)),
+    (8192, 13, "mono", {}, (2, 2), (1, 1)),
+    (720, 576, "422", {}, (2, 2), (1, 1)),
+    (720, 486, "420jpeg", {}, (4, 1), (1, 1)),          # half of 486 is odd
+    (1366, 768, "422", {}, (1, 4), (1, 1)),             # no columns have even edges alone
+    (4096, 3112, "444p10", {}, (7, 1), (1, 1)),         # of 3 by 2 one has 12.7 MB of samples
 ]
 
 

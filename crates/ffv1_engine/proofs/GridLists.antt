@@ -1,10 +1,11 @@
 -- What is left of a search through a list.
-use Rattle.std.proofs.Common.{◌≡◌, refl, ℕ, suc, ◌+◌, ◌&&◌, Bool, true, false, if◌then◌else◌, cond, Option, Some, None, List, ◌∷◌, map, ap, ◌∙◌}
+use Rattle.std.proofs.Common.{◌≡◌, ◌≤◌, refl, ℕ, zero, suc, ◌+◌, ◌&&◌, Bool, true, false, if◌then◌else◌, cond, Option, Some, None, List, [], ◌∷◌, map, ap, sym, subst, arith, ◌∙◌}
 use Rattle.std.specs.Prelude.{find, flat_map}
 use Rattle.std.specs.Option.{option_or}
-use Rattle.std.specs.List.{filter, list_all, range_with_len}
+use Rattle.std.specs.List.{All, filter, list_all, range_with_len}
 use Rattle.std.proofs.lemmas.List.Concat.{flat_map-cons}
 use Rattle.std.proofs.lemmas.List.Folds.{find-append}
+use Rattle.std.proofs.lemmas.List.Elements.{All-append, All-head, All-same, All-tail}
 
 -- ---- of numbers that all pass
 
@@ -47,3 +48,25 @@ module _ {X : Type 0} (p : X → Bool) (f : ℕ → List X) where
 
   pub lists_found : (k n m : ℕ) (x : X) → n ≡ suc m → find p (f k) ≡ Some x → left_in k n ≡ Some x
   lists_found k n m x e some = begins k n m e ∙ ap (λ o. option_or o (left_in (k + 1) m)) some
+
+-- ---- of what a search finds
+
+some_is : {X : Type 0} (x y : X) → Some x ≡ Some y → x ≡ y
+some_is x y e = cc
+
+module _ {X : Type 0} (p : X → Bool) (P : X → Type 0) where
+  -- it passes the test, and what holds of all holds of it
+  pub found_holds : (xs : List X) (x : X) → All P xs → find p xs ≡ Some x → (p x ≡ true) × P x
+  found_holds [] x all h = absurd (cc)
+  found_holds (y ∷ ys) x all h = go (λ e. found_holds ys x (All-tail P y ys all) e) (p y) refl h
+    where
+      go : (find p ys ≡ Some x → (p x ≡ true) × P x) → (b : Bool) → p y ≡ b → cond b (Some y) (find p ys) ≡ Some x → (p x ≡ true) × P x
+      go later true passes h = (subst (λ z. p z ≡ true) (some_is y x h) passes, subst P (some_is y x h) (All-head P y ys all))
+      go later false fails h = later h
+
+-- what holds of each list holds of them joined
+pub all_joined : {X : Type 0} (P : X → Type 0) (f : ℕ → List X) (k n : ℕ) → ((i : ℕ) → k ≤ i → All P (f i)) → All P (flat_map f (range_with_len k n))
+all_joined P f k zero each = λ i d lt. absurd (omega (arith, lt))
+all_joined P f k (suc n) each =
+    let rest = all_joined P f (k + 1) n (λ i least. each i (omega (arith, least))) in
+    All-same P _ _ (flat_map-cons f k (range_with_len (k + 1) n)) (All-append P (f k) _ (each k (omega arith)) rest)

@@ -1,7 +1,8 @@
 -- The grid of slices of a picture for which none is chosen, as in Matroska.
 use Rattle.std.specs.Prelude.{ℕ, ◌+◌, ◌-◌, ◌*◌, ◌/◌, ◌%◌, ◌^◌, ◌==◌, ◌&&◌, nat_le, nat_lt, Bool}
-use Rattle.std.specs.Prelude.{List}
+use Rattle.std.specs.Prelude.{List, Option, true, false}
 use Rattle.std.specs.Prelude.{find, flat_map, if◌then◌else◌, map, unwrap_or}
+use Rattle.std.specs.Option.{option_or}
 use Rattle.std.specs.List.{filter, list_all, range_with_len, sum}
 use Rattle.ffv1_record.specs.Accepted.{edge}
 use Rattle.ffv1_y4m.specs.VideoHead.{plane_bytes}
@@ -46,21 +47,29 @@ has_grid depth h columns rows =
 abbrev pub Grid : Type 0
 Grid = ℕ × ℕ
 
+-- the most rows beside so many columns: no more than columns, or any that a grid may have
+abbrev pub most_rows : Bool → ℕ → ℕ
+most_rows wide columns = if wide then columns else 32
+
 -- the grids of so many slices, of at most 32 columns and rows, of fewest columns first
-unfoldable pub grids_of : ℕ → List Grid
-grids_of slices = filter (λ g. (g.0 * g.1 == slices) && nat_le g.1 32)
+unfoldable pub grids_of : Bool → ℕ → List Grid
+grids_of wide slices = filter (λ g. (g.0 * g.1 == slices) && nat_le g.1 (most_rows wide g.0))
     (map (λ columns. (columns, slices / columns)) (range_with_len 1 32))
 
 -- the grids of at least 4 slices, of fewest slices first
-unfoldable pub grid_order : List Grid
-grid_order = flat_map grids_of (range_with_len 4 1021)
+unfoldable pub grid_order : Bool → List Grid
+grid_order wide = flat_map (grids_of wide) (range_with_len 4 1021)
 
--- the default: one slice; of a picture of more pixels the first of these that it may have, and one
--- slice where it may have none
+-- the first of them that a picture may have
+abbrev pub first_grid : ℕ → VideoHead → Bool → Option Grid
+first_grid depth h wide = find (λ g. has_grid depth h g.0 g.1) (grid_order wide)
+
+-- the default: one slice; of a picture of more pixels the first grid of at least as many columns as
+-- rows that it may have, else the first of any, and one slice if it may have none
 abbrev pub default_grid : ℕ → VideoHead → Grid
 default_grid depth h =
     if nat_le (h.width * h.height) most_pixels then (1, 1)
-    else unwrap_or (find (λ g. has_grid depth h g.0 g.1) grid_order) (1, 1)
+    else unwrap_or (option_or (first_grid depth h true) (first_grid depth h false)) (1, 1)
 
 -- the grid of a choice for a video with this head: its own, or the default
 unfoldable pub grid_for : Choice → SaidHead → Grid

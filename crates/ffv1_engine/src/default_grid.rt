@@ -3,8 +3,8 @@
 ghost use Rattle.std.specs.Prelude.{◌≡◌, ◌≤◌, ◌<◌, find};
 ghost use Rattle.ffv1_engine.specs.Internal.VideoReads.{reading_of};
 ghost use Rattle.ffv1_y4m.specs.VideoHead.{IsReduced, IsSized, reduced};
-ghost use Rattle.ffv1_engine.specs.Grids.{are_even_edges, default_grid, greatest_part, grids_of};
-ghost use Rattle.ffv1_engine.specs.Grids.{grid_for, has_grid, slice_bytes};
+ghost use Rattle.ffv1_engine.specs.Grids.{are_even_edges, default_grid, first_grid, greatest_part};
+ghost use Rattle.ffv1_engine.specs.Grids.{grid_for, grids_of, has_grid, most_rows, slice_bytes};
 
 use crate::video::VideoReader;
 use ffv1_words::Choice;
@@ -102,21 +102,46 @@ fn has_grid(depth: u32, head: &VideoHead, columns: u32, rows: u32) -> bool
         && slice_bytes(depth, head, columns, rows) < u64::from(SLICE_LIMIT)
 }
 
-/// The first grid of so many slices that a picture may have, of fewest columns.
-fn grid_of(depth: u32, head: &VideoHead, slices: u32) -> Option<(u32, u32)>
+/// The most rows beside so many columns: no more than columns if the grid is to be wide, else 32.
+fn most_rows(wide: bool, columns: u32) -> u32
+    ensures { result ≡ most_rows wide columns }
+{
+    if wide { columns } else { 32 }
+}
+
+/// The first grid of so many slices that a picture may have, of fewest columns; a wide one has at
+/// least as many columns as rows.
+fn grid_of(depth: u32, head: &VideoHead, wide: bool, slices: u32) -> Option<(u32, u32)>
     requires sized { IsSized head.now }
     requires reduced { IsReduced head.now }
     requires some { 0 < slices }
     requires slices { slices ≤ 1024 }
-    ensures { result ≡ find (λ g. has_grid depth head.now g.0 g.1) (grids_of slices) }
+    ensures { result ≡ find (λ g. has_grid depth head.now g.0 g.1) (grids_of wide slices) }
 {
     let mut columns = 1;
     while columns <= 32 {
         let rows = slices / columns;
-        if columns * rows == slices && rows <= 32 && has_grid(depth, head, columns, rows) {
+        let most = most_rows(wide, columns);
+        if columns * rows == slices && rows <= most && has_grid(depth, head, columns, rows) {
             return Some((columns, rows));
         }
         columns += 1;
+    }
+    None
+}
+
+/// The first grid that a picture may have, of fewest slices, at least 4, and of fewest columns.
+fn first_grid(depth: u32, head: &VideoHead, wide: bool) -> Option<(u32, u32)>
+    requires sized { IsSized head.now }
+    requires reduced { IsReduced head.now }
+    ensures { result ≡ first_grid depth head.now wide }
+{
+    let mut slices = 4;
+    while slices <= 1024 {
+        if let Some(grid) = grid_of(depth, head, wide, slices) {
+            return Some(grid);
+        }
+        slices += 1;
     }
     None
 }
@@ -125,7 +150,8 @@ fn grid_of(depth: u32, head: &VideoHead, slices: u32) -> Option<(u32, u32)>
 /// pixels, above which RFC 9043, section 5, asks for at least 4 slices. Then they are those of
 /// fewest slices, at least 4, and of fewest columns, at most 32 each, that the picture may have: no
 /// more than it has samples, each inner edge a multiple of the chroma factor, and fewer bytes of
-/// samples than 12 MiB in the greatest slice; and 1 and 1 where it may have none.
+/// samples than 12 MiB in the greatest slice. Columns are at least rows if it may have such a grid;
+/// and they are 1 and 1 if it may have none.
 fn default_grid(depth: u32, head: &VideoHead) -> (u32, u32)
     requires sized { IsSized head.now }
     requires reduced { IsReduced head.now }
@@ -134,14 +160,10 @@ fn default_grid(depth: u32, head: &VideoHead) -> (u32, u32)
     if head.width * head.height <= MOST_PIXELS {
         return (1, 1);
     }
-    let mut slices = 4;
-    while slices <= 1024 {
-        if let Some(grid) = grid_of(depth, head, slices) {
-            return grid;
-        }
-        slices += 1;
+    if let Some(grid) = first_grid(depth, head, true) {
+        return grid;
     }
-    (1, 1)
+    first_grid(depth, head, false).unwrap_or((1, 1))
 }
 
 /// The grid of a choice for a video: its own, or the default one.

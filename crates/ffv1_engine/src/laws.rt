@@ -1,14 +1,16 @@
 //! Laws of the definitions.
 
-ghost use Rattle.std.specs.Prelude.{◌≡◌, ◌<◌, ◌↔◌, ℕ, Bool, List, true};
+ghost use Rattle.std.specs.Prelude.{◌≡◌, ◌<◌, ◌≤◌, ◌*◌, ◌↔◌, ℕ, Bool, List, Some, true};
 ghost use Rattle.ffv1_range.specs.Codes.{AreBytes, value};
 ghost use Rattle.ffv1_range.specs.Table.{Table, IsTable};
 ghost use Rattle.ffv1_plane.specs.declared.prediction.Around.{Around};
 ghost use Rattle.ffv1_plane.specs.Quantisation.{Set, contexts_of};
 ghost use Rattle.ffv1_plane.specs.Context.{size_of};
+ghost use Rattle.ffv1_y4m.specs.declared.head.VideoHead.{VideoHead};
 ghost use Rattle.ffv1_words.specs.declared.order.Choice.{Choice};
 ghost use Rattle.ffv1_engine.specs.GridChecks.{AreParts, PassesGrid, with_parts};
-ghost use Rattle.ffv1_engine.specs.Grids.{has_grid, slice_bytes, slice_limit};
+ghost use Rattle.ffv1_engine.specs.Grids.{Grid, default_grid, first_grid, has_grid, most_pixels};
+ghost use Rattle.ffv1_engine.specs.Grids.{slice_bytes, slice_limit};
 ghost use Rattle.ffv1_engine.specs.Packing.{configuration_for};
 ghost use Rattle.ffv1_engine.specs.Plane.{plane_code, CodesPlane};
 ghost use Rattle.ffv1_engine.specs.Video.{SaidHead};
@@ -33,4 +35,13 @@ pub fn default_grid_passes_its_checks()
         AreParts columns rows → has_grid h.depth h.head columns rows ≡ true
         ↔ (PassesGrid (configuration_for (with_parts choice columns rows) ppm h)
         × (slice_bytes h.depth h.head columns rows < slice_limit)) }
+{}
+
+/// The default grid of a picture of more than 101376 pixels has at least 4 slices and at least as
+/// many columns as rows, if the picture may have such a grid: it is the first of these.
+pub fn default_grid_is_wide()
+    ensures { (depth : ℕ) (h : VideoHead) (g : Grid) → most_pixels < h.width * h.height →
+        first_grid depth h true ≡ Some g →
+        (default_grid depth h ≡ g) × (has_grid depth h g.0 g.1 ≡ true)
+        × (g.1 ≤ g.0) × (4 ≤ g.0 * g.1) }
 {}

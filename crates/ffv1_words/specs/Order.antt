@@ -1,10 +1,10 @@
 -- What an order names of a command line, and when its files are in conflict.
 use Rattle.std.specs.Prelude.{◌≡◌, ◌≤◌, ◌⊎◌, ◌||◌, ◌&&◌, ◌==◌, ℕ, Bool, true, false, not, codes}
-use Rattle.std.specs.Prelude.{List, [], ◌∷◌, ◌+◌, find, map, nat_lt, Option, Some, None}
-use Rattle.std.specs.List.{ends_with}
+use Rattle.std.specs.Prelude.{List, [], ◌∷◌, ◌+◌, ◌-◌, drop, find, length, map, nat_lt, Option}
+use Rattle.std.specs.Prelude.{Some, None}
 use Rattle.std.specs.Option.{option_and_then, option_map}
 use Rattle.std.specs.Borrow.{Bor}
-use Rattle.std.specs.Str.{bytes_eq}
+use Rattle.std.specs.Str.{bytes_eq, str_eq_ignore_ascii_case}
 use Rattle.std.specs.Str.Parse.{IsNumeral, digits_value, without_leading_plus}
 use Rattle.clap.specs.Words.{App, HasKind, Row, Text, all_of, fault_of, first_of, one_of}
 use Rattle.clap.specs.Words.{subcommand_of}
@@ -123,9 +123,26 @@ is_standard_output path = bytes_eq path (codes "/dev/stdout")
 abbrev pub is_hyphen : Text → Bool
 is_hyphen path = bytes_eq path (codes "-")
 
--- a name that ends in .mkv
+-- a name ends so, in letters of either case
+abbrev pub has_ending : Text → Text → Bool
+has_ending path end = str_eq_ignore_ascii_case (drop (length path - length end) path) end
+
+-- the names of Matroska's files (RFC 9559, 27.3): of video, of sound, of subtitles, of 3D video
 abbrev pub is_matroska_name : Text → Bool
-is_matroska_name path = ends_with (λ a b. a == b) path (codes ".mkv")
+is_matroska_name path = has_ending path (codes ".mkv") || (has_ending path (codes ".mka")
+    || (has_ending path (codes ".mks") || has_ending path (codes ".mk3d")))
+
+-- the names of files that pack does not write: QuickTime, MP4, MXF, YUV4MPEG2 and PPM
+abbrev pub is_another_name : Text → Bool
+is_another_name path = has_ending path (codes ".mov") || (has_ending path (codes ".mp4")
+    || (has_ending path (codes ".mxf") || (has_ending path (codes ".y4m")
+    || has_ending path (codes ".ppm"))))
+
+-- an output whose name says that it is such a file, unless the container is chosen
+abbrev pub is_misnamed : ContainerChoice → Text → Bool
+is_misnamed container.Auto path = is_another_name path
+is_misnamed container.Avi path = false
+is_misnamed container.Matroska path = false
 
 -- what holds the frames of an output of this name
 abbrev pub is_matroska : ContainerChoice → Text → Bool
@@ -149,7 +166,8 @@ abbrev pub are_in_conflict : List Text → Bool
 are_in_conflict paths = nat_lt 1 (hyphens paths)
 
 abbrev pub is_in_conflict : Order → Bool
-is_in_conflict (order.Pack i w c holder no_clobber progress) = is_conflict i.now w.now
+is_in_conflict (order.Pack i w c holder no_clobber progress) =
+    is_conflict i.now w.now || is_misnamed holder w.now
 is_in_conflict (order.Unpack i w no_clobber progress) = is_conflict i.now w.now
 is_in_conflict (order.Check is all place progress) = are_in_conflict (map (λ i. i.now) is.now)
 is_in_conflict (order.Show is cost) = are_in_conflict (map (λ i. i.now) is.now)

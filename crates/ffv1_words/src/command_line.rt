@@ -223,7 +223,8 @@ fn add_container<'a>(
         (app_of c ≡ with_container containers.entry (app_of command.entry))
         × ((fields_of c).has_globals ≡ false)) }
 {
-    let help = "AVI, Matroska, or auto: Matroska where OUT ends in .mkv, else AVI";
+    let help =
+        "AVI, Matroska, or auto: Matroska if OUT ends in .mkv, .mka, .mks or .mk3d, else AVI";
     command.arg(word_arg(alloc, "container", containers, "auto", help))
 }
 
@@ -413,9 +414,10 @@ fn read<'a>(
 /// clap's meaning of the line gives. Of any other it is an `InvalidValue`, where the line names no
 /// order, which none does; or an `ArgumentConflict`, where `pack` or `unpack` has one
 /// text for both its files other than `-`, or writes to `/dev/stdout`, `/dev/fd/1` or
-/// `/proc/self/fd/1`, or `check`, `show` or `framemd5` have `-` more than once; or memory was
-/// refused. A line that clap takes names an order, and fails for want of memory and for such a
-/// conflict alone.
+/// `/proc/self/fd/1`, where `pack` without a container writes to a name that ends in `.mov`,
+/// `.mp4`, `.mxf`, `.y4m` or `.ppm`, in letters of either case, or `check`, `show` or `framemd5`
+/// have `-` more than once; or memory was refused. A line that clap takes names an order, and fails
+/// for want of memory and for such a conflict alone.
 ///
 /// The list of the files of `check`, `show` and `framemd5` is kept until the program ends.
 pub fn words<'a>(alloc: Global, words: &'a [&'a str]) -> Result<Order<'a>, Error>

@@ -1,8 +1,9 @@
 //! What a command line asks for, and which files of it are in conflict.
 
-ghost use Rattle.std.specs.Prelude.{◌≡◌, is_some, map};
-ghost use Rattle.ffv1_words.specs.Order.{are_in_conflict, is_conflict, is_hyphen, is_in_conflict};
-ghost use Rattle.ffv1_words.specs.Order.{is_matroska, is_matroska_name, is_standard_output};
+ghost use Rattle.std.specs.Prelude.{◌≡◌, ◌||◌, is_some, map};
+ghost use Rattle.ffv1_words.specs.Order.{are_in_conflict, has_ending, is_another_name, is_conflict};
+ghost use Rattle.ffv1_words.specs.Order.{is_hyphen, is_in_conflict, is_matroska, is_matroska_name};
+ghost use Rattle.ffv1_words.specs.Order.{is_misnamed, is_standard_output};
 
 /// Which state transition table `pack` codes with.
 #[derive(Clone, Copy, Debug, PartialEq, Eq)]
@@ -121,15 +122,37 @@ pub fn is_hyphen(path: &str) -> bool
     path == "-"
 }
 
+/// Whether a name ends so, in letters of either case.
+fn has_ending(path: &str, end: &str) -> bool
+    ensures { result ≡ has_ending path.now end.now }
+{
+    let from = path.len().saturating_sub(end.len());
+    path.as_bytes()[from..].eq_ignore_ascii_case(end.as_bytes())
+}
+
 fn is_matroska_name(path: &str) -> bool
     ensures { result ≡ is_matroska_name path.now }
 {
-    path.as_bytes().ends_with(b".mkv")
+    has_ending(path, ".mkv")
+        || has_ending(path, ".mka")
+        || has_ending(path, ".mks")
+        || has_ending(path, ".mk3d")
+}
+
+fn is_another_name(path: &str) -> bool
+    ensures { result ≡ is_another_name path.now }
+{
+    has_ending(path, ".mov")
+        || has_ending(path, ".mp4")
+        || has_ending(path, ".mxf")
+        || has_ending(path, ".y4m")
+        || has_ending(path, ".ppm")
 }
 
 impl ContainerChoice {
-    /// Whether an output of this name is Matroska: where that is chosen, or where neither is and
-    /// the name ends in `.mkv`. Standard output, `-`, is AVI where neither is chosen.
+    /// Whether an output of this name is Matroska: if that is chosen, or if neither is and the name
+    /// ends in `.mkv`, `.mka`, `.mks` or `.mk3d`, in letters of either case. Standard output, `-`,
+    /// is AVI if neither is chosen.
     pub fn is_matroska(self, output: &str) -> bool
         ensures { result ≡ is_matroska self output.now }
     {
@@ -137,6 +160,18 @@ impl ContainerChoice {
             ContainerChoice::Auto => is_matroska_name(output),
             ContainerChoice::Avi => false,
             ContainerChoice::Matroska => true,
+        }
+    }
+
+    /// Whether the name of an output says that it is a file which `pack` does not write: it ends in
+    /// `.mov`, `.mp4`, `.mxf`, `.y4m` or `.ppm`, in letters of either case, and no container is
+    /// chosen.
+    fn is_misnamed(self, output: &str) -> bool
+        ensures { result ≡ is_misnamed self output.now }
+    {
+        match self {
+            ContainerChoice::Auto => is_another_name(output),
+            ContainerChoice::Avi | ContainerChoice::Matroska => false,
         }
     }
 }
@@ -149,6 +184,21 @@ fn conflict_of(input: &str, output: &str) -> Option<&'static str>
     }
     if is_standard_output(output) {
         return Some("OUT is standard output, to which the number of frames is printed: give -");
+    }
+    None
+}
+
+fn pack_conflict(input: &str, output: &str, container: ContainerChoice) -> Option<&'static str>
+    ensures { is_some result
+        ≡ (is_conflict input.now output.now || is_misnamed container output.now) }
+{
+    if let Some(why) = conflict_of(input, output) {
+        return Some(why);
+    }
+    if container.is_misnamed(output) {
+        return Some(
+            "OUT is named as what pack does not write: end it in .mkv or .avi, or give --container",
+        );
     }
     None
 }
@@ -175,9 +225,13 @@ impl<'a> Order<'a> {
         ensures { is_some result ≡ is_in_conflict self.entry }
     {
         match self {
-            Order::Pack { input, output, .. } | Order::Unpack { input, output, .. } => {
-                conflict_of(input, output)
-            }
+            Order::Pack {
+                input,
+                output,
+                container,
+                ..
+            } => pack_conflict(input, output, container),
+            Order::Unpack { input, output, .. } => conflict_of(input, output),
             Order::Check { inputs, .. } | Order::Show { inputs, .. } | Order::FrameMd5 { inputs } =>
                 {
                     if has_hyphens(inputs) {

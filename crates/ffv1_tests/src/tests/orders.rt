@@ -369,8 +369,10 @@ fn names_of_matroska(rt: HostRuntime) {
         (ContainerChoice::Avi, false),
         (ContainerChoice::Matroska, true),
     ] {
-        assert!(rt; container.is_matroska("b.mkv") == by_name);
-        for output in ["-", "mkv", "b.mkv.avi", "b.MKV", "b.mk", ""] {
+        for output in ["b.mkv", "b.MKV", "b.mKa", "b.mks", "b.mk3d"] {
+            assert!(rt; container.is_matroska(output) == by_name);
+        }
+        for output in ["-", "mkv", "b.mkv.avi", "b.mk", ""] {
             let named = container == ContainerChoice::Matroska;
             assert!(rt; container.is_matroska(output) == named);
         }
@@ -380,7 +382,18 @@ fn names_of_matroska(rt: HostRuntime) {
 
 /// Paths are compared as texts: another text is another file, and an input may be standard
 /// output.
-static FILES: [(&[&str], Order<'static>); 10] = [
+static FILES: [(&[&str], Order<'static>); 11] = [
+    (
+        &["ffv1", "pack", "--container", "avi", "a", "b.mov"],
+        Order::Pack {
+            input: "a",
+            output: "b.mov",
+            choice: DEFAULTS,
+            container: ContainerChoice::Avi,
+            no_clobber: false,
+            progress: false,
+        },
+    ),
     (
         &["ffv1", "unpack", "a", "./a"],
         Order::Unpack {

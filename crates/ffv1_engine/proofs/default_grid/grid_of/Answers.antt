@@ -3,11 +3,11 @@ use Rattle.std.proofs.Common.{◌≡◌, ◌∙◌, ◌-◌, ◌+◌, ◌*◌, �
 use Rattle.std.proofs.Common.{false, refl, sym, ap, arith}
 use Rattle.std.proofs.lemmas.Bool.{ne_eqb}
 use Rattle.std.proofs.lemmas.Bool.Decides.{nat_tests}
-use Rattle.ffv1_engine.specs.Grids.{Grid, grids_of, has_grid}
+use Rattle.ffv1_engine.specs.Grids.{Grid, grids_of, has_grid, most_rows}
 use Rattle.ffv1_engine.proofs.GridLists.{left_more}
 use Rattle.ffv1_engine.proofs.default_grid.grid_of.Goals as goal
-use Rattle.ffv1_engine.proofs.default_grid.grid_of.Goals.{else-columns-rows-via-then-columns-rows+then-rows-le32+else-has_grid}
-use Rattle.ffv1_engine.proofs.default_grid.grid_of.Goals.{else-columns-rows-via-then-columns-rows+else-rows-le32}
+use Rattle.ffv1_engine.proofs.default_grid.grid_of.Goals.{else-columns-rows-via-then-columns-rows+then-rows-most+else-has_grid}
+use Rattle.ffv1_engine.proofs.default_grid.grid_of.Goals.{else-columns-rows-via-then-columns-rows+else-rows-most}
 use Rattle.ffv1_engine.proofs.default_grid.grid_of.Goals.{else-columns-rows-via-else-columns-rows}
 
 pub loop-columns-init : goal.loop-columns-init
@@ -32,20 +32,20 @@ loop-columns-preserved c =
     let k = c.loop-columns.columns in
     let rows = c.args.slices / k in
     let h = c.args.head.now in
-    let few : Bool = nat_le rows 32 in
+    let few : Bool = nat_le rows (most_rows c.args.wide k) in
     let whole : Bool = k * rows == c.args.slices in
     let none : ((whole && few) && has_grid c.args.depth h k rows) ≡ false =
     elim c.else-columns-rows.branch [
-      | else-columns-rows-via-then-columns-rows+then-rows-le32+else-has_grid w ↦ third whole few
+      | else-columns-rows-via-then-columns-rows+then-rows-most+else-has_grid w ↦ third whole few
           (has_grid c.args.depth h k rows) (sym w.has_grid.ensures ∙ w.if-has_grid.false)
-      | else-columns-rows-via-then-columns-rows+else-rows-le32 w ↦ second whole few
-          (has_grid c.args.depth h k rows) (grind (arith, nat_tests, w.if-rows-le32.false))
+      | else-columns-rows-via-then-columns-rows+else-rows-most w ↦ second whole few
+          (has_grid c.args.depth h k rows) (grind (arith, nat_tests, w.if-rows-most.false))
       | else-columns-rows-via-else-columns-rows w ↦ first whole few (has_grid c.args.depth h k rows)
           (ne_eqb (k * rows) c.args.slices w.if-columns-rows.false)
     ] in
     let left : 33 - k ≡ suc (33 - (k + 1)) = omega (arith, c.loop-columns-test.true) in
     let so = left_more (λ (g : Grid). has_grid c.args.depth h g.0 g.1)
-    (λ g. (g.0 * g.1 == c.args.slices) && nat_le g.1 32)
+    (λ g. (g.0 * g.1 == c.args.slices) && nat_le g.1 (most_rows c.args.wide g.0))
     (λ columns. (columns, c.args.slices / columns)) k _ _ left none in (
       sym so ∙ c.loop-columns.invariant.0,
       omega (arith, c.loop-columns.invariant.1),
