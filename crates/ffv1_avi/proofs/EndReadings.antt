@@ -1,5 +1,5 @@
 -- Readings that may come to the end of the input, one after the other.
-use Rattle.std.proofs.Common.{◌≡◌, append_assoc, ℕ, Option, Some, None, Result, Ok, Err, List, [], ◌++◌, inl, inr, ap, ◌∙◌, refl, subst}
+use Rattle.std.proofs.Common.{IsErrAnd, ◌≡◌, append_assoc, ℕ, Option, Some, None, Result, Ok, Err, List, [], ◌++◌, inl, inr, ap, ◌∙◌, refl, subst}
 use Rattle.ffv1_wire.proofs.Bytes.{consumes_then}
 use Rattle.ffv1_wire.specs.Passage.{Passage}
 use Rattle.ffv1_reads.specs.declared.fault.FileFault.{FileFault}
@@ -125,3 +125,8 @@ refused_extent d e reading old new before after f is h = let P : Extent → Type
 
 pub read_extent : {X : Type 0} (d e : Extent) (reading : Reading (Option X)) (old new : Option (List ℕ)) (x : Option X) → d ≡ e → ReadOrNone d reading old new x → ReadOrNone e reading old new x
 read_extent d e reading old new x is h = let P : Extent → Type 0 = λ z. ReadOrNone z reading old new x in subst P is h
+
+-- after a `?`
+pub none_err : {X Y : Type 0} (extent : Extent) (f : FileFault) (view : Y → Option X) (reading : Reading (Option X)) (p : Passage) (result : Result Y FileFault) → IsErrAnd result (λ e. e ≡ f) → RefusedOrNone extent reading p.old p.new p.before p.after f → AnswersOrNone extent view reading p result
+none_err extent f view reading p (Ok y) out why = absurd out
+none_err extent f view reading p (Err e) out why = rw out why

@@ -5,7 +5,7 @@ use Rattle.ffv1_wire.specs.Passage.{Passage, between}
 use Rattle.ffv1_reads.specs.declared.fault.FileFault.{FileFault}
 use Rattle.ffv1_reads.specs.Reads.{Answers, Read, Reading, Refused, given, refused, ◌>>=◌}
 use Rattle.ffv1_reads.proofs.Causes.{OfBytes, OfEnd, cause, refused_by}
-use Rattle.ffv1_reads.proofs.Reading.{consumes_none, faults_here, goes_last, goes_none, goes_read, goes_refused, goes_same}
+use Rattle.ffv1_reads.proofs.Reading.{Goes, consumes_none, faults_here, goes_last, goes_none, goes_read, goes_refused, goes_same}
 
 -- a value that was read, or why none was, as a record, so that its arguments are found
 pub record Answered {X : Type 0} (reading : Reading X) (p : Passage) (result : Result X FileFault) : Type 0 where
@@ -80,3 +80,7 @@ answers_tail view reading p (Err f) h = record { said = h }
 pub answers_of : {X Y : Type 0} (view : Y → X) (reading : Reading X) (p : Passage) (result : Result Y FileFault) → Answered reading p (viewed view result) → Answers view reading p result
 answers_of view reading p (Ok y) h = h.said
 answers_of view reading p (Err f) h = h.said
+
+-- what was read before leads here
+pub answers_from : {X : Type 0} {whole rest : Reading X} {old now new : Option (List ℕ)} {before after last : ℕ} {result : Result X FileFault} → Goes whole old before rest now after → Answered rest (between now new after last) result → Answered whole (between old new before last) result
+answers_from {X = X} {rest = rest} {new = new} {last = last} {result = result} goes h = record { said = goes_last rest (λ (x : X). x) new last result goes h.said }

@@ -1,5 +1,5 @@
 -- Readings that may come to the end of the input, one after the other.
-use Rattle.std.proofs.Common.{◌≡◌, append_assoc, ℕ, Option, Some, None, Result, Ok, Err, List, [], ◌++◌, inl, inr, ap, ◌∙◌, refl, sym}
+use Rattle.std.proofs.Common.{IsErrAnd, ◌≡◌, append_assoc, ℕ, Option, Some, None, Result, Ok, Err, List, [], ◌++◌, inl, inr, ap, ◌∙◌, refl, sym}
 use Rattle.std.specs.Io.KnownBytes.{Consumes, Keeps}
 use Rattle.ffv1_wire.proofs.Bytes.{consumes_then}
 use Rattle.ffv1_wire.specs.Passage.{Passage}
@@ -106,3 +106,8 @@ none_last {X = X} {whole = whole} {old = old} {now = now} {before = before} {aft
 
     through : Goes whole old before r now after → Goes whole old before (r >>= λ x. given x) now after
     through h = goes_same r (r >>= λ x. given x) (λ text. again (r text)) h
+
+-- the same after a `?`
+pub none_err : {X Y : Type 0} (f : FileFault) (view : Y → Option X) (reading : Reading (Option X)) (p : Passage) (result : Result Y FileFault) → IsErrAnd result (λ e. e ≡ f) → RefusedOrNone reading p.old p.new p.before p.after f → AnswersOrNone view reading p result
+none_err f view reading p (Ok y) out why = absurd out
+none_err f view reading p (Err e) out why = rw out why
