@@ -1,7 +1,5 @@
 -- The size of a stream's next frame, and what movi has left after it; None at its end.
-use Rattle.std.proofs.Common.{ℕ, Option}
 use Rattle.std.proofs.lemmas.Result.{err_from_is_err_and}
-use Rattle.ffv1_reads.specs.Reads.{Reading, given}
 use Rattle.ffv1_reads.proofs.Reading.{goes_read}
 use Rattle.ffv1_avi.proofs.ChunkByChunk.{goes_entry}
 use Rattle.std.proofs.Common.{◌-◌, ◌^◌, ◌∙◌}
@@ -16,9 +14,6 @@ use Rattle.ffv1_reads.proofs.Answered.{answers_err, answers_first, answers_given
 use Rattle.ffv1_reads.proofs.Answered.{answers_next, answers_ok}
 use Rattle.ffv1_avi.proofs.ChunkByChunk.{answers_end, answers_entry, answers_no_entry}
 use Rattle.ffv1_avi.proofs.reader.find_in_movi.Goals as goal
-
-abbrev found : Unit {0} × Option (ℕ × ℕ) → Reading (Option (ℕ × ℕ))
-found p = given p.1
 
 pub returns-in_err-entry-clause-answer : goal.returns-in_err-entry-clause-answer
 returns-in_err-entry-clause-answer g c = answers_err _ _ _ _ c.from_residual.ensures.1

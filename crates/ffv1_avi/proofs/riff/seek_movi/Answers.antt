@@ -1,8 +1,6 @@
 -- The bytes of the next movi of RIFF, and what that has left after it; None at its end.
-use Rattle.std.proofs.Common.{ℕ, Option}
 use Rattle.std.proofs.lemmas.Result.{err_from_is_err_and}
 use Rattle.ffv1_avi.specs.Files.{movi_sought}
-use Rattle.ffv1_reads.specs.Reads.{Reading, given}
 use Rattle.ffv1_reads.proofs.Reading.{goes_none, goes_read}
 use Rattle.ffv1_avi.proofs.ChunkByChunk.{goes_entry}
 use Rattle.ffv1_avi.proofs.ChunkReadings.{entry_end, still}
@@ -12,9 +10,6 @@ use Rattle.ffv1_reads.proofs.Answered.{answers_err, answers_first, answers_given
 use Rattle.ffv1_reads.proofs.Answered.{answers_next, answers_ok}
 use Rattle.ffv1_avi.proofs.ChunkByChunk.{answers_end, answers_entry, answers_no_entry}
 use Rattle.ffv1_avi.proofs.riff.seek_movi.Goals as goal
-
-abbrev found : Unit {0} × Option (ℕ × ℕ) → Reading (Option (ℕ × ℕ))
-found p = given p.1
 
 pub loop-entry-init : goal.loop-entry-init
 unfolding movi_sought

@@ -1,18 +1,13 @@
 -- Reads Tracks: what their first track of FFV1 video says, with its record in place of what the
 -- vector `config` has.
-use Rattle.std.proofs.Common.{◌≤◌, ℕ, List, length, max, sym, arith}
+use Rattle.std.proofs.Common.{◌≤◌, length, max, sym, arith}
 use Rattle.std.proofs.lemmas.Grind.{common_steps}
 use Rattle.std.specs.Vec.{vec_capacity}
-use Rattle.ffv1_reads.specs.Reads.{Reading}
-use Rattle.ffv1_matroska.specs.Opened.{told, tracks_read}
-use Rattle.ffv1_matroska.specs.Tracks.{Track, track_in}
+use Rattle.ffv1_matroska.specs.Opened.{tracks_read}
 use Rattle.ffv1_matroska.proofs.MemoryFaults.{told_cause, told_track}
 use Rattle.ffv1_matroska.proofs.KeptRooms.{content_room}
 use Rattle.ffv1_reads.proofs.Answered.{answers_err, answers_next, answers_refused}
 use Rattle.ffv1_matroska.proofs.beginning.read_tracks.Goals as goal
-
-abbrev behind_content : List ℕ → Reading Track
-behind_content content = told (track_in content)
 
 pub returns-in_err-track-clause-answer : goal.returns-in_err-track-clause-answer
 unfolding tracks_read

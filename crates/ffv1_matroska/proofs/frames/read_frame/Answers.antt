@@ -51,7 +51,6 @@ returns-then-not-is_sound-clause-answer g c =
     let track = c.args.track in
     let place = c.args.place in
     let after = c.in-Some.after in
-    let bytes = c.fill_summed.new.bytes.items in
     let sum = c.fill_summed.new.sum in
     let next = goes_read _ (behind after) _ _ _ (none_read
     (frame_found track place) found_read _ _ _
