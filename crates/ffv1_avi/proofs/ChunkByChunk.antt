@@ -8,6 +8,8 @@ use Rattle.ffv1_reads.specs.Reads.{Stop, Read, Reading, Refused, read_on, ◌>>=
 use Rattle.ffv1_avi.specs.Padding.{padded}
 use Rattle.ffv1_avi.specs.Walk.{Visit, entry_judged, entry_read, is_name, resumed, visited, walk, walk_up_to}
 use Rattle.ffv1_reads.proofs.Results.{ok_is, read_on_twice, some_is}
+use Rattle.ffv1_wire.specs.Passage.{between}
+use Rattle.ffv1_reads.proofs.Answered.{Answered, answers_from, answers_last}
 use Rattle.ffv1_reads.proofs.Reading.{Goes, goes_read, goes_refused, goes_same}
 
 -- what the list has left after a chunk is less
@@ -111,3 +113,16 @@ pub goes_no_entry : {S X Y : Type 0} {whole : Reading X} {old now : Option (List
     Goes whole old before (walk visit left s >>= k) now after → Refused (entry_read left) now new after last f → Refused whole old new before last f
 goes_no_entry visit left s k new last f h why =
     goes_refused (entry_read left) (behind_entry visit s k) new last f (goes_same _ (entry_read left >>= behind_entry visit s k) (walk_then visit left s k) h) why
+
+-- the same of what the call answers
+pub answers_entry : {S X Y : Type 0} {whole : Reading X} {old now mid new : Option (List ℕ)} {before after next last : ℕ} {e : Entry} {result : Result X FileFault} (visit : Visit S Y) (left : ℕ) (s : S) (k : S × Option Y → Reading X) →
+    Goes whole old before (walk visit left s >>= k) now after → (next ≡ after) × Read (entry_read left) now mid (Some e) → Answered (visit s e >>= behind_chunk visit e.left k) (between mid new next last) result → Answered whole (between old new before last) result
+answers_entry {mid = mid} {next = next} {e = e} visit left s k h read answer = answers_from (goes_entry visit left s k mid next e h read) answer
+
+pub answers_end : {S X Y : Type 0} {whole : Reading X} {old now mid new : Option (List ℕ)} {before after next last : ℕ} {result : Result X FileFault} (visit : Visit S Y) (left : ℕ) (s : S) (k : S × Option Y → Reading X) →
+    Goes whole old before (walk visit left s >>= k) now after → (next ≡ after) × Read (entry_read left) now mid None → Answered (k (s, None)) (between mid new next last) result → Answered whole (between old new before last) result
+answers_end {mid = mid} {next = next} visit left s k h read answer = answers_from (goes_end visit left s k mid next h read) answer
+
+pub answers_no_entry : {S X Y : Type 0} {whole : Reading X} {old now new : Option (List ℕ)} {before after last : ℕ} {f : FileFault} (visit : Visit S Y) (left : ℕ) (s : S) (k : S × Option Y → Reading X) →
+    Goes whole old before (walk visit left s >>= k) now after → Refused (entry_read left) now new after last f → Answered whole (between old new before last) (Err f)
+answers_no_entry {whole = whole} {new = new} {last = last} {f = f} visit left s k h why = answers_last whole (goes_no_entry visit left s k new last f h why)

@@ -1,5 +1,5 @@
 -- Readings that may come to the end of the input, one after the other.
-use Rattle.std.proofs.Common.{◌≡◌, append_assoc, ℕ, Option, Some, None, Result, Ok, Err, List, [], ◌++◌, inl, inr, ap, ◌∙◌, refl, subst}
+use Rattle.std.proofs.Common.{IsErrAnd, ◌≡◌, append_assoc, ℕ, Option, Some, None, Result, Ok, Err, List, [], ◌++◌, inl, inr, ap, ◌∙◌, refl, subst}
 use Rattle.ffv1_wire.proofs.Bytes.{consumes_then}
 use Rattle.ffv1_wire.specs.Passage.{Passage}
 use Rattle.ffv1_reads.specs.declared.fault.FileFault.{FileFault}
@@ -33,21 +33,7 @@ halts_then EveryRiff r k old new stays stops = record { bytes = stops.bytes; con
 -- a refusal, where there is more
 pub refused_none : {X : Type 0} (extent : Extent) (reading : Reading (Option X)) (old new : Option (List ℕ)) (before after : ℕ) (f : FileFault) → Refused reading old new before after f → RefusedOrNone extent reading old new before after f
 refused_none extent reading old new before after fault.Read why = (why.0, inl why.1)
-refused_none extent reading old new before after fault.OutOfMemory why = why
-refused_none extent reading old new before after fault.Truncated why = why
-refused_none extent reading old new before after fault.NotAvi why = why
-refused_none extent reading old new before after fault.NoFfv1 why = why
-refused_none extent reading old new before after fault.ChunkTooLong why = why
-refused_none extent reading old new before after fault.EmptyFrame why = why
-refused_none extent reading old new before after fault.TooLarge why = why
-refused_none extent reading old new before after fault.Write why = why
-refused_none extent reading old new before after fault.NotMatroska why = why
-refused_none extent reading old new before after fault.BadElement why = why
-refused_none extent reading old new before after fault.NoTracks why = why
-refused_none extent reading old new before after fault.Encoded why = why
-refused_none extent reading old new before after fault.Laced why = why
-refused_none extent reading old new before after fault.Checksum why = why
-refused_none extent reading old new before after fault.Rate why = why
+refused_none extent reading old new before after f why = why
 
 -- a reading that was refused, after others
 pub none_refused : {X Y : Type 0} (extent : Extent) {whole : Reading (Option X)} {old now : Option (List ℕ)} {before after : ℕ} (r : Reading Y) (k : Y → Reading (Option X)) (new : Option (List ℕ)) (last : ℕ) (f : FileFault) →
@@ -59,21 +45,10 @@ refused_halts : {X Y : Type 0} (extent : Extent) {whole : Reading (Option X)} {o
 refused_halts extent {now = now} {after = after} r k new last fault.Read stays h (counted, inl wants) = none_refused extent r k new last fault.Read h (counted, wants)
 refused_halts extent {whole = whole} {old = old} {now = now} {before = before} {after = after} r k new last fault.Read stays h (counted, inr halts) =
     (rw (← h.same) counted, inr (halts_last extent {whole = whole} {old = old} {now = now} {before = before} {after = after} (r >>= k) new h (halts_then extent r k now new stays halts)))
-refused_halts extent r k new last fault.OutOfMemory stays h why = none_refused extent r k new last fault.OutOfMemory h why
-refused_halts extent r k new last fault.Truncated stays h why = none_refused extent r k new last fault.Truncated h why
-refused_halts extent r k new last fault.NotAvi stays h why = none_refused extent r k new last fault.NotAvi h why
-refused_halts extent r k new last fault.NoFfv1 stays h why = none_refused extent r k new last fault.NoFfv1 h why
-refused_halts extent r k new last fault.ChunkTooLong stays h why = none_refused extent r k new last fault.ChunkTooLong h why
-refused_halts extent r k new last fault.EmptyFrame stays h why = none_refused extent r k new last fault.EmptyFrame h why
 refused_halts extent r k new last fault.TooLarge stays h why = absurd why
 refused_halts extent r k new last fault.Write stays h why = absurd why
-refused_halts extent r k new last fault.NotMatroska stays h why = none_refused extent r k new last fault.NotMatroska h why
-refused_halts extent r k new last fault.BadElement stays h why = none_refused extent r k new last fault.BadElement h why
-refused_halts extent r k new last fault.NoTracks stays h why = none_refused extent r k new last fault.NoTracks h why
-refused_halts extent r k new last fault.Encoded stays h why = none_refused extent r k new last fault.Encoded h why
-refused_halts extent r k new last fault.Laced stays h why = none_refused extent r k new last fault.Laced h why
-refused_halts extent r k new last fault.Checksum stays h why = none_refused extent r k new last fault.Checksum h why
 refused_halts extent r k new last fault.Rate stays h why = absurd why
+refused_halts extent r k new last f stays h why = none_refused extent r k new last f h why
 
 -- a reading that may end was refused
 pub none_refused_end : {X Y : Type 0} (extent : Extent) {whole : Reading (Option X)} {old now : Option (List ℕ)} {before after : ℕ} (r : Reading (Option Y)) (k : Option Y → Reading (Option X)) (new : Option (List ℕ)) (last : ℕ) (f : FileFault) →
@@ -132,40 +107,12 @@ answers_by FirstMovi view reading p (Ok y) (same, inl read) = (same, read)
 answers_by FirstMovi view reading p (Ok y) (same, inr ((halts, ended), none)) = absurd halts
 answers_by FirstMovi view reading p (Err fault.Read) (counted, inl wants) = (counted, wants)
 answers_by FirstMovi view reading p (Err fault.Read) (counted, inr halts) = absurd halts
-answers_by FirstMovi view reading p (Err fault.OutOfMemory) why = why
-answers_by FirstMovi view reading p (Err fault.Truncated) why = why
-answers_by FirstMovi view reading p (Err fault.NotAvi) why = why
-answers_by FirstMovi view reading p (Err fault.NoFfv1) why = why
-answers_by FirstMovi view reading p (Err fault.ChunkTooLong) why = why
-answers_by FirstMovi view reading p (Err fault.EmptyFrame) why = why
-answers_by FirstMovi view reading p (Err fault.TooLarge) why = why
-answers_by FirstMovi view reading p (Err fault.Write) why = why
-answers_by FirstMovi view reading p (Err fault.NotMatroska) why = why
-answers_by FirstMovi view reading p (Err fault.BadElement) why = why
-answers_by FirstMovi view reading p (Err fault.NoTracks) why = why
-answers_by FirstMovi view reading p (Err fault.Encoded) why = why
-answers_by FirstMovi view reading p (Err fault.Laced) why = why
-answers_by FirstMovi view reading p (Err fault.Checksum) why = why
-answers_by FirstMovi view reading p (Err fault.Rate) why = why
 answers_by EveryRiff view reading p (Ok y) (same, inl read) = (same, inl read)
 answers_by EveryRiff view reading p (Ok y) (same, inr ((halts, ended), none)) = (same, inr (rw none halts, ended))
 answers_by EveryRiff view reading p (Err fault.Read) (counted, inl wants) = (counted, inl wants)
 answers_by EveryRiff view reading p (Err fault.Read) (counted, inr halts) = (counted, inr (None, halts))
-answers_by EveryRiff view reading p (Err fault.OutOfMemory) why = why
-answers_by EveryRiff view reading p (Err fault.Truncated) why = why
-answers_by EveryRiff view reading p (Err fault.NotAvi) why = why
-answers_by EveryRiff view reading p (Err fault.NoFfv1) why = why
-answers_by EveryRiff view reading p (Err fault.ChunkTooLong) why = why
-answers_by EveryRiff view reading p (Err fault.EmptyFrame) why = why
-answers_by EveryRiff view reading p (Err fault.TooLarge) why = why
-answers_by EveryRiff view reading p (Err fault.Write) why = why
-answers_by EveryRiff view reading p (Err fault.NotMatroska) why = why
-answers_by EveryRiff view reading p (Err fault.BadElement) why = why
-answers_by EveryRiff view reading p (Err fault.NoTracks) why = why
-answers_by EveryRiff view reading p (Err fault.Encoded) why = why
-answers_by EveryRiff view reading p (Err fault.Laced) why = why
-answers_by EveryRiff view reading p (Err fault.Checksum) why = why
-answers_by EveryRiff view reading p (Err fault.Rate) why = why
+answers_by FirstMovi view reading p (Err f) why = why
+answers_by EveryRiff view reading p (Err f) why = why
 
 -- a refusal says nothing of a value
 pub refused_by : {X Y Z : Type 0} (extent : Extent) (view : Y → X) (other : Z → X) (reading : Reading X) (p : Passage) (f : FileFault) → AnswersBy extent view reading p (Err f) → AnswersBy extent other reading p (Err f)
@@ -178,3 +125,8 @@ refused_extent d e reading old new before after f is h = let P : Extent → Type
 
 pub read_extent : {X : Type 0} (d e : Extent) (reading : Reading (Option X)) (old new : Option (List ℕ)) (x : Option X) → d ≡ e → ReadOrNone d reading old new x → ReadOrNone e reading old new x
 read_extent d e reading old new x is h = let P : Extent → Type 0 = λ z. ReadOrNone z reading old new x in subst P is h
+
+-- after a `?`
+pub none_err : {X Y : Type 0} (extent : Extent) (f : FileFault) (view : Y → Option X) (reading : Reading (Option X)) (p : Passage) (result : Result Y FileFault) → IsErrAnd result (λ e. e ≡ f) → RefusedOrNone extent reading p.old p.new p.before p.after f → AnswersOrNone extent view reading p result
+none_err extent f view reading p (Ok y) out why = absurd out
+none_err extent f view reading p (Err e) out why = rw out why

@@ -156,21 +156,7 @@ over : {X : Type 0} (extent : Extent) (reading : Reading (Option X)) (old new : 
 over FirstMovi reading old new before after fault.Read (counted, inl wants) = (counted, inl wants)
 over FirstMovi reading old new before after fault.Read (counted, inr halts) = absurd halts
 over EveryRiff reading old new before after fault.Read why = why
-over extent reading old new before after fault.OutOfMemory why = why
-over extent reading old new before after fault.Truncated why = why
-over extent reading old new before after fault.NotAvi why = why
-over extent reading old new before after fault.NoFfv1 why = why
-over extent reading old new before after fault.ChunkTooLong why = why
-over extent reading old new before after fault.EmptyFrame why = why
-over extent reading old new before after fault.TooLarge why = why
-over extent reading old new before after fault.Write why = why
-over extent reading old new before after fault.NotMatroska why = why
-over extent reading old new before after fault.BadElement why = why
-over extent reading old new before after fault.NoTracks why = why
-over extent reading old new before after fault.Encoded why = why
-over extent reading old new before after fault.Laced why = why
-over extent reading old new before after fault.Checksum why = why
-over extent reading old new before after fault.Rate why = why
+over extent reading old new before after f why = why
 
 pub next_refused : (place : Place) (old new : Option (List ℕ)) (before after : ℕ) (f : FileFault) → 0 < place.input → RefusedOrNone EveryRiff (riff_begun place) old new before after f → RefusedOrEnds (chunk_taken (riff_left place 0)) old new before after f
 next_refused place old new before after f more why =

@@ -1,5 +1,5 @@
 -- What the calls on the readers of the containers answer, where the bytes are known.
-use Rattle.std.proofs.Common.{◌≡◌, refl, ℕ, Bool, true, false, Option, Some, None, Result, Ok, Err, List, [], ◌++◌, inl, inr, ap, sym, ◌∙◌, append-nil}
+use Rattle.std.proofs.Common.{◌≡◌, ◌⊎◌, refl, ℕ, Bool, true, false, Option, Some, None, Result, Ok, Err, List, [], ◌++◌, inl, inr, ap, sym, ◌∙◌, append-nil}
 use Rattle.std.specs.Io.KnownBytes.{IsAtEnd}
 use Rattle.ffv1_wire.specs.Passage.{Passage}
 use Rattle.ffv1_reads.specs.Ends.{Ends, FaultsAtEnd, ReadOrEnds, RefusedOrEnds, ReadOrOver, RefusedOrFaults, Stops}
@@ -76,79 +76,32 @@ module _ {X : Type 0} (reading : Reading X) where
   module _ (p : Passage) where
     pub refused_stops : (ends : Bool) (f : FileFault) → Refused reading p.old p.new p.before p.after f → StopsReading ends reading p f
     refused_stops ends fault.OutOfMemory h = (h.0, lacks_known p.old p.new Kept h.1)
-    refused_stops ends fault.NotAvi h = (h.0, faults_known p.old p.new fault.NotAvi h.1)
-    refused_stops ends fault.NoFfv1 h = (h.0, faults_known p.old p.new fault.NoFfv1 h.1)
     refused_stops ends fault.Truncated (same, inl early) = (same, early_known p.old p.new early.0 early.1)
     refused_stops ends fault.Truncated (same, inr faults) = (same, faults_known p.old p.new fault.Truncated faults)
-    refused_stops ends fault.ChunkTooLong h = (h.0, faults_known p.old p.new fault.ChunkTooLong h.1)
-    refused_stops ends fault.EmptyFrame h = (h.0, faults_known p.old p.new fault.EmptyFrame h.1)
     refused_stops ends fault.TooLarge h = absurd h
     refused_stops ends fault.Read h = (h.0, wants_known ends p.old p.new h.1)
     refused_stops ends fault.Write h = absurd h
-    refused_stops ends fault.NotMatroska h = (h.0, faults_known p.old p.new fault.NotMatroska h.1)
-    refused_stops ends fault.BadElement h = (h.0, faults_known p.old p.new fault.BadElement h.1)
-    refused_stops ends fault.NoTracks h = (h.0, faults_known p.old p.new fault.NoTracks h.1)
-    refused_stops ends fault.Encoded h = (h.0, faults_known p.old p.new fault.Encoded h.1)
-    refused_stops ends fault.Laced h = (h.0, faults_known p.old p.new fault.Laced h.1)
-    refused_stops ends fault.Checksum h = (h.0, faults_known p.old p.new fault.Checksum h.1)
     refused_stops ends fault.Rate h = absurd h
+    refused_stops ends f h = (h.0, faults_known p.old p.new f h.1)
 
     pub ends_stops : (f : FileFault) → RefusedOrEnds reading p.old p.new p.before p.after f → StopsReading true reading p f
-    ends_stops fault.OutOfMemory h = refused_stops true fault.OutOfMemory h
-    ends_stops fault.NotAvi h = refused_stops true fault.NotAvi h
-    ends_stops fault.NoFfv1 h = refused_stops true fault.NoFfv1 h
-    ends_stops fault.Truncated h = refused_stops true fault.Truncated h
-    ends_stops fault.ChunkTooLong h = refused_stops true fault.ChunkTooLong h
-    ends_stops fault.EmptyFrame h = refused_stops true fault.EmptyFrame h
     ends_stops fault.TooLarge h = absurd h
     ends_stops fault.Read (same, inl wants) = (same, wants_known true p.old p.new wants)
     ends_stops fault.Read (same, inr stops) = (same, stops_known p.old p.new stops.0 stops.1)
     ends_stops fault.Write h = absurd h
-    ends_stops fault.NotMatroska h = refused_stops true fault.NotMatroska h
-    ends_stops fault.BadElement h = refused_stops true fault.BadElement h
-    ends_stops fault.NoTracks h = refused_stops true fault.NoTracks h
-    ends_stops fault.Encoded h = refused_stops true fault.Encoded h
-    ends_stops fault.Laced h = refused_stops true fault.Laced h
-    ends_stops fault.Checksum h = refused_stops true fault.Checksum h
     ends_stops fault.Rate h = absurd h
+    ends_stops f h = refused_stops true f h
 
-    at_end : (end f : FileFault) → (p.after ≡ p.before) → f ≡ end → FaultsAtEnd reading p.old p.new end → IsAtEnd p.new → (p.after ≡ p.before) × Known p.old p.new (λ text rest. FaultsRead reading text rest f)
-    at_end end f same is faults at = (same, rw is (end_faults p.old p.new end faults at))
+    -- such a refusal, or the fault of the end
+    either : (f : FileFault) → Refused reading p.old p.new p.before p.after f ⊎ ((p.after ≡ p.before) × (f ≡ fault.NoTracks) × (FaultsAtEnd reading p.old p.new fault.NoTracks × IsAtEnd p.new)) → StopsReading true reading p f
+    either f (inl h) = refused_stops true f h
+    either f (inr (same, is, (faults, at))) = rw is (same, end_faults p.old p.new fault.NoTracks faults at)
 
     pub faults_stops : (over : X → Type 0) (f : FileFault) → RefusedOrFaults fault.NoTracks over reading p.old p.new p.before p.after f → StopsReading true reading p f
-    faults_stops over fault.OutOfMemory (inl h) = refused_stops true fault.OutOfMemory h
-    faults_stops over fault.OutOfMemory (inr h) = absurd (let other : fault.OutOfMemory ≡ fault.NoTracks = h.1 in cc)
-    faults_stops over fault.NotAvi (inl h) = refused_stops true fault.NotAvi h
-    faults_stops over fault.NotAvi (inr h) = at_end fault.NoTracks fault.NotAvi h.0 h.1 h.2.0 h.2.1
-    faults_stops over fault.NoFfv1 (inl h) = refused_stops true fault.NoFfv1 h
-    faults_stops over fault.NoFfv1 (inr h) = at_end fault.NoTracks fault.NoFfv1 h.0 h.1 h.2.0 h.2.1
-    faults_stops over fault.Truncated (inl h) = refused_stops true fault.Truncated h
-    faults_stops over fault.Truncated (inr h) = at_end fault.NoTracks fault.Truncated h.0 h.1 h.2.0 h.2.1
-    faults_stops over fault.ChunkTooLong (inl h) = refused_stops true fault.ChunkTooLong h
-    faults_stops over fault.ChunkTooLong (inr h) = at_end fault.NoTracks fault.ChunkTooLong h.0 h.1 h.2.0 h.2.1
-    faults_stops over fault.EmptyFrame (inl h) = refused_stops true fault.EmptyFrame h
-    faults_stops over fault.EmptyFrame (inr h) = at_end fault.NoTracks fault.EmptyFrame h.0 h.1 h.2.0 h.2.1
-    faults_stops over fault.TooLarge (inl h) = refused_stops true fault.TooLarge h
-    faults_stops over fault.TooLarge (inr h) = absurd (let other : fault.TooLarge ≡ fault.NoTracks = h.1 in cc)
     faults_stops over fault.Read (same, inl wants) = (same, wants_known true p.old p.new wants)
     faults_stops over fault.Read (same, inr (inl stops)) = (same, stops_known p.old p.new stops.0 stops.1.0)
     faults_stops over fault.Read (same, inr (inr h)) = (same, end_fails p.old p.new fault.NoTracks h)
-    faults_stops over fault.Write (inl h) = refused_stops true fault.Write h
-    faults_stops over fault.Write (inr h) = absurd (let other : fault.Write ≡ fault.NoTracks = h.1 in cc)
-    faults_stops over fault.NotMatroska (inl h) = refused_stops true fault.NotMatroska h
-    faults_stops over fault.NotMatroska (inr h) = at_end fault.NoTracks fault.NotMatroska h.0 h.1 h.2.0 h.2.1
-    faults_stops over fault.BadElement (inl h) = refused_stops true fault.BadElement h
-    faults_stops over fault.BadElement (inr h) = at_end fault.NoTracks fault.BadElement h.0 h.1 h.2.0 h.2.1
-    faults_stops over fault.NoTracks (inl h) = refused_stops true fault.NoTracks h
-    faults_stops over fault.NoTracks (inr h) = at_end fault.NoTracks fault.NoTracks h.0 h.1 h.2.0 h.2.1
-    faults_stops over fault.Encoded (inl h) = refused_stops true fault.Encoded h
-    faults_stops over fault.Encoded (inr h) = at_end fault.NoTracks fault.Encoded h.0 h.1 h.2.0 h.2.1
-    faults_stops over fault.Laced (inl h) = refused_stops true fault.Laced h
-    faults_stops over fault.Laced (inr h) = at_end fault.NoTracks fault.Laced h.0 h.1 h.2.0 h.2.1
-    faults_stops over fault.Checksum (inl h) = refused_stops true fault.Checksum h
-    faults_stops over fault.Checksum (inr h) = at_end fault.NoTracks fault.Checksum h.0 h.1 h.2.0 h.2.1
-    faults_stops over fault.Rate (inl h) = refused_stops true fault.Rate h
-    faults_stops over fault.Rate (inr h) = absurd (let other : fault.Rate ≡ fault.NoTracks = h.1 in cc)
+    faults_stops over f h = either f h
 
 -- what is made of what was read
 module _ {X Y : Type 0} (reading : Reading X) (make : X → Y) where
@@ -174,18 +127,8 @@ module _ {X Y : Type 0} (reading : Reading X) (make : X → Y) where
 
     pub made_stops : (ends : Bool) (f : FileFault) → StopsReading ends reading p f → StopsReading ends made p f
     made_stops ends fault.OutOfMemory h = (h.0, known_map p.old p.new _ _ (made_so_far (Err (Short Kept))) h.1)
-    made_stops ends fault.NotAvi h = (h.0, known_map p.old p.new _ _ (made_faults fault.NotAvi) h.1)
-    made_stops ends fault.NoFfv1 h = (h.0, known_map p.old p.new _ _ (made_faults fault.NoFfv1) h.1)
-    made_stops ends fault.Truncated h = (h.0, known_map p.old p.new _ _ (made_faults fault.Truncated) h.1)
-    made_stops ends fault.ChunkTooLong h = (h.0, known_map p.old p.new _ _ (made_faults fault.ChunkTooLong) h.1)
-    made_stops ends fault.EmptyFrame h = (h.0, known_map p.old p.new _ _ (made_faults fault.EmptyFrame) h.1)
     made_stops ends fault.TooLarge h = absurd h
     made_stops ends fault.Read h = (h.0, known_map p.old p.new _ _ (made_fails ends) h.1)
     made_stops ends fault.Write h = absurd h
-    made_stops ends fault.NotMatroska h = (h.0, known_map p.old p.new _ _ (made_faults fault.NotMatroska) h.1)
-    made_stops ends fault.BadElement h = (h.0, known_map p.old p.new _ _ (made_faults fault.BadElement) h.1)
-    made_stops ends fault.NoTracks h = (h.0, known_map p.old p.new _ _ (made_faults fault.NoTracks) h.1)
-    made_stops ends fault.Encoded h = (h.0, known_map p.old p.new _ _ (made_faults fault.Encoded) h.1)
-    made_stops ends fault.Laced h = (h.0, known_map p.old p.new _ _ (made_faults fault.Laced) h.1)
-    made_stops ends fault.Checksum h = (h.0, known_map p.old p.new _ _ (made_faults fault.Checksum) h.1)
     made_stops ends fault.Rate h = absurd h
+    made_stops ends f h = (h.0, known_map p.old p.new _ _ (made_faults f) h.1)

@@ -65,21 +65,11 @@ module _ {X : Type 0} (first : Option ℕ) (reading whole : Reading X) (same : (
 
     pub first_stops : (ends : Bool) (f : FileFault) → StopsReading ends reading (between (bytes_with first mid) new before after) f → StopsReading ends whole (between old new before after) f
     first_stops ends fault.OutOfMemory h = (h.0, on _ _ (so_far (Err (Short Kept))) h.1)
-    first_stops ends fault.NotAvi h = (h.0, on _ _ (faults fault.NotAvi) h.1)
-    first_stops ends fault.NoFfv1 h = (h.0, on _ _ (faults fault.NoFfv1) h.1)
-    first_stops ends fault.Truncated h = (h.0, on _ _ (faults fault.Truncated) h.1)
-    first_stops ends fault.ChunkTooLong h = (h.0, on _ _ (faults fault.ChunkTooLong) h.1)
-    first_stops ends fault.EmptyFrame h = (h.0, on _ _ (faults fault.EmptyFrame) h.1)
     first_stops ends fault.TooLarge h = absurd h
     first_stops ends fault.Read h = (h.0, on _ _ (fails ends) h.1)
     first_stops ends fault.Write h = absurd h
-    first_stops ends fault.NotMatroska h = (h.0, on _ _ (faults fault.NotMatroska) h.1)
-    first_stops ends fault.BadElement h = (h.0, on _ _ (faults fault.BadElement) h.1)
-    first_stops ends fault.NoTracks h = (h.0, on _ _ (faults fault.NoTracks) h.1)
-    first_stops ends fault.Encoded h = (h.0, on _ _ (faults fault.Encoded) h.1)
-    first_stops ends fault.Laced h = (h.0, on _ _ (faults fault.Laced) h.1)
-    first_stops ends fault.Checksum h = (h.0, on _ _ (faults fault.Checksum) h.1)
     first_stops ends fault.Rate h = absurd h
+    first_stops ends f h = (h.0, on _ _ (faults f) h.1)
 
 -- a byte that was compared with another one
 pub other_first : (first : Option ℕ) (b : ℕ) (same : Bool) → same ≡ option_eq nat_eq first (Some b) → same ≡ false → first ≡ Some b → ⊥

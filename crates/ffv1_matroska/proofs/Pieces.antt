@@ -20,21 +20,7 @@ done_of a b m n xs (Err f) t w = absurd (cc)
 -- the only fault of writing
 stopped_is : (a b : Option (List ℕ)) (m n : ℕ) (xs : List ℕ) (f : FileFault) → Stopped a b m n xs f → Stopped a b m n xs fault.Write
 stopped_is a b m n xs fault.Write k = k
-stopped_is a b m n xs fault.OutOfMemory k = absurd k
-stopped_is a b m n xs fault.NotAvi k = absurd k
-stopped_is a b m n xs fault.NoFfv1 k = absurd k
-stopped_is a b m n xs fault.Truncated k = absurd k
-stopped_is a b m n xs fault.ChunkTooLong k = absurd k
-stopped_is a b m n xs fault.EmptyFrame k = absurd k
-stopped_is a b m n xs fault.TooLarge k = absurd k
-stopped_is a b m n xs fault.Read k = absurd k
-stopped_is a b m n xs fault.NotMatroska k = absurd k
-stopped_is a b m n xs fault.BadElement k = absurd k
-stopped_is a b m n xs fault.NoTracks k = absurd k
-stopped_is a b m n xs fault.Encoded k = absurd k
-stopped_is a b m n xs fault.Laced k = absurd k
-stopped_is a b m n xs fault.Checksum k = absurd k
-stopped_is a b m n xs fault.Rate k = absurd k
+stopped_is a b m n xs f k = absurd k
 
 -- one that failed wrote a beginning
 pub failed_of : (a b : Option (List ℕ)) (m n : ℕ) (xs : List ℕ) (r : Result (Unit {0}) FileFault) → is_err r ≡ true → Writes (between a b m n) xs r → Stopped a b m n xs fault.Write

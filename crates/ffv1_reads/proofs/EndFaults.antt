@@ -11,21 +11,7 @@ use Rattle.ffv1_reads.proofs.Reading.{Goes, goes_given, goes_read, goes_refused}
 -- a refusal
 pub refused_or_faults : {X : Type 0} (end : FileFault) (over : X → Type 0) (reading : Reading X) (old new : Option (List ℕ)) (before after : ℕ) (f : FileFault) → Refused reading old new before after f → RefusedOrFaults end over reading old new before after f
 refused_or_faults end over reading old new before after fault.Read why = (why.0, inl why.1)
-refused_or_faults end over reading old new before after fault.OutOfMemory why = inl why
-refused_or_faults end over reading old new before after fault.NotAvi why = inl why
-refused_or_faults end over reading old new before after fault.NoFfv1 why = inl why
-refused_or_faults end over reading old new before after fault.Truncated why = inl why
-refused_or_faults end over reading old new before after fault.ChunkTooLong why = inl why
-refused_or_faults end over reading old new before after fault.EmptyFrame why = inl why
-refused_or_faults end over reading old new before after fault.TooLarge why = inl why
-refused_or_faults end over reading old new before after fault.Write why = inl why
-refused_or_faults end over reading old new before after fault.NotMatroska why = inl why
-refused_or_faults end over reading old new before after fault.BadElement why = inl why
-refused_or_faults end over reading old new before after fault.NoTracks why = inl why
-refused_or_faults end over reading old new before after fault.Encoded why = inl why
-refused_or_faults end over reading old new before after fault.Laced why = inl why
-refused_or_faults end over reading old new before after fault.Checksum why = inl why
-refused_or_faults end over reading old new before after fault.Rate why = inl why
+refused_or_faults end over reading old new before after f why = inl why
 
 -- after other readings: bytes of which nothing is left
 stops_last : {X : Type 0} {whole : Reading X} {old now : Option (List ℕ)} {before after : ℕ} (r : Reading X) (new : Option (List ℕ)) (x : X) → Goes whole old before r now after → Stops r now new x → Stops whole old new x
@@ -67,21 +53,10 @@ closes_refused {now = now} end over r k new last fault.Read (inl (x, (is, gives)
     (rw (← h.same) counted, inr (inl (x, (stops_last (r >>= k) new x h (halts_stop r k now new x gives halts), is))))
 closes_refused {now = now} end over r k new last fault.Read (inr closes) h (counted, inr halts) =
     (rw (← h.same) counted, inr (inr (faults_last (r >>= k) new end h (halts_fault r k now new end closes halts))))
-closes_refused end over r k new last fault.OutOfMemory closes h why = faults_refused end over r k new last fault.OutOfMemory h why
-closes_refused end over r k new last fault.NotAvi closes h why = faults_refused end over r k new last fault.NotAvi h why
-closes_refused end over r k new last fault.NoFfv1 closes h why = faults_refused end over r k new last fault.NoFfv1 h why
-closes_refused end over r k new last fault.Truncated closes h why = faults_refused end over r k new last fault.Truncated h why
-closes_refused end over r k new last fault.ChunkTooLong closes h why = faults_refused end over r k new last fault.ChunkTooLong h why
-closes_refused end over r k new last fault.EmptyFrame closes h why = faults_refused end over r k new last fault.EmptyFrame h why
 closes_refused end over r k new last fault.TooLarge closes h why = absurd why
 closes_refused end over r k new last fault.Write closes h why = absurd why
-closes_refused end over r k new last fault.NotMatroska closes h why = faults_refused end over r k new last fault.NotMatroska h why
-closes_refused end over r k new last fault.BadElement closes h why = faults_refused end over r k new last fault.BadElement h why
-closes_refused end over r k new last fault.NoTracks closes h why = faults_refused end over r k new last fault.NoTracks h why
-closes_refused end over r k new last fault.Encoded closes h why = faults_refused end over r k new last fault.Encoded h why
-closes_refused end over r k new last fault.Laced closes h why = faults_refused end over r k new last fault.Laced h why
-closes_refused end over r k new last fault.Checksum closes h why = faults_refused end over r k new last fault.Checksum h why
 closes_refused end over r k new last fault.Rate closes h why = absurd why
+closes_refused end over r k new last f closes h why = faults_refused end over r k new last f h why
 
 -- there is nothing more, which is an answer
 pub closes_given : {X Y : Type 0} {whole : Reading X} {old now : Option (List ℕ)} {before after : ℕ} (over : X → Type 0) (r : Reading (Option Y)) (k : Option Y → Reading X) (new : Option (List ℕ)) (last : ℕ) (x : X) → over x →
@@ -126,21 +101,7 @@ made_refused {Y = Y} {whole = whole} {old = old} {now = now} {before = before} {
     on_fault fault.Read (counted, inr (inl (y, (stops, is)))) =
         (rw (← h.same) counted, inr (inl (g y, (stops_last (r >>= λ y. given (g y)) new (g y) h (made_stops r g now new y stops), made y is))))
     on_fault fault.Read (counted, inr (inr why)) = (rw (← h.same) counted, inr (inr (faults_last (r >>= λ y. given (g y)) new end h (made_faults r g now new end why))))
-    on_fault fault.OutOfMemory why = either fault.OutOfMemory why
-    on_fault fault.NotAvi why = either fault.NotAvi why
-    on_fault fault.NoFfv1 why = either fault.NoFfv1 why
-    on_fault fault.Truncated why = either fault.Truncated why
-    on_fault fault.ChunkTooLong why = either fault.ChunkTooLong why
-    on_fault fault.EmptyFrame why = either fault.EmptyFrame why
-    on_fault fault.TooLarge why = either fault.TooLarge why
-    on_fault fault.Write why = either fault.Write why
-    on_fault fault.NotMatroska why = either fault.NotMatroska why
-    on_fault fault.BadElement why = either fault.BadElement why
-    on_fault fault.NoTracks why = either fault.NoTracks why
-    on_fault fault.Encoded why = either fault.Encoded why
-    on_fault fault.Laced why = either fault.Laced why
-    on_fault fault.Checksum why = either fault.Checksum why
-    on_fault fault.Rate why = either fault.Rate why
+    on_fault f why = either f why
 
 pub made_read : {X Y : Type 0} {whole : Reading X} {old now : Option (List ℕ)} {before after : ℕ} (from : Y → Type 0) (over : X → Type 0) (r : Reading Y) (g : Y → X) (new : Option (List ℕ)) (last : ℕ) (y : Y) →
     ((y : Y) → from y → over (g y)) → Goes whole old before (r >>= λ y. given (g y)) now after → (last ≡ after) × ReadOrOver from r now new y → (last ≡ before) × ReadOrOver over whole old new (g y)

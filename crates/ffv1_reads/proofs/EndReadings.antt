@@ -1,5 +1,5 @@
 -- Readings that may come to the end of the input, one after the other.
-use Rattle.std.proofs.Common.{◌≡◌, append_assoc, ℕ, Option, Some, None, Result, Ok, Err, List, [], ◌++◌, inl, inr, ap, ◌∙◌, refl, sym}
+use Rattle.std.proofs.Common.{IsErrAnd, ◌≡◌, append_assoc, ℕ, Option, Some, None, Result, Ok, Err, List, [], ◌++◌, inl, inr, ap, ◌∙◌, refl, sym}
 use Rattle.std.specs.Io.KnownBytes.{Consumes, Keeps}
 use Rattle.ffv1_wire.proofs.Bytes.{consumes_then}
 use Rattle.ffv1_wire.specs.Passage.{Passage}
@@ -38,21 +38,7 @@ halts_then r k old new stays stops = record { bytes = stops.bytes; consumed = st
 -- a refusal, where there is more
 pub refused_none : {X : Type 0} (reading : Reading (Option X)) (old new : Option (List ℕ)) (before after : ℕ) (f : FileFault) → Refused reading old new before after f → RefusedOrNone reading old new before after f
 refused_none reading old new before after fault.Read why = (why.0, inl why.1)
-refused_none reading old new before after fault.OutOfMemory why = why
-refused_none reading old new before after fault.Truncated why = why
-refused_none reading old new before after fault.NotAvi why = why
-refused_none reading old new before after fault.NoFfv1 why = why
-refused_none reading old new before after fault.ChunkTooLong why = why
-refused_none reading old new before after fault.EmptyFrame why = why
-refused_none reading old new before after fault.TooLarge why = why
-refused_none reading old new before after fault.Write why = why
-refused_none reading old new before after fault.NotMatroska why = why
-refused_none reading old new before after fault.BadElement why = why
-refused_none reading old new before after fault.NoTracks why = why
-refused_none reading old new before after fault.Encoded why = why
-refused_none reading old new before after fault.Laced why = why
-refused_none reading old new before after fault.Checksum why = why
-refused_none reading old new before after fault.Rate why = why
+refused_none reading old new before after f why = why
 
 -- a reading that was refused, after others
 pub none_refused : {X Y : Type 0} {whole : Reading (Option X)} {old now : Option (List ℕ)} {before after : ℕ} (r : Reading Y) (k : Y → Reading (Option X)) (new : Option (List ℕ)) (last : ℕ) (f : FileFault) →
@@ -65,21 +51,10 @@ pub none_refused_end : {X Y : Type 0} {whole : Reading (Option X)} {old now : Op
 none_refused_end {now = now} {after = after} r k new last fault.Read stays h (counted, inl wants) = none_refused r k new last fault.Read h (counted, wants)
 none_refused_end {whole = whole} {old = old} {now = now} {before = before} {after = after} r k new last fault.Read stays h (counted, inr halts) =
     (rw (← h.same) counted, inr (halts_last {whole = whole} {old = old} {now = now} {before = before} {after = after} (r >>= k) new h (halts_then r k now new stays halts)))
-none_refused_end r k new last fault.OutOfMemory stays h why = none_refused r k new last fault.OutOfMemory h why
-none_refused_end r k new last fault.Truncated stays h why = none_refused r k new last fault.Truncated h why
-none_refused_end r k new last fault.NotAvi stays h why = none_refused r k new last fault.NotAvi h why
-none_refused_end r k new last fault.NoFfv1 stays h why = none_refused r k new last fault.NoFfv1 h why
-none_refused_end r k new last fault.ChunkTooLong stays h why = none_refused r k new last fault.ChunkTooLong h why
-none_refused_end r k new last fault.EmptyFrame stays h why = none_refused r k new last fault.EmptyFrame h why
 none_refused_end r k new last fault.TooLarge stays h why = absurd why
 none_refused_end r k new last fault.Write stays h why = absurd why
-none_refused_end r k new last fault.NotMatroska stays h why = none_refused r k new last fault.NotMatroska h why
-none_refused_end r k new last fault.BadElement stays h why = none_refused r k new last fault.BadElement h why
-none_refused_end r k new last fault.NoTracks stays h why = none_refused r k new last fault.NoTracks h why
-none_refused_end r k new last fault.Encoded stays h why = none_refused r k new last fault.Encoded h why
-none_refused_end r k new last fault.Laced stays h why = none_refused r k new last fault.Laced h why
-none_refused_end r k new last fault.Checksum stays h why = none_refused r k new last fault.Checksum h why
 none_refused_end r k new last fault.Rate stays h why = absurd why
+none_refused_end r k new last f stays h why = none_refused r k new last f h why
 
 -- a value is answered, and nothing more is read
 pub none_given : {X : Type 0} {whole : Reading (Option X)} {old now : Option (List ℕ)} {before after : ℕ} (x : Option X) → Goes whole old before (given x) now after → (after ≡ before) × ReadOrNone whole old now x
@@ -131,3 +106,8 @@ none_last {X = X} {whole = whole} {old = old} {now = now} {before = before} {aft
 
     through : Goes whole old before r now after → Goes whole old before (r >>= λ x. given x) now after
     through h = goes_same r (r >>= λ x. given x) (λ text. again (r text)) h
+
+-- the same after a `?`
+pub none_err : {X Y : Type 0} (f : FileFault) (view : Y → Option X) (reading : Reading (Option X)) (p : Passage) (result : Result Y FileFault) → IsErrAnd result (λ e. e ≡ f) → RefusedOrNone reading p.old p.new p.before p.after f → AnswersOrNone view reading p result
+none_err f view reading p (Ok y) out why = absurd out
+none_err f view reading p (Err e) out why = rw out why

@@ -10,21 +10,7 @@ use Rattle.ffv1_wire.proofs.Bytes.{consumes_then}
 -- a refusal, where there is more
 pub refused_ends : {X : Type 0} (reading : Reading X) (old new : Option (List ℕ)) (before after : ℕ) (f : FileFault) → Refused reading old new before after f → RefusedOrEnds reading old new before after f
 refused_ends reading old new before after fault.Read why = (why.0, inl why.1)
-refused_ends reading old new before after fault.OutOfMemory why = why
-refused_ends reading old new before after fault.Truncated why = why
-refused_ends reading old new before after fault.NotAvi why = why
-refused_ends reading old new before after fault.NoFfv1 why = why
-refused_ends reading old new before after fault.ChunkTooLong why = why
-refused_ends reading old new before after fault.EmptyFrame why = why
-refused_ends reading old new before after fault.TooLarge why = why
-refused_ends reading old new before after fault.Write why = why
-refused_ends reading old new before after fault.NotMatroska why = why
-refused_ends reading old new before after fault.BadElement why = why
-refused_ends reading old new before after fault.NoTracks why = why
-refused_ends reading old new before after fault.Encoded why = why
-refused_ends reading old new before after fault.Laced why = why
-refused_ends reading old new before after fault.Checksum why = why
-refused_ends reading old new before after fault.Rate why = why
+refused_ends reading old new before after f why = why
 
 -- a reading that was refused, after others
 pub ends_refused : {X Y : Type 0} {whole : Reading X} {old now : Option (List ℕ)} {before after : ℕ} (r : Reading Y) (k : Y → Reading X) (new : Option (List ℕ)) (last : ℕ) (f : FileFault) →
@@ -46,18 +32,7 @@ ends_refused_none {whole = whole} {old = old} {now = now} r k x new last fault.R
     },
   ),
 )
-ends_refused_none r k x new last fault.OutOfMemory stays h why = ends_refused r k new last fault.OutOfMemory h why
-ends_refused_none r k x new last fault.Truncated stays h why = ends_refused r k new last fault.Truncated h why
-ends_refused_none r k x new last fault.NotAvi stays h why = ends_refused r k new last fault.NotAvi h why
-ends_refused_none r k x new last fault.NoFfv1 stays h why = ends_refused r k new last fault.NoFfv1 h why
-ends_refused_none r k x new last fault.ChunkTooLong stays h why = ends_refused r k new last fault.ChunkTooLong h why
-ends_refused_none r k x new last fault.EmptyFrame stays h why = ends_refused r k new last fault.EmptyFrame h why
 ends_refused_none r k x new last fault.TooLarge stays h why = absurd why
 ends_refused_none r k x new last fault.Write stays h why = absurd why
-ends_refused_none r k x new last fault.NotMatroska stays h why = ends_refused r k new last fault.NotMatroska h why
-ends_refused_none r k x new last fault.BadElement stays h why = ends_refused r k new last fault.BadElement h why
-ends_refused_none r k x new last fault.NoTracks stays h why = ends_refused r k new last fault.NoTracks h why
-ends_refused_none r k x new last fault.Encoded stays h why = ends_refused r k new last fault.Encoded h why
-ends_refused_none r k x new last fault.Laced stays h why = ends_refused r k new last fault.Laced h why
-ends_refused_none r k x new last fault.Checksum stays h why = ends_refused r k new last fault.Checksum h why
 ends_refused_none r k x new last fault.Rate stays h why = absurd why
+ends_refused_none r k x new last f stays h why = ends_refused r k new last f h why

@@ -1,5 +1,5 @@
 -- Readings of bytes of which the first was read before.
-use Rattle.std.proofs.Common.{◌≡◌, ◌-◌, [], ℕ, suc, nat_lt, Bool, true, false, Option, Some, None, Result, Ok, Err, List, ◌∷◌, ◌++◌, length, ap, ◌∙◌, refl, inl, inr, arith}
+use Rattle.std.proofs.Common.{◌≡◌, ◌-◌, [], ℕ, suc, nat_lt, Bool, true, false, Option, Some, None, Result, Ok, Err, List, ◌∷◌, ◌++◌, length, ap, ◌∙◌, refl, arith}
 use Rattle.std.proofs.lemmas.Bool.{le-ltb, lt-ltb, ltb-false, ltb-true}
 use borrow.Rule.Slice.PartMut.{put_mid}
 use lib.ListN.{set}
@@ -8,7 +8,7 @@ use Rattle.std.specs.Io.KnownBytes.{Consumes}
 use Rattle.ffv1_reads.specs.First.{bytes_with}
 use Rattle.ffv1_reads.specs.Reads.{Faults, Lacks, Read, Reading, Refused, Looked, Stop, Want, Wants, taken, wanted}
 use Rattle.ffv1_reads.specs.declared.fault.FileFault.{FileFault}
-use Rattle.ffv1_reads.specs.declared.fault.FileFault.TheVariants as fault
+use Rattle.ffv1_reads.proofs.Causes.{refused_map}
 
 -- a value that is made of what was read
 abbrev pub made_of : {X Y : Type 0} → (X → Y) → Result (X × List ℕ) Stop → Result (Y × List ℕ) Stop
@@ -35,23 +35,7 @@ module _ {X Y : Type 0} (b : ℕ) (make : X → Y) (rest_of : Reading X) (whole 
 
   module _ (before after : ℕ) where
     first_refused : (f : FileFault) → Refused rest_of old new before after f → Refused whole (bytes_with (Some b) old) new before after f
-    first_refused fault.Read h = (h.0, first_wants h.1)
-    first_refused fault.OutOfMemory h = (h.0, first_lacks _ h.1)
-    first_refused fault.Truncated (same, inl early) = (same, inl (first_wants early.0, early.1))
-    first_refused fault.Truncated (same, inr faults) = (same, inr (first_faults fault.Truncated faults))
-    first_refused fault.NotAvi h = (h.0, first_faults fault.NotAvi h.1)
-    first_refused fault.NoFfv1 h = (h.0, first_faults fault.NoFfv1 h.1)
-    first_refused fault.ChunkTooLong h = (h.0, first_faults fault.ChunkTooLong h.1)
-    first_refused fault.EmptyFrame h = (h.0, first_faults fault.EmptyFrame h.1)
-    first_refused fault.TooLarge h = absurd h
-    first_refused fault.Write h = absurd h
-    first_refused fault.NotMatroska h = (h.0, first_faults fault.NotMatroska h.1)
-    first_refused fault.BadElement h = (h.0, first_faults fault.BadElement h.1)
-    first_refused fault.NoTracks h = (h.0, first_faults fault.NoTracks h.1)
-    first_refused fault.Encoded h = (h.0, first_faults fault.Encoded h.1)
-    first_refused fault.Laced h = (h.0, first_faults fault.Laced h.1)
-    first_refused fault.Checksum h = (h.0, first_faults fault.Checksum h.1)
-    first_refused fault.Rate h = absurd h
+    first_refused f h = refused_map after refl first_wants (first_lacks _) first_faults f h
 
 -- so many bytes of which one was read
 pub wanted_first : (w : Want) (n b : ℕ) (text : List ℕ) → wanted w (suc n) (b ∷ text) ≡ made_of (λ bytes. b ∷ bytes) (wanted w n text)

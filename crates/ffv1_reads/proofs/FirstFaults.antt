@@ -28,38 +28,15 @@ has_fault element to text new before after fault.Read failed refused why = absur
 has_fault element to text new before after fault.OutOfMemory failed refused why = absurd (refused refl)
 has_fault element to text new before after fault.Truncated failed refused (same, inl (wants, ended)) = early element to text new wants ended
 has_fault element to text new before after fault.Truncated failed refused (same, inr why) = met element to text new fault.Truncated why
-has_fault element to text new before after fault.NotAvi failed refused why = met element to text new fault.NotAvi why.1
-has_fault element to text new before after fault.NoFfv1 failed refused why = met element to text new fault.NoFfv1 why.1
-has_fault element to text new before after fault.ChunkTooLong failed refused why = met element to text new fault.ChunkTooLong why.1
-has_fault element to text new before after fault.EmptyFrame failed refused why = met element to text new fault.EmptyFrame why.1
 has_fault element to text new before after fault.TooLarge failed refused why = absurd why
 has_fault element to text new before after fault.Write failed refused why = absurd why
-has_fault element to text new before after fault.NotMatroska failed refused why = met element to text new fault.NotMatroska why.1
-has_fault element to text new before after fault.BadElement failed refused why = met element to text new fault.BadElement why.1
-has_fault element to text new before after fault.NoTracks failed refused why = met element to text new fault.NoTracks why.1
-has_fault element to text new before after fault.Encoded failed refused why = met element to text new fault.Encoded why.1
-has_fault element to text new before after fault.Laced failed refused why = met element to text new fault.Laced why.1
-has_fault element to text new before after fault.Checksum failed refused why = met element to text new fault.Checksum why.1
 has_fault element to text new before after fault.Rate failed refused why = absurd why
+has_fault element to text new before after f failed refused why = met element to text new f why.1
 
 -- a refusal that is no read's is none of the end's
 plain : {S : Type 0} (element : S → Reading S) (to : S) (old new : Option (List ℕ)) (before after : ℕ) (f : FileFault) → (f ≡ fault.Read → ⊥) → RefusedOrEnds (element to) old new before after f → Refused (element to) old new before after f
 plain element to old new before after fault.Read failed why = absurd (failed refl)
-plain element to old new before after fault.OutOfMemory failed why = why
-plain element to old new before after fault.Truncated failed why = why
-plain element to old new before after fault.NotAvi failed why = why
-plain element to old new before after fault.NoFfv1 failed why = why
-plain element to old new before after fault.ChunkTooLong failed why = why
-plain element to old new before after fault.EmptyFrame failed why = why
-plain element to old new before after fault.TooLarge failed why = why
-plain element to old new before after fault.Write failed why = why
-plain element to old new before after fault.NotMatroska failed why = why
-plain element to old new before after fault.BadElement failed why = why
-plain element to old new before after fault.NoTracks failed why = why
-plain element to old new before after fault.Encoded failed why = why
-plain element to old new before after fault.Laced failed why = why
-plain element to old new before after fault.Checksum failed why = why
-plain element to old new before after fault.Rate failed why = why
+plain element to old new before after f failed why = why
 
 pub known_fault : {S : Type 0} (element : S → Reading S) (from : S) (text : List ℕ) (new : Option (List ℕ)) (before after : ℕ) (f : FileFault) (to : S) (count : ℕ) → StopsAfter element from (record { old = Some text; new = new; before = before; after = after }) f to count →
     (f ≡ fault.Read → ⊥) → (f ≡ fault.OutOfMemory → ⊥) → FaultAt element from text f count

@@ -1,5 +1,5 @@
 -- What the loops over a reader of bytes have read, as readings: bytes that are looked at, passed, or kept piece by piece.
-use Rattle.std.proofs.Common.{◌≡◌, ℕ, ◌+◌, ◌≤◌, ◌<◌, nat_lt, Bool, true, false, Option, Some, None, Ok, Err, List, [], ◌++◌, inl, inr, length, take, drop, ap, ◌∙◌, sym, subst, append-nil, arith, refl, length-append, length-take, length-drop, take-add}
+use Rattle.std.proofs.Common.{◌≡◌, ℕ, ◌+◌, ◌≤◌, ◌<◌, nat_lt, Bool, true, false, Option, Some, None, Ok, Err, List, [], ◌++◌, length, take, drop, ap, ◌∙◌, sym, subst, append-nil, arith, refl, length-append, length-take, length-drop, take-add}
 use Rattle.std.proofs.lemmas.Bool.{lt-ltb, ltb-true}
 use Rattle.std.proofs.lemmas.List.{take-append-drop, take_all}
 use Rattle.std.proofs.Math.Seq.{take-append-add, take-append_seam}
@@ -7,7 +7,7 @@ use Rattle.std.specs.Io.KnownBytes.{Consumes, IsAtEnd}
 use Rattle.ffv1_wire.proofs.Bytes.{consumes_then}
 use Rattle.ffv1_wire.specs.Reads.{Fills, FillsBeginning}
 use Rattle.ffv1_reads.specs.declared.fault.FileFault.{FileFault}
-use Rattle.ffv1_reads.specs.declared.fault.FileFault.TheVariants as fault
+use Rattle.ffv1_reads.proofs.Causes.{refused_map}
 use Rattle.ffv1_reads.specs.Reads.{AppendsSome, Begins, Faults, Kept, Lacks, Looked, Met, Read, Refused, Short, Stop, Want, Wants, appended, passed, taken, wanted}
 use Rattle.ffv1_reads.proofs.WantedBytes.{wanted_complete, wanted_sound}
 use Rattle.ffv1_reads.proofs.Results.{ok_is}
@@ -85,23 +85,10 @@ fill_lacks old now new items more size w room h why =
     record { bytes = items ++ why.bytes; consumed = consumes_then old now new items why.bytes h why.consumed; is = wanted_short Kept size (items ++ why.bytes) short }
 
 pub fill_refused : (old now new : Option (List ℕ)) (items : List ℕ) (more size l m n : ℕ) (f : FileFault) → length items + more ≤ size → m ≡ l → Consumes old now items → Refused (appended items more) now new m n f → Refused (wanted Kept size) old new l n f
-fill_refused old now new items more size l m n fault.Read room same h why = (rw (← same) why.0, (Kept, fill_lacks old now new items more size why.1.0 room h why.1.1))
-fill_refused old now new items more size l m n fault.OutOfMemory room same h why = (why.0 ∙ same, fill_lacks old now new items more size Kept room h why.1)
-fill_refused old now new items more size l m n fault.Truncated room same h (counted, inl ((w, lacks), ended)) = (counted ∙ same, inl ((Kept, fill_lacks old now new items more size w room h lacks), ended))
-fill_refused old now new items more size l m n fault.Truncated room same h (counted, inr why) = absurd (no_fault items more fault.Truncated why)
-fill_refused old now new items more size l m n fault.NotAvi room same h why = absurd (no_fault items more fault.NotAvi why.1)
-fill_refused old now new items more size l m n fault.NoFfv1 room same h why = absurd (no_fault items more fault.NoFfv1 why.1)
-fill_refused old now new items more size l m n fault.ChunkTooLong room same h why = absurd (no_fault items more fault.ChunkTooLong why.1)
-fill_refused old now new items more size l m n fault.EmptyFrame room same h why = absurd (no_fault items more fault.EmptyFrame why.1)
-fill_refused old now new items more size l m n fault.TooLarge room same h why = absurd why
-fill_refused old now new items more size l m n fault.Write room same h why = absurd why
-fill_refused old now new items more size l m n fault.NotMatroska room same h why = absurd (no_fault items more fault.NotMatroska why.1)
-fill_refused old now new items more size l m n fault.BadElement room same h why = absurd (no_fault items more fault.BadElement why.1)
-fill_refused old now new items more size l m n fault.NoTracks room same h why = absurd (no_fault items more fault.NoTracks why.1)
-fill_refused old now new items more size l m n fault.Encoded room same h why = absurd (no_fault items more fault.Encoded why.1)
-fill_refused old now new items more size l m n fault.Laced room same h why = absurd (no_fault items more fault.Laced why.1)
-fill_refused old now new items more size l m n fault.Checksum room same h why = absurd (no_fault items more fault.Checksum why.1)
-fill_refused old now new items more size l m n fault.Rate room same h why = absurd why
+fill_refused old now new items more size l m n f room same h why = refused_map n same (λ wants. (Kept, lacks wants.0 wants.1)) (lacks Kept) (λ f faults. absurd (no_fault items more f faults)) f why
+  where
+    lacks : (w : Want) → Lacks (appended items more) now new w → Lacks (wanted Kept size) old new Kept
+    lacks w = fill_lacks old now new items more size w room h
 
 -- what is there then is a beginning
 pub fill_begins : (old now : Option (List ℕ)) (items x : List ℕ) (more size : ℕ) → length items + more ≤ size → Consumes old now items → AppendsSome now more items x → Begins old size x

@@ -1,9 +1,9 @@
 -- Readings, one after the other.
-use Rattle.std.proofs.Common.{◌≡◌, ℕ, Option, Some, None, Result, Ok, Err, List, [], ◌++◌, inl, inr, ap, ◌∙◌, refl, append_assoc}
+use Rattle.std.proofs.Common.{◌≡◌, ℕ, Option, Some, None, Result, Ok, Err, List, [], ◌++◌, ap, ◌∙◌, refl, append_assoc}
 use Rattle.std.specs.Io.KnownBytes.{Consumes}
 use Rattle.ffv1_wire.proofs.Bytes.{consumes_then}
 use Rattle.ffv1_reads.specs.declared.fault.FileFault.{FileFault}
-use Rattle.ffv1_reads.specs.declared.fault.FileFault.TheVariants as fault
+use Rattle.ffv1_reads.proofs.Causes.{refused_map}
 use Rattle.ffv1_reads.specs.Reads.{Answers, Faults, Lacks, Read, Reading, Refused, Stop, given, read_on, refused, ◌>>=◌}
 
 -- a call that reads the whole has come to the rest, and nothing failed
@@ -53,23 +53,7 @@ lacks_behind {old = old} {now = now} {new = new} r stops h why =
     }
 
 refused_behind : {X Y : Type 0} {whole rest : Reading X} {old now : Option (List ℕ)} {before after : ℕ} (new : Option (List ℕ)) (r : Reading Y) (last : ℕ) (f : FileFault) → StopsBy rest r → Goes whole old before rest now after → Refused r now new after last f → Refused whole old new before last f
-refused_behind new r last fault.Read stops h why = (rw (← h.same) why.0, (why.1.0, lacks_behind r stops h why.1.1))
-refused_behind new r last fault.OutOfMemory stops h why = (why.0 ∙ h.same, lacks_behind r stops h why.1)
-refused_behind {whole = whole} {old = old} {before = before} new r last fault.Truncated stops h (same, inl ((w, lacks), ended)) = (same ∙ h.same, inl ((w, lacks_behind r stops h lacks), ended))
-refused_behind new r last fault.Truncated stops h (same, inr why) = (same ∙ h.same, inr (faults_behind r fault.Truncated stops h why))
-refused_behind new r last fault.NotAvi stops h why = (why.0 ∙ h.same, faults_behind r fault.NotAvi stops h why.1)
-refused_behind new r last fault.NoFfv1 stops h why = (why.0 ∙ h.same, faults_behind r fault.NoFfv1 stops h why.1)
-refused_behind new r last fault.ChunkTooLong stops h why = (why.0 ∙ h.same, faults_behind r fault.ChunkTooLong stops h why.1)
-refused_behind new r last fault.EmptyFrame stops h why = (why.0 ∙ h.same, faults_behind r fault.EmptyFrame stops h why.1)
-refused_behind new r last fault.TooLarge stops h why = absurd why
-refused_behind new r last fault.Write stops h why = absurd why
-refused_behind new r last fault.NotMatroska stops h why = (why.0 ∙ h.same, faults_behind r fault.NotMatroska stops h why.1)
-refused_behind new r last fault.BadElement stops h why = (why.0 ∙ h.same, faults_behind r fault.BadElement stops h why.1)
-refused_behind new r last fault.NoTracks stops h why = (why.0 ∙ h.same, faults_behind r fault.NoTracks stops h why.1)
-refused_behind new r last fault.Encoded stops h why = (why.0 ∙ h.same, faults_behind r fault.Encoded stops h why.1)
-refused_behind new r last fault.Laced stops h why = (why.0 ∙ h.same, faults_behind r fault.Laced stops h why.1)
-refused_behind new r last fault.Checksum stops h why = (why.0 ∙ h.same, faults_behind r fault.Checksum stops h why.1)
-refused_behind new r last fault.Rate stops h why = absurd why
+refused_behind new r last f stops h why = refused_map last h.same (λ wants. (wants.0, lacks_behind r stops h wants.1)) (λ lacks. lacks_behind r stops h lacks) (λ f faults. faults_behind r f stops h faults) f why
 
 -- a reading that was refused
 pub goes_refused : {X Y : Type 0} {whole : Reading X} {old now : Option (List ℕ)} {before after : ℕ} (r : Reading Y) (k : Y → Reading X) (new : Option (List ℕ)) (last : ℕ) (f : FileFault) →

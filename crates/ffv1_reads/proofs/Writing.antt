@@ -38,40 +38,12 @@ beginning_later a b c xs ys h k =
 
 stopped_later : (a b c : Option (List ℕ)) (m n : ℕ) (xs ys : List ℕ) (f : FileFault) → Appends a b xs → Stopped b c m n ys f → Stopped a c m n (xs ++ ys) f
 stopped_later a b c m n xs ys fault.Write h k = (k.0, beginning_later a b c xs ys h k.1)
-stopped_later a b c m n xs ys fault.OutOfMemory h k = absurd k
-stopped_later a b c m n xs ys fault.NotAvi h k = absurd k
-stopped_later a b c m n xs ys fault.NoFfv1 h k = absurd k
-stopped_later a b c m n xs ys fault.Truncated h k = absurd k
-stopped_later a b c m n xs ys fault.ChunkTooLong h k = absurd k
-stopped_later a b c m n xs ys fault.EmptyFrame h k = absurd k
-stopped_later a b c m n xs ys fault.TooLarge h k = absurd k
-stopped_later a b c m n xs ys fault.Read h k = absurd k
-stopped_later a b c m n xs ys fault.NotMatroska h k = absurd k
-stopped_later a b c m n xs ys fault.BadElement h k = absurd k
-stopped_later a b c m n xs ys fault.NoTracks h k = absurd k
-stopped_later a b c m n xs ys fault.Encoded h k = absurd k
-stopped_later a b c m n xs ys fault.Laced h k = absurd k
-stopped_later a b c m n xs ys fault.Checksum h k = absurd k
-stopped_later a b c m n xs ys fault.Rate h k = absurd k
+stopped_later a b c m n xs ys f h k = absurd k
 
 -- a write that stopped wrote a beginning of more
 pub writes_stop : (a b : Option (List ℕ)) (m n : ℕ) (xs ys : List ℕ) (f : FileFault) → Writes (between a b m n) xs (Err f) → Writes (between a b m n) (xs ++ ys) (Err f)
 writes_stop a b m n xs ys fault.Write k = (k.0, beginning_sooner a b xs ys k.1)
-writes_stop a b m n xs ys fault.OutOfMemory k = absurd k
-writes_stop a b m n xs ys fault.NotAvi k = absurd k
-writes_stop a b m n xs ys fault.NoFfv1 k = absurd k
-writes_stop a b m n xs ys fault.Truncated k = absurd k
-writes_stop a b m n xs ys fault.ChunkTooLong k = absurd k
-writes_stop a b m n xs ys fault.EmptyFrame k = absurd k
-writes_stop a b m n xs ys fault.TooLarge k = absurd k
-writes_stop a b m n xs ys fault.Read k = absurd k
-writes_stop a b m n xs ys fault.NotMatroska k = absurd k
-writes_stop a b m n xs ys fault.BadElement k = absurd k
-writes_stop a b m n xs ys fault.NoTracks k = absurd k
-writes_stop a b m n xs ys fault.Encoded k = absurd k
-writes_stop a b m n xs ys fault.Laced k = absurd k
-writes_stop a b m n xs ys fault.Checksum k = absurd k
-writes_stop a b m n xs ys fault.Rate k = absurd k
+writes_stop a b m n xs ys f k = absurd k
 
 -- a call that writes after bytes that were written
 pub writes_then : (a b c : Option (List ℕ)) (l m n : ℕ) (xs ys : List ℕ) (r : Result (Unit {0}) FileFault) → m ≡ l → Appends a b xs → Writes (between b c m n) ys r → Writes (between a c l n) (xs ++ ys) r

@@ -91,14 +91,7 @@ colours_stop depth old mid new n size all before between after planes fault.Read
     (g.0 ∙ ap one_more same, (h.0 ++ g.1.0, consumes_then old mid new h.0 g.1.0 h.2 g.1.1, omega (arith, length-append h.0 g.1.0, h.1, g.1.2, within)))
 colours_stop depth old mid new n size all before between after planes fault.FrameTruncated within h same g =
     (g.0 ∙ same, (h.0 ++ g.1.0, consumes_then old mid new h.0 g.1.0 h.2 g.1.1, omega (arith, length-append h.0 g.1.0, h.1, g.1.2, within)), g.2)
-colours_stop depth old mid new n size all before between after planes fault.OutOfMemory within h same g = absurd g
-colours_stop depth old mid new n size all before between after planes fault.Write within h same g = absurd g
-colours_stop depth old mid new n size all before between after planes fault.Header within h same g = absurd g
-colours_stop depth old mid new n size all before between after planes fault.Tag within h same g = absurd g
-colours_stop depth old mid new n size all before between after planes fault.Unsupported within h same g = absurd g
-colours_stop depth old mid new n size all before between after planes fault.FrameLine within h same g = absurd g
-colours_stop depth old mid new n size all before between after planes fault.SampleTooLarge within h same g = absurd g
-colours_stop depth old mid new n size all before between after planes fault.FormatChanged within h same g = absurd g
+colours_stop depth old mid new n size all before between after planes f within h same g = absurd g
 
 pub colours_end : {Y : Type 0} (are : Y → List ℕ → Type 0) (depth : ℕ) (old new : Option (List ℕ)) (n size before after : ℕ) (planes : List (List ℕ)) (y : Y) → size ≡ 3 * n → Colours depth old new n planes → after ≡ before → ((bytes : List ℕ) → planes ≡ parted depth bytes → are y bytes) →
     Gathers size are (moved old new before after) (Ok y)
@@ -123,14 +116,7 @@ colours_shorten depth n text = colours_left depth n text (length text) (omega ar
 pub stands_colours : (depth n size before after : ℕ) (old new : Option (List ℕ)) (f : Fault) → size ≡ 3 * n → Stops size (moved old new before after) f → Stands (colours_read depth n) IsNone (moved old new before after) (Err f)
 stands_colours depth n size before after old new fault.Read is g = record { bytes = g.1.0; taken = g.1.1; said = (g.0, colours_wants depth n g.1.0 (omega (arith, g.1.2, is))) }
 stands_colours depth n size before after old new fault.FrameTruncated is g = record { bytes = g.1.0; taken = g.1.1; said = (g.0, inr (g.2, colours_short depth n g.1.0 (omega (arith, g.1.2, is)))) }
-stands_colours depth n size before after old new fault.OutOfMemory is g = absurd g
-stands_colours depth n size before after old new fault.Write is g = absurd g
-stands_colours depth n size before after old new fault.Header is g = absurd g
-stands_colours depth n size before after old new fault.Tag is g = absurd g
-stands_colours depth n size before after old new fault.Unsupported is g = absurd g
-stands_colours depth n size before after old new fault.FrameLine is g = absurd g
-stands_colours depth n size before after old new fault.SampleTooLarge is g = absurd g
-stands_colours depth n size before after old new fault.FormatChanged is g = absurd g
+stands_colours depth n size before after old new f is g = absurd g
 
 pub stands_parted : (depth n size before after : ℕ) (old new : Option (List ℕ)) (all : List (List ℕ)) (taken : List ℕ) → size ≡ 3 * n → after ≡ before → Consumes old new taken → length taken ≡ size → all ≡ parted depth taken → all_in_depth depth all ≡ true →
     Stands (colours_read depth n) IsNone (moved old new before after) (Ok all)

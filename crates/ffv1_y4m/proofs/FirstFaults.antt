@@ -120,28 +120,15 @@ pub refused_as : {X : Type 0} (reading : Reading X) (grows : List ℕ → Type 0
 refused_as reading grows text new before after fault.Read why a b = absurd (a refl)
 refused_as reading grows text new before after fault.OutOfMemory why a b = absurd (b refl)
 refused_as reading grows text new before after fault.Write why a b = absurd why
-refused_as reading grows text new before after fault.Header why a b = rest_of reading text new fault.Header why.1
-refused_as reading grows text new before after fault.Tag why a b = rest_of reading text new fault.Tag why.1
-refused_as reading grows text new before after fault.Unsupported why a b = rest_of reading text new fault.Unsupported why.1
-refused_as reading grows text new before after fault.FrameLine why a b = rest_of reading text new fault.FrameLine why.1
-refused_as reading grows text new before after fault.FrameTruncated why a b = rest_of reading text new fault.FrameTruncated why.1
-refused_as reading grows text new before after fault.SampleTooLarge why a b = rest_of reading text new fault.SampleTooLarge why.1
-refused_as reading grows text new before after fault.FormatChanged why a b = rest_of reading text new fault.FormatChanged why.1
+refused_as reading grows text new before after f why a b = rest_of reading text new f why.1
 
 none_grows : (p : Passage) → Took Nowhere p → ⊥
 none_grows p h = h.2
 
 pub not_memory : {X : Type 0} (reading : Reading X) (p : Passage) (f : Fault) → Refused reading Nowhere p f → f ≡ fault.OutOfMemory → ⊥
 not_memory reading p fault.OutOfMemory why is = none_grows p why.1
-not_memory reading p fault.Read why is = absurd (let other : fault.Read ≡ fault.OutOfMemory = is in cc)
 not_memory reading p fault.Write why is = absurd why
-not_memory reading p fault.Header why is = absurd (let other : fault.Header ≡ fault.OutOfMemory = is in cc)
-not_memory reading p fault.Tag why is = absurd (let other : fault.Tag ≡ fault.OutOfMemory = is in cc)
-not_memory reading p fault.Unsupported why is = absurd (let other : fault.Unsupported ≡ fault.OutOfMemory = is in cc)
-not_memory reading p fault.FrameLine why is = absurd (let other : fault.FrameLine ≡ fault.OutOfMemory = is in cc)
-not_memory reading p fault.FrameTruncated why is = absurd (let other : fault.FrameTruncated ≡ fault.OutOfMemory = is in cc)
-not_memory reading p fault.SampleTooLarge why is = absurd (let other : fault.SampleTooLarge ≡ fault.OutOfMemory = is in cc)
-not_memory reading p fault.FormatChanged why is = absurd (let other : fault.FormatChanged ≡ fault.OutOfMemory = is in cc)
+not_memory reading p f why is = absurd (let other : f ≡ fault.OutOfMemory = is in cc)
 
 pub header_answered : (most : ℕ) (text : List ℕ) (new : Option (List ℕ)) (before after : ℕ) (f : Fault) → Refused (header_of most) Nowhere (record { old = Some text; new = new; before = before; after = after }) f → (f ≡ fault.Read → ⊥) → (n : ℕ) × HeaderFault most text f n
 header_answered most text new before after f why a =

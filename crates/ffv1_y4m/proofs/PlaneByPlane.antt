@@ -133,13 +133,7 @@ says_behind {X = X} r q turn g more old mid new n m k front bytes f same lefts e
     by fault.Read s = (s.0 ∙ ap one_more same, wants s.1)
     by fault.OutOfMemory s = (s.0 ∙ same, to s.1)
     by fault.Write s = absurd s
-    by fault.Header s = (s.0 ∙ same, decides fault.Header s.1)
-    by fault.Tag s = (s.0 ∙ same, decides fault.Tag s.1)
-    by fault.Unsupported s = (s.0 ∙ same, decides fault.Unsupported s.1)
-    by fault.FrameLine s = (s.0 ∙ same, decides fault.FrameLine s.1)
-    by fault.FrameTruncated s = (s.0 ∙ same, decides fault.FrameTruncated s.1)
-    by fault.SampleTooLarge s = (s.0 ∙ same, decides fault.SampleTooLarge s.1)
-    by fault.FormatChanged s = (s.0 ∙ same, decides fault.FormatChanged s.1)
+    by f s = (s.0 ∙ same, decides f s.1)
 
 planes_shorten : (depth : ℕ) (sizes text : List ℕ) → length (left (planes_read depth sizes text)) ≤ length text
 planes_shorten depth [] text = omega arith

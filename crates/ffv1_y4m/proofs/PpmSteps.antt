@@ -239,13 +239,7 @@ later_refused most said old mid new byte n m k f same h s = by f s.said
         record { bytes = s.bytes; taken = from_byte old mid new byte s.bytes h s.taken; said = (d.0 ∙ ap one_more same, λ b behind. rw (begun_is most said (s.bytes ++ b ∷ behind) (some_long s.bytes behind b)) (wants b behind)) }
     by fault.OutOfMemory d = absurd d.1
     by fault.Write d = absurd d
-    by fault.Header d = let t = told fault.Header d in record { bytes = t.bytes; taken = t.taken; said = (d.0 ∙ same, faulted most said t.bytes new fault.Header t.some t.said) }
-    by fault.Tag d = let t = told fault.Tag d in record { bytes = t.bytes; taken = t.taken; said = (d.0 ∙ same, faulted most said t.bytes new fault.Tag t.some t.said) }
-    by fault.Unsupported d = let t = told fault.Unsupported d in record { bytes = t.bytes; taken = t.taken; said = (d.0 ∙ same, faulted most said t.bytes new fault.Unsupported t.some t.said) }
-    by fault.FrameLine d = let t = told fault.FrameLine d in record { bytes = t.bytes; taken = t.taken; said = (d.0 ∙ same, faulted most said t.bytes new fault.FrameLine t.some t.said) }
-    by fault.FrameTruncated d = let t = told fault.FrameTruncated d in record { bytes = t.bytes; taken = t.taken; said = (d.0 ∙ same, faulted most said t.bytes new fault.FrameTruncated t.some t.said) }
-    by fault.SampleTooLarge d = let t = told fault.SampleTooLarge d in record { bytes = t.bytes; taken = t.taken; said = (d.0 ∙ same, faulted most said t.bytes new fault.SampleTooLarge t.some t.said) }
-    by fault.FormatChanged d = let t = told fault.FormatChanged d in record { bytes = t.bytes; taken = t.taken; said = (d.0 ∙ same, faulted most said t.bytes new fault.FormatChanged t.some t.said) }
+    by f d = let t = told f d in record { bytes = t.bytes; taken = t.taken; said = (d.0 ∙ same, faulted most said t.bytes new f t.some t.said) }
 
 -- the sizes and depths are compared
 format_by : (most : ℕ) (said next : DeepHead) (bytes : List ℕ) (new : Option (List ℕ)) (answer : Result Bool Fault) → 0 < length bytes → ((text : List ℕ) → same_format said next text ≡ judge answer text) → Decides (image_header most) bytes new (Ok next) → Decides (image_begun most said) bytes new answer

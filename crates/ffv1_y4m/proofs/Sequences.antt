@@ -64,26 +64,14 @@ says_next r next g more old mid new n m k xs ys x (Ok y) same h to s = (s.0 ∙ 
 says_next r next g more old mid new n m k xs ys x (Err fault.Read) same h to s = (s.0 ∙ ap one_more same, wants_next r next xs ys x h s.1)
 says_next r next g more old mid new n m k xs ys x (Err fault.OutOfMemory) same h to s = (s.0 ∙ same, to s.1)
 says_next r next g more old mid new n m k xs ys x (Err fault.Write) same h to s = absurd s
-says_next r next g more old mid new n m k xs ys x (Err fault.Header) same h to s = (s.0 ∙ same, decides_next r next xs ys new x (Err fault.Header) h s.1)
-says_next r next g more old mid new n m k xs ys x (Err fault.Tag) same h to s = (s.0 ∙ same, decides_next r next xs ys new x (Err fault.Tag) h s.1)
-says_next r next g more old mid new n m k xs ys x (Err fault.Unsupported) same h to s = (s.0 ∙ same, decides_next r next xs ys new x (Err fault.Unsupported) h s.1)
-says_next r next g more old mid new n m k xs ys x (Err fault.FrameLine) same h to s = (s.0 ∙ same, decides_next r next xs ys new x (Err fault.FrameLine) h s.1)
-says_next r next g more old mid new n m k xs ys x (Err fault.FrameTruncated) same h to s = (s.0 ∙ same, decides_next r next xs ys new x (Err fault.FrameTruncated) h s.1)
-says_next r next g more old mid new n m k xs ys x (Err fault.SampleTooLarge) same h to s = (s.0 ∙ same, decides_next r next xs ys new x (Err fault.SampleTooLarge) h s.1)
-says_next r next g more old mid new n m k xs ys x (Err fault.FormatChanged) same h to s = (s.0 ∙ same, decides_next r next xs ys new x (Err fault.FormatChanged) h s.1)
+says_next r next g more old mid new n m k xs ys x (Err f) same h to s = (s.0 ∙ same, decides_next r next xs ys new x (Err f) h s.1)
 
 says_first : {X Y : Type 0} (r : Reading X) (next : X → Reading Y) (g more : List ℕ → Type 0) (p : Passage) (bytes : List ℕ) (f : Fault) →
     Shortens next → (g bytes → more bytes) → Says r g bytes p (Err f) → Says (r then next) more bytes p (Err f)
 says_first r next g more p bytes fault.Read short to s = (s.0, wants_first r next bytes s.1 short)
 says_first r next g more p bytes fault.OutOfMemory short to s = (s.0, to s.1)
 says_first r next g more p bytes fault.Write short to s = absurd s
-says_first r next g more p bytes fault.Header short to s = (s.0, faults_first r next bytes p.new fault.Header s.1)
-says_first r next g more p bytes fault.Tag short to s = (s.0, faults_first r next bytes p.new fault.Tag s.1)
-says_first r next g more p bytes fault.Unsupported short to s = (s.0, faults_first r next bytes p.new fault.Unsupported s.1)
-says_first r next g more p bytes fault.FrameLine short to s = (s.0, faults_first r next bytes p.new fault.FrameLine s.1)
-says_first r next g more p bytes fault.FrameTruncated short to s = (s.0, faults_first r next bytes p.new fault.FrameTruncated s.1)
-says_first r next g more p bytes fault.SampleTooLarge short to s = (s.0, faults_first r next bytes p.new fault.SampleTooLarge s.1)
-says_first r next g more p bytes fault.FormatChanged short to s = (s.0, faults_first r next bytes p.new fault.FormatChanged s.1)
+says_first r next g more p bytes f short to s = (s.0, faults_first r next bytes p.new f s.1)
 
 -- a value that stays what it is after the end of the bytes that gave it
 local_by : {X : Type 0} (r : Reading X) (bytes : List ℕ) (new : Option (List ℕ)) (x : X) → (r bytes ≡ Ok (x, []) → Local r bytes x) → Decides r bytes new (Ok x) → Local r bytes x
@@ -136,13 +124,7 @@ pub answers_err : {X Y : Type 0} (view : Y → X) (r : Reading X) (g : List ℕ 
 answers_err view r g p fault.Read h = (h.said.0, (h.bytes, h.taken, h.said.1))
 answers_err view r g p fault.OutOfMemory h = (h.said.0, (h.bytes, h.taken, h.said.1))
 answers_err view r g p fault.Write h = absurd h.said
-answers_err view r g p fault.Header h = (h.said.0, known r p.old p.new h.bytes (Err fault.Header) h.taken h.said.1)
-answers_err view r g p fault.Tag h = (h.said.0, known r p.old p.new h.bytes (Err fault.Tag) h.taken h.said.1)
-answers_err view r g p fault.Unsupported h = (h.said.0, known r p.old p.new h.bytes (Err fault.Unsupported) h.taken h.said.1)
-answers_err view r g p fault.FrameLine h = (h.said.0, known r p.old p.new h.bytes (Err fault.FrameLine) h.taken h.said.1)
-answers_err view r g p fault.FrameTruncated h = (h.said.0, known r p.old p.new h.bytes (Err fault.FrameTruncated) h.taken h.said.1)
-answers_err view r g p fault.SampleTooLarge h = (h.said.0, known r p.old p.new h.bytes (Err fault.SampleTooLarge) h.taken h.said.1)
-answers_err view r g p fault.FormatChanged h = (h.said.0, known r p.old p.new h.bytes (Err fault.FormatChanged) h.taken h.said.1)
+answers_err view r g p f h = (h.said.0, known r p.old p.new h.bytes (Err f) h.taken h.said.1)
 
 pub answers_of : {X Y : Type 0} (view : Y → X) (r : Reading X) (g : List ℕ → Type 0) (p : Passage) (answer : Result Y Fault) → Stands r g p (seen view answer) → Answers view r g p answer
 answers_of view r g p (Ok y) h = answers_ok view r g p y h

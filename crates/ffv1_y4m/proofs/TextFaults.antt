@@ -93,13 +93,7 @@ said_line (Ok h) old n t = (refl, inl (λ behind. refl))
 said_line (Err fault.Header) old n t = (refl, inl (λ behind. refl))
 said_line (Err fault.Tag) old n t = (refl, inl (λ behind. refl))
 said_line (Err fault.Unsupported) old n t = (refl, inl (λ behind. refl))
-said_line (Err fault.OutOfMemory) old n t = absurd t
-said_line (Err fault.Read) old n t = absurd t
-said_line (Err fault.Write) old n t = absurd t
-said_line (Err fault.FrameLine) old n t = absurd t
-said_line (Err fault.FrameTruncated) old n t = absurd t
-said_line (Err fault.SampleTooLarge) old n t = absurd t
-said_line (Err fault.FormatChanged) old n t = absurd t
+said_line (Err f) old n t = absurd t
 
 pub stands_line : (r : Result DeepHead Fault) (old : Option (List ℕ)) (n : ℕ) → Textual r → Stands (judge r) Nowhere (moved old old n n) r
 stands_line r old n t = record { bytes = []; taken = consumes_none old; said = said_line r old n t.fault }
@@ -109,13 +103,7 @@ own_line (Ok h) t = tt
 own_line (Err fault.Header) t = tt
 own_line (Err fault.Tag) t = tt
 own_line (Err fault.Unsupported) t = tt
-own_line (Err fault.OutOfMemory) t = absurd t
-own_line (Err fault.Read) t = absurd t
-own_line (Err fault.Write) t = absurd t
-own_line (Err fault.FrameLine) t = absurd t
-own_line (Err fault.FrameTruncated) t = absurd t
-own_line (Err fault.SampleTooLarge) t = absurd t
-own_line (Err fault.FormatChanged) t = absurd t
+own_line (Err f) t = absurd t
 
 -- a fault of the text is one of a header
 pub header_fault : (r : Result DeepHead Fault) → Textual r → OnFault IsHeaderFault r

@@ -1,34 +1,23 @@
 -- The header of the next chunk of a list that has so many bytes left, or None at its end.
-use Rattle.std.proofs.Common.{◌≡◌, ◌+◌, ◌<◌, ◌≤◌, ◌-◌, ◌&&◌, ◌==◌, ◌∙◌, ℕ, List, Option, Bool, Some}
+use Rattle.std.proofs.Common.{◌≡◌, ◌+◌, ◌<◌, ◌≤◌, ◌-◌, ◌&&◌, ◌∙◌, ℕ, List, Option, Bool, Some}
 use Rattle.std.proofs.Common.{true, false, nat_lt, codes, drop, take, refl, sym, inr, arith, ap}
-use Rattle.std.proofs.lemmas.Bool.{lt-ltb, le-ltb, ne_eqb}
+use Rattle.std.proofs.lemmas.Bool.{le-ltb}
 use Rattle.byteorder.specs.Endian.{little_number}
 use Rattle.ffv1_avi.specs.declared.chunk.Entry.{Entry}
 use Rattle.ffv1_reads.specs.declared.fault.FileFault.TheVariants as fault
-use Rattle.ffv1_reads.specs.Reads.{Reading, given, refused, taken, ◌>>=◌}
+use Rattle.ffv1_reads.specs.Reads.{Reading, given}
 use Rattle.ffv1_avi.specs.Padding.{padded}
 use Rattle.ffv1_avi.specs.Walk.{entry_judged, entry_read, is_name}
 use Rattle.ffv1_avi.proofs.Contents.{number_taken}
-use Rattle.ffv1_reads.proofs.Reading.{faults_here, goes_fault, goes_given, goes_none, goes_read}
-use Rattle.ffv1_reads.proofs.Reading.{goes_same}
+use Rattle.ffv1_reads.proofs.Answered.{answers_differ, answers_fault, answers_given, answers_less}
+use Rattle.ffv1_reads.proofs.Answered.{answers_most, answers_next, answers_ok, answers_refused}
+use Rattle.ffv1_reads.proofs.Answered.{answers_same}
 use Rattle.ffv1_avi.proofs.chunk.next_entry.Goals as goal
 use Rattle.ffv1_avi.proofs.chunk.next_entry.Goals.{else-is_name-via-then-is_name+else-size-lt4}
 use Rattle.ffv1_avi.proofs.chunk.next_entry.Goals.{else-is_name-via-else-is_name}
 
 abbrev headed : ℕ → List ℕ → Reading (Option Entry)
 headed left head = entry_judged left (take 4 head) (little_number 4 (drop 4 head))
-
-entry_long : (left : ℕ) → (left ≡ 0 → ⊥) → 8 ≤ left → (text : List ℕ) → entry_read left text ≡
-    (taken 8 >>= headed left) text
-unfolding entry_read
-entry_long left some room text =
-    let p : (left == 0) ≡ false = ne_eqb _ _ some in
-    let q : nat_lt left 8 ≡ false = le-ltb _ _ room in
-    rw (p, q) refl
-
-headed_short : (left : ℕ) (head : List ℕ) → left < 8 + padded (little_number 4 (drop 4 head)) →
-    (text : List ℕ) → headed left head text ≡ refused fault.Truncated text
-headed_short left head few text = rw (lt-ltb _ _ few) refl
 
 headed_fits : (left : ℕ) (head : List ℕ) (e : Entry) → 8 + padded (little_number 4 (drop 4 head)) ≤
     left → (is_name (take 4 head) (codes "LIST") && nat_lt (little_number 4 (drop 4 head)) 4) ≡
@@ -40,6 +29,7 @@ headed_fits left head e room list name size behind text =
     rw (le-ltb _ _ room, list, ← behind, ← size, ← name) refl
 
 pub returns-then-from-whole-clause-answer : goal.returns-then-from-whole-clause-answer
+unfolding entry_read
 returns-then-from-whole-clause-answer g c =
     let left = c.args.left in
     let head = c.take.new.buf in
@@ -48,19 +38,16 @@ returns-then-from-whole-clause-answer g c =
     let few : left < 8 + padded (little_number 4 (drop 4 head)) =
     omega (arith, c.if-from-whole.true, c.from.ensures, c.padded-whole.ensures, size) in
     let some : left ≡ 0 → ⊥ = λ e. omega (arith, e, c.if-left-lt8.false) in
-    let start = goes_same _ (taken 8 >>= headed left)
-    (entry_long left some (omega (arith, c.if-left-lt8.false)))
-    (goes_none (entry_read left) (g.R.ByteIn.remaining c.args.input.now)
-    (g.R.ByteIn.failures c.args.input.now)) in
-    let here = goes_read (taken 8) (headed left) _ _ head start c.in_ok-take.ensures in
-    goes_fault fault.Truncated (goes_same _ (refused fault.Truncated) (headed_short left head few)
-    here) (refl, inr (faults_here (Option Entry) fault.Truncated _))
+    let long : 8 ≤ left = omega (arith, c.if-left-lt8.false) in
+    answers_fault fault.Truncated (entry_read left) (answers_differ _ some (answers_most _ long
+    (answers_next _ c.in_ok-take.ensures (answers_less _ few (answers_refused _ (inr refl))))))
 
 no_short_list : (b : Bool) (n : ℕ) → 4 ≤ n → (b && nat_lt n 4) ≡ false
 no_short_list true n h = le-ltb _ _ h
 no_short_list false n h = refl
 
 pub returns-clause-answer : goal.returns-clause-answer
+unfolding entry_read
 returns-clause-answer g c =
     let left = c.args.left in
     let head = c.take.new.buf in
@@ -86,10 +73,7 @@ returns-clause-answer g c =
       | else-is_name-via-else-is_name w ↦
           rw (ap (λ z. is_name z (codes "LIST")) (sym name) ∙ sym w.if-is_name.ensures) refl
     ] in
-    let start = goes_same _ (taken 8 >>= headed left)
-    (entry_long left some (omega (arith, c.if-left-lt8.false)))
-    (goes_none (entry_read left) (g.R.ByteIn.remaining c.args.input.now)
-    (g.R.ByteIn.failures c.args.input.now)) in
-    let here = goes_read (taken 8) (headed left) _ _ head start c.in_ok-take.ensures in
-    goes_given (Some made) (goes_same _ (given (Some made))
-    (headed_fits left head made room list name size behind) here)
+    let long : 8 ≤ left = omega (arith, c.if-left-lt8.false) in
+    answers_ok {reading = entry_read left} (answers_differ _ some
+    (answers_most _ long (answers_next _ c.in_ok-take.ensures
+    (answers_same (headed_fits left head made room list name size behind) answers_given))))

@@ -1,55 +1,31 @@
 -- The list odml of such a size after its own name, with its padding.
-use Rattle.std.proofs.Common.{◌%◌, None}
-use Rattle.std.proofs.lemmas.Result.{err_from_is_err_and}
-use Rattle.ffv1_avi.specs.Files.{visit_extended}
-use Rattle.ffv1_reads.specs.Reads.{given, passed}
-use Rattle.ffv1_reads.proofs.Reading.{goes_given, goes_read, goes_refused}
-use Rattle.ffv1_avi.proofs.ChunkByChunk.{behind_chunk, goes_end, goes_entry, goes_no_entry}
-use Rattle.ffv1_avi.proofs.open.read_extended.Invariants.{ended}
+use Rattle.ffv1_reads.proofs.Reading.{goes_read}
+use Rattle.ffv1_avi.proofs.ChunkByChunk.{goes_entry}
+use Rattle.ffv1_reads.proofs.Answered.{answers_err, answers_first, answers_given}
+use Rattle.ffv1_reads.proofs.Answered.{answers_next, answers_ok}
+use Rattle.ffv1_avi.proofs.ChunkByChunk.{answers_end, answers_entry, answers_no_entry}
 use Rattle.ffv1_avi.proofs.open.read_extended.Goals as goal
 
 pub returns-in_err-entry : goal.returns-in_err-entry
-returns-in_err-entry g c =
-    let p = err_from_is_err_and c.from_residual.result c.from_residual.ensures.1 in
-    let found = c.loop-entry.frames in
-    rw (p.1, p.2) (goes_no_entry visit_extended c.loop-entry.left found (ended c.args.size) _ _
-    c.in_err-entry.field-0.0 c.loop-entry.invariant c.in_err-entry.ensures.answer)
+returns-in_err-entry g c = answers_err _ _ _ _ c.from_residual.ensures.1
+    (answers_no_entry _ _ _ _ c.loop-entry.invariant c.in_err-entry.ensures.answer)
 
 pub returns-in_err-frames : goal.returns-in_err-frames
-returns-in_err-frames g c =
-    let p = err_from_is_err_and c.from_residual-in_err-frames.result
-    c.from_residual-in_err-frames.ensures.1 in
-    let e = c.in-Some.entry in
-    let found = c.loop-entry.frames in
-    let here = goes_entry visit_extended c.loop-entry.left found (ended c.args.size) _ _ e
-    c.loop-entry.invariant (rw c.in-Some.is at c.in_ok-entry.ensures.answer) in
-    rw (p.1, p.2) (goes_refused (visit_extended found e)
-    (behind_chunk visit_extended e.left (ended c.args.size)) _ _ c.in_err-frames.field-0.0 here
-    c.in_err-frames.ensures)
+returns-in_err-frames g c = answers_err _ _ _ _ c.from_residual-in_err-frames.ensures.1
+    (answers_entry _ _ _ _ c.loop-entry.invariant (rw c.in-Some.is at c.in_ok-entry.ensures.answer)
+    (answers_first _ _ c.in_err-frames.ensures))
 
 pub loop-entry-preserved : goal.loop-entry-preserved
-loop-entry-preserved g c =
-    let e = c.in-Some.entry in
-    let found = c.loop-entry.frames in
-    let here = goes_entry visit_extended c.loop-entry.left found (ended c.args.size) _ _ e
-    c.loop-entry.invariant (rw c.in-Some.is at c.in_ok-entry.ensures.answer) in
-    goes_read (visit_extended found e) (behind_chunk visit_extended e.left (ended c.args.size)) _ _
-    (c.in_ok-frames.frames, None) here c.in_ok-frames.ensures
+loop-entry-preserved g c = goes_read _ _ _ _ _
+    (goes_entry _ _ _ _ _ _ c.in-Some.entry c.loop-entry.invariant
+    (rw c.in-Some.is at c.in_ok-entry.ensures.answer)) c.in_ok-frames.ensures
 
 pub returns-in_err-pass : goal.returns-in_err-pass
-returns-in_err-pass g c =
-    let p = err_from_is_err_and c.from_residual-in_err-pass.result
-    c.from_residual-in_err-pass.ensures.1 in
-    let found = c.loop-entry.frames in
-    let here = goes_end visit_extended c.loop-entry.left found (ended c.args.size) _ _
-    c.loop-entry.invariant (rw c.in_default.is at c.in_ok-entry.ensures.answer) in
-    rw (p.1, p.2) (goes_refused (passed (c.args.size % 2)) (λ _. given found) _ _
-    c.in_err-pass.field-0.0 here (rw c.from.ensures at c.in_err-pass.ensures))
+returns-in_err-pass g c = answers_err _ _ _ _ c.from_residual-in_err-pass.ensures.1
+    (answers_end _ _ _ _ c.loop-entry.invariant (rw c.in_default.is at c.in_ok-entry.ensures.answer)
+    (answers_first _ _ (rw c.from.ensures at c.in_err-pass.ensures)))
 
 pub returns : goal.returns
-returns g c =
-    let found = c.loop-entry.frames in
-    let here = goes_end visit_extended c.loop-entry.left found (ended c.args.size) _ _
-    c.loop-entry.invariant (rw c.in_default.is at c.in_ok-entry.ensures.answer) in
-    goes_given found (goes_read (passed (c.args.size % 2)) (λ _. given found) _ _ tt here
-    (rw c.from.ensures at c.in_ok-pass.ensures))
+returns g c = answers_ok (answers_end _ _ _ _ c.loop-entry.invariant
+    (rw c.in_default.is at c.in_ok-entry.ensures.answer) (answers_next _
+    (rw c.from.ensures at c.in_ok-pass.ensures) answers_given))

@@ -7,23 +7,21 @@ use Rattle.std.proofs.lemmas.Bool.{le-leb, lt-leb}
 use Rattle.std.proofs.lemmas.List.{take_all}
 use Rattle.byteorder.specs.Endian.{little_number}
 use Rattle.ffv1_reads.specs.declared.fault.FileFault.TheVariants as fault
-use Rattle.ffv1_avi.specs.declared.stream.Sizes.{Sizes}
 use Rattle.ffv1_avi.specs.Files.{begins, open_read, top_read}
-use Rattle.ffv1_reads.specs.First.{bytes_with}
 use Rattle.ffv1_reads.specs.Head.{Head}
 use Rattle.ffv1_avi.specs.declared.place.Extent.{Extent}
 use Rattle.ffv1_avi.specs.declared.place.Place.{Place}
 use Rattle.ffv1_reads.specs.Reads.{Looked, Reading, refused, taken, ◌>>=◌}
-use Rattle.ffv1_avi.specs.Internal.Views.{head_with}
 use Rattle.ffv1_avi.specs.Walk.{is_name}
 use Rattle.ffv1_avi.proofs.Contents.{number_taken}
 use Rattle.ffv1_reads.proofs.WantedBytes.{wanted_sound}
-use Rattle.ffv1_reads.proofs.Reading.{faults_here, goes_fault, goes_last, goes_none, goes_read}
-use Rattle.ffv1_reads.proofs.Reading.{goes_same}
 use Rattle.ffv1_reads.proofs.Rooms.{room_after}
 use Rattle.std.proofs.lemmas.Result.{err_from_is_err_and}
 use Rattle.ffv1_avi.proofs.RiffReadings.{stops_here}
 use Rattle.ffv1_avi.proofs.SpotReadings.{opens_then, start_differs, start_read, start_refused}
+use Rattle.ffv1_reads.proofs.Answered.{answers_fault, answers_next, answers_of, answers_refused}
+use Rattle.ffv1_reads.proofs.Answered.{answers_same, answers_tail}
+use Rattle.std.proofs.Common.{inl}
 use Rattle.ffv1_avi.proofs.open.read_opening.Goals as goal
 use Rattle.ffv1_avi.proofs.open.read_opening.Goals.{then-not-is_name-via-then-not-is_name}
 use Rattle.ffv1_avi.proofs.open.read_opening.Goals.{then-not-is_name-via-else-not-is_name+then-not-is_name-2}
@@ -79,12 +77,9 @@ returns-then-not-is_name-clause-answer g c =
           (sym w.if-not-is_name.ensures) (ap (λ y. is_name y (codes "AVI ")) (sym form) ∙
           sym w.if-not-is_name-2.ensures) (lt-leb _ _ (omega (arith, size, w.if-size-lt4.true)))
     ] in
-    let start = goes_same _ (taken 12 >>= behind c.args.extent) (opened c.args.extent)
-    (goes_none (open_read c.args.extent) (bytes_with c.args.first
-    (g.R.ByteIn.remaining c.args.input.now)) (g.R.ByteIn.failures c.args.input.now)) in
-    let here = goes_same _ (refused fault.NotAvi) (not_begun c.args.extent head other)
-    (goes_read (taken 12) (behind c.args.extent) _ _ head start c.in_ok-take_after.ensures) in
-    goes_fault fault.NotAvi here (refl, faults_here (Head × Place) fault.NotAvi _)
+    answers_fault fault.NotAvi _ (answers_same (opened c.args.extent)
+    (answers_next _ c.in_ok-take_after.ensures (answers_same
+    (not_begun c.args.extent head other) (answers_refused _ (inl refl)))))
 
 pub returns-clause-answer : goal.returns-clause-answer
 returns-clause-answer g c =
@@ -99,15 +94,9 @@ returns-clause-answer g c =
     (omega (arith, size, c.if-size-lt4.false)) in
     let here : begins head ≡ true = all_three _ _ _ (sym c.if-not-is_name.ensures)
     (ap (λ y. is_name y (codes "AVI ")) (sym form) ∙ sym c.if-not-is_name-2.ensures) enough in
-    let start = goes_same _ (taken 12 >>= behind c.args.extent) (opened c.args.extent)
-    (goes_none (open_read c.args.extent) (bytes_with c.args.first
-    (g.R.ByteIn.remaining c.args.input.now)) (g.R.ByteIn.failures c.args.input.now)) in
-    let next = goes_same _ (top_read c.args.extent (little_number 4 (drop 4 head) - 4))
-    (begun c.args.extent head here) (goes_read (taken 12) (behind c.args.extent) _ _ head start
-    c.in_ok-take_after.ensures) in
-    goes_last (top_read c.args.extent (little_number 4 (drop 4 head) - 4))
-    (λ (p : Sizes × Place). (head_with p.0 c.read_top.new.config.items, p.1)) _ _
-    c.read_top.result next (rw size at c.read_top.ensures.answer)
+    answers_of _ _ _ _ (answers_same (opened c.args.extent)
+    (answers_next _ c.in_ok-take_after.ensures (answers_same (begun c.args.extent head here)
+    (answers_tail _ _ _ _ (rw size at c.read_top.ensures.answer)))))
 
 pub returns-clause-grown : goal.returns-clause-grown
 returns-clause-grown g c = room_after _ _ _ c.read_top.result c.in_ok-take_after.ensures.1

@@ -1,21 +1,18 @@
 -- A chunk of RIFF, before its first movi.
-use Rattle.std.proofs.Common.{◌≡◌, ◌-◌, ℕ, List, Option, None, true, false, codes, refl, sym}
-use Rattle.std.proofs.lemmas.Result.{err_from_is_err_and}
+use Rattle.std.proofs.Common.{◌≡◌, ℕ, List, Option, None, true, false, codes, refl, sym}
 use Rattle.ffv1_avi.specs.Files.{Headers, header_read, list_skipped, list_visited, movi_reached}
 use Rattle.ffv1_avi.specs.Files.{visit_top}
 use Rattle.ffv1_reads.specs.Head.{Head}
-use Rattle.ffv1_avi.specs.declared.open.Top.{Top}
 use Rattle.ffv1_avi.specs.declared.place.Extent.{Extent}
 use Rattle.ffv1_avi.specs.declared.place.Place.{Place}
-use Rattle.ffv1_reads.specs.Reads.{Reading, given, passed, taken, ◌>>=◌}
-use Rattle.ffv1_avi.specs.Padding.{padded}
-use Rattle.ffv1_avi.specs.Internal.Views.{headers_with, top_with}
+use Rattle.ffv1_reads.specs.Reads.{Reading, given, taken, ◌>>=◌}
+use Rattle.ffv1_avi.specs.Internal.Views.{headers_with}
 use Rattle.ffv1_avi.specs.Walk.{is_name}
 use Rattle.ffv1_avi.specs.declared.chunk.Entry.{Entry}
-use Rattle.ffv1_reads.proofs.Reading.{goes_given, goes_last, goes_none, goes_read, goes_refused}
-use Rattle.ffv1_reads.proofs.Reading.{goes_same}
 use Rattle.ffv1_reads.proofs.Results.{on_ok}
 use Rattle.ffv1_reads.proofs.Rooms.{room_kept, room_then}
+use Rattle.ffv1_reads.proofs.Answered.{answers_err, answers_first, answers_given, answers_next}
+use Rattle.ffv1_reads.proofs.Answered.{answers_of, answers_ok, answers_same, answers_tail}
 use Rattle.ffv1_avi.proofs.open.visit_top.Goals as goal
 
 abbrev Next : Type 0
@@ -47,90 +44,56 @@ other_named extent s left size own header movi text = rw (header, movi) refl
 
 pub returns-in_err-found-clause-answer : goal.returns-in_err-found-clause-answer
 returns-in_err-found-clause-answer g c =
-    let p = err_from_is_err_and c.from_residual-in_err-found.result
-    c.from_residual-in_err-found.ensures.1 in
     let e = c.args.entry in
-    let own = c.in_ok-own.own in
     let found = headers_with c.args.found c.args.config.now.items in
-    let start = goes_same _ (taken 4 >>= list_visited c.args.extent found e.left e.size)
-    (list_read c.args.extent found e (sym c.if-not-is_name.ensures))
-    (goes_none (visit_top c.args.extent found e) (g.R.ByteIn.remaining c.args.input.now)
-    (g.R.ByteIn.failures c.args.input.now)) in
-    let here = goes_same _ (header_read c.args.extent found e.size >>= header_next)
-    (header_named c.args.extent found e.left e.size own (sym c.if-is_name.ensures))
-    (goes_read (taken 4) (list_visited c.args.extent found e.left e.size) _ _ own start
-    c.in_ok-own.ensures) in
-    rw (p.1, p.2) (goes_refused (header_read c.args.extent found e.size) header_next _ _
-    c.in_err-found.field-0.0 here c.in_err-found.ensures.answer)
+    let named = header_named c.args.extent found e.left e.size c.in_ok-own.own
+    (sym c.if-is_name.ensures) in
+    answers_err _ _ _ _ c.from_residual-in_err-found.ensures.1
+    (answers_same (list_read c.args.extent found e (sym c.if-not-is_name.ensures))
+    (answers_next _ c.in_ok-own.ensures (answers_same named
+    (answers_first _ _ c.in_err-found.ensures.answer))))
 
 pub returns-then-is_name-clause-answer : goal.returns-then-is_name-clause-answer
 returns-then-is_name-clause-answer g c =
     let e = c.args.entry in
-    let own = c.in_ok-own.own in
     let found = headers_with c.args.found c.args.config.now.items in
-    let head = headers_with c.in_ok-found.found c.read_header.new.config.items in
-    let start = goes_same _ (taken 4 >>= list_visited c.args.extent found e.left e.size)
-    (list_read c.args.extent found e (sym c.if-not-is_name.ensures))
-    (goes_none (visit_top c.args.extent found e) (g.R.ByteIn.remaining c.args.input.now)
-    (g.R.ByteIn.failures c.args.input.now)) in
-    let here = goes_same _ (header_read c.args.extent found e.size >>= header_next)
-    (header_named c.args.extent found e.left e.size own (sym c.if-is_name.ensures))
-    (goes_read (taken 4) (list_visited c.args.extent found e.left e.size) _ _ own start
-    c.in_ok-own.ensures) in
-    goes_given (head, None) (goes_read (header_read c.args.extent found e.size) header_next _ _ head
-    here c.in_ok-found.ensures.answer)
+    let named = header_named c.args.extent found e.left e.size c.in_ok-own.own
+    (sym c.if-is_name.ensures) in
+    answers_ok (answers_same (list_read c.args.extent found e (sym c.if-not-is_name.ensures))
+    (answers_next _ c.in_ok-own.ensures (answers_same named
+    (answers_next _ c.in_ok-found.ensures.answer answers_given))))
 
 pub returns-then-is_name-2-clause-answer : goal.returns-then-is_name-2-clause-answer
 returns-then-is_name-2-clause-answer g c =
     let e = c.args.entry in
-    let own = c.in_ok-own.own in
-    let bytes = c.args.config.now.items in
-    let found = headers_with c.args.found bytes in
-    let start = goes_same _ (taken 4 >>= list_visited c.args.extent found e.left e.size)
-    (list_read c.args.extent found e (sym c.if-not-is_name.ensures))
-    (goes_none (visit_top c.args.extent found e) (g.R.ByteIn.remaining c.args.input.now)
-    (g.R.ByteIn.failures c.args.input.now)) in
-    let here = goes_same _ (movi_reached c.args.extent found e.left e.size found.head)
-    (movi_named c.args.extent found e.left e.size own (sym c.if-is_name.ensures)
-    (sym c.if-is_name-2.ensures)) (goes_read (taken 4)
-    (list_visited c.args.extent found e.left e.size) _ _ own start c.in_ok-own.ensures) in
-    goes_last (movi_reached c.args.extent found e.left e.size found.head)
-    (λ (t : Top). top_with t bytes) _ _ c.reach_movi.result here
-    (c.reach_movi.ensures bytes _ _)
+    let found = headers_with c.args.found c.args.config.now.items in
+    let named = movi_named c.args.extent found e.left e.size c.in_ok-own.own
+    (sym c.if-is_name.ensures) (sym c.if-is_name-2.ensures) in
+    answers_of _ _ _ _ (answers_same (list_read c.args.extent found e
+    (sym c.if-not-is_name.ensures)) (answers_next _ c.in_ok-own.ensures
+    (answers_same named (answers_tail _ _ _ _
+    (c.reach_movi.ensures c.args.config.now.items _ _)))))
 
 pub returns-in_err-pass-2-clause-answer : goal.returns-in_err-pass-2-clause-answer
 returns-in_err-pass-2-clause-answer g c =
-    let p = err_from_is_err_and c.from_residual-in_err-pass-2.result
-    c.from_residual-in_err-pass-2.ensures.1 in
     let e = c.args.entry in
-    let own = c.in_ok-own.own in
     let found = headers_with c.args.found c.args.config.now.items in
-    let start = goes_same _ (taken 4 >>= list_visited c.args.extent found e.left e.size)
-    (list_read c.args.extent found e (sym c.if-not-is_name.ensures))
-    (goes_none (visit_top c.args.extent found e) (g.R.ByteIn.remaining c.args.input.now)
-    (g.R.ByteIn.failures c.args.input.now)) in
-    let here = goes_same _ (list_skipped {Y = Head × Place} found e.size)
-    (other_named c.args.extent found e.left e.size own (sym c.if-is_name.ensures)
-    (sym c.if-is_name-2.ensures)) (goes_read (taken 4)
-    (list_visited c.args.extent found e.left e.size) _ _ own start c.in_ok-own.ensures) in
-    rw (p.1, p.2) (goes_refused (passed (padded e.size - 4)) (λ _. given (found, None)) _ _
-    c.in_err-pass-2.field-0.0 here (rw c.padded-2.ensures at c.in_err-pass-2.ensures))
+    let named = other_named c.args.extent found e.left e.size c.in_ok-own.own
+    (sym c.if-is_name.ensures) (sym c.if-is_name-2.ensures) in
+    answers_err _ _ _ _ c.from_residual-in_err-pass-2.ensures.1
+    (answers_same (list_read c.args.extent found e (sym c.if-not-is_name.ensures))
+    (answers_next _ c.in_ok-own.ensures (answers_same named
+    (answers_first _ _ (rw c.padded-2.ensures at c.in_err-pass-2.ensures)))))
 
 pub returns-clause-answer : goal.returns-clause-answer
 returns-clause-answer g c =
     let e = c.args.entry in
-    let own = c.in_ok-own.own in
     let found = headers_with c.args.found c.args.config.now.items in
-    let start = goes_same _ (taken 4 >>= list_visited c.args.extent found e.left e.size)
-    (list_read c.args.extent found e (sym c.if-not-is_name.ensures))
-    (goes_none (visit_top c.args.extent found e) (g.R.ByteIn.remaining c.args.input.now)
-    (g.R.ByteIn.failures c.args.input.now)) in
-    let here = goes_same _ (list_skipped {Y = Head × Place} found e.size)
-    (other_named c.args.extent found e.left e.size own (sym c.if-is_name.ensures)
-    (sym c.if-is_name-2.ensures)) (goes_read (taken 4)
-    (list_visited c.args.extent found e.left e.size) _ _ own start c.in_ok-own.ensures) in
-    goes_given (found, None) (goes_read (passed (padded e.size - 4)) (λ _. given (found, None)) _ _
-    tt here (rw c.padded-2.ensures at c.in_ok-pass-2.ensures))
+    let named = other_named c.args.extent found e.left e.size c.in_ok-own.own
+    (sym c.if-is_name.ensures) (sym c.if-is_name-2.ensures) in
+    answers_ok (answers_same (list_read c.args.extent found e (sym c.if-not-is_name.ensures))
+    (answers_next _ c.in_ok-own.ensures (answers_same named
+    (answers_next _ (rw c.padded-2.ensures at c.in_ok-pass-2.ensures) answers_given))))
 
 pub returns-then-is_name-clause-grown : goal.returns-then-is_name-clause-grown
 returns-then-is_name-clause-grown g c = room_then (room_kept _ c.in_ok-own.ensures.1)

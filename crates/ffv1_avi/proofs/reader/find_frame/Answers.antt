@@ -1,64 +1,49 @@
 -- The size of the next frame, and the place after its header; None at the end.
-use Rattle.std.proofs.Common.{◌++◌, [], ℕ, Some, None, ◌∙◌, refl, sym}
+use Rattle.std.proofs.Common.{◌++◌, [], None, ◌∙◌, refl, sym}
 use Rattle.std.proofs.lemmas.Result.{err_from_is_err_and}
-use Rattle.ffv1_avi.specs.declared.place.Place.{Place}
 use Rattle.ffv1_avi.specs.Files.{found_or_on, frame_found, moved, movi_found, sought_on}
-use Rattle.ffv1_avi.specs.Places.{extent_of, frame_at}
+use Rattle.ffv1_avi.specs.Places.{extent_of}
 use Rattle.ffv1_reads.specs.Reads.{◌>>=◌}
 use Rattle.ffv1_avi.proofs.EndReadings.{none_ends, none_given, none_read, none_refused}
 use Rattle.ffv1_avi.proofs.EndReadings.{none_refused_end, read_extent, refused_extent, some_read}
 use Rattle.ffv1_avi.proofs.Moves.{frame_step, moved_less}
 use Rattle.ffv1_reads.proofs.Reading.{goes_none, goes_read, goes_same}
 use Rattle.ffv1_avi.proofs.RiffReadings.{reads_still, stops_then, up_to_then}
+use Rattle.ffv1_avi.proofs.EndReadings.{none_err}
 use Rattle.ffv1_avi.proofs.reader.find_frame.Goals as goal
 
 pub returns-in_err-size-clause-answer : goal.returns-in_err-size-clause-answer
-returns-in_err-size-clause-answer g c =
-    let p = err_from_is_err_and c.from_residual.result c.from_residual.ensures.1 in
-    let place = c.loop-size.place in
-    let start = goes_same _ (movi_found place.stream place.movi >>= found_or_on frame_found place)
-    (frame_step place) c.loop-size.invariant.0 in
-    rw (p.1, p.2) (none_refused (extent_of c.args.place) (movi_found place.stream place.movi)
-    (found_or_on frame_found place) _ _ c.in_err-size.field-0.0 start
-    c.in_err-size.ensures.answer)
+returns-in_err-size-clause-answer g c = none_err _ _ _ _ _ _ c.from_residual.ensures.1
+    (none_refused (extent_of c.args.place) _ _ _ _ _ (goes_same _ _
+    (frame_step c.loop-size.place) c.loop-size.invariant.0) c.in_err-size.ensures.answer)
 
 pub returns-in-Some-clause-answer : goal.returns-in-Some-clause-answer
-returns-in-Some-clause-answer g c =
-    let place = c.loop-size.place in
-    let found : ℕ × ℕ = (c.in-Some.size, c.in-Some.left) in
-    let start = goes_same _ (movi_found place.stream place.movi >>= found_or_on frame_found place)
-    (frame_step place) c.loop-size.invariant.0 in
-    let frame : ℕ × Place = (c.in-Some.size, frame_at place c.in-Some.left) in
-    rw c.frame_at.ensures (none_given (extent_of c.args.place) (Some frame)
-    (goes_read (movi_found place.stream place.movi) (found_or_on frame_found place) _ _
-    (Some found) start (rw c.in-Some.is at c.in_ok-size.ensures.answer)))
+returns-in-Some-clause-answer g c = rw c.frame_at.ensures (none_given (extent_of c.args.place) _
+    (goes_read _ _ _ _ _ (goes_same _ _ (frame_step c.loop-size.place) c.loop-size.invariant.0)
+    (rw c.in-Some.is at c.in_ok-size.ensures.answer)))
 
 pub returns-in_err-next-clause-answer : goal.returns-in_err-next-clause-answer
 returns-in_err-next-clause-answer g c =
-    let p = err_from_is_err_and c.from_residual-in_err-next.result
-    c.from_residual-in_err-next.ensures.1 in
     let place = c.loop-size.place in
-    let f = c.in_err-next.field-0.0 in
-    let start = goes_same _ (movi_found place.stream place.movi >>= found_or_on frame_found place)
-    (frame_step place) c.loop-size.invariant.0 in
-    let here = goes_read (movi_found place.stream place.movi) (found_or_on frame_found place) _ _
-    None start (rw c.in_default.is at c.in_ok-size.ensures.answer) in
-    rw (p.1, p.2) (none_refused_end (extent_of c.args.place) (moved place) (sought_on frame_found) _
-    _ f (λ text. refl) here (refused_extent (extent_of place) (extent_of c.args.place)
-    (moved place) _ _ _ _ f c.loop-size.invariant.1 c.in_err-next.ensures.answer))
+    let here = goes_read _ _ _ _ _ (goes_same _ _
+    (frame_step c.loop-size.place) c.loop-size.invariant.0)
+    (rw c.in_default.is at c.in_ok-size.ensures.answer) in
+    let why = refused_extent (extent_of place) (extent_of c.args.place)
+    (moved place) _ _ _ _ _ c.loop-size.invariant.1 c.in_err-next.ensures.answer in
+    none_err _ _ _ _ _ _ c.from_residual-in_err-next.ensures.1
+    (none_refused_end (extent_of c.args.place) _ _ _ _ _ (λ text. refl) here why)
 
 pub returns-in_default-2-clause-answer : goal.returns-in_default-2-clause-answer
 returns-in_default-2-clause-answer g c =
     let place = c.loop-size.place in
-    let start = goes_same _ (movi_found place.stream place.movi >>= found_or_on frame_found place)
-    (frame_step place) c.loop-size.invariant.0 in
-    let here = goes_read (movi_found place.stream place.movi) (found_or_on frame_found place) _ _
-    None start (rw c.in_default.is at c.in_ok-size.ensures.answer) in
+    let here = goes_read _ _ _ _ _ (goes_same _ _
+    (frame_step c.loop-size.place) c.loop-size.invariant.0)
+    (rw c.in_default.is at c.in_ok-size.ensures.answer) in
     let end = rw c.in_default-2.is at c.in_ok-next.ensures.answer in
-    none_ends (extent_of c.args.place) (moved place) (sought_on frame_found) _ _ (λ text. refl) here (
+    none_ends (extent_of c.args.place) _ _ _ _ (λ text. refl) here (
       end.0,
-      read_extent (extent_of place) (extent_of c.args.place) (moved place) _ _ None
-          c.loop-size.invariant.1 end.1,
+      read_extent (extent_of place) (extent_of c.args.place)
+          (moved place) _ _ None c.loop-size.invariant.1 end.1,
     )
 
 pub loop-size-smaller : goal.loop-size-smaller

@@ -1,10 +1,7 @@
 -- The size of a stream's next frame, and what movi has left after it; None at its end.
-use Rattle.std.proofs.Common.{ℕ, Option, Some, None}
 use Rattle.std.proofs.lemmas.Result.{err_from_is_err_and}
-use Rattle.ffv1_avi.specs.Files.{visit_movi}
-use Rattle.ffv1_reads.specs.Reads.{Reading, given}
-use Rattle.ffv1_reads.proofs.Reading.{goes_given, goes_read, goes_refused}
-use Rattle.ffv1_avi.proofs.ChunkByChunk.{behind_chunk, goes_end, goes_entry, goes_no_entry}
+use Rattle.ffv1_reads.proofs.Reading.{goes_read}
+use Rattle.ffv1_avi.proofs.ChunkByChunk.{goes_entry}
 use Rattle.std.proofs.Common.{◌-◌, ◌^◌, ◌∙◌}
 use Rattle.ffv1_reads.proofs.OffsetLaws.{counts_more, reads_none, stops_after}
 use Rattle.ffv1_reads.proofs.Reading.{goes_none}
@@ -13,51 +10,36 @@ use Rattle.ffv1_avi.specs.Offsets.{chunk_taken, movi_left}
 use Rattle.ffv1_avi.specs.Padding.{padded}
 use Rattle.ffv1_avi.proofs.ChunkReadings.{chunk_passed, entry_end, entry_refused, counts_none}
 use Rattle.ffv1_avi.proofs.ChunkReadings.{one_more, still, visit_refused}
+use Rattle.ffv1_reads.proofs.Answered.{answers_err, answers_first, answers_given}
+use Rattle.ffv1_reads.proofs.Answered.{answers_next, answers_ok}
+use Rattle.ffv1_avi.proofs.ChunkByChunk.{answers_end, answers_entry, answers_no_entry}
 use Rattle.ffv1_avi.proofs.reader.find_in_movi.Goals as goal
 
-abbrev found : Unit {0} × Option (ℕ × ℕ) → Reading (Option (ℕ × ℕ))
-found p = given p.1
-
 pub returns-in_err-entry-clause-answer : goal.returns-in_err-entry-clause-answer
-returns-in_err-entry-clause-answer g c =
-    let p = err_from_is_err_and c.from_residual.result c.from_residual.ensures.1 in
-    rw (p.1, p.2) (goes_no_entry (visit_movi c.args.place.stream) c.loop-entry.left tt found _ _
-    c.in_err-entry.field-0.0 c.loop-entry.invariant.0 c.in_err-entry.ensures.answer)
+returns-in_err-entry-clause-answer g c = answers_err _ _ _ _ c.from_residual.ensures.1
+    (answers_no_entry _ _ _ _ c.loop-entry.invariant.0 c.in_err-entry.ensures.answer)
 
 pub returns-in_err-size-clause-answer : goal.returns-in_err-size-clause-answer
-returns-in_err-size-clause-answer g c =
-    let p = err_from_is_err_and c.from_residual-in_err-size.result
-    c.from_residual-in_err-size.ensures.1 in
-    let e = c.in-Some.entry in
-    let here = goes_entry (visit_movi c.args.place.stream) c.loop-entry.left tt found _ _ e
-    c.loop-entry.invariant.0 (rw c.in-Some.is at c.in_ok-entry.ensures.answer) in
-    rw (p.1, p.2) (goes_refused (visit_movi c.args.place.stream tt e)
-    (behind_chunk (visit_movi c.args.place.stream) e.left found) _ _ c.in_err-size.field-0.0
-    here c.in_err-size.ensures.answer)
+returns-in_err-size-clause-answer g c = answers_err _ _ _ _ c.from_residual-in_err-size.ensures.1
+    (answers_entry _ _ _ _ c.loop-entry.invariant.0
+    (rw c.in-Some.is at c.in_ok-entry.ensures.answer)
+    (answers_first _ _ c.in_err-size.ensures.answer))
 
 pub returns-in-Some-2-clause-answer : goal.returns-in-Some-2-clause-answer
-returns-in-Some-2-clause-answer g c =
-    let e = c.in-Some.entry in
-    let here = goes_entry (visit_movi c.args.place.stream) c.loop-entry.left tt found _ _ e
-    c.loop-entry.invariant.0 (rw c.in-Some.is at c.in_ok-entry.ensures.answer) in
-    goes_given (Some (c.in-Some-2.size, e.left))
-    (goes_read (visit_movi c.args.place.stream tt e)
-    (behind_chunk (visit_movi c.args.place.stream) e.left found) _ _
-    (tt, Some (c.in-Some-2.size, e.left)) here
-    (rw c.in-Some-2.is at c.in_ok-size.ensures.answer))
+returns-in-Some-2-clause-answer g c = answers_ok (answers_entry _ _ _ _ c.loop-entry.invariant.0
+    (rw c.in-Some.is at c.in_ok-entry.ensures.answer) (answers_next _
+    (rw c.in-Some-2.is at c.in_ok-size.ensures.answer) answers_given))
 
 pub loop-entry-preserved : goal.loop-entry-preserved
 loop-entry-preserved g c =
     let e = c.in-Some.entry in
-    let here = goes_entry (visit_movi c.args.place.stream) c.loop-entry.left tt found _ _ e
-    c.loop-entry.invariant.0 (rw c.in-Some.is at c.in_ok-entry.ensures.answer) in
+    let here = goes_entry _ _ _ _ _ _ e c.loop-entry.invariant.0
+    (rw c.in-Some.is at c.in_ok-entry.ensures.answer) in
     let inv = c.loop-entry.invariant in
     let now = movi_left c.args.place c.loop-entry.left in
     let header = (rw c.in-Some.is at c.in_ok-entry.ensures.answer).1 in
     let visit = (rw c.in_default-2.is at c.in_ok-size.ensures.answer).1 in (
-      goes_read (visit_movi c.args.place.stream tt e)
-          (behind_chunk (visit_movi c.args.place.stream) e.left found) _ _ (tt, None) here
-          (rw c.in_default-2.is at c.in_ok-size.ensures.answer),
+      goes_read _ _ _ _ _ here (rw c.in_default-2.is at c.in_ok-size.ensures.answer),
       (
         _,
         counts_more inv.1.1 (chunk_passed now e header visit),
@@ -67,9 +49,8 @@ loop-entry-preserved g c =
     )
 
 pub returns-clause-answer : goal.returns-clause-answer
-returns-clause-answer g c =
-    goes_given None (goes_end (visit_movi c.args.place.stream) c.loop-entry.left tt found _ _
-    c.loop-entry.invariant.0 (rw c.in_default.is at c.in_ok-entry.ensures.answer))
+returns-clause-answer g c = answers_ok (answers_end _ _ _ _ c.loop-entry.invariant.0
+    (rw c.in_default.is at c.in_ok-entry.ensures.answer) answers_given)
 
 pub loop-entry-init : goal.loop-entry-init
 unfolding movi_found

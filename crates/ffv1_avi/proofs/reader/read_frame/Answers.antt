@@ -17,6 +17,7 @@ use Rattle.ffv1_reads.proofs.Reading.{goes_none, goes_read, goes_same}
 use Rattle.ffv1_reads.proofs.Results.{read_on_twice}
 use Rattle.ffv1_avi.proofs.ChunkReadings.{fill_refused, pad_refused}
 use Rattle.ffv1_avi.proofs.RiffReadings.{frame_next, stops_here, stops_then}
+use Rattle.ffv1_avi.proofs.EndReadings.{none_err}
 use Rattle.ffv1_avi.proofs.reader.read_frame.Goals as goal
 
 abbrev framed : Place → List ℕ → Reading (Option (List ℕ × Place))
@@ -68,38 +69,23 @@ begins_all (Some text) (Some left) size bytes read =
     )
 
 pub returns-in_err-size-clause-answer : goal.returns-in_err-size-clause-answer
-returns-in_err-size-clause-answer g c =
-    let p = err_from_is_err_and c.from_residual.result c.from_residual.ensures.1 in
-    let place = c.args.place in
-    let start = goes_none (frame_read place) (g.R.ByteIn.remaining c.args.input.now)
-    (g.R.ByteIn.failures c.args.input.now) in
-    rw (p.1, p.2) (answers_by (extent_of place) _ (frame_read place) _ _
-    (none_refused_end (extent_of place) (frame_found place) found_read _ _
-    c.in_err-size.field-0.0 (λ text. refl) start c.in_err-size.ensures.answer))
+returns-in_err-size-clause-answer g c = answers_by (extent_of c.args.place) _
+    (frame_read c.args.place) _ _ (none_err _ _ _ _ _ _ c.from_residual.ensures.1
+    (none_refused_end (extent_of c.args.place) _ _ _ _ _ (λ text. refl)
+    (goes_none _ _ _) c.in_err-size.ensures.answer))
 
 pub returns-in_default-clause-answer : goal.returns-in_default-clause-answer
-returns-in_default-clause-answer g c =
-    let place = c.args.place in
-    let start = goes_none (frame_read place) (g.R.ByteIn.remaining c.args.input.now)
-    (g.R.ByteIn.failures c.args.input.now) in
-    answers_by (extent_of place) _ (frame_read place) _ _
-    (none_ends (extent_of place) (frame_found place) found_read _ _ (λ text. refl) start
-    (rw c.in_default.is at c.in_ok-size.ensures.answer))
+returns-in_default-clause-answer g c = answers_by (extent_of c.args.place) _
+    (frame_read c.args.place) _ _ (none_ends (extent_of c.args.place) _ _ _ _ (λ text. refl)
+    (goes_none _ _ _) (rw c.in_default.is at c.in_ok-size.ensures.answer))
 
 pub returns-in_err-fill-clause-answer : goal.returns-in_err-fill-clause-answer
-returns-in_err-fill-clause-answer g c =
-    let p = err_from_is_err_and c.from_residual-in_err-fill.result
-    c.from_residual-in_err-fill.ensures.1 in
-    let size = c.in-Some.size in
-    let after = c.in-Some.after in
-    let start = goes_none (frame_read c.args.place) (g.R.ByteIn.remaining c.args.input.now)
-    (g.R.ByteIn.failures c.args.input.now) in
-    let found = none_read (extent_of c.args.place) (frame_found c.args.place) found_read _ _
-    (size, after) start (rw c.in-Some.is at c.in_ok-size.ensures.answer) in
-    let here = goes_same _ (wanted Kept size >>= rest size after) (found_twice size after) found in
-    rw (p.1, p.2) (answers_by (extent_of c.args.place) _ (frame_read c.args.place) _ _
-    (none_refused (extent_of c.args.place) (wanted Kept size) (rest size after) _ _
-    c.in_err-fill.field-0.0 here c.in_err-fill.ensures.answer))
+returns-in_err-fill-clause-answer g c = answers_by (extent_of c.args.place) _
+    (frame_read c.args.place) _ _ (none_err _ _ _ _ _ _ c.from_residual-in_err-fill.ensures.1
+    (none_refused (extent_of c.args.place) _ _ _ _ _ (goes_same _ _
+    (found_twice c.in-Some.size c.in-Some.after) (none_read (extent_of c.args.place) _ _ _ _ _
+    (goes_none _ _ _) (rw c.in-Some.is at c.in_ok-size.ensures.answer)))
+    c.in_err-fill.ensures.answer))
 
 pub returns-in_err-fill-clause-err : goal.returns-in_err-fill-clause-err
 returns-in_err-fill-clause-err g c =
@@ -112,23 +98,13 @@ returns-in_err-fill-clause-err g c =
     c.in_err-fill.ensures.err)
 
 pub returns-in_err-pass-clause-answer : goal.returns-in_err-pass-clause-answer
-returns-in_err-pass-clause-answer g c =
-    let p = err_from_is_err_and c.from_residual-in_err-pass.result
-    c.from_residual-in_err-pass.ensures.1 in
-    let size = c.in-Some.size in
-    let after = c.in-Some.after in
-    let bytes = c.fill.new.bytes.items in
-    let start = goes_none (frame_read c.args.place) (g.R.ByteIn.remaining c.args.input.now)
-    (g.R.ByteIn.failures c.args.input.now) in
-    let found = none_read (extent_of c.args.place) (frame_found c.args.place) found_read _ _
-    (size, after) start (rw c.in-Some.is at c.in_ok-size.ensures.answer) in
-    let here = goes_same _ (wanted Kept size >>= rest size after) (found_twice size after) found in
-    let next = goes_same _ (last size after bytes) (rest_twice size after bytes)
-    (goes_read (wanted Kept size) (rest size after) _ _ bytes here
-    c.in_ok-fill.ensures.answer) in
-    rw (p.1, p.2) (answers_by (extent_of c.args.place) _ (frame_read c.args.place) _ _
-    (none_refused (extent_of c.args.place) (passed (size % 2))
-    (λ _. given (Some (bytes, after))) _ _ c.in_err-pass.field-0.0 next
+returns-in_err-pass-clause-answer g c = answers_by (extent_of c.args.place) _
+    (frame_read c.args.place) _ _ (none_err _ _ _ _ _ _ c.from_residual-in_err-pass.ensures.1
+    (none_refused (extent_of c.args.place) _ _ _ _ _ (goes_same _ _
+    (rest_twice c.in-Some.size c.in-Some.after c.fill.new.bytes.items)
+    (goes_read _ _ _ _ _ (goes_same _ _ (found_twice c.in-Some.size c.in-Some.after)
+    (none_read (extent_of c.args.place) _ _ _ _ _ (goes_none _ _ _)
+    (rw c.in-Some.is at c.in_ok-size.ensures.answer))) c.in_ok-fill.ensures.answer))
     (rw c.from.ensures at c.in_err-pass.ensures)))
 
 pub returns-in_err-pass-clause-err : goal.returns-in_err-pass-clause-err
@@ -142,21 +118,12 @@ returns-in_err-pass-clause-err g c =
     (begins_all _ _ c.in-Some.size c.fill.new.bytes.items c.in_ok-fill.ensures.answer.1))
 
 pub returns-clause-answer : goal.returns-clause-answer
-returns-clause-answer g c =
-    let size = c.in-Some.size in
-    let after = c.in-Some.after in
-    let bytes = c.fill.new.bytes.items in
-    let start = goes_none (frame_read c.args.place) (g.R.ByteIn.remaining c.args.input.now)
-    (g.R.ByteIn.failures c.args.input.now) in
-    let found = none_read (extent_of c.args.place) (frame_found c.args.place) found_read _ _
-    (size, after) start (rw c.in-Some.is at c.in_ok-size.ensures.answer) in
-    let here = goes_same _ (wanted Kept size >>= rest size after) (found_twice size after) found in
-    let next = goes_same _ (last size after bytes) (rest_twice size after bytes)
-    (goes_read (wanted Kept size) (rest size after) _ _ bytes here
-    c.in_ok-fill.ensures.answer) in
-    answers_by (extent_of c.args.place) _ (frame_read c.args.place) _ _
-    (none_given (extent_of c.args.place) (Some (bytes, after))
-    (goes_read (passed (size % 2)) (λ _. given (Some (bytes, after))) _ _ tt next
+returns-clause-answer g c = answers_by (extent_of c.args.place) _ (frame_read c.args.place) _ _
+    (none_given (extent_of c.args.place) _ (goes_read _ _ _ _ _
+    (goes_same _ _ (rest_twice c.in-Some.size c.in-Some.after c.fill.new.bytes.items)
+    (goes_read _ _ _ _ _ (goes_same _ _ (found_twice c.in-Some.size c.in-Some.after)
+    (none_read (extent_of c.args.place) _ _ _ _ _ (goes_none _ _ _)
+    (rw c.in-Some.is at c.in_ok-size.ensures.answer))) c.in_ok-fill.ensures.answer))
     (rw c.from.ensures at c.in_ok-pass.ensures)))
 
 pub returns-clause-less : goal.returns-clause-less

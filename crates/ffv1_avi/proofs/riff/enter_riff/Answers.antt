@@ -7,11 +7,10 @@ use Rattle.byteorder.specs.Endian.{little_number}
 use Rattle.ffv1_reads.specs.declared.fault.FileFault.TheVariants as fault
 use Rattle.ffv1_avi.specs.declared.place.Place.{Place}
 use Rattle.ffv1_avi.specs.Files.{riff_judged}
-use Rattle.ffv1_reads.specs.Reads.{Looked, refused, taken, ◌>>=◌}
+use Rattle.ffv1_reads.specs.Reads.{Looked, refused}
 use Rattle.ffv1_avi.specs.Walk.{is_name}
 use Rattle.ffv1_reads.proofs.WantedBytes.{wanted_sound}
-use Rattle.ffv1_reads.proofs.Reading.{faults_here, goes_fault, goes_none, goes_read, goes_same}
-use Rattle.std.proofs.Common.{Option}
+use Rattle.ffv1_reads.proofs.Answered.{answers_fault, answers_next, answers_refused, answers_same}
 use Rattle.ffv1_avi.proofs.riff.enter_riff.Goals as goal
 
 too_far : (place : Place) (head : List ℕ) → is_name (drop 4 head) (codes "AVIX") ≡ true → 4 ≤
@@ -38,8 +37,5 @@ returns-then-place-whole g c =
     let room : 4 ≤ little_number 4 head = omega (arith, size, c.if-size-lt4.false) in
     let far : place.input ≤ 8 + little_number 4 head =
     omega (arith, size, c.from-whole.ensures, c.if-place-whole.true) in
-    let start = goes_none (taken 8 >>= riff_judged place) (g.R.ByteIn.remaining c.args.input.now)
-    (g.R.ByteIn.failures c.args.input.now) in
-    let here = goes_same _ (refused fault.Truncated) (too_far place head named room far)
-    (goes_read (taken 8) (riff_judged place) _ _ head start c.in_ok-take.ensures) in
-    goes_fault fault.Truncated here (refl, inr (faults_here (Option Place) fault.Truncated _))
+    answers_fault fault.Truncated _ (answers_next _ c.in_ok-take.ensures
+    (answers_same (too_far place head named room far) (answers_refused _ (inr refl))))

@@ -1,15 +1,16 @@
 -- Where frames are sought next after the end of a movi; None at the end.
-use Rattle.std.proofs.Common.{◌<◌, ℕ, [], Option, Some, None, inl, refl, arith}
+use Rattle.std.proofs.Common.{◌<◌, [], Option, None, inl, refl, arith}
 use Rattle.std.proofs.lemmas.Result.{err_from_is_err_and}
 use Rattle.ffv1_avi.specs.declared.place.Extent.TheVariants.{EveryRiff}
 use Rattle.ffv1_avi.specs.declared.place.Place.{Place}
 use Rattle.ffv1_avi.specs.Files.{moved, movi_or_riff, movi_sought, riff_begun}
-use Rattle.ffv1_avi.specs.Places.{extent_of, movi_at}
+use Rattle.ffv1_avi.specs.Places.{extent_of}
 use Rattle.ffv1_reads.specs.Reads.{◌>>=◌}
 use Rattle.ffv1_avi.proofs.EndReadings.{none_given, none_last, none_refused}
 use Rattle.ffv1_avi.proofs.Moves.{extent_every, moved_every, moved_first}
 use Rattle.ffv1_avi.proofs.RiffReadings.{moves_then}
 use Rattle.ffv1_reads.proofs.Reading.{consumes_none, goes_none, goes_read, goes_same}
+use Rattle.ffv1_avi.proofs.EndReadings.{none_err}
 use Rattle.ffv1_avi.proofs.riff.move_on.Goals as goal
 
 pub returns-then-place-eq0-clause-answer : goal.returns-then-place-eq0-clause-answer
@@ -25,15 +26,9 @@ returns-then-place-eq0-clause-answer g c = (
 )
 
 pub returns-in_err-movi-clause-answer : goal.returns-in_err-movi-clause-answer
-returns-in_err-movi-clause-answer g c =
-    let p = err_from_is_err_and c.from_residual.result c.from_residual.ensures.1 in
-    let place = c.args.place in
-    let start = goes_same _ (movi_sought place.riff >>= movi_or_riff place)
-    (moved_every place c.if-place-eq0.false)
-    (goes_none (moved place) (g.R.ByteIn.remaining c.args.input.now)
-    (g.R.ByteIn.failures c.args.input.now)) in
-    rw (p.1, p.2) (none_refused (extent_of place) (movi_sought place.riff) (movi_or_riff place) _ _
-    c.in_err-movi.field-0.0 start c.in_err-movi.ensures.answer)
+returns-in_err-movi-clause-answer g c = none_err _ _ _ _ _ _ c.from_residual.ensures.1
+    (none_refused (extent_of c.args.place) _ _ _ _ _ (goes_same _ _
+    (moved_every c.args.place c.if-place-eq0.false) (goes_none _ _ _)) c.in_err-movi.ensures.answer)
 
 pub returns-in_default-clause-answer : goal.returns-in_default-clause-answer
 returns-in_default-clause-answer g c =
@@ -49,16 +44,9 @@ returns-in_default-clause-answer g c =
     here c.count_riff.ensures.answer)
 
 pub returns-clause-answer : goal.returns-clause-answer
-returns-clause-answer g c =
-    let place = c.args.place in
-    let movi : ℕ × ℕ = (c.in-Some.movi, c.in-Some.riff) in
-    let start = goes_same _ (movi_sought place.riff >>= movi_or_riff place)
-    (moved_every place c.if-place-eq0.false)
-    (goes_none (moved place) (g.R.ByteIn.remaining c.args.input.now)
-    (g.R.ByteIn.failures c.args.input.now)) in
-    none_given (extent_of place) (Some (movi_at place movi))
-    (goes_read (movi_sought place.riff) (movi_or_riff place) _ _ (Some movi) start
-    (rw c.in-Some.is at c.in_ok-movi.ensures.answer))
+returns-clause-answer g c = none_given (extent_of c.args.place) _
+    (goes_read _ _ _ _ _ (goes_same _ _ (moved_every c.args.place c.if-place-eq0.false)
+    (goes_none _ _ _)) (rw c.in-Some.is at c.in_ok-movi.ensures.answer))
 
 pub returns-in_err-movi-clause-from : goal.returns-in_err-movi-clause-from
 returns-in_err-movi-clause-from g c =

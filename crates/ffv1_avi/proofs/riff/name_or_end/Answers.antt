@@ -2,7 +2,6 @@
 use Rattle.std.proofs.Common.{◌≡◌, ◌<◌, ◌≤◌, ◌++◌, ◌∷◌, [], ℕ, List, Option, Some, None, suc, zero}
 use Rattle.std.proofs.Common.{length, slice_index_or, inl, inr, refl, arith}
 use Rattle.std.proofs.lemmas.Bool.{cases_lt, lt-ltb, le-ltb}
-use Rattle.std.proofs.lemmas.Result.{err_from_is_err_and}
 use Rattle.ffv1_avi.specs.declared.place.Extent.TheVariants.{EveryRiff}
 use Rattle.ffv1_avi.specs.Files.{name_or_end}
 use Rattle.ffv1_avi.specs.Internal.Ending.{byte_or_end}
@@ -11,6 +10,7 @@ use Rattle.ffv1_avi.proofs.EndReadings.{none_ends, none_given, none_read, none_r
 use Rattle.ffv1_avi.proofs.EndReadings.{none_refused_end}
 use Rattle.ffv1_reads.proofs.WantedBytes.{wanted_sound}
 use Rattle.ffv1_reads.proofs.Reading.{goes_none, goes_read, goes_same}
+use Rattle.ffv1_avi.proofs.EndReadings.{none_err}
 use Rattle.ffv1_avi.proofs.riff.name_or_end.Goals as goal
 
 abbrev named : List ℕ → Reading (Option (List ℕ))
@@ -57,64 +57,35 @@ three (a ∷ b ∷ []) long = absurd (omega (arith, long))
 three (a ∷ b ∷ c ∷ d ∷ more) long = absurd (omega (arith, long))
 
 pub returns-in_err-own_name : goal.returns-in_err-own_name
-returns-in_err-own_name g c =
-    let p = err_from_is_err_and c.from_residual.result c.from_residual.ensures.1 in
-    let start = goes_same _ (taken 4 >>= named) (owed_name c.args.owed c.if-owed-gt0.true)
-    (goes_none (name_or_end c.args.owed) (g.R.ByteIn.remaining c.args.input.now)
-    (g.R.ByteIn.failures c.args.input.now)) in
-    rw (p.1, p.2) (none_refused EveryRiff (taken 4) named _ _ c.in_err-own_name.field-0.0 start
-    c.in_err-own_name.ensures)
+returns-in_err-own_name g c = none_err EveryRiff _ _ _ _ _ c.from_residual.ensures.1
+    (none_refused EveryRiff _ _ _ _ _ (goes_same _ _ (owed_name _ c.if-owed-gt0.true)
+    (goes_none _ _ _)) c.in_err-own_name.ensures)
 
 pub returns-then-owed-gt0 : goal.returns-then-owed-gt0
-returns-then-owed-gt0 g c =
-    let name = c.in_ok-own_name.field-0 in
-    let start = goes_same _ (taken 4 >>= named) (owed_name c.args.owed c.if-owed-gt0.true)
-    (goes_none (name_or_end c.args.owed) (g.R.ByteIn.remaining c.args.input.now)
-    (g.R.ByteIn.failures c.args.input.now)) in
-    none_given EveryRiff (Some name) (goes_read (taken 4) named _ _ name start
-    c.in_ok-own_name.ensures)
+returns-then-owed-gt0 g c = none_given EveryRiff _ (goes_read _ _ _ _ _ (goes_same _ _
+    (owed_name _ c.if-owed-gt0.true) (goes_none _ _ _)) c.in_ok-own_name.ensures)
 
 pub returns-in_err-first : goal.returns-in_err-first
-returns-in_err-first g c =
-    let p = err_from_is_err_and c.from_residual-in_err-first.result
-    c.from_residual-in_err-first.ensures.1 in
-    let start = goes_same _ (byte_or_end >>= first_of) (first_name c.args.owed (omega arith))
-    (goes_none (name_or_end c.args.owed) (g.R.ByteIn.remaining c.args.input.now)
-    (g.R.ByteIn.failures c.args.input.now)) in
-    rw (p.1, p.2) (none_refused_end EveryRiff byte_or_end first_of _ _ c.in_err-first.field-0.0
-    (λ text. refl) start c.in_err-first.ensures)
+returns-in_err-first g c = none_err EveryRiff _ _ _ _ _ c.from_residual-in_err-first.ensures.1
+    (none_refused_end EveryRiff _ _ _ _ _ (λ text. refl) (goes_same _ _ (first_name c.args.owed
+    (omega arith)) (goes_none _ _ _)) c.in_err-first.ensures)
 
 pub returns-in_default : goal.returns-in_default
-returns-in_default g c =
-    let start = goes_same _ (byte_or_end >>= first_of) (first_name c.args.owed (omega arith))
-    (goes_none (name_or_end c.args.owed) (g.R.ByteIn.remaining c.args.input.now)
-    (g.R.ByteIn.failures c.args.input.now)) in
-    none_ends EveryRiff byte_or_end first_of _ _ (λ text. refl) start
+returns-in_default g c = none_ends EveryRiff _ _ _ _ (λ text. refl)
+    (goes_same _ _ (first_name c.args.owed (omega arith)) (goes_none _ _ _))
     (rw c.in_default.is at c.in_ok-first.ensures)
 
 pub returns-in_err-take : goal.returns-in_err-take
-returns-in_err-take g c =
-    let p = err_from_is_err_and c.from_residual-in_err-take.result
-    c.from_residual-in_err-take.ensures.1 in
-    let b = c.in-Some.first in
-    let start = goes_same _ (byte_or_end >>= first_of) (first_name c.args.owed (omega arith))
-    (goes_none (name_or_end c.args.owed) (g.R.ByteIn.remaining c.args.input.now)
-    (g.R.ByteIn.failures c.args.input.now)) in
-    let here = none_read EveryRiff byte_or_end first_of _ _ b start
-    (rw c.in-Some.is at c.in_ok-first.ensures) in
-    rw (p.1, p.2) (none_refused EveryRiff (taken 3) (others_of b) _ _ c.in_err-take.field-0.0 here
-    c.in_err-take.ensures)
+returns-in_err-take g c = none_err EveryRiff _ _ _ _ _ c.from_residual-in_err-take.ensures.1
+    (none_refused EveryRiff _ _ _ _ _ (none_read EveryRiff _ _ _ _ _
+    (goes_same _ _ (first_name c.args.owed (omega arith)) (goes_none _ _ _))
+    (rw c.in-Some.is at c.in_ok-first.ensures)) c.in_err-take.ensures)
 
 pub returns : goal.returns
 returns g c =
-    let b = c.in-Some.first in
     let others = c.take.new.buf in
     let long : length others ≡ 3 = (wanted_sound Looked 3 (c.in_ok-take.ensures.1.bytes ++ [])
     (others, []) (c.in_ok-take.ensures.1.is [])).1 in
-    let start = goes_same _ (byte_or_end >>= first_of) (first_name c.args.owed (omega arith))
-    (goes_none (name_or_end c.args.owed) (g.R.ByteIn.remaining c.args.input.now)
-    (g.R.ByteIn.failures c.args.input.now)) in
-    let here = none_read EveryRiff byte_or_end first_of _ _ b start
-    (rw c.in-Some.is at c.in_ok-first.ensures) in
-    rw (← three others long) (none_given EveryRiff (Some (b ∷ others))
-    (goes_read (taken 3) (others_of b) _ _ others here c.in_ok-take.ensures))
+    rw (← three others long) (none_given EveryRiff _ (goes_read _ _ _ _ _
+    (none_read EveryRiff _ _ _ _ _ (goes_same _ _ (first_name c.args.owed (omega arith))
+    (goes_none _ _ _)) (rw c.in-Some.is at c.in_ok-first.ensures)) c.in_ok-take.ensures))

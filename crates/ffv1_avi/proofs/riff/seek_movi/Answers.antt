@@ -1,17 +1,15 @@
 -- The bytes of the next movi of RIFF, and what that has left after it; None at its end.
-use Rattle.std.proofs.Common.{ℕ, Option, Some, None}
 use Rattle.std.proofs.lemmas.Result.{err_from_is_err_and}
-use Rattle.ffv1_avi.specs.Files.{movi_sought, visit_riff}
-use Rattle.ffv1_reads.specs.Reads.{Reading, given}
-use Rattle.ffv1_reads.proofs.Reading.{goes_given, goes_none, goes_read, goes_refused}
-use Rattle.ffv1_avi.proofs.ChunkByChunk.{behind_chunk, goes_end, goes_entry, goes_no_entry}
+use Rattle.ffv1_avi.specs.Files.{movi_sought}
+use Rattle.ffv1_reads.proofs.Reading.{goes_none, goes_read}
+use Rattle.ffv1_avi.proofs.ChunkByChunk.{goes_entry}
 use Rattle.ffv1_avi.proofs.ChunkReadings.{entry_end, still}
 use Rattle.ffv1_avi.proofs.RiffReadings.{movi_next, passed_next, reads_still, riff_entry_refused}
 use Rattle.ffv1_avi.proofs.RiffReadings.{riff_visit_refused, stops_here, stops_then}
+use Rattle.ffv1_reads.proofs.Answered.{answers_err, answers_first, answers_given}
+use Rattle.ffv1_reads.proofs.Answered.{answers_next, answers_ok}
+use Rattle.ffv1_avi.proofs.ChunkByChunk.{answers_end, answers_entry, answers_no_entry}
 use Rattle.ffv1_avi.proofs.riff.seek_movi.Goals as goal
-
-abbrev found : Unit {0} × Option (ℕ × ℕ) → Reading (Option (ℕ × ℕ))
-found p = given p.1
 
 pub loop-entry-init : goal.loop-entry-init
 unfolding movi_sought
@@ -23,48 +21,35 @@ loop-entry-init g c = (
 )
 
 pub returns-in_err-entry-clause-answer : goal.returns-in_err-entry-clause-answer
-returns-in_err-entry-clause-answer g c =
-    let p = err_from_is_err_and c.from_residual.result c.from_residual.ensures.1 in
-    rw (p.1, p.2) (goes_no_entry visit_riff c.loop-entry.left tt found _ _ c.in_err-entry.field-0.0
-    c.loop-entry.invariant.0 c.in_err-entry.ensures.answer)
+returns-in_err-entry-clause-answer g c = answers_err _ _ _ _ c.from_residual.ensures.1
+    (answers_no_entry _ _ _ _ c.loop-entry.invariant.0 c.in_err-entry.ensures.answer)
 
 pub returns-in_err-movi-clause-answer : goal.returns-in_err-movi-clause-answer
-returns-in_err-movi-clause-answer g c =
-    let p = err_from_is_err_and c.from_residual-in_err-movi.result
-    c.from_residual-in_err-movi.ensures.1 in
-    let e = c.in-Some.entry in
-    let here = goes_entry visit_riff c.loop-entry.left tt found _ _ e c.loop-entry.invariant.0
-    (rw c.in-Some.is at c.in_ok-entry.ensures.answer) in
-    rw (p.1, p.2) (goes_refused (visit_riff tt e) (behind_chunk visit_riff e.left found) _ _
-    c.in_err-movi.field-0.0 here c.in_err-movi.ensures)
+returns-in_err-movi-clause-answer g c = answers_err _ _ _ _ c.from_residual-in_err-movi.ensures.1
+    (answers_entry _ _ _ _ c.loop-entry.invariant.0
+    (rw c.in-Some.is at c.in_ok-entry.ensures.answer) (answers_first _ _ c.in_err-movi.ensures))
 
 pub returns-in-Some-2-clause-answer : goal.returns-in-Some-2-clause-answer
-returns-in-Some-2-clause-answer g c =
-    let e = c.in-Some.entry in
-    let here = goes_entry visit_riff c.loop-entry.left tt found _ _ e c.loop-entry.invariant.0
-    (rw c.in-Some.is at c.in_ok-entry.ensures.answer) in
-    goes_given (Some c.in-Some-2.movi) (goes_read (visit_riff tt e)
-    (behind_chunk visit_riff e.left found) _ _ (tt, Some c.in-Some-2.movi) here
-    (rw c.in-Some-2.is at c.in_ok-movi.ensures))
+returns-in-Some-2-clause-answer g c = answers_ok (answers_entry _ _ _ _ c.loop-entry.invariant.0
+    (rw c.in-Some.is at c.in_ok-entry.ensures.answer) (answers_next _
+    (rw c.in-Some-2.is at c.in_ok-movi.ensures) answers_given))
 
 pub loop-entry-preserved : goal.loop-entry-preserved
 loop-entry-preserved g c =
     let e = c.in-Some.entry in
-    let here = goes_entry visit_riff c.loop-entry.left tt found _ _ e c.loop-entry.invariant.0
+    let here = goes_entry _ _ _ _ _ _ e c.loop-entry.invariant.0
     (rw c.in-Some.is at c.in_ok-entry.ensures.answer) in
     let header = (rw c.in-Some.is at c.in_ok-entry.ensures.answer).1 in
     let visit = (rw c.in_default-2.is at c.in_ok-movi.ensures).1 in (
-      goes_read (visit_riff tt e) (behind_chunk visit_riff e.left found) _ _ (tt, None) here
-          (rw c.in_default-2.is at c.in_ok-movi.ensures),
+      goes_read _ _ _ _ _ here (rw c.in_default-2.is at c.in_ok-movi.ensures),
       λ more. passed_next c.args.place c.loop-entry.left e more
           (rw c.in-Some.is at c.in_ok-entry.ensures.listed) (c.loop-entry.invariant.1 more) header
           visit (rw c.padded.ensures at c.saturating_add-in-Some.ensures),
     )
 
 pub returns-clause-answer : goal.returns-clause-answer
-returns-clause-answer g c =
-    goes_given None (goes_end visit_riff c.loop-entry.left tt found _ _ c.loop-entry.invariant.0
-    (rw c.in_default.is at c.in_ok-entry.ensures.answer))
+returns-clause-answer g c = answers_ok (answers_end _ _ _ _ c.loop-entry.invariant.0
+    (rw c.in_default.is at c.in_ok-entry.ensures.answer) answers_given)
 
 pub returns-in_err-entry-clause-from : goal.returns-in_err-entry-clause-from
 returns-in_err-entry-clause-from g c =

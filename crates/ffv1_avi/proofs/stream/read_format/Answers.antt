@@ -1,165 +1,95 @@
 -- The width and the height of a stream's format of such a size, and its record in place of what the
 -- vector has, where it is FFV1.
-use Rattle.std.proofs.Common.{◌≡◌, ◌-◌, ◌∙◌, ap, sym, None, drop, arith}
+use Rattle.std.proofs.Common.{◌≡◌, ◌∙◌, ap, sym, drop, arith}
 use Rattle.std.proofs.lemmas.Grind.{common_steps}
 use Rattle.std.proofs.lemmas.Result.{err_from_is_err_and}
 use Rattle.byteorder.specs.Endian.{little_number}
-use Rattle.ffv1_reads.specs.Reads.{Kept, given, passed, taken, wanted, ◌>>=◌}
-use Rattle.ffv1_avi.specs.Padding.{padded}
-use Rattle.ffv1_avi.specs.Streams.{format_behind, format_in, format_rest, record_end}
+use Rattle.ffv1_reads.specs.Reads.{Kept}
+use Rattle.ffv1_avi.specs.Streams.{record_end}
 use Rattle.ffv1_avi.proofs.Contents.{format_long, format_right, format_short, format_wrong}
-use Rattle.ffv1_avi.proofs.Contents.{number_taken, record_rest}
-use Rattle.ffv1_reads.proofs.Reading.{goes_given, goes_none, goes_read, goes_refused, goes_same}
+use Rattle.ffv1_avi.proofs.Contents.{number_taken}
 use Rattle.ffv1_reads.proofs.Rooms.{room_filled, room_kept, room_then}
+use Rattle.ffv1_reads.proofs.Answered.{answers_err, answers_first, answers_given, answers_next}
+use Rattle.ffv1_reads.proofs.Answered.{answers_ok, answers_same}
+use Rattle.ffv1_avi.specs.declared.place.Extent.{Extent}
+use Rattle.std.proofs.Common.{ℕ, List}
 use Rattle.ffv1_avi.proofs.stream.read_format.Goals as goal
 
 pub returns-in_err-pass-clause-answer : goal.returns-in_err-pass-clause-answer
-returns-in_err-pass-clause-answer g c =
-    let p = err_from_is_err_and c.from_residual.result c.from_residual.ensures.1 in
-    let extent = c.args.extent in
-    let size = c.args.size in
-    let start = goes_same _ (passed (padded size) >>= λ _. given None)
-    (format_short extent size c.if-size-lt40.true)
-    (goes_none (format_in extent size) (g.R.ByteIn.remaining c.args.input.now)
-    (g.R.ByteIn.failures c.args.input.now)) in
-    rw (p.1, p.2) (goes_refused (passed (padded size)) (λ _. given None) _ _ c.in_err-pass.field-0.0
-    start (rw c.padded.ensures at c.in_err-pass.ensures))
+returns-in_err-pass-clause-answer g c = answers_err _ _ _ _ c.from_residual.ensures.1
+    (answers_same (format_short _ _ c.if-size-lt40.true) (answers_first _ _
+    (rw c.padded.ensures at c.in_err-pass.ensures)))
 
 pub returns-then-size-lt40-clause-answer : goal.returns-then-size-lt40-clause-answer
-returns-then-size-lt40-clause-answer g c =
-    let extent = c.args.extent in
-    let size = c.args.size in
-    let start = goes_same _ (passed (padded size) >>= λ _. given None)
-    (format_short extent size c.if-size-lt40.true)
-    (goes_none (format_in extent size) (g.R.ByteIn.remaining c.args.input.now)
-    (g.R.ByteIn.failures c.args.input.now)) in
-    goes_given None (goes_read (passed (padded size)) (λ _. given None) _ _ tt start
-    (rw c.padded.ensures at c.in_ok-pass.ensures))
+returns-then-size-lt40-clause-answer g c = answers_ok (answers_same
+    (format_short _ _ c.if-size-lt40.true) (answers_next _
+    (rw c.padded.ensures at c.in_ok-pass.ensures) answers_given))
 
 pub returns-in_err-take-clause-answer : goal.returns-in_err-take-clause-answer
-returns-in_err-take-clause-answer g c =
-    let p = err_from_is_err_and c.from_residual-in_err-take.result
-    c.from_residual-in_err-take.ensures.1 in
-    let extent = c.args.extent in
-    let size = c.args.size in
-    let start = goes_same _ (taken 40 >>= format_rest extent Kept size)
-    (format_long extent size c.if-size-lt40.false)
-    (goes_none (format_in extent size) (g.R.ByteIn.remaining c.args.input.now)
-    (g.R.ByteIn.failures c.args.input.now)) in
-    rw (p.1, p.2) (goes_refused (taken 40) (format_rest extent Kept size) _ _
-    c.in_err-take.field-0.0 start c.in_err-take.ensures)
+returns-in_err-take-clause-answer g c = answers_err _ _ _ _ c.from_residual-in_err-take.ensures.1
+    (answers_same (format_long _ _ c.if-size-lt40.false) (answers_first _ _ c.in_err-take.ensures))
 
 pub returns-in_err-pass-2-clause-answer : goal.returns-in_err-pass-2-clause-answer
 returns-in_err-pass-2-clause-answer g c =
-    let p = err_from_is_err_and c.from_residual-in_err-pass-2.result
-    c.from_residual-in_err-pass-2.ensures.1 in
-    let extent = c.args.extent in
-    let size = c.args.size in
-    let head = c.take.new.buf in
-    let start = goes_same _ (taken 40 >>= format_rest extent Kept size)
-    (format_long extent size c.if-size-lt40.false)
-    (goes_none (format_in extent size) (g.R.ByteIn.remaining c.args.input.now)
-    (g.R.ByteIn.failures c.args.input.now)) in
-    let next = goes_read (taken 40) (format_rest extent Kept size) _ _ head start
-    c.in_ok-take.ensures in
-    let wrong = goes_same _ (passed (padded size - 40) >>= λ _. given None)
-    (format_wrong extent size head (sym c.if-not-is_name.ensures)) next in
-    rw (p.1, p.2) (goes_refused (passed (padded size - 40)) (λ _. given None) _ _
-    c.in_err-pass-2.field-0.0 wrong (rw c.padded-then-not-is_name.ensures at
-    c.in_err-pass-2.ensures))
+    let wrong = format_wrong c.args.extent c.args.size c.take.new.buf
+    (sym c.if-not-is_name.ensures) in
+    answers_err _ _ _ _ c.from_residual-in_err-pass-2.ensures.1
+    (answers_same (format_long _ _ c.if-size-lt40.false)
+    (answers_next _ c.in_ok-take.ensures (answers_same wrong
+    (answers_first _ _ (rw c.padded-then-not-is_name.ensures at c.in_err-pass-2.ensures)))))
 
 pub returns-then-not-is_name-clause-answer : goal.returns-then-not-is_name-clause-answer
 returns-then-not-is_name-clause-answer g c =
-    let extent = c.args.extent in
-    let size = c.args.size in
-    let head = c.take.new.buf in
-    let start = goes_same _ (taken 40 >>= format_rest extent Kept size)
-    (format_long extent size c.if-size-lt40.false)
-    (goes_none (format_in extent size) (g.R.ByteIn.remaining c.args.input.now)
-    (g.R.ByteIn.failures c.args.input.now)) in
-    let next = goes_read (taken 40) (format_rest extent Kept size) _ _ head start
-    c.in_ok-take.ensures in
-    let wrong = goes_same _ (passed (padded size - 40) >>= λ _. given None)
-    (format_wrong extent size head (sym c.if-not-is_name.ensures)) next in
-    goes_given None (goes_read (passed (padded size - 40)) (λ _. given None) _ _ tt wrong
-    (rw c.padded-then-not-is_name.ensures at c.in_ok-pass-2.ensures))
+    let wrong = format_wrong c.args.extent c.args.size c.take.new.buf
+    (sym c.if-not-is_name.ensures) in
+    answers_ok (answers_same (format_long _ _ c.if-size-lt40.false)
+    (answers_next _ c.in_ok-take.ensures (answers_same wrong
+    (answers_next _ (rw c.padded-then-not-is_name.ensures at c.in_ok-pass-2.ensures)
+    answers_given))))
+
+-- the record ends where the format says
+ends_there : {end says : ℕ} (extent : Extent) (size : ℕ)
+    (head : List ℕ) → end ≡ record_end extent says size → says ≡ little_number 4 head → end ≡
+    record_end extent (little_number 4 head) size
+ends_there extent size head ends says = ends ∙ ap (λ n. record_end extent n size) says
 
 pub returns-in_err-fill-clause-answer : goal.returns-in_err-fill-clause-answer
 returns-in_err-fill-clause-answer g c =
-    let p = err_from_is_err_and c.from_residual-in_err-fill.result
-    c.from_residual-in_err-fill.ensures.1 in
-    let extent = c.args.extent in
-    let size = c.args.size in
     let head = c.take.new.buf in
-    let end = c.record_end-end.result in
-    let says : c.read_u32.result ≡ little_number 4 head = c.read_u32.ensures in
-    let ends : end ≡ record_end extent (little_number 4 head) size = c.record_end-end.ensures.value
-    ∙ ap (λ n. record_end extent n size) says in
-    let start = goes_same _ (taken 40 >>= format_rest extent Kept size)
-    (format_long extent size c.if-size-lt40.false)
-    (goes_none (format_in extent size) (g.R.ByteIn.remaining c.args.input.now)
-    (g.R.ByteIn.failures c.args.input.now)) in
-    let next = goes_same _ (record_rest end size head)
-    (format_right extent end size head ends (sym c.if-not-is_name.ensures))
-    (goes_read (taken 40) (format_rest extent Kept size) _ _ head start c.in_ok-take.ensures) in
-    rw (p.1, p.2) (goes_refused (wanted Kept (end - 40))
-    (λ config. (passed (padded size - end) >>= λ _. given (format_behind head config))) _ _
-    c.in_err-fill.field-0.0 next c.in_err-fill.ensures.answer)
+    let right = format_right c.args.extent _ c.args.size head
+    (ends_there c.args.extent c.args.size head c.record_end-end.ensures.value
+    c.read_u32.ensures) (sym c.if-not-is_name.ensures) in
+    answers_err _ _ _ _ c.from_residual-in_err-fill.ensures.1
+    (answers_same (format_long _ _ c.if-size-lt40.false)
+    (answers_next _ c.in_ok-take.ensures (answers_same right
+    (answers_first _ _ c.in_err-fill.ensures.answer))))
 
 pub returns-in_err-pass-3-clause-answer : goal.returns-in_err-pass-3-clause-answer
 returns-in_err-pass-3-clause-answer g c =
-    let p = err_from_is_err_and c.from_residual-in_err-pass-3.result
-    c.from_residual-in_err-pass-3.ensures.1 in
-    let extent = c.args.extent in
-    let size = c.args.size in
     let head = c.take.new.buf in
-    let end = c.record_end-end.result in
-    let says : c.read_u32.result ≡ little_number 4 head = c.read_u32.ensures in
-    let ends : end ≡ record_end extent (little_number 4 head) size = c.record_end-end.ensures.value
-    ∙ ap (λ n. record_end extent n size) says in
-    let config = c.fill.new.bytes.items in
-    let start = goes_same _ (taken 40 >>= format_rest extent Kept size)
-    (format_long extent size c.if-size-lt40.false)
-    (goes_none (format_in extent size) (g.R.ByteIn.remaining c.args.input.now)
-    (g.R.ByteIn.failures c.args.input.now)) in
-    let next = goes_same _ (record_rest end size head)
-    (format_right extent end size head ends (sym c.if-not-is_name.ensures))
-    (goes_read (taken 40) (format_rest extent Kept size) _ _ head start c.in_ok-take.ensures) in
-    let last = goes_read (wanted Kept (end - 40))
-    (λ config. (passed (padded size - end) >>= λ _. given (format_behind head config))) _ _
-    config next c.in_ok-fill.ensures.answer in
-    rw (p.1, p.2) (goes_refused (passed (padded size - end))
-    (λ _. given (format_behind head config)) _ _ c.in_err-pass-3.field-0.0 last
-    (rw (c.from.ensures, c.padded-2.ensures) at c.in_err-pass-3.ensures))
+    let right = format_right c.args.extent _ c.args.size head
+    (ends_there c.args.extent c.args.size head c.record_end-end.ensures.value
+    c.read_u32.ensures) (sym c.if-not-is_name.ensures) in
+    answers_err _ _ _ _ c.from_residual-in_err-pass-3.ensures.1
+    (answers_same (format_long _ _ c.if-size-lt40.false)
+    (answers_next _ c.in_ok-take.ensures (answers_same right
+    (answers_next _ c.in_ok-fill.ensures.answer (answers_first _ _ (rw
+    (c.from.ensures, c.padded-2.ensures) at c.in_err-pass-3.ensures))))))
 
 pub returns-clause-answer : goal.returns-clause-answer
 returns-clause-answer g c =
-    let extent = c.args.extent in
-    let size = c.args.size in
     let head = c.take.new.buf in
-    let end = c.record_end-end.result in
-    let says : c.read_u32.result ≡ little_number 4 head = c.read_u32.ensures in
-    let ends : end ≡ record_end extent (little_number 4 head) size = c.record_end-end.ensures.value
-    ∙ ap (λ n. record_end extent n size) says in
-    let config = c.fill.new.bytes.items in
-    let start = goes_same _ (taken 40 >>= format_rest extent Kept size)
-    (format_long extent size c.if-size-lt40.false)
-    (goes_none (format_in extent size) (g.R.ByteIn.remaining c.args.input.now)
-    (g.R.ByteIn.failures c.args.input.now)) in
-    let next = goes_same _ (record_rest end size head)
-    (format_right extent end size head ends (sym c.if-not-is_name.ensures))
-    (goes_read (taken 40) (format_rest extent Kept size) _ _ head start c.in_ok-take.ensures) in
-    let last = goes_read (wanted Kept (end - 40))
-    (λ config. (passed (padded size - end) >>= λ _. given (format_behind head config))) _ _
-    config next c.in_ok-fill.ensures.answer in
-    let end = goes_given _ (goes_read (passed (padded size - end))
-    (λ _. given (format_behind head config)) _ _ tt last
-    (rw (c.from.ensures, c.padded-2.ensures) at c.in_ok-pass-3.ensures)) in
-    let width : c.read_u32-width.result ≡ little_number 4 (drop 4 head) = c.read_u32-width.ensures ∙
-    number_taken 36 (drop 4 head) (omega arith) in
-    let height : c.read_u32-height.result ≡ little_number 4 (drop 8 head) =
-    c.read_u32-height.ensures ∙ number_taken 32 (drop 8 head) (omega arith) in
-    rw (width, height) end
+    let right = format_right c.args.extent _ c.args.size head
+    (ends_there c.args.extent c.args.size head c.record_end-end.ensures.value
+    c.read_u32.ensures) (sym c.if-not-is_name.ensures) in
+    let width : c.read_u32-width.result ≡ little_number 4
+    (drop 4 head) = c.read_u32-width.ensures ∙ number_taken 36 (drop 4 head) (omega arith) in
+    let height : c.read_u32-height.result ≡ little_number 4
+    (drop 8 head) = c.read_u32-height.ensures ∙ number_taken 32 (drop 8 head) (omega arith) in
+    rw (width, height) (answers_ok (answers_same (format_long _ _ c.if-size-lt40.false)
+    (answers_next _ c.in_ok-take.ensures (answers_same right
+    (answers_next _ c.in_ok-fill.ensures.answer (answers_next _ (rw
+    (c.from.ensures, c.padded-2.ensures) at c.in_ok-pass-3.ensures) answers_given))))))
 
 pub returns-in_err-pass-clause-room : goal.returns-in_err-pass-clause-room
 returns-in_err-pass-clause-room g c =

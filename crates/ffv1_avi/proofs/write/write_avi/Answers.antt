@@ -40,21 +40,7 @@ writes_file : (old new : Option (List ℕ)) (m n : ℕ) (head : Head) (frames : 
     (file_of head frames) r → WritesFile (between old new m n) head frames r
 writes_file old new m n head frames (Ok u) small w = (small, w)
 writes_file old new m n head frames (Err fault.Write) small w = (small, w)
-writes_file old new m n head frames (Err fault.OutOfMemory) small w = absurd w
-writes_file old new m n head frames (Err fault.NotAvi) small w = absurd w
-writes_file old new m n head frames (Err fault.NoFfv1) small w = absurd w
-writes_file old new m n head frames (Err fault.Truncated) small w = absurd w
-writes_file old new m n head frames (Err fault.ChunkTooLong) small w = absurd w
-writes_file old new m n head frames (Err fault.EmptyFrame) small w = absurd w
-writes_file old new m n head frames (Err fault.TooLarge) small w = absurd w
-writes_file old new m n head frames (Err fault.Read) small w = absurd w
-writes_file old new m n head frames (Err fault.NotMatroska) small w = absurd w
-writes_file old new m n head frames (Err fault.BadElement) small w = absurd w
-writes_file old new m n head frames (Err fault.NoTracks) small w = absurd w
-writes_file old new m n head frames (Err fault.Encoded) small w = absurd w
-writes_file old new m n head frames (Err fault.Laced) small w = absurd w
-writes_file old new m n head frames (Err fault.Checksum) small w = absurd w
-writes_file old new m n head frames (Err fault.Rate) small w = absurd w
+writes_file old new m n head frames (Err f) small w = absurd w
 
 pub overflow_cast-frames : goal.overflow_cast-frames
 overflow_cast-frames g c =

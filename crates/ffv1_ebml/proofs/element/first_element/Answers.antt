@@ -1,6 +1,7 @@
 -- Reads the header of the next element of a parent that has `left` bytes left, or answers None
 -- where the input has ended before it.
-use Rattle.std.proofs.Common.{◌≡◌, ◌∷◌, [], Option, Some, None, refl, inr, arith}
+use Rattle.std.specs.Io.KnownBytes.{Consumes}
+use Rattle.std.proofs.Common.{◌≡◌, ◌∷◌, [], ℕ, List, Option, Some, None, refl, inr, arith}
 use Rattle.std.proofs.lemmas.Result.{err_from_is_err_and}
 use Rattle.ffv1_reads.specs.Reads.{refused, ◌>>=◌}
 use Rattle.ffv1_reads.specs.declared.fault.FileFault.TheVariants as fault
@@ -11,6 +12,17 @@ use Rattle.ffv1_ebml.specs.Elements.{element_after, first_read}
 use Rattle.ffv1_ebml.proofs.ElementReadings.{first_ends, first_in_turn, first_none_left, some_given}
 use Rattle.ffv1_reads.proofs.EndReadings.{none_given, none_refused, stops_here}
 use Rattle.ffv1_ebml.proofs.element.first_element.Goals as goal
+
+-- the first byte was read
+begun : (left first : ℕ) {old mid : Option (List ℕ)} {before after : ℕ} → (left ≡ 0 → ⊥) → after ≡
+    before → Consumes old mid (first ∷ []) → Goes (first_read left) old before
+    (element_after left first >>= some_given) mid after
+begun left first some same consumed = record {
+  same = same;
+  bytes = first ∷ [];
+  consumed = consumed;
+  leads = λ more. first_in_turn left first some more;
+}
 
 pub returns-then-left-eq0-clause-answer : goal.returns-then-left-eq0-clause-answer
 returns-then-left-eq0-clause-answer g c =
@@ -51,16 +63,7 @@ returns-in_err-element-clause-answer g c =
     let some : left ≡ 0 → ⊥ = λ e. omega (arith, e, c.if-left-eq0.false) in
     let h = c.in-Ok.ensures in
     let first = c.in-Some.first in
-    let start : Goes (first_read left) (g.R.ByteIn.remaining c.args.input.now)
-    (g.R.ByteIn.failures c.args.input.now) (element_after left first >>= some_given)
-    (g.R.ByteIn.remaining c.read_byte.new.input) (g.R.ByteIn.failures c.read_byte.new.input) =
-    record {
-      same = h.counted;
-      bytes = first ∷ [];
-      consumed = rw c.in-Some.is at h.ok;
-      leads =
-          λ more. first_in_turn left first some more;
-    } in
+    let start = begun left first some h.counted (rw c.in-Some.is at h.ok) in
     rw (p.1, p.2) (none_refused (element_after left first) some_given _ _ c.in_err-element.field-0.0
     start c.in_err-element.ensures.answer)
 
@@ -71,15 +74,6 @@ returns-clause-answer g c =
     let h = c.in-Ok.ensures in
     let first = c.in-Some.first in
     let e = c.in_ok-element.element in
-    let start : Goes (first_read left) (g.R.ByteIn.remaining c.args.input.now)
-    (g.R.ByteIn.failures c.args.input.now) (element_after left first >>= some_given)
-    (g.R.ByteIn.remaining c.read_byte.new.input) (g.R.ByteIn.failures c.read_byte.new.input) =
-    record {
-      same = h.counted;
-      bytes = first ∷ [];
-      consumed = rw c.in-Some.is at h.ok;
-      leads =
-          λ more. first_in_turn left first some more;
-    } in
+    let start = begun left first some h.counted (rw c.in-Some.is at h.ok) in
     none_given (Some e) (goes_read (element_after left first) some_given _ _ e start
     c.in_ok-element.ensures.answer)

@@ -3,7 +3,6 @@
 -- place.
 use Rattle.std.proofs.Common.{ℕ, Option}
 use Rattle.std.proofs.lemmas.Result.{err_from_is_err_and}
-use Rattle.ffv1_reads.specs.First.{bytes_with}
 use Rattle.ffv1_reads.specs.Reads.{Reading, ◌>>=◌}
 use Rattle.ffv1_reads.specs.declared.fault.FileFault.TheVariants as fault
 use Rattle.ffv1_reads.proofs.EndFaults.{faults_refused, made_read, made_refused}
@@ -35,33 +34,27 @@ pub returns-in_err-read_ebml-clause-answer : goal.returns-in_err-read_ebml-claus
 unfolding open_read
 returns-in_err-read_ebml-clause-answer g c =
     let p = err_from_is_err_and c.from_residual.result c.from_residual.ensures.1 in
-    let start = goes_none open_read (bytes_with c.args.first
-    (g.R.ByteIn.remaining c.args.input.now)) (g.R.ByteIn.failures c.args.input.now) in
-    rw (p.1, p.2) (faults_refused fault.NoTracks HasEnded ebml_read behind _ _
-    c.in_err-read_ebml.field-0.0 start c.in_err-read_ebml.ensures.answer)
+    rw (p.1, p.2) (faults_refused fault.NoTracks HasEnded _ _ _ _ _
+    (goes_none open_read _ _) c.in_err-read_ebml.ensures.answer)
 
 pub returns-in_err-size-clause-answer : goal.returns-in_err-size-clause-answer
 unfolding open_read
 returns-in_err-size-clause-answer g c =
     let p = err_from_is_err_and c.from_residual-in_err-size.result
     c.from_residual-in_err-size.ensures.1 in
-    let start = goes_none open_read (bytes_with c.args.first
-    (g.R.ByteIn.remaining c.args.input.now)) (g.R.ByteIn.failures c.args.input.now) in
-    let next = goes_read ebml_read behind _ _ (tt {0}) start c.in_ok-read_ebml.ensures.answer in
-    rw (p.1, p.2) (faults_refused fault.NoTracks HasEnded segment_entered segment_opened _ _
-    c.in_err-size.field-0.0 next c.in_err-size.ensures.answer)
+    rw (p.1, p.2) (faults_refused fault.NoTracks HasEnded _ _ _ _ _
+    (goes_read _ _ _ _ _ (goes_none open_read _ _) c.in_ok-read_ebml.ensures.answer)
+    c.in_err-size.ensures.answer)
 
 pub returns-in_err-numbers-clause-answer : goal.returns-in_err-numbers-clause-answer
 unfolding open_read
 returns-in_err-numbers-clause-answer g c =
     let p = err_from_is_err_and c.from_residual-in_err-numbers.result
     c.from_residual-in_err-numbers.ensures.1 in
-    let start = goes_none open_read (bytes_with c.args.first
-    (g.R.ByteIn.remaining c.args.input.now)) (g.R.ByteIn.failures c.args.input.now) in
-    let next = goes_read ebml_read behind _ _ (tt {0}) start c.in_ok-read_ebml.ensures.answer in
     let size = c.in_ok-size.size in
-    let entered = goes_read segment_entered segment_opened _ _ size next
-    c.in_ok-size.ensures.answer in
+    let next = goes_read ebml_read behind _ _ _ (goes_none open_read _ _)
+    c.in_ok-read_ebml.ensures.answer in
+    let entered = goes_read _ segment_opened _ _ size next c.in_ok-size.ensures.answer in
     let why = rw c.begin_segment-begin.ensures at c.in_err-numbers.ensures.answer in
     rw (p.1, p.2) (made_refused fault.NoTracks Over HasEnded (begin_read (segment_begun size))
     (made size) _ _ c.in_err-numbers.field-0.0 (λ p is. is) entered why)
@@ -69,12 +62,10 @@ returns-in_err-numbers-clause-answer g c =
 pub returns-clause-answer : goal.returns-clause-answer
 unfolding open_read
 returns-clause-answer g c =
-    let start = goes_none open_read (bytes_with c.args.first
-    (g.R.ByteIn.remaining c.args.input.now)) (g.R.ByteIn.failures c.args.input.now) in
-    let next = goes_read ebml_read behind _ _ (tt {0}) start c.in_ok-read_ebml.ensures.answer in
     let size = c.in_ok-size.size in
-    let entered = goes_read segment_entered segment_opened _ _ size next
-    c.in_ok-size.ensures.answer in
+    let next = goes_read ebml_read behind _ _ _ (goes_none open_read _ _)
+    c.in_ok-read_ebml.ensures.answer in
+    let entered = goes_read _ segment_opened _ _ size next c.in_ok-size.ensures.answer in
     let read = rw c.begin_segment-begin.ensures at c.in_ok-numbers.ensures.answer in
     made_read Over HasEnded (begin_read (segment_begun size)) (made size) _ _ (
       track_kept c.in_ok-numbers.numbers c.read_beginning-read.new.config.items,

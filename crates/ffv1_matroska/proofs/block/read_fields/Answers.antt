@@ -1,121 +1,63 @@
 -- What stands after the track number of a block: two bytes of time, and flags.
-use Rattle.std.proofs.Common.{◌≡◌, ◌-◌, ◌==◌, Option, Some, true, false, nat_lt, refl, inr, arith}
-use Rattle.std.proofs.Common.{slice_index, List, ℕ}
-use Rattle.std.proofs.lemmas.Bool.{eq-eqb, le-ltb, lt-ltb, ne_eqb}
-use Rattle.ffv1_reads.specs.Reads.{Reading, given, refused, ◌>>=◌}
-use Rattle.ffv1_reads.specs.declared.fault.FileFault.TheVariants as fault
-use Rattle.ffv1_reads.proofs.Reading.{faults_here, goes_fault, goes_given, goes_none, goes_read}
-use Rattle.ffv1_reads.proofs.Reading.{goes_refused, goes_same}
-use Rattle.ffv1_ebml.specs.Sums.{taken_summed}
-use Rattle.ffv1_ebml.specs.declared.sum.Sum.{Sum}
-use Rattle.ffv1_matroska.specs.Blocks.{fields_read, frame_judged, lacing_of}
-use Rattle.ffv1_matroska.specs.Places.{frame_at, summed_at}
-use Rattle.ffv1_matroska.specs.declared.place.Place.{Place}
-use Rattle.ffv1_matroska.specs.declared.place.Step.{Step}
-use Rattle.std.proofs.lemmas.Result.{err_from_is_err_and}
-use Rattle.ffv1_matroska.proofs.block.read_fields.Goals as goal
+use Rattle.std.proofs.Common.{◌≡◌, ◌<◌, ◌≤◌, ◌-◌, slice_index, refl, inl, inr, arith}
 use Rattle.ffv1_reads.specs.Head.{limit}
-
-abbrev after : ℕ → Place → List ℕ × Sum → Reading (Option Step)
-after left place p = frame_judged (slice_index p.0 2) (left - 3) (summed_at place p.1)
-
-enough : (left : ℕ) (place : Place) → (nat_lt left 3 ≡ false) → (text : List ℕ) → fields_read left
-    place text ≡ (taken_summed 3 place.sum >>= after left place) text
-unfolding fields_read
-enough left place t text = rw t refl
+use Rattle.ffv1_reads.specs.declared.fault.FileFault.TheVariants as fault
+use Rattle.ffv1_matroska.specs.Blocks.{fields_read, lacing_of}
+use Rattle.ffv1_reads.proofs.Answered.{answers_differ, answers_equal, answers_err, answers_fault}
+use Rattle.ffv1_reads.proofs.Answered.{answers_first, answers_given, answers_less, answers_most}
+use Rattle.ffv1_reads.proofs.Answered.{answers_next, answers_ok, answers_refused}
+use Rattle.ffv1_matroska.proofs.block.read_fields.Goals as goal
 
 pub returns-then-left-lt3-clause-answer : goal.returns-then-left-lt3-clause-answer
 unfolding fields_read
-returns-then-left-lt3-clause-answer g c =
-    let few : nat_lt c.args.left 3 ≡ true = lt-ltb _ _ (omega (arith, c.if-left-lt3.true)) in
-    goes_fault fault.Truncated (goes_same _ (refused fault.Truncated) (λ text. rw few refl)
-    (goes_none (fields_read c.args.left c.args.place) (g.R.ByteIn.remaining c.args.input.now)
-    (g.R.ByteIn.failures c.args.input.now)))
-    (refl, inr (faults_here (Option Step) fault.Truncated _))
+returns-then-left-lt3-clause-answer g c = answers_fault fault.Truncated
+    (fields_read c.args.left c.args.place) (answers_less _ c.if-left-lt3.true
+    (answers_refused _ (inr refl)))
 
 pub returns-in_err-take_summed-clause-answer : goal.returns-in_err-take_summed-clause-answer
-returns-in_err-take_summed-clause-answer g c =
-    let p = err_from_is_err_and c.from_residual.result c.from_residual.ensures.1 in
-    let left = c.args.left in
-    let place = c.args.place in
-    let start = goes_same _ (taken_summed 3 place.sum >>= after left place)
-    (enough left place (le-ltb _ _ (omega (arith, c.if-left-lt3.false))))
-    (goes_none (fields_read left place) (g.R.ByteIn.remaining c.args.input.now)
-    (g.R.ByteIn.failures c.args.input.now)) in
-    rw (p.1, p.2) (goes_refused (taken_summed 3 place.sum) (after left place) _ _
-    c.in_err-take_summed.field-0.0 start c.in_err-take_summed.ensures.answer)
+unfolding fields_read
+returns-in_err-take_summed-clause-answer g c = answers_err _
+    (fields_read c.args.left c.args.place) _ _ c.from_residual.ensures.1
+    (answers_most _ c.if-left-lt3.false (answers_first _ _ c.in_err-take_summed.ensures.answer))
 
 pub returns-then-fields-ne0-clause-answer : goal.returns-then-fields-ne0-clause-answer
+unfolding fields_read
 returns-then-fields-ne0-clause-answer g c =
-    let left = c.args.left in
-    let place = c.args.place in
-    let fields = c.take_summed.new.buf in
-    let start = goes_same _ (taken_summed 3 place.sum >>= after left place)
-    (enough left place (le-ltb _ _ (omega (arith, c.if-left-lt3.false))))
-    (goes_none (fields_read left place) (g.R.ByteIn.remaining c.args.input.now)
-    (g.R.ByteIn.failures c.args.input.now)) in
-    let next = goes_read (taken_summed 3 place.sum) (after left place) _ _
-    (fields, c.take_summed.new.sum) start c.in_ok-take_summed.ensures.answer in
-    let laced : (lacing_of (slice_index fields 2) == 0) ≡ false = ne_eqb _ _
-    (λ z. omega (arith, z, c.if-fields-ne0.true)) in
-    goes_fault fault.Laced (goes_same _ (refused fault.Laced) (λ text. rw laced refl) next)
-    (refl, faults_here (Option Step) fault.Laced _)
+    let laced : lacing_of (slice_index c.take_summed.new.buf 2) ≡ 0 → ⊥ = λ z. omega
+    (arith, z, c.if-fields-ne0.true) in
+    answers_fault fault.Laced (fields_read c.args.left c.args.place)
+    (answers_most _ c.if-left-lt3.false (answers_next _ c.in_ok-take_summed.ensures.answer
+    (answers_differ _ laced (answers_refused _ (inl refl)))))
 
 pub returns-then-size-gt-LIMIT-clause-answer : goal.returns-then-size-gt-LIMIT-clause-answer
+unfolding fields_read
 returns-then-size-gt-LIMIT-clause-answer g c =
-    let left = c.args.left in
-    let place = c.args.place in
-    let fields = c.take_summed.new.buf in
-    let start = goes_same _ (taken_summed 3 place.sum >>= after left place)
-    (enough left place (le-ltb _ _ (omega (arith, c.if-left-lt3.false))))
-    (goes_none (fields_read left place) (g.R.ByteIn.remaining c.args.input.now)
-    (g.R.ByteIn.failures c.args.input.now)) in
-    let next = goes_read (taken_summed 3 place.sum) (after left place) _ _
-    (fields, c.take_summed.new.sum) start c.in_ok-take_summed.ensures.answer in
-    let plain : (lacing_of (slice_index fields 2) == 0) ≡ true = eq-eqb _ _
-    (omega (arith, c.if-fields-ne0.false)) in
-    let long : nat_lt limit (left - 3) ≡ true = lt-ltb _ _
-    (omega (arith, c.if-size-gt-LIMIT.true)) in
-    goes_fault fault.ChunkTooLong (goes_same _ (refused fault.ChunkTooLong)
-    (λ text. rw (plain, long) refl) next) (refl, faults_here (Option Step) fault.ChunkTooLong _)
+    let plain : lacing_of (slice_index c.take_summed.new.buf 2) ≡ 0 = omega
+    (arith, c.if-fields-ne0.false) in
+    let long : limit < c.args.left - 3 = omega (arith, c.if-size-gt-LIMIT.true) in
+    answers_fault fault.ChunkTooLong (fields_read c.args.left c.args.place)
+    (answers_most _ c.if-left-lt3.false (answers_next _ c.in_ok-take_summed.ensures.answer
+    (answers_equal _ plain (answers_less _ long (answers_refused _ (inl refl))))))
 
 pub returns-then-size-eq0-clause-answer : goal.returns-then-size-eq0-clause-answer
+unfolding fields_read
 returns-then-size-eq0-clause-answer g c =
-    let left = c.args.left in
-    let place = c.args.place in
-    let fields = c.take_summed.new.buf in
-    let start = goes_same _ (taken_summed 3 place.sum >>= after left place)
-    (enough left place (le-ltb _ _ (omega (arith, c.if-left-lt3.false))))
-    (goes_none (fields_read left place) (g.R.ByteIn.remaining c.args.input.now)
-    (g.R.ByteIn.failures c.args.input.now)) in
-    let next = goes_read (taken_summed 3 place.sum) (after left place) _ _
-    (fields, c.take_summed.new.sum) start c.in_ok-take_summed.ensures.answer in
-    let plain : (lacing_of (slice_index fields 2) == 0) ≡ true = eq-eqb _ _
-    (omega (arith, c.if-fields-ne0.false)) in
-    let fits : nat_lt limit (left - 3) ≡ false = le-ltb _ _
-    (omega (arith, c.if-size-gt-LIMIT.false)) in
-    let none : (left - 3 == 0) ≡ true = eq-eqb _ _ (omega (arith, c.if-size-eq0.true)) in
-    goes_fault fault.EmptyFrame (goes_same _ (refused fault.EmptyFrame)
-    (λ text. rw (plain, fits, none) refl) next)
-    (refl, faults_here (Option Step) fault.EmptyFrame _)
+    let plain : lacing_of (slice_index c.take_summed.new.buf 2) ≡ 0 = omega
+    (arith, c.if-fields-ne0.false) in
+    let fits : c.args.left - 3 ≤ limit = omega (arith, c.if-size-gt-LIMIT.false) in
+    let none : c.args.left - 3 ≡ 0 = omega (arith, c.if-size-eq0.true) in
+    answers_fault fault.EmptyFrame (fields_read c.args.left c.args.place)
+    (answers_most _ c.if-left-lt3.false (answers_next _ c.in_ok-take_summed.ensures.answer
+    (answers_equal _ plain (answers_most _ fits (answers_equal _ none (answers_refused _
+    (inl refl)))))))
 
 pub returns-clause-answer : goal.returns-clause-answer
+unfolding fields_read
 returns-clause-answer g c =
-    let left = c.args.left in
-    let place = c.args.place in
-    let fields = c.take_summed.new.buf in
-    let last = summed_at place c.take_summed.new.sum in
-    let start = goes_same _ (taken_summed 3 place.sum >>= after left place)
-    (enough left place (le-ltb _ _ (omega (arith, c.if-left-lt3.false))))
-    (goes_none (fields_read left place) (g.R.ByteIn.remaining c.args.input.now)
-    (g.R.ByteIn.failures c.args.input.now)) in
-    let next = goes_read (taken_summed 3 place.sum) (after left place) _ _
-    (fields, c.take_summed.new.sum) start c.in_ok-take_summed.ensures.answer in
-    let plain : (lacing_of (slice_index fields 2) == 0) ≡ true = eq-eqb _ _
-    (omega (arith, c.if-fields-ne0.false)) in
-    let fits : nat_lt limit (left - 3) ≡ false = le-ltb _ _
-    (omega (arith, c.if-size-gt-LIMIT.false)) in
-    let some : (left - 3 == 0) ≡ false = ne_eqb _ _ (λ z. omega (arith, z, c.if-size-eq0.false)) in
-    rw c.summed_at.ensures (goes_given (Some (frame_at (left - 3) last))
-    (goes_same _ (given (Some (frame_at (left - 3) last))) (λ text. rw (plain, fits, some) refl)
-    next))
+    let plain : lacing_of (slice_index c.take_summed.new.buf 2) ≡ 0 = omega
+    (arith, c.if-fields-ne0.false) in
+    let fits : c.args.left - 3 ≤ limit = omega (arith, c.if-size-gt-LIMIT.false) in
+    let some : c.args.left - 3 ≡ 0 → ⊥ = λ z. omega (arith, z, c.if-size-eq0.false) in
+    rw c.summed_at.ensures (answers_ok (answers_most _ c.if-left-lt3.false
+    (answers_next _ c.in_ok-take_summed.ensures.answer (answers_equal _ plain
+    (answers_most _ fits (answers_differ _ some answers_given))))))

@@ -1,5 +1,5 @@
 -- The size of the next frame, and the place after it, but for its sum; None at the end.
-use Rattle.std.proofs.Common.{Some, refl, arith}
+use Rattle.std.proofs.Common.{refl, arith}
 use Rattle.std.proofs.lemmas.Result.{err_from_is_err_and}
 use Rattle.ffv1_reads.proofs.Reading.{goes_none}
 use Rattle.ffv1_matroska.specs.Files.{found_or_on, frame_found, frame_found_up_to}
@@ -11,6 +11,7 @@ use Rattle.ffv1_reads.proofs.EndReadings.{some_read}
 use Rattle.ffv1_reads.proofs.OffsetLaws.{reads_more, reads_none, stops_after}
 use Rattle.ffv1_matroska.specs.Offsets.{element_taken}
 use Rattle.ffv1_matroska.proofs.ElementReadings.{element_read, element_refused}
+use Rattle.ffv1_reads.proofs.EndReadings.{none_err}
 use Rattle.ffv1_matroska.proofs.frames.find_frame.Goals as goal
 
 pub loop-next-init : goal.loop-next-init
@@ -27,22 +28,15 @@ loop-next-init g c =
 
 pub returns-in_err-next-clause-answer : goal.returns-in_err-next-clause-answer
 unfolding frame_found_up_to
-returns-in_err-next-clause-answer g c =
-    let p = err_from_is_err_and c.from_residual.result c.from_residual.ensures.1 in
-    let inv = c.loop-next.invariant in
-    rw (p.1, p.2) (none_refused_end (step_read c.args.track c.loop-next.here)
-    (found_or_on (frame_found_up_to inv.0 c.args.track)) _ _ c.in_err-next.field-0.0
-    (λ text. refl) inv.3 c.in_err-next.ensures.answer)
+returns-in_err-next-clause-answer g c = none_err _ _ _ _ _ c.from_residual.ensures.1
+    (none_refused_end _ _ _ _ _ (λ text. refl) c.loop-next.invariant.3 c.in_err-next.ensures.answer)
 
 pub returns-in-Some-frame-clause-answer : goal.returns-in-Some-frame-clause-answer
 unfolding frame_found_up_to
 returns-in-Some-frame-clause-answer g c =
-    let inv = c.loop-next.invariant in
-    let s = c.in-Some.next in
-    let next = none_read (step_read c.args.track c.loop-next.here)
-    (found_or_on (frame_found_up_to inv.0 c.args.track)) _ _ s inv.3
+    let next = none_read _ _ _ _ c.in-Some.next c.loop-next.invariant.3
     (rw c.in-Some.is at c.in_ok-next.ensures.answer) in
-    none_given (Some (c.in-Some-frame.size, s.place)) (rw c.in-Some-frame.is at next)
+    none_given _ (rw c.in-Some-frame.is at next)
 
 pub loop-next-preserved : goal.loop-next-preserved
 unfolding frame_found_up_to
@@ -67,10 +61,7 @@ loop-next-preserved g c =
 
 pub returns-clause-answer : goal.returns-clause-answer
 unfolding frame_found_up_to
-returns-clause-answer g c =
-    let inv = c.loop-next.invariant in
-    none_ends (step_read c.args.track c.loop-next.here)
-    (found_or_on (frame_found_up_to inv.0 c.args.track)) _ _ (λ text. refl) inv.3
+returns-clause-answer g c = none_ends _ _ _ _ (λ text. refl) c.loop-next.invariant.3
     (rw c.in_default.is at c.in_ok-next.ensures.answer)
 
 pub returns-in-Some-frame-clause-less : goal.returns-in-Some-frame-clause-less

@@ -5,7 +5,6 @@ use Rattle.std.proofs.lemmas.Result.{err_from_is_err_and}
 use Rattle.ffv1_reads.specs.Reads.{Reading, given, refused}
 use Rattle.ffv1_reads.specs.declared.fault.FileFault.TheVariants as fault
 use Rattle.ffv1_reads.proofs.Reading.{faults_here, goes_fault, goes_none, goes_read, goes_same}
-use Rattle.ffv1_ebml.specs.Sums.{kept_summed}
 use Rattle.ffv1_ebml.specs.declared.sum.Sum.{Sum}
 use Rattle.ffv1_matroska.specs.Files.{found_read, frame_found, frame_read}
 use Rattle.ffv1_matroska.specs.Places.{closed, is_sound, summed_at}
@@ -15,44 +14,27 @@ use Rattle.ffv1_reads.proofs.EndReadings.{none_refused_end, some_read}
 use Rattle.ffv1_matroska.proofs.FoundFrames.{begins_all, leaves_begun}
 use Rattle.ffv1_reads.proofs.OffsetLaws.{reads_more, stops_after}
 use Rattle.ffv1_matroska.proofs.ElementReadings.{frame_differs, frame_refused, frame_whole}
+use Rattle.ffv1_reads.proofs.EndReadings.{none_err}
 use Rattle.ffv1_matroska.proofs.frames.read_frame.Goals as goal
 
 abbrev behind : Place → List ℕ × Sum → Reading (Option (List ℕ × Place))
 behind after q = closed (Some (q.0, summed_at after q.1)) (summed_at after q.1)
 
 pub returns-in_err-size-clause-answer : goal.returns-in_err-size-clause-answer
-returns-in_err-size-clause-answer g c =
-    let p = err_from_is_err_and c.from_residual.result c.from_residual.ensures.1 in
-    let track = c.args.track in
-    let place = c.args.place in
-    let start = goes_none (frame_read track place) (g.R.ByteIn.remaining c.args.input.now)
-    (g.R.ByteIn.failures c.args.input.now) in
-    rw (p.1, p.2) (none_refused_end (frame_found track place) found_read _ _ c.in_err-size.field-0.0
-    (λ text. refl) start c.in_err-size.ensures.answer)
+returns-in_err-size-clause-answer g c = none_err _ _ _ _ _ c.from_residual.ensures.1
+    (none_refused_end _ _ _ _ _ (λ text. refl) (goes_none
+    (frame_read c.args.track c.args.place) _ _) c.in_err-size.ensures.answer)
 
 pub returns-in_default-clause-answer : goal.returns-in_default-clause-answer
-returns-in_default-clause-answer g c =
-    let track = c.args.track in
-    let place = c.args.place in
-    let start = goes_none (frame_read track place) (g.R.ByteIn.remaining c.args.input.now)
-    (g.R.ByteIn.failures c.args.input.now) in
-    none_ends (frame_found track place) found_read _ _ (λ text. refl) start
+returns-in_default-clause-answer g c = none_ends _ _ _ _ (λ text. refl)
+    (goes_none (frame_read c.args.track c.args.place) _ _)
     (rw c.in_default.is at c.in_ok-size.ensures.answer)
 
 pub returns-in_err-fill_summed-clause-answer : goal.returns-in_err-fill_summed-clause-answer
-returns-in_err-fill_summed-clause-answer g c =
-    let p = err_from_is_err_and c.from_residual-in_err-fill_summed.result
-    c.from_residual-in_err-fill_summed.ensures.1 in
-    let track = c.args.track in
-    let place = c.args.place in
-    let size = c.in-Some.size in
-    let after = c.in-Some.after in
-    let start = goes_none (frame_read track place) (g.R.ByteIn.remaining c.args.input.now)
-    (g.R.ByteIn.failures c.args.input.now) in
-    let found = none_read (frame_found track place) found_read _ _ (size, after) start
-    (rw c.in-Some.is at c.in_ok-size.ensures.answer) in
-    rw (p.1, p.2) (none_refused (kept_summed size after.sum) (behind after) _ _
-    c.in_err-fill_summed.field-0.0 found c.in_err-fill_summed.ensures.answer)
+returns-in_err-fill_summed-clause-answer g c = none_err _ _ _ _ _
+    c.from_residual-in_err-fill_summed.ensures.1 (none_refused _ _ _ _ _ (none_read _ _ _ _ _
+    (goes_none _ _ _) (rw c.in-Some.is at c.in_ok-size.ensures.answer))
+    c.in_err-fill_summed.ensures.answer)
 
 pub returns-in_err-fill_summed-clause-err : goal.returns-in_err-fill_summed-clause-err
 returns-in_err-fill_summed-clause-err g c =
@@ -68,15 +50,11 @@ pub returns-then-not-is_sound-clause-answer : goal.returns-then-not-is_sound-cla
 returns-then-not-is_sound-clause-answer g c =
     let track = c.args.track in
     let place = c.args.place in
-    let size = c.in-Some.size in
     let after = c.in-Some.after in
-    let bytes = c.fill_summed.new.bytes.items in
     let sum = c.fill_summed.new.sum in
-    let start = goes_none (frame_read track place) (g.R.ByteIn.remaining c.args.input.now)
-    (g.R.ByteIn.failures c.args.input.now) in
-    let found = none_read (frame_found track place) found_read _ _ (size, after) start
-    (rw c.in-Some.is at c.in_ok-size.ensures.answer) in
-    let next = goes_read (kept_summed size after.sum) (behind after) _ _ (bytes, sum) found
+    let next = goes_read _ (behind after) _ _ _ (none_read
+    (frame_found track place) found_read _ _ _
+    (goes_none _ _ _) (rw c.in-Some.is at c.in_ok-size.ensures.answer))
     c.in_ok-fill_summed.ensures.answer in
     let differs : is_sound (summed_at after sum) ≡ false = rw c.summed_at-last.ensures at
     (sym c.is_sound.ensures ∙ c.if-not-is_sound.true) in
@@ -97,16 +75,13 @@ pub returns-clause-answer : goal.returns-clause-answer
 returns-clause-answer g c =
     let track = c.args.track in
     let place = c.args.place in
-    let size = c.in-Some.size in
     let after = c.in-Some.after in
     let bytes = c.fill_summed.new.bytes.items in
     let sum = c.fill_summed.new.sum in
     let last = summed_at after sum in
-    let start = goes_none (frame_read track place) (g.R.ByteIn.remaining c.args.input.now)
-    (g.R.ByteIn.failures c.args.input.now) in
-    let found = none_read (frame_found track place) found_read _ _ (size, after) start
-    (rw c.in-Some.is at c.in_ok-size.ensures.answer) in
-    let next = goes_read (kept_summed size after.sum) (behind after) _ _ (bytes, sum) found
+    let next = goes_read _ (behind after) _ _ _ (none_read
+    (frame_found track place) found_read _ _ _
+    (goes_none _ _ _) (rw c.in-Some.is at c.in_ok-size.ensures.answer))
     c.in_ok-fill_summed.ensures.answer in
     let sound : is_sound last ≡ true = rw c.summed_at-last.ensures at
     (sym c.is_sound.ensures ∙ c.if-not-is_sound.false) in

@@ -1,9 +1,8 @@
 -- The next element of a Segment; None at its end.
-use Rattle.std.proofs.Common.{Option, ◌<◌, ◌+◌, arith, refl}
+use Rattle.std.proofs.Common.{◌<◌, ◌+◌, arith, refl}
 use Rattle.ffv1_matroska.specs.Internal.{bytes_of}
 use Rattle.ffv1_matroska.specs.Places.{amount, segment_at}
-use Rattle.ffv1_matroska.specs.Segments.{header_read, segment_child, segment_read, segment_rest}
-use Rattle.ffv1_matroska.specs.declared.place.Step.{Step}
+use Rattle.ffv1_matroska.specs.Segments.{segment_read}
 use Rattle.ffv1_reads.proofs.Reading.{goes_last, goes_none}
 use Rattle.ffv1_reads.proofs.EndReadings.{answers_none, none_read}
 use Rattle.ffv1_matroska.proofs.Steps.{steps_less, within_bytes}
@@ -12,18 +11,10 @@ use Rattle.ffv1_matroska.proofs.segment.read_segment.Goals as goal
 pub returns-clause-answer : goal.returns-clause-answer
 unfolding segment_read
 returns-clause-answer g c =
-    let place = c.args.place in
-    let track = c.args.track in
-    let e = c.in-Some.element in
-    let after = segment_at place place.loose e.left in
-    let start = goes_none (segment_read track place) (g.R.ByteIn.remaining c.args.input.now)
-    (g.R.ByteIn.failures c.args.input.now) in
-    let next = none_read (header_read place) (segment_rest track place) _ _ e start
+    let next = none_read _ _ _ _ _ (goes_none (segment_read c.args.track c.args.place) _ _)
     (rw c.in-Some.is at c.in_ok-element.ensures.answer) in
-    answers_none (λ (s : Option Step). s) (segment_read track place) _ c.segment_child.result
-    (goes_last (segment_child track e.ident after e.size) (λ (s : Option Step). s) _ _
-    c.segment_child.result next (rw c.segment_at-after.ensures at
-    c.segment_child.ensures.answer))
+    answers_none _ (segment_read c.args.track c.args.place) _ _
+    (goes_last _ _ _ _ _ next (rw c.segment_at-after.ensures at c.segment_child.ensures.answer))
 
 pub returns-clause-less : goal.returns-clause-less
 returns-clause-less g c =

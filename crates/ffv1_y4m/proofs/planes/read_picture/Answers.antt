@@ -22,14 +22,11 @@ returns-in_err-read_planes-clause-answer g c =
     let p = err_from_is_err_and c.from_residual-in_err-read_planes.result
     c.from_residual-in_err-read_planes.ensures.1 in
     let begun = rw c.if-not-branch.false at c.in_ok-read_frame_line.ensures.answer in
-    rw (p.1, p.2) (picture_broken c.args.depth c.args.head.now _
-    (g.R.ByteIn.remaining c.read_frame_line.new.input) _ _
-    (g.R.ByteIn.failures c.read_frame_line.new.input) _ c.in_err-read_planes.field-0.0 begun
-    c.in_err-read_planes.ensures.answer)
+    rw (p.1, p.2) (picture_broken c.args.depth c.args.head.now _ _ _ _ _ _
+    c.in_err-read_planes.field-0.0 begun c.in_err-read_planes.ensures.answer)
 
 pub returns-clause-answer : goal.returns-clause-answer
 returns-clause-answer g c =
     let begun = rw c.if-not-branch.false at c.in_ok-read_frame_line.ensures.answer in
-    picture_whole c.args.depth c.args.head.now _ (g.R.ByteIn.remaining c.read_frame_line.new.input)
-    _ _ (g.R.ByteIn.failures c.read_frame_line.new.input) _
+    picture_whole c.args.depth c.args.head.now _ _ _ _ _ _
     (samples_of c.read_planes.new.planes.items) begun c.in_ok-read_planes.ensures.answer

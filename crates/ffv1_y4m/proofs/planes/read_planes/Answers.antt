@@ -19,10 +19,9 @@ loop-plane-preserved g c =
     omega (arith, h.0, bytes_long c.args.depth c.args.head.now) in (
       length-set _ _ _ ∙ h.0,
       a.answer.said.0 ∙ h.1,
-      rw map-set (partway_step c.args.depth (plane_bytes c.args.depth c.args.head.now) _
-          (g.R.ByteIn.remaining c.loop-plane.input) _ c.loop-plane.plane _ _
-          (samples_of c.loop-plane.planes.items) c.read_plane.new.plane.items inside many h.2
-          a.answer),
+      rw map-set (partway_step c.args.depth (plane_bytes c.args.depth c.args.head.now) _ _ _
+          c.loop-plane.plane _ _ (samples_of c.loop-plane.planes.items) c.read_plane.new.plane.items
+          inside many h.2 a.answer),
       (λ room. room_next (plane_bytes c.args.depth c.args.head.now) c.loop-plane.planes.items
           c.loop-plane.plane c.index_mut.result.now c.read_plane.new.plane inside (omega arith)
           (h.3 room)),
@@ -37,9 +36,9 @@ returns-in_err-read_plane-clause-answer g c =
     (plane_bytes c.args.depth c.args.head.now) = length-map c.loop-plane.planes.items _ ∙ h.0 in
     let inside : c.loop-plane.plane < length (plane_bytes c.args.depth c.args.head.now) =
     omega (arith, h.0, bytes_long c.args.depth c.args.head.now) in
-    rw (p.1, p.2) (partway_stop c.args.depth (plane_bytes c.args.depth c.args.head.now) _
-    (g.R.ByteIn.remaining c.loop-plane.input) _ c.loop-plane.plane _ _ _
-    (samples_of c.loop-plane.planes.items) c.in_err-read_plane.field-0.0 inside many h.2 h.1 a)
+    rw (p.1, p.2) (partway_stop c.args.depth (plane_bytes c.args.depth c.args.head.now) _ _ _
+    c.loop-plane.plane _ _ _ (samples_of c.loop-plane.planes.items)
+    c.in_err-read_plane.field-0.0 inside many h.2 h.1 a)
 
 pub returns-in_err-read_plane-clause-room : goal.returns-in_err-read_plane-clause-room
 returns-in_err-read_plane-clause-room g c = λ room.

@@ -32,21 +32,21 @@ loop-done-preserved g c =
     c.read_block.auto.green ∙ grind (arith, common_steps, least, most, h.1) in
     let blue : length c.read_block.new.blue ≡ c.min-end.result - c.loop-done.done =
     c.read_block.auto.blue ∙ grind (arith, common_steps, least, most, h.2) in
-    let one : take c.min-end.result (put_mid c.loop-done.done (c.min-end.result - c.loop-done.done)
-    c.loop-done.red c.read_block.new.red) ≡ take c.loop-done.done c.loop-done.red ++
-    c.read_block.new.red = take-put_mid i (end - i) c.loop-done.red c.read_block.new.red end
-    (omega (arith, red, least)) h.0 in
-    let two : take c.min-end.result (put_mid c.loop-done.done (c.min-end.result - c.loop-done.done)
-    c.loop-done.green c.read_block.new.green) ≡ take c.loop-done.done c.loop-done.green ++
-    c.read_block.new.green = take-put_mid i (end - i) c.loop-done.green c.read_block.new.green
-    end (omega (arith, green, least)) (omega (arith, h.0, h.1)) in
+    let one : take c.min-end.result (put_mid c.loop-done.done
+    (c.min-end.result - c.loop-done.done) c.loop-done.red c.read_block.new.red) ≡ take
+    c.loop-done.done c.loop-done.red ++ c.read_block.new.red = take-put_mid i
+    (end - i) c.loop-done.red c.read_block.new.red end (omega (arith, red, least)) h.0 in
+    let two : take c.min-end.result (put_mid c.loop-done.done
+    (c.min-end.result - c.loop-done.done) c.loop-done.green c.read_block.new.green) ≡ take
+    c.loop-done.done c.loop-done.green ++ c.read_block.new.green = take-put_mid i
+    (end - i) c.loop-done.green c.read_block.new.green end (omega (arith, green, least))
+    (omega (arith, h.0, h.1)) in
     let three : take c.min-end.result (put_mid c.loop-done.done
     (c.min-end.result - c.loop-done.done) c.loop-done.blue c.read_block.new.blue) ≡ take
-    c.loop-done.done c.loop-done.blue ++ c.read_block.new.blue = take-put_mid i (end - i)
-    c.loop-done.blue c.read_block.new.blue end (omega (arith, blue, least))
+    c.loop-done.done c.loop-done.blue ++ c.read_block.new.blue = take-put_mid i
+    (end - i) c.loop-done.blue c.read_block.new.blue end (omega (arith, blue, least))
     (omega (arith, h.0, h.2)) in
-    let more = colours_more c.args.depth _ (g.R.ByteIn.remaining c.loop-done.input)
-    (g.R.ByteIn.remaining c.read_block.new.input) i (end - i) _ (take i c.loop-done.red)
+    let more = colours_more c.args.depth _ _ _ i (end - i) _ (take i c.loop-done.red)
     (take i c.loop-done.green) (take i c.loop-done.blue) c.read_block.new.red
     c.read_block.new.green c.read_block.new.blue three_times h.4 h.5 read.1.0 read.1.1
     read.1.2.0 read.1.2.1 in
@@ -55,20 +55,17 @@ loop-done-preserved g c =
     (c.min-end.result ≡ c.loop-done.done + 1024) =
     elim (cases_lt (length c.loop-done.red) (c.loop-done.done + 1024)) [
       | inl few ↦ inl (grind (arith, common_steps, c.min-end.ensures, few, same))
-      | inr enough ↦
-          inr (grind (arith, common_steps, c.min-end.ensures, enough))
+      | inr enough ↦ inr (grind (arith, common_steps, c.min-end.ensures, enough))
     ] in
     let whole = whole_end c.args.depth (length c.args.red.now) i end c.requires.whole h.4 ends in
     let sum : c.loop-done.done + (c.min-end.result - c.loop-done.done) ≡ c.min-end.result =
     omega (arith, least) in (
       grind (arith, common_steps, most, red),
       grind (arith, common_steps, h.1, red, green),
-      grind
-          (arith, common_steps, h.2, red, blue),
+      grind (arith, common_steps, h.2, red, blue),
       read.0 ∙ h.3,
       whole,
-      rw (one, two, three)
-          (rw sum at more),
+      rw (one, two, three) (rw sum at more),
     )
 
 pub returns-in_err-read_block : goal.returns-in_err-read_block
@@ -84,11 +81,10 @@ returns-in_err-read_block g c =
     (drop c.loop-done.done c.loop-done.red)) ≡ c.min-end.result - c.loop-done.done = grind
     (arith, common_steps, least, most) in
     let same : length c.loop-done.red ≡ length c.args.red.now = c.loop-done.auto.red in
-    let within : 3 * c.loop-done.done + 3 * length
-    (take (c.min-end.result - c.loop-done.done) (drop c.loop-done.done c.loop-done.red)) ≤ 3 *
-    length c.args.red.now = omega (arith, size, least, most, same) in
+    let within : 3 * c.loop-done.done + 3 * length (take (c.min-end.result - c.loop-done.done)
+    (drop c.loop-done.done c.loop-done.red)) ≤ 3 * length c.args.red.now = omega
+    (arith, size, least, most, same) in
     record {
-      answer = rw (p.1, p.2) (colours_stop c.args.depth _
-          (g.R.ByteIn.remaining c.loop-done.input) _ i _ _ _ _ _ _ c.in_err-read_block.field-0.0
-          within h.5 h.3 c.in_err-read_block.ensures.answer);
+      answer = rw (p.1, p.2) (colours_stop c.args.depth _ _ _ i _ _ _ _ _ _
+          c.in_err-read_block.field-0.0 within h.5 h.3 c.in_err-read_block.ensures.answer);
     }

@@ -22,18 +22,15 @@ returns-in_err-read_image_planes-2-clause-answer g c =
     let p = err_from_is_err_and c.from_residual-in_err-read_image_planes-2.result
     c.from_residual-in_err-read_image_planes-2.ensures.1 in
     let begun = rw c.if-not-branch.false at c.in_ok-read_later_header.ensures.answer in
-    rw (c.if-begun.false, p.1, p.2) (image_broken c.args.most c.args.said.now _
-    (g.R.ByteIn.remaining c.read_later_header.new.input) _ _
-    (g.R.ByteIn.failures c.read_later_header.new.input) _ c.in_err-read_image_planes-2.field-0.0
+    rw (c.if-begun.false, p.1, p.2) (image_broken c.args.most c.args.said.now _ _ _ _ _ _
+    c.in_err-read_image_planes-2.field-0.0
     (record { sized = c.requires.sized; colour = c.requires.colour; named = c.requires.named })
     begun c.in_err-read_image_planes-2.ensures.answer)
 
 pub returns-clause-answer : goal.returns-clause-answer
 returns-clause-answer g c =
     let begun = rw c.if-not-branch.false at c.in_ok-read_later_header.ensures.answer in
-    rw c.if-begun.false (image_whole c.args.most c.args.said.now _
-    (g.R.ByteIn.remaining c.read_later_header.new.input) _ _
-    (g.R.ByteIn.failures c.read_later_header.new.input) _
+    rw c.if-begun.false (image_whole c.args.most c.args.said.now _ _ _ _ _ _
     (samples_of c.read_image_planes-2.new.planes.items)
     (record { sized = c.requires.sized; colour = c.requires.colour; named = c.requires.named })
     begun c.in_ok-read_image_planes-2.ensures.answer)

@@ -38,9 +38,8 @@ returns-in_err-sizes_end-clause-answer g c =
     let two = rw also at c.in_err-sizes_end.ensures.answer in
     let f = c.in_err-sizes_end.field-0.0 in
     let m = c.args.most in
-    rw (p.1, p.2) (first_goes m _ (g.R.ByteIn.remaining c.read_line.new.input) _ _
-    (g.R.ByteIn.failures c.read_line.new.input) _ magic _ one
-    (second_stops m magic _ f (stands_fresh (line_read 10) Nowhere _ _ _ _ _ two)))
+    rw (p.1, p.2) (first_goes m _ _ _ _ _ _ magic _ one (second_stops m magic _ f (stands_fresh
+    (line_read 10) Nowhere _ _ _ _ _ two)))
 
 pub returns-in_err-depth-clause-answer : goal.returns-in_err-depth-clause-answer
 returns-in_err-depth-clause-answer g c =
@@ -54,10 +53,7 @@ returns-in_err-depth-clause-answer g c =
     let two = rw also at c.in_ok-sizes_end.ensures.answer in
     let f = c.in_err-depth.field-0.0 in
     let m = c.args.most in
-    rw (p.1, p.2) (first_goes m _ (g.R.ByteIn.remaining c.read_line.new.input) _ _
-    (g.R.ByteIn.failures c.read_line.new.input) _ magic _ one
-    (second_goes m magic _ (g.R.ByteIn.remaining c.read_line-2.new.input) _ _
-    (g.R.ByteIn.failures c.read_line-2.new.input) _ sizes _
+    rw (p.1, p.2) (first_goes m _ _ _ _ _ _ magic _ one (second_goes m magic _ _ _ _ _ _ sizes _
     (stands_fresh (line_read 10) Nowhere _ _ _ _ _ two)
     (third_stops m magic sizes _ f c.in_err-depth.ensures.answer)))
 
@@ -74,10 +70,7 @@ returns-in-Some-clause-answer g c =
     let one = rw long at c.in_ok-magic_end.ensures.answer in
     let two = rw also at c.in_ok-sizes_end.ensures.answer in
     let m = c.args.most in
-    first_goes m _ (g.R.ByteIn.remaining c.read_line.new.input) _ _
-    (g.R.ByteIn.failures c.read_line.new.input) _ magic _ one
-    (second_goes m magic _ (g.R.ByteIn.remaining c.read_line-2.new.input) _ _
-    (g.R.ByteIn.failures c.read_line-2.new.input) _ sizes _
+    first_goes m _ _ _ _ _ _ magic _ one (second_goes m magic _ _ _ _ _ _ sizes _
     (stands_fresh (line_read 10) Nowhere _ _ _ _ _ two)
     (third_goes m magic sizes _ _ _ _ depth _ c.in_ok-depth.ensures.answer
     (head_given (image_head magic sizes depth) c.in-Some.said _ _ is)))
@@ -95,10 +88,7 @@ returns-in-None-clause-answer g c =
     let one = rw long at c.in_ok-magic_end.ensures.answer in
     let two = rw also at c.in_ok-sizes_end.ensures.answer in
     let m = c.args.most in
-    first_goes m _ (g.R.ByteIn.remaining c.read_line.new.input) _ _
-    (g.R.ByteIn.failures c.read_line.new.input) _ magic _ one
-    (second_goes m magic _ (g.R.ByteIn.remaining c.read_line-2.new.input) _ _
-    (g.R.ByteIn.failures c.read_line-2.new.input) _ sizes _
+    first_goes m _ _ _ _ _ _ magic _ one (second_goes m magic _ _ _ _ _ _ sizes _
     (stands_fresh (line_read 10) Nowhere _ _ _ _ _ two)
     (third_goes m magic sizes _ _ _ _ depth _ c.in_ok-depth.ensures.answer
     (head_refused (image_head magic sizes depth) _ _ is)))

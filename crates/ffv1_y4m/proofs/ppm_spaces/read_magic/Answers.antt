@@ -26,11 +26,10 @@ returns-in_err-end-clause-answer g c =
     let byte : ℕ = c.in_ok-word.field-0 in
     let long : length c.read_word.new.word ≡ 3 = c.read_word.auto.word in
     let read = rw long at c.in_err-end.ensures.answer in
-    rw (p.1, p.2) (stands_first magic_word (λ word. give (is_text word (codes "P6"))) Nowhere
-    Nowhere _ c.in_err-end.field-0.0 (λ word rest. omega arith) (λ xs k. k)
-    (stands_next byte_read (λ b. word_read 2 (b ∷ [])) Nowhere Nowhere Nowhere _
-    (g.R.ByteIn.remaining c.first_byte.new.input) _ _
-    (g.R.ByteIn.failures c.first_byte.new.input) _ byte _
+    rw (p.1, p.2) (stands_first magic_word (λ word. give (is_text word
+    (codes "P6"))) Nowhere Nowhere _ c.in_err-end.field-0.0 (λ word rest. omega arith)
+    (λ xs k. k) (stands_next byte_read (λ b. word_read 2
+    (b ∷ [])) Nowhere Nowhere Nowhere _ _ _ _ _ _ byte _
     (stays_of byte_read byte (λ text x mid h behind. byte_extends text x mid h behind))
     (λ xs ys a b. b) c.in_ok-word.ensures.answer read))
 
@@ -42,11 +41,11 @@ returns-clause-answer g c =
     let word : List ℕ = take c.in_ok-end.end c.read_word.new.word in
     let is : c.is_text.result ≡ is_text (take c.in_ok-end.end c.read_word.new.word) (codes "P6") =
     c.is_text.ensures ∙ grind (arith, common_steps) in
-    rw is (stands_next magic_word (λ w. give (is_text w (codes "P6"))) Nowhere Nowhere Nowhere _ _ _
-    _ _ _ word _ (stays_of magic_word word magic_extends) (λ xs ys a b. b)
-    (stands_next byte_read (λ b. word_read 2 (b ∷ [])) Nowhere Nowhere Nowhere _
-    (g.R.ByteIn.remaining c.first_byte.new.input) _ _
-    (g.R.ByteIn.failures c.first_byte.new.input) _ byte _
+    rw is (stands_next magic_word (λ w. give (is_text w
+    (codes "P6"))) Nowhere Nowhere Nowhere _ _ _ _ _ _ word _
+    (stays_of magic_word word magic_extends) (λ xs ys a b. b)
+    (stands_next byte_read (λ b. word_read 2
+    (b ∷ [])) Nowhere Nowhere Nowhere _ _ _ _ _ _ byte _
     (stays_of byte_read byte (λ text x mid h behind. byte_extends text x mid h behind))
-    (λ xs ys a b. b) c.in_ok-word.ensures.answer read)
-    (stands_given (is_text word (codes "P6")) Nowhere _ _))
+    (λ xs ys a b. b) c.in_ok-word.ensures.answer read) (stands_given (is_text word
+    (codes "P6")) Nowhere _ _))

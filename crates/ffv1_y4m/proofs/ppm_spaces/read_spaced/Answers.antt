@@ -22,9 +22,8 @@ returns-clause-answer g c =
     let byte : ℕ = c.in_ok-word.field-0 in
     let read = rw (← room_is) at c.in_ok-word.ensures.answer in
     let word = rw (set_first c.args.word.now byte c.requires) at c.read_word.ensures.answer in
-    stands_next (blank_read blank_room false) (λ b. word_read most (b ∷ [])) Nowhere Nowhere Nowhere
-    _ (g.R.ByteIn.remaining c.pass_blank.new.input) _ _
-    (g.R.ByteIn.failures c.pass_blank.new.input) _ byte _
+    stands_next (blank_read blank_room false) (λ b. word_read most
+    (b ∷ [])) Nowhere Nowhere Nowhere _ _ _ _ _ _ byte _
     (stays_of (blank_read blank_room false) byte
     (λ text x mid h behind. blank_extends blank_room false text x mid h behind))
     (λ xs ys a b. b) read word

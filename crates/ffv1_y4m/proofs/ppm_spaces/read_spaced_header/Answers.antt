@@ -33,8 +33,7 @@ returns-in_err-width-clause-answer g c =
     c.from_residual-in_err-width.ensures.1 in
     let m = c.args.most in
     let magic = c.in_ok-magic.magic in
-    rw (p.1, p.2) (magic_goes m _ (g.R.ByteIn.remaining c.read_magic.new.input) _ _
-    (g.R.ByteIn.failures c.read_magic.new.input) _ magic _ c.in_ok-magic.ensures.answer
+    rw (p.1, p.2) (magic_goes m _ _ _ _ _ _ magic _ c.in_ok-magic.ensures.answer
     (width_stops m magic _ c.in_err-width.field-0.0 c.in_err-width.ensures.answer))
 
 pub returns-in_err-height-clause-answer : goal.returns-in_err-height-clause-answer
@@ -44,10 +43,8 @@ returns-in_err-height-clause-answer g c =
     let m = c.args.most in
     let magic = c.in_ok-magic.magic in
     let width = c.in_ok-width.width in
-    rw (p.1, p.2) (magic_goes m _ (g.R.ByteIn.remaining c.read_magic.new.input) _ _
-    (g.R.ByteIn.failures c.read_magic.new.input) _ magic _ c.in_ok-magic.ensures.answer
-    (width_goes m magic _ (g.R.ByteIn.remaining c.read_size.new.input) _ _
-    (g.R.ByteIn.failures c.read_size.new.input) _ width _ c.in_ok-width.ensures.answer
+    rw (p.1, p.2) (magic_goes m _ _ _ _ _ _ magic _ c.in_ok-magic.ensures.answer
+    (width_goes m magic _ _ _ _ _ _ width _ c.in_ok-width.ensures.answer
     (height_stops m magic width _ c.in_err-height.field-0.0 c.in_err-height.ensures.answer)))
 
 pub returns-in_err-depth-clause-answer : goal.returns-in_err-depth-clause-answer
@@ -58,12 +55,9 @@ returns-in_err-depth-clause-answer g c =
     let magic = c.in_ok-magic.magic in
     let width = c.in_ok-width.width in
     let height = c.in_ok-height.height in
-    rw (p.1, p.2) (magic_goes m _ (g.R.ByteIn.remaining c.read_magic.new.input) _ _
-    (g.R.ByteIn.failures c.read_magic.new.input) _ magic _ c.in_ok-magic.ensures.answer
-    (width_goes m magic _ (g.R.ByteIn.remaining c.read_size.new.input) _ _
-    (g.R.ByteIn.failures c.read_size.new.input) _ width _ c.in_ok-width.ensures.answer
-    (height_goes m magic width _ (g.R.ByteIn.remaining c.read_size-2.new.input) _ _
-    (g.R.ByteIn.failures c.read_size-2.new.input) _ height _ c.in_ok-height.ensures.answer
+    rw (p.1, p.2) (magic_goes m _ _ _ _ _ _ magic _ c.in_ok-magic.ensures.answer
+    (width_goes m magic _ _ _ _ _ _ width _ c.in_ok-width.ensures.answer
+    (height_goes m magic width _ _ _ _ _ _ height _ c.in_ok-height.ensures.answer
     (depth_stops m magic width height _ c.in_err-depth.field-0.0
     c.in_err-depth.ensures.answer))))
 
@@ -74,12 +68,9 @@ returns-in-Some-clause-answer g c =
     let width = c.in_ok-width.width in
     let height = c.in_ok-height.height in
     let depth = c.in_ok-depth.depth in
-    magic_goes m _ (g.R.ByteIn.remaining c.read_magic.new.input) _ _
-    (g.R.ByteIn.failures c.read_magic.new.input) _ magic _ c.in_ok-magic.ensures.answer
-    (width_goes m magic _ (g.R.ByteIn.remaining c.read_size.new.input) _ _
-    (g.R.ByteIn.failures c.read_size.new.input) _ width _ c.in_ok-width.ensures.answer
-    (height_goes m magic width _ (g.R.ByteIn.remaining c.read_size-2.new.input) _ _
-    (g.R.ByteIn.failures c.read_size-2.new.input) _ height _ c.in_ok-height.ensures.answer
+    magic_goes m _ _ _ _ _ _ magic _ c.in_ok-magic.ensures.answer
+    (width_goes m magic _ _ _ _ _ _ width _ c.in_ok-width.ensures.answer
+    (height_goes m magic width _ _ _ _ _ _ height _ c.in_ok-height.ensures.answer
     (depth_goes m magic width height _ _ _ _ depth _ c.in_ok-depth.ensures.answer
     (head_given (spaced_head magic width height depth) c.in-Some.said _ _ c.in-Some.ensures))))
 
@@ -90,11 +81,8 @@ returns-in-None-clause-answer g c =
     let width = c.in_ok-width.width in
     let height = c.in_ok-height.height in
     let depth = c.in_ok-depth.depth in
-    magic_goes m _ (g.R.ByteIn.remaining c.read_magic.new.input) _ _
-    (g.R.ByteIn.failures c.read_magic.new.input) _ magic _ c.in_ok-magic.ensures.answer
-    (width_goes m magic _ (g.R.ByteIn.remaining c.read_size.new.input) _ _
-    (g.R.ByteIn.failures c.read_size.new.input) _ width _ c.in_ok-width.ensures.answer
-    (height_goes m magic width _ (g.R.ByteIn.remaining c.read_size-2.new.input) _ _
-    (g.R.ByteIn.failures c.read_size-2.new.input) _ height _ c.in_ok-height.ensures.answer
+    magic_goes m _ _ _ _ _ _ magic _ c.in_ok-magic.ensures.answer
+    (width_goes m magic _ _ _ _ _ _ width _ c.in_ok-width.ensures.answer
+    (height_goes m magic width _ _ _ _ _ _ height _ c.in_ok-height.ensures.answer
     (depth_goes m magic width height _ _ _ _ depth _ c.in_ok-depth.ensures.answer
     (head_refused (spaced_head magic width height depth) _ _ c.in-None.ensures))))

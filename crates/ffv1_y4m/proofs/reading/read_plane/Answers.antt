@@ -12,8 +12,7 @@ use Rattle.ffv1_y4m.proofs.reading.read_plane.Goals as goal
 pub returns-in_err-resize-clause-answer : goal.returns-in_err-resize-clause-answer
 returns-in_err-resize-clause-answer g c =
     let p = err_from_is_err_and c.from_residual.result c.from_residual.ensures.1 in
-    rw (p.1, p.2) (stands_full (plane_read c.args.depth c.args.size)
-    (g.R.ByteIn.remaining c.args.input.now) (g.R.ByteIn.failures c.args.input.now))
+    rw (p.1, p.2) (stands_full (plane_read c.args.depth c.args.size) _ _)
 
 pub returns-in_err-len-clause-answer : goal.returns-in_err-len-clause-answer
 returns-in_err-len-clause-answer g c =
