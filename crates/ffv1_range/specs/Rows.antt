@@ -1,5 +1,5 @@
 -- The symbols of many numbers, each in a row of 32 of many states.
-use Rattle.std.specs.Prelude.{◌≡◌, ℕ, ◌+◌, ◌*◌, ◌^◌, ◌≤◌, ◌<◌, List, [], ◌++◌, length, slice_index}
+use Rattle.std.specs.Prelude.{ℕ, ◌+◌, ◌*◌, ◌^◌, ◌≤◌, ◌<◌, List, [], ◌++◌, length, slice_index}
 use Rattle.std.specs.Prelude.{slice_index_or, ℤ, pos, unsigned_abs}
 use Rattle.std.proofs.Common.{zero, suc}
 use Rattle.ffv1_range.specs.Symbols.{Step, shifted, signed_steps}

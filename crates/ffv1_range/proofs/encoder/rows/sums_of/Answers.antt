@@ -5,7 +5,7 @@ use Rattle.std.specs.Int.{w32}
 use Rattle.std.specs.Prelude.{slice_index_or}
 use mir.Val.{SFits}
 use Rattle.ffv1_range.specs.Symbols.{signed_steps}
-use Rattle.ffv1_range.specs.Counts.{ones_in, zeros_in}
+use Rattle.ffv1_range.specs.Counts.{ones_in}
 use Rattle.ffv1_range.proofs.Counting.{steps_counted}
 use Rattle.ffv1_range.proofs.Rows.{rows-none, rows_ones, rows_length}
 use Rattle.ffv1_range.proofs.encoder.rows.sums_of.Goals as goal

@@ -6,7 +6,6 @@ use lib.Signed.{lt_z}
 use mir.Val.{SFits}
 use Rattle.ffv1_range.specs.Symbols.{exponent, signed_steps, sized_steps}
 use Rattle.ffv1_range.specs.Counts.{ones_in, zeros_in}
-use Rattle.ffv1_range.specs.Weight.{one_if}
 use Rattle.ffv1_range.proofs.Prefix.{exponent_of}
 use Rattle.ffv1_range.proofs.Signed.{signed_is, zero_is}
 use Rattle.ffv1_range.proofs.Mantissa.{bit_is, one_if_most}
