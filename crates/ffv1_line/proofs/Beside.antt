@@ -1,5 +1,7 @@
 -- The neighbours of a sample by the row are those of the cell, and blocks of places make a row.
-use Rattle.std.proofs.Common.{inl, inr, ◌≡◌, refl, ℕ, zero, suc, ◌+◌, ◌-◌, ◌*◌, ◌<◌, ◌≤◌, min, List, [], ◌++◌, length, get_or, arith, ap, sym, subst, ◌≢◌, slice_set, get_or-set_same, get_or-set_other, below_more, ◌∙◌, append_assoc, Bool, append-nil, ℤ}
+use Rattle.std.proofs.Common.{inl, inr, ◌≡◌, refl, ℕ, zero, suc, ◌+◌, ◌-◌, ◌*◌, ◌<◌, ◌≤◌, min, List, [], ◌++◌, length, get_or, arith, ap, sym, subst, ◌≢◌, slice_set, get_or-set_same, get_or-set_other, below_more, ◌∙◌, append_assoc, Bool, append-nil, ℤ, pos, unsigned_abs, ◌^◌}
+use Rattle.std.specs.Prelude.{slice_index_or}
+use Rattle.ffv1_range.specs.Rows.{rows_steps}
 use Rattle.std.proofs.lemmas.Bool.{cases_lt}
 use Rattle.ffv1_range.specs.Table.{Table}
 use Rattle.ffv1_range.specs.Symbols.{Step, shifted, signed_steps}
@@ -21,7 +23,8 @@ use Rattle.ffv1_plane.specs.Residual.{chosen_of, IsFolded}
 use Rattle.ffv1_plane.proofs.Folding.{chosen_folded}
 use Rattle.ffv1_line.specs.Cell.{Cell, seen, around, Shows, Above}
 use Rattle.ffv1_line.specs.Internal.Along.{Left}
-use Rattle.ffv1_line.specs.Internal.Parts.{ArePrepared, part_steps}
+use Rattle.ffv1_line.specs.Internal.Parts.{ArePrepared, AreNumbered, part_steps, residual_by, residual_limit}
+use Rattle.ffv1_line.proofs.BlockLanes.{nine_by}
 use Rattle.ffv1_line.specs.Row.{chosen_at, chosen_row, row_steps, sample_steps}
 use Rattle.ffv1_line.specs.Encoded.{Written, MayBeRefusedRow, CountsFirst}
 use Rattle.ffv1_line.specs.Beside.{before, two_before, beside, chosen_beside, place_steps, places_steps}
@@ -145,12 +148,12 @@ counts_nothing coding old new over cur some same kept =
 -- ---- slots
 
 -- a symbol more of a block
-pub listed_next : {A : Type 0} (p : Part A) (n k context residual : ℕ) (xs ys : List ℕ) → ArePrepared p n xs ys → k < n →
+pub listed_next : {A : Type 0} (p : Part A) (n k context residual : ℕ) (xs ys : List ℕ) → p.bits < 10 → ArePrepared p n xs ys → k < n →
     context ≡ get_or xs k 0 → residual ≡ get_or ys k 0 → (done : List Step) → done ≡ part_steps p k ++ shifted (context * 32) (signed_steps (of_nine_bits residual)) →
     done ≡ part_steps p (k + 1)
-listed_next p n k context residual xs ys is inside x y done steps =
+listed_next p n k context residual xs ys nine is inside x y done steps =
     let size = x ∙ is.context k inside in
-    let chosen = ap of_nine_bits y ∙ is.residual k inside in
+    let chosen = ap of_nine_bits y ∙ sym (nine_by p.bits (get_or ys k 0) nine) ∙ is.residual k inside in
     steps ∙ ap (λ j. part_steps p k ++ shifted (j * 32) (signed_steps (of_nine_bits residual))) size
     ∙ ap (λ q. part_steps p k ++ shifted (size_of p.set.now (beside p.two.now p.one.now p.cur.now (p.from + k)) * 32) (signed_steps q)) chosen
     ∙ sym (places-more p.set.now p.bits p.two.now p.one.now p.cur.now p.from k)
@@ -180,16 +183,16 @@ two_before_next above row from k l is =
     is ∙ ap (two_before above row) (sym up)
 
 pub block_next : {A : Type 0} (p : Part A) (n size residual : ℕ) (xs ys : List ℕ) → ArePrepared p n xs ys → n < length xs → n < length ys →
-    size ≡ size_of p.set.now (beside p.two.now p.one.now p.cur.now (p.from + n)) → size < contexts_of p.set.now → of_nine_bits residual ≡ chosen_beside p.set.now p.bits p.two.now p.one.now p.cur.now (p.from + n) → residual < 512 →
+    size ≡ size_of p.set.now (beside p.two.now p.one.now p.cur.now (p.from + n)) → size < contexts_of p.set.now → residual_by p.bits residual ≡ chosen_beside p.set.now p.bits p.two.now p.one.now p.cur.now (p.from + n) → residual < residual_limit p.bits →
     ArePrepared p (n + 1) (slice_set xs n size) (slice_set ys n residual)
 block_next p n size residual xs ys is in_xs in_ys context few chosen small = record {
   context = below_more (λ k. get_or (slice_set xs n size) k 0 ≡ size_of p.set.now (beside p.two.now p.one.now p.cur.now (p.from + k))) n
       (λ k h. let other : k ≢ n = omega arith in get_or-set_other xs n k size 0 other ∙ is.context k h) (get_or-set_same xs n size 0 in_xs ∙ context);
   few = below_more (λ k. get_or (slice_set xs n size) k 0 < contexts_of p.set.now) n
       (λ k h. let other : k ≢ n = omega arith in rw get_or-set_other (is.few k h)) (rw (get_or-set_same xs n size 0 in_xs) few);
-  residual = below_more (λ k. of_nine_bits (get_or (slice_set ys n residual) k 0) ≡ chosen_beside p.set.now p.bits p.two.now p.one.now p.cur.now (p.from + k)) n
-      (λ k h. let other : k ≢ n = omega arith in ap of_nine_bits (get_or-set_other ys n k residual 0 other) ∙ is.residual k h) (ap of_nine_bits (get_or-set_same ys n residual 0 in_ys) ∙ chosen);
-  small = below_more (λ k. get_or (slice_set ys n residual) k 0 < 512) n
+  residual = below_more (λ k. residual_by p.bits (get_or (slice_set ys n residual) k 0) ≡ chosen_beside p.set.now p.bits p.two.now p.one.now p.cur.now (p.from + k)) n
+      (λ k h. let other : k ≢ n = omega arith in ap (residual_by p.bits) (get_or-set_other ys n k residual 0 other) ∙ is.residual k h) (ap (residual_by p.bits) (get_or-set_same ys n residual 0 in_ys) ∙ chosen);
+  small = below_more (λ k. get_or (slice_set ys n residual) k 0 < residual_limit p.bits) n
       (λ k h. let other : k ≢ n = omega arith in rw get_or-set_other (is.small k h)) (rw (get_or-set_same ys n residual 0 in_ys) small);
 }
 
@@ -226,11 +229,37 @@ refused_place t a b states after set bits two one cur from k n inside puts refus
     (refused_second t a b states after (places_steps set bits two one cur from k) (place_steps set bits two one cur (from + k)) puts refused))
 
 -- the symbol of a sample of a block
-pub place_is : {A : Type 0} (p : Part A) (n k : ℕ) (xs ys : List ℕ) (v : ℤ) → ArePrepared p n xs ys → k < n → v ≡ of_nine_bits (get_or ys k 0) →
+pub place_is : {A : Type 0} (p : Part A) (n k : ℕ) (xs ys : List ℕ) (v : ℤ) → ArePrepared p n xs ys → k < n → v ≡ residual_by p.bits (get_or ys k 0) →
     shifted (get_or xs k 0 * 32) (signed_steps v) ≡ place_steps p.set.now p.bits p.two.now p.one.now p.cur.now (p.from + k)
 place_is p n k xs ys v is inside value =
     ap (λ j. shifted (j * 32) (signed_steps v)) (is.context k inside)
     ∙ ap (λ q. shifted (size_of p.set.now (beside p.two.now p.one.now p.cur.now (p.from + k)) * 32) (signed_steps q)) (value ∙ is.residual k inside)
+
+-- the symbols of a block in the rows of its contexts
+pub rows_are : {A : Type 0} (p : Part A) (rows : List ℕ) (numbers : List ℤ) (n : ℕ) →
+    ((k : ℕ) → k < n → get_or rows k 0 ≡ size_of p.set.now (beside p.two.now p.one.now p.cur.now (p.from + k))) →
+    ((k : ℕ) → k < n → slice_index_or numbers k (pos 0) ≡ chosen_beside p.set.now p.bits p.two.now p.one.now p.cur.now (p.from + k)) →
+    rows_steps rows numbers n ≡ part_steps p n
+unfolding rows_steps places_steps
+rows_are p rows numbers zero contexts chosen = refl
+rows_are p rows numbers (suc n) contexts chosen =
+    let before = rows_are p rows numbers n (λ k less. contexts k (omega arith)) (λ k less. chosen k (omega arith)) in
+    let v = slice_index_or numbers n (pos 0) in
+    let here : shifted (get_or rows n 0 * 32) (signed_steps v) ≡ place_steps p.set.now p.bits p.two.now p.one.now p.cur.now (p.from + n) =
+    ap (λ j. shifted (j * 32) (signed_steps v)) (contexts n (omega arith))
+    ∙ ap (λ q. shifted (size_of p.set.now (beside p.two.now p.one.now p.cur.now (p.from + n)) * 32) (signed_steps q)) (chosen n (omega arith)) in
+    ap (λ l. l ++ shifted (get_or rows n 0 * 32) (signed_steps v)) before ∙ ap (λ l. part_steps p n ++ l) here
+
+-- a residual more as a signed number
+pub numbered_next : {A : Type 0} (p : Part A) (numbers : List ℤ) (n : ℕ) (v : ℤ) → AreNumbered p numbers n → n < length numbers →
+    v ≡ chosen_beside p.set.now p.bits p.two.now p.one.now p.cur.now (p.from + n) → unsigned_abs v < 2 ^ 31 →
+    AreNumbered p (slice_set numbers n v) (n + 1)
+numbered_next p numbers n v is inside value small = record {
+  number = below_more (λ k. slice_index_or (slice_set numbers n v) k (pos 0) ≡ chosen_beside p.set.now p.bits p.two.now p.one.now p.cur.now (p.from + k)) n
+      (λ k h. let other : k ≢ n = omega arith in get_or-set_other numbers n k v (pos 0) other ∙ is.number k h) (get_or-set_same numbers n v (pos 0) inside ∙ value);
+  size = below_more (λ k. unsigned_abs (slice_index_or (slice_set numbers n v) k (pos 0)) < 2 ^ 31) n
+      (λ k h. let other : k ≢ n = omega arith in rw (get_or-set_other numbers n k v (pos 0) other) (is.size k h)) (rw (get_or-set_same numbers n v (pos 0) inside) small);
+}
 
 -- ---- rows of places
 

@@ -1,5 +1,7 @@
 //! How the rows of a plane are coded.
 
+ghost use Rattle.std.specs.Prelude.{◌≡◌, ◌⊎◌};
+
 pub mod states;
 pub(crate) mod way;
 pub mod wide;
@@ -32,4 +34,13 @@ impl<'a, B: Allocator> Model for Coding<'a, B> {
     ghost view = { λ c. record { table = c.table.now; set = c.set.now; bits = c.bits } };
 
     ghost invariant = { λ c. (8 ≤ c.bits) × (c.bits ≤ 16) };
+}
+
+/// The bits as a constant, which 0 is not.
+#[inline(always)]
+pub(crate) fn fixed_bits<const BITS: u8>(bits: u8) -> u8
+    requires { (BITS ≡ 0) ⊎ (bits ≡ BITS) }
+    ensures { result ≡ bits }
+{
+    if BITS == 0 { bits } else { BITS }
 }

@@ -19,8 +19,10 @@ mod plain;
 mod wide;
 
 use crate::cell::above::Above;
-use crate::coding::Coding;
-use crate::encode::block::{Block, LIST, PLACES, list_places, prepare};
+use crate::coding::{Coding, fixed_bits};
+use crate::encode::block::{
+    Block, LIST, PLACES, list_places, number_places, prepare, residual_from,
+};
 use crate::encode::deep::encode_deep;
 use crate::encode::part::Part;
 pub use cell::{CellRows, encode_cell};
@@ -31,19 +33,8 @@ pub use wide::encode_wide;
 /// In a block of fewer nonzero residuals the symbols are written one by one.
 const MOSTLY_ZERO: u16 = 8;
 
-/// A residual of nine bits by itself modulo 512.
-#[inline(always)]
-fn residual_of_nine(residual: u16) -> i32
-    requires { residual < 512 }
-    ensures value { result ≡ of_nine_bits residual }
-    ensures size { unsigned_abs result < 2 ^ 31 }
-{
-    let number = residual as i32;
-    if number < 256 {
-        return number;
-    }
-    number - 512
-}
+/// After a block of more decisions the symbols are written one by one too.
+const DENSE: u32 = 512;
 
 /// Whether nearly all residuals are zero, so that their symbols are written one by one faster than
 /// by a list.
@@ -77,7 +68,7 @@ fn put_residual<A: Allocator>(
     ensures err { FailsForGood result encoder.new }
     ensures kept { OnErr result (encoder.new.counts ≡ encoder.old.counts) }
 {
-    let value = residual_of_nine(residual);
+    let value = residual_from(residual, 9);
     encoder.put_signed_in_row(table, states, context, value)?;
     Ok(())
 }
@@ -111,7 +102,8 @@ fn put_mostly_zero<A: Allocator>(
     Ok(())
 }
 
-/// The symbols of the places of a part of a row, one by one, by the block that was prepared of it.
+/// The symbols of the places of a part of a row of 8 or 9 bits, one by one, by the block that was
+/// prepared of it.
 #[inline(never)]
 fn put_places<A: Allocator, B: Allocator>(
     encoder: &mut RangeEncoder<A>,
@@ -122,6 +114,7 @@ fn put_places<A: Allocator, B: Allocator>(
 ) -> Result<(), Fault>
     requires sound { encoder.old.failed ≡ false }
     requires part { IsPart part.now }
+    requires bits { part.now.bits < 10 }
     requires block { IsBlockOf part.now part.now.count block.now }
     requires rows { length states.old ≡ contexts_of part.now.set.now * 32 }
     requires held { AllHeld table.now states.old }
@@ -141,8 +134,47 @@ fn put_places<A: Allocator, B: Allocator>(
     Ok(())
 }
 
-/// The symbols of a part of a row, by an encoder that has not failed: one by one where nearly all
-/// residuals are zero, else by a list.
+/// The symbols of a part of a row one by one, with the interval in locals. Answers how many
+/// decisions they were.
+#[inline(never)]
+fn put_numbers<A: Allocator, B: Allocator>(
+    encoder: &mut RangeEncoder<A>,
+    table: &StateTable,
+    states: &mut [u8],
+    part: &Part<'_, B>,
+    block: &mut Block,
+) -> Result<u32, Fault>
+    requires sound { encoder.old.failed ≡ false }
+    requires part { IsPart part.now }
+    requires block { IsBlockOf part.now part.now.count block.old }
+    requires rows { length states.old ≡ contexts_of part.now.set.now * 32 }
+    requires held { AllHeld table.now states.old }
+    ensures ok { OnOk result (Puts table.now encoder.old states.old encoder.new states.new
+        (part_steps part.now part.now.count)) }
+    ensures refused { OnErr result (MayBeRefused table.now encoder.old states.old
+        (part_steps part.now part.now.count)) }
+    ensures held { AllHeld table.now states.new }
+    ensures err { FailsForGood result encoder.new }
+    ensures kept { OnErr result (encoder.new.counts ≡ encoder.old.counts) }
+{
+    let _contexts = part.set.contexts();
+    number_places(block, part);
+    let Block {
+        contexts,
+        numbers,
+        ..
+    } = block;
+    encoder.put_rows(
+        table,
+        states,
+        &contexts[..part.count],
+        &numbers[..part.count],
+    )
+}
+
+/// The symbols of a part of a row, by an encoder that has not failed: one by one where samples have
+/// more than 9 bits, where the block before had many decisions, or where nearly all residuals are
+/// zero, else by a list.
 #[inline(always)]
 fn encode_block<A: Allocator, B: Allocator>(
     encoder: &mut RangeEncoder<A>,
@@ -164,18 +196,24 @@ fn encode_block<A: Allocator, B: Allocator>(
     ensures kept { OnErr result (CountsPart part.now encoder.old.counts encoder.new.counts) }
 {
     prepare(block, part);
+    if part.bits > 9 || block.is_dense {
+        let own = part.own();
+        block.is_dense = put_numbers(encoder, table, states, &own, block)? > DENSE;
+        return Ok(());
+    }
     if are_mostly_zero(&block.residuals[..part.count]) {
         let own = part.own();
         return put_places(encoder, table, states, &own, block);
     }
     let upto = list_places(block, part);
+    block.is_dense = upto > DENSE as usize;
     encoder.put_all(table, states, &block.list[..upto])?;
     Ok(())
 }
 
-/// A row of a cell of 8 or 9 bits, by an encoder that has not failed, by a body of its own for each
-/// depth and each kind of set. `THREE_TABLES` may be said of a set whose fourth and fifth tables
-/// have one level.
+/// A row of a cell of 8 to 15 bits, by an encoder that has not failed, by a body of its own for 8
+/// and for 9 bits, one for all others, whose `BITS` is 0, and for each kind of set. `THREE_TABLES`
+/// may be said of a set whose fourth and fifth tables have one level.
 #[inline(never)]
 fn encode_row<A: Allocator, B: Allocator, const BITS: u8, const THREE_TABLES: bool>(
     encoder: &mut RangeEncoder<A>,
@@ -185,8 +223,8 @@ fn encode_row<A: Allocator, B: Allocator, const BITS: u8, const THREE_TABLES: bo
     cur: &[u16],
 ) -> Result<(), Fault>
     requires sound { encoder.old.failed ≡ false }
-    requires depth { (BITS ≡ 8) ⊎ (BITS ≡ 9) }
-    requires bits { coding.now.bits ≡ BITS }
+    requires depth { coding.now.bits ≤ 15 }
+    requires bits { (BITS ≡ 0) ⊎ (coding.now.bits ≡ BITS) }
     requires three_tables { IsTrue THREE_TABLES → HasThreeTables coding.now.set }
     requires some { 0 < length cur.now }
     requires one_long { length above.now.one ≡ length cur.now }
@@ -201,19 +239,22 @@ fn encode_row<A: Allocator, B: Allocator, const BITS: u8, const THREE_TABLES: bo
     ensures kept { OnErr result (CountsFirst coding.now encoder.old.counts encoder.new.counts
         above.now cur.now) }
 {
+    let bits = fixed_bits::<BITS>(coding.bits);
     let Coding { table, set, .. } = coding;
     let Above { two, one } = above;
     let mut block = Block {
         contexts: [0; PLACES],
         residuals: [0; PLACES],
+        numbers: [0; PLACES],
         list: [0; LIST],
+        is_dense: false,
     };
     let mut from = 0;
     'parts: while from < cur.len() {
         let count = (cur.len() - from).min(PLACES);
         let part = Part {
             set,
-            bits: BITS,
+            bits,
             three_tables: THREE_TABLES,
             two,
             one,
@@ -267,7 +308,7 @@ pub fn encode_line<A: Allocator, B: Allocator>(
     }
     let Coding { set, bits, .. } = coding;
     let three_tables = set.has_three_tables();
-    if *bits > 9 {
+    if *bits > 15 {
         if three_tables {
             return encode_deep::<A, B, true>(encoder, coding, states, above, cur);
         }
@@ -279,8 +320,14 @@ pub fn encode_line<A: Allocator, B: Allocator>(
         }
         return encode_row::<A, B, 8, false>(encoder, coding, states, above, cur);
     }
-    if three_tables {
-        return encode_row::<A, B, 9, true>(encoder, coding, states, above, cur);
+    if *bits == 9 {
+        if three_tables {
+            return encode_row::<A, B, 9, true>(encoder, coding, states, above, cur);
+        }
+        return encode_row::<A, B, 9, false>(encoder, coding, states, above, cur);
     }
-    encode_row::<A, B, 9, false>(encoder, coding, states, above, cur)
+    if three_tables {
+        return encode_row::<A, B, 0, true>(encoder, coding, states, above, cur);
+    }
+    encode_row::<A, B, 0, false>(encoder, coding, states, above, cur)
 }

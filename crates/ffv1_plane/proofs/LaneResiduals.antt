@@ -1,14 +1,17 @@
 -- Predictions and residuals of a sample, as lanes have them.
-use Rattle.std.proofs.Common.{◌≡◌, refl, ap, ◌∙◌, sym, ℕ, ◌+◌, ◌-◌, ◌*◌, ◌/◌, ◌%◌, ◌<◌, ◌≤◌, ◌⊎◌, unsigned_abs, arith, ℤ, pos, ◌-ℤ◌, nat_lt, cond, Bool, true, false, inl, inr, min, max}
+use Rattle.std.proofs.Common.{◌≡◌, refl, ap, ◌∙◌, sym, ℕ, ◌+◌, ◌-◌, ◌*◌, ◌/◌, ◌%◌, ◌<◌, ◌≤◌, ◌⊎◌, unsigned_abs, arith, ℤ, pos, ◌-ℤ◌, ◌+ℤ◌, ◌^◌, nat_lt, cond, Bool, true, false, inl, inr, min, max}
 use Rattle.std.proofs.lemmas.Int.{ints, int_min_is, int_max_is}
 use Rattle.std.proofs.lemmas.Bool.{cases_lt, lt-ltb, le-ltb}
+use Rattle.std.proofs.Math.Nat.{mod-lt, mod-add-div', mod-eq_of_lt, add-mul-mod_self_right, mul_comm, mul_assoc}
+use Rattle.std.proofs.lemmas.Nat.{pow-add, pow_pos, and_mask}
+use Rattle.std.proofs.Common.{bit_and, pow_mono}
 use Rattle.std.specs.Int.{int_min, int_max}
 use Rattle.ffv1_plane.specs.declared.prediction.Around.{Around}
 use Rattle.ffv1_plane.specs.Quantisation.{Set}
 use Rattle.ffv1_plane.specs.Context.{context_of, size_of, flip_of}
 use Rattle.ffv1_plane.specs.Prediction.{predicted, median}
 use Rattle.ffv1_plane.specs.Residual.{turned, folded, chosen_of}
-use Rattle.ffv1_plane.specs.Lanes.{AreSamples, modulo_512, folded_modulo}
+use Rattle.ffv1_plane.specs.Lanes.{AreSamples, modulo_512, folded_modulo, difference_modulo, raised_modulo, raised_residual}
 use Rattle.ffv1_plane.proofs.Remainders.{IsCongruent, congruent_factor, rem_is}
 use Rattle.ffv1_plane.proofs.Folding.{folded_near, folded_is, congruent_sym, congruent_trans}
 use Rattle.ffv1_plane.proofs.Sums.{negative_size, negative_flip, positive_size, positive_flip}
@@ -69,6 +72,12 @@ pub difference_near : (flip : Bool) (p s : ℕ) → p < 65536 → s < 65536 → 
 difference_near true p s few small = record { down = 1; up = (p + (65536 - s)) / 65536; same = omega (arith, ints) }
 difference_near false p s few small = record { down = 1; up = (s + (65536 - p)) / 65536; same = omega (arith, ints) }
 
+congruent_plus : (n half : ℕ) (x y : ℤ) → IsCongruent n x y → IsCongruent n (x +ℤ pos half) (y +ℤ pos half)
+congruent_plus n half x y is = let same = is.same in record { down = is.down; up = is.up; same = omega (arith, ints) }
+
+rest_of : (n m : ℕ) → IsCongruent n (pos m) (pos (m % n))
+rest_of n m = let whole = mod-add-div' m n in record { down = 0; up = m / n; same = omega (arith, ints) }
+
 nine_is : (z : ℤ) (n : ℕ) → IsCongruent 65536 z (pos n) → modulo_512 (folded 9 z) ≡ n % 512
 nine_is z n near =
     let at = folded_near 9 z (omega arith) in
@@ -93,9 +102,55 @@ eight_is z n near =
           rw (is, same) (ap unsigned_abs (rem_is 512 (pos (n % 256) -ℤ pos 256) (n % 256 + 256) (omega arith) (record { down = 1; up = 0; same = omega (arith, ints) })))
     ]
 
+powers_whole : (bits : ℕ) → bits ≤ 15 → 2 ^ bits * 2 ^ (16 - bits) ≡ 65536
+powers_whole bits few =
+    let sum : bits + (16 - bits) ≡ 16 = omega arith in
+    sym (pow-add 2 bits (16 - bits)) ∙ ap (λ k. 2 ^ k) sum
+
+-- a power of two that is taken in 16 bits
+word_power : (bits : ℕ) → bits ≤ 15 → 1 * 2 ^ bits % 65536 ≡ 2 ^ bits
+word_power bits few =
+    let most = pow_mono {i = bits} {j = 15} few in
+    let one : 1 * 2 ^ bits ≡ 2 ^ bits = omega arith in
+    rw one (mod-eq_of_lt (omega (arith, most)))
+
+word_rest : (bits m : ℕ) → bits ≤ 15 → m % 65536 % 2 ^ bits ≡ m % 2 ^ bits
+word_rest bits m few =
+    let split = mod-add-div' m 65536 in
+    let times : m / 65536 * 2 ^ (16 - bits) * 2 ^ bits ≡ m / 65536 * 65536 =
+    mul_assoc (m / 65536) (2 ^ (16 - bits)) (2 ^ bits) ∙ ap (λ k. m / 65536 * k) (mul_comm (2 ^ (16 - bits)) (2 ^ bits) ∙ powers_whole bits few) in
+    sym (add-mul-mod_self_right (m % 65536) (m / 65536 * 2 ^ (16 - bits)) (2 ^ bits)) ∙ ap (λ k. k % 2 ^ bits) (ap (λ k. m % 65536 + k) times ∙ split)
+
+-- a difference that a lane folds and raises
+pub raised_lane : (bits n : ℕ) → 0 < bits → bits ≤ 15 → bit_and ((n + 1 * 2 ^ (bits - 1) % 65536) % 65536) (1 * 2 ^ bits % 65536 - 1) ≡ raised_modulo bits n
+unfolding raised_modulo
+raised_lane bits n some few =
+    rw (word_power (bits - 1) (omega arith), word_power bits few, and_mask ((n + 2 ^ (bits - 1)) % 65536) bits) (word_rest bits (n + 2 ^ (bits - 1)) few)
+
+-- the difference by lanes
+pub difference_is : (flip : Bool) (p s : ℕ) → cond flip (minus p s) (minus s p) ≡ difference_modulo flip p s
+unfolding difference_modulo
+difference_is flip p s = refl
+
+-- a difference that is folded and raised
+pub raised_is : (bits : ℕ) (flip : Bool) (p s : ℕ) → 0 < bits → bits ≤ 15 → p < 65536 → s < 65536 →
+    raised_modulo bits (difference_modulo flip p s) ≡ raised_residual bits (chosen_of bits (pos p) flip s)
+unfolding raised_modulo difference_modulo
+raised_is bits flip p s some few fits small =
+    let n = cond flip (minus p s) (minus s p) in
+    let half = 2 ^ (bits - 1) in
+    let z = turned flip (pos s -ℤ pos p) in
+    let whole = powers_whole bits few in
+    let near = congruent_factor 65536 (2 ^ bits) (2 ^ (16 - bits)) z (pos n) (sym whole ∙ mul_comm (2 ^ bits) (2 ^ (16 - bits))) (difference_near flip p s fits small) in
+    let raised = congruent_plus (2 ^ bits) half z (pos n) near in
+    let rest = rest_of (2 ^ bits) (n + half) in
+    let is = rem_is (2 ^ bits) (z +ℤ pos half) ((n + half) % 2 ^ bits) (mod-lt (n + half) (pow_pos bits)) (congruent_trans (2 ^ bits) _ _ _ raised rest) in
+    let back : chosen_of bits (pos p) flip s +ℤ pos half ≡ pos ((n + half) % 2 ^ bits) = omega (arith, ints, is) in
+    sym (ap unsigned_abs back)
+
 -- the residual modulo 512
 pub residual_is : (bits : ℕ) (flip : Bool) (p s : ℕ) → (bits ≡ 8) ⊎ (bits ≡ 9) → p < 65536 → s < 65536 →
-    folded_modulo bits (cond flip (minus p s) (minus s p)) ≡ modulo_512 (chosen_of bits (pos p) flip s)
-unfolding folded_modulo
+    folded_modulo bits (difference_modulo flip p s) ≡ modulo_512 (chosen_of bits (pos p) flip s)
+unfolding folded_modulo difference_modulo
 residual_is bits flip p s (inl is) few small = rw is (sym (eight_is _ _ (difference_near flip p s few small)))
 residual_is bits flip p s (inr is) few small = rw is (sym (nine_is _ _ (difference_near flip p s few small)))

@@ -1,6 +1,6 @@
 -- Sixteen places at once.
 use Rattle.std.specs.Prelude.{ℕ, ◌≡◌, ◌+◌, ◌*◌, ◌/◌, ◌%◌, ◌==◌, ◌<◌, ◌^◌, if◌then◌else◌, ℤ, pos}
-use Rattle.std.specs.Prelude.{unsigned_abs}
+use Rattle.std.specs.Prelude.{unsigned_abs, ◌-◌, ◌+ℤ◌, Bool}
 use Rattle.std.specs.Prelude.{List, map}
 use Rattle.std.specs.Int.{int_rem_euclid}
 use Rattle.ffv1_plane.specs.declared.prediction.Around.{Around}
@@ -28,6 +28,19 @@ pub record AreAround (lanes : AroundLanes) (places : List ℕ) (a : ℕ → Arou
 -- a residual modulo 512
 abbrev pub modulo_512 : ℤ → ℕ
 modulo_512 residual = unsigned_abs (int_rem_euclid residual (pos 512))
+
+-- a residual of so many bits, raised above 0
+abbrev pub raised_residual : ℕ → ℤ → ℕ
+raised_residual bits residual = unsigned_abs (residual +ℤ pos (2 ^ (bits - 1)))
+
+-- the difference of a sample to its prediction modulo 65536, its sign flipped or not
+unfoldable pub difference_modulo : Bool → ℕ → ℕ → ℕ
+difference_modulo flip prediction sample = if flip
+    then (prediction + (65536 - sample)) % 65536 else (sample + (65536 - prediction)) % 65536
+
+-- a difference modulo 65536, folded to so many bits and raised above 0
+unfoldable pub raised_modulo : ℕ → ℕ → ℕ
+raised_modulo bits n = (n + 2 ^ (bits - 1)) % 2 ^ bits
 
 -- a difference modulo 65536, folded to 8 or 9 bits, modulo 512
 unfoldable pub folded_modulo : ℕ → ℕ → ℕ

@@ -36,7 +36,7 @@ pub mod wide;
 pub use deep::{deep_residual, deep_sample};
 pub use early::{BLOCK, BlockRows, Early, sample_signed};
 pub use fault::Fault;
-pub use lanes::{AroundLanes, choose_lanes};
+pub use lanes::{AroundLanes, choose_deep_lanes, choose_lanes};
 pub use prediction::{Around, predict, predict_in, predict_late, predict_signed};
 pub use quantisation::{
     QuantSet, SetLanes, context, context_by_three_tables, early_sum, late_context,

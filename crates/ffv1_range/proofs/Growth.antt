@@ -10,7 +10,7 @@ use Rattle.ffv1_range.specs.Symbols.{Step, raising, exponent_steps, mantissa_ste
 use Rattle.ffv1_range.specs.History.{AreBelow}
 use Rattle.ffv1_range.specs.Writing.{Writing}
 use Rattle.ffv1_range.specs.Puts.{Puts, Grows, MayBeRefused}
-use Rattle.ffv1_range.specs.Internal.Registers.{Writes}
+use Rattle.ffv1_range.specs.Internal.Registers.{Writes, standing}
 use Rattle.ffv1_range.proofs.Nested.{narrowed-append}
 use Rattle.ffv1_range.proofs.Steps.{decided-append, raising-add-one, writes_append}
 use Rattle.ffv1_range.proofs.Windows.{part_decided}
@@ -145,9 +145,30 @@ bits_grow t a b c ss ts us n first second grows =
     grows_second t a c ss us ((record { slot = 0; bit = false } ∷ []) ++ exponent_steps (exponent n)) (mantissa_steps (exponent n) 0 n)
     (writes_append t a b c ss ts us (record { slot = 0; bit = false } ∷ []) (exponent_steps (exponent n)) first second) grows
 
+-- registers of the same intervals before and after
+pub writes_by : (t : Table) (i j k l : Interval) (states after : List ℕ) (steps : List Step) → j ≡ i → l ≡ k →
+    Writes t (standing j) states (standing k) after steps → Writes t (standing i) states (standing l) after steps
+writes_by t i j k l states after steps begun ended writes = record {
+  interval = ended ∙ writes.interval ∙ ap (λ i. narrowed i (decided t states steps)) begun;
+  counts = refl;
+  failed = refl;
+  moves = writes.moves;
+  named = writes.named;
+}
+
+pub grows_by : (t : Table) (i j k : Interval) (states after : List ℕ) (steps : List Step) → j ≡ i → i.count < k.count →
+    Writes t (standing j) states (standing k) after steps → Grows t i states steps
+grows_by t i j k states after steps begun more writes =
+    let is = ap (λ i. i.count) (writes.interval ∙ ap (λ i. narrowed i (decided t states steps)) begun) in
+    record { more = omega (arith, is, more) }
+
+-- what grows by a part of the states grows by all of them
+pub grows_part : (t : Table) (i : Interval) (states : List ℕ) (a k : ℕ) (steps : List Step) → a + k ≤ length states → AreBelow steps k →
+    Grows t i (take k (drop a states)) steps → Grows t i states (shifted a steps)
+grows_part t i states a k steps fits below grows = record { more = rw (part_decided t states a k steps fits below) grows.more }
+
 -- what is refused in a part of the states is refused in all of them
 pub refused_part : (t : Table) (old : Writing) (states : List ℕ) (a k : ℕ) (steps : List Step) → a + k ≤ length states → AreBelow steps k →
     MayBeRefused t old (take k (drop a states)) steps → MayBeRefused t old states (shifted a steps)
 refused_part t old states a k steps fits below (inl failed) = inl failed
-refused_part t old states a k steps fits below (inr grows) =
-    inr (record { more = rw (part_decided t states a k steps fits below) grows.more })
+refused_part t old states a k steps fits below (inr grows) = inr (grows_part t old.interval states a k steps fits below grows)

@@ -37,3 +37,4 @@ pub mod OneValue
 pub mod OneAfter
 pub mod Unsigned
 pub mod Magnitudes
+pub mod Rows

@@ -138,10 +138,10 @@ writes_counted t a b c d ss ts xs writes before after failed counts = record {
 -- the same by sums, which are added to the counts of either side
 pub writes_summed : (t : Table) (a b c d : Writing) (ss ts : List ℕ) (xs : List Step) (before after : Sums) (u z : ℕ) →
     Writes t a ss b ts xs → a.interval ≡ c.interval → d.interval ≡ b.interval → d.failed ≡ c.failed → d.counts ≡ c.counts →
-    after ≡ record { ones = before.ones + u; zeros = before.zeros + z } → u ≡ ones_in xs → u + z ≡ length xs → Puts t (summed_writing c before) ss (summed_writing d after) ts xs
-writes_summed t a b c d ss ts xs before after u z writes first last failed counts goes_on ones all = record {
+    after.ones ≡ before.ones + u → after.zeros ≡ before.zeros + z → u ≡ ones_in xs → u + z ≡ length xs → Puts t (summed_writing c before) ss (summed_writing d after) ts xs
+writes_summed t a b c d ss ts xs before after u z writes first last failed counts of_ones of_zeros ones all = record {
   interval = last ∙ writes.interval ∙ ap (λ i. narrowed i (decided t ss xs)) first;
-  counts = summed_counts c.counts d.counts before after xs u z counts (ap (λ (s : Sums). s.ones) goes_on) (ap (λ (s : Sums). s.zeros) goes_on) ones all;
+  counts = summed_counts c.counts d.counts before after xs u z counts of_ones of_zeros ones all;
   failed = failed;
   moves = writes.moves;
   named = writes.named;

@@ -8,6 +8,7 @@ use Rattle.ffv1_range.specs.Reading.{Reading}
 use Rattle.ffv1_range.specs.Follows.{Follows}
 use Rattle.ffv1_range.specs.Writing.{Writing}
 use Rattle.ffv1_range.specs.Puts.{Puts}
+use Rattle.ffv1_range.specs.Internal.Registers.{Writes}
 use Rattle.ffv1_range.specs.Table.{Table, Holds, moved}
 use Rattle.ffv1_range.specs.Symbols.{Step, stepped, decided, moved_by, shifted, raising, exponent_steps, mantissa_steps, magnitude_steps, sized_steps, signed_steps, too_long, exponent, AreHeld, AllHeld}
 use Rattle.ffv1_range.specs.History.{AreBelow}
@@ -115,6 +116,16 @@ module _ (t : Table) (states : List ℕ) (a k : ℕ) (steps : List Step) (fits :
     failed = p.failed;
     moves = ap (λ l. take a states ++ (l ++ drop k (drop a states))) p.moves ∙ sym part_moved;
     named = rw part_decided p.named;
+  }
+
+  pub writes_part : (old new : Writing) (after : List ℕ) → Writes t old (take k (drop a states)) new after steps →
+      Writes t old states new (take a states ++ (after ++ drop k (drop a states))) (shifted a steps)
+  writes_part old new after w = record {
+    interval = rw part_decided w.interval;
+    counts = w.counts;
+    failed = w.failed;
+    moves = ap (λ l. take a states ++ (l ++ drop k (drop a states))) w.moves ∙ sym part_moved;
+    named = rw part_decided w.named;
   }
 
 -- states of two lists

@@ -5,6 +5,7 @@ pub mod Standard
 pub mod Generator
 pub mod Deltas
 pub mod Symbols
+pub mod Rows
 pub mod Signed
 pub mod History
 pub mod Weight

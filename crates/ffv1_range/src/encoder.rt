@@ -4,7 +4,7 @@ ghost use Rattle.std.specs.Prelude.{◌≡◌, ℕ, ◌+◌, ◌-◌, ◌*◌, �
 ghost use Rattle.std.specs.Prelude.{replicate, slice_index, slice_set, [], ◌∷◌, IsTrue, IfOk};
 ghost use Rattle.std.specs.Prelude.{IfErr, IsErr, OnOk, OnErr, ◌⊎◌, false, true};
 ghost use Rattle.std.specs.Vec.{vec_capacity, vec_len};
-ghost use Rattle.ffv1_range.specs.Interval.{Decision, narrow, part, renormalised, interval_of};
+ghost use Rattle.ffv1_range.specs.Interval.{Decision, narrow, interval_of};
 ghost use Rattle.ffv1_range.specs.Interval.{start};
 ghost use Rattle.ffv1_range.specs.Codes.{value, sentinel_of, full_of, rounded_of, AreBytes};
 ghost use Rattle.ffv1_range.specs.Codes.{AreStates, Codes};
@@ -15,12 +15,16 @@ ghost use Rattle.ffv1_range.specs.Counts.{counted, total};
 ghost use Rattle.ffv1_range.specs.Symbols.{Step};
 ghost use Rattle.ffv1_range.specs.History.{AreBelow, decisions_after};
 ghost use Rattle.ffv1_range.specs.Puts.{Puts};
-ghost use Rattle.ffv1_range.specs.Internal.Registers.{interval_from, IsWriting, IsChosen};
+ghost use Rattle.ffv1_range.specs.Internal.Registers.{interval_from, IsWriting};
 
 pub mod batch;
+mod marked;
+mod registers;
+pub mod rows;
 pub mod symbol;
 mod symbol_table;
 
+use crate::encoder::registers::{Registers, Span};
 use crate::fault::Fault;
 use crate::table::StateTable;
 use crate::tally::{Sums, Tally};
@@ -243,7 +247,7 @@ impl<A: Allocator> RangeEncoder<A> {
             low: self.low,
             width: self.width,
         };
-        let done = narrow_by(&mut self.bytes, &mut span, state, bit);
+        let done = span.narrow(&mut self.bytes, state, bit);
         self.low = span.low;
         self.width = span.width;
         match done {
@@ -265,71 +269,6 @@ impl<A: Allocator> RangeEncoder<A> {
         self.width = FIRST_WIDTH;
         self.failed = true;
     }
-}
-
-/// What an encoder's interval has beside its bytes: its low end, two places below them, and its
-/// width. A symbol is written with a copy of it.
-#[derive(Drop)]
-pub(crate) struct Span {
-    pub(crate) low: u32,
-    pub(crate) width: u32,
-}
-
-/// Narrows the interval by a decision, and gives out a byte where it is narrower than 256. Where a
-/// growth is refused, nothing is left of the bytes.
-#[inline(always)]
-pub(crate) fn narrow_by<A: Allocator>(
-    bytes: &mut Vec<u8, A>,
-    span: &mut Span,
-    state: u8,
-    bit: bool,
-) -> Result<(), AllocError>
-    requires writing { IsWriting bytes.old.items span.old.low span.old.width }
-    requires positive { 0 < state }
-    ensures ok { OnOk result (interval_from bytes.new.items span.new.low span.new.width ≡
-        narrow (interval_from bytes.old.items span.old.low span.old.width) state bit) }
-    ensures refused { OnErr result (
-        (interval_from bytes.old.items span.old.low span.old.width).count <
-        (narrow (interval_from bytes.old.items span.old.low span.old.width) state bit).count) }
-    ensures full { OnErr result (vec_capacity bytes.old ≤ vec_len bytes.old) }
-    ensures writing { IsWriting bytes.new.items span.new.low span.new.width }
-{
-    let (low, width) = part_of(bytes, span.low, span.width, state, bit);
-    if width >= 256 {
-        span.low = low;
-        span.width = width;
-        return Ok(());
-    }
-    match emit(bytes, low / 256) {
-        Ok(()) => {
-            span.low = low % 256 * 256;
-            span.width = width * 256;
-            Ok(())
-        }
-        Err(refused) => {
-            bytes.clear();
-            span.low = 0;
-            span.width = FIRST_WIDTH;
-            Err(refused)
-        }
-    }
-}
-
-/// The part of a decision.
-#[inline(always)]
-fn part_of(bytes: &[u8], low: u32, width: u32, state: u8, bit: bool) -> (u32, u32)
-    requires writing { IsWriting bytes.now low width }
-    requires positive { 0 < state }
-    ensures interval { interval_from bytes.now result.0 result.1 ≡
-        part (interval_from bytes.now low width) state bit }
-    ensures chosen { IsChosen bytes.now result.0 result.1 }
-{
-    let upper = width * u32::from(state) / 256;
-    let lower = width - upper;
-    if bit {
-        return (low + lower, upper);
-    }
-    (low, lower)
 }
 
 /// One place more of a number with its bytes big end first. A top of 256 or more carries into the

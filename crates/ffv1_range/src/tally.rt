@@ -1,7 +1,11 @@
 //! What the decisions of a coder were.
 
-ghost use Rattle.std.specs.Prelude.{◌≡◌, ◌+◌, ◌^◌, ◌<◌, ◌≤◌};
+ghost use Rattle.std.specs.Prelude.{◌≡◌, ◌+◌, ◌^◌, ◌<◌, ◌≤◌, unsigned_abs};
+ghost use Rattle.ffv1_range.specs.Symbols.{signed_steps};
+ghost use Rattle.ffv1_range.specs.Counts.{ones_in, zeros_in};
 ghost use Rattle.ffv1_range.specs.Among.{AreNonzeros, sums_among, sums_refused};
+
+use crate::symbol_slots::{exponent, ones_below};
 
 /// How many decisions of a coder were 1 and how many 0, and how often it renormalised. Each count
 /// stays at 2^64 - 1 once it is there.
@@ -35,6 +39,25 @@ impl Sums {
     {
         self.ones += ones;
         self.zeros += zeros;
+    }
+
+    /// Counts the decisions of a signed number.
+    #[inline(always)]
+    pub(crate) fn count_signed(&mut self, value: i32)
+        requires size { unsigned_abs value < 2 ^ 31 }
+        requires room { self.old.ones + self.old.zeros + 63 < 2 ^ 32 }
+        ensures ones { self.new.ones ≡ self.old.ones + ones_in (signed_steps value) }
+        ensures zeros { self.new.zeros ≡ self.old.zeros + zeros_in (signed_steps value) }
+        ensures few { self.new.ones + self.new.zeros ≤ self.old.ones + self.old.zeros + 63 }
+    {
+        let number = value.unsigned_abs();
+        if number == 0 {
+            self.count(1, 0);
+            return;
+        }
+        let exponent = exponent(number);
+        let ones = exponent + ones_below(number) + u32::from(value < 0);
+        self.count(ones, 2 * exponent + 3 - ones);
     }
 }
 

@@ -2,6 +2,7 @@
 
 ghost use Rattle.std.specs.Prelude.{◌≡◌, ◌⊎◌};
 
+use crate::coding::fixed_bits;
 use ffv1_plane::{BlockRows, Early, QuantSet};
 use ffv1_range::StateTable;
 use std::alloc::Allocator;
@@ -102,15 +103,6 @@ impl<'a, B: Allocator> Places<'a, B> {
             count,
         }
     }
-}
-
-/// The bits as a constant, which 0 is not.
-#[inline(always)]
-pub(crate) fn fixed_bits<const BITS: u8>(bits: u8) -> u8
-    requires { (BITS ≡ 0) ⊎ (bits ≡ BITS) }
-    ensures { result ≡ bits }
-{
-    if BITS == 0 { bits } else { BITS }
 }
 
 /// What is carried from place to place along a block: the samples two to the left and to the left.

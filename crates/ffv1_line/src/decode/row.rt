@@ -8,9 +8,9 @@ ghost use Rattle.ffv1_line.specs.Internal.Along.{AreUnsigned};
 ghost use Rattle.ffv1_line.specs.Coder.{decoder_by};
 
 use crate::cell::above::Above;
-use crate::coding::Coding;
+use crate::coding::{Coding, fixed_bits};
 use crate::decode::block::decode_block_by;
-use crate::decode::places::{Places, fixed_bits};
+use crate::decode::places::Places;
 use crate::fault::TooLong;
 use ffv1_plane::{BLOCK, BlockRows, Early};
 use ffv1_range::RangeDecoder;

@@ -1,20 +1,28 @@
 //! A block of places of a row, before its decisions are written.
 
-ghost use Rattle.std.specs.Prelude.{◌≡◌, ◌+◌, ◌*◌, ◌<◌, ◌≤◌, ◌⊎◌, length, slice_index};
-ghost use Rattle.std.specs.Prelude.{take, ℕ, map, ◌^◌};
+ghost use Rattle.std.specs.Prelude.{◌≡◌, ◌+◌, ◌*◌, ◌<◌, ◌≤◌, length, slice_index};
+ghost use Rattle.std.specs.Prelude.{take, ℕ, map, ◌^◌, unsigned_abs, List, IsTrue};
 ghost use Rattle.std.specs.List.{range_with_len};
 ghost use Rattle.ffv1_range.specs.History.{AreBelow};
-ghost use Rattle.ffv1_range.specs.Listed.{of_nine_bits, steps_of};
-ghost use Rattle.ffv1_plane.specs.Quantisation.{HasFewLevels, contexts_of};
+ghost use Rattle.ffv1_range.specs.Listed.{steps_of};
+ghost use Rattle.ffv1_plane.specs.Quantisation.{HasFewLevels, HasThreeTables, contexts_of};
+ghost use Rattle.ffv1_plane.specs.Context.{size_of, flip_of};
+ghost use Rattle.ffv1_plane.specs.Prediction.{predicted};
+ghost use Rattle.ffv1_plane.specs.declared.prediction.Around.{Around as AroundPlace};
 ghost use Rattle.ffv1_plane.specs.Raised.{AreSetLanes};
-ghost use Rattle.ffv1_plane.specs.Residual.{IsFolded};
+ghost use Rattle.ffv1_plane.specs.Residual.{IsFolded, chosen_of};
 ghost use Rattle.ffv1_plane.specs.Lanes.{AreAround};
 ghost use Rattle.ffv1_line.specs.Beside.{beside};
 ghost use Rattle.ffv1_line.specs.Internal.Parts.{IsPart, IsBlockOf, ArePrepared, part_steps};
+ghost use Rattle.ffv1_line.specs.Internal.Parts.{residual_by, residual_limit, kept_of, AreNumbered};
+ghost use Rattle.ffv1_line.specs.Internal.Along.{AreUnsigned};
 
 use crate::cell::neighbours::{context_by, right_above, sample_before, sample_two_before};
 use crate::encode::part::Part;
-use ffv1_plane::{Around, AroundLanes, QuantSet, SetLanes, choose_lanes, predict, residual_of};
+use ffv1_plane::{
+    Around, AroundLanes, QuantSet, SetLanes, choose_deep_lanes, choose_lanes, deep_residual,
+    predict, residual_of,
+};
 use ffv1_range::list_signed;
 use std::alloc::Allocator;
 use std::simd::prelude::*;
@@ -26,23 +34,62 @@ pub(crate) const PLACES: usize = 64;
 /// symbols after them.
 pub(crate) const LIST: usize = 1240;
 
-/// A block's contexts, its residuals modulo 512, and the list of its decisions.
+/// A block of places, before and while its decisions are written.
 #[derive(Drop)]
 pub(crate) struct Block {
+    /// The contexts.
     pub(crate) contexts: [u32; PLACES],
+    /// The residuals: of 8 and 9 bits modulo 512, of more with half of `2^bits` added.
     pub(crate) residuals: [u16; PLACES],
+    /// The residuals as signed numbers, where they are written symbol by symbol.
+    pub(crate) numbers: [i32; PLACES],
+    /// The decisions, where they are listed.
     pub(crate) list: [u32; LIST],
+    /// Whether the block before had many decisions a sample.
+    pub(crate) is_dense: bool,
 }
 
-/// A residual of eight or nine bits, modulo 512.
+/// A residual as a block has it.
 #[inline(always)]
-fn nine_bits(residual: i32, bits: u8) -> u16
-    requires bits { (bits ≡ 8) ⊎ (bits ≡ 9) }
+fn kept(residual: i32, bits: u8) -> u16
+    requires bits { AreUnsigned bits }
     requires folded { IsFolded bits residual }
-    ensures value { of_nine_bits result ≡ residual }
-    ensures small { result < 512 }
+    ensures { result ≡ kept_of bits residual }
 {
-    residual.rem_euclid(512) as u16
+    if bits < 10 {
+        return residual.rem_euclid(512) as u16;
+    }
+    (residual + (1 << (bits - 1))) as u16
+}
+
+/// The residual again.
+#[inline(always)]
+pub(crate) fn residual_from(number: u16, bits: u8) -> i32
+    requires bits { AreUnsigned bits }
+    requires small { number < residual_limit bits }
+    ensures value { result ≡ residual_by bits number }
+    ensures size { unsigned_abs result < 2 ^ 31 }
+{
+    let number = number as i32;
+    if bits > 9 {
+        return number - (1 << (bits - 1));
+    }
+    if number < 256 {
+        return number;
+    }
+    number - 512
+}
+
+/// The residual that an encoder takes, of 8 to 15 bits.
+#[inline(always)]
+fn chosen_residual(prediction: i32, flip: bool, sample: u16, bits: u8) -> i32
+    requires { AreUnsigned bits }
+    ensures { result ≡ chosen_of bits prediction flip sample }
+{
+    if bits > 9 {
+        return deep_residual(prediction, flip, sample, bits);
+    }
+    residual_of(prediction, flip, sample, bits)
 }
 
 /// The contexts and the residuals of places `start` to before `end` of a part, after those before
@@ -82,9 +129,9 @@ fn prepare_places<A: Allocator>(block: &mut Block, part: &Part<'_, A>, start: us
         };
         let (size, flip) = context_by(set, &around, three_tables);
         let sample = cur[x];
-        let residual = residual_of(predict(&around), flip, sample, bits);
+        let residual = chosen_residual(predict(&around), flip, sample, bits);
         block.contexts[k] = size;
-        block.residuals[k] = nine_bits(residual, bits);
+        block.residuals[k] = kept(residual, bits);
         ll = l;
         l = sample;
         tl = t;
@@ -112,6 +159,33 @@ fn around_lanes(two: &[u16], one: &[u16], cur: &[u16], x: usize) -> (AroundLanes
         tt: u16x16::from_slice(&two[x..]),
     };
     (around, u16x16::from_slice(&cur[x..]))
+}
+
+/// The numbers of the contexts of 16 places, and their residuals as a block has them.
+#[inline(always)]
+fn kept_lanes<A: Allocator>(
+    set: &QuantSet<A>,
+    lanes: &SetLanes,
+    around: &AroundLanes,
+    samples: u16x16,
+    bits: u8,
+    three_tables: bool,
+) -> (u16x16, u16x16)
+    requires bits { AreUnsigned bits }
+    requires few { HasFewLevels set.now }
+    requires lanes { AreSetLanes set.now lanes.now }
+    requires three_tables { IsTrue three_tables → HasThreeTables set.now }
+    ensures sizes { (places : List ℕ) (a : ℕ → AroundPlace) → length places ≡ 16 →
+        AreAround around.now places a → result.0 ≡ map (λ x. size_of set.now (a x)) places }
+    ensures residuals { (places : List ℕ) (a : ℕ → AroundPlace) (s : ℕ → ℕ) → length places ≡ 16 →
+        AreAround around.now places a → samples ≡ map s places → ((x : ℕ) → s x < 2 ^ 16) →
+        result.1 ≡ map (λ x. kept_of bits
+        (chosen_of bits (predicted (a x)) (flip_of set.now (a x)) (s x))) places }
+{
+    if bits > 9 {
+        return choose_deep_lanes(set, lanes, around, samples, bits, three_tables);
+    }
+    choose_lanes(set, lanes, around, samples, bits, three_tables)
 }
 
 /// The contexts and the residuals of 16 places from `at` on, after those before them, by the set's
@@ -146,7 +220,7 @@ fn prepare_lanes<A: Allocator>(
     } = *part;
     set.is_a_bounded_set();
     let (around, samples) = around_lanes(two, one, cur, from + at);
-    let (sizes, chosen) = choose_lanes(set, lanes, &around, samples, bits, three_tables);
+    let (sizes, chosen) = kept_lanes(set, lanes, &around, samples, bits, three_tables);
     sizes.cast::<u32>().copy_to_slice(&mut contexts[at..]);
     chosen.copy_to_slice(&mut residuals[at..]);
 }
@@ -192,10 +266,12 @@ pub(crate) fn prepare<A: Allocator>(block: &mut Block, part: &Part<'_, A>)
     }
 }
 
-/// Lists the decisions of a part, by the block that was prepared of it. Answers how many they are.
+/// Lists the decisions of a part of 8 or 9 bits, by the block that was prepared of it. Answers how
+/// many they are.
 #[inline(always)]
 pub(crate) fn list_places<A: Allocator>(block: &mut Block, part: &Part<'_, A>) -> usize
     requires part { IsPart part.now }
+    requires bits { part.now.bits < 10 }
     requires block { IsBlockOf part.now part.now.count block.old }
     ensures steps { steps_of (take result block.new.list) ≡ part_steps part.now part.now.count }
     ensures below { AreBelow (steps_of (take result block.new.list))
@@ -209,4 +285,18 @@ pub(crate) fn list_places<A: Allocator>(block: &mut Block, part: &Part<'_, A>) -
         at = list_signed(&mut block.list, at, context, residual as usize);
     }
     at
+}
+
+/// The residuals of a part as signed numbers, by the block that was prepared of it.
+#[inline(always)]
+pub(crate) fn number_places<A: Allocator>(block: &mut Block, part: &Part<'_, A>)
+    requires part { IsPart part.now }
+    requires block { IsBlockOf part.now part.now.count block.old }
+    ensures block { IsBlockOf part.now part.now.count block.new }
+    ensures same { block.new.contexts ≡ block.old.contexts }
+    ensures numbers { AreNumbered part.now block.new.numbers part.now.count }
+{
+    for k in 0..part.count {
+        block.numbers[k] = residual_from(block.residuals[k], part.bits);
+    }
 }

@@ -1,4 +1,4 @@
-//! Encodes a row of samples of more than 9 bits.
+//! Encodes a row of samples of 16 bits, which are predicted by signed numbers.
 
 ghost use Rattle.std.specs.Prelude.{◌≡◌, ◌*◌, ◌<◌, OnOk, OnErr, IsTrue, length, false};
 ghost use Rattle.ffv1_range.specs.Symbols.{AllHeld};

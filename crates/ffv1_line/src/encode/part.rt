@@ -11,7 +11,7 @@ use std::alloc::Allocator;
 pub(crate) struct Part<'a, A: Allocator> {
     /// The quantisation table set.
     pub(crate) set: &'a QuantSet<A>,
-    /// The bits of a sample, 8 or 9.
+    /// The bits of a sample, 8 to 15.
     pub(crate) bits: u8,
     /// Said of no set but one whose fourth and fifth tables have one level.
     pub(crate) three_tables: bool,

@@ -48,8 +48,8 @@ fn chosen_word<B: Allocator>(
 /// A row of a cell, sample by sample, by an encoder that has not failed, by a body of its own for
 /// each kind of words and of set. `THREE_TABLES` may be said of a set whose fourth and fifth tables
 /// have one level.
-// Residuals of more than 9 bits are in no table of symbols, and are not listed: so there is nothing
-// to prepare.
+// Samples of 16 and 17 bits are predicted by numbers that no lane of 16 bits holds: so there is
+// nothing to prepare.
 #[inline(never)]
 pub(crate) fn encode_plain<W: Word, A: Allocator, B: Allocator, const THREE_TABLES: bool>(
     encoder: &mut RangeEncoder<A>,

@@ -9,7 +9,7 @@ use Rattle.ffv1_range.specs.Table.{Table}
 use Rattle.ffv1_range.specs.Symbols.{Step, moved_by, decided}
 use Rattle.ffv1_range.specs.Reading.{Reading, At}
 use Rattle.ffv1_range.specs.Writing.{Writing}
-use Rattle.ffv1_range.specs.declared.encoder.batch.Holding.{Holding}
+use Rattle.ffv1_range.specs.declared.encoder.marked.Holding.{Holding}
 
 -- where each state that is held goes after a 1, and 256 times where it goes after a 0
 abbrev pub AreEither : ℕ → List ℕ → List ℕ → List ℕ → Type 0
@@ -58,12 +58,8 @@ interval_from bytes low width = record {
 }
 
 -- an encoder of this interval, before its counts
-abbrev pub standing : List ℕ → ℕ → ℕ → Writing
-standing bytes low width = record {
-  interval = interval_from bytes low width;
-  counts = uncounted;
-  failed = false;
-}
+abbrev pub standing : Interval → Writing
+standing i = record { interval = i; counts = uncounted; failed = false }
 
 -- what holds of each encoder: a carry that is still in low does not leave the first byte
 pub record IsWriting (bytes : List ℕ) (low width : ℕ) : Type 0 where
@@ -102,14 +98,6 @@ interval_held bytes low width held = record {
 abbrev pub interval_of_holding : List ℕ → Holding → Interval
 interval_of_holding bytes h = interval_held bytes h.low h.width h.held
 
--- an encoder of this interval, before its counts
-abbrev pub standing_held : List ℕ → ℕ → ℕ → ℕ → Writing
-standing_held bytes low width held = record {
-  interval = interval_held bytes low width held;
-  counts = uncounted;
-  failed = false;
-}
-
 -- what holds of it: as of each encoder, with room for a carry through what is held back
 pub record IsHolding (bytes : List ℕ) (low width held : ℕ) : Type 0 where
   pub bytes_fit : AreBytes bytes
@@ -147,10 +135,6 @@ low_in marked = marked - mark_of (held_in marked)
 -- the interval of an encoder whose low end is marked
 abbrev pub interval_marked : List ℕ → ℕ → ℕ → Interval
 interval_marked bytes marked width = interval_held bytes (low_in marked) width (held_in marked)
-
--- an encoder of this interval, before its counts
-abbrev pub standing_marked : List ℕ → ℕ → ℕ → Writing
-standing_marked bytes marked width = standing_held bytes (low_in marked) width (held_in marked)
 
 -- what holds of it
 pub record IsMarked (bytes : List ℕ) (marked width : ℕ) : Type 0 where

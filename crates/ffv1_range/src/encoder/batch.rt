@@ -16,153 +16,17 @@ ghost use Rattle.ffv1_range.specs.Writing.{refused_writing};
 ghost use Rattle.ffv1_range.specs.Internal.Registers.{Writes, IsWriting, IsHolding, IsMarked};
 ghost use Rattle.ffv1_range.specs.Internal.Registers.{IsMarkedPart, interval_from};
 ghost use Rattle.ffv1_range.specs.Internal.Registers.{interval_of_holding};
-ghost use Rattle.ffv1_range.specs.Internal.Registers.{interval_marked, standing, standing_marked};
+ghost use Rattle.ffv1_range.specs.Internal.Registers.{interval_marked, standing};
 ghost use Rattle.ffv1_range.specs.Internal.Registers.{held_in, low_in};
 ghost use Rattle.ffv1_range.specs.declared.encoder.symbol_table.TheConstants.{SYMBOLS, LENGTHS};
 
+use crate::encoder::marked::{Marked, mark, settle};
+use crate::encoder::registers::{Registers, Span};
 use crate::encoder::symbol_table::{LENGTHS, SYMBOLS};
-use crate::encoder::{FIRST_WIDTH, RangeEncoder, Span, carry, emit};
+use crate::encoder::{FIRST_WIDTH, RangeEncoder};
 use crate::fault::Fault;
 use crate::table::StateTable;
 use std::alloc::{AllocError, Allocator};
-
-/// What an encoder's interval has beside its bytes while a list is written: its low end, with up to
-/// four bytes that are held back, and its width. The low end is marked: one bit more, 2^31 where no
-/// byte is held back and eight places further up for each one that is, tells how many they are.
-// No count beside it: the mark is shifted with the low end, and that four bytes are held back is
-// the highest bit.
-#[derive(Clone, Copy, Drop)]
-struct Marked {
-    low: u64,
-    width: u32,
-}
-
-/// The same without a mark: how many bytes are held back stands beside the low end.
-#[derive(Clone, Copy, Drop)]
-struct Holding {
-    low: u64,
-    width: u32,
-    held: u32,
-}
-
-/// The mark where no byte is held back.
-const MARK: u64 = 1 << 31;
-
-/// The mark where four bytes are held back.
-const FULL: u64 = 1 << 63;
-
-/// The part of a decision.
-#[inline(always)]
-fn part_marked(bytes: &[u8], marked: Marked, state: u8, bit: bool) -> Marked
-    requires marked { IsMarked bytes.now marked.low marked.width }
-    requires few { held_in marked.low < 4 }
-    requires positive { 0 < state }
-    ensures interval { interval_marked bytes.now result.low result.width ≡
-        part (interval_marked bytes.now marked.low marked.width) state bit }
-    ensures part { IsMarkedPart bytes.now result.low result.width }
-{
-    let Marked { low, width } = marked;
-    let upper = width * u32::from(state) / 256;
-    let lower = width - upper;
-    if bit {
-        return Marked {
-            low: low + u64::from(lower),
-            width: upper,
-        };
-    }
-    Marked { low, width: lower }
-}
-
-/// A part that is narrower than 256 takes a byte more.
-#[inline(always)]
-fn renormalise_marked(bytes: &[u8], part: Marked) -> Marked
-    requires { IsMarkedPart bytes.now part.low part.width }
-    ensures interval { interval_marked bytes.now result.low result.width ≡
-        renormalised (interval_marked bytes.now part.low part.width) }
-    ensures marked { IsMarked bytes.now result.low result.width }
-{
-    let Marked { low, width } = part;
-    if width < 256 {
-        return Marked {
-            low: low * 256,
-            width: width * 256,
-        };
-    }
-    part
-}
-
-/// Four places of a number, big end first.
-#[inline(always)]
-fn push_word<A: Allocator>(bytes: &mut Vec<u8, A>, word: u32) -> Result<(), AllocError>
-    requires { AreBytes bytes.old.items }
-    ensures value { OnOk result (value bytes.new.items (length bytes.new.items) ≡
-        4294967296 * value bytes.old.items (length bytes.old.items) + word) }
-    ensures long { OnOk result (length bytes.new.items ≡ length bytes.old.items + 4) }
-    ensures full { OnErr result (vec_capacity bytes.old < vec_len bytes.old + 4) }
-    ensures bytes_fit { OnOk result (AreBytes bytes.new.items) }
-{
-    bytes.extend_from_slice(&word.to_be_bytes())?;
-    Ok(())
-}
-
-/// Four places more of a number with its bytes big end first. A top of 2^32 or more carries into
-/// the bytes before.
-#[inline(always)]
-fn emit_word<A: Allocator>(bytes: &mut Vec<u8, A>, top: u64) -> Result<(), AllocError>
-    requires bytes_fit { AreBytes bytes.old.items }
-    requires below { top < 8589934592 }
-    requires room { 4294967296 * value bytes.old.items (length bytes.old.items) + top <
-        4294967296 * 256 ^ length bytes.old.items }
-    ensures value { OnOk result (value bytes.new.items (length bytes.new.items) ≡
-        4294967296 * value bytes.old.items (length bytes.old.items) + top) }
-    ensures long { OnOk result (length bytes.new.items ≡ length bytes.old.items + 4) }
-    ensures full { OnErr result (vec_capacity bytes.old < vec_len bytes.old + 4) }
-    ensures bytes_fit { OnOk result (AreBytes bytes.new.items) }
-{
-    if top < 4294967296 {
-        push_word(bytes, top as u32)?;
-        return Ok(());
-    }
-    carry(bytes);
-    push_word(bytes, (top - 4294967296) as u32)?;
-    Ok(())
-}
-
-/// Narrows the interval by a decision, and gives out four bytes where they are held back.
-#[inline(always)]
-fn narrow_marked<A: Allocator>(
-    bytes: &mut Vec<u8, A>,
-    marked: &mut Marked,
-    state: u8,
-    bit: bool,
-) -> Result<(), AllocError>
-    requires marked { IsMarked bytes.old.items marked.old.low marked.old.width }
-    requires few { held_in marked.old.low < 4 }
-    requires positive { 0 < state }
-    ensures ok { OnOk result (interval_marked bytes.new.items marked.new.low marked.new.width ≡
-        narrow (interval_marked bytes.old.items marked.old.low marked.old.width) state bit) }
-    ensures refused { OnErr result (
-        (interval_marked bytes.old.items marked.old.low marked.old.width).count <
-        (narrow (interval_marked bytes.old.items marked.old.low marked.old.width) state
-        bit).count) }
-    ensures full { OnErr result (vec_capacity bytes.old < vec_len bytes.old + 4) }
-    ensures marked { OnOk result (IsMarked bytes.new.items marked.new.low marked.new.width) }
-    ensures few { OnOk result (held_in marked.new.low < 4) }
-    ensures grown { OnOk result (length bytes.old.items ≤ length bytes.new.items) }
-{
-    let part = part_marked(bytes, *marked, state, bit);
-    let next = renormalise_marked(bytes, part);
-    if next.low < FULL {
-        *marked = next;
-        return Ok(());
-    }
-    emit_word(bytes, (next.low - FULL) / 65536)?;
-    *marked = Marked {
-        low: next.low % 65536 + MARK,
-        width: next.width,
-    };
-    Ok(())
-}
 
 /// A decision of a list.
 #[inline(always)]
@@ -178,9 +42,9 @@ fn put_listed<A: Allocator>(
     requires held { AllHeld table.now states.old }
     requires slot { step / 512 < length states.old }
     ensures writes { OnOk result (Writes table.now
-        (standing_marked bytes.old.items marked.old.low marked.old.width)
+        (standing (interval_marked bytes.old.items marked.old.low marked.old.width))
         states.old
-        (standing_marked bytes.new.items marked.new.low marked.new.width)
+        (standing (interval_marked bytes.new.items marked.new.low marked.new.width))
         states.new (step_of step ∷ [])) }
     ensures refused { OnErr result (Grows table.now
         (interval_marked bytes.old.items marked.old.low marked.old.width)
@@ -194,7 +58,7 @@ fn put_listed<A: Allocator>(
     let bit = step / 256 % 2 == 1;
     let before = states[slot];
     states[slot] = table.after_listed(before, step);
-    narrow_marked(bytes, marked, before, bit)?;
+    marked.narrow(bytes, before, bit)?;
     Ok(())
 }
 
@@ -212,9 +76,9 @@ fn put_each<A: Allocator>(
     requires held { AllHeld table.now states.old }
     requires slots { AreBelow (steps_of list.now) (length states.old) }
     ensures writes { OnOk result (Writes table.now
-        (standing_marked bytes.old.items marked.old.low marked.old.width)
+        (standing (interval_marked bytes.old.items marked.old.low marked.old.width))
         states.old
-        (standing_marked bytes.new.items marked.new.low marked.new.width)
+        (standing (interval_marked bytes.new.items marked.new.low marked.new.width))
         states.new (steps_of list.now)) }
     ensures refused { OnErr result (Grows table.now
         (interval_marked bytes.old.items marked.old.low marked.old.width)
@@ -226,89 +90,6 @@ fn put_each<A: Allocator>(
 {
     for step in list {
         put_listed(bytes, marked, table, states, *step)?;
-    }
-    Ok(())
-}
-
-/// How many bytes are held back, by the mark.
-#[inline(always)]
-fn held_back(low: u64) -> u32
-    requires { held_in low < 4 }
-    ensures { result ≡ held_in low }
-{
-    if low < 1 << 39 {
-        return 0;
-    }
-    if low < 1 << 47 {
-        return 1;
-    }
-    if low < 1 << 55 {
-        return 2;
-    }
-    3
-}
-
-/// A low end without its mark, and beside it how many bytes are held back.
-#[inline(always)]
-fn unmark(marked: Marked) -> Holding
-    requires some { 2 ^ 31 ≤ marked.low }
-    requires few { held_in marked.low < 4 }
-    ensures low { result.low ≡ low_in marked.low }
-    ensures held { result.held ≡ held_in marked.low }
-    ensures width { result.width ≡ marked.width }
-{
-    let Marked { low, width } = marked;
-    let held = held_back(low);
-    Holding {
-        low: low - (MARK << (8 * held)),
-        width,
-        held,
-    }
-}
-
-/// Gives out the first of the bytes that are held back.
-#[inline(always)]
-fn release<A: Allocator>(bytes: &mut Vec<u8, A>, holding: &mut Holding) -> Result<(), AllocError>
-    requires holding { IsHolding bytes.old.items holding.old.low holding.old.width
-        holding.old.held }
-    requires some { 0 < holding.old.held }
-    requires few { holding.old.held < 4 }
-    ensures same { OnOk result (interval_of_holding bytes.new.items holding.new
-        ≡ interval_of_holding bytes.old.items holding.old) }
-    ensures holding { OnOk result (IsHolding bytes.new.items holding.new.low holding.new.width
-        holding.new.held) }
-    ensures less { OnOk result (holding.new.held + 1 ≡ holding.old.held) }
-    ensures full { OnErr result (vec_capacity bytes.old ≤ vec_len bytes.old) }
-{
-    let Holding { low, width, held } = *holding;
-    let places = 8 * held + 8;
-    emit(bytes, (low >> places) as u32)?;
-    *holding = Holding {
-        low: low % (1 << places),
-        width,
-        held: held - 1,
-    };
-    Ok(())
-}
-
-/// Gives out the bytes that are held back.
-#[inline(always)]
-fn release_all<A: Allocator>(
-    bytes: &mut Vec<u8, A>,
-    holding: &mut Holding,
-) -> Result<(), AllocError>
-    requires holding { IsHolding bytes.old.items holding.old.low holding.old.width
-        holding.old.held }
-    requires few { holding.old.held < 4 }
-    ensures same { OnOk result (interval_of_holding bytes.new.items holding.new
-        ≡ interval_of_holding bytes.old.items holding.old) }
-    ensures holding { OnOk result (IsHolding bytes.new.items holding.new.low holding.new.width
-        holding.new.held) }
-    ensures none { OnOk result (holding.new.held ≡ 0) }
-    ensures refused { OnErr result (0 < holding.old.held) }
-{
-    'held: while holding.held > 0 {
-        release(bytes, holding)?;
     }
     Ok(())
 }
@@ -326,23 +107,18 @@ fn put_list<A: Allocator>(
     requires held { AllHeld table.now states.old }
     requires slots { AreBelow (steps_of list.now) (length states.old) }
     ensures writes { OnOk result (Writes table.now
-        (standing bytes.old.items span.old.low span.old.width) states.old
-        (standing bytes.new.items span.new.low span.new.width) states.new (steps_of list.now)) }
+        (standing (interval_from bytes.old.items span.old.low span.old.width)) states.old
+        (standing (interval_from bytes.new.items span.new.low span.new.width)) states.new
+        (steps_of list.now)) }
     ensures refused { OnErr result (Grows table.now
         (interval_from bytes.old.items span.old.low span.old.width) states.old
         (steps_of list.now)) }
     ensures writing { OnOk result (IsWriting bytes.new.items span.new.low span.new.width) }
     ensures held { AllHeld table.now states.new }
 {
-    let mut marked = Marked {
-        low: u64::from(span.low) + MARK,
-        width: span.width,
-    };
+    let mut marked = mark(bytes, span);
     put_each(bytes, &mut marked, table, states, list)?;
-    let mut holding = unmark(marked);
-    release_all(bytes, &mut holding)?;
-    span.low = holding.low as u32;
-    span.width = holding.width;
+    *span = settle(bytes, marked)?;
     Ok(())
 }
 

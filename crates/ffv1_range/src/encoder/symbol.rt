@@ -8,9 +8,10 @@ ghost use Rattle.ffv1_range.specs.Symbols.{unsigned_steps};
 ghost use Rattle.ffv1_range.specs.Counts.{ones_in, Counted};
 ghost use Rattle.ffv1_range.specs.Puts.{Puts, Grows, MayBeRefused};
 ghost use Rattle.ffv1_range.specs.Writing.{summed_writing, refused_writing, LeavesNothing};
-ghost use Rattle.ffv1_range.specs.Internal.Registers.{Writes, IsWriting, interval_from, standing};
+ghost use Rattle.ffv1_range.specs.Internal.Registers.{Writes, standing};
 
-use crate::encoder::{RangeEncoder, Span, narrow_by};
+use crate::encoder::RangeEncoder;
+use crate::encoder::registers::{Registers, Span};
 use crate::fault::Fault;
 use crate::symbol_slots::{EXPONENT, MANTISSA, ZERO, exponent, ones_below, sign_slot};
 use crate::table::StateTable;
@@ -19,97 +20,103 @@ use std::alloc::{AllocError, Allocator};
 
 /// A decision at a slot.
 #[inline(always)]
-fn put_slot<A: Allocator>(
+fn put_slot<A: Allocator, R: Registers>(
     bytes: &mut Vec<u8, A>,
-    span: &mut Span,
+    registers: &mut R,
     table: &StateTable,
     states: &mut [u8],
     slot: usize,
     bit: bool,
 ) -> Result<(), AllocError>
-    requires writing { IsWriting bytes.old.items span.old.low span.old.width }
+    requires sound { R.are_sound bytes.old.items registers.old }
     requires held { AreHeld table.now states.old }
     requires slot { slot < 32 }
     ensures writes { OnOk result (Writes table.now
-        (standing bytes.old.items span.old.low span.old.width) states.old
-        (standing bytes.new.items span.new.low span.new.width) states.new
+        (standing (R.interval bytes.old.items registers.old)) states.old
+        (standing (R.interval bytes.new.items registers.new)) states.new
         (record { slot = slot; bit = bit } ∷ [])) }
     ensures refused { OnErr result (Grows table.now
-        (interval_from bytes.old.items span.old.low span.old.width) states.old
+        (R.interval bytes.old.items registers.old) states.old
         (record { slot = slot; bit = bit } ∷ [])) }
-    ensures writing { IsWriting bytes.new.items span.new.low span.new.width }
+    ensures sound { R.are_sound bytes.new.items registers.new }
+    ensures grown { OnOk result (length bytes.old.items ≤ length bytes.new.items) }
     ensures held { AreHeld table.now states.new }
 {
     let before = states[slot];
-    states[slot] = if bit {
-        table.after_one(before)
-    } else {
-        table.after_zero(before)
-    };
-    narrow_by(bytes, span, before, bit)?;
+    states[slot] = table.after_listed(before, u32::from(bit) * 256);
+    registers.narrow(bytes, before, bit)?;
     Ok(())
 }
 
 /// An exponent.
 #[inline(always)]
-fn put_exponent<A: Allocator>(
+fn put_exponent<A: Allocator, R: Registers>(
     bytes: &mut Vec<u8, A>,
-    span: &mut Span,
+    registers: &mut R,
     table: &StateTable,
     states: &mut [u8],
     exponent: u32,
 ) -> Result<(), AllocError>
-    requires writing { IsWriting bytes.old.items span.old.low span.old.width }
+    requires sound { R.are_sound bytes.old.items registers.old }
     requires held { AreHeld table.now states.old }
     ensures writes { OnOk result (Writes table.now
-        (standing bytes.old.items span.old.low span.old.width) states.old
-        (standing bytes.new.items span.new.low span.new.width) states.new
+        (standing (R.interval bytes.old.items registers.old)) states.old
+        (standing (R.interval bytes.new.items registers.new)) states.new
         (exponent_steps exponent)) }
     ensures refused { OnErr result (Grows table.now
-        (interval_from bytes.old.items span.old.low span.old.width) states.old
+        (R.interval bytes.old.items registers.old) states.old
         (exponent_steps exponent)) }
-    ensures writing { IsWriting bytes.new.items span.new.low span.new.width }
+    ensures sound { R.are_sound bytes.new.items registers.new }
+    ensures grown { OnOk result (length bytes.old.items ≤ length bytes.new.items) }
     ensures held { AreHeld table.now states.new }
 {
     let few = exponent.min(9);
     for k in 0..few {
-        put_slot(bytes, span, table, states, EXPONENT + k as usize, true)?;
+        put_slot(bytes, registers, table, states, EXPONENT + k as usize, true)?;
     }
     'more: for _k in few..exponent {
-        put_slot(bytes, span, table, states, EXPONENT + 9, true)?;
+        put_slot(bytes, registers, table, states, EXPONENT + 9, true)?;
     }
-    put_slot(bytes, span, table, states, EXPONENT + few as usize, false)?;
+    put_slot(
+        bytes,
+        registers,
+        table,
+        states,
+        EXPONENT + few as usize,
+        false,
+    )?;
     Ok(())
 }
 
 /// The lowest bits of a number, from the highest of them down.
 #[inline(always)]
-fn put_mantissa<A: Allocator>(
+fn put_mantissa<A: Allocator, R: Registers>(
     bytes: &mut Vec<u8, A>,
-    span: &mut Span,
+    registers: &mut R,
     table: &StateTable,
     states: &mut [u8],
     exponent: u32,
     number: u32,
 ) -> Result<(), AllocError>
-    requires writing { IsWriting bytes.old.items span.old.low span.old.width }
+    requires sound { R.are_sound bytes.old.items registers.old }
     requires held { AreHeld table.now states.old }
     requires small { exponent < 32 }
     ensures writes { OnOk result (Writes table.now
-        (standing bytes.old.items span.old.low span.old.width) states.old
-        (standing bytes.new.items span.new.low span.new.width) states.new
+        (standing (R.interval bytes.old.items registers.old)) states.old
+        (standing (R.interval bytes.new.items registers.new)) states.new
         (mantissa_steps exponent 0 number)) }
     ensures refused { OnErr result (Grows table.now
-        (interval_from bytes.old.items span.old.low span.old.width) states.old
+        (R.interval bytes.old.items registers.old) states.old
         (mantissa_steps exponent 0 number)) }
-    ensures writing { IsWriting bytes.new.items span.new.low span.new.width }
+    ensures sound { R.are_sound bytes.new.items registers.new }
+    ensures grown { OnOk result (length bytes.old.items ≤ length bytes.new.items) }
     ensures held { AreHeld table.now states.new }
 {
     let few = exponent.min(9);
     'high: for place in (few..exponent).rev() {
         put_slot(
             bytes,
-            span,
+            registers,
             table,
             states,
             MANTISSA + 9,
@@ -119,7 +126,7 @@ fn put_mantissa<A: Allocator>(
     for place in (0..few).rev() {
         put_slot(
             bytes,
-            span,
+            registers,
             table,
             states,
             MANTISSA + place as usize,
@@ -131,90 +138,93 @@ fn put_mantissa<A: Allocator>(
 
 /// A number that is not 0, without its sign.
 #[inline(always)]
-fn put_magnitude<A: Allocator>(
+fn put_magnitude<A: Allocator, R: Registers>(
     bytes: &mut Vec<u8, A>,
-    span: &mut Span,
+    registers: &mut R,
     table: &StateTable,
     states: &mut [u8],
     number: u32,
 ) -> Result<(), AllocError>
-    requires writing { IsWriting bytes.old.items span.old.low span.old.width }
+    requires sound { R.are_sound bytes.old.items registers.old }
     requires held { AreHeld table.now states.old }
     requires positive { 0 < number }
     ensures writes { OnOk result (Writes table.now
-        (standing bytes.old.items span.old.low span.old.width) states.old
-        (standing bytes.new.items span.new.low span.new.width) states.new
+        (standing (R.interval bytes.old.items registers.old)) states.old
+        (standing (R.interval bytes.new.items registers.new)) states.new
         (magnitude_steps number)) }
     ensures refused { OnErr result (Grows table.now
-        (interval_from bytes.old.items span.old.low span.old.width) states.old
+        (R.interval bytes.old.items registers.old) states.old
         (magnitude_steps number)) }
-    ensures writing { IsWriting bytes.new.items span.new.low span.new.width }
+    ensures sound { R.are_sound bytes.new.items registers.new }
+    ensures grown { OnOk result (length bytes.old.items ≤ length bytes.new.items) }
     ensures held { AreHeld table.now states.new }
 {
-    put_slot(bytes, span, table, states, ZERO, false)?;
+    put_slot(bytes, registers, table, states, ZERO, false)?;
     let exponent = exponent(number);
-    put_exponent(bytes, span, table, states, exponent)?;
-    put_mantissa(bytes, span, table, states, exponent, number)?;
+    put_exponent(bytes, registers, table, states, exponent)?;
+    put_mantissa(bytes, registers, table, states, exponent, number)?;
     Ok(())
 }
 
 /// A number without a sign.
 #[inline(always)]
-fn put_natural<A: Allocator>(
+fn put_natural<A: Allocator, R: Registers>(
     bytes: &mut Vec<u8, A>,
-    span: &mut Span,
+    registers: &mut R,
     table: &StateTable,
     states: &mut [u8],
     number: u32,
 ) -> Result<(), AllocError>
-    requires writing { IsWriting bytes.old.items span.old.low span.old.width }
+    requires sound { R.are_sound bytes.old.items registers.old }
     requires held { AreHeld table.now states.old }
     ensures writes { OnOk result (Writes table.now
-        (standing bytes.old.items span.old.low span.old.width) states.old
-        (standing bytes.new.items span.new.low span.new.width) states.new (unsigned_steps number)) }
+        (standing (R.interval bytes.old.items registers.old)) states.old
+        (standing (R.interval bytes.new.items registers.new)) states.new (unsigned_steps number)) }
     ensures refused { OnErr result (Grows table.now
-        (interval_from bytes.old.items span.old.low span.old.width) states.old
+        (R.interval bytes.old.items registers.old) states.old
         (unsigned_steps number)) }
-    ensures writing { IsWriting bytes.new.items span.new.low span.new.width }
+    ensures sound { R.are_sound bytes.new.items registers.new }
+    ensures grown { OnOk result (length bytes.old.items ≤ length bytes.new.items) }
     ensures held { AreHeld table.now states.new }
 {
     if number == 0 {
-        put_slot(bytes, span, table, states, ZERO, true)?;
+        put_slot(bytes, registers, table, states, ZERO, true)?;
         return Ok(());
     }
-    put_magnitude(bytes, span, table, states, number)?;
+    put_magnitude(bytes, registers, table, states, number)?;
     Ok(())
 }
 
 /// A signed number.
 #[inline(always)]
-fn put_number<A: Allocator>(
+pub(crate) fn put_number<A: Allocator, R: Registers>(
     bytes: &mut Vec<u8, A>,
-    span: &mut Span,
+    registers: &mut R,
     table: &StateTable,
     states: &mut [u8],
     value: i32,
 ) -> Result<(), AllocError>
-    requires writing { IsWriting bytes.old.items span.old.low span.old.width }
+    requires sound { R.are_sound bytes.old.items registers.old }
     requires held { AreHeld table.now states.old }
     requires size { unsigned_abs value < 2 ^ 31 }
     ensures writes { OnOk result (Writes table.now
-        (standing bytes.old.items span.old.low span.old.width) states.old
-        (standing bytes.new.items span.new.low span.new.width) states.new (signed_steps value)) }
+        (standing (R.interval bytes.old.items registers.old)) states.old
+        (standing (R.interval bytes.new.items registers.new)) states.new (signed_steps value)) }
     ensures refused { OnErr result (Grows table.now
-        (interval_from bytes.old.items span.old.low span.old.width) states.old
+        (R.interval bytes.old.items registers.old) states.old
         (signed_steps value)) }
-    ensures writing { IsWriting bytes.new.items span.new.low span.new.width }
+    ensures sound { R.are_sound bytes.new.items registers.new }
+    ensures grown { OnOk result (length bytes.old.items ≤ length bytes.new.items) }
     ensures held { AreHeld table.now states.new }
 {
     let number = value.unsigned_abs();
     if number == 0 {
-        put_slot(bytes, span, table, states, ZERO, true)?;
+        put_slot(bytes, registers, table, states, ZERO, true)?;
         return Ok(());
     }
-    put_magnitude(bytes, span, table, states, number)?;
+    put_magnitude(bytes, registers, table, states, number)?;
     let slot = sign_slot(exponent(number));
-    put_slot(bytes, span, table, states, slot, value < 0)?;
+    put_slot(bytes, registers, table, states, slot, value < 0)?;
     Ok(())
 }
 
@@ -310,14 +320,7 @@ impl<A: Allocator> RangeEncoder<A> {
             self.fail();
             return Err(Fault::OutOfMemory);
         };
-        let number = value.unsigned_abs();
-        if number == 0 {
-            sums.count(1, 0);
-            return Ok(());
-        }
-        let exponent = exponent(number);
-        let ones = exponent + ones_below(number) + u32::from(value < 0);
-        sums.count(ones, 2 * exponent + 3 - ones);
+        sums.count_signed(value);
         Ok(())
     }
 

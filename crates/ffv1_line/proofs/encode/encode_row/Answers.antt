@@ -20,7 +20,10 @@ encode_block-requires-clause-part g c =
     let one_long : length c.above.inside.one.now ≡ length c.args.cur.now = rw (← c.above.view_is) at
     c.requires.one_long in
     record {
-      bits = c.requires.depth;
+      bits = record {
+        least = omega (arith, c.fixed_bits-bits.ensures, c.coding.invariant.0);
+        most = omega (arith, c.fixed_bits-bits.ensures, rw (← c.coding.view_is) at c.requires.depth);
+      };
       three_tables = rw (← c.coding.view_is) at c.requires.three_tables;
       some = c.requires.some;
       few = omega (arith, c.min-count.ensures);
@@ -47,7 +50,7 @@ pub returns-in_err-encode_block : goal.returns-in_err-encode_block
 returns-in_err-encode_block g c =
     let one_long : length c.above.inside.one.now ≡ length c.args.cur.now = rw (← c.above.view_is) at
     c.requires.one_long in
-    let bits : c.coding.inside.bits ≡ g.row.BITS = rw (← c.coding.view_is) at c.requires.bits in
+    let bits : c.coding.inside.bits ≡ c.fixed_bits-bits.result = search rules in
     let kept = c.in_err-encode_block.ensures.kept in
     let few = kept.few (omega (arith, c.min-count.ensures)) in
     record {

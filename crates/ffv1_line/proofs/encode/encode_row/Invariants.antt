@@ -13,7 +13,7 @@ invariant-parts g l = record {
   rows : length l.states ≡ contexts_of l.set.now * 32;
   within : l.from ≤ length l.cur;
   sound : l.encoder.failed ≡ false;
-  written : Written (coding_by l.table.now l.set.now g.row.BITS)
+  written : Written (coding_by l.table.now l.set.now l.bits)
       (encoder_by l.fn.encoder l.fn.states) (encoder_by l.encoder l.states)
       (rows_above l.two.now l.one.now) l.cur l.from;
 }

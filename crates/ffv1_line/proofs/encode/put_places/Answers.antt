@@ -5,6 +5,7 @@ use Rattle.ffv1_range.proofs.Growth.{on_err}
 use Rattle.ffv1_range.specs.Counts.{Counts, Counted}
 use Rattle.ffv1_line.specs.Internal.Parts.{part_steps}
 use Rattle.ffv1_line.proofs.Beside.{places-none, places-more, place_is, refused_place}
+use Rattle.ffv1_line.proofs.BlockLanes.{nine_by, nine_limit}
 use Rattle.ffv1_line.proofs.encode.put_places.Goals as goal
 
 pub loop-k-init : goal.loop-k-init
@@ -22,7 +23,7 @@ pub returns-in_err-put_mostly_zero-clause-refused :
 returns-in_err-put_mostly_zero-clause-refused g c =
     let k = c.loop-k.k in
     let place = place_is c.args.part.now c.args.part.now.count k _ _ _ c.requires.block
-    c.loop-k-test.true refl in
+    c.loop-k-test.true (sym (nine_by c.args.part.now.bits _ c.requires.bits)) in
     on_err c.from_residual.result
     (refused_place c.args.table.now _ _ _ _ c.args.part.now.set.now c.args.part.now.bits
     c.args.part.now.two.now c.args.part.now.one.now c.args.part.now.cur.now c.args.part.now.from
@@ -33,7 +34,7 @@ pub loop-k-preserved : goal.loop-k-preserved
 loop-k-preserved g c =
     let k = c.loop-k.k in
     let place = place_is c.args.part.now c.args.part.now.count k _ _ _ c.requires.block
-    c.loop-k-test.true refl in
+    c.loop-k-test.true (sym (nine_by c.args.part.now.bits _ c.requires.bits)) in
     let puts = rw place at c.in_ok-put_mostly_zero.ensures.ok in
     record {
       held = c.in_ok-put_mostly_zero.ensures.held;
@@ -55,3 +56,8 @@ returns-in_err-put_mostly_zero-clause-kept g c =
           (part_steps c.args.part.now k) n) (sym c.in_err-put_mostly_zero.ensures.kept)
           c.loop-k.invariant.puts.counts;
     })
+
+pub put_mostly_zero-requires-clause-small : goal.put_mostly_zero-requires-clause-small
+put_mostly_zero-requires-clause-small g c =
+    rw (nine_limit c.args.part.now.bits c.requires.bits) at
+    c.requires.block.small c.loop-k.k c.loop-k-test.true

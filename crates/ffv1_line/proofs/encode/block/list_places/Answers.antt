@@ -22,7 +22,7 @@ loop-k-preserved g c =
     record {
       block = is;
       short = omega (arith, c.list_signed-at.ensures.few);
-      steps = listed_next _ c.args.part.now.count k context residual _ _ is c.loop-k-test.true refl
+      steps = listed_next _ c.args.part.now.count k context residual _ _ c.requires.bits is c.loop-k-test.true refl
           refl _
           (c.list_signed-at.ensures.steps ∙ ap (λ l. l ++ shifted (context * 32)
           (signed_steps (of_nine_bits residual))) c.loop-k.invariant.steps);

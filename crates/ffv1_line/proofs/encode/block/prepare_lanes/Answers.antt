@@ -5,13 +5,13 @@ use Rattle.std.proofs.lemmas.Simd.{map-map}
 use Rattle.std.proofs.lemmas.List.FromFn.{length-range_with_len}
 use Rattle.std.specs.List.{range_with_len}
 use Rattle.std.proofs.lemmas.Grind.{elements}
-use Rattle.ffv1_plane.specs.declared.prediction.Around.{Around}
 use Rattle.ffv1_plane.specs.Context.{size_of, flip_of}
 use Rattle.ffv1_plane.specs.Residual.{chosen_of}
-use Rattle.ffv1_plane.specs.Lanes.{modulo_512}
-use Rattle.ffv1_line.specs.Beside.{beside}
+use Rattle.ffv1_plane.proofs.LaneValues.{by_values}
+use Rattle.ffv1_line.specs.Beside.{beside, chosen_beside}
+use Rattle.ffv1_line.specs.Internal.Parts.{kept_of}
 use Rattle.ffv1_line.proofs.BlockLanes.{block_lanes}
-use Rattle.ffv1_line.proofs.Narrow.{unsigned}
+use Rattle.ffv1_line.proofs.Narrow.{unsigned_below}
 use Rattle.ffv1_line.proofs.encode.block.prepare_lanes.Goals as goal
 
 pub returns : goal.returns
@@ -25,16 +25,18 @@ returns g c =
     let places = range_with_len x 16 in
     let long = length-range_with_len x 16 in
     let loaded = c.around_lanes.ensures in
-    let sizes = c.choose_lanes.ensures.sizes places (beside two one cur) long loaded.around in
-    let residuals = c.choose_lanes.ensures.residuals places (beside two one cur) (slice_index cur)
+    let sizes = c.kept_lanes.ensures.sizes places (beside two one cur) long loaded.around in
+    let residuals = c.kept_lanes.ensures.residuals places (beside two one cur) (slice_index cur)
     long loaded.around loaded.samples loaded.small in
     block_lanes p c.args.at _ _ _ _ q.part.bits q.contexts q.residuals
     c.is_a_bounded_set.ensures.below q.done
     (ap (map (λ (n : ℕ). n)) sizes ∙ map-map (λ (n : ℕ). n)
     (λ (k : ℕ). size_of p.set.now (beside two one cur k)) places)
-    (residuals ∙ ap (λ (f : Around → ℤ). map (λ (k : ℕ). modulo_512
-    (chosen_of p.bits (f (beside two one cur k)) (flip_of p.set.now (beside two one cur k))
-    (slice_index cur k))) places) (sym (unsigned p.bits q.part.bits)))
+    (by_values places _ _ (λ (k : ℕ). kept_of p.bits
+    (chosen_beside p.set.now p.bits two one cur k)) residuals
+    (λ k. ap (λ (v : ℤ). kept_of p.bits (chosen_of p.bits v
+    (flip_of p.set.now (beside two one cur k)) (slice_index cur k)))
+    (sym (unsigned_below p.bits q.part.bits (beside two one cur k)))))
 
 pub overflow_cast-contexts : goal.overflow_cast-contexts
 overflow_cast-contexts g c = grind (arith, elements)

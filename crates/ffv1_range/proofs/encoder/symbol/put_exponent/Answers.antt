@@ -31,7 +31,8 @@ module _ (g : Over) (c : After-put_slot-2 g) where
 pub loop-k-init : goal.loop-k-init
 loop-k-init g c = record {
   held = c.requires.held;
-  writing = c.requires.writing;
+  sound = c.requires.sound;
+  grown = omega arith;
   writes =
       rw raising-zero (writes_none _ _ _);
 }
@@ -41,7 +42,8 @@ loop-k-preserved g c =
     let slot = slot g (goal.at.loop-k-preserved g c).After-put_slot in
     record {
       held = c.put_slot.ensures.held;
-      writing = c.put_slot.ensures.writing;
+      sound = c.put_slot.ensures.sound;
+      grown = omega (arith, c.loop-k.invariant.grown, c.in_ok-put_slot.ensures.grown);
       writes = rw raising-add-one (writes_append _ _ _ _ _ _ _ _ _ c.loop-k.invariant.writes
           (rw slot at c.in_ok-put_slot.ensures.writes));
     }
@@ -51,7 +53,8 @@ more-preserved g c =
     let slot = slot_more g (goal.at.more-preserved g c).After-put_slot-in-more in
     record {
       held = c.put_slot-in-more.ensures.held;
-      writing = c.put_slot-in-more.ensures.writing;
+      sound = c.put_slot-in-more.ensures.sound;
+      grown = omega (arith, c.more.invariant.grown, c.in_ok-put_slot-2.ensures.grown);
       writes = rw raising-add-one (writes_append _ _ _ _ _ _ _ _ _ c.more.invariant.writes
           (rw slot at c.in_ok-put_slot-2.ensures.writes));
     }

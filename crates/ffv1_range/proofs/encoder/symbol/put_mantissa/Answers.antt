@@ -13,7 +13,8 @@ high-preserved g c =
     let more = longer c.args.exponent c.high.place positive c.high.invariant.below in
     record {
       held = c.put_slot.ensures.held;
-      writing = c.put_slot.ensures.writing;
+      sound = c.put_slot.ensures.sound;
+      grown = omega (arith, c.high.invariant.grown, c.in_ok-put_slot.ensures.grown);
       below = omega arith;
       above = omega arith;
       writes = rw (more, mantissa_next) (writes_append _ _ _ _ _ _ _ _ _ c.high.invariant.writes
@@ -26,7 +27,8 @@ loop-place-init g c =
     omega (arith, c.high-test.false, c.high.invariant.above) in
     record {
       held = c.high.invariant.held;
-      writing = c.high.invariant.writing;
+      sound = c.high.invariant.sound;
+      grown = c.high.invariant.grown;
       below = rw all at c.high.invariant.below;
       writes = rw all at c.high.invariant.writes;
     }
@@ -39,7 +41,8 @@ loop-place-preserved g c =
     let more = longer c.args.exponent c.loop-place.place positive c.loop-place.invariant.below in
     record {
       held = c.put_slot-in-loop-place.ensures.held;
-      writing = c.put_slot-in-loop-place.ensures.writing;
+      sound = c.put_slot-in-loop-place.ensures.sound;
+      grown = omega (arith, c.loop-place.invariant.grown, c.in_ok-put_slot-2.ensures.grown);
       below = omega arith;
       writes = rw (more, mantissa_next) (writes_append _ _ _ _ _ _ _ _ _
           c.loop-place.invariant.writes (rw slot at c.in_ok-put_slot-2.ensures.writes));

@@ -1,8 +1,0 @@
--- Narrows the interval by a decision, and gives out a byte where it is narrower than 256. Where a
--- growth is refused, nothing is left of the bytes.
-use Rattle.std.proofs.lemmas.Grind.{common_steps}
-use Rattle.std.proofs.Common.{arith}
-use Rattle.ffv1_range.proofs.encoder.narrow_by.Goals as goal
-
-pub returns-in-Ok-clause-writing : goal.returns-in-Ok-clause-writing
-returns-in-Ok-clause-writing g c = grind (arith, common_steps)
