@@ -134,8 +134,8 @@ pub record CodesSlice (bytes : List ℕ) (a : Accepted) (planes : Planes) (info 
   pub ending : HasEnding a bytes (key_steps n ++ (head_steps a.configuration n head ++ body))
 
 -- its decisions
-abbrev pub decided_by_slice : {bytes : List ℕ} → {a : Accepted} → {planes : Planes} → {info : Said} →
-    {n : ℕ} → CodesSlice bytes a planes info n → List Decision
+abbrev pub decided_by_slice : {bytes : List ℕ} → {a : Accepted} → {planes : Planes} →
+    {info : Said} → {n : ℕ} → CodesSlice bytes a planes info n → List Decision
 decided_by_slice {a = a} {n = n} slice =
     decisions_after a.table []
     (key_steps n ++ (head_steps a.configuration n slice.head ++ slice.body))

@@ -264,8 +264,6 @@ pub fn ended_bytes_code_their_list()
         IsEnded bytes (interval_of ds) → Codes bytes ds }
     ensures begins { (xs ys : List ℕ) (ds : List Decision) → AreBytes (xs ++ ys) → AreStates ds →
         IsEnded xs (interval_of ds) → Codes (xs ++ ys) ds }
-    ensures long { (bytes : List ℕ) (ds : List Decision) → IsEnded bytes (interval_of ds) →
-        (interval_of ds).count ≤ length bytes + 1 }
 {}
 
 /// The bytes that end a list are as many as those of its sentinel ending. Their number is no less,

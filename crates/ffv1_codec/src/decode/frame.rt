@@ -289,10 +289,10 @@ impl<A: Allocator> FrameDecoder<A> {
     /// bytes past its end is `Overread`, exactly where its decoder has renormalised more often than
     /// the slice has coded bytes. So a payload is decoded in a time that goes by its length.
     ///
-    /// At `Wide` a slice ends where its coder does (RFC 9043, 3.8.1.1.1): one more decision by state
-    /// 129 would be 0, and the decoder would then have renormalised exactly once less than the slice
-    /// has coded bytes; else it is `Ending`, with its last plane, the last line of its cell there,
-    /// and x 0. So a slice that lost coded bytes at its end, or has bytes too many there, is
+    /// At `Wide` a slice ends where its coder does (RFC 9043, 3.8.1.1.1): one more decision by
+    /// state 129 would be 0, and the decoder would then have renormalised exactly once less than
+    /// the slice has coded bytes. Else it is `Ending`, at its last plane, the last line of its cell
+    /// there, and x 0. So a slice that lost coded bytes at its end, or has bytes too many there, is
     /// refused. That decision is looked at, and counted nowhere.
     ///
     /// With parity, a payload that differs from a good one within 32 neighbouring bits of one

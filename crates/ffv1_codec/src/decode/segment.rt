@@ -264,8 +264,8 @@ fn read_on<W: LineWord, A: Allocator>(
     }
 }
 
-/// Reads a segment into its place of a line, and looks at how far its slice was read, and whether it
-/// ends if that was its last line.
+/// Reads a segment into its place of a line, and looks at how far its slice was read, and whether
+/// it ends if that was its last line.
 pub(crate) fn read_at<W: LineWord, A: Allocator>(
     frame: &Frame<'_, A>,
     segment: &Segment,

@@ -171,8 +171,9 @@ pub fn no_slice_begins_another()
     laws::planes_are_divided_part_by_part();
 }
 
-/// At `Wide` the bytes of a slice are as many as those of the sentinel ending of its decisions, with
-/// a number that is no less and at most 254 more; and all bytes that end its decisions code it.
+/// At `Wide` the bytes of a slice are as many as those of the sentinel ending of its decisions,
+/// with a number that is no less and at most 254 more; and all bytes that end its decisions code
+/// it.
 pub fn slices_end_near_the_sentinel_ending()
     ensures near { (a : Accepted) (bytes : List ℕ) (planes : Planes) (info : Said) (n : ℕ)
         (slice : CodesSlice bytes a planes info n) →

@@ -58,9 +58,9 @@ impl Parked {
         }
     }
 
-    /// Whether its bytes, which these are, end where it stands: its next decision by state 129 would
-    /// be 0, and it would then have renormalised exactly once less than there are bytes (RFC 9043,
-    /// 3.8.1.1.1). That decision is looked at, and neither read nor counted.
+    /// Whether its bytes, which these are, end where it stands: its next decision by state 129
+    /// would be 0, and it would then have renormalised exactly once less than there are bytes (RFC
+    /// 9043, 3.8.1.1.1). That decision is looked at, and neither read nor counted.
     pub fn is_ended(&self, bytes: &[u8]) -> bool
         ensures yes { IsTrue result → (i : Interval) → At (resumed self.now bytes.now) i →
             IsEnded bytes.now i }
