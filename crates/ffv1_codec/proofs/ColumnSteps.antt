@@ -5,13 +5,14 @@ use Rattle.ffv1_record.specs.Configuration.{Configuration}
 use Rattle.ffv1_record.specs.Accepted.{Accepted}
 use Rattle.ffv1_codec.specs.Picture.{plane_count}
 use Rattle.ffv1_codec.specs.SliceList.{Line}
-use Rattle.ffv1_codec.specs.Order.{Event}
+use Rattle.ffv1_codec.specs.Order.{Event, IsLastLine}
 use Rattle.ffv1_codec.specs.Order.Event.{Open, Read, Finish, Hand, Close}
 use Rattle.ffv1_codec.specs.Runs.{Runs}
 use Rattle.ffv1_codec.specs.Decoding.{State, Slice, StepsBy, ReadsLine, slice_at, slice_number, width_in, after_line, steps_of_line, unread}
 use Rattle.ffv1_codec.proofs.Machines.{Each}
 use Rattle.ffv1_codec.proofs.LinesRead.{read_at, reads_of}
 use Rattle.ffv1_codec.specs.Overread.{IsWithin}
+use Rattle.ffv1_codec.specs.Ending.{HasEnding}
 
 -- an event of the lines of row r
 abbrev pub IsOfRow : Configuration → ℕ → Event → Type 0
@@ -32,6 +33,7 @@ module _ (a : Accepted) (coded : ℕ → List ℕ) (r k : ℕ) where
     pub reads : ReadsLine a coded (slice_number a.configuration r k) p (width_in a.configuration p k) y q qs row
     pub behind : t ≡ after_line q (steps_of_line a coded q p (width_in a.configuration p k) y qs row) p row
     pub within : IsWithin a (coded (slice_number a.configuration r k)) (q.past ++ steps_of_line a coded q p (width_in a.configuration p k) y qs row)
+    pub ending : IsLastLine a.configuration r p y → HasEnding a (coded (slice_number a.configuration r k)) (q.past ++ steps_of_line a coded q p (width_in a.configuration p k) y qs row)
     pub line : read_at k e ≡ record { plane = p; y = y } ∷ []
 
   -- or it stays as it is
@@ -58,6 +60,7 @@ module _ (a : Accepted) (coded : ℕ → List ℕ) (r k : ℕ) where
           reads = g.2;
           behind = ap (λ z. slice_at z k) g.3 ∙ get_or-set_same s.columns k next unread inside;
           within = g.4;
+          ending = g.5;
           line = ap (λ b. if b then record { plane = p; y = y } ∷ [] else []) (eq-eqb j k same);
         })
     | inr other ↦
@@ -76,7 +79,7 @@ module _ (a : Accepted) (coded : ℕ → List ℕ) (r k : ℕ) where
       let g = column_read s m i p y inside kind.1 kind.2 (subst (λ z. StepsBy a coded s (Read z i p y) m) kind.0 f) in
       elim g [
         | inl stays ↦ inl (record { same = stays.same; line = stays.line })
-        | inr next ↦ inr (record { p = next.p; y = next.y; qs = next.qs; row = next.row; inside = next.inside; reads = next.reads; behind = next.behind; within = next.within; line = next.line })
+        | inr next ↦ inr (record { p = next.p; y = next.y; qs = next.qs; row = next.row; inside = next.inside; reads = next.reads; behind = next.behind; within = next.within; ending = next.ending; line = next.line })
       ]
   column_step s m (Finish j planes y) inside kind f = inl (record { same = ap (λ z. slice_at z k) f.2; line = refl })
   column_step s m (Hand j i p y) inside kind f = inl (record { same = ap (λ z. slice_at z k) f; line = refl })

@@ -83,7 +83,10 @@ module _ (a : Accepted) (coded : ℕ → List ℕ) where
   ]
   event_own s t (Read r k p y) f h = elim h [
     | inl stop ↦ own_by f.fault fault.SymbolTooLong (ap (λ (z : FrameFault). z.fault) stop.3) refl
-    | inr over ↦ own_by f.fault fault.Overread (ap (λ (z : FrameFault). z.fault) over.3) refl
+    | inr looked ↦ elim looked [
+      | inl over ↦ own_by f.fault fault.Overread (ap (λ (z : FrameFault). z.fault) over.3) refl
+      | inr late ↦ own_by f.fault fault.Ending (ap (λ (z : FrameFault). z.fault) late.3) refl
+    ]
   ]
   event_own s t (Finish r planes y) f h = own_by f.fault fault.Colour (ap (λ (z : FrameFault). z.fault) h.4) refl
   event_own s t (Hand r i p y) f h = absurd h

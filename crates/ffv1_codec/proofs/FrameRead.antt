@@ -30,6 +30,8 @@ use Rattle.ffv1_codec.proofs.SlicesRead.{FrontLaws, Coding, cell_at}
 use Rattle.ffv1_codec.proofs.RowsRead.{Standing, AllStand, groups_go}
 use Rattle.ffv1_codec.specs.Overread.{IsWithin}
 use Rattle.ffv1_codec.proofs.TooFar.{within_front}
+use Rattle.ffv1_codec.proofs.SliceEnds.{ending_within}
+use Rattle.ffv1_codec.proofs.LastLine.{has_last, planes_some}
 
 module _ (a : Accepted) (coded : ℕ → List ℕ) (planes : Planes) (info : Said) (r : ℕ) where
   -- the bytes code a slice of the picture
@@ -69,7 +71,7 @@ module _ (a : Accepted) (coded : ℕ → List ℕ) (planes : Planes) (info : Sai
         let n = slice_number a.configuration r k in
         let c = a.configuration in
         within_front a (coded n) (key_steps n ++ head_steps c n w.head) w.body
-        (subst (IsWithin a (coded n)) (sym (append_assoc (key_steps n) (head_steps c n w.head) w.body)) w.coding.within)
+        (subst (IsWithin a (coded n)) (sym (append_assoc (key_steps n) (head_steps c n w.head) w.body)) (ending_within a (coded n) _ w.coding.ending))
 
     standing : (k : ℕ) → (w : Known k) → Standing a coded planes info r k (row_lines a.configuration r) (opened a coded (slice_number a.configuration r k) w.head)
     standing k w =
@@ -90,6 +92,8 @@ module _ (a : Accepted) (coded : ℕ → List ℕ) (planes : Planes) (info : Sai
               long = ap (λ (xs : List ℕ). length xs) (empty_cells a coded r (plane_count c) p) ∙ (let none : 0 ≡ 0 * width_in c p k = omega arith in none);
               shown = λ x z small below. absurd (omega (arith, below));
             };
+            read = [];
+            lines = refl;
             before = [];
             rest = w.body;
             whole = refl;
@@ -170,7 +174,8 @@ module _ (a : Accepted) (coded : ℕ → List ℕ) (planes : Planes) (info : Sai
         let groups = groups_are c r (λ rct p. alike_lines a laws rct p r) in
         let stand : AllStand a coded planes info r (λ k. flat_map group_lines gs) o = λ k inside.
         subst (λ ls. Standing a coded planes info r k ls (slice_at o k)) (lines_by_groups c r) (open_all.stand k (omega arith) (omega (arith, inside))) in
-        let go = groups_go a coded planes info r laws.cells front (some_wide a laws) picture laws.tiles_h laws.tiles_v part colours laws.in_rct inside gs [] o groups o_long stand have in
+        let go = groups_go a coded planes info r laws.cells front (some_wide a laws)
+        (has_last c r (λ rct p. alike_lines a laws rct p r) (planes_some c) (λ p. (laws.tiles_v p).some r inside)) picture laws.tiles_h laws.tiles_v part colours laws.in_rct inside gs [] o groups o_long stand have in
         let e = go.end in
         let closed : State = record e { done = e.done ++ e.columns; columns = replicate c.columns unread } in
         let run : Runs (StepsBy a coded) o (flat_map (series_events c r) (series_of c r)) e =

@@ -100,7 +100,7 @@ module _ (a : Accepted) (planes : Planes) (info : Said) (coded : ℕ → List �
         body = slice.body;
         is_head = slice.is_head;
         says = slice.says;
-        coding = record { codes = slice.codes; within = slice.within };
+        coding = record { codes = slice.codes; ending = slice.ending };
         is_body =
             subst (λ i. IsBody c slice.head (cells_by k i) (row_lines c i) slice.body) place.0
             (subst (λ j. IsBody c slice.head (cells_by j (n / c.columns)) (row_lines c (n / c.columns)) slice.body) place.1 slice.is_body);

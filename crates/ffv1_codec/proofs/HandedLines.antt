@@ -463,7 +463,10 @@ module _ (a : Accepted) (coded : ℕ → List ℕ) (laws : PictureLaws a) where
   fault_lines s t (Open j k) f h = ap (λ (z : State). z.lines) h.3
   fault_lines s t (Read j k p y) f h = elim h [
     | inl stops ↦ ap (λ (z : State). z.lines) stops.4
-    | inr far ↦ ap (λ (z : State). z.lines) far.4
+    | inr looked ↦ elim looked [
+      | inl far ↦ ap (λ (z : State). z.lines) far.4
+      | inr late ↦ ap (λ (z : State). z.lines) late.4
+    ]
   ]
   fault_lines s t (Finish j planes y) f h = ap (λ (z : State). z.lines) h.5
   fault_lines s t (Hand j i p y) f h = absurd h

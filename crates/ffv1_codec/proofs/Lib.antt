@@ -66,6 +66,9 @@ pub mod CellsShown
 pub mod PictureMade
 pub mod SlicesMade
 pub mod SlicesRead
+pub mod SliceEnds
+pub mod LastLine
+pub mod OneEnding
 pub mod PictureLines
 pub mod RowsRead
 pub mod FrameRead

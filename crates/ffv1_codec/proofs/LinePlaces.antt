@@ -127,7 +127,10 @@ module _ (a : Accepted) (coded : ℕ → List ℕ) where
   fault_places s t (Open r k) f h = ap (λ (z : State). places z) h.3
   fault_places s t (Read r k p y) f h = elim h [
     | inl stop ↦ ap (λ (z : State). places z) stop.4
-    | inr over ↦ ap (λ (z : State). places z) over.4
+    | inr looked ↦ elim looked [
+      | inl over ↦ ap (λ (z : State). places z) over.4
+      | inr late ↦ ap (λ (z : State). places z) late.4
+    ]
   ]
   fault_places s t (Finish r planes y) f h = ap (λ (z : State). places z) h.5
   fault_places s t (Hand r i p y) f h = absurd h

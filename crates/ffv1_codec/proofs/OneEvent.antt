@@ -12,13 +12,15 @@ use Rattle.ffv1_codec.specs.declared.fault.FrameFault.{FrameFault}
 use Rattle.ffv1_codec.specs.SliceList.{said_by}
 use Rattle.ffv1_codec.specs.Order.{Event}
 use Rattle.ffv1_codec.specs.Order.Event.{Open, Read, Finish, Hand, Close}
-use Rattle.ffv1_codec.specs.Decoding.{State, StepsBy, FaultsWith, StopsAt, OverreadsAt, slice_at, slice_number, width_in, left_of, top_of, put_slice, opened, after_line, after_steps, decided_in, steps_of_line, steps_of_stop, coded_line, in_slice}
+use Rattle.ffv1_codec.specs.Decoding.{State, StepsBy, FaultsWith, StopsAt, OverreadsAt, LacksEndingAt, slice_at, slice_number, width_in, left_of, top_of, put_slice, opened, after_line, after_steps, decided_in, steps_of_line, steps_of_stop, coded_line, in_slice}
 use Rattle.ffv1_codec.proofs.Machines.{OneEach}
 use Rattle.ffv1_codec.proofs.OneLine.{RowLaws, one_line, line_or_stop, one_stop}
 use Rattle.ffv1_codec.proofs.OneColour.{AreFew, one_finish, finish_or_colourless, one_colourless}
 use Rattle.ffv1_codec.proofs.OneOpening.{HeadLaws, head_or_refusal, one_reason}
 use Rattle.ffv1_codec.specs.Overread.{IsWithin}
+use Rattle.ffv1_codec.specs.Ending.{HasEnding}
 use Rattle.ffv1_codec.proofs.TooFar.{not_overread}
+use Rattle.ffv1_codec.proofs.SliceEnds.{ends_or_lacks}
 
 -- an event of pictures of a configuration
 abbrev pub IsEvent : Configuration → Event → Type 0
@@ -61,22 +63,34 @@ module _ (a : Accepted) (coded : ℕ → List ℕ) (laws : BytesLaws a coded) wh
   apart s x z (Read r k p y) f kind g h = elim h [
     | inl stop ↦
         line_or_stop a coded (slice_number a.configuration r k) (laws.rows (slice_number a.configuration r k)) p (width_in a.configuration p k) y (laws.wide p k kind) (slice_at s k) g.0 stop.0 g.1 stop.1 g.2 stop.2
-    | inr over ↦
-        let n = slice_number a.configuration r k in
-        let q = slice_at s k in
-        let width = width_in a.configuration p k in
-        let same = one_line a coded n (laws.rows n) p width y (laws.wide p k kind) q g.0 over.0 g.1 over.1 g.2 over.2 in
-        let within : IsWithin a (coded n) (q.past ++ steps_of_line a coded q p width y over.0 over.1) =
-        subst (λ row. IsWithin a (coded n) (q.past ++ steps_of_line a coded q p width y over.0 row)) same.1
-        (subst (λ qs. IsWithin a (coded n) (q.past ++ steps_of_line a coded q p width y qs g.1)) same.0 g.4) in
-        not_overread a (coded n) (q.past ++ steps_of_line a coded q p width y over.0 over.1) within over.5
+    | inr looked ↦ elim looked [
+      | inl over ↦
+          let n = slice_number a.configuration r k in
+          let q = slice_at s k in
+          let width = width_in a.configuration p k in
+          let same = one_line a coded n (laws.rows n) p width y (laws.wide p k kind) q g.0 over.0 g.1 over.1 g.2 over.2 in
+          let within : IsWithin a (coded n) (q.past ++ steps_of_line a coded q p width y over.0 over.1) =
+          subst (λ row. IsWithin a (coded n) (q.past ++ steps_of_line a coded q p width y over.0 row)) same.1
+          (subst (λ qs. IsWithin a (coded n) (q.past ++ steps_of_line a coded q p width y qs g.1)) same.0 g.4) in
+          not_overread a (coded n) (q.past ++ steps_of_line a coded q p width y over.0 over.1) within over.5
+      | inr late ↦
+          let n = slice_number a.configuration r k in
+          let q = slice_at s k in
+          let width = width_in a.configuration p k in
+          let same = one_line a coded n (laws.rows n) p width y (laws.wide p k kind) q g.0 late.0 g.1 late.1 g.2 late.2 in
+          let ending : HasEnding a (coded n) (q.past ++ steps_of_line a coded q p width y late.0 late.1) =
+          subst (λ row. HasEnding a (coded n) (q.past ++ steps_of_line a coded q p width y late.0 row)) same.1
+          (subst (λ qs. HasEnding a (coded n) (q.past ++ steps_of_line a coded q p width y qs g.1)) same.0 (g.5 late.6)) in
+          ends_or_lacks a (coded n) (q.past ++ steps_of_line a coded q p width y late.0 late.1) ending late.7
+    ]
   ]
   apart s x z (Finish r planes y) f kind g h =
       finish_or_colourless a.configuration (map (coded_line a.configuration s y) planes) h.0 g.0 g.1 h.2
   apart s x z (Hand r i p y) f kind g h = h
   apart s x z Close f kind g h = h
 
-  -- a line that is refused within it is so in one place; one that is read too far is read in one way
+  -- a line that is refused within it is so in one place; one that is read too far, or as the last of
+  -- a slice that does not end there, is read in one way
   stop_same : (s x z : State) (r k p y : ℕ) (f g : FrameFault) → k < a.configuration.columns → StopsAt a coded s r k p y f x → StopsAt a coded s r k p y g z → (f ≡ g) × (x ≡ z)
   stop_same s x z r k p y f g kind h j =
       let n = slice_number a.configuration r k in
@@ -107,6 +121,31 @@ module _ (a : Accepted) (coded : ℕ → List ℕ) (laws : BytesLaws a coded) wh
       let n = slice_number a.configuration r k in
       line_or_stop a coded n (laws.rows n) p (width_in a.configuration p k) y (laws.wide p k kind) (slice_at s k) j.0 h.0 j.1 h.1 j.2 h.2
 
+  late_same : (s x z : State) (r k p y : ℕ) (f g : FrameFault) → k < a.configuration.columns → LacksEndingAt a coded s r k p y f x → LacksEndingAt a coded s r k p y g z → (f ≡ g) × (x ≡ z)
+  late_same s x z r k p y f g kind h j =
+      let n = slice_number a.configuration r k in
+      let q = slice_at s k in
+      let width = width_in a.configuration p k in
+      let same = one_line a coded n (laws.rows n) p width y (laws.wide p k kind) q h.0 j.0 h.1 j.1 h.2 j.2 in
+      let after : List ℤ → List ℕ → State = λ qs row. put_slice s k (after_line q (steps_of_line a coded q p width y qs row) p row) in
+      (h.3 ∙ sym j.3, h.4 ∙ ap (λ qs. after qs h.1) same.0 ∙ ap (after j.0) same.1 ∙ sym j.4)
+
+  stop_or_late : (s x z : State) (r k p y : ℕ) (f g : FrameFault) → k < a.configuration.columns → StopsAt a coded s r k p y f x → LacksEndingAt a coded s r k p y g z → ⊥
+  stop_or_late s x z r k p y f g kind h j =
+      let n = slice_number a.configuration r k in
+      line_or_stop a coded n (laws.rows n) p (width_in a.configuration p k) y (laws.wide p k kind) (slice_at s k) j.0 h.0 j.1 h.1 j.2 h.2
+
+  over_or_late : (s x z : State) (r k p y : ℕ) (f g : FrameFault) → k < a.configuration.columns → OverreadsAt a coded s r k p y f x → LacksEndingAt a coded s r k p y g z → ⊥
+  over_or_late s x z r k p y f g kind h j =
+      let n = slice_number a.configuration r k in
+      let q = slice_at s k in
+      let width = width_in a.configuration p k in
+      let same = one_line a coded n (laws.rows n) p width y (laws.wide p k kind) q j.0 h.0 j.1 h.1 j.2 h.2 in
+      let within : IsWithin a (coded n) (q.past ++ steps_of_line a coded q p width y h.0 h.1) =
+      subst (λ row. IsWithin a (coded n) (q.past ++ steps_of_line a coded q p width y h.0 row)) same.1
+      (subst (λ qs. IsWithin a (coded n) (q.past ++ steps_of_line a coded q p width y qs j.1)) same.0 j.5) in
+      not_overread a (coded n) (q.past ++ steps_of_line a coded q p width y h.0 h.1) within h.5
+
   fault_same : (s x z : State) (e : Event) (f g : FrameFault) → IsEvent a.configuration e → FaultsWith a coded s e f x → FaultsWith a coded s e g z → (f ≡ g) × (x ≡ z)
   fault_same s x z (Open r k) f g kind h j =
       let n = slice_number a.configuration r k in
@@ -117,11 +156,26 @@ module _ (a : Accepted) (coded : ℕ → List ℕ) (laws : BytesLaws a coded) wh
   fault_same s x z (Read r k p y) f g kind h j = elim h [
     | inl stop ↦ elim j [
       | inl other ↦ stop_same s x z r k p y f g kind stop other
-      | inr over ↦ absurd (stop_or_over s x z r k p y f g kind stop over)
+      | inr looked ↦ elim looked [
+        | inl over ↦ absurd (stop_or_over s x z r k p y f g kind stop over)
+        | inr late ↦ absurd (stop_or_late s x z r k p y f g kind stop late)
+      ]
     ]
-    | inr over ↦ elim j [
-      | inl stop ↦ absurd (stop_or_over s z x r k p y g f kind stop over)
-      | inr other ↦ over_same s x z r k p y f g kind over other
+    | inr looked ↦ elim looked [
+      | inl over ↦ elim j [
+        | inl stop ↦ absurd (stop_or_over s z x r k p y g f kind stop over)
+        | inr more ↦ elim more [
+          | inl other ↦ over_same s x z r k p y f g kind over other
+          | inr late ↦ absurd (over_or_late s x z r k p y f g kind over late)
+        ]
+      ]
+      | inr late ↦ elim j [
+        | inl stop ↦ absurd (stop_or_late s z x r k p y g f kind stop late)
+        | inr more ↦ elim more [
+          | inl over ↦ absurd (over_or_late s z x r k p y g f kind over late)
+          | inr other ↦ late_same s x z r k p y f g kind late other
+        ]
+      ]
     ]
   ]
   fault_same s x z (Finish r planes y) f g kind h j =

@@ -205,7 +205,7 @@ no_rows c r p (l ∷ ls) past all =
 
 module _ (a : Accepted) (coded : ℕ → List ℕ) (n : ℕ) (laws : OnlyLaws a (coded n)) (sides : Sides a.configuration) where
   -- the rows of a plane among the first lines of a slice
-  rows_begun : (read more : List Line) → lines_in a.configuration n ≡ read ++ more → (p : ℕ) → (count : ℕ) × (rows_in p read ≡ range_with_len 0 count)
+  pub rows_begun : (read more : List Line) → lines_in a.configuration n ≡ read ++ more → (p : ℕ) → (count : ℕ) × (rows_in p read ≡ range_with_len 0 count)
   rows_begun read more parts p =
       let c = a.configuration in
       let r = n / c.columns in

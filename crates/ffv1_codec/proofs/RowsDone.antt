@@ -1,5 +1,5 @@
 -- What is known of each row of slices at the end of decoding.
-use Rattle.std.proofs.Common.{◌≡◌, ◌≢◌, refl, ℕ, ℤ, zero, suc, ◌+◌, ◌*◌, ◌^◌, ◌<◌, ◌≤◌, true, Option, Some, List, [], ◌∷◌, ◌++◌, map, length, get_or, replicate, inl, inr, ap, sym, subst, ◌∙◌, arith, append-nil, append_assoc, length-set, get_or-set_same, get_or-set_other}
+use Rattle.std.proofs.Common.{◌≡◌, ◌≢◌, refl, ℕ, ℤ, zero, suc, ◌+◌, ◌*◌, ◌^◌, ◌<◌, ◌≤◌, true, Option, Some, List, [], ◌∷◌, ◌++◌, map, length, get_or, replicate, inl, inr, ap, sym, subst, ◌∙◌, arith, append-nil, append_assoc, length-append, length-set, get_or-set_same, get_or-set_other}
 use Rattle.std.specs.List.{flat_map, range_with_len}
 use Rattle.std.proofs.lemmas.Bool.{cases_lt, cases_eq}
 use Rattle.std.proofs.lemmas.Nat.{pow_pos}
@@ -46,6 +46,7 @@ module _ (a : Accepted) (coded : ℕ → List ℕ) (r : ℕ) where
         is_body = nothing_read c h _;
         codes = codes.codes;
         within = within;
+        ending = λ front last parts is. let long = ap (λ (xs : List Line). length xs) parts in let sum = length-append front (last ∷ []) in absurd (omega (arith, long, sum));
       }
 
   -- what slices of the row say

@@ -18,6 +18,7 @@ use Rattle.ffv1_codec.specs.Lines.{line_in}
 use Rattle.ffv1_codec.specs.Decoding.{State, Slice, StepsBy, slice_at, slice_number, width_in, top_of, put_slice, after_line, steps_of_line, unread}
 use Rattle.ffv1_codec.proofs.Machines.{each_right, Each, each_range, each_map, runs_append}
 use Rattle.ffv1_codec.proofs.LinesRead.{reads_of, lines_at, columns_read}
+use Rattle.ffv1_codec.proofs.LastLine.{HasLast}
 use Rattle.ffv1_codec.proofs.Groups.{Group, IsGroup, group_events, group_lines, group_out}
 use Rattle.ffv1_codec.proofs.ColumnSteps.{IsOfRow}
 use Rattle.ffv1_codec.proofs.SliceBodies.{CellLaws, HasRead, IsRead}
@@ -50,7 +51,7 @@ module _ (a : Accepted) (coded : ℕ → List ℕ) (planes : Planes) (info : Sai
     pub info_same : end.info ≡ s.info
 
   module _ (laws : CellLaws) (front : (k : ℕ) → k < a.configuration.columns → FrontLaws a (coded (slice_number a.configuration r k)))
-      (some : (p k : ℕ) → k < a.configuration.columns → 0 < width_in a.configuration p k) where
+      (some : (p k : ℕ) → k < a.configuration.columns → 0 < width_in a.configuration p k) (last : HasLast a.configuration r) where
     -- one line is read
     record ReadOne (i p y : ℕ) (es : List Event) (more : ℕ → List Line) (s : State) : Type 0 where
       pub next : State
@@ -69,13 +70,13 @@ module _ (a : Accepted) (coded : ℕ → List ℕ) (planes : Planes) (info : Sai
         let lines : reads_of i (Read r i p y ∷ es) ++ more i ≡ record { plane = p; y = y } ∷ (reads_of i es ++ more i) =
         ap (λ b. ((if b then record { plane = p; y = y } ∷ [] else []) ++ reads_of i es) ++ more i) (eq-eqb i i refl) in
         let stands = subst (λ ls. StandsBefore a coded planes r i mine.head mine.body ls q) lines mine.stands in
-        let go = goes a coded planes r i laws (front i inside) (λ p. some p i inside) mine.head mine.body p y (reads_of i es ++ more i) q mine.coding few stands in
+        let go = goes a coded planes r i laws (front i inside) (λ p. some p i inside) last mine.head mine.body p y (reads_of i es ++ more i) q mine.coding few stands in
         let next = after_line q (steps_of_line a coded q p (width_in c p i) y go.qs go.row) p go.row in
         let place : i < length s.columns = rw long inside in
         let m = put_slice s i next in
         record {
           next = m;
-          steps = (go.qs, go.row, go.reads, refl, go.within);
+          steps = (go.qs, go.row, go.reads, refl, go.within, go.ending);
           stand = λ k here. elim (cases_eq k i) [
             | inl same ↦
                 let now : slice_at m i ≡ next = get_or-set_same s.columns i next unread place in
@@ -140,7 +141,7 @@ module _ (a : Accepted) (coded : ℕ → List ℕ) (planes : Planes) (info : Sai
       }
 
   module _ (laws : CellLaws) (front : (k : ℕ) → k < a.configuration.columns → FrontLaws a (coded (slice_number a.configuration r k)))
-      (some : (p k : ℕ) → k < a.configuration.columns → 0 < width_in a.configuration p k)
+      (some : (p k : ℕ) → k < a.configuration.columns → 0 < width_in a.configuration p k) (last : HasLast a.configuration r)
       (picture : IsPicture a.configuration planes) (tiles : (p : ℕ) → Tiles (across (division_of a.configuration) p)) (tiles_v : (p : ℕ) → Tiles (down (division_of a.configuration) p))
       (part : (p x : ℕ) → x < whole_of (across (division_of a.configuration) p) → HasPart (across (division_of a.configuration) p) x) (colours : ColourLaws) (in_rct : InRct a.configuration)
       (r_inside : r < a.configuration.rows) where
@@ -185,7 +186,7 @@ module _ (a : Accepted) (coded : ℕ → List ℕ) (planes : Planes) (info : Sai
         let reads = flat_map (column_events r g.planes g.y) (range_with_len 0 c.columns) in
         let reading : Each IsReading reads = each_range IsReading (column_events r g.planes g.y) 0 c.columns (λ k least most. each_map IsReading (λ p. Read r k p g.y) g.planes (λ p. tt)) in
         let own = reads_of_row c r g is in
-        let on = reads_on laws front some reads more s reading own long
+        let on = reads_on laws front some last reads more s reading own long
         (λ k inside. subst (λ ls. Standing k (ls ++ more k) (slice_at s k)) (sym (columns_read c.columns r k g.y g.planes inside)) (all k inside)) in
         let m = on.end in
         let have_m : AllHave a coded r laws some (pre ++ group_lines g) m = λ k inside.

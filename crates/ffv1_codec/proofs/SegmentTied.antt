@@ -12,11 +12,13 @@ use Rattle.ffv1_codec.specs.declared.fault.FrameFault.{FrameFault}
 use Rattle.ffv1_codec.specs.Picture.{Planes, plane, plane_count}
 use Rattle.ffv1_codec.specs.SliceList.{class_of, base_of, bits_of, set_at, set_in}
 use Rattle.ffv1_codec.specs.Internal.Places.{AreParts}
+use Rattle.ffv1_codec.specs.Order.{IsLastLine}
 use Rattle.ffv1_codec.specs.Order.Event.{Read}
 use Rattle.ffv1_codec.specs.Overread.{IsWithin, IsOverread}
+use Rattle.ffv1_codec.specs.Ending.{HasEnding, LacksEnding}
 use Rattle.ffv1_codec.specs.Decoding.{State, Slice, StepsBy, FaultsWith, ReadsLine, slice_at, slice_number, put_slice, after_line, after_steps, steps_of_line, steps_of_stop, left_of, width_in, top_of, unread}
 use Rattle.ffv1_codec.specs.Internal.Stands.{Stands, SegmentRead, SegmentRefused, window, told_by, tally_after}
-use Rattle.ffv1_codec.specs.Internal.Tied.{TiedColumn, TiedColumns, TiedLine, AreTold, SegmentMade, Stopped, SameOthers, slots_in, column_at, bytes_in, no_column, part_of, overread_in}
+use Rattle.ffv1_codec.specs.Internal.Tied.{TiedColumn, TiedColumns, TiedLine, AreTold, SegmentMade, Stopped, SameOthers, slots_in, column_at, bytes_in, no_column, part_of, overread_in, unended_in}
 use Rattle.ffv1_codec.specs.Internal.Tied.{row_slices, rolling_lines}
 use Rattle.ffv1_codec.proofs.WrittenParts.{put, put_window, put_other}
 use Rattle.ffv1_codec.proofs.Sizes.{part_apart}
@@ -126,11 +128,31 @@ module _ (a : Accepted) (coded : ℕ → List ℕ) (r next : ℕ) (payload : Lis
         reads : ReadsLine a coded n p width y old read_one.residuals row
         reads = record { above = rolls.long; long = read_one.long; row_long = row_long; codes = read_one.codes }
 
-        pub step : IsWithin a (coded n) (slice_at state_new k).past → StepsBy a coded s (Read r k p y) state_new
-        step within = (read_one.residuals, row, reads, refl, subst (λ (z : Slice). IsWithin a (coded n) z.past) (slice_now s k slice_new inside_s) within)
+        pub step : IsWithin a (coded n) (slice_at state_new k).past → (IsLastLine a.configuration r p y → HasEnding a (coded n) (slice_at state_new k).past) → StepsBy a coded s (Read r k p y) state_new
+        step within ending = (
+          read_one.residuals,
+          row,
+          reads,
+          refl,
+          subst (λ (z : Slice). IsWithin a (coded n) z.past) (slice_now s k slice_new inside_s) within,
+          λ is. subst (λ (z : Slice). HasEnding a (coded n) z.past) (slice_now s k slice_new inside_s) (ending is),
+        )
 
         pub fault_is : IsOverread a (coded n) (slice_at state_new k).past → FaultsWith a coded s (Read r k p y) (overread_in a.configuration r k p y) state_new
-        fault_is over = inr (read_one.residuals, row, reads, refl, refl, subst (λ (z : Slice). IsOverread a (coded n) z.past) (slice_now s k slice_new inside_s) over)
+        fault_is over = inr (inl (read_one.residuals, row, reads, refl, refl, subst (λ (z : Slice). IsOverread a (coded n) z.past) (slice_now s k slice_new inside_s) over))
+
+        pub unended_is : IsWithin a (coded n) (slice_at state_new k).past → IsLastLine a.configuration r p y → LacksEnding a (coded n) (slice_at state_new k).past →
+            FaultsWith a coded s (Read r k p y) (unended_in a.configuration r k p y) state_new
+        unended_is within is lacks = inr (inr (
+          read_one.residuals,
+          row,
+          reads,
+          refl,
+          refl,
+          subst (λ (z : Slice). IsWithin a (coded n) z.past) (slice_now s k slice_new inside_s) within,
+          is,
+          subst (λ (z : Slice). LacksEnding a (coded n) z.past) (slice_now s k slice_new inside_s) lacks,
+        ))
 
         cell_now : plane slice_new.cells p ≡ samples ++ row
         cell_now = plane_now old.cells p (samples ++ row) (omega (arith, inside_p, (tied.each k inside_k).cells))
@@ -222,6 +244,7 @@ module _ (a : Accepted) (coded : ℕ → List ℕ) (r next : ℕ) (payload : Lis
           state = state_new;
           step = step;
           fault = fault_is;
+          unended = unended_is;
           columns_are = columns_are;
           line_is = line_is are rolling room line;
           others = others;

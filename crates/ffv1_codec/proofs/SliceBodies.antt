@@ -14,13 +14,15 @@ use Rattle.ffv1_slice.specs.declared.head.SliceHead.{SliceHead}
 use Rattle.ffv1_slice.specs.Head.{IsHead, key_steps, head_steps}
 use Rattle.ffv1_codec.specs.Picture.{Planes, plane, plane_count}
 use Rattle.ffv1_codec.specs.SliceList.{Line, IsBody, line_steps, set_in, bits_of, base_of}
-use Rattle.ffv1_codec.specs.Order.{Event}
+use Rattle.ffv1_codec.specs.Order.{Event, IsLastLine}
 use Rattle.ffv1_codec.specs.Decoding.{Slice, slice_number, width_in}
 use Rattle.ffv1_codec.proofs.Machines.{Each, each_append}
 use Rattle.ffv1_codec.proofs.OneLine.{in_rows}
 use Rattle.ffv1_codec.proofs.LinesRead.{read_at}
 use Rattle.ffv1_codec.proofs.ColumnSteps.{ReadsNext}
 use Rattle.ffv1_codec.specs.Overread.{IsWithin}
+use Rattle.ffv1_codec.specs.Ending.{HasEnding}
+use Rattle.ffv1_codec.proofs.LastLine.{same_last}
 
 -- the laws of cells that agree
 pub record CellLaws : Type 0 where
@@ -94,6 +96,7 @@ module _ (a : Accepted) (coded : ℕ → List ℕ) (r k : ℕ) where
     pub is_body : IsBody a.configuration q.head (cells_of q) ls body
     pub codes : Codes (coded (slice_number a.configuration r k)) (decisions_after a.table [] q.past)
     pub within : IsWithin a (coded (slice_number a.configuration r k)) q.past
+    pub ending : (front : List Line) (l : Line) → ls ≡ front ++ (l ∷ []) → IsLastLine a.configuration r l.plane l.y → HasEnding a (coded (slice_number a.configuration r k)) q.past
 
   -- one plane is longer, and the others stay
   pub record Longer (q t : Slice) : Type 0 where
@@ -181,4 +184,7 @@ module _ (a : Accepted) (coded : ℕ → List ℕ) (r k : ℕ) where
             is_body = subst (λ h. IsBody c h (cells_of t) (ls ++ (l ∷ [])) (has.body ++ line_steps c q.head (cells_of t) l next.qs)) (sym more.head) new_body;
             codes = subst (λ steps. Codes (coded n) (decisions_after a.table [] steps)) (sym past) next.reads.codes.codes;
             within = subst (IsWithin a (coded n)) (sym past) next.within;
+            ending = λ front last parts is.
+                let same : last ≡ l = sym (same_last ls front l last parts) in
+                subst (HasEnding a (coded n)) (sym past) (next.ending (subst (λ (z : Line). IsLastLine c r z.plane z.y) same is));
           })

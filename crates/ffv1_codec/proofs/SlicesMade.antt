@@ -26,7 +26,8 @@ use Rattle.ffv1_codec.proofs.SliceBodies.{body_alike}
 use Rattle.ffv1_codec.proofs.RowsDone.{all_done}
 use Rattle.ffv1_codec.proofs.CellsShown.{IsLine, Shown, groups_shown}
 use Rattle.ffv1_codec.proofs.PictureMade.{PictureLaws, Part, Rows, all_there, alike_lines, some_wide, all_sized, all_keys, planes_made, lines_are, all_lines, picture_made}
-use Rattle.ffv1_codec.specs.Overread.{IsWithin}
+use Rattle.ffv1_codec.specs.Ending.{HasEnding}
+use Rattle.ffv1_codec.proofs.LastLine.{has_last, planes_some}
 
 pub at_number : {B : Type 0} (P : B → Type 0) (f : ℕ → B) (from count k : ℕ) → from ≤ k → k < from + count → Each P (map f (range_with_len from count)) → P (f k)
 at_number P f from zero k least most all = absurd (omega (arith, least, most))
@@ -162,7 +163,9 @@ module _ (a : Accepted) (laws : PictureLaws a) (coded : ℕ → List ℕ) (info 
           codes =
               subst (λ (steps : List Step). Codes (coded n) (decisions_after a.table [] steps)) past
               (subst (λ m. Codes (coded m) (decisions_after a.table [] read.past)) number has.codes);
-          within = subst (IsWithin a (coded n)) past (subst (λ m. IsWithin a (coded m) read.past) number has.within);
+          ending =
+              let last = has_last c row (λ rct p. alike_lines a laws rct p row) (planes_some c) (λ p. (laws.tiles_v p).some row (row_inside n c.columns c.rows laws.columns inside)) in
+              subst (HasEnding a (coded n)) past (subst (λ m. HasEnding a (coded m) read.past) number (has.ending last.front last.last last.parts last.is));
         }
 
 -- what was decoded to the end is a picture that the payload codes

@@ -1,5 +1,5 @@
 -- Where the bytes code the slices of a picture, each slice reads its lines.
-use Rattle.std.proofs.Common.{◌≡◌, ◌≢◌, refl, ℕ, ℤ, suc, ◌+◌, ◌*◌, ◌<◌, if◌then◌else◌, List, [], ◌∷◌, ◌++◌, map, length, get_or, set, inl, inr, ap, sym, subst, ◌∙◌, arith, append_assoc, length-append, length-set}
+use Rattle.std.proofs.Common.{◌≡◌, ◌≢◌, refl, ℕ, ℤ, suc, ◌+◌, ◌*◌, ◌<◌, if◌then◌else◌, List, [], ◌∷◌, ◌++◌, map, length, get_or, set, inl, inr, ap, sym, subst, ◌∙◌, arith, append-nil, append_assoc, length-append, length-set}
 use Rattle.std.specs.List.{range_with_len}
 use Rattle.std.proofs.lemmas.Bool.{cases_lt, cases_eq, eq-eqb, ne_eqb}
 use Rattle.std.proofs.lemmas.List.{get_or_append_left, get_or-append-add}
@@ -18,8 +18,13 @@ use Rattle.ffv1_codec.specs.Decoding.{Slice, ReadsLine, slice_number, width_in, 
 use Rattle.ffv1_codec.proofs.OneLine.{in_rows}
 use Rattle.ffv1_codec.proofs.SliceBodies.{CellLaws, plane_put, plane_beside}
 use Rattle.ffv1_codec.proofs.PlanesMade.{rows_in, counted}
+use Rattle.ffv1_codec.specs.Order.{IsLastLine}
 use Rattle.ffv1_codec.specs.Overread.{IsWithin}
+use Rattle.ffv1_codec.specs.Ending.{HasEnding}
 use Rattle.ffv1_codec.proofs.TooFar.{within_front}
+use Rattle.ffv1_codec.proofs.SliceEnds.{ending_within}
+use Rattle.ffv1_codec.proofs.LinesRead.{row_lines}
+use Rattle.ffv1_codec.proofs.LastLine.{HasLast, last_ends}
 
 -- the laws of decisions
 pub record FrontLaws (a : Accepted) (bytes : List ℕ) : Type 0 where
@@ -45,7 +50,7 @@ module _ (a : Accepted) (coded : ℕ → List ℕ) (planes : Planes) (r k : ℕ)
   pub record Coding (h : SliceHead) (body : List Step) : Type 0 where
     pub codes : Codes (coded (slice_number a.configuration r k)) (decisions_after a.table []
         (key_steps (slice_number a.configuration r k) ++ (head_steps a.configuration (slice_number a.configuration r k) h ++ body)))
-    pub within : IsWithin a (coded (slice_number a.configuration r k))
+    pub ending : HasEnding a (coded (slice_number a.configuration r k))
         (key_steps (slice_number a.configuration r k) ++ (head_steps a.configuration (slice_number a.configuration r k) h ++ body))
 
   -- the slice stands before these lines of its list
@@ -53,6 +58,8 @@ module _ (a : Accepted) (coded : ℕ → List ℕ) (planes : Planes) (r k : ℕ)
     pub head : q.head ≡ h
     pub many : length q.cells ≡ plane_count a.configuration
     pub begun : (p : ℕ) → p < plane_count a.configuration → Begun more q p
+    pub read : List Line
+    pub lines : row_lines a.configuration r ≡ read ++ more
     pub before : List Step
     pub rest : List Step
     pub whole : body ≡ before ++ rest
@@ -66,6 +73,7 @@ module _ (a : Accepted) (coded : ℕ → List ℕ) (planes : Planes) (r k : ℕ)
     pub reads : ReadsLine a coded (slice_number a.configuration r k) p (width_in a.configuration p k) y q qs row
     pub stands : StandsBefore h body more (after_line q (steps_of_line a coded q p (width_in a.configuration p k) y qs row) p row)
     pub within : IsWithin a (coded (slice_number a.configuration r k)) (q.past ++ steps_of_line a coded q p (width_in a.configuration p k) y qs row)
+    pub ending : IsLastLine a.configuration r p y → HasEnding a (coded (slice_number a.configuration r k)) (q.past ++ steps_of_line a coded q p (width_in a.configuration p k) y qs row)
 
   -- the residuals of the next line
   record Split (h : SliceHead) (l : Line) (more : List Line) (steps : List Step) : Type 0 where
@@ -79,6 +87,11 @@ module _ (a : Accepted) (coded : ℕ → List ℕ) (planes : Planes) (r k : ℕ)
   split : (h : SliceHead) (l : Line) (more : List Line) (steps : List Step) → IsBody a.configuration h cell_at (l ∷ more) steps → Split h l more steps
   unfolding IsBody
   split h l more steps f = record { qs = f.0; rest = f.1; long = f.2; suits = f.3; is_rest = f.4; parts = f.5 }
+
+  nothing_left : (h : SliceHead) (more : List Line) (steps : List Step) → more ≡ [] → IsBody a.configuration h cell_at more steps → steps ≡ []
+  unfolding IsBody
+  nothing_left h [] steps none f = f
+  nothing_left h (l ∷ more) steps none f = cc
 
   -- the row of the cell
   abbrev pub row_of : ℕ → ℕ → List ℕ
@@ -141,7 +154,7 @@ module _ (a : Accepted) (coded : ℕ → List ℕ) (planes : Planes) (r k : ℕ)
         shown = λ x z small below. ap (λ xs. get_or xs (z * width_in a.configuration j k + x) 0) same ∙ begun.shown x z small below;
       }
 
-  module _ (laws : CellLaws) (front : FrontLaws a (coded (slice_number a.configuration r k))) (some : (p : ℕ) → 0 < width_in a.configuration p k) where
+  module _ (laws : CellLaws) (front : FrontLaws a (coded (slice_number a.configuration r k))) (some : (p : ℕ) → 0 < width_in a.configuration p k) (last : HasLast a.configuration r) where
     -- the next line of the list is read
     pub goes : (h : SliceHead) (body : List Step) (p y : ℕ) (more : List Line) (q : Slice) → Coding h body → p < plane_count a.configuration →
         StandsBefore h body (record { plane = p; y = y } ∷ more) q → Goes h body p y more q
@@ -202,6 +215,8 @@ module _ (a : Accepted) (coded : ℕ → List ℕ) (planes : Planes) (r k : ℕ)
               | inl same ↦ subst (Begun more t) (sym same) (begun_after h p y more q t place refl begun)
               | inr other ↦ begun_beside p y j more q t (samples ++ row) other refl (stands.begun j below)
             ];
+            read = stands.read ++ (l ∷ []);
+            lines = stands.lines ∙ sym (append_assoc stands.read (l ∷ []) more);
             before = stands.before ++ steps;
             rest = parts.rest;
             whole = stands.whole ∙ ap (λ z. stands.before ++ z) (parts.parts ∙ ap (λ z. z ++ parts.rest) steps_is) ∙ sym (append_assoc stands.before steps parts.rest);
@@ -210,5 +225,8 @@ module _ (a : Accepted) (coded : ℕ → List ℕ) (planes : Planes) (r k : ℕ)
                 ap (λ z. z ++ steps) stands.past ∙ append_assoc (key_steps n) (head_steps c n h ++ stands.before) steps
                 ∙ ap (λ z. key_steps n ++ z) (append_assoc (head_steps c n h) stands.before steps);
           };
-          within = within_front a (coded n) (q.past ++ steps) parts.rest (subst (IsWithin a (coded n)) whole coding.within);
+          within = within_front a (coded n) (q.past ++ steps) parts.rest (subst (IsWithin a (coded n)) whole (ending_within a (coded n) _ coding.ending));
+          ending = λ is.
+              let none : parts.rest ≡ [] = nothing_left h more parts.rest (last_ends c r stands.read l more last stands.lines is) parts.is_rest in
+              subst (HasEnding a (coded n)) (whole ∙ ap (λ z. (q.past ++ steps) ++ z) none ∙ append-nil (q.past ++ steps)) coding.ending;
         }

@@ -1,7 +1,6 @@
 -- A slice is read too far, or it is not; and what is read of a slice is read no further than it is.
-use Rattle.std.proofs.Common.{◌≡◌, ℕ, ◌≤◌, false, List, [], ◌∷◌, ◌++◌, ap, ◌∙◌, arith}
-use Rattle.ffv1_range.specs.Interval.{Interval, interval_of, narrow, narrowed, start}
-use Rattle.ffv1_range.specs.Codes.{sentinel_of}
+use Rattle.std.proofs.Common.{◌≡◌, ℕ, ◌≤◌, List, [], ◌++◌, ap, ◌∙◌, arith}
+use Rattle.ffv1_range.specs.Interval.{Interval, interval_of, narrowed, start}
 use Rattle.ffv1_range.specs.Table.{Table}
 use Rattle.ffv1_range.specs.Symbols.{Step}
 use Rattle.ffv1_range.specs.History.{decisions_after}
@@ -10,7 +9,6 @@ use Rattle.ffv1_range.proofs.OneAfter.{after_append}
 use Rattle.ffv1_range.proofs.Growth.{narrowed-count}
 use Rattle.ffv1_record.specs.Accepted.{Accepted}
 use Rattle.ffv1_codec.specs.Overread.{IsWithin, IsOverread, renormalisations_of}
-use Rattle.ffv1_codec.proofs.Lengths.{sentinel_long}
 
 pub not_overread : (a : Accepted) (bytes : List ℕ) (past : List Step) → IsWithin a bytes past → IsOverread a bytes past → ⊥
 not_overread a bytes past within over = let few = within.few over.wide in let more = over.more in absurd (omega (arith, few, more))
@@ -27,14 +25,4 @@ front_fewer t xs ys =
 pub within_front : (a : Accepted) (bytes : List ℕ) (xs ys : List Step) → IsWithin a bytes (xs ++ ys) → IsWithin a bytes xs
 within_front a bytes xs ys within = record {
   few = λ wide. let fewer = front_fewer a.table xs ys in let few = within.few wide in omega (arith, fewer, few);
-}
-
--- the sentinel ending of some steps has as many bytes as they renormalise, and one more at least
-pub ending_within : (a : Accepted) (steps : List Step) → IsWithin a (sentinel_of (interval_of (decisions_after a.table [] steps))) steps
-ending_within a steps = record {
-  few = λ wide.
-      let i = interval_of (decisions_after a.table [] steps) in
-      let long = sentinel_long i in
-      let more : i.count ≤ (narrow i 129 false).count = narrowed-count i (record { state = 129; bit = false } ∷ []) in
-      omega (arith, long, more);
 }

@@ -1,6 +1,6 @@
 -- The faults that decoding answers, whatever the payload: those of cutting it, of a slice's start,
--- key and head, of a symbol, of a slice that is read too far and of a colour, and the sink's. A
--- want of memory is none, and a slice that is too long is the encoder's.
+-- key and head, of a symbol, of a slice that is read too far or does not end, of a colour, and the
+-- sink's. A want of memory is none, and a slice that is too long is the encoder's.
 use Rattle.std.specs.Prelude.{Bool, true, false}
 use Rattle.ffv1_codec.specs.declared.fault.CodecFault.{CodecFault}
 use Rattle.ffv1_codec.specs.declared.fault.CodecFault.TheVariants as fault
@@ -11,6 +11,7 @@ is_decode_fault fault.BadStart = true
 is_decode_fault fault.SymbolTooLong = true
 is_decode_fault fault.Colour = true
 is_decode_fault fault.Overread = true
+is_decode_fault fault.Ending = true
 is_decode_fault fault.NotKey = true
 is_decode_fault fault.Place = true
 is_decode_fault fault.SetIndex = true

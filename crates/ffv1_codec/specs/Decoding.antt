@@ -25,9 +25,10 @@ use Rattle.ffv1_codec.specs.declared.fault.CodecFault.TheVariants as fault
 use Rattle.ffv1_codec.specs.declared.fault.FrameFault.{FrameFault}
 use Rattle.ffv1_codec.specs.Picture.{plane, plane_count, green_of, blue_of}
 use Rattle.ffv1_codec.specs.SliceList.{Said, said_by, base_of, set_in, coding_in}
-use Rattle.ffv1_codec.specs.Order.{Event, events_of}
+use Rattle.ffv1_codec.specs.Order.{Event, IsLastLine, events_of}
 use Rattle.ffv1_codec.specs.Order.Event.{Open, Read, Finish, Hand, Close}
 use Rattle.ffv1_codec.specs.Overread.{IsWithin, IsOverread}
+use Rattle.ffv1_codec.specs.Ending.{HasEnding, LacksEnding}
 use Rattle.ffv1_codec.specs.Runs.{Runs, Stops}
 
 -- what is known of a slice: what was decided in it, what its head says, and for each plane the
@@ -251,6 +252,9 @@ module _ (a : Accepted) (coded : ℕ → List ℕ) where
       × (t ≡ put_slice s k (after_line q (steps_of_line q p width y qs row) p row))
       × IsWithin a (coded (slice_number a.configuration r k))
       (q.past ++ steps_of_line q p width y qs row)
+      × (IsLastLine a.configuration r p y →
+      HasEnding a (coded (slice_number a.configuration r k))
+      (q.past ++ steps_of_line q p width y qs row))
   StepsBy s (Finish r planes y) t =
       (out : List (List ℕ))
       × Finishes a.configuration (map (coded_line a.configuration s y) planes) out
@@ -291,13 +295,27 @@ module _ (a : Accepted) (coded : ℕ → List ℕ) where
       × (t ≡ put_slice s k (after_line q (steps_of_line q p width y qs row) p row))
       × IsOverread a (coded n) (q.past ++ steps_of_line q p width y qs row)
 
+  -- it is read, as the last of its slice, which does not end there
+  abbrev pub LacksEndingAt : State → ℕ → ℕ → ℕ → ℕ → FrameFault → State → Type 0
+  LacksEndingAt s r k p y f t =
+      let n = slice_number a.configuration r k in
+      let q = slice_at s k in
+      let width = width_in a.configuration p k in
+      (qs : List ℤ) × (row : List ℕ) × ReadsLine n p width y q qs row
+      × (f ≡ fault_in a.configuration fault.Ending r k p y 0)
+      × (t ≡ put_slice s k (after_line q (steps_of_line q p width y qs row) p row))
+      × IsWithin a (coded n) (q.past ++ steps_of_line q p width y qs row)
+      × IsLastLine a.configuration r p y
+      × LacksEnding a (coded n) (q.past ++ steps_of_line q p width y qs row)
+
   -- the event is refused, with this fault and what is known then
   abbrev pub FaultsWith : State → Event → FrameFault → State → Type 0
   FaultsWith s (Open r k) f t =
       let n = slice_number a.configuration r k in
       (steps : List Step) × RefusesOpen s.info n f.fault steps × (f ≡ in_slice f.fault n)
       × (t ≡ put_slice s k (decided_in steps))
-  FaultsWith s (Read r k p y) f t = StopsAt s r k p y f t ⊎ OverreadsAt s r k p y f t
+  FaultsWith s (Read r k p y) f t =
+      StopsAt s r k p y f t ⊎ OverreadsAt s r k p y f t ⊎ LacksEndingAt s r k p y f t
   FaultsWith s (Finish r planes y) f t =
       (x : ℕ) × (k : ℕ)
       × IsColourless a.configuration (map (coded_line a.configuration s y) planes) x

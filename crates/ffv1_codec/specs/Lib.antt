@@ -6,6 +6,7 @@ pub mod Worked
 pub mod Runs
 pub mod Order
 pub mod Overread
+pub mod Ending
 pub mod Decoding
 pub mod Lines
 pub mod Answer

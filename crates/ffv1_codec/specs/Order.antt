@@ -1,7 +1,7 @@
 -- The order in which a frame is decoded: the slices of a row side by side, line by line, and each
 -- line of the picture as soon as it is whole (RFC 9043, 4.4 to 4.8, has the order within a slice;
 -- that across the slices of a row is this decoder's).
-use Rattle.std.specs.Prelude.{ℕ, if◌then◌else◌, List, [], ◌∷◌, ◌++◌, map}
+use Rattle.std.specs.Prelude.{◌≡◌, ℕ, ◌+◌, if◌then◌else◌, List, [], ◌∷◌, ◌++◌, map}
 use Rattle.std.proofs.Common.{suc}
 use Rattle.std.specs.List.{flat_map, range_with_len}
 use Rattle.ffv1_record.specs.Configuration.{Configuration, is_rct}
@@ -29,6 +29,11 @@ pub record Series : Type 0 where
 -- how many lines a plane has in row r of the slices
 abbrev pub lines_down : Configuration → ℕ → ℕ → ℕ
 lines_down c p r = length_of (down (division_of c) p) r
+
+-- RFC 9043, 4.7: line y of plane p is the last that the slices of row r code, for RCT too
+pub record IsLastLine (c : Configuration) (r p y : ℕ) : Type 0 where
+  pub plane : p + 1 ≡ plane_count c
+  pub line : y + 1 ≡ lines_down c p r
 
 -- RFC 9043, 4.7: plane after plane, and for RCT all planes at once
 abbrev pub series_of : Configuration → ℕ → List Series

@@ -6,6 +6,7 @@ use Rattle.std.specs.Prelude.{if◌then◌else◌, List, [], ◌∷◌, ◌++◌
 use Rattle.std.specs.Prelude.{slice_get, Option, Some, None}
 use Rattle.std.proofs.Common.{zero, suc}
 use Rattle.std.specs.List.{flat_map, range_with_len}
+use Rattle.ffv1_range.specs.Interval.{Decision}
 use Rattle.ffv1_range.specs.Codes.{Codes}
 use Rattle.ffv1_range.specs.Symbols.{Step, shifted}
 use Rattle.ffv1_range.specs.History.{decisions_after}
@@ -18,7 +19,7 @@ use Rattle.ffv1_record.specs.declared.config.Profile.{Profile}
 use Rattle.ffv1_record.specs.Accepted.{Accepted}
 use Rattle.ffv1_slice.specs.declared.head.SliceHead.{SliceHead}
 use Rattle.ffv1_slice.specs.Head.{IsHead, key_steps, head_steps, aspect_of}
-use Rattle.ffv1_codec.specs.Overread.{IsWithin}
+use Rattle.ffv1_codec.specs.Ending.{HasEnding}
 use Rattle.ffv1_codec.specs.Picture.{Planes, plane_count, cell_in, cell_height}
 use Rattle.ffv1_line.specs.Coding.{coding_by, RowCoding}
 
@@ -119,7 +120,7 @@ said_by p h = record {
 }
 
 -- the bytes code slice n of a picture: its key, a head that says this, and its samples; in Wide
--- they are not read too far
+-- they end there
 pub record CodesSlice (bytes : List ℕ) (a : Accepted) (planes : Planes) (info : Said) (n : ℕ)
     : Type 0 where
   pub head : SliceHead
@@ -130,7 +131,14 @@ pub record CodesSlice (bytes : List ℕ) (a : Accepted) (planes : Planes) (info 
       (lines_in a.configuration n) body
   pub codes : Codes bytes (decisions_after a.table []
       (key_steps n ++ (head_steps a.configuration n head ++ body)))
-  pub within : IsWithin a bytes (key_steps n ++ (head_steps a.configuration n head ++ body))
+  pub ending : HasEnding a bytes (key_steps n ++ (head_steps a.configuration n head ++ body))
+
+-- its decisions
+abbrev pub decided_by_slice : {bytes : List ℕ} → {a : Accepted} → {planes : Planes} →
+    {info : Said} → {n : ℕ} → CodesSlice bytes a planes info n → List Decision
+decided_by_slice {a = a} {n = n} slice =
+    decisions_after a.table []
+    (key_steps n ++ (head_steps a.configuration n slice.head ++ slice.body))
 
 -- the head that an encoder takes: class k has set k, or the last one
 abbrev pub chosen_index : Configuration → ℕ → ℕ

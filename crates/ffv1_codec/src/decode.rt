@@ -5,6 +5,7 @@ mod buffers;
 mod colours;
 mod column;
 mod columns;
+mod ending;
 mod finish;
 pub mod frame;
 mod hand;

@@ -28,6 +28,11 @@ pub enum CodecFault {
     /// often than the slice has coded bytes.
     #[error("8 Overread")]
     Overread,
+    /// At `Wide` a slice does not end after the last line of its cells: its next decision by state
+    /// 129 would be 1, or its decoder would then not have renormalised exactly once less than the
+    /// slice has coded bytes.
+    #[error("9 Ending")]
+    Ending,
     /// The keyframe is 0.
     #[error("30 NotKey")]
     NotKey,
@@ -83,11 +88,11 @@ pub struct FrameFault {
     /// The number of the slice, in raster order. It is 0 for bytes before the first slice, that of
     /// the slice which holds `x` for a colour, and that of the row's first slice for a sink.
     pub slice: u16,
-    /// The plane of a sample's symbol, of a line that was read too far, or of the line that a sink
-    /// refused.
+    /// The plane of a sample's symbol, of a line that was read too far or that does not end its
+    /// slice, or of the line that a sink refused.
     pub plane: u8,
-    /// The line of the plane: of a sample's symbol, a colour, the line that was read too far, or
-    /// the line that a sink refused.
+    /// The line of the plane: of a sample's symbol, a colour, the line that was read too far or
+    /// that does not end its slice, or the line that a sink refused.
     pub line: u16,
     /// The column of the plane: of a sample's symbol, or a colour.
     pub x: u16,

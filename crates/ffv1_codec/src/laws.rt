@@ -83,6 +83,7 @@ pub fn encoded_frame_codes_its_picture()
     slice_laws::slices_are_cut_where_joined();
     range_laws::each_decision_has_a_state();
     range_laws::sentinel_ending_codes_its_list();
+    range_laws::ended_bytes_are_near_the_sentinel_ending();
 }
 
 /// Frames that are known from outside the program: what the definition of a frame gives for them.

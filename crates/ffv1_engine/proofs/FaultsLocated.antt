@@ -54,6 +54,7 @@ memory_other fault.Runs h = refl
 memory_other fault.Contexts h = refl
 memory_other fault.Colour h = refl
 memory_other fault.Overread h = refl
+memory_other fault.Ending h = refl
 memory_other fault.Size h = refl
 memory_other fault.Grid h = refl
 memory_other fault.ChromaEdge h = refl

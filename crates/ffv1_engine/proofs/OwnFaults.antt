@@ -151,6 +151,7 @@ payload_tells codec_fault.BadStart decode own = refl
 payload_tells codec_fault.SymbolTooLong decode own = refl
 payload_tells codec_fault.Colour decode own = refl
 payload_tells codec_fault.Overread decode own = refl
+payload_tells codec_fault.Ending decode own = refl
 payload_tells codec_fault.NotKey decode own = refl
 payload_tells codec_fault.Place decode own = refl
 payload_tells codec_fault.SetIndex decode own = refl

@@ -186,6 +186,7 @@ decode_cause codec_fault.BadStart is own = refl
 decode_cause codec_fault.SymbolTooLong is own = refl
 decode_cause codec_fault.Colour is own = refl
 decode_cause codec_fault.Overread is own = refl
+decode_cause codec_fault.Ending is own = refl
 decode_cause codec_fault.NotKey is own = refl
 decode_cause codec_fault.Place is own = refl
 decode_cause codec_fault.SetIndex is own = refl

@@ -56,6 +56,7 @@ of_codec codec_fault.BadStart = fault.BadStart
 of_codec codec_fault.SymbolTooLong = fault.SymbolTooLong
 of_codec codec_fault.Colour = fault.Colour
 of_codec codec_fault.Overread = fault.Overread
+of_codec codec_fault.Ending = fault.Ending
 of_codec codec_fault.NotKey = fault.NotKey
 of_codec codec_fault.Place = fault.Place
 of_codec codec_fault.SetIndex = fault.SetIndex

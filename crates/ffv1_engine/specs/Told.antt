@@ -50,6 +50,7 @@ is_telling_fault fault.BadStart = true
 is_telling_fault fault.SymbolTooLong = true
 is_telling_fault fault.Colour = true
 is_telling_fault fault.Overread = true
+is_telling_fault fault.Ending = true
 is_telling_fault fault.NotKey = true
 is_telling_fault fault.Place = true
 is_telling_fault fault.SetIndex = true

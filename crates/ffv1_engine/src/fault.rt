@@ -37,6 +37,10 @@ pub enum Fault {
     /// A slice is read more than two bytes past its end.
     #[error("8 Overread")]
     Overread,
+    /// A slice does not end after the last line of its cells: it is cut short, has bytes too many,
+    /// or is damaged.
+    #[error("9 Ending")]
+    Ending,
     /// The width or the height is not from 1 to 8192.
     #[error("10 Size")]
     Size,
@@ -299,6 +303,7 @@ impl From<ffv1_codec::CodecFault> for Fault {
             ffv1_codec::CodecFault::SymbolTooLong => Fault::SymbolTooLong,
             ffv1_codec::CodecFault::Colour => Fault::Colour,
             ffv1_codec::CodecFault::Overread => Fault::Overread,
+            ffv1_codec::CodecFault::Ending => Fault::Ending,
             ffv1_codec::CodecFault::NotKey => Fault::NotKey,
             ffv1_codec::CodecFault::Place => Fault::Place,
             ffv1_codec::CodecFault::SetIndex => Fault::SetIndex,

@@ -145,6 +145,7 @@ fn fault_word(fault: CodecFault) -> &'static str
         CodecFault::SymbolTooLong => "4 SymbolTooLong",
         CodecFault::Colour => "7 Colour",
         CodecFault::Overread => "8 Overread",
+        CodecFault::Ending => "9 Ending",
         CodecFault::NotKey => "30 NotKey",
         CodecFault::Place => "31 Place",
         CodecFault::SetIndex => "32 SetIndex",

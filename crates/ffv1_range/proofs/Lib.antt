@@ -33,6 +33,7 @@ pub mod HeldLists
 pub mod CostWritten
 pub mod FewDecisions
 pub mod SentinelByte
+pub mod Ended
 pub mod OneValue
 pub mod OneAfter
 pub mod Unsigned

@@ -1,5 +1,6 @@
 pub mod Interval
 pub mod Codes
+pub mod Ending
 pub mod Table
 pub mod Standard
 pub mod Generator

@@ -35,7 +35,7 @@ use std::marker::Model;
 pub(crate) const FIRST_WIDTH: u32 = 65280;
 
 /// The state of the decision 0 that the sentinel ending adds (RFC 9043, 3.8.1.1.1).
-const SENTINEL_STATE: u8 = 129;
+pub(crate) const SENTINEL_STATE: u8 = 129;
 
 /// An encoder of decisions (RFC 9043, 3.8.1.1). Its bytes grow in the memory of its allocator.
 ///

@@ -1,12 +1,13 @@
 //! Laws of the definitions, each the contract of a function that does nothing.
 
-ghost use Rattle.std.specs.Prelude.{◌≡◌, ◌≢◌, ℕ, ℤ, pos, unsigned_abs, ◌^◌, ◌*◌, ◌-◌, ◌+◌, ◌≤◌};
-ghost use Rattle.std.specs.Prelude.{◌<◌, List, [], ◌∷◌, ◌++◌, Bool, true, false, suc, length};
+ghost use Rattle.std.specs.Prelude.{◌≡◌, ◌≢◌, ◌↔◌, ℕ, ℤ, pos, unsigned_abs, ◌^◌, ◌*◌, ◌-◌, ◌+◌};
+ghost use Rattle.std.specs.Prelude.{◌≤◌, ◌<◌, List, [], ◌∷◌, ◌++◌, Bool, true, false, suc, length};
 ghost use Rattle.std.specs.Prelude.{replicate, take, drop};
 ghost use Rattle.ffv1_range.specs.Interval.{Interval, Decision, part, narrow, narrowed};
 ghost use Rattle.ffv1_range.specs.Interval.{interval_of};
 ghost use Rattle.ffv1_range.specs.Codes.{value, Codes, AreBytes, IsState, AreStates, ExactlyOne};
 ghost use Rattle.ffv1_range.specs.Codes.{IsOnlyList, sentinel_of, full_of};
+ghost use Rattle.ffv1_range.specs.Ending.{IsEnded};
 ghost use Rattle.ffv1_range.specs.Table.{Table, Holds, IsTable};
 ghost use Rattle.ffv1_range.specs.Symbols.{Step, exponent, sized_steps, decided, moved_by, shifted};
 ghost use Rattle.ffv1_range.specs.Symbols.{signed_steps, unsigned_steps, too_long, AreHeld};
@@ -255,6 +256,33 @@ pub fn written_code_is_near_its_weight()
 pub fn sentinel_ending_allows_any_next_byte()
     ensures { (ds : List Decision) (byte : ℕ) → AreStates ds → byte < 256 →
         Codes (sentinel_of (interval_of ds) ++ (byte ∷ [])) ds }
+{}
+
+/// Bytes that end a list code it, and so does whatever they begin.
+pub fn ended_bytes_code_their_list()
+    ensures codes { (bytes : List ℕ) (ds : List Decision) → AreBytes bytes →
+        IsEnded bytes (interval_of ds) → Codes bytes ds }
+    ensures begins { (xs ys : List ℕ) (ds : List Decision) → AreBytes (xs ++ ys) → AreStates ds →
+        IsEnded xs (interval_of ds) → Codes (xs ++ ys) ds }
+{}
+
+/// The bytes that end a list are as many as those of its sentinel ending. Their number is no less,
+/// and 256 times it lies in the interval that the last decision leaves; so it is at most 254 more.
+/// The empty list is ended by one byte, any below 127.
+pub fn ended_bytes_are_near_the_sentinel_ending()
+    ensures sentinel { (ds : List Decision) → AreStates ds →
+        IsEnded (sentinel_of (interval_of ds)) (interval_of ds) }
+    ensures exact { (bytes : List ℕ) (ds : List Decision) → AreStates ds →
+        let least = sentinel_of (interval_of ds) in
+        let last = narrow (interval_of ds) 129 false in
+        IsEnded bytes (interval_of ds) ↔
+        ((length bytes ≡ length least) × (value least (length least) ≤ value bytes (length bytes))
+        × (256 * value bytes (length bytes) < last.low + last.width)) }
+    ensures near { (bytes : List ℕ) (ds : List Decision) → AreStates ds →
+        let least = sentinel_of (interval_of ds) in
+        IsEnded bytes (interval_of ds) →
+        value bytes (length bytes) ≤ value least (length least) + 254 }
+    ensures empty { (byte : ℕ) → IsEnded (byte ∷ []) (interval_of []) ↔ (byte < 127) }
 {}
 
 /// Lists that the bytes code and that part at a decision of one state do not part there.

@@ -6,6 +6,7 @@ mod decoded;
 mod depths;
 mod ebml;
 mod encoded;
+mod endings;
 mod faults;
 mod frames;
 mod judged;

@@ -63,6 +63,7 @@ fn number_of(fault: CodecFault) -> u32 {
         CodecFault::SymbolTooLong => 4,
         CodecFault::Colour => 7,
         CodecFault::Overread => 8,
+        CodecFault::Ending => 9,
         CodecFault::NotKey => 30,
         CodecFault::Place => 31,
         CodecFault::SetIndex => 32,

@@ -16,10 +16,11 @@ use Rattle.ffv1_codec.specs.declared.decode.parts.Frame.{Frame}
 use Rattle.ffv1_codec.specs.declared.fault.CodecFault.TheVariants as fault
 use Rattle.ffv1_codec.specs.declared.fault.FrameFault.{FrameFault}
 use Rattle.ffv1_codec.specs.Overread.{IsWithin, IsOverread}
+use Rattle.ffv1_codec.specs.Ending.{HasEnding, LacksEnding}
 use Rattle.ffv1_codec.specs.Picture.{plane, plane_count, width_bytes}
 use Rattle.ffv1_codec.specs.SliceList.{bits_of}
 use Rattle.ffv1_codec.specs.Runs.{Runs, Stops}
-use Rattle.ffv1_codec.specs.Order.{Event, column_events}
+use Rattle.ffv1_codec.specs.Order.{Event, IsLastLine, column_events}
 use Rattle.ffv1_codec.specs.Order.Event.{Read}
 use Rattle.ffv1_codec.specs.Decoding.{State, Slice, StepsBy, FaultsWith, slice_at, slice_number}
 use Rattle.ffv1_codec.specs.Decoding.{fault_in, left_of, width_in}
@@ -157,15 +158,26 @@ SameOthers p s t =
 abbrev pub overread_in : Configuration → ℕ → ℕ → ℕ → ℕ → FrameFault
 overread_in c r k p y = fault_in c fault.Overread r k p y 0
 
+-- the fault of a slice that does not end after the last line of its cells
+abbrev pub unended_in : Configuration → ℕ → ℕ → ℕ → ℕ → FrameFault
+unended_in c r k p y = fault_in c fault.Ending r k p y 0
+
 module _ (a : Accepted) (coded : ℕ → List ℕ) (r next : ℕ) (payload : List ℕ) where
-  -- a segment was read, and it is to be looked at whether its slice was read too far
+  -- a segment was read, and it is to be looked at whether its slice was read too far, and, if it is
+  -- the last, whether the slice ends there
   pub record SegmentMade (p offset y k : ℕ) (columns : List Column) (states two one cur : List ℕ)
       (s : State) : Type 0 where
     pub state : State
     pub step : IsWithin a (coded (slice_number a.configuration r k)) (slice_at state k).past →
+        (IsLastLine a.configuration r p y →
+        HasEnding a (coded (slice_number a.configuration r k)) (slice_at state k).past) →
         StepsBy a coded s (Read r k p y) state
     pub fault : IsOverread a (coded (slice_number a.configuration r k)) (slice_at state k).past →
         FaultsWith a coded s (Read r k p y) (overread_in a.configuration r k p y) state
+    pub unended : IsWithin a (coded (slice_number a.configuration r k)) (slice_at state k).past →
+        IsLastLine a.configuration r p y →
+        LacksEnding a (coded (slice_number a.configuration r k)) (slice_at state k).past →
+        FaultsWith a coded s (Read r k p y) (unended_in a.configuration r k p y) state
     pub columns_are : TiedColumns a coded r next payload (row_slices columns states) state
     pub line_is : TiedLine a.configuration p offset (suc k) y (rolling_lines two one cur) state
     pub others : SameOthers p s state

@@ -277,9 +277,10 @@ impl<A: Allocator> FrameDecoder<A> {
     /// is the first in that order, with its place: `Footer`, `Leftover`, `SliceParity` or
     /// `SliceStatus` before any line, `BadStart`, `NotKey`, a fault of the head or `InfoDiffers`
     /// where a slice is opened, `SymbolTooLong` in a sample, `Overread` at `Wide` after a head and
-    /// after each line of a cell, `Colour` in a line that was read, and
-    /// `Sink` exactly where the sink refused the line that came next. The sink then has the lines
-    /// before it and nothing is decided after it; the decoder is ready for the next frame.
+    /// after each line of a cell, `Ending` at `Wide` after the last line of a slice, `Colour` in a
+    /// line that was read, and `Sink` exactly where the sink refused the line that came next. The
+    /// sink then has the lines before it and nothing is decided after it; the decoder is ready for
+    /// the next frame.
     ///
     /// Heads are read in the profile of the configuration: at `Wide` an aspect of which just one
     /// number is 0 says what 0:0 says, that it is unknown.
@@ -287,6 +288,12 @@ impl<A: Allocator> FrameDecoder<A> {
     /// Bytes after the end of a slice are read as 0. At `Wide` a slice that is read more than two
     /// bytes past its end is `Overread`, exactly where its decoder has renormalised more often than
     /// the slice has coded bytes. So a payload is decoded in a time that goes by its length.
+    ///
+    /// At `Wide` a slice ends where its coder does (RFC 9043, 3.8.1.1.1): one more decision by
+    /// state 129 would be 0, and the decoder would then have renormalised exactly once less than
+    /// the slice has coded bytes. Else it is `Ending`, at its last plane, the last line of its cell
+    /// there, and x 0. So a slice that lost coded bytes at its end, or has bytes too many there, is
+    /// refused. That decision is looked at, and counted nowhere.
     ///
     /// With parity, a payload that differs from a good one within 32 neighbouring bits of one
     /// slice, its slice_size aside, is `SliceParity` in that slice, before any line.

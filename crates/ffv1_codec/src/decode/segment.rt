@@ -21,6 +21,7 @@ ghost use Rattle.ffv1_line.specs.Coding.{coding_by};
 
 use crate::class::class_of;
 use crate::decode::column::Column;
+use crate::decode::ending::lacks_ending;
 use crate::decode::overread::is_overread;
 use crate::decode::parts::{Frame, Segment};
 use crate::fault::{CodecFault, FrameFault};
@@ -186,7 +187,8 @@ fn refusal<A: Allocator>(frame: &Frame<'_, A>, segment: &Segment, x: usize) -> F
     frame.fault_in(CodecFault::SymbolTooLong, segment, left as usize + x)
 }
 
-/// Reads a segment into its place of a line. How far its slice was read is not looked at.
+/// Reads a segment into its place of a line. How far its slice was read, and whether it ends, is
+/// not looked at.
 fn read_on<W: LineWord, A: Allocator>(
     frame: &Frame<'_, A>,
     segment: &Segment,
@@ -262,7 +264,8 @@ fn read_on<W: LineWord, A: Allocator>(
     }
 }
 
-/// Reads a segment into its place of a line, and looks at how far its slice was read.
+/// Reads a segment into its place of a line, and looks at how far its slice was read, and whether
+/// it ends if that was its last line.
 pub(crate) fn read_at<W: LineWord, A: Allocator>(
     frame: &Frame<'_, A>,
     segment: &Segment,
@@ -315,8 +318,12 @@ pub(crate) fn read_at<W: LineWord, A: Allocator>(
 {
     range_laws::counters_from_zero_show_all_steps();
     read_on(frame, segment, columns, states, above, cur)?;
-    if is_overread(frame, &columns[segment.column]) {
+    let column = &columns[segment.column];
+    if is_overread(frame, column) {
         return Err(frame.fault_in(CodecFault::Overread, segment, 0));
+    }
+    if lacks_ending(frame, segment, column) {
+        return Err(frame.fault_in(CodecFault::Ending, segment, 0));
     }
     Ok(())
 }

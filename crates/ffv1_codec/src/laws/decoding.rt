@@ -1,16 +1,19 @@
 //! Laws of decoding, each the contract of a function that does nothing.
 
-ghost use Rattle.std.specs.Prelude.{◌≡◌, ◌⊎◌, ℕ, ◌*◌, ◌<◌, ◌≤◌, ◌++◌, ◌∷◌, List, [], length};
+ghost use Rattle.std.specs.Prelude.{◌≡◌, ◌⊎◌, ℕ, ◌+◌, ◌*◌, ◌<◌, ◌≤◌, ◌++◌, ◌∷◌, List, [], length};
 ghost use Rattle.std.specs.Prelude.{Some};
 ghost use Rattle.std.proofs.Common.{get_or};
 ghost use Rattle.std.specs.List.{All, sum_by, range_with_len};
-ghost use Rattle.ffv1_range.specs.Codes.{AreBytes};
+ghost use Rattle.ffv1_range.specs.Interval.{interval_of};
+ghost use Rattle.ffv1_range.specs.Codes.{AreBytes, value, sentinel_of};
+ghost use Rattle.ffv1_range.specs.Ending.{IsEnded};
+ghost use Rattle.ffv1_record.specs.declared.config.Profile.TheVariants as profile;
 ghost use Rattle.ffv1_record.specs.Accepted.{Accepted, IsAccepted};
 ghost use Rattle.ffv1_codec.specs.declared.fault.FrameFault.{FrameFault};
 ghost use Rattle.ffv1_slice.specs.Footer.{foot_length};
 ghost use Rattle.ffv1_slice.specs.Cutting.{Cuts, coded_of};
 ghost use Rattle.ffv1_codec.specs.Picture.{Planes};
-ghost use Rattle.ffv1_codec.specs.SliceList.{Said, Line, lines_in};
+ghost use Rattle.ffv1_codec.specs.SliceList.{Said, Line, CodesSlice, decided_by_slice, lines_in};
 ghost use Rattle.ffv1_codec.specs.Answer.{slices_in, decisions_in};
 ghost use Rattle.ffv1_codec.specs.Known.{CodesRead, IsBegun, ShowSame, cells_of};
 ghost use Rattle.ffv1_codec.specs.Handed.{IsFinishOf, offered, slice_of};
@@ -146,6 +149,46 @@ pub fn bytes_code_one_head_and_lines()
     range_laws::decisions_of_two_parts_join();
     record_laws::accepted_configuration_is_in_range();
     laws::planes_are_divided_part_by_part();
+}
+
+/// At `Wide` no slice begins another: bytes that code a slice, of whatever picture, and more bytes
+/// after them code no slice of that number.
+pub fn no_slice_begins_another()
+    ensures { (a : Accepted) (xs ys : List ℕ) (planes others : Planes) (info said : Said)
+        (n : ℕ) → IsAccepted a.configuration a.table → a.profile ≡ profile.Wide →
+        AreBytes (xs ++ ys) → n < a.configuration.columns * a.configuration.rows →
+        CodesSlice xs a planes info n → CodesSlice (xs ++ ys) a others said n → ys ≡ [] }
+{
+    line_laws::bytes_code_one_row();
+    line_laws::rows_above_roll_down_the_cell();
+    line_laws::agreeing_cells_code_rows_alike();
+    slice_laws::bytes_code_one_head();
+    range_laws::bytes_code_each_beginning();
+    range_laws::each_decision_has_a_state();
+    range_laws::decisions_of_two_parts_join();
+    range_laws::ended_bytes_code_their_list();
+    record_laws::accepted_configuration_is_in_range();
+    laws::planes_are_divided_part_by_part();
+}
+
+/// At `Wide` the bytes of a slice are as many as those of the sentinel ending of its decisions,
+/// with a number that is no less and at most 254 more; and all bytes that end its decisions code
+/// it.
+pub fn slices_end_near_the_sentinel_ending()
+    ensures near { (a : Accepted) (bytes : List ℕ) (planes : Planes) (info : Said) (n : ℕ)
+        (slice : CodesSlice bytes a planes info n) →
+        let least = sentinel_of (interval_of (decided_by_slice slice)) in
+        IsAccepted a.configuration a.table → a.profile ≡ profile.Wide →
+        (length bytes ≡ length least) × (value least (length least) ≤ value bytes (length bytes))
+        × (value bytes (length bytes) ≤ value least (length least) + 254) }
+    ensures others { (a : Accepted) (bytes others : List ℕ) (planes : Planes) (info : Said) (n : ℕ)
+        (slice : CodesSlice bytes a planes info n) → AreBytes others →
+        IsEnded others (interval_of (decided_by_slice slice)) →
+        CodesSlice others a planes info n }
+{
+    range_laws::each_decision_has_a_state();
+    range_laws::ended_bytes_code_their_list();
+    range_laws::ended_bytes_are_near_the_sentinel_ending();
 }
 
 /// Wherever decoding stands, at its end, before its first fault or at a line that is handed over

@@ -1,10 +1,13 @@
 //! Decoders without their bytes.
 
-ghost use Rattle.std.specs.Prelude.{◌≡◌};
+ghost use Rattle.std.specs.Prelude.{◌≡◌, IsTrue, IsFalse};
+ghost use Rattle.ffv1_range.specs.Interval.{Interval};
+ghost use Rattle.ffv1_range.specs.Ending.{IsEnded};
 ghost use Rattle.ffv1_range.specs.Counts.{total};
-ghost use Rattle.ffv1_range.specs.Reading.{resumed};
+ghost use Rattle.ffv1_range.specs.Reading.{At, resumed};
 
 use crate::decoder::RangeDecoder;
+use crate::encoder::SENTINEL_STATE;
 use crate::tally::Tally;
 use std::marker::Model;
 
@@ -53,6 +56,24 @@ impl Parked {
             zeros: self.zeros,
             renormalisations: self.renormalisations,
         }
+    }
+
+    /// Whether its bytes, which these are, end where it stands: its next decision by state 129
+    /// would be 0, and it would then have renormalised exactly once less than there are bytes (RFC
+    /// 9043, 3.8.1.1.1). That decision is looked at, and neither read nor counted.
+    pub fn is_ended(&self, bytes: &[u8]) -> bool
+        ensures yes { IsTrue result → (i : Interval) → At (resumed self.now bytes.now) i →
+            IsEnded bytes.now i }
+        ensures no { IsFalse result → (i : Interval) → At (resumed self.now bytes.now) i →
+            IsEnded bytes.now i → ⊥ }
+    {
+        let part = self.width * u32::from(SENTINEL_STATE) / 256;
+        if self.gap <= part {
+            return false;
+        }
+        let left = (bytes.len() as u64).saturating_sub(self.renormalisations);
+        let last = if self.width - part < 256 { 2 } else { 1 };
+        left == last
     }
 
     /// Goes on with bytes. On the bytes that it had, the decoder is as if it had never been parked;

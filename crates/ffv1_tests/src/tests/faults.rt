@@ -19,7 +19,7 @@ fn are_shown<T: Display>(rt: &impl Abort, alloc: Global, rows: &[(T, &str)]) {
 }
 
 /// Those of the engine.
-static ENGINE: [(Fault, &str); 61] = [
+static ENGINE: [(Fault, &str); 62] = [
     (Fault::StateTable, "1 StateTable"),
     (Fault::OutOfMemory, "2 OutOfMemory"),
     (Fault::BadStart, "3 BadStart"),
@@ -28,6 +28,7 @@ static ENGINE: [(Fault, &str); 61] = [
     (Fault::Contexts, "6 Contexts"),
     (Fault::Colour, "7 Colour"),
     (Fault::Overread, "8 Overread"),
+    (Fault::Ending, "9 Ending"),
     (Fault::Size, "10 Size"),
     (Fault::Grid, "11 Grid"),
     (Fault::ChromaEdge, "12 ChromaEdge"),
@@ -174,12 +175,13 @@ static SLICES: [(SliceFault, &str); 12] = [
 ];
 
 /// Those of the codec.
-static CODEC: [(CodecFault, &str); 17] = [
+static CODEC: [(CodecFault, &str); 18] = [
     (CodecFault::OutOfMemory, "2 OutOfMemory"),
     (CodecFault::BadStart, "3 BadStart"),
     (CodecFault::SymbolTooLong, "4 SymbolTooLong"),
     (CodecFault::Colour, "7 Colour"),
     (CodecFault::Overread, "8 Overread"),
+    (CodecFault::Ending, "9 Ending"),
     (CodecFault::NotKey, "30 NotKey"),
     (CodecFault::Place, "31 Place"),
     (CodecFault::SetIndex, "32 SetIndex"),

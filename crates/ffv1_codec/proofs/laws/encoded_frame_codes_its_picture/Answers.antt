@@ -16,7 +16,6 @@ use Rattle.ffv1_codec.specs.SliceList.{Said, CodesSlice, chosen_slice, chosen_he
 use Rattle.ffv1_codec.specs.SliceList.{lines_in}
 use Rattle.ffv1_codec.specs.Frame.{HasLongSlice, slice_bytes, slices_bytes, frame_of}
 use Rattle.ffv1_codec.proofs.Aspects.{said_chosen}
-use Rattle.ffv1_codec.proofs.TooFar.{ending_within}
 use Rattle.ffv1_codec.proofs.laws.encoded_frame_codes_its_picture.Goals as goal
 
 coded_list : (f : ℕ → List ℕ) (from count : ℕ) → ((n : ℕ) → AreBytes (f n)) →
@@ -83,7 +82,11 @@ returns c = λ a planes info is picture said none.
             codes = c.sentinel_ending_codes_its_list.ensures.codes
                 (decisions_after a.table [] steps)
                 (c.each_decision_has_a_state.ensures.named a.table [] steps is.closed);
-            within = ending_within a steps;
+            ending = record {
+              ended = λ wide. c.ended_bytes_are_near_the_sentinel_ending.ensures.sentinel
+                  (decisions_after a.table [] steps)
+                  (c.each_decision_has_a_state.ensures.named a.table [] steps is.closed);
+            };
           } in
           subst (λ bs. CodesSlice bs a planes info n) here slice;
     }

@@ -1,7 +1,7 @@
 //! The first slice of a picture of one sample: a keyframe bit, nine values of its head, and one
 //! residual, all of them ones.
 
-use ffv1_range::{Fault, RangeDecoder, RangeEncoder, StateTable, Tally};
+use ffv1_range::{Fault, Parked, RangeDecoder, RangeEncoder, StateTable, Tally};
 use std::alloc::Global;
 
 const ELEVEN_ONES: Tally = Tally {
@@ -35,9 +35,9 @@ fn eleven_ones(rt: HostRuntime) -> Result<(), Fault> {
     Ok(())
 }
 
-/// What the eleven decisions of a slice are, parked and woken between any two of them; nothing
-/// where one is a 0.
-fn read_parked(bytes: &[u8]) -> Option<Tally> {
+/// The decoder of a slice after its eleven decisions, parked and woken between any two of them;
+/// nothing where one is a 0.
+fn parked_after(bytes: &[u8]) -> Option<Parked> {
     let table = StateTable::standard();
     let (mut key, mut residual, mut head) = (128, 128, [128; 32]);
     let Ok(mut decoder) = RangeDecoder::new(bytes) else {
@@ -53,10 +53,35 @@ fn read_parked(bytes: &[u8]) -> Option<Tally> {
     decoder = decoder.park().wake(bytes);
     let last = decoder.get(&table, &mut residual);
     if first && last {
-        Some(decoder.tally())
+        Some(decoder.park())
     } else {
         None
     }
+}
+
+/// What they are.
+fn read_parked(bytes: &[u8]) -> Option<Tally> {
+    match parked_after(bytes) {
+        None => None,
+        Some(parked) => Some(parked.tally()),
+    }
+}
+
+/// Whether the bytes end there.
+fn is_ended(bytes: &[u8]) -> bool {
+    match parked_after(bytes) {
+        None => false,
+        Some(parked) => parked.is_ended(bytes),
+    }
+}
+
+#[test]
+fn last_bytes(rt: HostRuntime) {
+    for byte in 0..=255u8 {
+        assert!(rt; is_ended(&[0xfe, byte]) == (byte >= 0x7b && byte <= 0xbc));
+        assert!(rt; !is_ended(&[0xfe, 0x7b, byte]));
+    }
+    assert!(rt; !is_ended(&[0xfe]));
 }
 
 #[test]

@@ -6,7 +6,7 @@ use Rattle.std.proofs.lemmas.Result.{err_from_is_err_and}
 use Rattle.ffv1_codec.specs.declared.fault.FrameFault.{FrameFault}
 use Rattle.ffv1_codec.specs.Order.Event.{Read}
 use Rattle.ffv1_codec.specs.Internal.Tied.{Stopped, column_at, no_column}
-use Rattle.ffv1_codec.proofs.SegmentLooked.{step_looked, stop_looked}
+use Rattle.ffv1_codec.proofs.SegmentLooked.{step_looked, stop_looked, unended_looked}
 use Rattle.ffv1_codec.proofs.decode.segment.read_at.Given.{Over}
 use Rattle.ffv1_codec.proofs.decode.segment.read_at.Goals.{After-index-columns-segment}
 use Rattle.ffv1_codec.proofs.decode.segment.read_at.Goals as goal
@@ -59,6 +59,26 @@ returns-then-is_overread-clause-exact g c = λ coded next s less tied line.
     (c.in_ok-read_on.ensures.exact coded next s less tied line) c.requires.column
     c.counters_from_zero_show_all_steps.ensures over (long g here))
 
+pub returns-then-lacks_ending-clause-exact : goal.returns-then-lacks_ending-clause-exact
+returns-then-lacks_ending-clause-exact g c = λ coded next s less tied line.
+    let a = c.args.frame.now.checked.now in
+    let segment = c.args.segment.now in
+    let k = segment.column in
+    let columns = c.read_on.new.columns in
+    let here = (goal.at.returns-then-lacks_ending-clause-exact g c).After-index-columns-segment in
+    let within = rw (column_is g here) at
+    (c.if-is_overread.ensures.no refl) in
+    let lacks = rw (column_is g here) at
+    (c.if-lacks_ending.ensures.yes refl) in
+    subst (λ (f : FrameFault). Stopped a coded columns
+    (Read segment.row k segment.plane segment.y ∷ []) f s) (sym c.fault_in-then-lacks_ending.ensures)
+    (unended_looked a coded segment.row next c.args.frame.now.payload.now segment.plane
+    (segment.index * a.configuration.width) segment.y k columns c.read_on.new.states
+    (g.W.Word.samples c.args.above.now.two.now) (g.W.Word.samples c.args.above.now.one.now)
+    (g.W.Word.samples c.read_on.new.cur) s
+    (c.in_ok-read_on.ensures.exact coded next s less tied line) c.requires.column
+    c.counters_from_zero_show_all_steps.ensures within lacks (long g here))
+
 pub returns-clause-exact : goal.returns-clause-exact
 returns-clause-exact g c = λ coded next s less tied line.
     let a = c.args.frame.now.checked.now in
@@ -68,9 +88,11 @@ returns-clause-exact g c = λ coded next s less tied line.
     let here = (goal.at.returns-clause-exact g c).After-index-columns-segment in
     let within = rw (column_is g here) at
     (c.if-is_overread.ensures.no refl) in
+    let ended = rw (column_is g here) at
+    (c.if-lacks_ending.ensures.no refl) in
     step_looked a coded segment.row next c.args.frame.now.payload.now segment.plane
     (segment.index * a.configuration.width) segment.y k columns c.read_on.new.states
     (g.W.Word.samples c.args.above.now.two.now) (g.W.Word.samples c.args.above.now.one.now)
     (g.W.Word.samples c.read_on.new.cur) s
     (c.in_ok-read_on.ensures.exact coded next s less tied line) c.requires.column
-    c.counters_from_zero_show_all_steps.ensures within
+    c.counters_from_zero_show_all_steps.ensures within ended
