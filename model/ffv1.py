@@ -306,6 +306,13 @@ class Slice:
         if self.config.wide and self.decoder.interval.count - 2 > len(self.data):
             raise Fault(8, self.number, *place)
 
+    def end(self, *place):
+        """Own: wide, 9 after the last line, where the slice does not end where its coder ends (3.8.1.1.1,
+        the sentinel mode): a decision of state 129 that would come next is 1, or it would not leave one
+        renormalisation fewer than there are coded bytes."""
+        if self.config.wide and not self.decoder.is_ended():
+            raise Fault(9, self.number, *place)
+
 
 class Decoded:
     """What decoding a payload gives: the info, or the fault; the lines that were handed over, and how
@@ -338,7 +345,8 @@ def finished(config, row, planes, y):
 
 def decode_line(config, row, planes, y, out, room):
     """Own: a line of these planes: in each slice from the left, after which it is looked at how far
-    that was read, then as a whole, then handed over to a sink that takes so many lines."""
+    that was read, and, of its last line, whether it ends there; then as a whole, then handed over to a
+    sink that takes so many lines."""
     for slice in row:
         for plane in planes:
             left, top = cell_of(config, slice.number, plane)[:2]
@@ -347,6 +355,8 @@ def decode_line(config, row, planes, y, out, room):
             except Fault as fault:
                 raise Fault(fault.number, slice.number, plane, top + y, left + fault.x)
             slice.look(plane, top + y)
+            if (plane, y) == lines_in(config, slice.number)[-1]:
+                slice.end(plane, top + y)
     for plane, samples in zip(planes, finished(config, row, planes, y)):
         line = cell_of(config, row[0].number, plane)[1] + y
         if len(out.lines) == room:

@@ -7,9 +7,7 @@ a part of `ffv1.py`.
 
 FAULTS = {
     1: "StateTable", 3: "BadStart", 4: "SymbolTooLong", 5: "Runs", 6: "Contexts", 7: "Colour",
-    8: "Overread",
-    10: "Size",
-    11: "Grid", 12: "ChromaEdge", 13: "Subsampling", 14: "Sets", 15: "Short", 16: "Parity",
+    8: "Overread", 9: "Ending", 10: "Size", 11: "Grid", 12: "ChromaEdge", 13: "Subsampling", 14: "Sets", 15: "Short", 16: "Parity",
     17: "Version", 18: "MicroVersion", 19: "Coder", 20: "ColourSpace", 21: "Depth",
     22: "CodedStates", 23: "Ec", 24: "Intra", 25: "ExtraPlane", 30: "NotKey", 31: "Place",
     32: "SetIndex", 33: "Structure", 34: "Aspect", 35: "Footer", 36: "Leftover",
@@ -90,6 +88,13 @@ class Interval:
         if self.width < 256:
             self.low, self.width, self.count = 256 * self.low, 256 * self.width, self.count + 1
 
+    def ended(self):
+        """3.8.1.1.1: what one more decision 0 by the state 129 would leave."""
+        end = Interval()
+        end.low, end.width, end.count = self.low, self.width, self.count
+        end.narrow(129, 0)
+        return end
+
 
 class History:
     """3.8.1.3, 3.8.1.4: the decisions so far, by their slots; a state is 128, moved along those of
@@ -126,9 +131,7 @@ class Encoder:
     def sentinel(self):
         """Own: after one more decision 0 by the state 129 the least multiple of 256 that is at least
         the low end, without its last byte."""
-        end = Interval()
-        end.low, end.width, end.count = self.interval.low, self.interval.width, self.interval.count
-        end.narrow(129, 0)
+        end = self.interval.ended()
         return (-(-end.low // 256)).to_bytes(end.count - 1, "big")
 
 
@@ -152,6 +155,11 @@ class Decoder:
         self.interval.narrow(state, bit)
         self.history.append(slot, bit)
         return bit
+
+    def is_ended(self):
+        """Whether the bytes are those of a list that the sentinel ends here."""
+        end = self.interval.ended()
+        return end.low <= self.number(end.count) < end.low + end.width and end.count == len(self.data) + 1
 
 
 # ------------------------------------------------------------------ range nonbinary values (3.8.1.2)

@@ -156,15 +156,30 @@ def strange_payloads():
             Step(["check", "in"], f"frame 0: {len(payload)} bytes, 1 slices, 73 decisions\n"
                  "frames 1\n"),
             Step(["unpack", "in", "out"], "frames 1\n")], {"out": mono(1, 1, [sample])})
-    config, payload = one(width=2, height=2), b"\xfe" + b"\xff" * 63 + b"\0\0\x40"
+
+
+# What the coded bytes of a slice are to MONO's own, FE7B, and the decisions that are read of them.
+ENDINGS = [
+    ("a slice without its last byte", "FE", 13), ("a last byte one too many", "FEBD", 11),
+    *((f"a byte {byte} after the slice", f"FE7B{byte:02X}", 11) for byte in range(0, 256, 15)),
+    ("five bytes after the slice", "FE7B0000000000", 11),
+]
+
+
+def endings():
+    """Slices that do not end where their coder ends, and the last bytes that code the same."""
+    for byte in (0x7B, 0xBC):
+        yield checked(f"a last byte {byte}", avi(one(), [sealed(one(), bytes([0xFE, byte]))]),
+                      "frame 0: 5 bytes, 1 slices, 11 decisions\nframes 1\n")
+    for ec in (0, 1):
+        for name, data, decisions in ENDINGS:
+            yield placed(f"{name} with ec {ec}", one(ec=ec), sealed(one(ec=ec), bytes.fromhex(data)),
+                         *at("9 Ending", NOWHERE, decisions))
+    config, payload = one(width=2, height=2), sealed(one(), b"\xfe" + b"\xff" * 63)
     yield Case("all bytes 255", {"in": avi(config, [payload], 0, 0)}, [
-        Step(["check", "in"], "frame 0: 67 bytes, 1 slices, 14 decisions\nframes 1\n"),
-        Step(["unpack", "in", "out"], "frames 1\n")], {"out": mono(2, 2, bytes(4))})
-    for byte in range(0, 256, 15):
-        payload = sealed(one(), bytes([0xFE, 0x7B, byte]))
-        yield checked(f"a byte {byte} after the slice", avi(one(), [payload]),
-                      "frame 0: 6 bytes, 1 slices, 11 decisions\nframes 1\n")
+        Step(["check", "--place", "in"], *at("9 Ending", (0, 0, 1, 0), 14)),
+        Step(["unpack", "in", "out"], "", "9 Ending")], {"out": b""})
 
 
 CASES = [flipped_bits, cut_payloads, damaged_payloads, unknown_aspects, columns_side_by_side,
-         later_frames, all_frames, strange_payloads]
+         later_frames, all_frames, strange_payloads, endings]
