@@ -17,7 +17,6 @@ GRIDS = [
     (720, 576, "422", {}, (2, 2), (1, 1)),
     (720, 486, "420jpeg", {}, (4, 1), (1, 1)),          # half of 486 is odd
     (1366, 768, "422", {}, (1, 4), (1, 1)),             # no columns have even edges alone
-    (4096, 3112, "444p10", {}, (7, 1), (1, 1)),         # of 3 by 2 one has 12.7 MB of samples
 ]
 
 
