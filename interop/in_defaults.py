@@ -40,7 +40,7 @@ def with_bytes(data, cut, more):
     payload = coded[:len(coded) - cut] + more
     payload += len(payload).to_bytes(3, "big")
     chunk = b"00dc" + len(payload).to_bytes(4, "little") + payload + bytes(len(payload) % 2)
-    # Without an index, and with sizes that other programs do not look at.
+    # The sizes of the lists stay, which FFmpeg does not look at, and there is no index.
     return data[:at] + chunk
 
 
